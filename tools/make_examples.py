@@ -1,0 +1,276 @@
+#!/usr/bin/env python3
+"""Makes the captures of the examples, and works out from the rules what must come out.
+
+    tools/make_examples.py            writes in.pcap and expected/ of examples/first-path
+    tools/make_examples.py --check    writes nothing, and fails where a file is not what would be written
+    tools/make_examples.py --list     prints a line for each record: what it is, and what drops it
+
+The expected files are worked out here, with Python's standard library alone, and never taken from the program's own
+output: two accounts of the same rules that agree say more than one.
+"""
+
+import ipaddress
+import pathlib
+import struct
+import sys
+
+EXAMPLES = pathlib.Path(__file__).resolve().parent.parent / 'examples'
+
+# The classic capture file: magic of microseconds, version 2.4, time zone, accuracy, snaplen, link type Ethernet.
+MAGIC, LINK_ETHERNET = 0xA1B2C3D4, 1
+SNAPLEN = 96
+FIRST_SECOND = 1_700_000_000
+
+VLAN_TAG, SERVICE_TAG = 0x8100, 0x88A8
+TYPE_IPV4, TYPE_ARP, TYPE_IPV6, TYPE_PPPOE = 0x0800, 0x0806, 0x86DD, 0x8864
+ICMP, TCP, UDP = 1, 6, 17
+
+GATEWAY, STATION = bytes.fromhex('020000000001'), bytes.fromhex('020000000002')
+BROADCAST = b'\xff' * 6
+
+
+# What goes in: frames.
+
+
+def address(text):
+    return ipaddress.IPv4Address(text).packed
+
+
+def internet_checksum(data):
+    """The ones' complement sum of RFC 1071."""
+    if len(data) % 2:
+        data += b'\0'
+    total = sum(struct.unpack(f'>{len(data) // 2}H', data))
+    while total >> 16:
+        total = (total & 0xFFFF) + (total >> 16)
+    return ~total & 0xFFFF
+
+
+def transport_checksum(source, destination, protocol, segment):
+    return internet_checksum(source + destination + struct.pack('>BBH', 0, protocol, len(segment)) + segment)
+
+
+def udp(source_port, destination_port, payload):
+    def segment(source, destination):
+        head = struct.pack('>HHH', source_port, destination_port, 8 + len(payload))
+        total = transport_checksum(source, destination, UDP, head + b'\0\0' + payload)
+        return head + struct.pack('>H', total or 0xFFFF) + payload
+
+    return UDP, segment
+
+
+def tcp(source_port, destination_port, flags, payload=b''):
+    def segment(source, destination):
+        head = struct.pack('>HHIIBBH', source_port, destination_port, 1000, 2000 if flags & 0x10 else 0, 0x50, flags, 8192)
+        total = transport_checksum(source, destination, TCP, head + b'\0\0\0\0' + payload)
+        return head + struct.pack('>HH', total, 0) + payload
+
+    return TCP, segment
+
+
+def echo(number):
+    def segment(source, destination):
+        text = bytes(range(16))
+        total = internet_checksum(struct.pack('>BBHHH', 8, 0, 0, 7, number) + text)
+        return struct.pack('>BBHHH', 8, 0, total, 7, number) + text
+
+    return ICMP, segment
+
+
+SYN, ACK, PUSH_ACK = 0x02, 0x10, 0x18
+
+
+def ipv4(source, destination, content, options=b'', offset=0, more=False, lead=None):
+    """A whole packet, RFC 791. `lead` stands in the place of the first byte, which is version and header length."""
+    protocol, segment = content
+    source, destination = address(source), address(destination)
+    body = segment(source, destination)
+    words = 5 + len(options) // 4
+    first = 0x40 + words if lead is None else lead
+    fragment = offset // 8 + (0x2000 if more else 0)
+    head = struct.pack('>BBHHHBB', first, 0, 4 * words + len(body), 0x1234, fragment, 64, protocol)
+    total = internet_checksum(head + b'\0\0' + source + destination + options)
+    return head + struct.pack('>H', total) + source + destination + options + body
+
+
+def tag(kind, vlan, priority=0):
+    return struct.pack('>HH', kind, (priority << 13) + vlan)
+
+
+def ethernet(ether_type, body, tags=b'', to=GATEWAY):
+    frame = to + STATION + tags + struct.pack('>H', ether_type) + body
+    # 60 bytes are the least that Ethernet sends, without the frame's checksum.
+    return frame + b'\0' * (60 - len(frame))
+
+
+def plain(source, content, to='192.0.2.80', tags=b'', **fields):
+    return ethernet(TYPE_IPV4, ipv4(source, to, content, **fields), tags)
+
+
+def arp_request(source, target):
+    body = struct.pack('>HHBBH', 1, TYPE_IPV4, 6, 4, 1) + STATION + address(source) + b'\0' * 6 + address(target)
+    return ethernet(TYPE_ARP, body, to=BROADCAST)
+
+
+def ipv6():
+    source, destination = ipaddress.IPv6Address('2001:db8::66').packed, ipaddress.IPv6Address('2001:db8::1').packed
+    segment = struct.pack('>BBHHH', 128, 0, 0, 7, 1)
+    total = internet_checksum(source + destination + struct.pack('>II', len(segment), 58) + segment)
+    body = struct.pack('>IHBB', 6 << 28, len(segment), 58, 64) + source + destination
+    return ethernet(TYPE_IPV6, body + struct.pack('>BBHHH', 128, 0, total, 7, 1))
+
+
+QUERY = bytes.fromhex('2a2a01000001000000000000') + b'\x07example\x03com\0\0\x01\0\x01'
+RECORD_ROUTE = bytes.fromhex('070b04') + b'\0' * 8 + b'\0'
+ROUTER_ALERT = bytes.fromhex('94040000')
+OFFICE, OTHER_TEN, GUEST, SCREEN, SCANNER = '10.1.4.20', '10.2.4.20', '192.168.20.31', '192.168.20.10', '203.0.113.66'
+
+
+def records():
+    """What each record is, its frame as it was sent, and how many of its bytes were captured (None: up to the snaplen)."""
+    long_page = tcp(80, 50123, PUSH_ACK, b'HTTP/1.1 200 OK\r\n\r\n' + b'.' * 1427)
+    service = tag(SERVICE_TAG, 100) + tag(VLAN_TAG, 20)
+    return [
+        ('ARP request of an office machine', arp_request(OFFICE, '10.1.0.1'), None),
+        ('DNS query of an office machine', plain(OFFICE, udp(40001, 53, QUERY)), None),
+        ('TCP SYN of an office machine', plain(OFFICE, tcp(50123, 443, SYN)), None),
+        ('TCP SYN of the scanner', plain(SCANNER, tcp(4444, 22, SYN)), None),
+        ('ping of the scanner', plain(SCANNER, echo(1)), None),
+        ('TCP SYN of the scanner\'s neighbour', plain('203.0.113.67', tcp(4444, 22, SYN)), None),
+        ('DNS query of a guest', plain(GUEST, udp(40002, 53, QUERY)), None),
+        ('TCP of the meeting-room screen', plain(SCREEN, tcp(50124, 443, PUSH_ACK, b'hello')), None),
+        ('TCP of a guest in VLAN 20', plain(GUEST, tcp(50125, 80, SYN), tags=tag(VLAN_TAG, 20)), None),
+        ('the screen in VLAN 20', plain(SCREEN, tcp(50126, 80, SYN), tags=tag(VLAN_TAG, 20, 5)), None),
+        ('ping of a guest in VLAN 20 inside service VLAN 100', plain(GUEST, echo(2), tags=service), None),
+        ('an office machine in VLAN 20 inside service VLAN 100', plain(OFFICE, udp(40003, 53, QUERY), tags=service), None),
+        ('the scanner behind three tags', plain(SCANNER, echo(3), tags=tag(SERVICE_TAG, 100) + tag(SERVICE_TAG, 7) + tag(VLAN_TAG, 20)), None),
+        ('the scanner behind a priority tag of VLAN 0', plain(SCANNER, echo(4), tags=tag(VLAN_TAG, 0, 7)), None),
+        ('the scanner behind a tag of type 0x9100', plain(SCANNER, echo(5), tags=tag(0x9100, 20)), None),
+        ('a machine of 10.0.0.0/8 that is no office', plain(OTHER_TEN, udp(40004, 123, b'\x23' + b'\0' * 47)), None),
+        ('the last address of the offices', plain('10.1.255.255', echo(6)), None),
+        ('the first address behind the offices', plain('10.2.0.0', echo(7)), None),
+        ('the first address of 172.16.0.0/12', plain('172.16.0.0', echo(8)), None),
+        ('the last address of 172.16.0.0/12', plain('172.31.255.255', echo(9)), None),
+        ('the first address behind 172.16.0.0/12', plain('172.32.0.0', echo(10)), None),
+        ('a loopback address on the wire', plain('127.0.0.1', udp(40005, 53, QUERY)), None),
+        ('the lower half of 198.51.100.0/24', plain('198.51.100.127', tcp(4445, 25, SYN)), None),
+        ('the upper half of 198.51.100.0/24', plain('198.51.100.128', tcp(4446, 25, SYN)), None),
+        ('IPv6 ping', ipv6(), None),
+        ('a guest with a route to be recorded', plain(GUEST, echo(11), options=RECORD_ROUTE), None),
+        ('an office machine with a router alert', plain(OFFICE, echo(12), options=ROUTER_ALERT), None),
+        ('a later fragment of a guest', plain(GUEST, (UDP, lambda *_: b'x' * 24), offset=1480), None),
+        ('a web page of 1,500 bytes, cut by the snaplen', plain('192.0.2.80', long_page, to=OFFICE), None),
+        ('the scanner, 1,500 bytes, cut by the snaplen', plain(SCANNER, long_page, to=OFFICE), None),
+        ('the scanner, cut right behind its address', plain(SCANNER, echo(13)), 30),
+        ('the scanner, cut inside its address', plain(SCANNER, echo(14)), 29),
+        ('the scanner in VLAN 20, cut inside its address', plain(SCANNER, echo(15), tags=tag(VLAN_TAG, 20)), 33),
+        ('the scanner with a header length of 4 words', plain(SCANNER, echo(16), lead=0x44), None),
+        ('the scanner as version 6 under the type of IPv4', plain(SCANNER, echo(17), lead=0x65), None),
+        ('the scanner inside a PPPoE session', ethernet(TYPE_PPPOE, bytes.fromhex('110000010030 0021') + ipv4(SCANNER, '192.0.2.80', echo(18))), None),
+        ('a runt that ends inside its tag', plain(GUEST, echo(19), tags=tag(VLAN_TAG, 20)), 17),
+        ('a runt of 13 bytes', plain(GUEST, echo(20)), 13),
+        ('a runt of 6 bytes', plain(GUEST, echo(21)), 6),
+        ('a record of no bytes', plain(GUEST, echo(22)), 0),
+        ('DHCP discover of a machine without an address', ethernet(TYPE_IPV4, ipv4('0.0.0.0', '255.255.255.255', udp(68, 67, b'\x01\x01\x06\0')), to=BROADCAST), None),
+        ('an answer to an office machine', plain('192.0.2.53', udp(53, 40001, QUERY), to=OFFICE), None),
+    ]
+
+
+def capture_head():
+    return struct.pack('<IHHiIII', MAGIC, 2, 4, 0, 0, SNAPLEN, LINK_ETHERNET)
+
+
+def capture_records():
+    """Each record's sixteen bytes of head with the bytes that were captured."""
+    made = []
+    for number, (_, frame, kept) in enumerate(records()):
+        captured = frame[: SNAPLEN if kept is None else kept]
+        micros = number * 180_503
+        times = (FIRST_SECOND + micros // 1_000_000, micros % 1_000_000)
+        made.append((struct.pack('<IIII', *times, len(captured), len(frame)), captured))
+    return made
+
+
+# What comes out: the rules, once more.
+
+
+def source_address(frame):
+    """The four bytes of an IPv4 source address, or None where the frame has none that was captured."""
+    place = 12
+    while frame[place : place + 2] in (b'\x81\x00', b'\x88\xa8') and place + 6 <= len(frame):
+        place += 4
+    if frame[place : place + 2] != b'\x08\x00':
+        return None
+    packet = frame[place + 2 :]
+    # Version 4 and a header of at least five words stand in the first byte; the address lies twelve behind it.
+    if packet[:1] < b'\x45' or packet[:1] > b'\x4f' or len(packet) < 16:
+        return None
+    return ipaddress.IPv4Address(packet[12:16])
+
+
+def read_policy(text):
+    """The chain's name, and each function's name with its rules, as (allow, network)."""
+    chain, functions = None, []
+    for line in text.splitlines():
+        word, *rest = line.split(' ')
+        if word == 'chain':
+            chain = rest[0]
+        elif word == 'fn':
+            functions.append((rest[0], []))
+        elif word == 'rule':
+            action, _, prefix = rest
+            functions[-1][1].append((action == 'allow', ipaddress.IPv4Network(prefix, strict=False)))
+    return chain, functions
+
+
+def dropped_by(functions, frame):
+    """The name of the first function whose first matching rule denies, or None."""
+    source = source_address(frame)
+    for name, rules in functions:
+        verdicts = [allow for allow, network in rules if source is not None and source in network]
+        if verdicts and not verdicts[0]:
+            return name
+    return None
+
+
+def expected(policy, made):
+    chain, functions = read_policy(policy)
+    fates = [dropped_by(functions, captured) for _, captured in made]
+    out = capture_head() + b''.join(head + captured for (head, captured), fate in zip(made, fates) if fate is None)
+    drops = [f'drop {number} {chain} {fate}' for number, fate in enumerate(fates, 1) if fate is not None]
+    total = f'records {len(fates)} emitted {len(fates) - len(drops)} dropped {len(drops)}'
+    kinds = [f'function {chain} {name} firewall' for name, _ in functions]
+    report = '\n'.join(['nfp report 1', *drops, total, *kinds, 'end', ''])
+    return fates, out, report.encode('ascii')
+
+
+def main(words):
+    if words not in ([], ['--check'], ['--list']):
+        print(__doc__, file=sys.stderr)
+        return 2
+    folder = EXAMPLES / 'first-path'
+    made = capture_records()
+    fates, out, report = expected((folder / 'policy').read_text('ascii'), made)
+    files = {
+        folder / 'in.pcap': capture_head() + b''.join(head + captured for head, captured in made),
+        folder / 'expected' / 'out.pcap': out,
+        folder / 'expected' / 'report.txt': report,
+    }
+    if words == ['--list']:
+        for number, ((what, _, _), (_, captured), fate) in enumerate(zip(records(), made, fates), 1):
+            source = source_address(captured)
+            print(f'| {number} | {what} | {len(captured)} | {source if source else "none"} | {fate if fate else "passes"} |')
+        return 0
+    if words == ['--check']:
+        stale = [path for path, data in files.items() if not path.is_file() or path.read_bytes() != data]
+        for path in stale:
+            print(f'{path.relative_to(EXAMPLES.parent)} is not what tools/make_examples.py writes')
+        return 1 if stale else 0
+    for path, data in files.items():
+        path.parent.mkdir(parents=True, exist_ok=True)
+        path.write_bytes(data)
+    return 0
+
+
+if __name__ == '__main__':
+    sys.exit(main(sys.argv[1:]))
