@@ -120,10 +120,14 @@ def ipv6():
     return ethernet(TYPE_IPV6, body + struct.pack('>BBHHH', 128, 0, total, 7, 1))
 
 
-QUERY = bytes.fromhex('2a2a01000001000000000000') + b'\x07example\x03com\0\0\x01\0\x01'
+QUESTION = b'\x07example\x03com\0\0\x01\0\x01'
+QUERY = bytes.fromhex('2a2a01000001000000000000') + QUESTION
+ANSWER = bytes.fromhex('2a2a81830001000000000000') + QUESTION
+DISCOVER = bytes.fromhex('01010600 2b2b2b2b') + b'\0' * 20 + STATION + b'\0' * 202 + bytes.fromhex('63825363 350101 ff')
 RECORD_ROUTE = bytes.fromhex('070b04') + b'\0' * 8 + b'\0'
 ROUTER_ALERT = bytes.fromhex('94040000')
 OFFICE, OTHER_TEN, GUEST, SCREEN, SCANNER = '10.1.4.20', '10.2.4.20', '192.168.20.31', '192.168.20.10', '203.0.113.66'
+RESOLVER = '192.0.2.53'
 
 
 def records():
@@ -132,17 +136,17 @@ def records():
     service = tag(SERVICE_TAG, 100) + tag(VLAN_TAG, 20)
     return [
         ('ARP request of an office machine', arp_request(OFFICE, '10.1.0.1'), None),
-        ('DNS query of an office machine', plain(OFFICE, udp(40001, 53, QUERY)), None),
+        ('DNS query of an office machine', plain(OFFICE, udp(40001, 53, QUERY), to=RESOLVER), None),
         ('TCP SYN of an office machine', plain(OFFICE, tcp(50123, 443, SYN)), None),
         ('TCP SYN of the scanner', plain(SCANNER, tcp(4444, 22, SYN)), None),
         ('ping of the scanner', plain(SCANNER, echo(1)), None),
         ('TCP SYN of the scanner\'s neighbour', plain('203.0.113.67', tcp(4444, 22, SYN)), None),
-        ('DNS query of a guest', plain(GUEST, udp(40002, 53, QUERY)), None),
+        ('DNS query of a guest', plain(GUEST, udp(40002, 53, QUERY), to=RESOLVER), None),
         ('TCP of the meeting-room screen', plain(SCREEN, tcp(50124, 443, PUSH_ACK, b'hello')), None),
         ('TCP of a guest in VLAN 20', plain(GUEST, tcp(50125, 80, SYN), tags=tag(VLAN_TAG, 20)), None),
         ('the screen in VLAN 20', plain(SCREEN, tcp(50126, 80, SYN), tags=tag(VLAN_TAG, 20, 5)), None),
         ('ping of a guest in VLAN 20 inside service VLAN 100', plain(GUEST, echo(2), tags=service), None),
-        ('an office machine in VLAN 20 inside service VLAN 100', plain(OFFICE, udp(40003, 53, QUERY), tags=service), None),
+        ('an office machine in VLAN 20 inside service VLAN 100', plain(OFFICE, udp(40003, 53, QUERY), to=RESOLVER, tags=service), None),
         ('the scanner behind three tags', plain(SCANNER, echo(3), tags=tag(SERVICE_TAG, 100) + tag(SERVICE_TAG, 7) + tag(VLAN_TAG, 20)), None),
         ('the scanner behind a priority tag of VLAN 0', plain(SCANNER, echo(4), tags=tag(VLAN_TAG, 0, 7)), None),
         ('the scanner behind a tag of type 0x9100', plain(SCANNER, echo(5), tags=tag(0x9100, 20)), None),
@@ -152,7 +156,7 @@ def records():
         ('the first address of 172.16.0.0/12', plain('172.16.0.0', echo(8)), None),
         ('the last address of 172.16.0.0/12', plain('172.31.255.255', echo(9)), None),
         ('the first address behind 172.16.0.0/12', plain('172.32.0.0', echo(10)), None),
-        ('a loopback address on the wire', plain('127.0.0.1', udp(40005, 53, QUERY)), None),
+        ('a loopback address on the wire', plain('127.0.0.1', udp(40005, 53, QUERY), to=RESOLVER), None),
         ('the lower half of 198.51.100.0/24', plain('198.51.100.127', tcp(4445, 25, SYN)), None),
         ('the upper half of 198.51.100.0/24', plain('198.51.100.128', tcp(4446, 25, SYN)), None),
         ('IPv6 ping', ipv6(), None),
@@ -171,8 +175,8 @@ def records():
         ('a runt of 13 bytes', plain(GUEST, echo(20)), 13),
         ('a runt of 6 bytes', plain(GUEST, echo(21)), 6),
         ('a record of no bytes', plain(GUEST, echo(22)), 0),
-        ('DHCP discover of a machine without an address', ethernet(TYPE_IPV4, ipv4('0.0.0.0', '255.255.255.255', udp(68, 67, b'\x01\x01\x06\0')), to=BROADCAST), None),
-        ('an answer to an office machine', plain('192.0.2.53', udp(53, 40001, QUERY), to=OFFICE), None),
+        ('DHCP discover of a machine without an address', ethernet(TYPE_IPV4, ipv4('0.0.0.0', '255.255.255.255', udp(68, 67, DISCOVER)), to=BROADCAST), None),
+        ('DNS answer to an office machine', plain(RESOLVER, udp(53, 40001, ANSWER), to=OFFICE), None),
     ]
 
 
