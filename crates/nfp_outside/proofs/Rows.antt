@@ -1,0 +1,41 @@
+-- Worked rows: what the relations say of a few bytes.
+use Rattle.std.proofs.Common.{◌≡◌, ◌-◌, ◌^◌, ℕ, List, [], ◌∷◌, refl, arith}
+use Rattle.std.specs.Prelude.{Some}
+use Rattle.nfp_outside.specs.declared.slot.Slot.TheVariants.{Out, Policy}
+use Rattle.nfp_outside.specs.Outside.{SlotView, Attaches, Reads, Writes, ReadsTooMuch, one_more}
+use Rattle.nfp_outside.specs.Memory.{moved}
+
+-- a slot named "p" with these bytes
+abbrev holding : List ℕ → SlotView
+holding bytes = record { name = Some (112 ∷ []); bytes = Some bytes; faults = 0 }
+
+-- two of three bytes are read into a buffer of three
+two_of_three : Reads 2 (1 ∷ 2 ∷ 9 ∷ []) (holding (1 ∷ 2 ∷ 3 ∷ [])) (holding (3 ∷ []))
+two_of_three = record {
+  within = omega arith;
+  same_name = refl;
+  told = record { some_left = omega arith; front = refl; rest = refl; end_only = λ none room. absurd (omega (arith, none)) };
+}
+
+-- four bytes where two are wanted: three are taken
+one_too_many : ReadsTooMuch 2 (holding (1 ∷ 2 ∷ 3 ∷ 4 ∷ [])) (holding (4 ∷ []))
+one_too_many = (omega arith, refl)
+
+-- one byte of two is put behind the seven that is there
+one_of_two : Writes 1 (8 ∷ 9 ∷ []) (holding (7 ∷ [])) (holding (7 ∷ 8 ∷ []))
+one_of_two = record { within = omega arith; some_taken = λ _. omega arith; appended = record { same_name = refl; content = refl } }
+
+-- a write slot is made empty as it gets its name, and a read slot isn't
+emptied : Attaches Out (112 ∷ []) (record { name = Some []; bytes = Some (7 ∷ []); faults = 0 }) (holding [])
+emptied = record { named = refl; content = refl }
+
+kept : Attaches Policy (112 ∷ []) (record { name = Some []; bytes = Some (7 ∷ []); faults = 0 }) (holding (7 ∷ []))
+kept = record { named = refl; content = refl }
+
+-- a count stands still at the end of its type
+at_the_end : one_more (2 ^ 64 - 1) ≡ 2 ^ 64 - 1
+at_the_end = refl
+
+-- a read moves no more than the step, what is left and the room
+least_of_three : (moved 3 (1 ∷ 2 ∷ 3 ∷ 4 ∷ 5 ∷ []) 4 ≡ 3) × (moved 9 (1 ∷ 2 ∷ []) 4 ≡ 2) × (moved 9 (1 ∷ 2 ∷ 3 ∷ []) 1 ≡ 1)
+least_of_three = (refl, refl, refl)

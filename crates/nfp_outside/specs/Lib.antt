@@ -1,0 +1,4 @@
+pub mod Memory
+pub mod Outside
+pub mod Port
+pub mod Slots

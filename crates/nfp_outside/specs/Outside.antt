@@ -1,0 +1,114 @@
+-- What a desk shows of each of its slots, and what its calls do to that.
+use Rattle.std.specs.Prelude.{◌≡◌, ◌<◌, ◌≤◌, ◌+◌, ◌^◌, ◌-◌, ◌⊎◌, ℕ, List, [], ◌++◌, length, take, drop, Bool, true, false, if◌then◌else◌, Option, Some, None, MatchOption, Result, Ok, Err, IsErrOf, min}
+use Rattle.std.specs.Option.{option_map}
+use Rattle.nfp_outside.specs.declared.slot.Slot.{Slot}
+use Rattle.nfp_outside.specs.declared.slot.Slot.TheVariants.{Policy, Capture, Out, Report, Note}
+use Rattle.nfp_outside.specs.declared.slot.DeskFault.{DeskFault}
+use Rattle.nfp_outside.specs.declared.slot.DeskFault.TheVariants.{Failed, NoMemory}
+use Rattle.nfp_outside.specs.declared.slot.OutsideFault.{OutsideFault}
+use Rattle.nfp_outside.specs.declared.slot.OutsideFault.TheVariants.{ReadFault, WriteFault, TooLong}
+
+-- A slot as contracts see it: the name it is attached with, the bytes that are left in a read slot
+-- or were put into a write slot (where the desk tells them), and how often it has failed.
+pub record SlotView : Type 0 where
+  pub name : Option (List ℕ)
+  pub bytes : Option (List ℕ)
+  pub faults : ℕ
+
+-- a slot that has no name yet, and didn't fail
+abbrev pub fresh_slot : Option (List ℕ) → SlotView
+fresh_slot bytes = record { name = None; bytes = bytes; faults = 0 }
+
+abbrev pub is_read : Slot → Bool
+is_read Policy = true
+is_read Capture = true
+is_read Out = false
+is_read Report = false
+is_read Note = false
+
+-- a count that was before is now: it is greater, or it stands at the end of its type
+abbrev pub IsRisen : ℕ → ℕ → Type 0
+IsRisen before now = (before < now) ⊎ (now ≡ 2 ^ 64 - 1)
+
+-- a count of u64 after one more: it stands still at the end of its type
+abbrev pub one_more : ℕ → ℕ
+one_more n = min (n + 1) (2 ^ 64 - 1)
+
+-- a count of faults rises by one where a call failed, and stays where it didn't
+abbrev pub CountsFailure : {T : Type 0} → ℕ → ℕ → Result T DeskFault → Type 0
+CountsFailure before now (Ok _) = now ≡ before
+CountsFailure before now (Err Failed) = now ≡ one_more before
+CountsFailure before now (Err NoMemory) = now ≡ before
+
+-- the name and the bytes of a slot stay
+pub record KeepsSlot (old new : SlotView) : Type 0 where
+  pub same_name : new.name ≡ old.name
+  pub same_bytes : new.bytes ≡ old.bytes
+
+-- the slot has this name now; a write slot is made empty
+pub record Attaches (slot : Slot) (text : List ℕ) (old new : SlotView) : Type 0 where
+  pub named : new.name ≡ Some text
+  pub content : new.bytes ≡ (if is_read slot then old.bytes else option_map (λ _. []) old.bytes)
+
+-- the first k bytes that were left are at the front of the buffer, and the rest is left
+pub record Takes (k : ℕ) (bytes : List ℕ) (buffer : List ℕ) (new : SlotView) : Type 0 where
+  pub some_left : k ≤ length bytes
+  pub front : take k buffer ≡ take k bytes
+  pub rest : new.bytes ≡ Some (drop k bytes)
+  pub end_only : k ≡ 0 → 0 < length buffer → bytes ≡ []
+
+-- a read gave k bytes into a buffer
+pub record Reads (k : ℕ) (buffer : List ℕ) (old new : SlotView) : Type 0 where
+  pub within : k ≤ length buffer
+  pub same_name : new.name ≡ old.name
+  pub told : MatchOption old.bytes (new.bytes ≡ None) (λ bytes. Takes k bytes buffer new)
+
+-- the bytes are put behind those that were put before
+pub record Appends (bytes : List ℕ) (old new : SlotView) : Type 0 where
+  pub same_name : new.name ≡ old.name
+  pub content : new.bytes ≡ option_map (λ before. before ++ bytes) old.bytes
+
+-- a write took the first k bytes of a piece, at least one if there is one
+pub record Writes (k : ℕ) (piece : List ℕ) (old new : SlotView) : Type 0 where
+  pub within : k ≤ length piece
+  pub some_taken : 0 < length piece → 0 < k
+  pub appended : Appends (take k piece) old new
+
+-- the count doesn't fall, and a failure raised it
+pub record HasCause {T : Type 0} (old new : SlotView) (result : Result T DeskFault) : Type 0 where
+  pub later : old.faults ≤ new.faults
+  pub failed : IsErrOf result Failed → IsRisen old.faults new.faults
+
+-- these are all the bytes that were left, and none are left now
+pub record ReadsAll (all : List ℕ) (max : ℕ) (old new : SlotView) : Type 0 where
+  pub within : length all ≤ max
+  pub told : MatchOption old.bytes (new.bytes ≡ None) (λ bytes. (bytes ≡ all) × (new.bytes ≡ Some []))
+
+-- more than max bytes were left, and max + 1 of them were taken
+abbrev pub ReadsTooMuch : ℕ → SlotView → SlotView → Type 0
+ReadsTooMuch max old new = MatchOption old.bytes (new.bytes ≡ None) (λ bytes. (max < length bytes) × (new.bytes ≡ Some (drop (max + 1) bytes)))
+
+-- at most this many bytes were taken off the front of those that were left
+pub record TakesFront (most : ℕ) (old new : SlotView) : Type 0 where
+  pub same_name : new.name ≡ old.name
+  pub told : MatchOption old.bytes (new.bytes ≡ None) (λ bytes. (k : ℕ) × (k ≤ most) × (new.bytes ≡ Some (drop k bytes)))
+
+-- a front part of the bytes is put behind those that were put before
+pub record AppendsPrefix (bytes : List ℕ) (old new : SlotView) : Type 0 where
+  pub done : List ℕ
+  pub rest : List ℕ
+  pub parts : bytes ≡ done ++ rest
+  pub appended : Appends done old new
+
+-- reading answers a read fault of this slot alone, and only where its count rose
+pub record ReadCause {T : Type 0} (slot : Slot) (old new : SlotView) (result : Result T OutsideFault) : Type 0 where
+  pub later : old.faults ≤ new.faults
+  pub read_fault : (s : Slot) → IsErrOf result (ReadFault s) → (s ≡ slot) × IsRisen old.faults new.faults
+  pub no_write_fault : (s : Slot) → IsErrOf result (WriteFault s) → ⊥
+
+-- writing answers a write fault of this slot alone, and only where its count rose
+pub record WriteCause {T : Type 0} (slot : Slot) (old new : SlotView) (result : Result T OutsideFault) : Type 0 where
+  pub later : old.faults ≤ new.faults
+  pub write_fault : (s : Slot) → IsErrOf result (WriteFault s) → (s ≡ slot) × IsRisen old.faults new.faults
+  pub no_read_fault : (s : Slot) → IsErrOf result (ReadFault s) → ⊥
+  pub not_too_long : IsErrOf result TooLong → ⊥

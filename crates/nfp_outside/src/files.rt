@@ -1,0 +1,167 @@
+// A desk over files and standard output.
+ghost use Rattle.std.specs.Prelude.{◌≡◌, ◌≢◌, IfOk, IfErr, OnOk, OnErr, IsErrOf, IsNone, IsSome, IsTrue, None, false, ◌⊎◌};
+ghost use Rattle.nfp_outside.specs.declared.slot.Slot.{Slot};
+ghost use Rattle.nfp_outside.specs.Outside.{is_read, fresh_slot, KeepsSlot, Attaches, Reads, Writes, HasCause, CountsFailure};
+ghost use Rattle.nfp_outside.specs.Port.{port_view, stream_view};
+ghost use Rattle.std.specs.String.{string_bytes};
+ghost use Rattle.nfp_outside.specs.Slots.{at_slot};
+
+use crate::desk::Desk;
+use crate::port::Port;
+use crate::slot::{DeskFault, Slot};
+use std::alloc::Global;
+use std::fs::File;
+use std::io;
+use std::io::{BufReader, Write};
+use std::rt::Files;
+
+#[cfg(test)]
+mod tests;
+
+// How much of a file is read ahead; a read of as much or more goes straight to the file.
+const READ_AHEAD: usize = 65536;
+
+/// A desk over files, and for Note over standard output: the name of a slot is the path of its
+/// file. It tells no bytes.
+///
+/// A file to read must be there; a file to write is made, or made empty. Files are read ahead, and
+/// what is written goes to the file at once, in the order of the calls. Each failed open, read or
+/// write raises the count of its own slot, up to the end of `u64`, and no other.
+#[derive(Drop)]
+pub struct FileDesk<R: Files + Print + AllocGlobal + Drop> {
+    rt: R,
+    policy: Port<BufReader<R::File>>,
+    capture: Port<BufReader<R::File>>,
+    out: Port<R::File>,
+    report: Port<R::File>,
+    note_faults: u64,
+}
+
+impl<R: Files + Print + AllocGlobal + Drop> FileDesk<R> {
+    /// A desk over the files of a runtime. Nothing is attached, and every count is 0.
+    #[tactic(auto, unfolding(crate::specs::Slots::at_slot))]
+    pub fn new(rt: R) -> Self
+        ensures { (s : Slot) → ⟦<FileDesk<R> as Desk>⟧.slots result s ≡ fresh_slot None }
+    {
+        FileDesk {
+            rt,
+            policy: Port::new(),
+            capture: Port::new(),
+            out: Port::new(),
+            report: Port::new(),
+            note_faults: 0,
+        }
+    }
+}
+
+impl<R: Files + Print + AllocGlobal + Drop> Desk for FileDesk<R> {
+    ghost slots = { λ d. at_slot
+        (port_view d.policy) (port_view d.capture)
+        (port_view d.out) (port_view d.report) (stream_view d.note_faults) };
+
+    /// `Failed` where the file can't be opened. The count of the slot rises by one then, and in no
+    /// other case.
+    #[tactic(auto, unfolding(crate::specs::Slots::at_slot))]
+    fn attach(&mut self, slot: Slot, name: &str) -> Result<(), DeskFault>
+        requires not_note { slot ≢ Slot.Note }
+        requires free { IsNone (⟦<FileDesk<R> as Desk>⟧.slots self.old slot).name }
+        ensures ok { let slots = ⟦<FileDesk<R> as Desk>⟧.slots in
+            OnOk result (Attaches slot name.now (slots self.old slot) (slots self.new slot)) }
+        ensures err { let slots = ⟦<FileDesk<R> as Desk>⟧.slots in
+            OnErr result (KeepsSlot (slots self.old slot) (slots self.new slot)) }
+        ensures cause { let slots = ⟦<FileDesk<R> as Desk>⟧.slots in
+            HasCause (slots self.old slot) (slots self.new slot) result }
+        ensures others { let slots = ⟦<FileDesk<R> as Desk>⟧.slots in
+            (s : Slot) → s ≢ slot → slots self.new s ≡ slots self.old s }
+        ensures counted { let slots = ⟦<FileDesk<R> as Desk>⟧.slots in
+            CountsFailure (slots self.old slot).faults (slots self.new slot).faults result }
+    {
+        let text = copy_of(self.rt.alloc(), name)?;
+        match slot {
+            Slot::Policy => self.policy.attach(slot, text, open(&self.rt, name)),
+            Slot::Capture => self.capture.attach(slot, text, open(&self.rt, name)),
+            Slot::Out => self.out.attach(slot, text, create(&self.rt, name)),
+            Slot::Report => self.report.attach(slot, text, create(&self.rt, name)),
+            Slot::Note => unreachable!(),
+        }
+    }
+
+    /// `Failed` where the file can't be read. The count of the slot rises by one then, and in no other
+    /// case.
+    #[tactic(auto, unfolding(crate::specs::Slots::at_slot))]
+    fn read(&mut self, slot: Slot, into: &mut [u8]) -> Result<usize, DeskFault>
+        requires read_slot { IsTrue (is_read slot) }
+        requires attached { IsSome (⟦<FileDesk<R> as Desk>⟧.slots self.old slot).name }
+        ensures ok { let slots = ⟦<FileDesk<R> as Desk>⟧.slots in
+            IfOk result (λ k. Reads k into.new (slots self.old slot) (slots self.new slot)) }
+        ensures err { let slots = ⟦<FileDesk<R> as Desk>⟧.slots in
+            OnErr result (KeepsSlot (slots self.old slot) (slots self.new slot)) }
+        ensures cause { let slots = ⟦<FileDesk<R> as Desk>⟧.slots in
+            HasCause (slots self.old slot) (slots self.new slot) result }
+        ensures others { let slots = ⟦<FileDesk<R> as Desk>⟧.slots in
+            (s : Slot) → s ≢ slot → slots self.new s ≡ slots self.old s }
+        ensures no_want { IsErrOf result DeskFault.NoMemory → ⊥ }
+        ensures counted { let slots = ⟦<FileDesk<R> as Desk>⟧.slots in
+            CountsFailure (slots self.old slot).faults (slots self.new slot).faults result }
+    {
+        match slot {
+            Slot::Policy => self.policy.read(into),
+            Slot::Capture => self.capture.read(into),
+            _ => unreachable!(),
+        }
+    }
+
+    /// `Failed` where the file can't be written, or takes nothing of a piece. The count of the slot
+    /// rises by one then, and in no other case.
+    #[tactic(auto, unfolding(crate::specs::Slots::at_slot))]
+    fn write(&mut self, slot: Slot, bytes: &[u8]) -> Result<usize, DeskFault>
+        requires write_slot { is_read slot ≡ false }
+        requires attached { let slots = ⟦<FileDesk<R> as Desk>⟧.slots in
+            (slot ≡ Slot.Note) ⊎ IsSome (slots self.old slot).name }
+        ensures ok { let slots = ⟦<FileDesk<R> as Desk>⟧.slots in
+            IfOk result (λ k. Writes k bytes.now (slots self.old slot) (slots self.new slot)) }
+        ensures err { let slots = ⟦<FileDesk<R> as Desk>⟧.slots in
+            OnErr result (KeepsSlot (slots self.old slot) (slots self.new slot)) }
+        ensures cause { let slots = ⟦<FileDesk<R> as Desk>⟧.slots in
+            HasCause (slots self.old slot) (slots self.new slot) result }
+        ensures others { let slots = ⟦<FileDesk<R> as Desk>⟧.slots in
+            (s : Slot) → s ≢ slot → slots self.new s ≡ slots self.old s }
+        ensures no_want { IsErrOf result DeskFault.NoMemory → ⊥ }
+        ensures counted { let slots = ⟦<FileDesk<R> as Desk>⟧.slots in
+            CountsFailure (slots self.old slot).faults (slots self.new slot).faults result }
+    {
+        match slot {
+            Slot::Out => self.out.write(bytes),
+            Slot::Report => self.report.write(bytes),
+            Slot::Note => {
+                if let Ok(count) = io::writer(&self.rt).write(bytes)
+                    && (count > 0 || bytes.is_empty())
+                {
+                    return Ok(count);
+                }
+                self.note_faults = self.note_faults.saturating_add(1);
+                Err(DeskFault::Failed)
+            }
+            _ => unreachable!(),
+        }
+    }
+}
+
+// A copy of a name, before any file is touched for it.
+fn copy_of(alloc: Global, name: &str) -> Result<String, DeskFault>
+    ensures name { IfOk result (λ text. string_bytes text ≡ name.now) }
+    ensures err { IfErr result (λ e. e ≡ DeskFault.NoMemory) }
+{
+    String::from_str(alloc, name).map_err(|_| DeskFault::NoMemory)
+}
+
+// A file to read, with a buffer in front of it.
+fn open<R: Files + AllocGlobal>(rt: &R, name: &str) -> Result<BufReader<R::File>, DeskFault> {
+    let file = File::open(rt, name).map_err(|_| DeskFault::Failed)?;
+    BufReader::with_capacity(rt.alloc(), READ_AHEAD, file).map_err(|_| DeskFault::NoMemory)
+}
+
+// A file to write, which is empty.
+fn create<R: Files>(rt: &R, name: &str) -> Result<R::File, DeskFault> {
+    File::create(rt, name).map_err(|_| DeskFault::Failed)
+}

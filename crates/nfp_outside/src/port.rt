@@ -1,0 +1,101 @@
+// A slot over a file: the name, the file once there is one, and the count of its faults.
+ghost use Rattle.std.specs.Prelude.{◌≡◌, ◌≤◌, IfOk, OnOk, OnErr, IsErrOf, None};
+ghost use Rattle.std.specs.String.{string_bytes};
+ghost use Rattle.nfp_outside.specs.Outside.{KeepsSlot, HasCause, IsRisen, CountsFailure, one_more, Attaches, Reads, Writes, fresh_slot};
+ghost use Rattle.nfp_outside.specs.Port.{port_view};
+
+use crate::slot::{DeskFault, Slot};
+use std::io::{Read, Write};
+
+/// What a desk over files keeps of a slot.
+#[derive(Drop)]
+pub struct Port<F> {
+    pub name: Option<String>,
+    pub file: Option<F>,
+    pub faults: u64,
+}
+
+impl<F: Drop> Port<F> {
+    pub fn new() -> Self
+        ensures { port_view result ≡ fresh_slot None }
+    {
+        Port {
+            name: None,
+            file: None,
+            faults: 0,
+        }
+    }
+
+    // Counts a failure.
+    fn fail(&mut self) -> DeskFault
+        ensures keeps { KeepsSlot (port_view self.old) (port_view self.new) }
+        ensures later { self.old.faults ≤ self.new.faults }
+        ensures risen { IsRisen self.old.faults self.new.faults }
+        ensures one_more { self.new.faults ≡ one_more self.old.faults }
+        ensures failed { result ≡ DeskFault.Failed }
+    {
+        self.faults = self.faults.saturating_add(1);
+        DeskFault::Failed
+    }
+
+    // Keeps the file and its name, if it could be opened.
+    pub fn attach(
+        &mut self,
+        slot: Slot,
+        name: String,
+        opened: Result<F, DeskFault>,
+    ) -> Result<(), DeskFault>
+        ensures ok { OnOk result
+            (Attaches slot (string_bytes name) (port_view self.old) (port_view self.new)) }
+        ensures err { OnErr result (KeepsSlot (port_view self.old) (port_view self.new)) }
+        ensures cause { HasCause (port_view self.old) (port_view self.new) result }
+        ensures counted { CountsFailure self.old.faults self.new.faults result }
+    {
+        match opened {
+            Ok(file) => {
+                self.name = Some(name);
+                self.file = Some(file);
+                Ok(())
+            }
+            Err(DeskFault::Failed) => Err(self.fail()),
+            Err(DeskFault::NoMemory) => Err(DeskFault::NoMemory),
+        }
+    }
+}
+
+impl<F: Read + Drop> Port<F> {
+    pub fn read(&mut self, into: &mut [u8]) -> Result<usize, DeskFault>
+        ensures ok { IfOk result (λ k. Reads k into.new (port_view self.old) (port_view self.new)) }
+        ensures err { OnErr result (KeepsSlot (port_view self.old) (port_view self.new)) }
+        ensures cause { HasCause (port_view self.old) (port_view self.new) result }
+        ensures no_want { IsErrOf result DeskFault.NoMemory → ⊥ }
+        ensures counted { CountsFailure self.old.faults self.new.faults result }
+    {
+        if let Some(file) = &mut self.file
+            && let Ok(count) = file.read(into)
+        {
+            return Ok(count);
+        }
+        Err(self.fail())
+    }
+}
+
+impl<F: Write + Drop> Port<F> {
+    // A write that takes nothing of a piece is a failure.
+    pub fn write(&mut self, bytes: &[u8]) -> Result<usize, DeskFault>
+        ensures ok { IfOk result (λ k.
+            Writes k bytes.now (port_view self.old) (port_view self.new)) }
+        ensures err { OnErr result (KeepsSlot (port_view self.old) (port_view self.new)) }
+        ensures cause { HasCause (port_view self.old) (port_view self.new) result }
+        ensures no_want { IsErrOf result DeskFault.NoMemory → ⊥ }
+        ensures counted { CountsFailure self.old.faults self.new.faults result }
+    {
+        if let Some(file) = &mut self.file
+            && let Ok(count) = file.write(bytes)
+            && (count > 0 || bytes.is_empty())
+        {
+            return Ok(count);
+        }
+        Err(self.fail())
+    }
+}

@@ -1,0 +1,41 @@
+// How often a slot was called, and how often it failed.
+ghost use Rattle.std.specs.Prelude.{◌≡◌, ◌≤◌, if◌then◌else◌, Ok, Err, IsErrOf};
+ghost use Rattle.nfp_outside.specs.Outside.{one_more, CountsFailure, IsRisen};
+
+use crate::slot::DeskFault;
+
+/// The calls on a slot so far, those that failed among them, and how many failed. Both stand still
+/// at the end of their type.
+#[derive(Clone, Copy, Debug)]
+pub struct Tally {
+    pub calls: u64,
+    pub faults: u64,
+}
+
+impl Tally {
+    pub fn new() -> Self
+        ensures calls { result.calls ≡ 0 }
+        ensures faults { result.faults ≡ 0 }
+    {
+        Tally {
+            calls: 0,
+            faults: 0,
+        }
+    }
+
+    // Counts a call, and fails it if it is to fail.
+    pub fn count(&mut self, fails: bool) -> Result<(), DeskFault>
+        ensures answer { result ≡ (if fails then Err DeskFault.Failed else Ok tt) }
+        ensures calls { self.new.calls ≡ one_more self.old.calls }
+        ensures faults { CountsFailure self.old.faults self.new.faults result }
+        ensures later { self.old.faults ≤ self.new.faults }
+        ensures risen { IsErrOf result DeskFault.Failed → IsRisen self.old.faults self.new.faults }
+    {
+        self.calls = self.calls.saturating_add(1);
+        if fails {
+            self.faults = self.faults.saturating_add(1);
+            return Err(DeskFault::Failed);
+        }
+        Ok(())
+    }
+}

@@ -1,0 +1,39 @@
+-- The capture that is written: the records whose packets passed the chain, each with the frame that the chain left.
+use Rattle.std.specs.Prelude.{ℕ, List, [], ◌++◌, map}
+use Rattle.std.specs.List.{flat_map, zip}
+use Rattle.pcap_io.specs.Capture.{time_of}
+use Rattle.pcap_io.specs.Written.{head_bytes, record_bytes}
+use Rattle.pcap_io.specs.declared.capture.Unit.{Unit as TimeUnit}
+use Rattle.pcap_io.specs.declared.capture.PcapRecord.{PcapRecord}
+use Rattle.pcap_io.specs.declared.capture.CaptureHead.{CaptureHead}
+use Rattle.chain_walk.specs.Packets.{Packet, fates}
+use Rattle.chain_walk.specs.Walk.{walk}
+use Rattle.chain_walk.specs.declared.walk.Fate.{Fate}
+use Rattle.chain_walk.specs.declared.walk.Fate.TheVariants.{Out, Gone}
+use Rattle.plain_policy.specs.Chain.{named_step}
+use Rattle.plain_policy.specs.declared.policy.PlainFunction.{PlainFunction}
+
+-- the packet of a record
+abbrev pub packet_of : TimeUnit → PcapRecord → Packet
+packet_of unit r = record { time = time_of unit r; frame = r.frame }
+
+-- where the packet of a record ends that walks through these functions
+abbrev pub fate_of : List PlainFunction → TimeUnit → PcapRecord → Fate
+fate_of functions unit r = (walk named_step (time_of unit r) 1 functions r.frame).fate
+
+-- where the packets of a capture end, each walking through the functions as the one before left them
+unfoldable pub fates_of : List PlainFunction → TimeUnit → List PcapRecord → List Fate
+fates_of functions unit records = fates named_step functions (map (packet_of unit) records)
+
+-- a record as it goes out, and nothing of one that was dropped
+abbrev pub emitted : PcapRecord → Fate → List ℕ
+emitted r (Out frame) = record_bytes (record r { frame = frame })
+emitted r (Gone position) = []
+
+-- the emitted records in the order read
+unfoldable pub emitted_all : List PcapRecord → List Fate → List ℕ
+emitted_all records fates = flat_map (λ x. emitted x.0 x.1) (zip records fates)
+
+-- the head as it was read, and the emitted records
+unfoldable pub out_bytes : CaptureHead → List PcapRecord → List Fate → List ℕ
+out_bytes head records fates = head_bytes head ++ emitted_all records fates

@@ -1,0 +1,9 @@
+pub mod Answers
+pub mod Due
+pub mod Emitted
+pub mod Named
+pub mod Reading
+pub mod Report
+pub mod Slots
+pub mod Status
+pub mod Words

@@ -1,0 +1,114 @@
+//! The texts of the report.
+ghost use Rattle.std.specs.Prelude.{◌≡◌, ◌≤◌, ◌++◌, IfOk, OnOk};
+ghost use Rattle.std.specs.List.{flat_map};
+ghost use Rattle.nfp_run.specs.Report.{drop_text, total_line, function_line, summary};
+
+use plain_policy::{PlainFunction, PlainPolicy};
+use std::alloc::{AllocError, Global};
+
+/// The report's first line.
+pub const TITLE: &[u8] = b"nfp report 1\n";
+
+/// How many records were read, and how many of them were dropped.
+#[derive(Clone, Copy, Debug, PartialEq, Eq)]
+pub struct Totals {
+    pub records: u64,
+    pub dropped: u64,
+}
+
+/// The line of a dropped record.
+#[tactic(auto, unfolding(crate::specs::Report::drop_text))]
+pub fn drop_text(
+    alloc: Global,
+    chain: &[u8],
+    number: u64,
+    name: &[u8],
+) -> Result<Vec<u8>, AllocError>
+    ensures { IfOk result (λ v. v.items ≡ drop_text chain.now number name.now) }
+{
+    let number = number.to_string(alloc)?;
+    join(
+        alloc,
+        &[b"drop ", number.as_bytes(), b" ", chain, b" ", name, b"\n"],
+    )
+}
+
+/// What stands behind the lines of the dropped records.
+#[tactic(auto, unfolding(crate::specs::Report::summary))]
+pub fn summary(alloc: Global, policy: &PlainPolicy, totals: Totals) -> Result<Vec<u8>, AllocError>
+    requires { totals.dropped ≤ totals.records }
+    ensures { IfOk result (λ v. v.items ≡ summary policy.now.chain policy.now.functions.items totals.records totals.dropped) }
+{
+    let mut text = total_line(alloc, totals)?;
+    push_function_lines(&mut text, policy)?;
+    text.extend_from_slice(b"end\n".as_slice())?;
+    Ok(text)
+}
+
+#[tactic(auto, unfolding(crate::specs::Report::total_line))]
+fn total_line(alloc: Global, totals: Totals) -> Result<Vec<u8>, AllocError>
+    requires { totals.dropped ≤ totals.records }
+    ensures { IfOk result (λ v. v.items ≡ total_line totals.records totals.dropped) }
+{
+    let records = totals.records.to_string(alloc)?;
+    let emitted = (totals.records - totals.dropped).to_string(alloc)?;
+    let dropped = totals.dropped.to_string(alloc)?;
+    join(
+        alloc,
+        &[
+            b"records ",
+            records.as_bytes(),
+            b" emitted ",
+            emitted.as_bytes(),
+            b" dropped ",
+            dropped.as_bytes(),
+            b"\n",
+        ],
+    )
+}
+
+fn push_function_lines(text: &mut Vec<u8>, policy: &PlainPolicy) -> Result<(), AllocError>
+    ensures { OnOk result (text.new.items ≡ text.old.items ++ flat_map (function_line policy.now.chain) policy.now.functions.items) }
+{
+    'functions: for function in &policy.functions {
+        push_function_line(text, policy.chain.bytes(), function)?;
+    }
+    Ok(())
+}
+
+#[tactic(auto, unfolding(crate::specs::Report::function_line))]
+fn push_function_line(
+    text: &mut Vec<u8>,
+    chain: &[u8],
+    function: &PlainFunction,
+) -> Result<(), AllocError>
+    ensures { OnOk result (text.new.items ≡ text.old.items ++ function_line chain.now function.now) }
+{
+    push_all(
+        text,
+        &[
+            b"function ",
+            chain,
+            b" ",
+            function.name.bytes(),
+            b" firewall\n",
+        ],
+    )
+}
+
+fn join(alloc: Global, pieces: &[&[u8]]) -> Result<Vec<u8>, AllocError>
+    ensures { IfOk result (λ v. v.items ≡ flat_map (λ piece. piece.now) pieces.now) }
+{
+    let mut text = Vec::new(alloc);
+    push_all(&mut text, pieces)?;
+    Ok(text)
+}
+
+fn push_all(text: &mut Vec<u8>, pieces: &[&[u8]]) -> Result<(), AllocError>
+    ensures { OnOk result (text.new.items ≡ text.old.items ++ flat_map (λ piece. piece.now) pieces.now) }
+{
+    'pieces: for piece in pieces {
+        text.extend_from_slice(piece)?;
+    }
+    Ok(())
+}

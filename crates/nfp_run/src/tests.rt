@@ -1,0 +1,103 @@
+//! Runs over desks in memory, with the capture and the answers written down by hand.
+use crate::outcome::{Outcome, UsageFault};
+use crate::run::nfp;
+use nfp_outside::{FixedDesk, MemDesk, OpenGate, Slot};
+use std::alloc::{AllocError, Global};
+use std::test::Fail;
+
+const POLICY: &[u8] = b"nfp 1\nchain main\nfn fw firewall\nrule deny src 10.0.0.9\n";
+
+const EXCEPTION: &[u8] =
+    b"nfp 1\nchain main\nfn fw firewall\nrule allow src 10.0.0.9\nrule deny src 10.0.0.0/8\n";
+
+// Version 2.4, snaplen 65535, Ethernet.
+const HEAD: [u8; 24] = [
+    0xd4, 0xc3, 0xb2, 0xa1, 2, 0, 4, 0, 0, 0, 0, 0, 0, 0, 0, 0, 0xff, 0xff, 0, 0, 1, 0, 0, 0,
+];
+
+// The same in nanoseconds, the high byte of each number first.
+const BIG_HEAD: [u8; 24] = [
+    0xa1, 0xb2, 0x3c, 0x4d, 0, 2, 0, 4, 0, 0, 0, 0, 0, 0, 0, 0, 0, 0, 0xff, 0xff, 0, 0, 0, 1,
+];
+
+const REPORT: &[u8] =
+    b"nfp report 1\ndrop 2 main fw\nrecords 3 emitted 2 dropped 1\nfunction main fw firewall\nend\n";
+
+const EXCEPTION_REPORT: &[u8] =
+    b"nfp report 1\ndrop 1 main fw\ndrop 3 main fw\nrecords 3 emitted 1 dropped 2\nfunction main fw firewall\nend\n";
+
+// A record with a UDP packet of 42 bytes from 10.0.0.`host`, port 1000, to 10.0.0.2, port 53.
+fn push_record(capture: &mut Vec<u8>, host: u8) -> Result<(), AllocError> {
+    capture.extend_from_slice(&[0, 0, 0, 0, 0, 0, 0, 0, 42, 0, 0, 0, 42, 0, 0, 0])?;
+    capture.extend_from_slice(&[2, 0, 0, 0, 0, 2, 2, 0, 0, 0, 0, 1, 8, 0])?;
+    capture.extend_from_slice(&[0x45, 0, 0, 28, 0, 0, 0, 0, 64, 17, 0x66, 0xcf, 10, 0, 0])?;
+    capture.push(host)?;
+    capture.extend_from_slice(&[10, 0, 0, 2, 3, 0xe8, 0, 53, 0, 8, 0, 0])
+}
+
+fn capture(alloc: Global) -> Result<Vec<u8>, AllocError> {
+    let mut capture = HEAD.to_vec(alloc)?;
+    push_record(&mut capture, 1)?;
+    push_record(&mut capture, 9)?;
+    push_record(&mut capture, 1)?;
+    Ok(capture)
+}
+
+fn words(alloc: Global, texts: &[&str]) -> Result<Vec<String>, AllocError> {
+    let mut words = Vec::new(alloc);
+    for text in texts {
+        words.push(String::from_str(alloc, text)?)?;
+    }
+    Ok(words)
+}
+
+#[test]
+fn the_first_rule_that_matches_decides(rt: HostRuntime) -> Result<(), Fail> {
+    let alloc = rt.alloc();
+    let words = words(alloc, &["run", "p", "c", "o", "r"])?;
+    for (policy, out, report) in [(POLICY, 140, REPORT), (EXCEPTION, 82, EXCEPTION_REPORT)] {
+        let mut desk = FixedDesk::new(alloc, policy.to_vec(alloc)?, capture(alloc)?, 7);
+        let outcome = nfp(&rt, alloc, &words, &mut desk, &OpenGate);
+        assert_eq!(rt; outcome, Outcome::Done);
+        assert_eq!(rt; desk.put(Slot::Out).len(), out);
+        assert_eq!(rt; desk.put(Slot::Report), report);
+    }
+    Ok(())
+}
+
+#[test]
+fn other_forms_are_told(rt: HostRuntime) -> Result<(), Fail> {
+    let alloc = rt.alloc();
+    let run = words(alloc, &["run", "p", "c", "o", "r"])?;
+    let mut desk = FixedDesk::new(alloc, POLICY.to_vec(alloc)?, BIG_HEAD.to_vec(alloc)?, 7);
+    let outcome = nfp(&rt, alloc, &run, &mut desk, &OpenGate);
+    assert_eq!(rt; outcome, Outcome::NotBuilt(Slot::Capture));
+    assert_eq!(rt; outcome.status(), 7);
+    let three = words(alloc, &["run", "a", "b", "c"])?;
+    let mut desk = FixedDesk::new(alloc, Vec::new(alloc), Vec::new(alloc), 7);
+    let outcome = nfp(&rt, alloc, &three, &mut desk, &OpenGate);
+    assert_eq!(rt; outcome, Outcome::Usage(UsageFault::Words));
+    assert_eq!(rt; outcome.status(), 1);
+    Ok(())
+}
+
+// Each call that fails is answered by the fault of its own slot, and what was written before stays.
+#[test]
+fn failures_are_told_by_their_slot(rt: HostRuntime) -> Result<(), Fail> {
+    let alloc = rt.alloc();
+    let words = words(alloc, &["run", "p", "c", "o", "r"])?;
+    for (slot, call, outcome, status, out) in [
+        (Slot::Policy, 0, Outcome::ReadFault(Slot::Policy), 4, 0),
+        (Slot::Capture, 2, Outcome::ReadFault(Slot::Capture), 4, 0),
+        (Slot::Out, 4, Outcome::WriteFault(Slot::Out), 5, 82),
+        (Slot::Report, 0, Outcome::WriteFault(Slot::Report), 5, 0),
+    ] {
+        let fails = vec![in alloc; (slot, call)]?;
+        let mut desk = MemDesk::new(alloc, POLICY.to_vec(alloc)?, capture(alloc)?, 4096, fails);
+        let answer = nfp(&rt, alloc, &words, &mut desk, &OpenGate);
+        assert_eq!(rt; answer, outcome);
+        assert_eq!(rt; answer.status(), status);
+        assert_eq!(rt; desk.put(Slot::Out).len(), out);
+    }
+    Ok(())
+}

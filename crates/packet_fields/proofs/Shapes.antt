@@ -1,0 +1,314 @@
+-- Which bytes of a packet decide where its fields lie, and that no field covers one of them.
+use Rattle.std.proofs.Common.{◌≡◌, ◌≢◌, ◌≤◌, ◌<◌, ◌+◌, ◌-◌, ◌*◌, ◌/◌, ◌%◌, ◌∙◌, ℕ, List, length, take, drop, get_or, Bool, true, false, ◌&&◌, ◌||◌, nat_eq, sym, ap, refl, arith, ◌⊎◌, inl, inr}
+use Rattle.std.specs.Prelude.{Option, Some, None, IfSome, ⊤, if◌then◌else◌, nat_le, nat_lt, ◌==◌, option_map}
+use Rattle.std.proofs.lemmas.Bool.{and_parts, leb-true, eqb-true, false≢true}
+use Rattle.std.proofs.lemmas.Option.{MatchOption-at_some}
+use Rattle.packet_fields.specs.Frames.{word}
+use Rattle.packet_fields.specs.Packets.{is_ipv4, header_len, total_len, protocol, is_tcp, is_udp, has_transport, segment_at, datagram_end, data_offset, data_at, has_data, data_span, control_bits, header_sum_at, segment_sum_at}
+use Rattle.packet_fields.specs.Fields.{packet_span, bytes_at}
+use Rattle.packet_fields.specs.Writing.{overwritten}
+use Rattle.packet_fields.specs.declared.field.Field.{Field}
+use Rattle.packet_fields.specs.declared.field.Field.TheVariants.{LinkDst, LinkSrc, Tag, Tos, Ttl, SrcIp, DstIp, SrcPort, DstPort, Payload}
+use Rattle.packet_fields.specs.declared.plan.Span.{Span}
+use Rattle.packet_fields.proofs.Spans.{if_some, packet_span-inside}
+use Rattle.packet_fields.proofs.Overwriting.{length-overwritten, get_or-before, get_or-behind, bytes_before, bytes_behind, bytes_same}
+
+-- the bytes that decide where fields lie are the same
+pub record SameShape (p q : List ℕ) : Type 0 where
+  pub len : length q ≡ length p
+  pub byte0 : get_or q 0 0 ≡ get_or p 0 0
+  pub byte1 : get_or q 1 0 ≡ get_or p 1 0
+  pub byte2 : get_or q 2 0 ≡ get_or p 2 0
+  pub byte4 : get_or q 4 0 ≡ get_or p 4 0
+  pub byte5 : get_or q 5 0 ≡ get_or p 5 0
+  pub byte8 : get_or q 8 0 ≡ get_or p 8 0
+  pub byte9 : get_or q 9 0 ≡ get_or p 9 0
+  pub byte11 : get_or q 11 0 ≡ get_or p 11 0
+  pub offset : has_transport p ≡ true → is_udp p ≡ false → get_or q (segment_at p + 12) 0 ≡ get_or p (segment_at p + 12) 0
+  pub control : has_transport p ≡ true → is_tcp p ≡ true → get_or q (segment_at p + 13) 0 ≡ get_or p (segment_at p + 13) 0
+
+pub is_ipv4-same : (p q : List ℕ) → SameShape p q → is_ipv4 q ≡ is_ipv4 p
+unfolding is_ipv4
+is_ipv4-same p q s = cc
+
+pub has_transport-same : (p q : List ℕ) → SameShape p q → has_transport q ≡ has_transport p
+unfolding has_transport
+has_transport-same p q s = let e = is_ipv4-same p q s in cc
+
+pub segment_at-same : (p q : List ℕ) → SameShape p q → segment_at q ≡ segment_at p
+segment_at-same p q s = cc
+
+pub datagram_end-same : (p q : List ℕ) → SameShape p q → datagram_end q ≡ datagram_end p
+datagram_end-same p q s = cc
+
+pub is_udp-same : (p q : List ℕ) → SameShape p q → is_udp q ≡ is_udp p
+is_udp-same p q s = cc
+
+-- the span of the data, as a function of what decides it
+abbrev data_span_by : Bool → Bool → ℕ → ℕ → ℕ → Option Span
+data_span_by there udp offset start end =
+    if (there && (udp || (nat_lt (start + 12) end && nat_le 5 offset))) && nat_le (if udp then start + 8 else 4 * offset + start) end
+    then Some (record { at = if udp then start + 8 else 4 * offset + start; len = end - (if udp then start + 8 else 4 * offset + start) }) else None
+
+data_span_by-offset : (there udp : Bool) (o o' start end : ℕ) → (there ≡ true → udp ≡ false → o' ≡ o) → data_span_by there udp o' start end ≡ data_span_by there udp o start end
+data_span_by-offset false udp o o' start end same = refl
+data_span_by-offset true true o o' start end same = refl
+data_span_by-offset true false o o' start end same = ap (λ (x : ℕ). data_span_by true false x start end) (same refl refl)
+
+pub data_span-same : (p q : List ℕ) → SameShape p q → data_span q ≡ data_span p
+data_span-same p q s =
+    let t = has_transport-same p q s in
+    let u = is_udp-same p q s in
+    let a = segment_at-same p q s in
+    let e = datagram_end-same p q s in
+    let moved : data_span_by (has_transport q) (is_udp q) (data_offset q) (segment_at q) (datagram_end q) ≡ data_span_by (has_transport p) (is_udp p) (data_offset q) (segment_at p) (datagram_end p) = cc in
+    moved ∙ data_span_by-offset (has_transport p) (is_udp p) (data_offset p) (data_offset q) (segment_at p) (datagram_end p)
+    (λ there not_udp. ap (λ (x : ℕ). x / 16) (ap (λ (k : ℕ). get_or q (k + 12) 0) a ∙ s.offset there not_udp))
+
+abbrev byte_by : Bool → Bool → ℕ → ℕ → ℕ → Option ℕ
+byte_by there tcp at end byte = if (there && tcp) && nat_lt at end then Some byte else None
+
+byte_by-byte : (there tcp : Bool) (at end b b' : ℕ) → (there ≡ true → tcp ≡ true → b' ≡ b) → byte_by there tcp at end b' ≡ byte_by there tcp at end b
+byte_by-byte false tcp at end b b' same = refl
+byte_by-byte true false at end b b' same = refl
+byte_by-byte true true at end b b' same = ap (λ (x : ℕ). byte_by true true at end x) (same refl refl)
+
+pub control_bits-same : (p q : List ℕ) → SameShape p q → control_bits q ≡ control_bits p
+control_bits-same p q s =
+    let t = has_transport-same p q s in
+    let a = segment_at-same p q s in
+    let e = datagram_end-same p q s in
+    let moved : byte_by (has_transport q) (is_tcp q) (segment_at q + 13) (datagram_end q) (get_or q (segment_at q + 13) 0) ≡ byte_by (has_transport p) (is_tcp p) (segment_at p + 13) (datagram_end p) (get_or q (segment_at p + 13) 0) = cc in
+    moved ∙ byte_by-byte (has_transport p) (is_tcp p) (segment_at p + 13) (datagram_end p) (get_or p (segment_at p + 13) 0) (get_or q (segment_at p + 13) 0) s.control
+
+pub packet_span-same : (f : Field) (p q : List ℕ) → SameShape p q → packet_span f q ≡ packet_span f p
+packet_span-same LinkDst p q s = refl
+packet_span-same LinkSrc p q s = refl
+packet_span-same Tag p q s = refl
+packet_span-same Tos p q s = let e = is_ipv4-same p q s in cc
+packet_span-same Ttl p q s = let e = is_ipv4-same p q s in cc
+packet_span-same SrcIp p q s = let e = is_ipv4-same p q s in cc
+packet_span-same DstIp p q s = let e = is_ipv4-same p q s in cc
+packet_span-same SrcPort p q s = let t = has_transport-same p q s in let a = segment_at-same p q s in let e = datagram_end-same p q s in cc
+packet_span-same DstPort p q s = let t = has_transport-same p q s in let a = segment_at-same p q s in let e = datagram_end-same p q s in cc
+packet_span-same Payload p q s = data_span-same p q s
+
+pub total_len-same : (p q : List ℕ) → SameShape p q → total_len q ≡ total_len p
+total_len-same p q s = let e = is_ipv4-same p q s in cc
+
+pub protocol-same : (p q : List ℕ) → SameShape p q → protocol q ≡ protocol p
+protocol-same p q s = let e = is_ipv4-same p q s in cc
+
+pub header_sum_at-same : (p q : List ℕ) → SameShape p q → header_sum_at q ≡ header_sum_at p
+header_sum_at-same p q s = let e = is_ipv4-same p q s in cc
+
+pub segment_sum_at-same : (p q : List ℕ) → SameShape p q → segment_sum_at q ≡ segment_sum_at p
+segment_sum_at-same p q s = let t = has_transport-same p q s in let a = segment_at-same p q s in let e = datagram_end-same p q s in let u = is_udp-same p q s in cc
+
+pub header_len-ipv4 : (p : List ℕ) → is_ipv4 p ≡ true → 20 ≤ header_len p
+unfolding is_ipv4
+header_len-ipv4 p there =
+    let rest = (and_parts (nat_lt 2 (length p)) ((word p 0 == 0x0800) && ((get_or p 2 0 / 16 == 4) && nat_le 5 (get_or p 2 0 % 16))) there).1 in
+    let rest2 = (and_parts (word p 0 == 0x0800) ((get_or p 2 0 / 16 == 4) && nat_le 5 (get_or p 2 0 % 16)) rest).1 in
+    let five : 5 ≤ get_or p 2 0 % 16 = leb-true 5 (get_or p 2 0 % 16) (and_parts (get_or p 2 0 / 16 == 4) (nat_le 5 (get_or p 2 0 % 16)) rest2).1 in
+    omega arith
+
+pub is_ipv4-transport : (p : List ℕ) → has_transport p ≡ true → is_ipv4 p ≡ true
+unfolding has_transport
+is_ipv4-transport p there = (and_parts (is_ipv4 p) (nat_lt 11 (length p) && ((is_tcp p || is_udp p) && ((word p 8 % 8192 == 0) && nat_le (header_len p) (word p 4)))) there).0
+
+pub segment_at-transport : (p : List ℕ) → has_transport p ≡ true → 22 ≤ segment_at p
+segment_at-transport p there = let long = header_len-ipv4 p (is_ipv4-transport p there) in omega arith
+
+-- where the span of a field lies
+abbrev pub InBounds : Field → List ℕ → Span → Type 0
+InBounds LinkDst p s = ⊥
+InBounds LinkSrc p s = ⊥
+InBounds Tag p s = ⊥
+InBounds Tos p s = (s.at ≡ 3) × (s.len ≡ 1)
+InBounds Ttl p s = (s.at ≡ 10) × (s.len ≡ 1)
+InBounds SrcIp p s = (s.at ≡ 14) × (s.len ≡ 4)
+InBounds DstIp p s = (s.at ≡ 18) × (s.len ≡ 4)
+InBounds SrcPort p s = (s.at ≡ segment_at p) × (s.len ≡ 2) × (22 ≤ segment_at p)
+InBounds DstPort p s = (s.at ≡ segment_at p + 2) × (s.len ≡ 2) × (22 ≤ segment_at p)
+InBounds Payload p s = (segment_at p + 8 ≤ s.at) × (is_udp p ≡ false → segment_at p + 20 ≤ s.at) × (22 ≤ segment_at p)
+
+data_from_kind : (udp below : Bool) (start offset : ℕ) → (udp || (below && nat_le 5 offset)) ≡ true → (start + 8 ≤ (if udp then start + 8 else 4 * offset + start)) × (udp ≡ false → start + 20 ≤ (if udp then start + 8 else 4 * offset + start))
+data_from_kind true below start offset known = (omega arith, λ not_udp. absurd (false≢true (sym not_udp)))
+data_from_kind false below start offset known = let five : 5 ≤ offset = leb-true 5 offset (and_parts below (nat_le 5 offset) known).1 in (omega arith, λ _. omega arith)
+
+data_at-bound : (p : List ℕ) → has_data p ≡ true → (segment_at p + 8 ≤ data_at p) × (is_udp p ≡ false → segment_at p + 20 ≤ data_at p)
+data_at-bound p there = data_from_kind (is_udp p) (nat_lt (segment_at p + 12) (datagram_end p)) (segment_at p) (data_offset p) ((and_parts (has_transport p) (is_udp p || (nat_lt (segment_at p + 12) (datagram_end p) && nat_le 5 (data_offset p))) there).1)
+
+pub bounds : (f : Field) (p : List ℕ) → IfSome (packet_span f p) (λ s. InBounds f p s)
+bounds LinkDst p = tt
+bounds LinkSrc p = tt
+bounds Tag p = tt
+bounds Tos p = if_some (is_ipv4 p && nat_le (3 + 1) (length p)) (record { at = 3; len = 1 }) (λ (s : Span). InBounds Tos p s) (λ e. (refl, refl))
+bounds Ttl p = if_some (is_ipv4 p && nat_le (10 + 1) (length p)) (record { at = 10; len = 1 }) (λ (s : Span). InBounds Ttl p s) (λ e. (refl, refl))
+bounds SrcIp p = if_some (is_ipv4 p && nat_le (14 + 4) (length p)) (record { at = 14; len = 4 }) (λ (s : Span). InBounds SrcIp p s) (λ e. (refl, refl))
+bounds DstIp p = if_some (is_ipv4 p && nat_le (18 + 4) (length p)) (record { at = 18; len = 4 }) (λ (s : Span). InBounds DstIp p s) (λ e. (refl, refl))
+bounds SrcPort p = if_some (has_transport p && nat_le (segment_at p + 2) (datagram_end p)) (record { at = segment_at p; len = 2 }) (λ (s : Span). InBounds SrcPort p s) (λ e. (refl, refl, segment_at-transport p (and_parts (has_transport p) (nat_le (segment_at p + 2) (datagram_end p)) e).0))
+bounds DstPort p = if_some (has_transport p && nat_le (segment_at p + 2 + 2) (datagram_end p)) (record { at = segment_at p + 2; len = 2 }) (λ (s : Span). InBounds DstPort p s) (λ e. (refl, refl, segment_at-transport p (and_parts (has_transport p) (nat_le (segment_at p + 2 + 2) (datagram_end p)) e).0))
+bounds Payload p = if_some (has_data p && nat_le (data_at p) (datagram_end p)) (record { at = data_at p; len = datagram_end p - data_at p }) (λ (s : Span). InBounds Payload p s)
+    (λ e. let there = (and_parts (has_data p) (nat_le (data_at p) (datagram_end p)) e).0 in let b = data_at-bound p there in (b.0, b.1, segment_at-transport p (and_parts (has_transport p) (is_udp p || (nat_lt (segment_at p + 12) (datagram_end p) && nat_le 5 (data_offset p))) there).0))
+
+pub bounds_at : (f : Field) (p : List ℕ) (s : Span) → packet_span f p ≡ Some s → InBounds f p s
+bounds_at f p s is = MatchOption-at_some ⊤ (λ s. InBounds f p s) s is (bounds f p)
+
+pub inside_at : (f : Field) (p : List ℕ) (s : Span) → packet_span f p ≡ Some s → s.at + s.len ≤ length p
+inside_at f p s is = MatchOption-at_some ⊤ (λ s. s.at + s.len ≤ length p) s is (packet_span-inside f p)
+
+-- a byte that a span leaves out
+abbrev Outside : Span → ℕ → Type 0
+Outside s k = (k < s.at) ⊎ (s.at + s.len ≤ k)
+
+byte_kept : (s : Span) (new p : List ℕ) (k : ℕ) → length new ≡ s.len → s.at + s.len ≤ length p → Outside s k → get_or (overwritten s.at new p) k 0 ≡ get_or p k 0
+byte_kept s new p k len inside (inl before) = get_or-before s.at new p k 0 (omega arith) before
+byte_kept s new p k len inside (inr behind) = get_or-behind s.at new p k 0 (omega arith) (omega arith)
+
+record OutsideAll (p : List ℕ) (s : Span) : Type 0 where
+  pub byte0 : Outside s 0
+  pub byte1 : Outside s 1
+  pub byte2 : Outside s 2
+  pub byte4 : Outside s 4
+  pub byte5 : Outside s 5
+  pub byte8 : Outside s 8
+  pub byte9 : Outside s 9
+  pub byte11 : Outside s 11
+  pub offset : has_transport p ≡ true → is_udp p ≡ false → Outside s (segment_at p + 12)
+  pub control : has_transport p ≡ true → is_udp p ≡ false → Outside s (segment_at p + 13)
+
+outside_all : (f : Field) (p : List ℕ) (s : Span) → InBounds f p s → OutsideAll p s
+outside_all LinkDst p s b = absurd b
+outside_all LinkSrc p s b = absurd b
+outside_all Tag p s b = absurd b
+outside_all Tos p s b = record { byte0 = inl (omega arith); byte1 = inl (omega arith); byte2 = inl (omega arith); byte4 = inr (omega arith); byte5 = inr (omega arith); byte8 = inr (omega arith); byte9 = inr (omega arith); byte11 = inr (omega arith); offset = λ there _. let far = segment_at-transport p there in inr (omega arith); control = λ there _. let far = segment_at-transport p there in inr (omega arith) }
+outside_all Ttl p s b = record { byte0 = inl (omega arith); byte1 = inl (omega arith); byte2 = inl (omega arith); byte4 = inl (omega arith); byte5 = inl (omega arith); byte8 = inl (omega arith); byte9 = inl (omega arith); byte11 = inr (omega arith); offset = λ there _. let far = segment_at-transport p there in inr (omega arith); control = λ there _. let far = segment_at-transport p there in inr (omega arith) }
+outside_all SrcIp p s b = record { byte0 = inl (omega arith); byte1 = inl (omega arith); byte2 = inl (omega arith); byte4 = inl (omega arith); byte5 = inl (omega arith); byte8 = inl (omega arith); byte9 = inl (omega arith); byte11 = inl (omega arith); offset = λ there _. let far = segment_at-transport p there in inr (omega arith); control = λ there _. let far = segment_at-transport p there in inr (omega arith) }
+outside_all DstIp p s b = record { byte0 = inl (omega arith); byte1 = inl (omega arith); byte2 = inl (omega arith); byte4 = inl (omega arith); byte5 = inl (omega arith); byte8 = inl (omega arith); byte9 = inl (omega arith); byte11 = inl (omega arith); offset = λ there _. let far = segment_at-transport p there in inr (omega arith); control = λ there _. let far = segment_at-transport p there in inr (omega arith) }
+outside_all SrcPort p s b = record { byte0 = inl (omega arith); byte1 = inl (omega arith); byte2 = inl (omega arith); byte4 = inl (omega arith); byte5 = inl (omega arith); byte8 = inl (omega arith); byte9 = inl (omega arith); byte11 = inl (omega arith); offset = λ _ _. inr (omega arith); control = λ _ _. inr (omega arith) }
+outside_all DstPort p s b = record { byte0 = inl (omega arith); byte1 = inl (omega arith); byte2 = inl (omega arith); byte4 = inl (omega arith); byte5 = inl (omega arith); byte8 = inl (omega arith); byte9 = inl (omega arith); byte11 = inl (omega arith); offset = λ _ _. inr (omega arith); control = λ _ _. inr (omega arith) }
+outside_all Payload p s b = record { byte0 = inl (omega arith); byte1 = inl (omega arith); byte2 = inl (omega arith); byte4 = inl (omega arith); byte5 = inl (omega arith); byte8 = inl (omega arith); byte9 = inl (omega arith); byte11 = inl (omega arith); offset = λ _ tcp. let far = b.1 tcp in inl (omega arith); control = λ _ tcp. let far = b.1 tcp in inl (omega arith) }
+
+is_tcp-not_udp : (n : ℕ) → nat_eq n 6 ≡ true → nat_eq n 17 ≡ false
+is_tcp-not_udp n tcp = let six = eqb-true n 6 tcp in rw six refl
+
+pub shape_kept : (f : Field) (p : List ℕ) (s : Span) (new : List ℕ) → packet_span f p ≡ Some s → length new ≡ s.len → SameShape p (overwritten s.at new p)
+shape_kept f p s new is len =
+    let o = outside_all f p s (bounds_at f p s is) in
+    let inside = inside_at f p s is in
+    record {
+      len = length-overwritten s.at new p (omega arith);
+      byte0 = byte_kept s new p 0 len inside o.byte0;
+      byte1 = byte_kept s new p 1 len inside o.byte1;
+      byte2 = byte_kept s new p 2 len inside o.byte2;
+      byte4 = byte_kept s new p 4 len inside o.byte4;
+      byte5 = byte_kept s new p 5 len inside o.byte5;
+      byte8 = byte_kept s new p 8 len inside o.byte8;
+      byte9 = byte_kept s new p 9 len inside o.byte9;
+      byte11 = byte_kept s new p 11 len inside o.byte11;
+      offset = λ there not_udp. byte_kept s new p (segment_at p + 12) len inside (o.offset there not_udp);
+      control = λ there tcp. byte_kept s new p (segment_at p + 13) len inside (o.control there (is_tcp-not_udp (get_or p 11 0) tcp));
+    }
+
+-- two fields of a packet lie apart
+abbrev pub Apart : Span → Span → Type 0
+Apart s t = (s.at + s.len ≤ t.at) ⊎ (t.at + t.len ≤ s.at)
+
+pub apart : (f g : Field) (p : List ℕ) (s t : Span) → f ≢ g → InBounds f p s → InBounds g p t → Apart s t
+apart Tos Tos p s t differ b c = absurd (differ refl)
+apart Tos Ttl p s t differ b c = inl (omega arith)
+apart Tos SrcIp p s t differ b c = inl (omega arith)
+apart Tos DstIp p s t differ b c = inl (omega arith)
+apart Tos SrcPort p s t differ b c = inl (omega arith)
+apart Tos DstPort p s t differ b c = inl (omega arith)
+apart Tos Payload p s t differ b c = inl (omega arith)
+apart Tos LinkDst p s t differ b c = absurd c
+apart Tos LinkSrc p s t differ b c = absurd c
+apart Tos Tag p s t differ b c = absurd c
+apart Ttl Tos p s t differ b c = inr (omega arith)
+apart Ttl Ttl p s t differ b c = absurd (differ refl)
+apart Ttl SrcIp p s t differ b c = inl (omega arith)
+apart Ttl DstIp p s t differ b c = inl (omega arith)
+apart Ttl SrcPort p s t differ b c = inl (omega arith)
+apart Ttl DstPort p s t differ b c = inl (omega arith)
+apart Ttl Payload p s t differ b c = inl (omega arith)
+apart Ttl LinkDst p s t differ b c = absurd c
+apart Ttl LinkSrc p s t differ b c = absurd c
+apart Ttl Tag p s t differ b c = absurd c
+apart SrcIp Tos p s t differ b c = inr (omega arith)
+apart SrcIp Ttl p s t differ b c = inr (omega arith)
+apart SrcIp SrcIp p s t differ b c = absurd (differ refl)
+apart SrcIp DstIp p s t differ b c = inl (omega arith)
+apart SrcIp SrcPort p s t differ b c = inl (omega arith)
+apart SrcIp DstPort p s t differ b c = inl (omega arith)
+apart SrcIp Payload p s t differ b c = inl (omega arith)
+apart SrcIp LinkDst p s t differ b c = absurd c
+apart SrcIp LinkSrc p s t differ b c = absurd c
+apart SrcIp Tag p s t differ b c = absurd c
+apart DstIp Tos p s t differ b c = inr (omega arith)
+apart DstIp Ttl p s t differ b c = inr (omega arith)
+apart DstIp SrcIp p s t differ b c = inr (omega arith)
+apart DstIp DstIp p s t differ b c = absurd (differ refl)
+apart DstIp SrcPort p s t differ b c = inl (omega arith)
+apart DstIp DstPort p s t differ b c = inl (omega arith)
+apart DstIp Payload p s t differ b c = inl (omega arith)
+apart DstIp LinkDst p s t differ b c = absurd c
+apart DstIp LinkSrc p s t differ b c = absurd c
+apart DstIp Tag p s t differ b c = absurd c
+apart SrcPort Tos p s t differ b c = inr (omega arith)
+apart SrcPort Ttl p s t differ b c = inr (omega arith)
+apart SrcPort SrcIp p s t differ b c = inr (omega arith)
+apart SrcPort DstIp p s t differ b c = inr (omega arith)
+apart SrcPort SrcPort p s t differ b c = absurd (differ refl)
+apart SrcPort DstPort p s t differ b c = inl (omega arith)
+apart SrcPort Payload p s t differ b c = inl (omega arith)
+apart SrcPort LinkDst p s t differ b c = absurd c
+apart SrcPort LinkSrc p s t differ b c = absurd c
+apart SrcPort Tag p s t differ b c = absurd c
+apart DstPort Tos p s t differ b c = inr (omega arith)
+apart DstPort Ttl p s t differ b c = inr (omega arith)
+apart DstPort SrcIp p s t differ b c = inr (omega arith)
+apart DstPort DstIp p s t differ b c = inr (omega arith)
+apart DstPort SrcPort p s t differ b c = inr (omega arith)
+apart DstPort DstPort p s t differ b c = absurd (differ refl)
+apart DstPort Payload p s t differ b c = inl (omega arith)
+apart DstPort LinkDst p s t differ b c = absurd c
+apart DstPort LinkSrc p s t differ b c = absurd c
+apart DstPort Tag p s t differ b c = absurd c
+apart Payload Tos p s t differ b c = inr (omega arith)
+apart Payload Ttl p s t differ b c = inr (omega arith)
+apart Payload SrcIp p s t differ b c = inr (omega arith)
+apart Payload DstIp p s t differ b c = inr (omega arith)
+apart Payload SrcPort p s t differ b c = inr (omega arith)
+apart Payload DstPort p s t differ b c = inr (omega arith)
+apart Payload Payload p s t differ b c = absurd (differ refl)
+apart Payload LinkDst p s t differ b c = absurd c
+apart Payload LinkSrc p s t differ b c = absurd c
+apart Payload Tag p s t differ b c = absurd c
+apart LinkDst g p s t differ b c = absurd b
+apart LinkSrc g p s t differ b c = absurd b
+apart Tag g p s t differ b c = absurd b
+
+pub bytes_apart : (s t : Span) (new p : List ℕ) → length new ≡ s.len → s.at + s.len ≤ length p → Apart s t → bytes_at (overwritten s.at new p) t ≡ bytes_at p t
+bytes_apart s t new p len inside (inl behind) = bytes_behind s.at new p t.at t.len (omega arith) (omega arith)
+bytes_apart s t new p len inside (inr before) = bytes_before s.at new p t.at t.len (omega arith) before
+
+-- the bytes of a field of a packet
+abbrev pub packet_value : Field → List ℕ → Option (List ℕ)
+packet_value f p = option_map (bytes_at p) (packet_span f p)
+
+packet_value-by : (f g : Field) (p : List ℕ) (s : Span) (new : List ℕ) (o : Option Span) → f ≢ g → packet_span f p ≡ Some s → length new ≡ s.len → packet_span g p ≡ o → option_map (bytes_at (overwritten s.at new p)) o ≡ option_map (bytes_at p) o
+packet_value-by f g p s new None differ is len o_is = refl
+packet_value-by f g p s new (Some t) differ is len o_is = ap (λ (xs : List ℕ). Some xs) (bytes_apart s t new p len (inside_at f p s is) (apart f g p s t differ (bounds_at f p s is) (bounds_at g p t o_is)))
+
+pub packet_value-other : (f g : Field) (p : List ℕ) (s : Span) (new : List ℕ) → f ≢ g → packet_span f p ≡ Some s → length new ≡ s.len → packet_value g (overwritten s.at new p) ≡ packet_value g p
+packet_value-other f g p s new differ is len =
+    ap (λ (o : Option Span). option_map (bytes_at (overwritten s.at new p)) o) (packet_span-same g p (overwritten s.at new p) (shape_kept f p s new is len)) ∙ packet_value-by f g p s new (packet_span g p) differ is len refl
+
+pub packet_value-own : (f : Field) (p : List ℕ) (s : Span) (new : List ℕ) → packet_span f p ≡ Some s → length new ≡ s.len → packet_value f (overwritten s.at new p) ≡ Some new
+packet_value-own f p s new is len =
+    let inside : s.at + length new ≤ length p = let i = inside_at f p s is in omega arith in
+    ap (λ (o : Option Span). option_map (bytes_at (overwritten s.at new p)) o) (packet_span-same f p (overwritten s.at new p) (shape_kept f p s new is len) ∙ is)
+    ∙ ap (λ (xs : List ℕ). Some xs) (ap (λ (n : ℕ). take n (drop s.at (overwritten s.at new p))) (sym len) ∙ bytes_same s.at new p inside)

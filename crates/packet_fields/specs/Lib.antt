@@ -1,0 +1,5 @@
+pub mod Frames
+pub mod Packets
+pub mod Fields
+pub mod Plans
+pub mod Writing

@@ -1,0 +1,49 @@
+//! The names of the fields.
+ghost use Rattle.std.specs.Prelude.{◌≡◌, ◌<◌};
+ghost use Rattle.packet_fields.specs.Fields.{number_of};
+
+/// A field of a frame that a network function can write, in their order in the frame.
+#[derive(Clone, Copy, Debug, PartialEq, Eq)]
+pub enum Field {
+    /// The destination's link address, 6 bytes (IEEE 802.3, 3.2.3).
+    LinkDst,
+    /// The source's link address, 6 bytes (IEEE 802.3, 3.2.3).
+    LinkSrc,
+    /// The list of tags, 4 bytes each, maybe empty (IEEE 802.1Q, 9.3).
+    Tag,
+    /// The type of service, 1 byte (RFC 791, 3.1).
+    Tos,
+    /// The time to live, 1 byte (RFC 791, 3.1).
+    Ttl,
+    /// The source address, 4 bytes (RFC 791, 3.1).
+    SrcIp,
+    /// The destination address, 4 bytes (RFC 791, 3.1).
+    DstIp,
+    /// The source port, 2 bytes (RFC 793, 3.1; RFC 768).
+    SrcPort,
+    /// The destination port, 2 bytes (RFC 793, 3.1; RFC 768).
+    DstPort,
+    /// The data behind the transport header, maybe empty (RFC 793, 3.1; RFC 768).
+    Payload,
+}
+
+impl Field {
+    /// The field's place in the order of the fields, from 0.
+    pub fn number(self) -> usize
+        ensures number { result ≡ number_of self }
+        ensures below { result < 10 }
+    {
+        match self {
+            Field::LinkDst => 0,
+            Field::LinkSrc => 1,
+            Field::Tag => 2,
+            Field::Tos => 3,
+            Field::Ttl => 4,
+            Field::SrcIp => 5,
+            Field::DstIp => 6,
+            Field::SrcPort => 7,
+            Field::DstPort => 8,
+            Field::Payload => 9,
+        }
+    }
+}

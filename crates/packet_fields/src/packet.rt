@@ -1,0 +1,201 @@
+//! The headers of a packet, which begins with its EtherType; places count from there.
+ghost use Rattle.std.specs.Prelude.{◌≡◌, ◌≤◌, ◌+◌, ◌^◌, ◌<◌, ◌&&◌, ◌||◌, ◌*◌, ◌%◌, length, slice_index, IsTrue, IfSome, true};
+ghost use Rattle.packet_fields.specs.Frames.{word as word_of};
+ghost use Rattle.packet_fields.specs.Packets.{span_within, byte_within, place_within, is_ipv4 as is_ipv4_of, has_transport as has_transport_of, segment_at as segment_at_of, datagram_end as datagram_end_of, data_span as data_span_of, is_tcp, is_udp};
+ghost use Rattle.packet_fields.specs.Plans.{header_plan_of, segment_plan_of};
+
+use crate::plan::Span;
+use byteorder::{BigEndian, ByteOrder};
+
+const IPV4: u16 = 0x0800;
+
+const TCP: u8 = 6;
+
+const UDP: u8 = 17;
+
+/// The fields of the IPv4 header.
+#[derive(Clone, Copy, PartialEq, Eq)]
+pub struct HeaderPlan {
+    pub tos: Option<Span>,
+    pub ttl: Option<Span>,
+    pub src_ip: Option<Span>,
+    pub dst_ip: Option<Span>,
+    pub proto: Option<u8>,
+    pub total_len: Option<u16>,
+    pub sum_at: Option<usize>,
+}
+
+/// The fields of the TCP or UDP header, and the data behind it.
+#[derive(Clone, Copy, PartialEq, Eq)]
+pub struct SegmentPlan {
+    pub src_port: Option<Span>,
+    pub dst_port: Option<Span>,
+    pub payload: Option<Span>,
+    pub control_bits: Option<u8>,
+    pub sum_at: Option<usize>,
+}
+
+/// The 16-bit number at a place.
+pub fn word(bytes: &[u8], at: usize) -> u16
+    requires { at + 2 ≤ length bytes.now }
+    ensures { result ≡ word_of bytes.now at }
+{
+    BigEndian::read_u16(&bytes[at..])
+}
+
+/// Some bytes that lie below a limit.
+pub fn within(there: bool, limit: usize, at: usize, len: usize) -> Option<Span>
+    requires { at + len < 2 ^ 64 }
+    ensures span { result ≡ span_within there limit at len }
+    ensures inside { IfSome result (λ s. s.at + s.len ≤ limit) }
+{
+    if there && at + len <= limit {
+        Some(Span { at, len })
+    } else {
+        None
+    }
+}
+
+/// A place of some bytes that lie below a limit.
+fn place(there: bool, limit: usize, at: usize, len: usize) -> Option<usize>
+    requires { at + len < 2 ^ 64 }
+    ensures place { result ≡ place_within there limit at len }
+    ensures inside { IfSome result (λ p. p + len ≤ limit) }
+{
+    if there && at + len <= limit {
+        Some(at)
+    } else {
+        None
+    }
+}
+
+/// The byte at a place that lies below a limit.
+fn byte(there: bool, limit: usize, bytes: &[u8], at: usize) -> Option<u8>
+    requires { limit ≤ length bytes.now }
+    ensures { result ≡ byte_within there limit bytes.now at }
+{
+    if there && at < limit {
+        Some(bytes[at])
+    } else {
+        None
+    }
+}
+
+/// Does an IPv4 header begin behind the EtherType?
+#[tactic(auto, unfolding(crate::specs::Packets::is_ipv4))]
+pub fn is_ipv4(packet: &[u8]) -> bool
+    ensures { result ≡ is_ipv4_of packet.now }
+{
+    packet.len() > 2 && word(packet, 0) == IPV4 && packet[2] / 16 == 4 && packet[2] % 16 >= 5
+}
+
+/// Does a TCP or UDP header begin behind the IPv4 header?
+#[tactic(auto, unfolding(crate::specs::Packets::has_transport))]
+pub fn has_transport(packet: &[u8]) -> bool
+    ensures there { result ≡ has_transport_of packet.now }
+    ensures room { IsTrue result → 12 ≤ length packet.now }
+    ensures kind { IsTrue result → (is_tcp packet.now || is_udp packet.now) ≡ true }
+{
+    is_ipv4(packet)
+        && packet.len() > 11
+        && (packet[11] == TCP || packet[11] == UDP)
+        && word(packet, 8) % 8192 == 0
+        && 4 * u16::from(packet[2] % 16) <= word(packet, 4)
+}
+
+/// The places of the IPv4 header.
+pub fn header_plan(packet: &[u8]) -> HeaderPlan
+    ensures plan { result ≡ header_plan_of packet.now }
+    ensures tos { IfSome result.tos (λ s. s.at + s.len ≤ length packet.now) }
+    ensures ttl { IfSome result.ttl (λ s. s.at + s.len ≤ length packet.now) }
+    ensures src_ip { IfSome result.src_ip (λ s. s.at + s.len ≤ length packet.now) }
+    ensures dst_ip { IfSome result.dst_ip (λ s. s.at + s.len ≤ length packet.now) }
+    ensures sum_at { IfSome result.sum_at (λ at. at + 2 ≤ length packet.now) }
+{
+    let there = is_ipv4(packet);
+    let end = packet.len();
+    let total_len = if there && end >= 6 {
+        Some(word(packet, 4))
+    } else {
+        None
+    };
+    HeaderPlan {
+        tos: within(there, end, 3, 1),
+        ttl: within(there, end, 10, 1),
+        src_ip: within(there, end, 14, 4),
+        dst_ip: within(there, end, 18, 4),
+        proto: byte(there, end, packet, 11),
+        total_len,
+        sum_at: place(there, end, 12, 2),
+    }
+}
+
+/// Where the transport header begins.
+fn segment_at(packet: &[u8]) -> usize
+    requires { 3 ≤ length packet.now }
+    ensures at { result ≡ segment_at_of packet.now }
+    ensures bound { result ≤ 62 }
+{
+    4 * usize::from(packet[2] % 16) + 2
+}
+
+/// Where the captured bytes of the datagram end.
+fn datagram_end(packet: &[u8]) -> usize
+    requires { 6 ≤ length packet.now }
+    ensures end { result ≡ datagram_end_of packet.now }
+    ensures inside { result ≤ length packet.now }
+{
+    packet.len().min(usize::from(word(packet, 4)) + 2)
+}
+
+/// Where the data behind a transport header that begins at `start` lies, below `end`.
+fn data_span(packet: &[u8], start: usize, end: usize) -> Option<Span>
+    requires there { IsTrue (has_transport_of packet.now) }
+    requires room { 12 ≤ length packet.now }
+    requires begins { start ≡ segment_at_of packet.now }
+    requires ends { end ≡ datagram_end_of packet.now }
+    ensures span { result ≡ data_span_of packet.now }
+    ensures inside { IfSome result (λ s. s.at + s.len ≤ end) }
+{
+    let at = if packet[11] == UDP {
+        start + 8
+    } else if start + 12 < end && packet[start + 12] / 16 >= 5 {
+        4 * usize::from(packet[start + 12] / 16) + start
+    } else {
+        return None;
+    };
+    if at <= end {
+        Some(Span { at, len: end - at })
+    } else {
+        None
+    }
+}
+
+/// The places of the transport header.
+pub fn segment_plan(packet: &[u8]) -> SegmentPlan
+    ensures plan { result ≡ segment_plan_of packet.now }
+    ensures src_port { IfSome result.src_port (λ s. s.at + s.len ≤ length packet.now) }
+    ensures dst_port { IfSome result.dst_port (λ s. s.at + s.len ≤ length packet.now) }
+    ensures payload { IfSome result.payload (λ s. s.at + s.len ≤ length packet.now) }
+    ensures sum_at { IfSome result.sum_at (λ at. at + 2 ≤ length packet.now) }
+{
+    if !has_transport(packet) {
+        return SegmentPlan {
+            src_port: None,
+            dst_port: None,
+            payload: None,
+            control_bits: None,
+            sum_at: None,
+        };
+    }
+    let start = segment_at(packet);
+    let end = datagram_end(packet);
+    let is_udp = packet[11] == UDP;
+    SegmentPlan {
+        src_port: within(true, end, start, 2),
+        dst_port: within(true, end, start + 2, 2),
+        payload: data_span(packet, start, end),
+        control_bits: byte(!is_udp, end, packet, start + 13),
+        sum_at: place(true, end, if is_udp { start + 6 } else { start + 16 }, 2),
+    }
+}

@@ -1,0 +1,5 @@
+pub mod Records
+pub mod Rows
+pub mod Spelling
+pub mod Reading
+pub mod Relation

@@ -1,0 +1,141 @@
+-- The classic pcap file format: a head of 24 bytes, and then records, each a head of 16 bytes and its frame.
+use Rattle.std.specs.Prelude.{◌≡◌, ◌≤◌, ◌+◌, ◌*◌, ℕ, zero, suc, List, [], ◌∷◌, length, take, drop, if◌then◌else◌, ◌==◌, nat_lt, ◌&&◌, Option, Some, None, Result, Ok, Err, IsErr}
+use Rattle.std.specs.Option.{option_map, option_and_then}
+use Rattle.byteorder.specs.Endian.{big_number, little_number}
+use Rattle.pcap_io.specs.declared.capture.Endian.{Endian}
+use Rattle.pcap_io.specs.declared.capture.Endian.TheVariants.{Big, Little}
+use Rattle.pcap_io.specs.declared.capture.Unit.{Unit as TimeUnit}
+use Rattle.pcap_io.specs.declared.capture.Unit.TheVariants.{Micro, Nano}
+use Rattle.pcap_io.specs.declared.capture.CaptureHead.{CaptureHead}
+use Rattle.pcap_io.specs.declared.capture.CaptureFault.{CaptureFault}
+use Rattle.pcap_io.specs.declared.capture.CaptureFault.TheVariants.{BadMagic, BadVersion, BadLink, CutHead, CutRecord, FrameTooLong, TooManyRecords}
+use Rattle.pcap_io.specs.declared.capture.PcapRecord.{PcapRecord}
+
+-- the number in n bytes at a place, in this order
+abbrev pub number_at : Endian → ℕ → ℕ → List ℕ → ℕ
+number_at Big n at bytes = big_number n (drop at bytes)
+number_at Little n at bytes = little_number n (drop at bytes)
+
+-- the magic number that stands for a unit
+abbrev pub magic_of : TimeUnit → ℕ
+magic_of Micro = 0xa1b2c3d4
+magic_of Nano = 0xa1b23c4d
+
+-- the order in which the first four bytes are a magic number, and the unit that this stands for
+abbrev pub kind_of : List ℕ → Option (Endian × TimeUnit)
+kind_of bytes =
+    if number_at Little 4 0 bytes == magic_of Micro then Some (Little, Micro)
+    else if number_at Little 4 0 bytes == magic_of Nano then Some (Little, Nano)
+    else if number_at Big 4 0 bytes == magic_of Micro then Some (Big, Micro)
+    else if number_at Big 4 0 bytes == magic_of Nano then Some (Big, Nano)
+    else None
+
+-- a head of this kind: magic, version 2.4, zone, sigfigs, snaplen, and the link type 1, Ethernet
+abbrev pub head_of_kind : List ℕ → Option (Endian × TimeUnit) → Result CaptureHead CaptureFault
+head_of_kind bytes None = Err BadMagic
+head_of_kind bytes (Some (order, unit)) =
+    if (number_at order 2 4 bytes == 2) && (number_at order 2 6 bytes == 4) then
+    (if number_at order 4 20 bytes == 1 then Ok (record {
+      order = order;
+      unit = unit;
+      zone = number_at order 4 8 bytes;
+      sigfigs = number_at order 4 12 bytes;
+      snaplen = number_at order 4 16 bytes;
+    })
+    else Err (BadLink (number_at order 4 20 bytes)))
+    else Err BadVersion
+
+-- the head of a capture, or the first reason to refuse it
+abbrev pub head_of : List ℕ → Result CaptureHead CaptureFault
+head_of bytes = if nat_lt (length bytes) 24 then Err CutHead else head_of_kind bytes (kind_of bytes)
+
+-- the captured length of the record at the front
+abbrev pub captured_of : Endian → List ℕ → ℕ
+captured_of order bytes = number_at order 4 8 bytes
+
+-- the record at the front: seconds, fraction, captured length, original length, and the frame
+abbrev pub record_of : Endian → List ℕ → PcapRecord
+record_of order bytes = record {
+  seconds = number_at order 4 0 bytes;
+  fraction = number_at order 4 4 bytes;
+  wire = number_at order 4 12 bytes;
+  frame = take (captured_of order bytes) (drop 16 bytes);
+}
+
+-- What stands behind so many records: the end, a record and what follows it, or a fault.
+abbrev pub next_of : Endian → ℕ → List ℕ → Result (Option (PcapRecord × List ℕ)) CaptureFault
+next_of order given bytes =
+    if length bytes == 0 then Ok None
+    else if given == 4294967295 then Err TooManyRecords
+    else if nat_lt (length bytes) 16 then Err (CutRecord (given + 1))
+    else if nat_lt 262144 (captured_of order bytes) then Err (FrameTooLong (given + 1) (captured_of order bytes))
+    else if nat_lt (length bytes) (16 + captured_of order bytes) then Err (CutRecord (given + 1))
+    else Ok (Some (record_of order bytes, drop (16 + captured_of order bytes) bytes))
+
+-- the record that stands next, or none because of a fault
+abbrev pub IsNext : Option (PcapRecord × List ℕ) → Result (Option (PcapRecord × List ℕ)) CaptureFault → Type 0
+IsNext None next = IsErr next
+IsNext (Some x) next = next ≡ Ok (Some x)
+
+-- the records of a capture, and the fault that ends them, if one does
+pub record Body : Type 0 where
+  pub records : List PcapRecord
+  pub fault : Option CaptureFault
+
+-- a record before others
+abbrev pub with_record : PcapRecord → Body → Body
+with_record r rest = record { records = r ∷ rest.records; fault = rest.fault }
+
+-- what stands next, and what comes behind a record
+abbrev pub and_rest : (List ℕ → Body) → Result (Option (PcapRecord × List ℕ)) CaptureFault → Body
+and_rest rest (Ok None) = record { records = []; fault = None }
+and_rest rest (Ok (Some (r, bytes))) = with_record r (rest bytes)
+and_rest rest (Err fault) = record { records = []; fault = Some fault }
+
+-- the same up to n records; a record takes bytes, so a number of bytes is enough
+abbrev pub body_within : ℕ → Endian → ℕ → List ℕ → Body
+body_within zero order given bytes = record { records = []; fault = None }
+body_within (suc n) order given bytes = and_rest (body_within n order (given + 1)) (next_of order given bytes)
+
+-- all the records behind so many, and the fault that ends them
+unfoldable pub body_of : Endian → ℕ → List ℕ → Body
+body_of order given bytes = body_within (length bytes + 1) order given bytes
+
+-- The same as a relation: the records stand one behind the other, and then come the end or a fault.
+abbrev pub IsBody : Endian → ℕ → List ℕ → List PcapRecord → Option CaptureFault → Type 0
+IsBody order given bytes [] None = next_of order given bytes ≡ Ok None
+IsBody order given bytes [] (Some fault) = next_of order given bytes ≡ Err fault
+IsBody order given bytes (r ∷ rs) fault = (rest : List ℕ) × (next_of order given bytes ≡ Ok (Some (r, rest))) × IsBody order (given + 1) rest rs fault
+
+-- the time of a record in nanoseconds
+abbrev pub time_of : TimeUnit → PcapRecord → ℕ
+time_of Micro r = r.seconds * 1000000000 + r.fraction * 1000
+time_of Nano r = r.seconds * 1000000000 + r.fraction
+
+-- a frame of a length that is accepted
+abbrev pub IsShort : PcapRecord → Type 0
+IsShort r = length r.frame ≤ 262144
+
+-- the head, where it is accepted
+abbrev pub accepted_head : Result CaptureHead CaptureFault → Option CaptureHead
+accepted_head (Ok head) = Some head
+accepted_head (Err fault) = None
+
+-- the records, where no fault ends them
+abbrev pub unless_fault : List PcapRecord → Option CaptureFault → Option (List PcapRecord)
+unless_fault records None = Some records
+unless_fault records (Some fault) = None
+
+abbrev pub whole_records : Body → Option (List PcapRecord)
+whole_records body = unless_fault body.records body.fault
+
+-- the head of the first form: at most 16,777,216 bytes, the first of them d4 c3 b2 a1, and an accepted head
+abbrev pub first_head_of : List ℕ → Option CaptureHead
+first_head_of bytes =
+    if nat_lt 16777216 (length bytes) then None
+    else if number_at Little 4 0 bytes == 0xa1b2c3d4 then accepted_head (head_of bytes)
+    else None
+
+-- a capture of the first form: its head, and all its records without a fault
+abbrev pub first_form_of : List ℕ → Option (CaptureHead × List PcapRecord)
+first_form_of bytes = option_and_then (λ head. option_map (λ records. (head, records)) (whole_records (body_of head.order 0 (drop 24 bytes)))) (first_head_of bytes)

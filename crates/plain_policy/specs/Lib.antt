@@ -1,0 +1,4 @@
+pub mod Grammar
+pub mod Policy
+pub mod Text
+pub mod Chain
