@@ -83,6 +83,24 @@ HasPolicy old = IfSome (old Policy).bytes (λ bytes. IsSome (policy_of bytes))
 abbrev pub HasCapture : (Slot → SlotView) → Type 0
 HasCapture old = IfSome (old Capture).bytes (λ bytes. IsSome (first_form_of bytes))
 
+-- Which of Out and Report are attached: both where the work was done, and none where it was refused before they are due.
+abbrev pub AttachesDue : Outcome → (Slot → SlotView) → Type 0
+AttachesDue Done new = IsSome (new Out).name × IsSome (new Report).name
+AttachesDue (Usage fault) new = ((new Out).name ≡ None) × ((new Report).name ≡ None)
+AttachesDue (NotBuilt slot) new = ((new Out).name ≡ None) × ((new Report).name ≡ None)
+AttachesDue (ReadFault slot) new = ((new Out).name ≡ None) × ((new Report).name ≡ None)
+AttachesDue (WriteFault slot) new = Unit {0}
+AttachesDue OutOfMemory new = Unit {0}
+
+-- why a form was refused: a policy that isn't of the first form, before the capture was attached, or a capture that isn't,
+-- behind a policy that is
+abbrev pub RefusalCause : (Slot → SlotView) → (Slot → SlotView) → Slot → Type 0
+RefusalCause old new Policy = IfSome (old Policy).bytes (λ bytes. policy_of bytes ≡ None) × ((new Capture).name ≡ None)
+RefusalCause old new Capture = IfSome (old Capture).bytes (λ bytes. first_form_of bytes ≡ None) × HasPolicy old
+RefusalCause old new Out = ⊥
+RefusalCause old new Report = ⊥
+RefusalCause old new Note = ⊥
+
 -- why a slot that is read gave a fault: its count rose; for the policy, before the capture was attached, and for the
 -- capture, behind a policy of the first form
 abbrev pub ReadFaultCause : (Slot → SlotView) → (Slot → SlotView) → Slot → Type 0

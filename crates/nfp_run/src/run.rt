@@ -2,9 +2,8 @@
 ghost use Rattle.std.specs.Prelude.{◌≡◌, ◌≢◌, ◌≤◌, ◌<◌, ◌^◌, ◌⊎◌, ◌↔◌, [], map, IfErr, OnOk, IfSome, IsNone, Some, None, string_bytes, vec_len, All};
 ghost use Rattle.nfp_outside.specs.declared.slot.Slot.{Slot};
 ghost use Rattle.pcap_io.specs.Capture.{IsShort};
-ghost use Rattle.plain_policy.specs.Policy.{policy_of};
 ghost use Rattle.nfp_run.specs.declared.outcome.UsageFault.{UsageFault};
-ghost use Rattle.nfp_run.specs.Answers.{IsDue, IsFinal, HasNames, NoneRose, WhereTold, Leaves, LeavesPrefixes, ReadFaultCause, WriteFaultCause};
+ghost use Rattle.nfp_run.specs.Answers.{IsDue, IsFinal, HasNames, NoneRose, WhereTold, Leaves, LeavesPrefixes, AttachesDue, HasPolicy, HasCapture, RefusalCause, ReadFaultCause, WriteFaultCause};
 ghost use Rattle.nfp_run.specs.Due.{due, due_of_names, written_of};
 ghost use Rattle.nfp_run.specs.Named.{names_seen};
 ghost use Rattle.nfp_run.specs.Slots.{RefusedWriting};
@@ -48,14 +47,16 @@ pub fn nfp<R: Threads + Wait, D: Desk, G: Gate + Sync>(
         LeavesPrefixes (due (map string_bytes words.now) p c).written (D.slots desk.old) (D.slots desk.new)) }
     // Each attached slot has the name that the words give it.
     ensures names { HasNames (names_of (map string_bytes words.now)) (D.slots desk.new) }
+    ensures attached { AttachesDue result (D.slots desk.new) }
     ensures note_stays { D.slots desk.new Slot.Note ≡ D.slots desk.old Slot.Note }
 
     // Words are refused exactly by the words, whatever the desk does.
     ensures usage { (result ≡ Outcome.Usage UsageFault.Words) ↔ (names_of (map string_bytes words.now) ≡ None) }
-    // A policy is refused exactly where it isn't of the first form, also where the desk tells the policy alone.
-    ensures policy_refused { (result ≡ Outcome.NotBuilt Slot.Policy) → IfSome (D.slots desk.old Slot.Policy).bytes (λ bytes. policy_of bytes ≡ None) }
-    ensures policy_taken { IsFinal result → result ≢ Outcome.Usage UsageFault.Words → result ≢ Outcome.NotBuilt Slot.Policy →
-        IfSome (D.slots desk.old Slot.Policy).bytes (λ bytes. policy_of bytes ≢ None) }
+    // A policy or a capture is refused only where it isn't of the first form, and taken only where it is, also where the
+    // desk tells the policy alone.
+    ensures refused { (s : Slot) → result ≡ Outcome.NotBuilt s → RefusalCause (D.slots desk.old) (D.slots desk.new) s }
+    ensures done { result ≡ Outcome.Done → HasPolicy (D.slots desk.old) × HasCapture (D.slots desk.old) }
+    // Each fault comes only where the count of its own slot rose, and not before the slots that are due earlier were good.
     ensures read_faults { (s : Slot) → result ≡ Outcome.ReadFault s → ReadFaultCause (D.slots desk.old) (D.slots desk.new) s }
     ensures write_faults { (s : Slot) → result ≡ Outcome.WriteFault s → WriteFaultCause (D.slots desk.old) (D.slots desk.new) s }
 {
@@ -74,9 +75,9 @@ fn run<D: Desk>(alloc: Global, names: &FileNames<'_>, desk: &mut D) -> Outcome
     ensures names { HasNames (Some (names_seen names.now)) (D.slots desk.new) }
     ensures note_stays { D.slots desk.new Slot.Note ≡ D.slots desk.old Slot.Note }
     ensures no_usage { (f : UsageFault) → result ≡ Outcome.Usage f → ⊥ }
-    ensures policy_refused { (result ≡ Outcome.NotBuilt Slot.Policy) → IfSome (D.slots desk.old Slot.Policy).bytes (λ bytes. policy_of bytes ≡ None) }
-    ensures policy_taken { IsFinal result → result ≢ Outcome.NotBuilt Slot.Policy →
-        IfSome (D.slots desk.old Slot.Policy).bytes (λ bytes. policy_of bytes ≢ None) }
+    ensures attached { AttachesDue result (D.slots desk.new) }
+    ensures refused { (s : Slot) → result ≡ Outcome.NotBuilt s → RefusalCause (D.slots desk.old) (D.slots desk.new) s }
+    ensures done { result ≡ Outcome.Done → HasPolicy (D.slots desk.old) × HasCapture (D.slots desk.old) }
     ensures read_faults { (s : Slot) → result ≡ Outcome.ReadFault s → ReadFaultCause (D.slots desk.old) (D.slots desk.new) s }
     ensures write_faults { (s : Slot) → result ≡ Outcome.WriteFault s → WriteFaultCause (D.slots desk.old) (D.slots desk.new) s }
 {
