@@ -1,9 +1,9 @@
 #!/usr/bin/env python3
 """Makes the captures of the examples, and works out from the rules what must come out.
 
-    tools/make_examples.py            writes in.pcap and expected/ of examples/first-path
-    tools/make_examples.py --check    writes nothing, and fails where a file is not what would be written
-    tools/make_examples.py --list     prints a line for each record: what it is, and what drops it
+    tools/make_examples.py                writes in.pcap and expected/ of each example
+    tools/make_examples.py --check        writes nothing, and fails where a file is not what would be written
+    tools/make_examples.py --list NAME    prints a line for each record of this example: what it is, and what drops it
 
 The expected files are worked out here, with Python's standard library alone, and never taken from the program's own
 output: two accounts of the same rules that agree say more than one.
@@ -13,12 +13,13 @@ import ipaddress
 import pathlib
 import struct
 import sys
+import typing
 
 EXAMPLES = pathlib.Path(__file__).resolve().parent.parent / 'examples'
 
-# The classic capture file: magic of microseconds, version 2.4, time zone, accuracy, snaplen, link type Ethernet.
-MAGIC, LINK_ETHERNET = 0xA1B2C3D4, 1
-SNAPLEN = 96
+# The classic capture file: magic of microseconds or nanoseconds, version 2.4, time zone, accuracy, snaplen, link type.
+MICRO, NANO, LINK_ETHERNET = 0xA1B2C3D4, 0xA1B23C4D, 1
+PER_SECOND = {MICRO: 1_000_000, NANO: 1_000_000_000}
 FIRST_SECOND = 1_700_000_000
 
 VLAN_TAG, SERVICE_TAG = 0x8100, 0x88A8
@@ -127,12 +128,17 @@ DISCOVER = bytes.fromhex('01010600 2b2b2b2b') + b'\0' * 20 + STATION + b'\0' * 2
 RECORD_ROUTE = bytes.fromhex('070b04') + b'\0' * 8 + b'\0'
 ROUTER_ALERT = bytes.fromhex('94040000')
 OFFICE, OTHER_TEN, GUEST, SCREEN, SCANNER = '10.1.4.20', '10.2.4.20', '192.168.20.31', '192.168.20.10', '203.0.113.66'
-RESOLVER = '192.0.2.53'
+RESOLVER, CUSTOMER, PROBE = '192.0.2.53', '198.51.100.200', '203.0.113.9'
 
 
-def records():
-    """What each record is, its frame as it was sent, and how many of its bytes were captured (None: up to the snaplen)."""
-    long_page = tcp(80, 50123, PUSH_ACK, b'HTTP/1.1 200 OK\r\n\r\n' + b'.' * 1427)
+def page(port):
+    """A piece of a web page, which makes a frame of 1,500 bytes."""
+    return tcp(80, port, PUSH_ACK, b'HTTP/1.1 200 OK\r\n\r\n' + b'.' * 1427)
+
+
+def uplink():
+    """What was seen on the uplink of an office, and how many bytes of it were captured (None: up to the snaplen)."""
+    long_page = page(50123)
     service = tag(SERVICE_TAG, 100) + tag(VLAN_TAG, 20)
     return [
         ('ARP request of an office machine', arp_request(OFFICE, '10.1.0.1'), None),
@@ -180,19 +186,69 @@ def records():
     ]
 
 
-def capture_head():
-    return struct.pack('<IHHiIII', MAGIC, 2, 4, 0, 0, SNAPLEN, LINK_ETHERNET)
+def tap():
+    """What an appliance at the line of a name server saw, with the nanoseconds since FIRST_SECOND."""
+
+    def query(source, port):
+        return plain(source, udp(port, 53, QUERY), to=RESOLVER)
+
+    fragment = plain('10.66.0.1', (UDP, lambda *_: b'x' * 24), to=RESOLVER, offset=1480)
+    probe = plain(PROBE, echo(1), to=RESOLVER, tags=tag(VLAN_TAG, 30))
+    return [
+        (999_999_105, 'DNS query of a customer', query(CUSTOMER, 40001), None),
+        (999_999_777, 'DNS query of the flood', query('203.0.113.5', 53000), None),
+        (999_999_999, 'the last nanosecond of a second, the flood', query('203.0.113.77', 53000), None),
+        (1_000_000_000, 'the first of the next, DNS query of a customer', query('198.51.100.7', 40002), None),
+        (1_000_000_672, 'ping of the probe in VLAN 30', probe, None),
+        (1_000_000_518, 'DNS answer, from the appliance\'s other port', plain(RESOLVER, udp(53, 40001, ANSWER), to=CUSTOMER), None),
+        (1_000_001_344, 'DNS query with a private source', query('192.168.1.5', 53000), None),
+        (1_000_001_344, 'DNS query with a loopback source, at the same moment', query('127.0.0.1', 53000), None),
+        (1_000_002_016, 'a later fragment with a private source', fragment, None),
+        (1_000_002_688, 'the flood in VLAN 30', plain('203.0.113.200', udp(53000, 53, QUERY), to=RESOLVER, tags=tag(VLAN_TAG, 30)), None),
+        (1_000_003_360, 'a web page of 1,500 bytes, whole', plain('192.0.2.80', page(50127), to=CUSTOMER), None),
+        (1_000_004_032, 'IPv6 ping', ipv6(), None),
+    ]
 
 
-def capture_records():
-    """Each record's sixteen bytes of head with the bytes that were captured."""
-    made = []
-    for number, (_, frame, kept) in enumerate(records()):
-        captured = frame[: SNAPLEN if kept is None else kept]
-        micros = number * 180_503
-        times = (FIRST_SECOND + micros // 1_000_000, micros % 1_000_000)
-        made.append((struct.pack('<IIII', *times, len(captured), len(frame)), captured))
-    return made
+def full_disk():
+    """What a gateway wrote until its disk was full, with the microseconds since FIRST_SECOND."""
+    made = [
+        ('ARP request of an office machine', arp_request(OFFICE, '10.1.0.1')),
+        ('TCP SYN of an office machine', plain(OFFICE, tcp(50123, 80, SYN))),
+        ('a web page of 1,500 bytes', plain('192.0.2.80', page(50123), to=OFFICE)),
+        ('TCP SYN of the scanner', plain(SCANNER, tcp(4444, 22, SYN))),
+        ('DNS query of a guest', plain(GUEST, udp(40002, 53, QUERY), to=RESOLVER)),
+        ('the same page, sent once more', plain('192.0.2.80', page(50123), to=OFFICE)),
+        ('ping of the scanner', plain(SCANNER, echo(1))),
+        ('DNS query of an office machine', plain(OFFICE, udp(40001, 53, QUERY), to=RESOLVER)),
+        ('a page of the scanner, whose record is cut', plain(SCANNER, page(50124), to=OFFICE)),
+    ]
+    return [(number * 180_503, what, frame, None) for number, (what, frame) in enumerate(made)]
+
+
+class Example(typing.NamedTuple):
+    order: str  # of the bytes in the capture's own numbers, as struct spells it
+    magic: int
+    snaplen: int
+    records: list  # moment, what it is, frame as it was sent, bytes of it that were captured (None: up to the snaplen)
+    room: typing.Optional[int] = None  # on the disk that the capture was written to, in bytes
+
+
+MADE = {
+    'first-path': Example('<', MICRO, 96, [(n * 180_503, *record) for n, record in enumerate(uplink())]),
+    'nanoseconds': Example('>', NANO, 65535, tap()),
+    'cut-capture': Example('<', MICRO, 262144, full_disk(), room=4096),
+}
+
+
+def written_capture(example):
+    parts = [struct.pack(example.order + 'IHHiIII', example.magic, 2, 4, 0, 0, example.snaplen, LINK_ETHERNET)]
+    for moment, _, frame, kept in example.records:
+        captured = frame[: example.snaplen if kept is None else kept]
+        seconds, fraction = divmod(moment, PER_SECOND[example.magic])
+        parts.append(struct.pack(example.order + 'IIII', FIRST_SECOND + seconds, fraction, len(captured), len(frame)))
+        parts.append(captured)
+    return b''.join(parts)[: example.room]
 
 
 # What comes out: the rules, once more.
@@ -237,34 +293,73 @@ def dropped_by(functions, frame):
     return None
 
 
-def expected(policy, made):
+def read_capture(data):
+    """Its head of 24 bytes, its whole records as (head, frame), and what is wrong behind them, or None."""
+    order = '<' if data[:4] in (MICRO.to_bytes(4, 'little'), NANO.to_bytes(4, 'little')) else '>'
+    whole, place = [], 24
+    while place < len(data):
+        head = data[place : place + 16]
+        captured = struct.unpack(order + 'I', head[8:12])[0] if len(head) == 16 else 0
+        frame = data[place + 16 : place + 16 + captured]
+        if len(head) < 16 or len(frame) < captured:
+            return data[:24], whole, f'capture: cut record {len(whole) + 1}'
+        whole.append((head, frame))
+        place += 16 + captured
+    return data[:24], whole, None
+
+
+class Answer(typing.NamedTuple):
+    frames: list
+    fates: list  # for each record the name of the function that drops it, or None
+    out: bytes
+    report: str
+    note: str
+    status: int
+
+
+def answer(policy, capture):
     chain, functions = read_policy(policy)
-    fates = [dropped_by(functions, captured) for _, captured in made]
-    out = capture_head() + b''.join(head + captured for (head, captured), fate in zip(made, fates) if fate is None)
+    head, made, fault = read_capture(capture)
+    fates = [dropped_by(functions, frame) for _, frame in made]
+    out = head + b''.join(record + frame for (record, frame), fate in zip(made, fates) if fate is None)
     drops = [f'drop {number} {chain} {fate}' for number, fate in enumerate(fates, 1) if fate is not None]
     total = f'records {len(fates)} emitted {len(fates) - len(drops)} dropped {len(drops)}'
     kinds = [f'function {chain} {name} firewall' for name, _ in functions]
-    report = '\n'.join(['nfp report 1', *drops, total, *kinds, 'end', ''])
-    return fates, out, report.encode('ascii')
+    last = f'fault {fault}' if fault else 'end'
+    report = '\n'.join(['nfp report 1', *drops, total, *kinds, last, ''])
+    return Answer([frame for _, frame in made], fates, out, report, fault or f'done {total}', 3 if fault else 0)
+
+
+def files_of(name, example):
+    """The bytes of each file that is made in the example's folder, and what they are taken to mean."""
+    folder = EXAMPLES / name
+    capture = written_capture(example)
+    due = answer((folder / 'policy').read_text('ascii'), capture)
+    return due, {
+        folder / 'in.pcap': capture,
+        folder / 'expected' / 'out.pcap': due.out,
+        folder / 'expected' / 'report.txt': due.report.encode('ascii'),
+        folder / 'expected' / 'note': f'{due.note}\n'.encode('ascii'),
+        folder / 'expected' / 'status': f'{due.status}\n'.encode('ascii'),
+    }
+
+
+def show(name):
+    due, _ = files_of(name, MADE[name])
+    for number, ((_, what, _, _), frame, fate) in enumerate(zip(MADE[name].records, due.frames, due.fates), 1):
+        source = source_address(frame)
+        print(f'| {number} | {what} | {len(frame)} | {source if source else "none"} | {fate if fate else "passes"} |')
+    print(due.note)
 
 
 def main(words):
-    if words not in ([], ['--check'], ['--list']):
+    if len(words) == 2 and words[0] == '--list' and words[1] in MADE:
+        show(words[1])
+        return 0
+    if words not in ([], ['--check']):
         print(__doc__, file=sys.stderr)
         return 2
-    folder = EXAMPLES / 'first-path'
-    made = capture_records()
-    fates, out, report = expected((folder / 'policy').read_text('ascii'), made)
-    files = {
-        folder / 'in.pcap': capture_head() + b''.join(head + captured for head, captured in made),
-        folder / 'expected' / 'out.pcap': out,
-        folder / 'expected' / 'report.txt': report,
-    }
-    if words == ['--list']:
-        for number, ((what, _, _), (_, captured), fate) in enumerate(zip(records(), made, fates), 1):
-            source = source_address(captured)
-            print(f'| {number} | {what} | {len(captured)} | {source if source else "none"} | {fate if fate else "passes"} |')
-        return 0
+    files = {path: data for name, example in MADE.items() for path, data in files_of(name, example)[1].items()}
     if words == ['--check']:
         stale = [path for path, data in files.items() if not path.is_file() or path.read_bytes() != data]
         for path in stale:

@@ -1,10 +1,6 @@
 -- What an attached slot holds after something was put into it.
-use Rattle.std.proofs.Common.{◌≡◌, ◌≢◌, ◌<◌, ◌≤◌, ◌∙◌, ◌⊎◌, inl, inr, ℕ, List, [], ◌++◌, refl, ap, sym, subst, rules, arith}
-use Rattle.std.specs.Prelude.{Option, Some, None, IsSome, false, if◌then◌else◌, Result, Ok, Err, OnOk, IfErr}
-use Rattle.nfp_outside.specs.declared.slot.Slot.TheVariants.{Out, Report}
-use Rattle.nfp_outside.proofs.Steps.{prefix_whole}
-use Rattle.nfp_run.specs.declared.outcome.Outcome.{Outcome}
-use Rattle.nfp_run.specs.Slots.{Puts, PutsPrefixes, RefusesPutting}
+use Rattle.std.proofs.Common.{◌≡◌, ◌∙◌, ℕ, List, [], ◌++◌, refl, ap, sym, rules}
+use Rattle.std.specs.Prelude.{Option, Some, None, IsSome, false, if◌then◌else◌}
 use Rattle.std.specs.Option.{option_map}
 use Rattle.std.proofs.lemmas.List.{append-nil}
 use Rattle.nfp_outside.specs.declared.slot.Slot.{Slot}
@@ -41,22 +37,3 @@ untouched old new free keeps = record { no_name = keeps.same_name ∙ free; same
 
 pub untouched_same : (old new : SlotView) → old.name ≡ None → new ≡ old → IsUntouched old new
 untouched_same old new free same = record { no_name = ap (λ v. v.name) same ∙ free; same_bytes = ap (λ v. v.bytes) same }
-
--- whether it was refused or not, a front part was put
-pub put_or_refused : {T : Type 0} (r : Result T Outcome) (out report : List ℕ) (old new : Slot → SlotView) → OnOk r (Puts out report old new) → IfErr r (RefusesPutting out report old new) → PutsPrefixes out report old new
-put_or_refused (Ok x) out report old new puts refused = record {
-  in_out = prefix_whole out (old Out) (new Out) puts.in_out;
-  in_report = prefix_whole report (old Report) (new Report) puts.in_report;
-  out_later = puts.out_later;
-  report_later = puts.report_later;
-  others = puts.others;
-}
-put_or_refused (Err e) out report old new puts refused = refused.prefixes
-
--- both slots were attached one after the other, and then front parts were put
-pub both_hold : (out_name report_name out report : List ℕ) (old first second new : Slot → SlotView) → Attaches Out out_name (old Out) (first Out) → first Report ≡ old Report → Attaches Report report_name (first Report) (second Report) → second Out ≡ first Out →
-    PutsPrefixes out report second new → HoldsPrefix out (old Out) (new Out) × HoldsPrefix report (old Report) (new Report)
-both_hold out_name report_name out report old first second new at_out still_report at_report still_out puts = (
-  holds_prefix Out out_name out (old Out) (second Out) (new Out) refl (subst (Attaches Out out_name (old Out)) (sym still_out) at_out) puts.in_out,
-  holds_prefix Report report_name report (old Report) (second Report) (new Report) refl (subst (λ v. Attaches Report report_name v (second Report)) still_report at_report) puts.in_report,
-)

@@ -1,7 +1,6 @@
 -- How what is put into Out and Report adds up.
-use Rattle.std.proofs.Common.{◌≡◌, ◌≢◌, ◌<◌, ◌≤◌, ◌∙◌, ◌⊎◌, inl, inr, ℕ, List, [], ◌++◌, refl, ap, sym, subst, arith}
-use Rattle.std.specs.Prelude.{Result, Err, IsErrOf}
-use Rattle.std.proofs.lemmas.List.{append-nil}
+use Rattle.std.proofs.Common.{◌≡◌, ◌≢◌, ◌≤◌, inl, inr, ℕ, List, [], ◌++◌, ap, sym, subst, arith}
+use Rattle.std.specs.Prelude.{Result, Err}
 use Rattle.nfp_outside.specs.declared.slot.Slot.{Slot}
 use Rattle.nfp_outside.specs.declared.slot.Slot.TheVariants.{Policy, Capture, Out, Report, Note}
 use Rattle.nfp_outside.specs.declared.slot.OutsideFault.{OutsideFault}
@@ -9,8 +8,8 @@ use Rattle.nfp_outside.specs.declared.slot.OutsideFault.TheVariants as faults
 use Rattle.nfp_outside.specs.Outside.{SlotView, IsRisen, Appends, AppendsPrefix, WriteCause}
 use Rattle.nfp_outside.proofs.Steps.{appends_none, appends_more, prefix_longer, prefix_more, prefix_whole, prefix_none}
 use Rattle.nfp_run.specs.declared.outcome.Outcome.{Outcome}
-use Rattle.nfp_run.specs.declared.outcome.Outcome.TheVariants.{Done, Usage, NotBuilt, ReadFault, WriteFault, OutOfMemory}
-use Rattle.nfp_run.specs.Slots.{Puts, PutsPrefixes, RefusedWriting, RefusesPutting, fault_seen}
+use Rattle.nfp_run.specs.declared.outcome.Outcome.TheVariants as outcomes
+use Rattle.nfp_run.specs.Slots.{IsLater, Puts, IsBroken, Breaks, fault_seen}
 
 -- a count that rose in the later of two calls rose in both
 pub risen_earlier : (a b c : ℕ) → a ≤ b → IsRisen b c → IsRisen a c
@@ -32,117 +31,146 @@ report_is_not_out h = cc
 pub out_is_not_report : Out ≢ Report
 out_is_not_report h = cc
 
+pub capture_is_not_out : Capture ≢ Out
+capture_is_not_out h = cc
+
+pub capture_is_not_report : Capture ≢ Report
+capture_is_not_report h = cc
+
+pub capture_is_not_policy : Capture ≢ Policy
+capture_is_not_policy h = cc
+
+pub out_is_not_policy : Out ≢ Policy
+out_is_not_policy h = cc
+
+pub report_is_not_policy : Report ≢ Policy
+report_is_not_policy h = cc
+
+pub out_is_not_capture : Out ≢ Capture
+out_is_not_capture h = cc
+
+pub report_is_not_capture : Report ≢ Capture
+report_is_not_capture h = cc
+
+out_later : (old new : Slot → SlotView) → (old Out).faults ≤ (new Out).faults → ((s : Slot) → s ≢ Out → new s ≡ old s) → IsLater old new
+out_later old new later others = record { capture = no_later _ _ (others Capture capture_is_not_out); out = later; report = no_later _ _ (others Report report_is_not_out) }
+
+report_later : (old new : Slot → SlotView) → (old Report).faults ≤ (new Report).faults → ((s : Slot) → s ≢ Report → new s ≡ old s) → IsLater old new
+report_later old new later others = record { capture = no_later _ _ (others Capture capture_is_not_report); out = no_later _ _ (others Out out_is_not_report); report = later }
+
+pub later_more : (old mid new : Slot → SlotView) → IsLater old mid → IsLater mid new → IsLater old new
+later_more old mid new a b = record {
+  capture = let x = a.capture in let y = b.capture in omega arith;
+  out = let x = a.out in let y = b.out in omega arith;
+  report = let x = a.report in let y = b.report in omega arith;
+}
+
+pub later_same : (old : Slot → SlotView) → IsLater old old
+later_same old = record { capture = omega arith; out = omega arith; report = omega arith }
+
 pub puts_out : (out : List ℕ) (old new : Slot → SlotView) → Appends out (old Out) (new Out) → (old Out).faults ≤ (new Out).faults →
     ((s : Slot) → s ≢ Out → new s ≡ old s) → Puts out [] old new
-puts_out out old new put later others = record {
-  in_out = put;
-  in_report = stays (old Report) (new Report) (others Report report_is_not_out);
-  out_later = later;
-  report_later = no_later (old Report) (new Report) (others Report report_is_not_out);
-  others = λ s other _. others s other;
-}
+puts_out out old new put later others = record { in_out = put; in_report = stays (old Report) (new Report) (others Report report_is_not_out); later = out_later old new later others }
 
 pub puts_report : (report : List ℕ) (old new : Slot → SlotView) → Appends report (old Report) (new Report) → (old Report).faults ≤ (new Report).faults →
     ((s : Slot) → s ≢ Report → new s ≡ old s) → Puts [] report old new
-puts_report report old new put later others = record {
-  in_out = stays (old Out) (new Out) (others Out out_is_not_report);
-  in_report = put;
-  out_later = no_later (old Out) (new Out) (others Out out_is_not_report);
-  report_later = later;
-  others = λ s _ other. others s other;
+puts_report report old new put later others = record { in_out = stays (old Out) (new Out) (others Out out_is_not_report); in_report = put; later = report_later old new later others }
+
+-- what is read off the capture puts nothing
+pub puts_read : (old new : Slot → SlotView) → (old Capture).faults ≤ (new Capture).faults → ((s : Slot) → s ≢ Capture → new s ≡ old s) → Puts [] [] old new
+puts_read old new later others = record {
+  in_out = stays (old Out) (new Out) (others Out out_is_not_capture);
+  in_report = stays (old Report) (new Report) (others Report report_is_not_capture);
+  later = record { capture = later; out = no_later _ _ (others Out out_is_not_capture); report = no_later _ _ (others Report report_is_not_capture) };
 }
 
-out_cause : {T : Type 0} (old new : Slot → SlotView) (fault : OutsideFault) (result : Result T OutsideFault) → result ≡ Err fault → WriteCause Out (old Out) (new Out) result → RefusedWriting old new (fault_seen Out fault)
+out_cause : {T : Type 0} (old new : Slot → SlotView) (fault : OutsideFault) (result : Result T OutsideFault) → result ≡ Err fault → WriteCause Out (old Out) (new Out) result → IsBroken old new (fault_seen Out fault)
 out_cause old new (faults.WriteFault s) result is cause = (cause.write_fault s is).1
 out_cause old new (faults.ReadFault s) result is cause = tt
 out_cause old new faults.TooLong result is cause = tt
 out_cause old new faults.OutOfMemory result is cause = tt
 
-report_cause : {T : Type 0} (old new : Slot → SlotView) (fault : OutsideFault) (result : Result T OutsideFault) → result ≡ Err fault → WriteCause Report (old Report) (new Report) result → RefusedWriting old new (fault_seen Report fault)
+report_cause : {T : Type 0} (old new : Slot → SlotView) (fault : OutsideFault) (result : Result T OutsideFault) → result ≡ Err fault → WriteCause Report (old Report) (new Report) result → IsBroken old new (fault_seen Report fault)
 report_cause old new (faults.WriteFault s) result is cause = (cause.write_fault s is).1
 report_cause old new (faults.ReadFault s) result is cause = tt
 report_cause old new faults.TooLong result is cause = tt
 report_cause old new faults.OutOfMemory result is cause = tt
 
 pub out_refused : {T : Type 0} (out : List ℕ) (old new : Slot → SlotView) (fault : OutsideFault) (result : Result T OutsideFault) → result ≡ Err fault → AppendsPrefix out (old Out) (new Out) →
-    WriteCause Out (old Out) (new Out) result → ((s : Slot) → s ≢ Out → new s ≡ old s) → RefusesPutting out [] old new (fault_seen Out fault)
+    WriteCause Out (old Out) (new Out) result → ((s : Slot) → s ≢ Out → new s ≡ old s) → Breaks out [] old new (fault_seen Out fault)
 out_refused out old new fault result is put cause others = record {
-  prefixes = record {
-    in_out = put;
-    in_report = prefix_stays (old Report) (new Report) (others Report report_is_not_out);
-    out_later = cause.later;
-    report_later = no_later (old Report) (new Report) (others Report report_is_not_out);
-    others = λ s other _. others s other;
-  };
+  prefixes = record { in_out = put; in_report = prefix_stays (old Report) (new Report) (others Report report_is_not_out); later = out_later old new cause.later others };
   cause = out_cause old new fault result is cause;
 }
 
 pub report_refused : {T : Type 0} (report : List ℕ) (old new : Slot → SlotView) (fault : OutsideFault) (result : Result T OutsideFault) → result ≡ Err fault → AppendsPrefix report (old Report) (new Report) →
-    WriteCause Report (old Report) (new Report) result → ((s : Slot) → s ≢ Report → new s ≡ old s) → RefusesPutting [] report old new (fault_seen Report fault)
+    WriteCause Report (old Report) (new Report) result → ((s : Slot) → s ≢ Report → new s ≡ old s) → Breaks [] report old new (fault_seen Report fault)
 report_refused report old new fault result is put cause others = record {
-  prefixes = record {
-    in_out = prefix_stays (old Out) (new Out) (others Out out_is_not_report);
-    in_report = put;
-    out_later = no_later (old Out) (new Out) (others Out out_is_not_report);
-    report_later = cause.later;
-    others = λ s _ other. others s other;
-  };
+  prefixes = record { in_out = prefix_stays (old Out) (new Out) (others Out out_is_not_report); in_report = put; later = report_later old new cause.later others };
   cause = report_cause old new fault result is cause;
 }
 
 pub puts_none : (old : Slot → SlotView) → Puts [] [] old old
-puts_none old = record { in_out = appends_none (old Out); in_report = appends_none (old Report); out_later = omega arith; report_later = omega arith; others = λ s _ _. refl }
+puts_none old = record { in_out = appends_none (old Out); in_report = appends_none (old Report); later = later_same old }
 
 pub puts_more : (a b c d : List ℕ) (old mid new : Slot → SlotView) → Puts a b old mid → Puts c d mid new → Puts (a ++ c) (b ++ d) old new
 puts_more a b c d old mid new first second = record {
   in_out = appends_more a c (old Out) (mid Out) (new Out) first.in_out second.in_out;
   in_report = appends_more b d (old Report) (mid Report) (new Report) first.in_report second.in_report;
-  out_later = let x = first.out_later in let y = second.out_later in omega arith;
-  report_later = let x = first.report_later in let y = second.report_later in omega arith;
-  others = λ s o r. second.others s o r ∙ first.others s o r;
+  later = later_more old mid new first.later second.later;
 }
 
--- nothing was put, for want of memory
-pub refused_none : (out report : List ℕ) (old : Slot → SlotView) → RefusesPutting out report old old OutOfMemory
-refused_none out report old = record {
-  prefixes = record { in_out = prefix_none out (old Out); in_report = prefix_none report (old Report); out_later = omega arith; report_later = omega arith; others = λ s _ _. refl };
-  cause = tt;
+-- nothing was put
+pub breaks_none : (out report : List ℕ) (old new : Slot → SlotView) (e : Outcome) → Puts [] [] old new → IsBroken old new e → Breaks out report old new e
+breaks_none out report old new e none cause = record {
+  prefixes = record { in_out = prefix_longer [] out (old Out) (new Out) (prefix_whole [] (old Out) (new Out) none.in_out); in_report = prefix_longer [] report (old Report) (new Report) (prefix_whole [] (old Report) (new Report) none.in_report); later = none.later };
+  cause = cause;
 }
+
+pub no_memory : (out report : List ℕ) (old : Slot → SlotView) → Breaks out report old old outcomes.OutOfMemory
+no_memory out report old = breaks_none out report old old outcomes.OutOfMemory (puts_none old) tt
 
 -- what is to be put is longer
-pub refused_longer : (a b x y : List ℕ) (old new : Slot → SlotView) (e : Outcome) → RefusesPutting a b old new e → RefusesPutting (a ++ x) (b ++ y) old new e
-refused_longer a b x y old new e r = record {
+pub breaks_longer : (a b x y : List ℕ) (old new : Slot → SlotView) (e : Outcome) → Breaks a b old new e → Breaks (a ++ x) (b ++ y) old new e
+breaks_longer a b x y old new e r = record {
   prefixes = record {
     in_out = prefix_longer a x (old Out) (new Out) r.prefixes.in_out;
     in_report = prefix_longer b y (old Report) (new Report) r.prefixes.in_report;
-    out_later = r.prefixes.out_later;
-    report_later = r.prefixes.report_later;
-    others = r.prefixes.others;
+    later = r.prefixes.later;
   };
   cause = r.cause;
 }
 
-earlier_cause : (old mid new : Slot → SlotView) (e : Outcome) → (old Out).faults ≤ (mid Out).faults → (old Report).faults ≤ (mid Report).faults → RefusedWriting mid new e → RefusedWriting old new e
-earlier_cause old mid new (WriteFault Out) o r h = risen_earlier _ _ _ o h
-earlier_cause old mid new (WriteFault Report) o r h = risen_earlier _ _ _ r h
-earlier_cause old mid new (WriteFault Policy) o r h = h
-earlier_cause old mid new (WriteFault Capture) o r h = h
-earlier_cause old mid new (WriteFault Note) o r h = h
-earlier_cause old mid new OutOfMemory o r h = tt
-earlier_cause old mid new Done o r h = h
-earlier_cause old mid new (Usage fault) o r h = h
-earlier_cause old mid new (NotBuilt slot) o r h = h
-earlier_cause old mid new (ReadFault slot) o r h = h
+pub earlier_cause : (old mid new : Slot → SlotView) (e : Outcome) → IsLater old mid → IsBroken mid new e → IsBroken old new e
+earlier_cause old mid new (outcomes.WriteFault Out) l h = risen_earlier _ _ _ l.out h
+earlier_cause old mid new (outcomes.WriteFault Report) l h = risen_earlier _ _ _ l.report h
+earlier_cause old mid new (outcomes.WriteFault Policy) l h = h
+earlier_cause old mid new (outcomes.WriteFault Capture) l h = h
+earlier_cause old mid new (outcomes.WriteFault Note) l h = h
+earlier_cause old mid new (outcomes.ReadFault Capture) l h = risen_earlier _ _ _ l.capture h
+earlier_cause old mid new (outcomes.ReadFault Policy) l h = h
+earlier_cause old mid new (outcomes.ReadFault Out) l h = h
+earlier_cause old mid new (outcomes.ReadFault Report) l h = h
+earlier_cause old mid new (outcomes.ReadFault Note) l h = h
+earlier_cause old mid new outcomes.OutOfMemory l h = tt
+earlier_cause old mid new outcomes.Done l h = h
+earlier_cause old mid new (outcomes.Usage fault) l h = h
+earlier_cause old mid new (outcomes.NotBuilt slot) l h = h
+earlier_cause old mid new (outcomes.Capture fault) l h = h
 
 -- something was put before
-pub refused_more : (a b c d : List ℕ) (old mid new : Slot → SlotView) (e : Outcome) → Puts a b old mid → RefusesPutting c d mid new e → RefusesPutting (a ++ c) (b ++ d) old new e
-refused_more a b c d old mid new e first r = record {
+pub breaks_more : (a b c d : List ℕ) (old mid new : Slot → SlotView) (e : Outcome) → Puts a b old mid → Breaks c d mid new e → Breaks (a ++ c) (b ++ d) old new e
+breaks_more a b c d old mid new e first r = record {
   prefixes = record {
     in_out = prefix_more a c (old Out) (mid Out) (new Out) first.in_out r.prefixes.in_out;
     in_report = prefix_more b d (old Report) (mid Report) (new Report) first.in_report r.prefixes.in_report;
-    out_later = let x = first.out_later in let y = r.prefixes.out_later in omega arith;
-    report_later = let x = first.report_later in let y = r.prefixes.report_later in omega arith;
-    others = λ s o p. r.prefixes.others s o p ∙ first.others s o p;
+    later = later_more old mid new first.later r.prefixes.later;
   };
-  cause = earlier_cause old mid new e first.out_later first.report_later r.cause;
+  cause = earlier_cause old mid new e first.later r.cause;
 }
+
+pub puts_is : (a a' b b' : List ℕ) (old new : Slot → SlotView) → a ≡ a' → b ≡ b' → Puts a b old new → Puts a' b' old new
+puts_is a a' b b' old new p q h = subst (λ x. Puts a' x old new) q (subst (λ x. Puts x b old new) p h)
+
+pub breaks_is : (a a' b b' : List ℕ) (old new : Slot → SlotView) (e : Outcome) → a ≡ a' → b ≡ b' → Breaks a b old new e → Breaks a' b' old new e
+breaks_is a a' b b' old new e p q h = subst (λ x. Breaks a' x old new e) q (subst (λ x. Breaks x b old new e) p h)

@@ -1,8 +1,10 @@
--- The capture that is written: the records whose packets passed the chain, each with the frame that the chain left.
+-- The capture that is written: the records whose packets passed the chain, each with the frame that the chain left, sealed.
 use Rattle.std.specs.Prelude.{ℕ, List, [], ◌++◌, map}
 use Rattle.std.specs.List.{flat_map, zip}
+use Rattle.packet_fields.specs.Checksums.{sealed}
 use Rattle.pcap_io.specs.Capture.{time_of}
 use Rattle.pcap_io.specs.Written.{head_bytes, record_bytes}
+use Rattle.pcap_io.specs.declared.capture.Endian.{Endian}
 use Rattle.pcap_io.specs.declared.capture.Unit.{Unit as TimeUnit}
 use Rattle.pcap_io.specs.declared.capture.PcapRecord.{PcapRecord}
 use Rattle.pcap_io.specs.declared.capture.CaptureHead.{CaptureHead}
@@ -25,15 +27,15 @@ fate_of functions unit r = (walk named_step (time_of unit r) 1 functions r.frame
 unfoldable pub fates_of : List PlainFunction → TimeUnit → List PcapRecord → List Fate
 fates_of functions unit records = fates named_step functions (map (packet_of unit) records)
 
--- a record as it goes out, and nothing of one that was dropped
-abbrev pub emitted : PcapRecord → Fate → List ℕ
-emitted r (Out frame) = record_bytes (record r { frame = frame })
-emitted r (Gone position) = []
+-- a record as it goes out, its checksums following what the chain changed, and nothing of one that was dropped
+abbrev pub emitted : Endian → PcapRecord → Fate → List ℕ
+emitted order r (Out frame) = record_bytes order (record r { frame = sealed r.frame frame })
+emitted order r (Gone position) = []
 
 -- the emitted records in the order read
-unfoldable pub emitted_all : List PcapRecord → List Fate → List ℕ
-emitted_all records fates = flat_map (λ x. emitted x.0 x.1) (zip records fates)
+unfoldable pub emitted_all : Endian → List PcapRecord → List Fate → List ℕ
+emitted_all order records fates = flat_map (λ x. emitted order x.0 x.1) (zip records fates)
 
 -- the head as it was read, and the emitted records
 unfoldable pub out_bytes : CaptureHead → List PcapRecord → List Fate → List ℕ
-out_bytes head records fates = head_bytes head ++ emitted_all records fates
+out_bytes head records fates = head_bytes head ++ emitted_all head.order records fates

@@ -1,9 +1,13 @@
 pub mod Answers
+pub mod Closing
 pub mod Due
 pub mod Emitted
 pub mod Named
+pub mod Notes
+pub mod Ran
 pub mod Reading
 pub mod Report
+pub mod Running
 pub mod Slots
 pub mod Status
 pub mod Words

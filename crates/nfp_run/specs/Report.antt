@@ -1,15 +1,13 @@
--- The report: the line of each dropped packet, the totals, a line for each function, and the end.
-use Rattle.std.specs.Prelude.{ℕ, ◌-◌, List, [], ◌∷◌, ◌++◌, length, Bool, true, false, codes, count_by, slice_get}
+-- The report: the line of each dropped packet, the totals, a line for each function, and the end or the capture's fault.
+use Rattle.std.specs.Prelude.{ℕ, ◌-◌, List, [], ◌∷◌, ◌++◌, length, Bool, true, false, codes, count_by, slice_get, Option, Some, None}
 use Rattle.std.specs.Option.{option_map_or}
 use Rattle.std.specs.List.{flat_map, enumerate_from}
 use Rattle.std.specs.Fmt.{decimal}
+use Rattle.pcap_io.specs.declared.capture.CaptureFault.{CaptureFault}
+use Rattle.nfp_run.specs.Notes.{joined, capture_text}
 use Rattle.chain_walk.specs.declared.walk.Fate.{Fate}
 use Rattle.chain_walk.specs.declared.walk.Fate.TheVariants.{Out, Gone}
 use Rattle.plain_policy.specs.declared.policy.PlainFunction.{PlainFunction}
-
--- pieces of a text in a row
-abbrev pub joined : List (List ℕ) → List ℕ
-joined pieces = flat_map (λ piece. piece) pieces
 
 abbrev pub title : List ℕ
 title = codes "nfp report 1\n"
@@ -40,11 +38,16 @@ total_line records dropped =
 unfoldable pub function_line : List ℕ → PlainFunction → List ℕ
 function_line chain f = joined (codes "function " ∷ chain ∷ codes " " ∷ f.name ∷ codes " firewall\n" ∷ [])
 
--- what stands behind the lines of the dropped packets
-unfoldable pub summary : List ℕ → List PlainFunction → ℕ → ℕ → List ℕ
-summary chain functions records dropped =
-    total_line records dropped ++ flat_map (function_line chain) functions ++ codes "end\n"
+-- the last line: the end, or the fault that the capture ends with
+unfoldable pub last_line : Option CaptureFault → List ℕ
+last_line None = codes "end\n"
+last_line (Some fault) = codes "fault " ++ capture_text fault
 
-unfoldable pub report_bytes : List ℕ → List PlainFunction → List Fate → List ℕ
-report_bytes chain functions fates =
-    title ++ drop_lines chain functions 1 fates ++ summary chain functions (length fates) (count_by is_gone fates)
+-- what stands behind the lines of the dropped packets
+unfoldable pub summary : List ℕ → List PlainFunction → ℕ → ℕ → Option CaptureFault → List ℕ
+summary chain functions records dropped fault =
+    total_line records dropped ++ flat_map (function_line chain) functions ++ last_line fault
+
+unfoldable pub report_bytes : List ℕ → List PlainFunction → List Fate → Option CaptureFault → List ℕ
+report_bytes chain functions fates fault =
+    title ++ drop_lines chain functions 1 fates ++ summary chain functions (length fates) (count_by is_gone fates) fault

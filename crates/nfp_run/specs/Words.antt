@@ -1,5 +1,5 @@
 -- The words of the command line: `run POLICY CAPTURE OUT REPORT`.
-use Rattle.std.specs.Prelude.{ℕ, List, [], ◌∷◌, length, Bool, true, false, if◌then◌else◌, ◌==◌, nat_le, ◌&&◌, not, slice_index, Option, Some, None, codes}
+use Rattle.std.specs.Prelude.{ℕ, List, [], ◌∷◌, length, Bool, true, if◌then◌else◌, ◌==◌, nat_le, ◌&&◌, not, slice_index, Option, Some, None, codes}
 use Rattle.std.specs.List.{list_all}
 use Rattle.std.specs.Str.{bytes_eq}
 

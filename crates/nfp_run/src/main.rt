@@ -1,15 +1,18 @@
 //! `nfp` runs a service chain over a capture file.
 //!
-//! The program hands its words to [`run::nfp`], over files and an open gate, and ends with the status of the outcome.
+//! The program hands its words to [`call::nfp`], over files and an open gate, and ends with the status of the outcome.
 //! What that call promises is the program's theorem: its contract says it, and `specs/Due.antt` has the result that it
 //! is measured against.
 #![tactic(auto)]
 
+mod call;
 mod emit;
+mod note;
 mod outcome;
 mod read;
 mod report;
 mod run;
+mod stream;
 #[cfg(test)]
 mod tests;
 mod words;
@@ -25,7 +28,7 @@ use std::{env, io};
 fn main(rt: HostRuntime) -> ExitCode {
     let files: Result<_, _> = rt.clone();
     let outcome = match (command_line(&rt), files) {
-        (Ok(words), Ok(files)) => run::nfp(
+        (Ok(words), Ok(files)) => call::nfp(
             &rt,
             rt.alloc(),
             &words,

@@ -4,6 +4,7 @@ ghost use Rattle.nfp_run.specs.declared.outcome.Outcome.TheVariants.{OutOfMemory
 ghost use Rattle.nfp_run.specs.Status.{status_of};
 
 use nfp_outside::Slot;
+use pcap_io::CaptureFault;
 use std::alloc::{AllocError, AllocFailed};
 
 /// Why the words of the command line are refused.
@@ -16,12 +17,14 @@ pub enum UsageFault {
 /// How a call ended.
 #[derive(Clone, Copy, Debug, PartialEq, Eq)]
 pub enum Outcome {
-    /// The whole capture went through the chain.
+    /// The whole capture, which has no fault, went through the chain.
     Done,
     /// The words are refused, and nothing was touched.
     Usage(UsageFault),
-    /// The policy or the capture in this slot is of a form that this program doesn't take yet.
+    /// The policy is of a form that this program doesn't take yet; the slot is Policy.
     NotBuilt(Slot),
+    /// The capture has this first fault. What stood before it went through the chain.
+    Capture(CaptureFault),
     /// This slot couldn't be read.
     ReadFault(Slot),
     /// This slot couldn't be written.
@@ -38,6 +41,7 @@ impl Outcome {
         match self {
             Outcome::Done => 0,
             Outcome::Usage(_) => 1,
+            Outcome::Capture(_) => 3,
             Outcome::ReadFault(_) => 4,
             Outcome::WriteFault(_) => 5,
             Outcome::OutOfMemory => 6,

@@ -1,22 +1,18 @@
-//! Reads the policy and the capture, and says why where that is refused.
-ghost use Rattle.std.specs.Prelude.{◌≡◌, ◌≢◌, ◌≤◌, ◌⊎◌, IfOk, IfSome, IsTrue, MatchResult, Some, None, All, vec_len};
+//! Reads the policy and the head of the capture, and says why where that is refused.
+ghost use Rattle.std.specs.Prelude.{◌≡◌, ◌≢◌, ◌≤◌, ◌⊎◌, IfOk, IfErr, IfSome, IsTrue, MatchResult, Some, None, vec_len};
 ghost use Rattle.nfp_outside.specs.declared.slot.Slot.{Slot};
 ghost use Rattle.nfp_outside.specs.Outside.{is_read};
-ghost use Rattle.pcap_io.specs.Capture.{first_form_of, IsShort};
 ghost use Rattle.plain_policy.specs.Policy.{policy_of};
-ghost use Rattle.nfp_run.specs.Reading.{RefusedReading, within};
+ghost use Rattle.nfp_run.specs.Reading.{RefusedReading, Opens, RefusedOpening, within};
 
 use crate::outcome::Outcome;
 use nfp_outside::{Desk, DeskFault, OutsideFault, Slot, read_all};
-use pcap_io::{FirstForm, first_form};
+use pcap_io::{CaptureHead, PcapFault, Reader};
 use plain_policy::{PlainPolicy, plain_policy};
 use std::alloc::Global;
 
 // The most bytes that a policy has.
 const MAX_POLICY: usize = 1_048_576;
-
-// The most bytes that a capture of the first form has.
-const MAX_CAPTURE: usize = 16_777_216;
 
 /// Reads the policy whole.
 pub fn read_policy<D: Desk>(alloc: Global, desk: &mut D, name: &str) -> Result<PlainPolicy, Outcome>
@@ -36,21 +32,25 @@ pub fn read_policy<D: Desk>(alloc: Global, desk: &mut D, name: &str) -> Result<P
     }
 }
 
-/// Reads the capture whole.
-pub fn read_capture<D: Desk>(alloc: Global, desk: &mut D, name: &str) -> Result<FirstForm, Outcome>
+/// Attaches the capture, and reads its head.
+pub fn open_capture<D: Desk>(desk: &mut D, name: &str) -> Result<(CaptureHead, Reader), Outcome>
     requires { (D.slots desk.old Slot.Capture).name ≡ None }
-    ensures read { MatchResult result
-        (λ capture. IfSome (D.slots desk.old Slot.Capture).bytes (λ bytes. first_form_of bytes ≡ Some (capture.head, capture.records.items)))
-        (RefusedReading Slot.Capture first_form_of (D.slots desk.old Slot.Capture) (D.slots desk.new Slot.Capture)) }
-    ensures short { IfOk result (λ capture. All IsShort capture.records.items) }
+    ensures ok { IfOk result (λ x. Opens name.now x.0 x.1 (D.slots desk.old Slot.Capture) (D.slots desk.new Slot.Capture)) }
+    ensures err { IfErr result (RefusedOpening (D.slots desk.old Slot.Capture) (D.slots desk.new Slot.Capture)) }
     ensures name { ((D.slots desk.new Slot.Capture).name ≡ None) ⊎ ((D.slots desk.new Slot.Capture).name ≡ Some name.now) }
+    ensures later { (D.slots desk.old Slot.Capture).faults ≤ (D.slots desk.new Slot.Capture).faults }
     ensures others { (s : Slot) → s ≢ Slot.Capture → D.slots desk.new s ≡ D.slots desk.old s }
 {
-    let bytes = read_slot(alloc, desk, Slot::Capture, name, MAX_CAPTURE)?;
-    match first_form(alloc, &bytes) {
-        Ok(Some(capture)) => Ok(capture),
-        Ok(None) => Err(Outcome::NotBuilt(Slot::Capture)),
-        Err(_) => Err(Outcome::OutOfMemory),
+    match desk.attach(Slot::Capture, name) {
+        Ok(()) => {}
+        Err(DeskFault::Failed) => return Err(Outcome::ReadFault(Slot::Capture)),
+        Err(DeskFault::NoMemory) => return Err(Outcome::OutOfMemory),
+    }
+    match Reader::begin(desk) {
+        Ok(opened) => Ok(opened),
+        Err(PcapFault::Capture(fault)) => Err(Outcome::Capture(fault)),
+        Err(PcapFault::ReadFault(_)) => Err(Outcome::ReadFault(Slot::Capture)),
+        Err(PcapFault::OutOfMemory) => Err(Outcome::OutOfMemory),
     }
 }
 

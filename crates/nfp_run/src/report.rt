@@ -1,8 +1,10 @@
 //! The texts of the report.
 ghost use Rattle.std.specs.Prelude.{◌≡◌, ◌≤◌, ◌++◌, IfOk, OnOk};
 ghost use Rattle.std.specs.List.{flat_map};
-ghost use Rattle.nfp_run.specs.Report.{drop_text, total_line, function_line, summary};
+ghost use Rattle.nfp_run.specs.Report.{drop_text, total_line, function_line, last_line, summary};
 
+use crate::note::capture_text;
+use pcap_io::CaptureFault;
 use plain_policy::{PlainFunction, PlainPolicy};
 use std::alloc::{AllocError, Global};
 
@@ -33,16 +35,38 @@ pub fn drop_text(
     )
 }
 
-/// What stands behind the lines of the dropped records.
+/// What stands behind the lines of the dropped records: the totals, the functions, and the end or the capture's fault.
 #[tactic(auto, unfolding(crate::specs::Report::summary))]
-pub fn summary(alloc: Global, policy: &PlainPolicy, totals: Totals) -> Result<Vec<u8>, AllocError>
+pub fn summary(
+    alloc: Global,
+    policy: &PlainPolicy,
+    totals: Totals,
+    fault: Option<CaptureFault>,
+) -> Result<Vec<u8>, AllocError>
     requires { totals.dropped ≤ totals.records }
-    ensures { IfOk result (λ v. v.items ≡ summary policy.now.chain policy.now.functions.items totals.records totals.dropped) }
+    ensures { IfOk result (λ v. v.items ≡ summary policy.now.chain policy.now.functions.items totals.records totals.dropped fault) }
 {
     let mut text = total_line(alloc, totals)?;
     push_function_lines(&mut text, policy)?;
-    text.extend_from_slice(b"end\n".as_slice())?;
+    push_last_line(alloc, &mut text, fault)?;
     Ok(text)
+}
+
+#[tactic(auto, unfolding(crate::specs::Report::last_line))]
+fn push_last_line(
+    alloc: Global,
+    text: &mut Vec<u8>,
+    fault: Option<CaptureFault>,
+) -> Result<(), AllocError>
+    ensures { OnOk result (text.new.items ≡ text.old.items ++ last_line fault) }
+{
+    match fault {
+        None => text.extend_from_slice(b"end\n".as_slice()),
+        Some(fault) => {
+            let line = capture_text(alloc, fault)?;
+            push_all(text, &[b"fault ", &line])
+        }
+    }
 }
 
 #[tactic(auto, unfolding(crate::specs::Report::total_line))]
@@ -96,7 +120,8 @@ fn push_function_line(
     )
 }
 
-fn join(alloc: Global, pieces: &[&[u8]]) -> Result<Vec<u8>, AllocError>
+/// Pieces of a text in a row.
+pub fn join(alloc: Global, pieces: &[&[u8]]) -> Result<Vec<u8>, AllocError>
     ensures { IfOk result (λ v. v.items ≡ flat_map (λ piece. piece.now) pieces.now) }
 {
     let mut text = Vec::new(alloc);

@@ -1,7 +1,8 @@
 //! Runs over desks in memory, with the capture and the answers written down by hand.
+use crate::call::nfp;
 use crate::outcome::{Outcome, UsageFault};
-use crate::run::nfp;
 use nfp_outside::{FixedDesk, MemDesk, OpenGate, Slot};
+use pcap_io::CaptureFault;
 use std::alloc::{AllocError, Global};
 use std::test::Fail;
 
@@ -25,6 +26,9 @@ const REPORT: &[u8] =
 
 const EXCEPTION_REPORT: &[u8] =
     b"nfp report 1\ndrop 1 main fw\ndrop 3 main fw\nrecords 3 emitted 1 dropped 2\nfunction main fw firewall\nend\n";
+
+const CUT_REPORT: &[u8] =
+    b"nfp report 1\ndrop 2 main fw\nrecords 2 emitted 1 dropped 1\nfunction main fw firewall\nfault capture: cut record 3\n";
 
 // A record with a UDP packet of 42 bytes from 10.0.0.`host`, port 1000, to 10.0.0.2, port 53.
 fn push_record(capture: &mut Vec<u8>, host: u8) -> Result<(), AllocError> {
@@ -66,18 +70,66 @@ fn the_first_rule_that_matches_decides(rt: HostRuntime) -> Result<(), Fail> {
 }
 
 #[test]
-fn other_forms_are_told(rt: HostRuntime) -> Result<(), Fail> {
+fn each_order_and_unit_is_carried(rt: HostRuntime) -> Result<(), Fail> {
     let alloc = rt.alloc();
     let run = words(alloc, &["run", "p", "c", "o", "r"])?;
     let mut desk = FixedDesk::new(alloc, POLICY.to_vec(alloc)?, BIG_HEAD.to_vec(alloc)?, 7);
     let outcome = nfp(&rt, alloc, &run, &mut desk, &OpenGate);
-    assert_eq!(rt; outcome, Outcome::NotBuilt(Slot::Capture));
-    assert_eq!(rt; outcome.status(), 7);
+    assert_eq!(rt; outcome, Outcome::Done);
+    assert_eq!(rt; desk.put(Slot::Out), BIG_HEAD.as_slice());
+    Ok(())
+}
+
+#[test]
+fn refusals_are_told_in_the_note(rt: HostRuntime) -> Result<(), Fail> {
+    let alloc = rt.alloc();
+    let run = words(alloc, &["run", "p", "c", "o", "r"])?;
     let three = words(alloc, &["run", "a", "b", "c"])?;
-    let mut desk = FixedDesk::new(alloc, Vec::new(alloc), Vec::new(alloc), 7);
-    let outcome = nfp(&rt, alloc, &three, &mut desk, &OpenGate);
-    assert_eq!(rt; outcome, Outcome::Usage(UsageFault::Words));
-    assert_eq!(rt; outcome.status(), 1);
+    for (words, policy, outcome, status, note) in [
+        (
+            &three,
+            POLICY,
+            Outcome::Usage(UsageFault::Words),
+            1,
+            b"usage: words\n".as_slice(),
+        ),
+        (
+            &run,
+            b"nfp 1\nchain main".as_slice(),
+            Outcome::NotBuilt(Slot::Policy),
+            7,
+            b"not built: policy\n",
+        ),
+        (
+            &run,
+            POLICY,
+            Outcome::Capture(CaptureFault::CutHead),
+            3,
+            b"capture: cut head\n",
+        ),
+    ] {
+        let mut desk = FixedDesk::new(alloc, policy.to_vec(alloc)?, Vec::new(alloc), 7);
+        let answer = nfp(&rt, alloc, words, &mut desk, &OpenGate);
+        assert_eq!(rt; answer, outcome);
+        assert_eq!(rt; answer.status(), status);
+        assert_eq!(rt; desk.put(Slot::Note), note);
+    }
+    Ok(())
+}
+
+// The capture of three records, cut inside the last: two are done, and the report says why it ends.
+#[test]
+fn a_cut_capture_is_done_up_to_its_fault(rt: HostRuntime) -> Result<(), Fail> {
+    let alloc = rt.alloc();
+    let run = words(alloc, &["run", "p", "c", "o", "r"])?;
+    let mut cut = capture(alloc)?;
+    cut.truncate(170);
+    let mut desk = FixedDesk::new(alloc, POLICY.to_vec(alloc)?, cut, 7);
+    let outcome = nfp(&rt, alloc, &run, &mut desk, &OpenGate);
+    assert_eq!(rt; outcome, Outcome::Capture(CaptureFault::CutRecord(3)));
+    assert_eq!(rt; desk.put(Slot::Out).len(), 82);
+    assert_eq!(rt; desk.put(Slot::Report), CUT_REPORT);
+    assert_eq!(rt; desk.put(Slot::Note), b"capture: cut record 3\n".as_slice());
     Ok(())
 }
 
@@ -86,18 +138,29 @@ fn other_forms_are_told(rt: HostRuntime) -> Result<(), Fail> {
 fn failures_are_told_by_their_slot(rt: HostRuntime) -> Result<(), Fail> {
     let alloc = rt.alloc();
     let words = words(alloc, &["run", "p", "c", "o", "r"])?;
-    for (slot, call, outcome, status, out) in [
-        (Slot::Policy, 0, Outcome::ReadFault(Slot::Policy), 4, 0),
-        (Slot::Capture, 2, Outcome::ReadFault(Slot::Capture), 4, 0),
-        (Slot::Out, 4, Outcome::WriteFault(Slot::Out), 5, 82),
-        (Slot::Report, 0, Outcome::WriteFault(Slot::Report), 5, 0),
+    for (slot, call, outcome, out, note) in [
+        (
+            Slot::Policy,
+            0,
+            Outcome::ReadFault(Slot::Policy),
+            0,
+            b"read fault: policy\n".as_slice(),
+        ),
+        (
+            Slot::Out,
+            4,
+            Outcome::WriteFault(Slot::Out),
+            82,
+            b"write fault: out\n",
+        ),
+        (Slot::Note, 0, Outcome::WriteFault(Slot::Note), 140, b""),
     ] {
         let fails = vec![in alloc; (slot, call)]?;
         let mut desk = MemDesk::new(alloc, POLICY.to_vec(alloc)?, capture(alloc)?, 4096, fails);
         let answer = nfp(&rt, alloc, &words, &mut desk, &OpenGate);
         assert_eq!(rt; answer, outcome);
-        assert_eq!(rt; answer.status(), status);
         assert_eq!(rt; desk.put(Slot::Out).len(), out);
+        assert_eq!(rt; desk.put(Slot::Note), note);
     }
     Ok(())
 }

@@ -1,9 +1,9 @@
 //! Puts heads, records and texts into Out and Report, and says why where that is refused.
-ghost use Rattle.std.specs.Prelude.{◌≡◌, ◌≢◌, ◌≤◌, ◌<◌, ◌^◌, [], IfErr, OnOk, IsSome, false, length};
+ghost use Rattle.std.specs.Prelude.{◌≡◌, ◌≢◌, ◌≤◌, ◌<◌, ◌^◌, [], IfErr, IfOk, OnOk, IsSome, false, length};
 ghost use Rattle.nfp_outside.specs.declared.slot.Slot.{Slot};
 ghost use Rattle.nfp_outside.specs.Outside.{is_read, Attaches, KeepsSlot, IsRisen};
 ghost use Rattle.pcap_io.specs.Written.{head_bytes, record_bytes};
-ghost use Rattle.nfp_run.specs.Slots.{Puts, RefusesPutting, RefusedAttaching, fault_seen};
+ghost use Rattle.nfp_run.specs.Slots.{Puts, Breaks, RefusedAttaching, fault_seen};
 
 use crate::outcome::Outcome;
 use nfp_outside::{Desk, DeskFault, OutsideFault, Slot, write_whole};
@@ -30,7 +30,9 @@ pub fn attach_sink<D: Desk>(desk: &mut D, slot: Slot, name: &str) -> Result<(), 
 pub fn put_head<D: Desk>(desk: &mut D, head: &CaptureHead) -> Result<Writer, Outcome>
     requires { IsSome (D.slots desk.old Slot.Out).name }
     ensures ok { OnOk result (Puts (head_bytes head.now) [] (D.slots desk.old) (D.slots desk.new)) }
-    ensures err { IfErr result (RefusesPutting (head_bytes head.now) [] (D.slots desk.old) (D.slots desk.new)) }
+    ensures err { IfErr result (Breaks (head_bytes head.now) [] (D.slots desk.old) (D.slots desk.new)) }
+    ensures order { IfOk result (λ writer. writer ≡ head.now.order) }
+    ensures others { (s : Slot) → s ≢ Slot.Out → D.slots desk.new s ≡ D.slots desk.old s }
 {
     match Writer::begin(desk, head) {
         Ok(writer) => Ok(writer),
@@ -46,8 +48,10 @@ pub fn put_record<D: Desk>(
 ) -> Result<(), Outcome>
     requires attached { IsSome (D.slots desk.old Slot.Out).name }
     requires short { length packet.now.frame < 2 ^ 32 }
-    ensures ok { OnOk result (Puts (record_bytes packet.now) [] (D.slots desk.old) (D.slots desk.new)) }
-    ensures err { IfErr result (RefusesPutting (record_bytes packet.now) [] (D.slots desk.old) (D.slots desk.new)) }
+    ensures ok { OnOk result (Puts (record_bytes writer.old packet.now) [] (D.slots desk.old) (D.slots desk.new)) }
+    ensures err { IfErr result (Breaks (record_bytes writer.old packet.now) [] (D.slots desk.old) (D.slots desk.new)) }
+    ensures order { writer.new ≡ writer.old }
+    ensures others { (s : Slot) → s ≢ Slot.Out → D.slots desk.new s ≡ D.slots desk.old s }
 {
     match writer.put(desk, packet) {
         Ok(()) => Ok(()),
@@ -59,7 +63,8 @@ pub fn put_record<D: Desk>(
 pub fn put_text<D: Desk>(desk: &mut D, text: &[u8]) -> Result<(), Outcome>
     requires { IsSome (D.slots desk.old Slot.Report).name }
     ensures ok { OnOk result (Puts [] text.now (D.slots desk.old) (D.slots desk.new)) }
-    ensures err { IfErr result (RefusesPutting [] text.now (D.slots desk.old) (D.slots desk.new)) }
+    ensures err { IfErr result (Breaks [] text.now (D.slots desk.old) (D.slots desk.new)) }
+    ensures others { (s : Slot) → s ≢ Slot.Report → D.slots desk.new s ≡ D.slots desk.old s }
 {
     match write_whole(desk, Slot::Report, text) {
         Ok(()) => Ok(()),

@@ -1,5 +1,5 @@
 -- A frame taken apart into its addresses, its tags and its packet, and put together from such parts.
-use Rattle.std.proofs.Common.{◌≡◌, ◌≤◌, ◌+◌, ◌-◌, ◌*◌, ◌∙◌, ℕ, suc, List, [], ◌∷◌, ◌++◌, length, take, drop, length-drop, length-append, length-take-le, true, false, sym, ap, refl, arith, ⊎_elim}
+use Rattle.std.proofs.Common.{◌≡◌, ◌≤◌, ◌+◌, ◌-◌, ◌*◌, ◌∙◌, ℕ, suc, List, [], ◌∷◌, ◌++◌, length, take, drop, length-drop, length-append, length-take-le, true, false, sym, ap, subst, refl, arith, ⊎_elim}
 use Rattle.std.specs.Prelude.{Some, None, nat_le}
 use Rattle.std.proofs.lemmas.Bool.{and_cases, and_parts, and_from, leb-false, le-leb, cond-true, cases_Bool, false≢true, and_right}
 use Rattle.std.proofs.lemmas.List.{take-append-drop, drop-drop, take_at, drop_at}
@@ -97,3 +97,9 @@ pub tags_whole : (frame : List ℕ) (n : ℕ) → 14 ≤ length frame → n ≡ 
 tags_whole frame n long is =
     let count : n - 12 ≡ tags_len (drop 12 frame) = omega (arith, packet_at-long frame long) in
     rw count (framed frame long).whole_tags
+
+-- the bytes between the addresses and the packet are the frame's tags
+pub framed_between : (frame : List ℕ) (n : ℕ) → 14 ≤ length frame → n ≡ packet_at frame → IsFramed (take 12 frame) (take (n - 12) (drop 12 frame)) (packet frame) frame
+framed_between frame n long is =
+    let count : n - 12 ≡ tags_len (drop 12 frame) = omega (arith, packet_at-long frame long) in
+    subst (λ (k : ℕ). IsFramed (take 12 frame) (take k (drop 12 frame)) (packet frame) frame) (sym count) (framed frame long)

@@ -7,3 +7,13 @@ pub mod Framing
 pub mod Putting
 pub mod Puts
 pub mod Laws
+pub mod Walk
+pub mod WordSums
+pub mod ChecksumSteps
+pub mod Sealed
+pub mod Rightness
+pub mod RightSums
+pub mod RightSegments
+pub mod RightFrames
+pub mod Fixed
+pub mod Rest

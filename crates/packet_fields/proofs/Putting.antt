@@ -243,7 +243,7 @@ pub record KeepsPlaces (frame new : List ℕ) : Type 0 where
   pub type_place : type_at new ≡ type_at frame
   pub shape : SameShape (packet frame) (packet new)
 
-same_shape : (p q : List ℕ) → q ≡ p → SameShape p q
+pub same_shape : (p q : List ℕ) → q ≡ p → SameShape p q
 same_shape p q is = record {
   len = ap (λ (xs : List ℕ). length xs) is;
   byte0 = ap (λ (xs : List ℕ). get_or xs 0 0) is;
@@ -257,6 +257,15 @@ same_shape p q is = record {
   offset = λ _ _. ap (λ (xs : List ℕ). get_or xs (segment_at p + 12) 0) is;
   control = λ _ _. ap (λ (xs : List ℕ). get_or xs (segment_at p + 13) 0) is;
 }
+
+pub link_packet : (s : Span) (new frame : List ℕ) → length new ≡ s.len → s.at + s.len ≤ 12 → s.at + s.len ≤ length frame → packet (overwritten s.at new frame) ≡ packet frame
+link_packet s new frame len front inside =
+    let len_same = length-overwritten s.at new frame (omega arith) in
+    let rest_same = drop-overwritten s.at new frame 12 (omega arith) (omega arith) in
+    let place : packet_at (overwritten s.at new frame) ≡ packet_at frame = cong2 (λ (n : ℕ) (xs : List ℕ). if nat_le 14 n then tags_len xs + 12 else n) len_same rest_same in
+    let behind : s.at + s.len ≤ packet_at frame =
+    ⊎_elim (λ (short : length frame < 14). omega (arith, packet_at-short frame short)) (λ (long : 14 ≤ length frame). omega (arith, packet_at-long frame long)) (cases_lt (length frame) 14) in
+    ap (λ (n : ℕ). drop n (overwritten s.at new frame)) place ∙ drop-overwritten s.at new frame (packet_at frame) (omega arith) (omega arith)
 
 pub link_keeps : (s : Span) (new frame : List ℕ) → length new ≡ s.len → s.at + s.len ≤ 12 → s.at + s.len ≤ length frame → KeepsPlaces frame (overwritten s.at new frame)
 link_keeps s new frame len front inside =
@@ -277,7 +286,7 @@ pub record WritesPacket (f : Field) (frame : List ℕ) (s : Span) (new : List �
   pub source : InPacketAt f frame s
   pub framed_is : IsFramed (take 12 frame) (tags_of frame) (overwritten source.at.at new (packet frame)) (overwritten s.at new frame)
 
-begins_tag-same : (p q : List ℕ) → SameShape p q → begins_tag q ≡ begins_tag p
+pub begins_tag-same : (p q : List ℕ) → SameShape p q → begins_tag q ≡ begins_tag p
 begins_tag-same p q s = cc
 
 pub writes_packet : (f : Field) (frame : List ℕ) (s : Span) (new : List ℕ) → InPacketAt f frame s → length new ≡ s.len → WritesPacket f frame s new

@@ -44,6 +44,9 @@ datagram_end-same p q s = cc
 pub is_udp-same : (p q : List ℕ) → SameShape p q → is_udp q ≡ is_udp p
 is_udp-same p q s = cc
 
+pub is_tcp-same : (p q : List ℕ) → SameShape p q → is_tcp q ≡ is_tcp p
+is_tcp-same p q s = cc
+
 -- the span of the data, as a function of what decides it
 abbrev data_span_by : Bool → Bool → ℕ → ℕ → ℕ → Option Span
 data_span_by there udp offset start end =
@@ -160,14 +163,14 @@ pub inside_at : (f : Field) (p : List ℕ) (s : Span) → packet_span f p ≡ So
 inside_at f p s is = MatchOption-at_some ⊤ (λ s. s.at + s.len ≤ length p) s is (packet_span-inside f p)
 
 -- a byte that a span leaves out
-abbrev Outside : Span → ℕ → Type 0
+abbrev pub Outside : Span → ℕ → Type 0
 Outside s k = (k < s.at) ⊎ (s.at + s.len ≤ k)
 
 byte_kept : (s : Span) (new p : List ℕ) (k : ℕ) → length new ≡ s.len → s.at + s.len ≤ length p → Outside s k → get_or (overwritten s.at new p) k 0 ≡ get_or p k 0
 byte_kept s new p k len inside (inl before) = get_or-before s.at new p k 0 (omega arith) before
 byte_kept s new p k len inside (inr behind) = get_or-behind s.at new p k 0 (omega arith) (omega arith)
 
-record OutsideAll (p : List ℕ) (s : Span) : Type 0 where
+pub record OutsideAll (p : List ℕ) (s : Span) : Type 0 where
   pub byte0 : Outside s 0
   pub byte1 : Outside s 1
   pub byte2 : Outside s 2
@@ -194,23 +197,23 @@ outside_all Payload p s b = record { byte0 = inl (omega arith); byte1 = inl (ome
 is_tcp-not_udp : (n : ℕ) → nat_eq n 6 ≡ true → nat_eq n 17 ≡ false
 is_tcp-not_udp n tcp = let six = eqb-true n 6 tcp in rw six refl
 
+pub shape_outside : (p : List ℕ) (s : Span) (new : List ℕ) → OutsideAll p s → length new ≡ s.len → s.at + s.len ≤ length p → SameShape p (overwritten s.at new p)
+shape_outside p s new o len inside = record {
+  len = length-overwritten s.at new p (omega arith);
+  byte0 = byte_kept s new p 0 len inside o.byte0;
+  byte1 = byte_kept s new p 1 len inside o.byte1;
+  byte2 = byte_kept s new p 2 len inside o.byte2;
+  byte4 = byte_kept s new p 4 len inside o.byte4;
+  byte5 = byte_kept s new p 5 len inside o.byte5;
+  byte8 = byte_kept s new p 8 len inside o.byte8;
+  byte9 = byte_kept s new p 9 len inside o.byte9;
+  byte11 = byte_kept s new p 11 len inside o.byte11;
+  offset = λ there not_udp. byte_kept s new p (segment_at p + 12) len inside (o.offset there not_udp);
+  control = λ there tcp. byte_kept s new p (segment_at p + 13) len inside (o.control there (is_tcp-not_udp (get_or p 11 0) tcp));
+}
+
 pub shape_kept : (f : Field) (p : List ℕ) (s : Span) (new : List ℕ) → packet_span f p ≡ Some s → length new ≡ s.len → SameShape p (overwritten s.at new p)
-shape_kept f p s new is len =
-    let o = outside_all f p s (bounds_at f p s is) in
-    let inside = inside_at f p s is in
-    record {
-      len = length-overwritten s.at new p (omega arith);
-      byte0 = byte_kept s new p 0 len inside o.byte0;
-      byte1 = byte_kept s new p 1 len inside o.byte1;
-      byte2 = byte_kept s new p 2 len inside o.byte2;
-      byte4 = byte_kept s new p 4 len inside o.byte4;
-      byte5 = byte_kept s new p 5 len inside o.byte5;
-      byte8 = byte_kept s new p 8 len inside o.byte8;
-      byte9 = byte_kept s new p 9 len inside o.byte9;
-      byte11 = byte_kept s new p 11 len inside o.byte11;
-      offset = λ there not_udp. byte_kept s new p (segment_at p + 12) len inside (o.offset there not_udp);
-      control = λ there tcp. byte_kept s new p (segment_at p + 13) len inside (o.control there (is_tcp-not_udp (get_or p 11 0) tcp));
-    }
+shape_kept f p s new is len = shape_outside p s new (outside_all f p s (bounds_at f p s is)) len (inside_at f p s is)
 
 -- two fields of a packet lie apart
 abbrev pub Apart : Span → Span → Type 0

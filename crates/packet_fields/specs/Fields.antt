@@ -1,5 +1,5 @@
 -- The ten fields of a frame: where each lies, and its bytes.
-use Rattle.std.specs.Prelude.{◌≡◌, ℕ, ◌+◌, ◌-◌, ◌%◌, ⊤, List, [], ◌∷◌, length, take, drop, true, Option, None, option_map}
+use Rattle.std.specs.Prelude.{codes, ◌≡◌, ℕ, ◌+◌, ◌-◌, ◌%◌, ⊤, List, [], ◌∷◌, length, take, drop, true, Option, None, option_map}
 use Rattle.packet_fields.specs.Frames.{word, type_at, packet_at, packet}
 use Rattle.packet_fields.specs.Packets.{span_within, is_ipv4, has_transport, segment_at, datagram_end, data_span, total_len, protocol, control_bits, header_sum_at, segment_sum_at}
 use Rattle.packet_fields.specs.declared.field.Field.{Field}
@@ -87,3 +87,16 @@ IsLengthOf DstIp n = n ≡ 4
 IsLengthOf SrcPort n = n ≡ 2
 IsLengthOf DstPort n = n ≡ 2
 IsLengthOf Payload n = ⊤
+
+-- the name of a field in printed texts
+abbrev pub name_of : Field → List ℕ
+name_of LinkDst = codes "link-dst"
+name_of LinkSrc = codes "link-src"
+name_of Tag = codes "tag"
+name_of Tos = codes "tos"
+name_of Ttl = codes "ttl"
+name_of SrcIp = codes "src"
+name_of DstIp = codes "dst"
+name_of SrcPort = codes "sport"
+name_of DstPort = codes "dport"
+name_of Payload = codes "payload"

@@ -3,3 +3,5 @@ pub mod Packets
 pub mod Fields
 pub mod Plans
 pub mod Writing
+pub mod Checksums
+pub mod Changes

@@ -75,6 +75,10 @@ control_bits packet = byte_within (has_transport packet && is_tcp packet) (datag
 abbrev pub header_sum_at : List ℕ → Option ℕ
 header_sum_at packet = place_within (is_ipv4 packet) (length packet) 12 2
 
--- where the checksum of the TCP or UDP header lies (RFC 793, 3.1; RFC 768)
+-- the place of the checksum in a TCP or UDP header (RFC 793, 3.1; RFC 768)
+abbrev pub checksum_at : List ℕ → ℕ
+checksum_at packet = if is_udp packet then segment_at packet + 6 else segment_at packet + 16
+
+-- the same, where the checksum is there
 abbrev pub segment_sum_at : List ℕ → Option ℕ
-segment_sum_at packet = place_within (has_transport packet) (datagram_end packet) (if is_udp packet then segment_at packet + 6 else segment_at packet + 16) 2
+segment_sum_at packet = place_within (has_transport packet) (datagram_end packet) (checksum_at packet) 2

@@ -2,7 +2,7 @@
 ghost use Rattle.std.specs.Prelude.{◌≡◌, ◌≢◌, ◌≤◌, ◌+◌, length, IfSome};
 ghost use Rattle.std.specs.Option.{option_copied};
 ghost use Rattle.packet_fields.specs.Fields.{layout_of, value as value_of, bytes_at, IsLengthOf};
-ghost use Rattle.packet_fields.specs.Writing.{put as put_in, overwritten, Fits};
+ghost use Rattle.packet_fields.specs.Writing.{put as put_in, overwritten, Fits, rest_of};
 ghost use Rattle.packet_fields.specs.declared.field.Field.{Field};
 
 use crate::field::Field;
@@ -26,10 +26,12 @@ pub fn put(field: Field, value: &[u8], frame: &mut [u8], plan: &Layout)
     requires fits { Fits field value.now frame.old }
     ensures whole { frame.new ≡ put_in field value.now frame.old }
 
-    // The field has the value, every other field its old one, and each of them its old place.
+    // The field has the value, every other field its old one, and each of them its old place; what is
+    // no field stays.
     ensures written { value_of field frame.new ≡ Some value.now }
     ensures others { (g : Field) → field ≢ g → value_of g frame.new ≡ value_of g frame.old }
     ensures layout { layout_of frame.new ≡ layout_of frame.old }
+    ensures rest { rest_of frame.new ≡ rest_of frame.old }
 {
     if let Some(span) = plan.spans[field.number()] {
         overwrite(frame, span, value);
@@ -37,7 +39,7 @@ pub fn put(field: Field, value: &[u8], frame: &mut [u8], plan: &Layout)
 }
 
 /// The bytes of a span.
-fn part(bytes: &[u8], span: Span) -> &[u8]
+pub fn part(bytes: &[u8], span: Span) -> &[u8]
     requires { span.at + span.len ≤ length bytes.now }
     ensures part { result.now ≡ bytes_at bytes.now span }
     ensures len { length result.now ≡ span.len }

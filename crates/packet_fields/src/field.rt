@@ -1,6 +1,6 @@
 //! The names of the fields.
 ghost use Rattle.std.specs.Prelude.{◌≡◌, ◌<◌};
-ghost use Rattle.packet_fields.specs.Fields.{number_of};
+ghost use Rattle.packet_fields.specs.Fields.{number_of, name_of};
 
 /// A field of a frame that a network function can write, in their order in the frame.
 #[derive(Clone, Copy, Debug, PartialEq, Eq)]
@@ -44,6 +44,24 @@ impl Field {
             Field::SrcPort => 7,
             Field::DstPort => 8,
             Field::Payload => 9,
+        }
+    }
+
+    /// The field's name in printed texts.
+    pub fn name(self) -> &'static str
+        ensures { result.now ≡ name_of self }
+    {
+        match self {
+            Field::LinkDst => "link-dst",
+            Field::LinkSrc => "link-src",
+            Field::Tag => "tag",
+            Field::Tos => "tos",
+            Field::Ttl => "ttl",
+            Field::SrcIp => "src",
+            Field::DstIp => "dst",
+            Field::SrcPort => "sport",
+            Field::DstPort => "dport",
+            Field::Payload => "payload",
         }
     }
 }

@@ -1,7 +1,7 @@
 //! The headers of a packet, which begins with its EtherType; places count from there.
 ghost use Rattle.std.specs.Prelude.{◌≡◌, ◌≤◌, ◌+◌, ◌^◌, ◌<◌, ◌&&◌, ◌||◌, ◌*◌, ◌%◌, length, slice_index, IsTrue, IfSome, true};
 ghost use Rattle.packet_fields.specs.Frames.{word as word_of};
-ghost use Rattle.packet_fields.specs.Packets.{span_within, byte_within, place_within, is_ipv4 as is_ipv4_of, has_transport as has_transport_of, segment_at as segment_at_of, datagram_end as datagram_end_of, data_span as data_span_of, is_tcp, is_udp};
+ghost use Rattle.packet_fields.specs.Packets.{span_within, byte_within, place_within, is_ipv4 as is_ipv4_of, has_transport as has_transport_of, header_len as header_len_of, segment_at as segment_at_of, datagram_end as datagram_end_of, data_span as data_span_of, is_tcp, is_udp};
 ghost use Rattle.packet_fields.specs.Plans.{header_plan_of, segment_plan_of};
 
 use crate::plan::Span;
@@ -11,7 +11,8 @@ const IPV4: u16 = 0x0800;
 
 const TCP: u8 = 6;
 
-const UDP: u8 = 17;
+/// The protocol number of UDP (RFC 768).
+pub const UDP: u8 = 17;
 
 /// The fields of the IPv4 header.
 #[derive(Clone, Copy, PartialEq, Eq)]
@@ -84,7 +85,8 @@ fn byte(there: bool, limit: usize, bytes: &[u8], at: usize) -> Option<u8>
 /// Does an IPv4 header begin behind the EtherType?
 #[tactic(auto, unfolding(crate::specs::Packets::is_ipv4))]
 pub fn is_ipv4(packet: &[u8]) -> bool
-    ensures { result ≡ is_ipv4_of packet.now }
+    ensures there { result ≡ is_ipv4_of packet.now }
+    ensures room { IsTrue result → 3 ≤ length packet.now }
 {
     packet.len() > 2 && word(packet, 0) == IPV4 && packet[2] / 16 == 4 && packet[2] % 16 >= 5
 }
@@ -130,13 +132,23 @@ pub fn header_plan(packet: &[u8]) -> HeaderPlan
     }
 }
 
+/// The length of the IPv4 header.
+pub fn header_len(packet: &[u8]) -> usize
+    requires { 3 ≤ length packet.now }
+    ensures len { result ≡ header_len_of packet.now }
+    ensures bound { result ≤ 60 }
+    ensures least { is_ipv4_of packet.now ≡ true → 20 ≤ result }
+{
+    4 * usize::from(packet[2] % 16)
+}
+
 /// Where the transport header begins.
-fn segment_at(packet: &[u8]) -> usize
+pub fn segment_at(packet: &[u8]) -> usize
     requires { 3 ≤ length packet.now }
     ensures at { result ≡ segment_at_of packet.now }
     ensures bound { result ≤ 62 }
 {
-    4 * usize::from(packet[2] % 16) + 2
+    header_len(packet) + 2
 }
 
 /// Where the captured bytes of the datagram end.
@@ -144,6 +156,7 @@ fn datagram_end(packet: &[u8]) -> usize
     requires { 6 ≤ length packet.now }
     ensures end { result ≡ datagram_end_of packet.now }
     ensures inside { result ≤ length packet.now }
+    ensures short { result ≤ 65537 }
 {
     packet.len().min(usize::from(word(packet, 4)) + 2)
 }
@@ -177,6 +190,7 @@ pub fn segment_plan(packet: &[u8]) -> SegmentPlan
     ensures src_port { IfSome result.src_port (λ s. s.at + s.len ≤ length packet.now) }
     ensures dst_port { IfSome result.dst_port (λ s. s.at + s.len ≤ length packet.now) }
     ensures payload { IfSome result.payload (λ s. s.at + s.len ≤ length packet.now) }
+    ensures short { IfSome result.payload (λ s. s.len ≤ 65537) }
     ensures sum_at { IfSome result.sum_at (λ at. at + 2 ≤ length packet.now) }
 {
     if !has_transport(packet) {

@@ -1,17 +1,16 @@
 -- What is read is spelled as it would be written.
-use Rattle.std.proofs.Common.{◌≡◌, ◌≤◌, ◌<◌, ◌+◌, ◌^◌, ◌∙◌, ℕ, zero, suc, List, [], ◌∷◌, ◌++◌, length, take, drop, get_or, refl, ap, sym, append_assoc, length-drop, subst, arith, Bool, true, false}
+use Rattle.std.proofs.Common.{◌≡◌, ◌≢◌, ◌≤◌, ◌<◌, ◌+◌, ◌^◌, ◌∙◌, ℕ, zero, suc, List, [], ◌∷◌, ◌++◌, length, take, drop, get_or, refl, ap, sym, append_assoc, length-drop, subst, arith, Bool, true, false}
 use Rattle.std.specs.Prelude.{Option, Some, None, Result, Ok, Err, nat_lt, ◌==◌, ◌&&◌}
+use Rattle.std.specs.Result.{result_ok}
 use Rattle.std.specs.List.{flat_map, AllByRecursion}
-use Rattle.std.specs.Option.{option_map}
-use Rattle.std.proofs.lemmas.Bool.{ltb-false, eqb-true}
-use Rattle.std.proofs.lemmas.List.{take-append-drop, get_or-drop, drop-drop, length-take-le}
 use Rattle.std.proofs.Math.Seq.{take-add}
-use Rattle.std.proofs.lemmas.Option.{some_pair_parts, option_and_then_some}
+use Rattle.std.proofs.lemmas.Bool.{ltb-false, eqb-true, eqb-false}
+use Rattle.std.proofs.lemmas.List.{take-append-drop, get_or-drop, drop-drop, length-take-le}
 use Rattle.std.proofs.lemmas.List.Concat.{flat_map-cons}
 use Rattle.std.proofs.lemmas.List.Elements.{All-from_recursion}
-use Rattle.byteorder.specs.Endian.{little_bytes}
-use Rattle.byteorder.specs.Numbers.{big_from-lt, little_from-lt}
 use Rattle.std.proofs.lemmas.Nat.{le_bytes_2, le_bytes_4, be_bytes_2, be_bytes_4}
+use Rattle.std.proofs.lemmas.Option.{some_pair_parts}
+use Rattle.byteorder.specs.Numbers.{big_from-lt, little_from-lt}
 use Rattle.pcap_io.specs.declared.capture.PcapRecord.{PcapRecord}
 use Rattle.pcap_io.specs.declared.capture.CaptureHead.{CaptureHead}
 use Rattle.pcap_io.specs.declared.capture.CaptureFault.{CaptureFault}
@@ -19,9 +18,9 @@ use Rattle.pcap_io.specs.declared.capture.Endian.{Endian}
 use Rattle.pcap_io.specs.declared.capture.Endian.TheVariants.{Big, Little}
 use Rattle.pcap_io.specs.declared.capture.Unit.{Unit as TimeUnit}
 use Rattle.pcap_io.specs.declared.capture.Unit.TheVariants.{Micro, Nano}
-use Rattle.pcap_io.specs.Capture.{Body, magic_of, kind_of, head_of_kind, accepted_head, first_head_of, first_form_of, whole_records, unless_fault, number_at, captured_of, record_of, head_of, next_of, and_rest, body_of}
-use Rattle.pcap_io.specs.Written.{IsBytes, bytes_of, head_bytes, record_head, record_bytes, IsPlainHead, IsPlainRecord, IsPlainCapture}
-use Rattle.pcap_io.proofs.Records.{both, chosen, body_next}
+use Rattle.pcap_io.specs.Capture.{Body, magic_of, kind_of, head_of_kind, number_at, captured_of, record_of, head_of, next_of, and_rest, body_of, with_body, capture_of}
+use Rattle.pcap_io.specs.Written.{IsBytes, bytes_of, head_bytes, record_head, record_bytes, FitsRecord, IsCapture, ending_of}
+use Rattle.pcap_io.proofs.Records.{both, body_next}
 
 four : (a b c d : ℕ) (xs : List ℕ) → IsBytes (a ∷ b ∷ c ∷ d ∷ xs) → (i : ℕ) → get_or (a ∷ b ∷ c ∷ d ∷ []) i 0 < 256
 four a b c d xs small zero = small 0
@@ -75,21 +74,21 @@ sixteen xs =
     ∙ ap (λ l. l ++ take 4 (drop 12 xs)) (sym (take-add 8 4 xs)) ∙ sym (take-add 12 4 xs)
 
 -- a record and what follows it, spelled, with numbers that fit
-pub record IsSpelled (bytes : List ℕ) (r : PcapRecord) (rest : List ℕ) : Type 0 where
-  pub whole : bytes ≡ record_bytes r ++ rest
-  pub plain : IsPlainRecord r
+pub record IsSpelled (order : Endian) (bytes : List ℕ) (r : PcapRecord) (rest : List ℕ) : Type 0 where
+  pub whole : bytes ≡ record_bytes order r ++ rest
+  pub fits : FitsRecord r
   pub behind : IsBytes rest
 
-front_spelled : (bytes : List ℕ) → IsBytes bytes → 16 ≤ length bytes → captured_of Little bytes ≤ 262144 → 16 + captured_of Little bytes ≤ length bytes →
-    IsSpelled bytes (record_of Little bytes) (drop (16 + captured_of Little bytes) bytes)
+front_spelled : (order : Endian) (bytes : List ℕ) → IsBytes bytes → 16 ≤ length bytes → captured_of order bytes ≤ 262144 → 16 + captured_of order bytes ≤ length bytes →
+    IsSpelled order bytes (record_of order bytes) (drop (16 + captured_of order bytes) bytes)
 unfolding record_head
-front_spelled bytes small long short fits =
-    let captured : ℕ = captured_of Little bytes in
+front_spelled order bytes small long short fits =
+    let captured : ℕ = captured_of order bytes in
     let frame : List ℕ = take captured (drop 16 bytes) in
     let size : length frame ≡ captured = length-take-le captured (drop 16 bytes) (omega (arith, length-drop 16 bytes)) in
-    let head : record_head (record_of Little bytes) ≡ take 16 bytes =
-    ap (λ n. little_bytes 4 (number_at Little 4 0 bytes) ++ little_bytes 4 (number_at Little 4 4 bytes) ++ little_bytes 4 n ++ little_bytes 4 (number_at Little 4 12 bytes)) size
-    ∙ joined_4 _ _ _ _ _ _ _ _ (spelled_4 Little 0 bytes (omega arith) small) (spelled_4 Little 4 bytes (omega arith) small) (spelled_4 Little 8 bytes (omega arith) small) (spelled_4 Little 12 bytes (omega arith) small)
+    let head : record_head order (record_of order bytes) ≡ take 16 bytes =
+    ap (λ n. bytes_of order 4 (number_at order 4 0 bytes) ++ bytes_of order 4 (number_at order 4 4 bytes) ++ bytes_of order 4 n ++ bytes_of order 4 (number_at order 4 12 bytes)) size
+    ∙ joined_4 _ _ _ _ _ _ _ _ (spelled_4 order 0 bytes (omega arith) small) (spelled_4 order 4 bytes (omega arith) small) (spelled_4 order 8 bytes (omega arith) small) (spelled_4 order 12 bytes (omega arith) small)
     ∙ sixteen bytes in
     record {
       whole = sym (ap (λ h. (h ++ frame) ++ drop (16 + captured) bytes) head
@@ -97,78 +96,79 @@ front_spelled bytes small long short fits =
           ∙ ap (λ t. take 16 bytes ++ (frame ++ t)) (sym (drop-drop captured 16 bytes))
           ∙ ap (λ t. take 16 bytes ++ t) (take-append-drop captured (drop 16 bytes))
           ∙ take-append-drop 16 bytes);
-      plain = record { seconds = fits_4 Little 0 bytes small; fraction = fits_4 Little 4 bytes small; wire = fits_4 Little 12 bytes small; short = omega (arith, size) };
+      fits = record { seconds = fits_4 order 0 bytes small; fraction = fits_4 order 4 bytes small; wire = fits_4 order 12 bytes small; short = omega (arith, size) };
       behind = bytes_behind (16 + captured) bytes small;
     }
 
--- a record that was read is spelled so
-pub next_spelled : (given : ℕ) (bytes : List ℕ) (r : PcapRecord) (rest : List ℕ) → IsBytes bytes → next_of Little given bytes ≡ Ok (Some (r, rest)) → IsSpelled bytes r rest
-next_spelled given bytes r rest small =
-    let P : Result (Option (PcapRecord × List ℕ)) CaptureFault → Type 0 = λ n. n ≡ Ok (Some (r, rest)) → IsSpelled bytes r rest in
+-- a record that was read is spelled so, and there was room in the count
+pub next_spelled : (order : Endian) (given : ℕ) (bytes : List ℕ) (r : PcapRecord) (rest : List ℕ) → IsBytes bytes → next_of order given bytes ≡ Ok (Some (r, rest)) → IsSpelled order bytes r rest × (given ≢ 4294967295)
+next_spelled order given bytes r rest small =
+    let P : Result (Option (PcapRecord × List ℕ)) CaptureFault → Type 0 = λ n. n ≡ Ok (Some (r, rest)) → IsSpelled order bytes r rest × (given ≢ 4294967295) in
     both P (length bytes == 0) _ _ (λ h is. absurd cc) (λ some.
     both P (given == 4294967295) _ _ (λ h is. absurd cc) (λ few.
     both P (nat_lt (length bytes) 16) _ _ (λ h is. absurd cc) (λ long.
-    both P (nat_lt 262144 (captured_of Little bytes)) _ _ (λ h is. absurd cc) (λ short.
-    both P (nat_lt (length bytes) (16 + captured_of Little bytes)) _ _ (λ h is. absurd cc) (λ fits is.
-    let some_is : ◌≡◌ {A = Option (PcapRecord × List ℕ)} (Some (record_of Little bytes, drop (16 + captured_of Little bytes) bytes)) (Some (r, rest)) = cc in
-    let parts = some_pair_parts (record_of Little bytes) r (drop (16 + captured_of Little bytes) bytes) rest some_is in
-    let front = front_spelled bytes small (ltb-false (length bytes) 16 long) (ltb-false 262144 (captured_of Little bytes) short) (ltb-false (length bytes) (16 + captured_of Little bytes) fits) in
-    subst (λ x. IsSpelled bytes x rest) parts.0 (subst (λ x. IsSpelled bytes (record_of Little bytes) x) parts.1 front))))))
-
--- the end is where nothing is left
-pub next_end : (order : Endian) (given : ℕ) (bytes : List ℕ) → next_of order given bytes ≡ Ok None → length bytes ≡ 0
-next_end order given bytes =
-    let P : Result (Option (PcapRecord × List ℕ)) CaptureFault → Type 0 = λ n. n ≡ Ok None → length bytes ≡ 0 in
-    both P (length bytes == 0) _ _ (λ h is. eqb-true (length bytes) 0 h) (λ some.
-    both P (given == 4294967295) _ _ (λ h is. absurd cc) (λ few.
-    both P (nat_lt (length bytes) 16) _ _ (λ h is. absurd cc) (λ long.
     both P (nat_lt 262144 (captured_of order bytes)) _ _ (λ h is. absurd cc) (λ short.
-    both P (nat_lt (length bytes) (16 + captured_of order bytes)) _ _ (λ h is. absurd cc) (λ fits is. absurd cc)))))
+    both P (nat_lt (length bytes) (16 + captured_of order bytes)) _ _ (λ h is. absurd cc) (λ fits is.
+    let some_is : ◌≡◌ {A = Option (PcapRecord × List ℕ)} (Some (record_of order bytes, drop (16 + captured_of order bytes) bytes)) (Some (r, rest)) = cc in
+    let parts = some_pair_parts (record_of order bytes) r (drop (16 + captured_of order bytes) bytes) rest some_is in
+    let front = front_spelled order bytes small (ltb-false (length bytes) 16 long) (ltb-false 262144 (captured_of order bytes) short) (ltb-false (length bytes) (16 + captured_of order bytes) fits) in
+    (subst (λ x. IsSpelled order bytes x rest) parts.0 (subst (λ x. IsSpelled order bytes (record_of order bytes) x) parts.1 front), eqb-false given 4294967295 few))))))
 
-unless_none : (records : List PcapRecord) (r : PcapRecord) (fault : Option CaptureFault) → unless_fault (r ∷ records) fault ≡ Some [] → ⊥
-unless_none records r None is = cc
-unless_none records r (Some fault) is = cc
+no_records : (next : Result (Option (PcapRecord × List ℕ)) CaptureFault) (rest : List ℕ → Body) (fault : Option CaptureFault) → and_rest rest next ≡ record { records = []; fault = fault } → next ≡ ending_of fault
+no_records (Ok None) rest fault is = let e : ◌≡◌ {A = Option CaptureFault} None fault = ap (λ b. b.fault) is in ap ending_of e
+no_records (Ok (Some (r, bytes))) rest fault is = let e : r ∷ (rest bytes).records ≡ [] = ap (λ b. b.records) is in absurd cc
+no_records (Err f) rest fault is = let e : Some f ≡ fault = ap (λ b. b.fault) is in ap ending_of e
 
-unless_more : (records rs : List PcapRecord) (r r' : PcapRecord) (fault : Option CaptureFault) → unless_fault (r' ∷ records) fault ≡ Some (r ∷ rs) → (r' ≡ r) × (unless_fault records fault ≡ Some rs)
-unless_more records rs r r' None is = (cc, let e : records ≡ rs = cc in ap (λ l. Some l) e)
-unless_more records rs r r' (Some fault) is = absurd cc
+-- a record, and what comes behind it
+record Follows (rest : List ℕ → Body) (next : Result (Option (PcapRecord × List ℕ)) CaptureFault) (r : PcapRecord) (others : Body) : Type 0 where
+  bytes : List ℕ
+  first : next ≡ Ok (Some (r, bytes))
+  behind : rest bytes ≡ others
 
--- what stands next, where these are all records
-none_next : (rest : List ℕ → Body) (next : Result (Option (PcapRecord × List ℕ)) CaptureFault) → whole_records (and_rest rest next) ≡ Some [] → next ≡ Ok None
-none_next rest (Ok None) is = refl
-none_next rest (Ok (Some (r, bytes))) is = absurd (unless_none (rest bytes).records r (rest bytes).fault is)
-none_next rest (Err fault) is = absurd cc
+some_record : (next : Result (Option (PcapRecord × List ℕ)) CaptureFault) (rest : List ℕ → Body) (r : PcapRecord) (rs : List PcapRecord) (fault : Option CaptureFault) → and_rest rest next ≡ record { records = r ∷ rs; fault = fault } →
+    Follows rest next r (record { records = rs; fault = fault })
+some_record (Ok None) rest r rs fault is = let e : ◌≡◌ {A = List PcapRecord} [] (r ∷ rs) = ap (λ b. b.records) is in absurd cc
+some_record (Ok (Some (r', bytes))) rest r rs fault is =
+    let records_are : r' ∷ (rest bytes).records ≡ r ∷ rs = ap (λ b. b.records) is in
+    let first : r' ≡ r = cc in
+    let others : (rest bytes).records ≡ rs = cc in
+    let same_fault : (rest bytes).fault ≡ fault = ap (λ b. b.fault) is in
+    record { bytes = bytes; first = ap (λ x. Ok (Some (x, bytes))) first; behind = ap (λ rs'. record { records = rs'; fault = (rest bytes).fault }) others ∙ ap (λ f. record { records = rs; fault = f }) same_fault }
+some_record (Err f) rest r rs fault is = let e : ◌≡◌ {A = List PcapRecord} [] (r ∷ rs) = ap (λ b. b.records) is in absurd cc
 
-pub record Follows (rest : List ℕ → Body) (next : Result (Option (PcapRecord × List ℕ)) CaptureFault) (r : PcapRecord) (rs : List PcapRecord) : Type 0 where
-  pub bytes : List ℕ
-  pub first : next ≡ Ok (Some (r, bytes))
-  pub others : whole_records (rest bytes) ≡ Some rs
+-- all bytes of a body are its records, and the tail where they end
+pub record IsBodySpelled (order : Endian) (given : ℕ) (bytes : List ℕ) (records : List PcapRecord) (fault : Option CaptureFault) : Type 0 where
+  pub tail : List ℕ
+  pub whole : bytes ≡ flat_map (record_bytes order) records ++ tail
+  pub fits : AllByRecursion FitsRecord records
+  pub few : given + length records ≤ 4294967295
+  pub ending : next_of order (given + length records) tail ≡ ending_of fault
 
-some_next : (rest : List ℕ → Body) (next : Result (Option (PcapRecord × List ℕ)) CaptureFault) (r : PcapRecord) (rs : List PcapRecord) → whole_records (and_rest rest next) ≡ Some (r ∷ rs) → Follows rest next r rs
-some_next rest (Ok None) r rs is = absurd cc
-some_next rest (Ok (Some (r', bytes))) r rs is =
-    let parts = unless_more (rest bytes).records rs r r' (rest bytes).fault is in
-    record { bytes = bytes; first = ap (λ x. Ok (Some (x, bytes))) parts.0; others = parts.1 }
-some_next rest (Err fault) r rs is = absurd cc
-
-empty : (bytes : List ℕ) → length bytes ≡ 0 → bytes ≡ []
-empty [] h = refl
-empty (b ∷ bs) h = absurd (omega arith)
-
--- all records without a fault are all bytes
-pub record AreSpelled (bytes : List ℕ) (records : List PcapRecord) : Type 0 where
-  pub whole : bytes ≡ flat_map record_bytes records
-  pub plain : AllByRecursion IsPlainRecord records
-
-pub body_spelled : (given : ℕ) (bytes : List ℕ) (records : List PcapRecord) → IsBytes bytes → whole_records (body_of Little given bytes) ≡ Some records → AreSpelled bytes records
-body_spelled given bytes [] small is =
-    let next = none_next (body_of Little (given + 1)) (next_of Little given bytes) (sym (ap whole_records (body_next Little given bytes)) ∙ is) in
-    record { whole = empty bytes (next_end Little given bytes next); plain = tt }
-body_spelled given bytes (r ∷ rs) small is =
-    let follows = some_next (body_of Little (given + 1)) (next_of Little given bytes) r rs (sym (ap whole_records (body_next Little given bytes)) ∙ is) in
-    let front = next_spelled given bytes r follows.bytes small follows.first in
-    let others = body_spelled (given + 1) follows.bytes rs front.behind follows.others in
-    record { whole = front.whole ∙ ap (λ l. record_bytes r ++ l) others.whole ∙ sym (flat_map-cons record_bytes r rs); plain = (front.plain, others.plain) }
+pub body_spelled : (order : Endian) (given : ℕ) (bytes : List ℕ) (records : List PcapRecord) (fault : Option CaptureFault) → IsBytes bytes → given ≤ 4294967295 →
+    body_of order given bytes ≡ record { records = records; fault = fault } → IsBodySpelled order given bytes records fault
+body_spelled order given bytes [] fault small few is =
+    let none : given + length {A = PcapRecord} [] ≡ given = omega arith in
+    record {
+      tail = bytes;
+      whole = refl;
+      fits = tt;
+      few = omega arith;
+      ending = ap (λ n. next_of order n bytes) none ∙ no_records (next_of order given bytes) (body_of order (given + 1)) fault (sym (body_next order given bytes) ∙ is);
+    }
+body_spelled order given bytes (r ∷ rs) fault small few is =
+    let follows = some_record (next_of order given bytes) (body_of order (given + 1)) r rs fault (sym (body_next order given bytes) ∙ is) in
+    let front = next_spelled order given bytes r follows.bytes small follows.first in
+    let room : given + 1 ≤ 4294967295 = omega (arith, front.1) in
+    let others = body_spelled order (given + 1) follows.bytes rs fault front.0.behind room follows.behind in
+    let count : given + length (r ∷ rs) ≡ given + 1 + length rs = omega arith in
+    record {
+      tail = others.tail;
+      whole = front.0.whole ∙ ap (λ l. record_bytes order r ++ l) others.whole ∙ sym (append_assoc (record_bytes order r) (flat_map (record_bytes order) rs) others.tail)
+          ∙ ap (λ l. l ++ others.tail) (sym (flat_map-cons (record_bytes order) r rs));
+      fits = (front.0.fits, others.fits);
+      few = omega (arith, others.few, count);
+      ending = ap (λ n. next_of order n others.tail) count ∙ others.ending;
+    }
 
 -- a magic number that was found is there
 kind_known : (bytes : List ℕ) (order : Endian) (unit : TimeUnit) → kind_of bytes ≡ Some (order, unit) → number_at order 4 0 bytes ≡ magic_of unit
@@ -238,47 +238,25 @@ head_spelled bytes head small =
     let P : Result CaptureHead CaptureFault → Type 0 = λ h. h ≡ Ok head → IsHeadSpelled bytes head in
     both P (nat_lt (length bytes) 24) _ _ (λ h is. absurd cc) (λ long is. of_kind_spelled bytes (kind_of bytes) head small (ltb-false (length bytes) 24 long) refl is)
 
--- the magic number of the first form says little-endian and microseconds
-plain_kind : (bytes : List ℕ) (head : CaptureHead) → (number_at Little 4 0 bytes == 0xa1b2c3d4) ≡ true → head_of bytes ≡ Ok head → (head.order ≡ Little) × (head.unit ≡ Micro)
-plain_kind bytes head magic =
-    let P : Result CaptureHead CaptureFault → Type 0 = λ h. h ≡ Ok head → (head.order ≡ Little) × (head.unit ≡ Micro) in
-    let kind : kind_of bytes ≡ Some (Little, Micro) = chosen (number_at Little 4 0 bytes == 0xa1b2c3d4) _ _ magic in
-    both P (nat_lt (length bytes) 24) _ _ (λ h is. absurd cc) (λ long. subst (λ k. P (head_of_kind bytes k)) (sym kind) (
-    both P ((number_at Little 2 4 bytes == 2) && (number_at Little 2 6 bytes == 4)) _ _ (λ version.
-    both P (number_at Little 4 20 bytes == 1) _ _ (λ link is.
-    let same : head_at Little Micro bytes ≡ head = cc in
-    (sym (ap (λ h. h.order) same), sym (ap (λ h. h.unit) same))) (λ no is. absurd cc)) (λ no is. absurd cc)))
+with_body_parts : (bytes : List ℕ) (result : Result CaptureHead CaptureFault) (head : CaptureHead) (body : Body) → with_body bytes result ≡ Ok (head, body) → (result ≡ Ok head) × (body_of head.order 0 bytes ≡ body)
+with_body_parts bytes (Ok h) head body is =
+    let parts = some_pair_parts h head (body_of h.order 0 bytes) body (ap result_ok is) in
+    (ap (λ x. Ok x) parts.0, ap (λ x. body_of x.order 0 bytes) (sym parts.0) ∙ parts.1)
+with_body_parts bytes (Err fault) head body is = absurd cc
 
-accepted_some : (result : Result CaptureHead CaptureFault) (head : CaptureHead) → accepted_head result ≡ Some head → result ≡ Ok head
-accepted_some (Ok h) head is = let e : h ≡ head = cc in ap (λ x. Ok x) e
-accepted_some (Err fault) head is = absurd cc
-
-first_head_spelled : (bytes : List ℕ) (head : CaptureHead) → IsBytes bytes → first_head_of bytes ≡ Some head → (head_bytes head ≡ take 24 bytes) × IsPlainHead head
-first_head_spelled bytes head small =
-    let P : Option CaptureHead → Type 0 = λ h. h ≡ Some head → (head_bytes head ≡ take 24 bytes) × IsPlainHead head in
-    both P (nat_lt 16777216 (length bytes)) _ _ (λ h is. absurd cc) (λ few.
-    both P (number_at Little 4 0 bytes == 0xa1b2c3d4) _ _ (λ magic is.
-    let accepted = accepted_some (head_of bytes) head is in
-    let kind = plain_kind bytes head magic accepted in
-    let spelled = head_spelled bytes head small accepted in
-    (spelled.whole, record { order = kind.0; unit = kind.1; zone = spelled.zone; sigfigs = spelled.sigfigs; snaplen = spelled.snaplen }))
-    (λ no is. absurd cc))
-
-map_some : (h head : CaptureHead) (o : Option (List PcapRecord)) (records : List PcapRecord) → option_map {U = CaptureHead × List PcapRecord} (λ rs. (h, rs)) o ≡ Some (head, records) → (h ≡ head) × (o ≡ Some records)
-map_some h head None records is = absurd cc
-map_some h head (Some rs) records is = let parts = some_pair_parts h head rs records is in (parts.0, ap (λ l. Some l) parts.1)
-
--- a capture of the first form is its head and its records as they are written
-pub first_form_spelled : (bytes : List ℕ) (head : CaptureHead) (records : List PcapRecord) → IsBytes bytes → first_form_of bytes ≡ Some (head, records) → IsPlainCapture bytes head records
-first_form_spelled bytes head records small is =
-    option_and_then_some {P = IsPlainCapture bytes head records} (λ h. option_map {U = CaptureHead × List PcapRecord} (λ rs. (h, rs)) (whole_records (body_of h.order 0 (drop 24 bytes)))) (first_head_of bytes) (head, records) is
-    (λ (h : CaptureHead) (accepted : first_head_of bytes ≡ Some h) (behind : option_map {U = CaptureHead × List PcapRecord} (λ rs. (h, rs)) (whole_records (body_of h.order 0 (drop 24 bytes))) ≡ Some (head, records)).
-    let parts = map_some h head (whole_records (body_of h.order 0 (drop 24 bytes))) records behind in
-    let front = first_head_spelled bytes head small (accepted ∙ ap (λ x. Some x) parts.0) in
-    let order : h.order ≡ Little = ap (λ x. x.order) parts.0 ∙ front.1.order in
-    let body = body_spelled 0 (drop 24 bytes) records (bytes_behind 24 bytes small) (ap (λ o. whole_records (body_of o 0 (drop 24 bytes))) (sym order) ∙ parts.1) in
+-- a capture that was read is its head, its records and a tail, as they are written
+pub capture_spelled : (bytes : List ℕ) (head : CaptureHead) (body : Body) → IsBytes bytes → capture_of bytes ≡ Ok (head, body) → IsCapture bytes head body
+capture_spelled bytes head body small is =
+    let parts = with_body_parts (drop 24 bytes) (head_of bytes) head body is in
+    let front = head_spelled bytes head small parts.0 in
+    let behind = body_spelled head.order 0 (drop 24 bytes) body.records body.fault (bytes_behind 24 bytes small) (omega arith) parts.1 in
+    let count : 0 + length body.records ≡ length body.records = omega arith in
     record {
-      whole = sym (take-append-drop 24 bytes) ∙ ap (λ l. l ++ drop 24 bytes) (sym front.0) ∙ ap (λ l. head_bytes head ++ l) body.whole;
-      plain_head = front.1;
-      plain_records = All-from_recursion IsPlainRecord records body.plain;
-    })
+      tail = behind.tail;
+      whole = sym (take-append-drop 24 bytes) ∙ ap (λ l. l ++ drop 24 bytes) (sym front.whole) ∙ ap (λ l. head_bytes head ++ l) behind.whole
+          ∙ sym (append_assoc (head_bytes head) (flat_map (record_bytes head.order) body.records) behind.tail);
+      head_fits = record { zone = front.zone; sigfigs = front.sigfigs; snaplen = front.snaplen };
+      records_fit = All-from_recursion FitsRecord body.records behind.fits;
+      few = omega (arith, behind.few, count);
+      ending = ap (λ n. next_of head.order n behind.tail) (sym count) ∙ behind.ending;
+    }

@@ -6,7 +6,7 @@ use Rattle.pcap_io.specs.declared.capture.Unit.TheVariants.{Micro, Nano}
 use Rattle.pcap_io.specs.declared.capture.CaptureFault.TheVariants.{BadMagic, BadVersion, BadLink, CutHead, CutRecord, FrameTooLong, TooManyRecords}
 use Rattle.pcap_io.specs.declared.capture.CaptureHead.{CaptureHead}
 use Rattle.pcap_io.specs.declared.capture.PcapRecord.{PcapRecord}
-use Rattle.pcap_io.specs.Capture.{head_of, next_of, body_of, first_form_of, time_of}
+use Rattle.pcap_io.specs.Capture.{head_of, next_of, body_of, capture_of, time_of}
 use Rattle.pcap_io.specs.Written.{head_bytes, record_head, record_bytes}
 
 -- little-endian, in microseconds, snaplen 65535
@@ -53,15 +53,15 @@ three = micro_head ++ numbers 1 2 ++ packet 1 0xcf ++ numbers 3 4 ++ packet 9 0x
 abbrev read : ℕ → ℕ → List ℕ → PcapRecord
 read seconds fraction frame = record { seconds = seconds; fraction = 256 + fraction; wire = 60; frame = frame }
 
-three_records : first_form_of three ≡ Some (micro, read 1 2 (packet 1 0xcf) ∷ read 3 4 (packet 9 0xc7) ∷ read 5 6 (packet 1 0xcf) ∷ [])
+three_records : capture_of three ≡ Ok (micro, record { records = read 1 2 (packet 1 0xcf) ∷ read 3 4 (packet 9 0xc7) ∷ read 5 6 (packet 1 0xcf) ∷ []; fault = None })
 unfolding body_of
 three_records = refl
 
-written_again : record_bytes (read 3 4 (packet 9 0xc7)) ≡ numbers 3 4 ++ packet 9 0xc7
+written_again : record_bytes Little (read 3 4 (packet 9 0xc7)) ≡ numbers 3 4 ++ packet 9 0xc7
 unfolding record_head
 written_again = refl
 
-no_records : first_form_of micro_head ≡ Some (micro, [])
+no_records : capture_of micro_head ≡ Ok (micro, record { records = []; fault = None })
 unfolding body_of
 no_records = refl
 
@@ -73,13 +73,6 @@ cut_in_frame = refl
 cut_in_head : body_of Little 1 (take 73 (numbers 3 4 ++ packet 9 0xc7 ++ numbers 5 6)) ≡ record { records = read 3 4 (packet 9 0xc7) ∷ []; fault = Some (CutRecord 3) }
 unfolding body_of
 cut_in_head = refl
-
-not_first_form : first_form_of (take 170 three) ≡ None
-unfolding body_of
-not_first_form = refl
-
-big_not_first_form : first_form_of nano_head ≡ None
-big_not_first_form = refl
 
 -- one byte less than a head, and heads with one thing wrong
 cut_head : head_of (take 23 micro_head) ≡ Err CutHead

@@ -1,23 +1,23 @@
 -- What is written is read again, and what is read is spelled as it would be written.
-use Rattle.std.proofs.Common.{◌≡◌, ◌≤◌, ◌<◌, ◌+◌, ◌*◌, ◌^◌, ◌∙◌, ℕ, List, [], ◌∷◌, ◌++◌, length, take, drop, refl, ap, sym, length-append, All, arith}
-use Rattle.std.specs.Prelude.{Some, None, Ok, nat_lt, ◌==◌}
-use Rattle.std.specs.List.{flat_map}
-use Rattle.std.proofs.Math.Seq.{take-append_seam, drop-append_seam, drop-append-add}
-use Rattle.std.proofs.lemmas.Bool.{le-ltb, eq-eqb}
+use Rattle.std.proofs.Common.{◌≡◌, ◌≤◌, ◌<◌, ◌+◌, ◌^◌, ◌∙◌, ℕ, List, [], ◌∷◌, ◌++◌, length, take, drop, refl, ap, sym, append_assoc, length-append, arith}
+use Rattle.std.specs.Prelude.{Option, Some, None, Ok, nat_lt}
+use Rattle.std.specs.List.{flat_map, AllByRecursion}
+use Rattle.std.proofs.Math.Seq.{take-append_seam, drop-append_seam}
+use Rattle.std.proofs.lemmas.Bool.{le-ltb}
+use Rattle.std.proofs.lemmas.List.{drop-drop}
 use Rattle.std.proofs.lemmas.List.Concat.{flat_map-cons}
 use Rattle.std.proofs.lemmas.List.Elements.{recursion_from_All}
-use Rattle.std.specs.List.{AllByRecursion}
-use Rattle.std.specs.Option.{option_map}
 use Rattle.byteorder.specs.Numbers.{big_number-reads_back, little_number-reads_back}
 use Rattle.pcap_io.specs.declared.capture.PcapRecord.{PcapRecord}
 use Rattle.pcap_io.specs.declared.capture.CaptureHead.{CaptureHead}
+use Rattle.pcap_io.specs.declared.capture.CaptureFault.{CaptureFault}
 use Rattle.pcap_io.specs.declared.capture.Endian.{Endian}
 use Rattle.pcap_io.specs.declared.capture.Endian.TheVariants.{Big, Little}
 use Rattle.pcap_io.specs.declared.capture.Unit.{Unit as TimeUnit}
 use Rattle.pcap_io.specs.declared.capture.Unit.TheVariants.{Micro, Nano}
-use Rattle.pcap_io.specs.Capture.{accepted_head, first_head_of, first_form_of, whole_records, number_at, captured_of, record_of, head_of, next_of, and_rest, with_record, body_of}
-use Rattle.pcap_io.specs.Written.{head_bytes, record_head, record_bytes, IsPlainHead, IsPlainRecord, IsPlainCapture}
-use Rattle.pcap_io.proofs.Records.{otherwise, chosen, first_form_from, next_whole, body_next, body_end}
+use Rattle.pcap_io.specs.Capture.{Body, number_at, captured_of, record_of, head_of, next_of, and_rest, with_record, body_of, with_body, capture_of}
+use Rattle.pcap_io.specs.Written.{head_bytes, record_head, record_bytes, FitsRecord, IsCapture, ending_of}
+use Rattle.pcap_io.proofs.Records.{otherwise, next_whole, body_next}
 
 -- the numbers of a head, one by one
 abbrev head_with : Endian → TimeUnit → ℕ → ℕ → ℕ → CaptureHead
@@ -45,39 +45,69 @@ head_again head tail p q r = head_read head.order head.unit head.zone head.sigfi
 abbrev record_with : ℕ → ℕ → ℕ → List ℕ → PcapRecord
 record_with seconds fraction wire frame = record { seconds = seconds; fraction = fraction; wire = wire; frame = frame }
 
-same_record : (s s' f f' w w' : ℕ) (x x' : List ℕ) → s ≡ s' → f ≡ f' → w ≡ w' → x ≡ x' → record_with s f w x ≡ record_with s' f' w' x'
+pub same_record : (s s' f f' w w' : ℕ) (x x' : List ℕ) → s ≡ s' → f ≡ f' → w ≡ w' → x ≡ x' → record_with s f w x ≡ record_with s' f' w' x'
 same_record s s' f f' w w' x x' p q r t =
     ap (λ y. record_with y f w x) p ∙ ap (λ y. record_with s' y w x) q ∙ ap (λ y. record_with s' f' y x) r ∙ ap (λ y. record_with s' f' w' y) t
 
+-- what stands in a record that was written
+record IsThere (order : Endian) (r : PcapRecord) (tail bytes : List ℕ) : Type 0 where
+  seconds : number_at order 4 0 bytes ≡ r.seconds
+  fraction : number_at order 4 4 bytes ≡ r.fraction
+  captured : captured_of order bytes ≡ length r.frame
+  wire : number_at order 4 12 bytes ≡ r.wire
+  behind : drop 16 bytes ≡ r.frame ++ tail
+  size : length bytes ≡ 16 + length r.frame + length tail
+
+is_there : (order : Endian) (r : PcapRecord) (tail : List ℕ) → FitsRecord r → IsThere order r tail (record_bytes order r ++ tail)
+unfolding record_head
+is_there Big r tail fits = record {
+  seconds = big_number-reads_back 4 r.seconds [] fits.seconds;
+  fraction = big_number-reads_back 4 r.fraction [] fits.fraction;
+  captured = big_number-reads_back 4 (length r.frame) [] (let short : length r.frame ≤ 262144 = fits.short in omega arith);
+  wire = big_number-reads_back 4 r.wire [] fits.wire;
+  behind = refl;
+  size = omega (arith, length-append r.frame tail);
+}
+is_there Little r tail fits = record {
+  seconds = little_number-reads_back 4 r.seconds [] fits.seconds;
+  fraction = little_number-reads_back 4 r.fraction [] fits.fraction;
+  captured = little_number-reads_back 4 (length r.frame) [] (let short : length r.frame ≤ 262144 = fits.short in omega arith);
+  wire = little_number-reads_back 4 r.wire [] fits.wire;
+  behind = refl;
+  size = omega (arith, length-append r.frame tail);
+}
+
 -- a record that was written is the next
-pub record_again : (given : ℕ) (r : PcapRecord) (tail : List ℕ) → given < 4294967295 → IsPlainRecord r → next_of Little given (record_bytes r ++ tail) ≡ Ok (Some (r, tail))
-unfolding record_head
-record_again given r tail few plain =
-    let bytes : List ℕ = record_bytes r ++ tail in
-    let short : length r.frame ≤ 262144 = plain.short in
-    let captured : captured_of Little bytes ≡ length r.frame = little_number-reads_back 4 (length r.frame) [] (omega arith) in
-    let whole : length bytes ≡ 16 + length r.frame + length tail = omega (arith, length-append r.frame tail) in
-    let frame : take (captured_of Little bytes) (drop 16 bytes) ≡ r.frame = ap (λ n. take n (r.frame ++ tail)) captured ∙ take-append_seam r.frame tail in
-    let rest : drop (16 + captured_of Little bytes) bytes ≡ tail = ap (λ n. drop (16 + n) bytes) captured ∙ drop-append-add (record_head r) (r.frame ++ tail) (length r.frame) ∙ drop-append_seam r.frame tail in
-    let same : record_of Little bytes ≡ r = same_record _ r.seconds _ r.fraction _ r.wire _ r.frame
-    (little_number-reads_back 4 r.seconds [] plain.seconds) (little_number-reads_back 4 r.fraction [] plain.fraction) (little_number-reads_back 4 r.wire [] plain.wire) frame in
-    next_whole Little given bytes few (omega (arith, whole)) (omega (arith, captured)) (omega (arith, captured, whole))
-    ∙ ap (λ x. Ok (Some (x, drop (16 + captured_of Little bytes) bytes))) same ∙ ap (λ x. Ok (Some (r, x))) rest
+pub record_again : (order : Endian) (given : ℕ) (r : PcapRecord) (tail : List ℕ) → given < 4294967295 → FitsRecord r → next_of order given (record_bytes order r ++ tail) ≡ Ok (Some (r, tail))
+record_again order given r tail few fits =
+    let bytes : List ℕ = record_bytes order r ++ tail in
+    let there = is_there order r tail fits in
+    let short : length r.frame ≤ 262144 = fits.short in
+    let frame : take (captured_of order bytes) (drop 16 bytes) ≡ r.frame = ap (λ n. take n (drop 16 bytes)) there.captured ∙ ap (take (length r.frame)) there.behind ∙ take-append_seam r.frame tail in
+    let rest : drop (16 + captured_of order bytes) bytes ≡ tail =
+    ap (λ n. drop (16 + n) bytes) there.captured ∙ sym (drop-drop (length r.frame) 16 bytes) ∙ ap (drop (length r.frame)) there.behind ∙ drop-append_seam r.frame tail in
+    let same : record_of order bytes ≡ r = same_record _ r.seconds _ r.fraction _ r.wire _ r.frame there.seconds there.fraction there.wire frame in
+    next_whole order given bytes few (omega (arith, there.size)) (omega (arith, there.captured)) (omega (arith, there.captured, there.size))
+    ∙ ap (λ x. Ok (Some (x, drop (16 + captured_of order bytes) bytes))) same ∙ ap (λ x. Ok (Some (r, x))) rest
 
--- records that were written are the body
-pub body_again : (given : ℕ) (records : List PcapRecord) → AllByRecursion IsPlainRecord records → given + length records ≤ 4294967295 →
-    body_of Little given (flat_map record_bytes records) ≡ record { records = records; fault = None }
-body_again given [] plain few = body_end Little given
-body_again given (r ∷ rs) plain few =
-    body_next Little given (flat_map record_bytes (r ∷ rs))
-    ∙ ap (and_rest (body_of Little (given + 1))) (ap (next_of Little given) (flat_map-cons record_bytes r rs) ∙ record_again given r (flat_map record_bytes rs) (omega arith) plain.0)
-    ∙ ap (with_record r) (body_again (given + 1) rs plain.1 (omega arith))
+ending_alone : (rest : List ℕ → Body) (fault : Option CaptureFault) → and_rest rest (ending_of fault) ≡ record { records = []; fault = fault }
+ending_alone rest None = refl
+ending_alone rest (Some fault) = refl
 
--- a record has no fewer than 16 bytes
-pub length_records : (records : List PcapRecord) → 16 * length records ≤ length (flat_map record_bytes records)
-unfolding record_head
-length_records [] = omega arith
-length_records (r ∷ rs) = omega (arith, length_records rs, ap length (flat_map-cons record_bytes r rs), length-append (record_bytes r) (flat_map record_bytes rs))
+-- records that were written are the body, up to what ends them
+pub body_again : (order : Endian) (given : ℕ) (records : List PcapRecord) (fault : Option CaptureFault) (tail : List ℕ) → AllByRecursion FitsRecord records → given + length records ≤ 4294967295 →
+    next_of order (given + length records) tail ≡ ending_of fault → body_of order given (flat_map (record_bytes order) records ++ tail) ≡ record { records = records; fault = fault }
+body_again order given [] fault tail fits few ending =
+    let none : given ≡ given + length {A = PcapRecord} [] = omega arith in
+    body_next order given tail ∙ ap (and_rest (body_of order (given + 1))) (ap (λ n. next_of order n tail) none ∙ ending) ∙ ending_alone (body_of order (given + 1)) fault
+body_again order given (r ∷ rs) fault tail fits few ending =
+    let others : List ℕ = flat_map (record_bytes order) rs ++ tail in
+    let count : given + 1 + length rs ≡ given + length (r ∷ rs) = omega arith in
+    let parts : flat_map (record_bytes order) (r ∷ rs) ++ tail ≡ record_bytes order r ++ others =
+    ap (λ l. l ++ tail) (flat_map-cons (record_bytes order) r rs) ∙ append_assoc (record_bytes order r) (flat_map (record_bytes order) rs) tail in
+    ap (body_of order given) parts ∙ body_next order given (record_bytes order r ++ others)
+    ∙ ap (and_rest (body_of order (given + 1))) (record_again order given r others (omega (arith, few)) fits.0)
+    ∙ ap (with_record r) (body_again order (given + 1) rs fault tail fits.1 (omega (arith, count, few)) (ap (λ n. next_of order n tail) count ∙ ending))
 
 pub length_head : (head : CaptureHead) → length (head_bytes head) ≡ 24
 unfolding head_bytes
@@ -87,26 +117,14 @@ length_head head = length_of head.order head.unit head.zone head.sigfigs head.sn
     length_of Big unit z s n = refl
     length_of Little unit z s n = refl
 
-magic_again : (head : CaptureHead) (tail : List ℕ) → head.order ≡ Little → head.unit ≡ Micro → number_at Little 4 0 (head_bytes head ++ tail) ≡ 0xa1b2c3d4
-unfolding head_bytes
-magic_again head tail little micro =
-    let P : CaptureHead → Type 0 = λ h. number_at Little 4 0 (head_bytes h ++ tail) ≡ 0xa1b2c3d4 in
-    rw (little, micro) refl
-
--- a plain capture that was written is of the first form
-pub written_again : (head : CaptureHead) (records : List PcapRecord) → IsPlainHead head → All IsPlainRecord records → length (head_bytes head ++ flat_map record_bytes records) ≤ 16777216 →
-    first_form_of (head_bytes head ++ flat_map record_bytes records) ≡ Some (head, records)
-written_again head records plain all short =
-    let tail : List ℕ = flat_map record_bytes records in
-    let bytes : List ℕ = head_bytes head ++ tail in
-    let first : Some head ≡ first_head_of bytes = sym (
-    otherwise (nat_lt 16777216 (length bytes)) _ _ (le-ltb 16777216 (length bytes) short)
-    ∙ chosen (number_at Little 4 0 bytes == 0xa1b2c3d4) _ _ (eq-eqb (number_at Little 4 0 bytes) 0xa1b2c3d4 (magic_again head tail plain.order plain.unit))
-    ∙ ap accepted_head (head_again head tail plain.zone plain.sigfigs plain.snaplen)) in
-    let behind : drop 24 bytes ≡ tail = ap (λ n. drop n bytes) (sym (length_head head)) ∙ drop-append_seam (head_bytes head) tail in
-    let few : length records ≤ 4294967295 = omega (arith, length_records records, length-append (head_bytes head) tail, short) in
-    let body : body_of Little 0 (drop 24 bytes) ≡ record { records = records; fault = None } = ap (body_of Little 0) behind ∙ body_again 0 records (recursion_from_All IsPlainRecord records all) (omega (arith, few)) in
-    sym (first_form_from bytes head first plain.order) ∙ ap (λ b. option_map (λ rs. (head, rs)) (whole_records b)) body
-
-pub plain_again : (bytes : List ℕ) (head : CaptureHead) (records : List PcapRecord) → IsPlainCapture bytes head records → length bytes ≤ 16777216 → first_form_of bytes ≡ Some (head, records)
-plain_again bytes head records plain short = ap first_form_of plain.whole ∙ written_again head records plain.plain_head plain.plain_records (omega (arith, ap length plain.whole))
+-- a capture that was written is read as it was written
+pub capture_again : (bytes : List ℕ) (head : CaptureHead) (body : Body) → IsCapture bytes head body → capture_of bytes ≡ Ok (head, body)
+capture_again bytes head body written =
+    let behind_head : List ℕ = flat_map (record_bytes head.order) body.records ++ written.tail in
+    let whole : bytes ≡ head_bytes head ++ behind_head = written.whole ∙ append_assoc (head_bytes head) (flat_map (record_bytes head.order) body.records) written.tail in
+    let accepted : head_of bytes ≡ Ok head = ap head_of whole ∙ head_again head behind_head written.head_fits.zone written.head_fits.sigfigs written.head_fits.snaplen in
+    let behind : drop 24 bytes ≡ behind_head = ap (drop 24) whole ∙ ap (λ n. drop n (head_bytes head ++ behind_head)) (sym (length_head head)) ∙ drop-append_seam (head_bytes head) behind_head in
+    let read : body_of head.order 0 (drop 24 bytes) ≡ body = ap (body_of head.order 0) behind
+    ∙ body_again head.order 0 body.records body.fault written.tail (recursion_from_All FitsRecord body.records written.records_fit) (omega (arith, written.few))
+    (ap (λ n. next_of head.order n written.tail) (let e : 0 + length body.records ≡ length body.records = omega arith in e) ∙ written.ending) in
+    ap (with_body (drop 24 bytes)) accepted ∙ ap (λ b. Ok (head, b)) read

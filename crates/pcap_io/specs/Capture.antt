@@ -1,6 +1,5 @@
 -- The classic pcap file format: a head of 24 bytes, and then records, each a head of 16 bytes and its frame.
 use Rattle.std.specs.Prelude.{◌≡◌, ◌≤◌, ◌+◌, ◌*◌, ℕ, zero, suc, List, [], ◌∷◌, length, take, drop, if◌then◌else◌, ◌==◌, nat_lt, ◌&&◌, Option, Some, None, Result, Ok, Err, IsErr}
-use Rattle.std.specs.Option.{option_map, option_and_then}
 use Rattle.byteorder.specs.Endian.{big_number, little_number}
 use Rattle.pcap_io.specs.declared.capture.Endian.{Endian}
 use Rattle.pcap_io.specs.declared.capture.Endian.TheVariants.{Big, Little}
@@ -101,6 +100,14 @@ body_within (suc n) order given bytes = and_rest (body_within n order (given + 1
 unfoldable pub body_of : Endian → ℕ → List ℕ → Body
 body_of order given bytes = body_within (length bytes + 1) order given bytes
 
+-- a whole capture: its head, or the reason to refuse it, and the body behind it
+abbrev pub with_body : List ℕ → Result CaptureHead CaptureFault → Result (CaptureHead × Body) CaptureFault
+with_body bytes (Ok head) = Ok (head, body_of head.order 0 bytes)
+with_body bytes (Err fault) = Err fault
+
+abbrev pub capture_of : List ℕ → Result (CaptureHead × Body) CaptureFault
+capture_of bytes = with_body (drop 24 bytes) (head_of bytes)
+
 -- The same as a relation: the records stand one behind the other, and then come the end or a fault.
 abbrev pub IsBody : Endian → ℕ → List ℕ → List PcapRecord → Option CaptureFault → Type 0
 IsBody order given bytes [] None = next_of order given bytes ≡ Ok None
@@ -115,27 +122,3 @@ time_of Nano r = r.seconds * 1000000000 + r.fraction
 -- a frame of a length that is accepted
 abbrev pub IsShort : PcapRecord → Type 0
 IsShort r = length r.frame ≤ 262144
-
--- the head, where it is accepted
-abbrev pub accepted_head : Result CaptureHead CaptureFault → Option CaptureHead
-accepted_head (Ok head) = Some head
-accepted_head (Err fault) = None
-
--- the records, where no fault ends them
-abbrev pub unless_fault : List PcapRecord → Option CaptureFault → Option (List PcapRecord)
-unless_fault records None = Some records
-unless_fault records (Some fault) = None
-
-abbrev pub whole_records : Body → Option (List PcapRecord)
-whole_records body = unless_fault body.records body.fault
-
--- the head of the first form: at most 16,777,216 bytes, the first of them d4 c3 b2 a1, and an accepted head
-abbrev pub first_head_of : List ℕ → Option CaptureHead
-first_head_of bytes =
-    if nat_lt 16777216 (length bytes) then None
-    else if number_at Little 4 0 bytes == 0xa1b2c3d4 then accepted_head (head_of bytes)
-    else None
-
--- a capture of the first form: its head, and all its records without a fault
-abbrev pub first_form_of : List ℕ → Option (CaptureHead × List PcapRecord)
-first_form_of bytes = option_and_then (λ head. option_map (λ records. (head, records)) (whole_records (body_of head.order 0 (drop 24 bytes)))) (first_head_of bytes)

@@ -1,13 +1,13 @@
 -- How captures are written.
-use Rattle.std.specs.Prelude.{◌≡◌, ◌<◌, ◌^◌, ℕ, List, ◌++◌, length, slice_index, All}
+use Rattle.std.specs.Prelude.{◌≡◌, ◌≤◌, ◌<◌, ◌^◌, ℕ, List, ◌++◌, length, slice_index, All, Option, Some, None, Result, Ok, Err}
 use Rattle.std.specs.List.{flat_map}
 use Rattle.byteorder.specs.Endian.{big_bytes, little_bytes}
 use Rattle.pcap_io.specs.declared.capture.Endian.{Endian}
 use Rattle.pcap_io.specs.declared.capture.Endian.TheVariants.{Big, Little}
-use Rattle.pcap_io.specs.declared.capture.Unit.TheVariants.{Micro}
+use Rattle.pcap_io.specs.declared.capture.CaptureFault.{CaptureFault}
 use Rattle.pcap_io.specs.declared.capture.PcapRecord.{PcapRecord}
 use Rattle.pcap_io.specs.declared.capture.CaptureHead.{CaptureHead}
-use Rattle.pcap_io.specs.Capture.{magic_of, IsShort}
+use Rattle.pcap_io.specs.Capture.{Body, magic_of, next_of, IsShort}
 
 -- the n bytes of a number, in this order
 abbrev pub bytes_of : Endian → ℕ → ℕ → List ℕ
@@ -21,27 +21,25 @@ head_bytes head =
     ++ bytes_of head.order 4 head.zone ++ bytes_of head.order 4 head.sigfigs ++ bytes_of head.order 4 head.snaplen ++ bytes_of head.order 4 1
 
 -- the 16 bytes before a frame: seconds, fraction, captured length, original length
-unfoldable pub record_head : PcapRecord → List ℕ
-record_head r = little_bytes 4 r.seconds ++ little_bytes 4 r.fraction ++ little_bytes 4 (length r.frame) ++ little_bytes 4 r.wire
+unfoldable pub record_head : Endian → PcapRecord → List ℕ
+record_head order r = bytes_of order 4 r.seconds ++ bytes_of order 4 r.fraction ++ bytes_of order 4 (length r.frame) ++ bytes_of order 4 r.wire
 
--- a record of a little-endian capture
-abbrev pub record_bytes : PcapRecord → List ℕ
-record_bytes r = record_head r ++ r.frame
+-- a record of a capture in this order
+abbrev pub record_bytes : Endian → PcapRecord → List ℕ
+record_bytes order r = record_head order r ++ r.frame
 
 -- numbers that are bytes
 abbrev pub IsBytes : List ℕ → Type 0
 IsBytes bytes = (i : ℕ) → slice_index bytes i < 256
 
--- a little-endian head in microseconds, its numbers being of 32 bits
-pub record IsPlainHead (head : CaptureHead) : Type 0 where
-  pub order : head.order ≡ Little
-  pub unit : head.unit ≡ Micro
+-- the numbers of a head are of 32 bits
+pub record FitsHead (head : CaptureHead) : Type 0 where
   pub zone : head.zone < 2 ^ 32
   pub sigfigs : head.sigfigs < 2 ^ 32
   pub snaplen : head.snaplen < 2 ^ 32
 
--- a record with a frame of a length that is accepted, its numbers being of 32 bits
-pub record IsPlainRecord (r : PcapRecord) : Type 0 where
+-- the numbers of a record are of 32 bits, and its frame has a length that is accepted
+pub record FitsRecord (r : PcapRecord) : Type 0 where
   pub seconds : r.seconds < 2 ^ 32
   pub fraction : r.fraction < 2 ^ 32
   pub wire : r.wire < 2 ^ 32
@@ -49,10 +47,19 @@ pub record IsPlainRecord (r : PcapRecord) : Type 0 where
 
 -- the bytes of a whole capture: its head, and its records one behind the other
 abbrev pub capture_bytes : CaptureHead → List PcapRecord → List ℕ
-capture_bytes head records = head_bytes head ++ flat_map record_bytes records
+capture_bytes head records = head_bytes head ++ flat_map (record_bytes head.order) records
 
--- the bytes are those of this plain head and these plain records, and of nothing else
-pub record IsPlainCapture (bytes : List ℕ) (head : CaptureHead) (records : List PcapRecord) : Type 0 where
-  pub whole : bytes ≡ capture_bytes head records
-  pub plain_head : IsPlainHead head
-  pub plain_records : All IsPlainRecord records
+-- what the table says where no record stands
+abbrev pub ending_of : Option CaptureFault → Result (Option (PcapRecord × List ℕ)) CaptureFault
+ending_of None = Ok None
+ending_of (Some fault) = Err fault
+
+-- The bytes are those of this head and these records, and then of a tail where nothing is left or
+-- this fault stands.
+pub record IsCapture (bytes : List ℕ) (head : CaptureHead) (body : Body) : Type 0 where
+  pub tail : List ℕ
+  pub whole : bytes ≡ capture_bytes head body.records ++ tail
+  pub head_fits : FitsHead head
+  pub records_fit : All FitsRecord body.records
+  pub few : length body.records ≤ 4294967295
+  pub ending : next_of head.order (length body.records) tail ≡ ending_of body.fault

@@ -65,13 +65,6 @@ pub struct PcapRecord {
     pub frame: Frame,
 }
 
-/// A whole capture that is little-endian, in microseconds and without a fault.
-#[derive(Drop)]
-pub struct FirstForm {
-    pub head: CaptureHead,
-    pub records: Vec<PcapRecord>,
-}
-
 impl PcapRecord {
     ghost use Rattle.std.specs.Prelude.{◌≡◌};
     ghost use Rattle.pcap_io.specs.Capture.{time_of};

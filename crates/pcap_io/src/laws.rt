@@ -1,28 +1,25 @@
 //! What ties the reading of captures to their writing.
-
-ghost use Rattle.std.specs.Prelude.{◌≡◌, ◌≤◌, ℕ, List, length, Some, None, Option};
+ghost use Rattle.std.specs.Prelude.{◌≡◌, ℕ, List, Ok, Option};
 ghost use Rattle.pcap_io.specs.declared.capture.CaptureFault.{CaptureFault};
 ghost use Rattle.pcap_io.specs.declared.capture.CaptureHead.{CaptureHead};
 ghost use Rattle.pcap_io.specs.declared.capture.Endian.{Endian};
 ghost use Rattle.pcap_io.specs.declared.capture.PcapRecord.{PcapRecord};
-ghost use Rattle.pcap_io.specs.Capture.{body_of, first_form_of, IsBody};
-ghost use Rattle.pcap_io.specs.Written.{capture_bytes, IsBytes, IsPlainCapture};
+ghost use Rattle.pcap_io.specs.Capture.{Body, body_of, capture_of, IsBody};
+ghost use Rattle.pcap_io.specs.Written.{IsBytes, IsCapture};
 
-/// A capture of the first form is its head and its records as they are written, and nothing else.
-pub fn first_form_is_written()
-    ensures { (bytes : List ℕ) (head : CaptureHead) (records : List PcapRecord) → IsBytes bytes →
-        first_form_of bytes ≡ Some (head, records) → IsPlainCapture bytes head records }
+/// What is read as a head and records is these as they are written, and a tail where nothing is
+/// left or the fault stands.
+pub fn read_is_written()
+    ensures { (bytes : List ℕ) (head : CaptureHead) (body : Body) → IsBytes bytes → capture_of bytes ≡ Ok (head, body) → IsCapture bytes head body }
 {}
 
-/// What is written of a plain head and plain records, up to the longest capture, is of the first
-/// form, with exactly these.
-#[tactic(auto, using(crate::proofs::Spelling::plain_again))]
-pub fn written_is_first_form()
-    ensures { (bytes : List ℕ) (head : CaptureHead) (records : List PcapRecord) → IsPlainCapture bytes head records →
-        length bytes ≤ 16777216 → first_form_of bytes ≡ Some (head, records) }
+/// A head and records that are written are read again, whatever order, unit and tail they have.
+pub fn written_is_read()
+    ensures { (bytes : List ℕ) (head : CaptureHead) (body : Body) → IsCapture bytes head body → capture_of bytes ≡ Ok (head, body) }
 {}
 
-/// The records of a capture and its fault stand one behind the other, by the table of cases.
+/// The records of a capture and its fault stand one behind the other, by the table of cases, and no
+/// others do.
 #[tactic(auto, using(crate::proofs::Relation::body_is, crate::proofs::Relation::body_only))]
 pub fn body_is_relation()
     ensures holds { (order : Endian) (given : ℕ) (bytes : List ℕ) → IsBody order given bytes (body_of order given bytes).records (body_of order given bytes).fault }

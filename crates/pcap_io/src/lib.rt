@@ -3,23 +3,32 @@
 //!
 //! All numbers of a capture have the order of its magic number, which also says whether fractions
 //! of seconds are microseconds or nanoseconds. Version 2.4 and the link type Ethernet are accepted,
-//! and frames of at most 262,144 bytes.
+//! and frames of at most 262,144 bytes. A fraction beyond its unit and a captured length beyond
+//! snaplen or beyond the original length are accepted as they are.
 //!
-//! `first_form` reads a whole capture that is little-endian, in microseconds and without a fault.
-//! `Writer` puts such a capture into the slot Out of a desk, and what it puts is read again.
+//! [`Reader`] takes a capture record by record off the slot Capture of a desk, in whatever pieces
+//! the desk gives it; what it gives, and where it ends, is what `capture_of` of
+//! `pcap_io.specs.Capture` says of the whole text. [`Writer`] puts a capture into the slot Out, and
+//! [`read_is_written`] and [`written_is_read`] tie the two together.
 //!
 //! Left out: the modified magic numbers, compressed captures, link types with bits set above the
 //! type, and the meaning of snaplen, which is carried and refuses nothing.
 #![tactic(auto)]
 
 mod capture;
-mod first;
+mod fault;
+mod fill;
 mod laws;
+mod numbers;
+mod parse;
+mod reader;
+mod record;
 mod writer;
 
-pub use capture::{CaptureFault, CaptureHead, Endian, FirstForm, PcapRecord, Unit};
-pub use first::first_form;
-pub use laws::{body_is_relation, first_form_is_written, written_is_first_form};
+pub use capture::{CaptureFault, CaptureHead, Endian, PcapRecord, Unit};
+pub use fault::PcapFault;
+pub use laws::{body_is_relation, read_is_written, written_is_read};
+pub use reader::Reader;
 pub use writer::Writer;
 
 #[cfg(test)]

@@ -1,0 +1,31 @@
+-- Rows of the table, computed by the definitions.
+use Rattle.std.proofs.Common.{◌≡◌, refl, true, false}
+use Rattle.packet_fields.specs.declared.field.Field.TheVariants.{LinkDst, Tag, SrcIp, Payload}
+use Rattle.action_profile.specs.declared.kind.Kind.TheVariants.{Firewall, Nat, Monitor, Nexthop, Tagger, Untagger}
+use Rattle.action_profile.specs.Profiles.{reads_of, writes_of, profile_of}
+
+firewall_reads_tags : reads_of (profile_of Firewall) Tag ≡ true
+firewall_reads_tags = refl
+
+firewall_writes_no_tags : writes_of (profile_of Firewall) Tag ≡ false
+firewall_writes_no_tags = refl
+
+-- bits 5 to 8: both addresses and both ports
+nat_writes : (profile_of Nat).writes ≡ record { 0 = 0x1e0 }
+nat_writes = refl
+
+monitor_reads_no_data : reads_of (profile_of Monitor) Payload ≡ false
+monitor_reads_no_data = refl
+
+nexthop_writes : writes_of (profile_of Nexthop) LinkDst ≡ true
+nexthop_writes = refl
+
+-- to add or to remove a tag reads and writes the tags
+tagger_reads : reads_of (profile_of Tagger) Tag ≡ true
+tagger_reads = refl
+
+untagger_writes : writes_of (profile_of Untagger) Tag ≡ true
+untagger_writes = refl
+
+untagger_reads_no_address : reads_of (profile_of Untagger) SrcIp ≡ false
+untagger_reads_no_address = refl

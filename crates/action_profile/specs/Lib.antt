@@ -1,0 +1,2 @@
+pub mod FieldSets
+pub mod Profiles

@@ -1,0 +1,30 @@
+//! The kinds of network functions.
+
+/// A kind of network function.
+#[derive(Clone, Copy, Debug, PartialEq, Eq)]
+pub enum Kind {
+    /// Drops packets by their addresses, ports and tag.
+    Firewall,
+    /// Drops packets whose data has a pattern.
+    Signature,
+    /// Translates addresses and ports (RFC 3022).
+    Nat,
+    /// Sends each flow to one of several servers.
+    Balancer,
+    /// Counts the packets and bytes of each flow.
+    Monitor,
+    /// Drops what a source sends beyond a rate.
+    Limiter,
+    /// Sets the type of service (RFC 791, 3.1).
+    Marker,
+    /// Sets the link addresses of the next hop.
+    Nexthop,
+    /// Lowers the time to live, and drops a packet whose time is up (RFC 1812, 5.3.1).
+    Hop,
+    /// Overwrites patterns in the data.
+    Redactor,
+    /// Adds a tag (IEEE 802.1Q).
+    Tagger,
+    /// Removes a tag (IEEE 802.1Q).
+    Untagger,
+}

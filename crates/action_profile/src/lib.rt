@@ -1,0 +1,25 @@
+//! What each kind of network function may do to a packet.
+//!
+//! A [`Profile`] declares the fields that a function reads and writes, whether it may drop a
+//! packet, whether it keeps a state, whether it adds or removes a tag (IEEE 802.1Q), and whether it
+//! works on the whole frame. [`profile`] gives the profile of each [`Kind`]. A [`FieldSet`] has a
+//! bit for each field, in the fields' order.
+//!
+//! All that is said of profiles elsewhere rests on two words, `reads_of` and `writes_of` of
+//! `specs/Profiles.antt`: whether a function reads or writes a field. To add or to remove a tag
+//! both reads and writes the list of tags, so nothing else needs to mention it.
+//!
+//! What a function does with the fields, and how functions are put into stages, is left out.
+#![tactic(auto)]
+
+mod field_set;
+mod kind;
+mod rights;
+mod table;
+#[cfg(test)]
+mod tests;
+
+pub use field_set::{FieldSet, all_fields};
+pub use kind::Kind;
+pub use rights::Profile;
+pub use table::profile;

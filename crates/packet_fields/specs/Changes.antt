@@ -1,0 +1,27 @@
+-- What the bytes under a checksum change in it.
+use Rattle.std.specs.Prelude.{◌≡◌, ◌<◌, ℕ, ◌+◌, ◌-◌, ◌^◌, List, ◌++◌, take, drop, Bool, if◌then◌else◌, ◌==◌, Option}
+use Rattle.packet_fields.specs.Checksums.{words, is_changed, change_sum, folded, data_of}
+use Rattle.packet_fields.specs.declared.plan.Span.{Span}
+use Rattle.packet_fields.specs.declared.sums.Change.{Change}
+
+-- these bytes became those
+pub record IsChange (old new : List ℕ) (change : Change) : Type 0 where
+  pub total : change.sum ≡ change_sum (words old) (words new)
+  pub some_word : change.is_some ≡ is_changed (words old) (words new)
+  pub small : change.sum < 2 ^ 40
+
+-- the bytes under the checksum of an IPv4 header that ends at a place
+abbrev pub header_bytes : ℕ → List ℕ → List ℕ
+header_bytes end p = take 10 (drop 2 p) ++ take (end - 14) (drop 14 p)
+
+-- the bytes under the checksum of a transport header that begins at a place
+abbrev pub segment_bytes : ℕ → Option Span → List ℕ → List ℕ
+segment_bytes start payload p = take 8 (drop 14 p) ++ (take 4 (drop start p) ++ data_of p payload)
+
+-- a checksum after a change
+abbrev pub applied : ℕ → Change → ℕ
+applied checksum change = if change.is_some then 0xffff - folded ((0xffff - checksum) + change.sum) else checksum
+
+abbrev pub checksum_after : Bool → ℕ → Change → ℕ
+checksum_after is_udp checksum change =
+    if is_udp then (if checksum == 0 then 0 else (if applied checksum change == 0 then 0xffff else applied checksum change)) else applied checksum change

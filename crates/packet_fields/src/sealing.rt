@@ -1,0 +1,160 @@
+//! The checksums of a packet after a change.
+ghost use Rattle.std.specs.Prelude.{◌≡◌, ◌≤◌, ◌<◌, ◌+◌, ◌^◌, true, length, IfSome, if◌then◌else◌};
+ghost use Rattle.packet_fields.specs.Packets.{is_ipv4 as is_ipv4_of, header_len as header_len_of, data_span};
+ghost use Rattle.packet_fields.specs.Fields.{value};
+ghost use Rattle.packet_fields.specs.declared.field.Field.{Field};
+ghost use Rattle.packet_fields.specs.Writing.{overwritten, rest_of};
+ghost use Rattle.packet_fields.specs.Plans.{header_plan_of, segment_plan_of};
+ghost use Rattle.packet_fields.specs.Checksums.{has_same_places as has_same_places_of, same_header_plan, same_segment_plan, word_bytes, header_sealed, segment_sealed, packet_sealed, sealed, HasRightSums};
+ghost use Rattle.packet_fields.specs.Changes.{IsChange, header_bytes, segment_bytes, checksum_after};
+
+use crate::access::part;
+use crate::packet::{UDP, header_len, header_plan, is_ipv4, segment_at, segment_plan, word};
+use crate::places::{packet_from, packet_place};
+use crate::plan::Span;
+use crate::sums::Change;
+use byteorder::{BigEndian, ByteOrder};
+
+/// Adjusts the checksums of a frame once, from what it was to what it is (RFC 1624, 3, equation 3). A
+/// wrong checksum stays wrong by the same difference; a UDP checksum of 0, which says that there is none,
+/// stays 0, and one that comes out as 0 is written as 0xffff. Where the packets of the frames differ in
+/// more than the bytes of their fields, as in length or in the places of fields, `after` stays.
+pub fn seal(before: &[u8], after: &mut [u8])
+    ensures sealed { after.new ≡ sealed before.now after.old }
+
+    // No field changes, and a frame that did not change stays as it is.
+    ensures fields { (f : Field) → value f after.new ≡ value f after.old }
+    ensures own { before.now ≡ after.old → after.new ≡ after.old }
+
+    // Right checksums stay right, by the sum of RFC 1071, where nothing but fields changed.
+    ensures right { rest_of before.now ≡ rest_of after.old → HasRightSums before.now → HasRightSums after.new }
+{
+    seal_frame(before, after);
+}
+
+/// Adjusts the checksums of a frame.
+fn seal_frame(before: &[u8], after: &mut [u8])
+    ensures { after.new ≡ sealed before.now after.old }
+{
+    let old = packet_from(before, packet_place(before));
+    let start = packet_place(after);
+    seal_packet(old, &mut after[start..]);
+}
+
+/// Adjusts the checksums of a packet.
+fn seal_packet(old: &[u8], new: &mut [u8])
+    ensures { new.new ≡ packet_sealed old.now new.old }
+{
+    if has_same_places(old, new) {
+        seal_header(old, new);
+        seal_segment(old, new);
+    }
+}
+
+/// Do two packets have IPv4 headers, and the same places and fixed values?
+#[tactic(auto, unfolding(crate::specs::Checksums::has_same_places))]
+fn has_same_places(old: &[u8], new: &[u8]) -> bool
+    ensures { result ≡ has_same_places_of old.now new.now }
+{
+    is_ipv4(old)
+        && is_ipv4(new)
+        && old.len() == new.len()
+        && header_len(old) == header_len(new)
+        && has_same_header(old, new)
+        && has_same_segment(old, new)
+}
+
+/// Do the IPv4 headers of two packets have the same places and fixed values?
+fn has_same_header(old: &[u8], new: &[u8]) -> bool
+    ensures { result ≡ same_header_plan (header_plan_of old.now) (header_plan_of new.now) }
+{
+    header_plan(old) == header_plan(new)
+}
+
+/// Do the transport headers of two packets have the same places and fixed values?
+fn has_same_segment(old: &[u8], new: &[u8]) -> bool
+    ensures { result ≡ same_segment_plan (segment_plan_of old.now) (segment_plan_of new.now) }
+{
+    segment_plan(old) == segment_plan(new)
+}
+
+/// Adjusts the header checksum of a packet of the same lengths.
+fn seal_header(old: &[u8], new: &mut [u8])
+    requires ipv4 { is_ipv4_of old.now ≡ true }
+    requires same_len { length old.now ≡ length new.old }
+    requires same_header { header_len_of old.now ≡ header_len_of new.old }
+    ensures { new.new ≡ header_sealed old.now new.old }
+{
+    if old.len() < 14 {
+        return;
+    }
+    let end = (header_len(old) + 2).min(old.len());
+    let checksum = header_change(old, new, end).applied(word(old, 12));
+    write_word(new, 12, checksum);
+}
+
+/// What changed under the checksum of a header that ends at `end`.
+fn header_change(old: &[u8], new: &[u8], end: usize) -> Change
+    requires same { length old.now ≡ length new.now }
+    requires room { 14 ≤ end }
+    requires inside { end ≤ length old.now }
+    requires short { end ≤ 62 }
+    ensures { IsChange (header_bytes end old.now) (header_bytes end new.now) result }
+{
+    Change::none()
+        .with_bytes(&old[2..12], &new[2..12])
+        .with_bytes(&old[14..end], &new[14..end])
+}
+
+/// Adjusts the TCP or UDP checksum of a packet of the same lengths and places.
+fn seal_segment(old: &[u8], new: &mut [u8])
+    requires same_len { length old.now ≡ length new.old }
+    requires same_header { header_len_of old.now ≡ header_len_of new.old }
+    requires same_data { data_span old.now ≡ data_span new.old }
+    ensures { new.new ≡ segment_sealed old.now new.old }
+{
+    let plan = segment_plan(old);
+    if let Some(at) = plan.sum_at {
+        let change = segment_change(old, new, segment_at(old), plan.payload);
+        let checksum = segment_checksum(old[11] == UDP, word(old, at), change);
+        write_word(new, at, checksum);
+    }
+}
+
+/// What changed under the checksum of a transport header that begins at `start`.
+fn segment_change(old: &[u8], new: &[u8], start: usize, payload: Option<Span>) -> Change
+    requires same { length old.now ≡ length new.now }
+    requires addresses { 22 ≤ start }
+    requires ports { start + 4 ≤ length old.now }
+    requires payload { IfSome payload (λ s. s.at + s.len ≤ length old.now) }
+    requires short { IfSome payload (λ s. s.len ≤ 65537) }
+    ensures { IsChange (segment_bytes start payload old.now) (segment_bytes start payload new.now) result }
+{
+    let change = Change::none()
+        .with_bytes(&old[14..22], &new[14..22])
+        .with_bytes(&old[start..start + 4], &new[start..start + 4]);
+    match payload {
+        Some(span) => change.with_bytes(part(old, span), part(new, span)),
+        None => change,
+    }
+}
+
+/// A TCP or UDP checksum after a change.
+fn segment_checksum(is_udp: bool, checksum: u16, change: Change) -> u16
+    requires { change.sum < 2 ^ 40 }
+    ensures { result ≡ checksum_after is_udp checksum change }
+{
+    if is_udp && checksum == 0 {
+        return 0;
+    }
+    let sum = change.applied(checksum);
+    if is_udp && sum == 0 { u16::MAX } else { sum }
+}
+
+/// Writes a word in its place.
+fn write_word(bytes: &mut [u8], at: usize, value: u16)
+    requires { at + 2 ≤ length bytes.old }
+    ensures { bytes.new ≡ overwritten at (word_bytes value) bytes.old }
+{
+    BigEndian::write_u16(&mut bytes[at..], value);
+}

@@ -1,0 +1,119 @@
+-- How the pieces that a read gives add up.
+use Rattle.std.proofs.Common.{◌≡◌, ◌≢◌, ◌≤◌, ◌<◌, ◌+◌, ◌-◌, ◌++◌, ◌∙◌, ℕ, List, length, take, drop, refl, ap, sym, subst, length-append, length-drop, arith}
+use Rattle.std.specs.Prelude.{Option, Some, None, MatchOption}
+use Rattle.std.proofs.Math.Seq.{take-add, take-append-add, take-length}
+use Rattle.std.proofs.lemmas.Slice.{take-put_mid}
+use borrow.Rule.Slice.PartMut.{put_mid, mid_of, same_len_mid}
+use Rattle.std.proofs.lemmas.List.{length-take-le, drop-drop}
+use Rattle.nfp_outside.specs.declared.slot.Slot.{Slot}
+use Rattle.nfp_outside.specs.declared.slot.Slot.TheVariants.{Capture}
+use Rattle.nfp_outside.specs.Outside.{SlotView, Reads, Takes, KeepsSlot, TakesFront}
+use Rattle.pcap_io.specs.Filling.{Fills, FillsFrom}
+
+-- so many of the bytes that were left are at the front of the buffer
+pub record IsFront (done : ℕ) (bytes buffer : List ℕ) (now : Option (List ℕ)) : Type 0 where
+  pub some_left : done ≤ length bytes
+  pub front : take done buffer ≡ take done bytes
+  pub rest : now ≡ Some (drop done bytes)
+
+-- what a loop that fills a buffer has done so far
+pub record HasFilled {D : Type 0} (slots : D → Slot → SlotView) (buffer : List ℕ) (done : ℕ) (old new : D) : Type 0 where
+  pub within : done ≤ length buffer
+  pub same_name : (slots new Capture).name ≡ (slots old Capture).name
+  pub told : MatchOption (slots old Capture).bytes ((slots new Capture).bytes ≡ None) (λ bytes. IsFront done bytes buffer (slots new Capture).bytes)
+  pub later : (slots old Capture).faults ≤ (slots new Capture).faults
+  pub others : (s : Slot) → s ≢ Capture → slots new s ≡ slots old s
+
+none_told : (buffer : List ℕ) (o : Option (List ℕ)) → MatchOption o (o ≡ None) (λ bytes. IsFront 0 bytes buffer o)
+none_told buffer None = refl
+none_told buffer (Some bytes) = record { some_left = omega arith; front = refl; rest = refl }
+
+pub filled_none : {D : Type 0} (slots : D → Slot → SlotView) (buffer : List ℕ) (x : D) → HasFilled slots buffer 0 x x
+filled_none slots buffer x = record { within = omega arith; same_name = refl; told = none_told buffer (slots x Capture).bytes; later = omega arith; others = λ s other. refl }
+
+-- as many bytes as the end of the buffer has
+pub room_of : (done : ℕ) (buffer piece : List ℕ) → done ≤ length buffer → length piece ≡ length (mid_of done (length buffer - done) buffer) → length piece + done ≡ length buffer
+room_of done buffer piece within size = omega (arith, size, length-take-le (length buffer - done) (drop done buffer) (omega (arith, length-drop done buffer)))
+
+-- a buffer whose end was written anew
+pub put_end : (done : ℕ) (buffer piece : List ℕ) → done ≤ length buffer → length piece + done ≡ length buffer → put_mid done (length buffer - done) buffer piece ≡ take done buffer ++ piece
+put_end done buffer piece within room =
+    let whole : length (put_mid done (length buffer - done) buffer piece) ≡ length piece + done = same_len_mid done (length buffer - done) buffer piece (middle done buffer piece within room) ∙ sym room in
+    sym (take-length (put_mid done (length buffer - done) buffer piece)) ∙ ap (λ n. take n (put_mid done (length buffer - done) buffer piece)) whole
+    ∙ take-put_mid done (length buffer - done) buffer piece (length piece + done) (omega arith) within
+  where
+    middle : (done : ℕ) (buffer piece : List ℕ) → done ≤ length buffer → length piece + done ≡ length buffer → length piece ≡ length (mid_of done (length buffer - done) buffer)
+    middle done buffer piece within room = let e : length (mid_of done (length buffer - done) buffer) ≡ length buffer - done = length-take-le (length buffer - done) (drop done buffer) (omega (arith, length-drop done buffer)) in omega (arith, e)
+
+front_more : (front piece bytes : List ℕ) (done k : ℕ) → length front ≡ done → front ≡ take done bytes → take k piece ≡ take k (drop done bytes) → take (done + k) (front ++ piece) ≡ take (done + k) bytes
+front_more front piece bytes done k size same more =
+    ap (λ n. take (n + k) (front ++ piece)) (sym size) ∙ take-append-add front piece k ∙ ap (λ l. l ++ take k piece) same ∙ ap (λ l. take done bytes ++ l) more ∙ sym (take-add done k bytes)
+
+told_more : (buffer piece : List ℕ) (done k : ℕ) (before : Option (List ℕ)) (mid new : SlotView) → done ≤ length buffer → Reads k piece mid new →
+    MatchOption before (mid.bytes ≡ None) (λ bytes. IsFront done bytes buffer mid.bytes) →
+    MatchOption before (new.bytes ≡ None) (λ bytes. IsFront (done + k) bytes (take done buffer ++ piece) new.bytes)
+told_more buffer piece done k None mid new within reads told = subst (λ o. MatchOption o (new.bytes ≡ None) (λ bytes. Takes k bytes piece new)) told reads.told
+told_more buffer piece done k (Some bytes) mid new within reads told =
+    let takes : Takes k (drop done bytes) piece new = subst (λ o. MatchOption o (new.bytes ≡ None) (λ left. Takes k left piece new)) told.rest reads.told in
+    record {
+      some_left = omega (arith, takes.some_left, told.some_left, length-drop done bytes);
+      front = front_more (take done buffer) piece bytes done k (length-take-le done buffer within) told.front takes.front;
+      rest = takes.rest ∙ ap (λ l. Some l) (drop-drop k done bytes);
+    }
+
+-- one piece more
+pub filled_more : {D : Type 0} (slots : D → Slot → SlotView) (buffer piece : List ℕ) (done k : ℕ) (old mid new : D) → HasFilled slots buffer done old mid →
+    length piece + done ≡ length buffer → Reads k piece (slots mid Capture) (slots new Capture) → (slots mid Capture).faults ≤ (slots new Capture).faults →
+    ((s : Slot) → s ≢ Capture → slots new s ≡ slots mid s) → HasFilled slots (take done buffer ++ piece) (done + k) old new
+filled_more slots buffer piece done k old mid new so_far room reads later others = record {
+  within = omega (arith, so_far.within, reads.within, room, length-append (take done buffer) piece, length-take-le done buffer so_far.within);
+  same_name = reads.same_name ∙ so_far.same_name;
+  told = told_more buffer piece done k (slots old Capture).bytes (slots mid Capture) (slots new Capture) so_far.within reads so_far.told;
+  later = let earlier = so_far.later in omega arith;
+  others = λ s other. others s other ∙ so_far.others s other;
+}
+
+-- a full buffer
+told_full : (buffer : List ℕ) (done : ℕ) (before : Option (List ℕ)) (new : SlotView) → length buffer ≤ done → MatchOption before (new.bytes ≡ None) (λ bytes. IsFront done bytes buffer new.bytes) →
+    MatchOption before (new.bytes ≡ None) (λ bytes. FillsFrom done bytes buffer new)
+told_full buffer done None new full told = told
+told_full buffer done (Some bytes) new full told = record { some_left = told.some_left; front = told.front; rest = told.rest; end_only = λ short. absurd (omega arith) }
+
+pub fills_all : {D : Type 0} (slots : D → Slot → SlotView) (buffer : List ℕ) (done : ℕ) (old new : D) → HasFilled slots buffer done old new → length buffer ≤ done → Fills done buffer (slots old Capture) (slots new Capture)
+fills_all slots buffer done old new so_far full = record { within = so_far.within; same_name = so_far.same_name; told = told_full buffer done (slots old Capture).bytes (slots new Capture) full so_far.told }
+
+-- a read that gave nothing: nothing more was left
+told_end : (buffer piece : List ℕ) (done : ℕ) (before : Option (List ℕ)) (mid new : SlotView) → done ≤ length buffer → 0 < length piece → Reads 0 piece mid new →
+    MatchOption before (mid.bytes ≡ None) (λ bytes. IsFront done bytes buffer mid.bytes) → MatchOption before (new.bytes ≡ None) (λ bytes. FillsFrom done bytes (take done buffer ++ piece) new)
+told_end buffer piece done None mid new within some reads told = subst (λ o. MatchOption o (new.bytes ≡ None) (λ bytes. Takes 0 bytes piece new)) told reads.told
+told_end buffer piece done (Some bytes) mid new within some reads told =
+    let takes : Takes 0 (drop done bytes) piece new = subst (λ o. MatchOption o (new.bytes ≡ None) (λ left. Takes 0 left piece new)) told.rest reads.told in
+    let empty : length (drop done bytes) ≡ 0 = ap length (takes.end_only refl some) in
+    record {
+      some_left = told.some_left;
+      front = ap (λ n. take n (take done buffer ++ piece)) (let e : done ≡ done + 0 = omega arith in e)
+          ∙ front_more (take done buffer) piece bytes done 0 (length-take-le done buffer within) told.front refl ∙ ap (λ n. take n bytes) (let e : done + 0 ≡ done = omega arith in e);
+      rest = takes.rest;
+      end_only = λ short. omega (arith, empty, told.some_left, length-drop done bytes);
+    }
+
+pub fills_end : {D : Type 0} (slots : D → Slot → SlotView) (buffer piece : List ℕ) (done : ℕ) (old mid new : D) → HasFilled slots buffer done old mid →
+    length piece + done ≡ length buffer → 0 < length piece → Reads 0 piece (slots mid Capture) (slots new Capture) → Fills done (take done buffer ++ piece) (slots old Capture) (slots new Capture)
+fills_end slots buffer piece done old mid new so_far room some reads = record {
+  within = omega (arith, so_far.within, length-append (take done buffer) piece, length-take-le done buffer so_far.within);
+  same_name = reads.same_name ∙ so_far.same_name;
+  told = told_end buffer piece done (slots old Capture).bytes (slots mid Capture) (slots new Capture) so_far.within some reads so_far.told;
+}
+
+front_taken : (buffer : List ℕ) (done most : ℕ) (before now : Option (List ℕ)) (mid : Option (List ℕ)) → done ≤ most → now ≡ mid → MatchOption before (mid ≡ None) (λ bytes. IsFront done bytes buffer mid) →
+    MatchOption before (now ≡ None) (λ bytes. (k : ℕ) × (k ≤ most) × (now ≡ Some (drop k bytes)))
+front_taken buffer done most None now mid within same told = same ∙ told
+front_taken buffer done most (Some bytes) now mid within same told = (done, within, same ∙ told.rest)
+
+-- a read that was refused
+pub filled_taken : {D : Type 0} (slots : D → Slot → SlotView) (buffer : List ℕ) (done : ℕ) (old mid new : D) → HasFilled slots buffer done old mid → KeepsSlot (slots mid Capture) (slots new Capture) →
+    TakesFront (length buffer) (slots old Capture) (slots new Capture)
+filled_taken slots buffer done old mid new so_far keeps = record {
+  same_name = keeps.same_name ∙ so_far.same_name;
+  told = front_taken buffer done (length buffer) (slots old Capture).bytes (slots new Capture).bytes (slots mid Capture).bytes so_far.within keeps.same_bytes so_far.told;
+}

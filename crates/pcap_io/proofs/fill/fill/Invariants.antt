@@ -1,0 +1,9 @@
+use Rattle.std.proofs.Common.{◌-◌, length}
+use Rattle.pcap_io.proofs.Pieces.{HasFilled}
+use Rattle.pcap_io.proofs.fill.fill.Given as goal
+
+abbrev pub invariant-pieces : goal.invariant-pieces
+invariant-pieces g l = HasFilled g.D.Desk.slots l.into l.done l.fn.desk l.desk
+
+abbrev pub decreases-pieces : goal.decreases-pieces
+decreases-pieces g l = length l.into - l.done

@@ -1,0 +1,51 @@
+//! Numbers of a capture at their places, in the capture's order.
+ghost use Rattle.std.specs.Prelude.{◌≡◌, ◌≤◌, ◌+◌, ◌++◌, length, take};
+ghost use Rattle.pcap_io.specs.Capture.{number_at};
+ghost use Rattle.pcap_io.specs.Written.{bytes_of};
+
+use crate::capture::Endian;
+use byteorder::{BigEndian, ByteOrder, LittleEndian};
+
+// The number of 16 bits at a place.
+pub fn u16_at(order: Endian, bytes: &[u8], at: usize) -> u16
+    requires { at + 2 ≤ length bytes.now }
+    ensures { result ≡ number_at order 2 at bytes.now }
+{
+    match order {
+        Endian::Big => BigEndian::read_u16(&bytes[at..]),
+        Endian::Little => LittleEndian::read_u16(&bytes[at..]),
+    }
+}
+
+// The number of 32 bits at a place.
+pub fn u32_at(order: Endian, bytes: &[u8], at: usize) -> u32
+    requires { at + 4 ≤ length bytes.now }
+    ensures { result ≡ number_at order 4 at bytes.now }
+{
+    match order {
+        Endian::Big => BigEndian::read_u32(&bytes[at..]),
+        Endian::Little => LittleEndian::read_u32(&bytes[at..]),
+    }
+}
+
+// Writes a number of 16 bits at a place.
+pub fn put_u16(order: Endian, bytes: &mut [u8], at: usize, number: u16)
+    requires { at + 2 ≤ length bytes.old }
+    ensures { take (at + 2) bytes.new ≡ take at bytes.old ++ bytes_of order 2 number }
+{
+    match order {
+        Endian::Big => BigEndian::write_u16(&mut bytes[at..], number),
+        Endian::Little => LittleEndian::write_u16(&mut bytes[at..], number),
+    }
+}
+
+// Writes a number of 32 bits at a place.
+pub fn put_u32(order: Endian, bytes: &mut [u8], at: usize, number: u32)
+    requires { at + 4 ≤ length bytes.old }
+    ensures { take (at + 4) bytes.new ≡ take at bytes.old ++ bytes_of order 4 number }
+{
+    match order {
+        Endian::Big => BigEndian::write_u32(&mut bytes[at..], number),
+        Endian::Little => LittleEndian::write_u32(&mut bytes[at..], number),
+    }
+}

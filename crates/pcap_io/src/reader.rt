@@ -1,0 +1,96 @@
+use crate::capture::{CaptureHead, Endian, PcapRecord};
+use crate::fault::PcapFault;
+use crate::fill::fill;
+use crate::parse::{HEAD_LEN, head_in};
+use crate::record::read_next;
+use nfp_outside::{Desk, Slot};
+use std::alloc::Global;
+use std::marker::Model;
+
+/// Reads a capture record by record off the slot Capture of a desk, in whatever pieces the desk
+/// gives it.
+///
+/// It takes no more than a record needs, and for a frame memory of at most 262,144 bytes, whatever
+/// the capture claims. After a refusal a reader is spent and isn't used again.
+#[derive(Drop)]
+pub struct Reader {
+    order: Endian,
+    given: u32,
+    spent: bool,
+}
+
+impl Model for Reader {
+    ghost use Rattle.pcap_io.specs.Reader.{ReaderState};
+
+    ghost Value = { ReaderState };
+
+    ghost view = { λ r. record { order = r.order; given = r.given; spent = r.spent } };
+}
+
+impl Reader {
+    ghost use Rattle.std.specs.Prelude.{◌≡◌, ◌≢◌, ◌≤◌, IsSome, IfOk, OnErr, IfSome, IfNone, IsErrOf, false};
+    ghost use Rattle.nfp_outside.specs.declared.slot.Slot.{Slot};
+    ghost use Rattle.nfp_outside.specs.Outside.{TakesFront};
+    ghost use Rattle.pcap_io.specs.declared.capture.CaptureFault.{CaptureFault};
+    ghost use Rattle.pcap_io.specs.Reader.{reader_at, refused, ReadsHead, RefusesHead, ReadsRecord, IsAtEnd, RefusesRecord, ReaderCause};
+
+    /// Reads the head, the first 24 bytes that are left.
+    ///
+    /// `CutHead` exactly where fewer are left; else `BadMagic`, `BadVersion` and `BadLink`, in this
+    /// order. It takes no memory.
+    pub fn begin<D: Desk>(desk: &mut D) -> Result<(CaptureHead, Reader), PcapFault>
+        requires attached { IsSome (D.slots desk.old Slot.Capture).name }
+        ensures head { IfOk result (λ x. ReadsHead x.0 x.1 (D.slots desk.old Slot.Capture) (D.slots desk.new Slot.Capture)) }
+        ensures refused { (fault : CaptureFault) → IsErrOf result (PcapFault.Capture fault) → RefusesHead fault (D.slots desk.old Slot.Capture) }
+        ensures taken { TakesFront 24 (D.slots desk.old Slot.Capture) (D.slots desk.new Slot.Capture) }
+        ensures cause { ReaderCause (D.slots desk.old Slot.Capture) (D.slots desk.new Slot.Capture) result }
+        ensures others { (s : Slot) → s ≢ Slot.Capture → D.slots desk.new s ≡ D.slots desk.old s }
+    {
+        let mut bytes = [0; HEAD_LEN];
+        let count = fill(desk, &mut bytes)?;
+        match head_in(&bytes[..count]) {
+            Ok(head) => Ok((head, Reader::resume(&head, 0))),
+            Err(fault) => Err(PcapFault::Capture(fault)),
+        }
+    }
+
+    /// A reader that has given `count` records of a capture with this head.
+    pub fn resume(head: &CaptureHead, count: u32) -> Reader
+        ensures { result ≡ reader_at head.now.order count }
+    {
+        Reader {
+            order: head.order,
+            given: count,
+            spent: false,
+        }
+    }
+
+    /// Reads the next record; `None` exactly where nothing is left.
+    ///
+    /// With 4,294,967,295 records given and something left, `TooManyRecords`. `CutRecord` exactly
+    /// where the input ends inside the record's head, or inside its frame, and `FrameTooLong` exactly
+    /// where the whole head claims more than 262,144 bytes. After an `Err` the reader is spent.
+    pub fn next<D: Desk>(
+        &mut self,
+        alloc: Global,
+        desk: &mut D,
+    ) -> Result<Option<PcapRecord>, PcapFault>
+        requires attached { IsSome (D.slots desk.old Slot.Capture).name }
+        requires unspent { self.old.spent ≡ false }
+        ensures record { IfOk result (λ o. IfSome o (λ r. ReadsRecord r self.old self.new (D.slots desk.old Slot.Capture) (D.slots desk.new Slot.Capture))) }
+        ensures end { IfOk result (λ o. IfNone o (IsAtEnd self.old self.new (D.slots desk.old Slot.Capture) (D.slots desk.new Slot.Capture))) }
+        ensures refused { (fault : CaptureFault) → IsErrOf result (PcapFault.Capture fault) → RefusesRecord fault self.old (D.slots desk.old Slot.Capture) }
+        ensures spent { OnErr result (self.new ≡ refused self.old) }
+        ensures taken { TakesFront 262160 (D.slots desk.old Slot.Capture) (D.slots desk.new Slot.Capture) }
+        ensures cause { ReaderCause (D.slots desk.old Slot.Capture) (D.slots desk.new Slot.Capture) result }
+        ensures others { (s : Slot) → s ≢ Slot.Capture → D.slots desk.new s ≡ D.slots desk.old s }
+    {
+        let answer = read_next(alloc, desk, self.order, self.given);
+        match &answer {
+            Ok(Some(_)) => self.given += 1,
+            Ok(None) => {}
+            Err(_) => self.spent = true,
+        }
+        answer
+    }
+}

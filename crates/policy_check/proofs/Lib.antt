@@ -1,0 +1,13 @@
+mod Rows
+pub mod Arranging
+pub mod Ascending
+pub mod Cycling
+pub mod Deciding
+pub mod Earliest
+pub mod Held
+pub mod Inside
+pub mod Naming
+pub mod Soundness
+pub mod Trails
+pub mod Turning
+pub mod WaitingLemmas

@@ -1,0 +1,7 @@
+pub mod Arrangements
+pub mod Checked
+pub mod Cycles
+pub mod Edges
+pub mod Refusals
+pub mod Turns
+pub mod Waiting

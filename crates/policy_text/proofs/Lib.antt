@@ -1,0 +1,8 @@
+mod Rows
+pub mod Clausing
+pub mod Digits
+pub mod Keeping
+pub mod Latest
+pub mod Remaining
+pub mod Sound
+pub mod Splitting

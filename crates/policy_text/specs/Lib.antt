@@ -1,0 +1,9 @@
+pub mod Bytes
+pub mod Clauses
+pub mod Forms
+pub mod Grammar
+pub mod Lines
+pub mod Meeting
+pub mod Soundness
+pub mod Steps
+pub mod Values

@@ -1,0 +1,43 @@
+-- Which packets meet a clause.
+use Rattle.std.specs.Prelude.{ℕ, ◌-◌, ◌/◌, ◌^◌, Bool, true, false, ◌==◌, ◌&&◌, nat_le}
+use Rattle.std.specs.Option.{option_map_or}
+use Rattle.std.specs.List.{list_all}
+use Rattle.policy_text.specs.declared.clause.Clause.{Clause}
+use Rattle.policy_text.specs.declared.clause.Clause.TheVariants.{Src, Dst, Sport, Dport, Proto, TagId, NoTag}
+use Rattle.policy_text.specs.declared.clause.Match.{Match}
+use Rattle.policy_text.specs.declared.seen.Seen.{Seen}
+use Rattle.policy_text.specs.declared.seen.TagSeen.{TagSeen}
+use Rattle.policy_text.specs.declared.seen.TagSeen.TheVariants.{Bare, Id}
+
+-- the first bits of an address, all of them where there are no more
+abbrev pub first_bits : ℕ → ℕ → ℕ
+first_bits bits address = address / 2 ^ (32 - bits)
+
+-- the address begins with the prefix's first bits
+abbrev pub is_within : ℕ → ℕ → ℕ → Bool
+is_within prefix bits address = first_bits bits address == first_bits bits prefix
+
+abbrev pub is_between : ℕ → ℕ → ℕ → Bool
+is_between low high port = nat_le low port && nat_le port high
+
+abbrev pub has_id : ℕ → TagSeen → Bool
+has_id id (Id n) = n == id
+has_id id tag = false
+
+abbrev pub is_bare : TagSeen → Bool
+is_bare Bare = true
+is_bare tag = false
+
+-- a clause on an absent value isn't met
+abbrev pub is_met : Seen → Clause → Bool
+is_met seen (Src prefix bits) = option_map_or (is_within prefix bits) seen.src false
+is_met seen (Dst prefix bits) = option_map_or (is_within prefix bits) seen.dst false
+is_met seen (Sport low high) = option_map_or (is_between low high) seen.sport false
+is_met seen (Dport low high) = option_map_or (is_between low high) seen.dport false
+is_met seen (Proto p) = option_map_or (λ x. x == p) seen.proto false
+is_met seen (TagId id) = has_id id seen.tag
+is_met seen NoTag = is_bare seen.tag
+
+-- every clause is met
+abbrev pub is_fitting : Match → Seen → Bool
+is_fitting fit seen = list_all (is_met seen) fit.clauses

@@ -1,0 +1,28 @@
+//! The clauses that say which packets a chain or a rule takes.
+
+use crate::items::Items;
+
+/// Clauses that a packet has to meet, all of them. The empty list is met by every packet.
+#[derive(Debug, Drop)]
+pub struct Match {
+    pub clauses: Items<Clause>,
+}
+
+/// One demand on a packet.
+#[derive(Clone, Copy, Debug, PartialEq, Eq)]
+pub enum Clause {
+    /// The first bits of the source address, and how many of them count.
+    Src(u32, u8),
+    /// The first bits of the destination address, and how many of them count.
+    Dst(u32, u8),
+    /// The least and the greatest source port.
+    Sport(u16, u16),
+    /// The least and the greatest destination port.
+    Dport(u16, u16),
+    /// The protocol number.
+    Proto(u8),
+    /// The VLAN id of the outermost IEEE 802.1Q tag.
+    TagId(u16),
+    /// No tag.
+    NoTag,
+}

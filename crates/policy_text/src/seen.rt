@@ -1,0 +1,94 @@
+//! What of a packet the clauses look at.
+
+ghost use Rattle.std.specs.Prelude.{◌≡◌};
+ghost use Rattle.policy_text.specs.Meeting.{first_bits, is_within, is_between, has_id, is_bare, is_met, is_fitting};
+
+use crate::clause::{Clause, Match};
+
+/// The IEEE 802.1Q tags of a frame.
+#[derive(Clone, Copy, Debug, PartialEq, Eq)]
+pub enum TagSeen {
+    /// The frame is too short to tell.
+    Absent,
+    /// The frame has no tag.
+    Bare,
+    /// The VLAN id of the outermost tag.
+    Id(u16),
+}
+
+/// The values that the clauses look at, where the packet has them. Addresses have their first byte
+/// in the highest bits.
+#[derive(Clone, Copy, Debug, PartialEq, Eq)]
+pub struct Seen {
+    pub tag: TagSeen,
+    pub src: Option<u32>,
+    pub dst: Option<u32>,
+    pub sport: Option<u16>,
+    pub dport: Option<u16>,
+    pub proto: Option<u8>,
+}
+
+/// Does a packet meet every clause? A clause on an absent value isn't met, and a prefix length above
+/// the address's bits means all of them.
+pub fn fits(fit: &Match, seen: &Seen) -> bool
+    ensures { result ≡ is_fitting fit.now seen.now }
+{
+    fit.clauses.as_slice().iter().all(|c| is_met(seen, *c))
+}
+
+fn is_met(seen: &Seen, clause: Clause) -> bool
+    ensures { result ≡ is_met seen.now clause }
+{
+    match clause {
+        Clause::Src(prefix, bits) => seen.src.map_or(false, |a| is_within(prefix, bits, a)),
+        Clause::Dst(prefix, bits) => seen.dst.map_or(false, |a| is_within(prefix, bits, a)),
+        Clause::Sport(low, high) => seen.sport.map_or(false, |p| is_between(low, high, p)),
+        Clause::Dport(low, high) => seen.dport.map_or(false, |p| is_between(low, high, p)),
+        Clause::Proto(protocol) => seen.proto.map_or(false, |p| p == protocol),
+        Clause::TagId(id) => has_id(id, seen.tag),
+        Clause::NoTag => is_bare(seen.tag),
+    }
+}
+
+fn is_within(prefix: u32, bits: u8, address: u32) -> bool
+    ensures { result ≡ is_within prefix bits address }
+{
+    first_bits(bits, address) == first_bits(bits, prefix)
+}
+
+// The first bits of an address, as a number.
+fn first_bits(bits: u8, address: u32) -> u32
+    ensures { result ≡ first_bits bits address }
+{
+    if bits == 0 {
+        0
+    } else if bits < 32 {
+        address >> (32 - bits)
+    } else {
+        address
+    }
+}
+
+fn is_between(low: u16, high: u16, port: u16) -> bool
+    ensures { result ≡ is_between low high port }
+{
+    low <= port && port <= high
+}
+
+fn has_id(id: u16, tag: TagSeen) -> bool
+    ensures { result ≡ has_id id tag }
+{
+    match tag {
+        TagSeen::Id(n) => n == id,
+        _ => false,
+    }
+}
+
+fn is_bare(tag: TagSeen) -> bool
+    ensures { result ≡ is_bare tag }
+{
+    match tag {
+        TagSeen::Bare => true,
+        _ => false,
+    }
+}
