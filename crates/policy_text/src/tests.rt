@@ -37,6 +37,15 @@ fn faults_are_told(rt: HostRuntime) {
 }
 
 #[test]
+fn a_version_line_alone_is_a_policy(rt: HostRuntime) -> Result<(), Fail> {
+    let policy = parse(rt.alloc(), b"nfp 1")
+        .ok()
+        .ok_or("the line is a policy")?;
+    assert_eq!(rt; policy.chains.as_slice().len(), 0);
+    Ok(())
+}
+
+#[test]
 fn the_longest_text_is_read(rt: HostRuntime) -> Result<(), Fail> {
     let mut text = vec![in rt.alloc(); b'\n'; 1_048_571]?;
     text.extend_from_slice(b"nfp 1")?;
