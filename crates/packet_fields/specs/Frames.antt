@@ -6,7 +6,7 @@ use Rattle.std.specs.Prelude.{◌≡◌, ◌≤◌, ℕ, ◌+◌, ◌*◌, List,
 abbrev pub word : List ℕ → ℕ → ℕ
 word bytes at = slice_index bytes at * 256 + slice_index bytes (at + 1)
 
--- the identifier of a customer tag or of a service tag (IEEE 802.1Q, 9.6)
+-- the identifier of a customer tag or of a service tag (IEEE 802.1Q, 9.5)
 abbrev pub is_tpid : ℕ → Bool
 is_tpid n = (n == 0x8100) || (n == 0x88a8)
 
