@@ -9,11 +9,15 @@
 //! `specs/Profiles.antt`: whether a function reads or writes a field. To add or to remove a tag
 //! both reads and writes the list of tags, so nothing else needs to mention it.
 //!
+//! [`StageParts`] says how a stage of several functions side by side hands on the fields of a packet:
+//! shared, moved or copied ([`Mode`]), and what each branch touches ([`Touch`]).
+//!
 //! What a function does with the fields, and how functions are put into stages, is left out.
 #![tactic(auto)]
 
 mod field_set;
 mod kind;
+mod parts;
 mod rights;
 mod table;
 #[cfg(test)]
@@ -21,5 +25,6 @@ mod tests;
 
 pub use field_set::{FieldSet, all_fields};
 pub use kind::Kind;
+pub use parts::{Mode, StageParts, Touch};
 pub use rights::Profile;
 pub use table::profile;

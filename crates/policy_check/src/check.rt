@@ -9,7 +9,8 @@ use crate::cycle::{earliest, named_cycle};
 use crate::fault::{CheckFault, Order};
 use crate::priority::first_refusal;
 use crate::turns::take_turns;
-use policy_text::{ChainPolicy, Items};
+use item_list::Items;
+use policy_text::ChainPolicy;
 use std::alloc::Global;
 
 /// The order in which the functions of a chain take a packet.

@@ -3,7 +3,7 @@
 ghost use Rattle.std.specs.Prelude.{◌≡◌};
 
 use dependency_table::Action;
-use policy_text::Items;
+use item_list::Items;
 use std::alloc::{AllocError, AllocFailed};
 
 /// The order in which the functions of a chain take a packet.

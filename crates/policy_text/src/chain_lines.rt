@@ -9,12 +9,12 @@ use crate::clause::Match;
 use crate::draft::Draft;
 use crate::fault::{MatchFault, TextFault};
 use crate::form::syntax_at;
-use crate::items::Items;
 use crate::line::Line;
 use crate::matching::read_clauses;
 use crate::name::Name;
 use crate::policy::ChainPolicy;
 use crate::value::is_name;
+use item_list::Items;
 use std::alloc::{AllocError, Global};
 
 /// The most chains of a policy.

@@ -1,6 +1,6 @@
 //! The clauses that say which packets a chain or a rule takes.
 
-use crate::items::Items;
+use item_list::Items;
 
 /// Clauses that a packet has to meet, all of them. The empty list is met by every packet.
 #[derive(Debug, Drop)]

@@ -1,10 +1,14 @@
 //! The policy so far, while its text is read.
 
+ghost use Rattle.std.specs.Prelude.{◌≡◌, ◌<◌, length, OnOk};
+ghost use Rattle.policy_text.specs.Grammar.{set_up_latest};
+
 use crate::counting::{count_rules, is_declared, position_named};
-use crate::items::Items;
 use crate::policy::{ChainPolicy, FunctionDecl, Policy, Setting, Statement};
-use std::alloc::{AllocError, Global};
+use item_list::Items;
+use std::alloc::{AllocError, AllocFailed, Global};
 use std::marker::Model;
+use std::mem;
 
 /// The most functions of a policy.
 const MAX_FUNCTIONS: usize = 64;
@@ -144,12 +148,12 @@ impl Draft {
     }
 
     #[tactic(auto, using(crate::proofs::Latest::set_latest))]
-    pub fn add_setting(&mut self, setting: Setting) -> Result<(), AllocError>
+    pub fn add_setting(&mut self, alloc: Global, setting: Setting) -> Result<(), AllocError>
         requires { 0 < length (functions_here self.old) }
         ensures { OnOk result (self.new ≡ add_setting self.old setting) }
     {
         let last = self.chains.len() - 1;
-        self.chains[last].functions.push_setting(setting)?;
+        push_setting(alloc, &mut self.chains[last].functions, setting)?;
         Ok(())
     }
 
@@ -162,4 +166,22 @@ impl Draft {
         self.chains[last].statements.push(statement)?;
         Ok(())
     }
+}
+
+// Adds a setting to the last function.
+#[tactic(auto, using(crate::proofs::Latest::set_latest))]
+fn push_setting(
+    alloc: Global,
+    functions: &mut Items<FunctionDecl>,
+    setting: Setting,
+) -> Result<(), AllocFailed<Setting>>
+    requires { 0 < length functions.old }
+    ensures ok { OnOk result (functions.new ≡ set_up_latest functions.old setting) }
+    ensures count { length functions.new ≡ length functions.old }
+{
+    let mut declared = mem::replace(functions, Items::new(Vec::new(alloc))).into_vec();
+    let last = declared.len() - 1;
+    let pushed = declared[last].settings.push(setting);
+    *functions = Items::new(declared);
+    pushed
 }

@@ -7,9 +7,9 @@ ghost use Rattle.policy_text.specs.Clauses.{lead_of, leads, protocol_of, tag_of,
 
 use crate::clause::{Clause, Match};
 use crate::fault::MatchFault;
-use crate::items::Items;
 use crate::name::Word;
 use crate::value::{number, prefix, range};
+use item_list::Items;
 use std::alloc::{AllocError, Global};
 
 /// Reads clauses, each of a leading word and a value. Each leading word may stand once, and no words

@@ -1,9 +1,9 @@
 //! What a policy text says: chains of functions, with their settings and the orders among them.
 
 use crate::clause::Match;
-use crate::items::Items;
 use crate::name::{Name, Word};
 use action_profile::Kind;
+use item_list::Items;
 
 /// The service chains of a policy, in the order of the text.
 #[derive(Debug, Drop)]

@@ -8,12 +8,12 @@ use crate::chain_lines::chain_line;
 use crate::draft::Draft;
 use crate::fault::TextFault;
 use crate::form::{Slot, fit_form, in_chain, syntax_at};
-use crate::items::Items;
 use crate::line::Line;
 use crate::name::{Name, Word};
 use crate::order_lines::{order_line, position_line, priority_line};
 use crate::policy::{FunctionDecl, Setting};
 use action_profile::Kind;
+use item_list::Items;
 use std::alloc::{AllocError, Global};
 
 /// The most rules of a function.
@@ -108,7 +108,7 @@ fn set_line(alloc: Global, draft: &mut Draft, line: &Line<'_>) -> Result<(), Tex
     ensures { Gives (λ _. draft.new) result (set_line draft.old line.now) }
 {
     of_function(draft, line)?;
-    draft.add_setting(setting_of(alloc, line)?)?;
+    draft.add_setting(alloc, setting_of(alloc, line)?)?;
     Ok(())
 }
 
@@ -120,7 +120,7 @@ fn rule_line(alloc: Global, draft: &mut Draft, line: &Line<'_>) -> Result<(), Te
     if draft.rules_here() >= MAX_RULES {
         return Err(TextFault::TooManyRules(line.number()));
     }
-    draft.add_setting(setting_of(alloc, line)?)?;
+    draft.add_setting(alloc, setting_of(alloc, line)?)?;
     Ok(())
 }
 

@@ -1,6 +1,13 @@
 //! Lists that contracts see item by item.
+//!
+//! A clause that compares two values with a `Vec` in them compares its room and its place in memory
+//! as well. [`Items`] is a vector of which contracts see the items alone. It is made from a vector
+//! and gives it back, and neither takes memory.
+#![tactic(auto)]
 
-use crate::policy::{FunctionDecl, Setting};
+#[cfg(test)]
+mod tests;
+
 use std::alloc::AllocFailed;
 use std::marker::Model;
 
@@ -20,6 +27,7 @@ impl<T> Model for Items<T> {
 
 impl<T> Items<T> {
     ghost use Rattle.std.specs.Prelude.{◌≡◌, ◌++◌, ◌∷◌, [], is_ok, if◌then◌else◌};
+
     /// The items of a vector.
     pub fn new(items: Vec<T>) -> Self
         ensures { result ≡ items.items }
@@ -47,21 +55,5 @@ impl<T> Items<T> {
         ensures { self.new ≡ (if is_ok result then self.old ++ item ∷ [] else self.old) }
     {
         self.items.push(item)
-    }
-}
-
-impl Items<FunctionDecl> {
-    ghost use Rattle.std.specs.Prelude.{◌≡◌, ◌<◌, length, OnOk};
-    ghost use Rattle.policy_text.specs.Grammar.{set_up_latest};
-
-    /// Adds a setting to the last function.
-    #[tactic(auto, using(crate::proofs::Latest::set_latest))]
-    pub(crate) fn push_setting(&mut self, setting: Setting) -> Result<(), AllocFailed<Setting>>
-        requires { 0 < length self.old }
-        ensures ok { OnOk result (self.new ≡ set_up_latest self.old setting) }
-        ensures count { length self.new ≡ length self.old }
-    {
-        let last = self.items.len() - 1;
-        self.items[last].settings.push(setting)
     }
 }
