@@ -1,5 +1,5 @@
 -- How a firewall is made of its lines, one after another.
-use Rattle.std.proofs.Common.{◌≡◌, ◌<◌, ◌≤◌, ◌+◌, ◌∙◌, ℕ, List, [], ◌∷◌, ◌++◌, length, take, get_or, refl, sym, ap, append_assoc, arith, Bool, true, false}
+use Rattle.std.proofs.Common.{◌≡◌, ◌<◌, ◌≤◌, ◌+◌, ◌∙◌, ℕ, List, [], ◌∷◌, ◌++◌, length, take, get_or, refl, sym, ap, append_assoc, Bool, true, false}
 use Rattle.std.specs.Prelude.{if◌then◌else◌, Option, None, fold}
 use Rattle.std.proofs.lemmas.List.{take_more, take_all, append-nil}
 use Rattle.std.proofs.lemmas.List.Sums.{fold-append}

@@ -4,7 +4,6 @@ use Rattle.std.specs.Option.{option_map}
 use Rattle.std.specs.Str.{bytes_eq}
 use Rattle.policy_text.specs.declared.clause.Clause.{Clause}
 use Rattle.policy_text.specs.Clauses.{clauses_of}
-use Rattle.nf_filter.specs.declared.firewall.Rule.{Rule}
 use Rattle.nf_filter.specs.declared.lines.FirewallLine.{FirewallLine}
 use Rattle.nf_filter.specs.declared.lines.FirewallLine.TheVariants as lines
 

@@ -8,9 +8,10 @@ use Rattle.pcap_io.specs.Capture.{Body}
 use Rattle.pcap_io.specs.declared.capture.CaptureHead.{CaptureHead}
 use Rattle.pcap_io.specs.declared.capture.CaptureFault.{CaptureFault}
 use Rattle.chain_walk.specs.declared.walk.Fate.{Fate}
-use Rattle.plain_policy.specs.declared.policy.PlainFunction.{PlainFunction}
+use Rattle.policy_text.specs.declared.policy.ChainPolicy.{ChainPolicy}
+use Rattle.nfp_run.specs.declared.service.NamedFunction.{NamedFunction}
 use Rattle.nfp_run.specs.declared.outcome.Outcome.{Outcome}
-use Rattle.nfp_run.specs.declared.outcome.Outcome.TheVariants.{Done, Usage, NotBuilt, Capture, ReadFault, WriteFault, OutOfMemory}
+use Rattle.nfp_run.specs.declared.outcome.Outcome.TheVariants.{Done, Usage, Policy, NotBuilt, Capture, ReadFault, WriteFault, OutOfMemory}
 use Rattle.nfp_run.specs.declared.report.Totals.{Totals}
 use Rattle.nfp_run.specs.declared.stream.Ended.{Ended}
 use Rattle.nfp_run.specs.Slots.{IsLater, Puts, PutsPrefixes, IsBroken}
@@ -19,9 +20,12 @@ use Rattle.nfp_run.specs.Closing.{closed, close_of, Left, EndCause}
 use Rattle.std.specs.Option.{option_map}
 use Rattle.std.specs.Prelude.{Result}
 use Rattle.pcap_io.specs.Capture.{capture_of}
-use Rattle.plain_policy.specs.Policy.{policy_of}
-use Rattle.nfp_run.specs.Words.{Names}
-use Rattle.nfp_run.specs.Due.{Written, written_of, due_of_capture, due_of_policy, due_of_names}
+use Rattle.policy_judge.specs.declared.fault.Refusal.{Refusal}
+use Rattle.policy_judge.specs.declared.judged.Judged.{Judged}
+use Rattle.policy_judge.specs.Judging.{judged}
+use Rattle.nfp_run.specs.Services.{service_of}
+use Rattle.nfp_run.specs.Words.{Names, Run}
+use Rattle.nfp_run.specs.Due.{Written, written_of, due_of_capture, due_of_service, due_of_policy, due_of_command}
 use Rattle.nfp_run.specs.Emitted.{fates_of}
 use Rattle.nfp_run.specs.Running.{Counts, WritesAll, WriteBreaks}
 use Rattle.nfp_run.proofs.Putting.{earlier_cause}
@@ -62,7 +66,7 @@ closes due body ended fates old new counts leaves = go ended.fault refl
     go None e = subst (λ f. Left due body fates old new (closed ended.totals f)) (sym e) (leaves, sym counts.fault ∙ e, counts.read, counts.dropped)
     go (Some fault) e = subst (λ f. Left due body fates old new (closed ended.totals f)) (sym e) (leaves, sym counts.fault ∙ e)
 
-pub left_at_end : (out_name report_name chain : List ℕ) (fs : List PlainFunction) (head : CaptureHead) (body : Option Body) (old first second new : Slot → SlotView) (ended : Ended) →
+pub left_at_end : (out_name report_name : List ℕ) (chain : ChainPolicy) (fs : List NamedFunction) (head : CaptureHead) (body : Option Body) (old first second new : Slot → SlotView) (ended : Ended) →
     Attached out_name report_name old first second → WritesAll chain fs head body second new ended →
     IfSome body (λ b. Left (written_of chain fs head b) b (fates_of fs head.unit b.records) old new (close_of ended))
 left_at_end out_name report_name chain fs head body old first second new ended a all = if_both body _ _ _
@@ -75,10 +79,11 @@ broken_left due body fates old mid new (ReadFault slot) cause leaves = leaves
 broken_left due body fates old mid new OutOfMemory cause leaves = leaves
 broken_left due body fates old mid new Done cause leaves = leaves
 broken_left due body fates old mid new (Usage fault) cause leaves = leaves
+broken_left due body fates old mid new (Policy fault) cause leaves = leaves
 broken_left due body fates old mid new (NotBuilt slot) cause leaves = leaves
 broken_left due body fates old mid new (Capture fault) cause leaves = absurd cause
 
-pub left_at_break : (out_name report_name chain : List ℕ) (fs : List PlainFunction) (head : CaptureHead) (body : Option Body) (old first second new : Slot → SlotView) (e : Outcome) →
+pub left_at_break : (out_name report_name : List ℕ) (chain : ChainPolicy) (fs : List NamedFunction) (head : CaptureHead) (body : Option Body) (old first second new : Slot → SlotView) (e : Outcome) →
     Attached out_name report_name old first second → WriteBreaks chain fs head body second new e →
     IfSome body (λ b. Left (written_of chain fs head b) b (fates_of fs head.unit b.records) old new (Err e))
 left_at_break out_name report_name chain fs head body old first second new e a broken = if_some body _ _
@@ -90,10 +95,11 @@ ended_cause old mid new (ReadFault slot) later cause = earlier_cause old mid new
 ended_cause old mid new OutOfMemory later cause = tt
 ended_cause old mid new Done later cause = cause
 ended_cause old mid new (Usage fault) later cause = cause
+ended_cause old mid new (Policy fault) later cause = cause
 ended_cause old mid new (NotBuilt slot) later cause = cause
 ended_cause old mid new (Capture fault) later cause = tt
 
-pub cause_at_break : (old second new : Slot → SlotView) (e : Outcome) (chain : List ℕ) (fs : List PlainFunction) (head : CaptureHead) (body : Option Body) → IsLater old second → WriteBreaks chain fs head body second new e → EndCause old new e
+pub cause_at_break : (old second new : Slot → SlotView) (e : Outcome) (chain : ChainPolicy) (fs : List NamedFunction) (head : CaptureHead) (body : Option Body) → IsLater old second → WriteBreaks chain fs head body second new e → EndCause old new e
 cause_at_break old second new e chain fs head body later broken = ended_cause old second new e later broken.cause
 
 pub cause_at_end : (old new : Slot → SlotView) (ended : Ended) → IfErr (close_of ended) (EndCause old new)
@@ -111,6 +117,7 @@ left_prefixes due body fates old new (Ok totals) left = whole_prefixes due old n
 left_prefixes due body fates old new (Err (Capture fault)) left = whole_prefixes due old new left.0
 left_prefixes due body fates old new (Err Done) left = left
 left_prefixes due body fates old new (Err (Usage fault)) left = left
+left_prefixes due body fates old new (Err (Policy fault)) left = left
 left_prefixes due body fates old new (Err (NotBuilt slot)) left = left
 left_prefixes due body fates old new (Err (ReadFault slot)) left = left
 left_prefixes due body fates old new (Err (WriteFault slot)) left = left
@@ -122,21 +129,27 @@ prefixes_from due old mid new out report (a, b) = (
   subst (λ v. IsUntouched v (new slots.Report) ⊎ HoldsPrefix due.report v (new slots.Report)) report b,
 )
 
-told_prefixes : (names : Names) (p : Option (List ℕ)) (c : Option (List ℕ)) (left : Option Body) (policy : List ℕ × List PlainFunction) (head : CaptureHead) (old new : Slot → SlotView) →
-    IfSome p (λ bytes. policy_of bytes ≡ Some policy) → option_map capture_of c ≡ option_map (λ body. Ok (head, body)) left → IfSome left (λ body. LeavesPrefixes (Some (written_of policy.0 policy.1 head body)) old new) →
-    IfSome p (λ x. IfSome c (λ y. LeavesPrefixes (due_of_names (Some names) x y).written old new))
-told_prefixes names None c left policy head old new is whole prefixes = tt
-told_prefixes names (Some x) None left policy head old new is whole prefixes = tt
-told_prefixes names (Some x) (Some y) None policy head old new is whole prefixes = absurd cc
-told_prefixes names (Some x) (Some y) (Some body) policy head old new is whole prefixes =
-    let opened : capture_of y ≡ Ok (head, body) = cc in
-    subst (λ o. LeavesPrefixes (due_of_policy o y).written old new) (sym is) (subst (λ r. LeavesPrefixes (due_of_capture policy r).written old new) (sym opened) prefixes)
+-- what is written of a policy that runs
+served_prefixes : (names : Names) (r : Result Judged Refusal) (y : List ℕ) (service : ChainPolicy × List NamedFunction) (old new : Slot → SlotView) → service_of r ≡ Some service →
+    LeavesPrefixes (due_of_service (Some service) y).written old new → LeavesPrefixes (due_of_policy (Run names) r y).written old new
+served_prefixes names (Ok policy) y service old new is prefixes = subst (λ o. LeavesPrefixes (due_of_service o y).written old new) (sym is) prefixes
+served_prefixes names (Err refusal) y service old new is prefixes = absurd cc
 
-pub run_prefixes : (names : Names) (policy : List ℕ × List PlainFunction) (head : CaptureHead) (left : Option Body) (r : Result Totals Outcome) (old first mid new : Slot → SlotView) →
-    IfSome (old slots.Policy).bytes (λ bytes. policy_of bytes ≡ Some policy) → first slots.Capture ≡ old slots.Capture → option_map capture_of (first slots.Capture).bytes ≡ option_map (λ body. Ok (head, body)) left →
+told_prefixes : (names : Names) (p : Option (List ℕ)) (c : Option (List ℕ)) (left : Option Body) (service : ChainPolicy × List NamedFunction) (head : CaptureHead) (old new : Slot → SlotView) →
+    IfSome p (λ bytes. service_of (judged bytes) ≡ Some service) → option_map capture_of c ≡ option_map (λ body. Ok (head, body)) left → IfSome left (λ body. LeavesPrefixes (Some (written_of service.0 service.1 head body)) old new) →
+    IfSome p (λ x. IfSome c (λ y. LeavesPrefixes (due_of_command (Ok (Run names)) x y).written old new))
+told_prefixes names None c left service head old new is whole prefixes = tt
+told_prefixes names (Some x) None left service head old new is whole prefixes = tt
+told_prefixes names (Some x) (Some y) None service head old new is whole prefixes = absurd cc
+told_prefixes names (Some x) (Some y) (Some body) service head old new is whole prefixes =
+    let opened : capture_of y ≡ Ok (head, body) = cc in
+    served_prefixes names (judged x) y service old new is (subst (λ r. LeavesPrefixes (due_of_capture service r).written old new) (sym opened) prefixes)
+
+pub run_prefixes : (names : Names) (service : ChainPolicy × List NamedFunction) (head : CaptureHead) (left : Option Body) (r : Result Totals Outcome) (old first mid new : Slot → SlotView) →
+    IfSome (old slots.Policy).bytes (λ bytes. service_of (judged bytes) ≡ Some service) → first slots.Capture ≡ old slots.Capture → option_map capture_of (first slots.Capture).bytes ≡ option_map (λ body. Ok (head, body)) left →
     mid slots.Out ≡ old slots.Out → mid slots.Report ≡ old slots.Report →
-    IfSome left (λ body. Left (written_of policy.0 policy.1 head body) body (fates_of policy.1 head.unit body.records) mid new r) →
-    WhereTold old (λ p c. LeavesPrefixes (due_of_names (Some names) p c).written old new)
-run_prefixes names policy head left r old first mid new is same whole out report all =
-    told_prefixes names (old slots.Policy).bytes (old slots.Capture).bytes left policy head old new is (ap (λ v. option_map capture_of v.bytes) (sym same) ∙ whole)
-    (if_some left _ _ (λ body x. prefixes_from (written_of policy.0 policy.1 head body) old mid new out report (left_prefixes (written_of policy.0 policy.1 head body) body (fates_of policy.1 head.unit body.records) mid new r x)) all)
+    IfSome left (λ body. Left (written_of service.0 service.1 head body) body (fates_of service.1 head.unit body.records) mid new r) →
+    WhereTold old (λ p c. LeavesPrefixes (due_of_command (Ok (Run names)) p c).written old new)
+run_prefixes names service head left r old first mid new is same whole out report all =
+    told_prefixes names (old slots.Policy).bytes (old slots.Capture).bytes left service head old new is (ap (λ v. option_map capture_of v.bytes) (sym same) ∙ whole)
+    (if_some left _ _ (λ body x. prefixes_from (written_of service.0 service.1 head body) old mid new out report (left_prefixes (written_of service.0 service.1 head body) body (fates_of service.1 head.unit body.records) mid new r x)) all)

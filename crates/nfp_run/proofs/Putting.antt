@@ -155,6 +155,7 @@ earlier_cause old mid new (outcomes.ReadFault Note) l h = h
 earlier_cause old mid new outcomes.OutOfMemory l h = tt
 earlier_cause old mid new outcomes.Done l h = h
 earlier_cause old mid new (outcomes.Usage fault) l h = h
+earlier_cause old mid new (outcomes.Policy fault) l h = h
 earlier_cause old mid new (outcomes.NotBuilt slot) l h = h
 earlier_cause old mid new (outcomes.Capture fault) l h = h
 

@@ -1,20 +1,42 @@
 -- Worked rows, computed by the definitions.
-use Rattle.std.specs.Prelude.{◌≡◌, ℕ, List, [], ◌∷◌, ◌++◌, refl, take, Some, None, codes}
+use Rattle.std.specs.Prelude.{◌≡◌, ℕ, List, [], ◌∷◌, ◌++◌, refl, take, Some, None, Result, Ok, Err, codes}
 use Rattle.std.specs.Fmt.{digits}
-use Rattle.nfp_outside.specs.declared.slot.Slot.TheVariants.{Policy}
+use Rattle.nfp_outside.specs.declared.slot.Slot.TheVariants.{Policy as PolicySlot}
 use Rattle.pcap_io.specs.declared.capture.CaptureFault.TheVariants.{CutRecord, CutHead}
 use Rattle.pcap_io.specs.Capture.{body_of}
 use Rattle.pcap_io.specs.Written.{head_bytes, record_head}
 use Rattle.packet_fields.specs.Frames.{tags_len}
 use Rattle.packet_fields.specs.Packets.{is_ipv4, has_transport}
 use Rattle.packet_fields.specs.Checksums.{words, is_changed, change_sum, has_same_places}
+use Rattle.dependency_table.specs.Actions.{all_actions, actions}
+use Rattle.dependency_table.specs.Table.{pairs, first_forbidden, is_copied, copied, pair_of}
+use Rattle.dependency_table.specs.declared.action.Action.TheVariants.{Read, Write}
+use Rattle.packet_fields.specs.declared.field.Field.TheVariants.{SrcIp}
+use Rattle.policy_text.specs.Grammar.{policy_of_utf8, after_line}
+use Rattle.policy_text.specs.declared.fault.TextFault.TheVariants.{BadVersionLine, NotUtf8}
+use Rattle.policy_check.specs.declared.fault.CheckFault.TheVariants.{Cycle, PriorityForbidden}
+use Rattle.policy_check.specs.Checked.{answer_of}
+use Rattle.policy_check.specs.Cycles.{cycle_back, from_earliest, named_cycle}
+use Rattle.policy_check.specs.Edges.{edges_of}
+use Rattle.policy_check.specs.Refusals.{first_refusal}
+use Rattle.policy_check.specs.Turns.{taken, stuck}
+use Rattle.policy_judge.specs.declared.fault.PolicyFault.TheVariants.{Text, BadSetting, Check}
+use Rattle.policy_judge.specs.declared.fault.Refusal.{Refusal}
+use Rattle.policy_judge.specs.declared.judged.Judged.{Judged}
+use Rattle.policy_judge.specs.Judging.{judged_text, orders_from}
+use Rattle.policy_judge.specs.Lines.{text_line, setting_line, check_line}
+use Rattle.nf_filter.specs.Firewalls.{passes}
+use Rattle.nf_filter.specs.Lines.{line_of}
+use Rattle.plan_text.specs.Plan.{chain_plan}
 use Rattle.chain_walk.specs.Walk.{walk}
 use Rattle.chain_walk.specs.Packets.{fates}
-use Rattle.nfp_run.specs.declared.outcome.Outcome.TheVariants.{Done, Usage, NotBuilt, Capture}
-use Rattle.nfp_run.specs.declared.outcome.UsageFault.TheVariants.{Words}
-use Rattle.nfp_run.specs.Due.{due, Due}
+use Rattle.nfp_run.specs.declared.outcome.Outcome.TheVariants.{Done, Policy, NotBuilt, Capture}
+use Rattle.nfp_run.specs.declared.outcome.UsageFault.TheVariants.{NoCommand, UnknownCommand, Words, SameName}
+use Rattle.nfp_run.specs.Words.{Command, Run, Plan, command_of}
+use Rattle.nfp_run.specs.Due.{due_of_policy, nothing_but}
 use Rattle.nfp_run.specs.Emitted.{fates_of, emitted_all, out_bytes}
 use Rattle.nfp_run.specs.Notes.{done_text, capture_text}
+use Rattle.nfp_run.specs.Plan.{plan_text}
 use Rattle.nfp_run.specs.Report.{report_bytes, drop_text, drop_lines, total_line, function_line, last_line, summary}
 
 -- version 2.4, snaplen 65535, Ethernet
@@ -32,17 +54,18 @@ ninth = 0 ∷ 0 ∷ 0 ∷ 0 ∷ 0 ∷ 0 ∷ 0 ∷ 0 ∷ 42 ∷ 0 ∷ 0 ∷ 0 ∷
 capture : List ℕ
 capture = head ++ (first ++ (ninth ++ first))
 
-run_words : List (List ℕ)
-run_words = codes "run" ∷ codes "p" ∷ codes "c" ∷ codes "o" ∷ codes "r" ∷ []
+run_command : Command
+run_command = Run (record { policy = codes "p"; capture = codes "c"; out = codes "o"; report = codes "r" })
+
+-- what a text of ASCII characters is worth
+worth : List ℕ → Result Judged Refusal
+worth text = judged_text (policy_of_utf8 text)
 
 deny : List ℕ
 deny = codes "nfp 1\nchain main\nfn fw firewall\nrule deny src 10.0.0.9\n"
 
-exception : List ℕ
-exception = codes "nfp 1\nchain main\nfn fw firewall\nrule allow src 10.0.0.9\nrule deny src 10.0.0.0/8\n"
-
 -- the second packet is dropped
-deny_written : due run_words deny capture ≡ record {
+deny_written : due_of_policy run_command (worth deny) capture ≡ record {
   outcome = Done;
   written = Some (record {
     out = head ++ (first ++ first);
@@ -50,38 +73,26 @@ deny_written : due run_words deny capture ≡ record {
   });
   note = codes "done records 3 emitted 2 dropped 1\n";
 }
-unfolding head first ninth capture run_words deny body_of head_bytes record_head tags_len is_ipv4 walk fates fates_of emitted_all out_bytes report_bytes drop_text drop_lines total_line function_line last_line summary done_text digits words is_changed change_sum has_same_places has_transport
+unfolding run_command worth deny policy_of_utf8 after_line orders_from answer_of edges_of taken stuck named_cycle from_earliest cycle_back first_refusal head first ninth capture body_of head_bytes record_head tags_len is_ipv4 walk fates fates_of emitted_all out_bytes report_bytes drop_text drop_lines total_line function_line last_line summary done_text digits words is_changed change_sum has_same_places has_transport passes line_of
 deny_written = refl
 
--- the first rule that matches decides: only the second packet passes
-exception_written : due run_words exception capture ≡ record {
+-- b stands before a, and denies what no rule of its own allows: only the second packet passes it, and a drops that
+two : List ℕ
+two = codes "nfp 1\nchain main\nfn a firewall\nrule deny src 10.0.0.9\nfn b firewall\nset default deny\nrule allow proto udp dport 50-60 src 10.0.0.8/30\norder b before a\n"
+
+two_written : due_of_policy run_command (worth two) capture ≡ record {
   outcome = Done;
   written = Some (record {
-    out = head ++ ninth;
-    report = codes "nfp report 1\ndrop 1 main fw\ndrop 3 main fw\nrecords 3 emitted 1 dropped 2\nfunction main fw firewall\nend\n";
+    out = head;
+    report = codes "nfp report 1\ndrop 1 main b\ndrop 2 main a\ndrop 3 main b\nrecords 3 emitted 0 dropped 3\nfunction main a firewall\nfunction main b firewall\nend\n";
   });
-  note = codes "done records 3 emitted 1 dropped 2\n";
+  note = codes "done records 3 emitted 0 dropped 3\n";
 }
-unfolding head first ninth capture run_words exception body_of head_bytes record_head tags_len is_ipv4 walk fates fates_of emitted_all out_bytes report_bytes drop_text drop_lines total_line function_line last_line summary done_text digits words is_changed change_sum has_same_places has_transport
-exception_written = refl
-
--- a head whose numbers have their high byte first, in nanoseconds, goes out as it came
-big_head : List ℕ
-big_head = 161 ∷ 178 ∷ 60 ∷ 77 ∷ 0 ∷ 2 ∷ 0 ∷ 4 ∷ 0 ∷ 0 ∷ 0 ∷ 0 ∷ 0 ∷ 0 ∷ 0 ∷ 0 ∷ 0 ∷ 0 ∷ 255 ∷ 255 ∷ 0 ∷ 0 ∷ 0 ∷ 1 ∷ []
-
-big_written : due run_words deny big_head ≡ record {
-  outcome = Done;
-  written = Some (record {
-    out = big_head;
-    report = codes "nfp report 1\nrecords 0 emitted 0 dropped 0\nfunction main fw firewall\nend\n";
-  });
-  note = codes "done records 0 emitted 0 dropped 0\n";
-}
-unfolding big_head run_words deny body_of head_bytes fates fates_of emitted_all out_bytes report_bytes drop_lines total_line function_line last_line summary done_text digits
-big_written = refl
+unfolding run_command worth two policy_of_utf8 after_line orders_from answer_of edges_of taken stuck named_cycle from_earliest cycle_back first_refusal head first ninth capture body_of head_bytes record_head tags_len is_ipv4 walk fates fates_of emitted_all out_bytes report_bytes drop_text drop_lines total_line function_line last_line summary done_text digits words is_changed change_sum has_same_places has_transport passes line_of
+two_written = refl
 
 -- cut inside the third record: the two before it are done, and the report ends with the fault
-cut_written : due run_words deny (head ++ (first ++ (ninth ++ take 30 first))) ≡ record {
+cut_written : due_of_policy run_command (worth deny) (head ++ (first ++ (ninth ++ take 30 first))) ≡ record {
   outcome = Capture (CutRecord 3);
   written = Some (record {
     out = head ++ first;
@@ -89,35 +100,75 @@ cut_written : due run_words deny (head ++ (first ++ (ninth ++ take 30 first))) �
   });
   note = codes "capture: cut record 3\n";
 }
-unfolding head first ninth run_words deny body_of head_bytes record_head tags_len is_ipv4 walk fates fates_of emitted_all out_bytes report_bytes drop_text drop_lines total_line function_line last_line summary capture_text digits words is_changed change_sum has_same_places has_transport
+unfolding run_command worth deny capture_text policy_of_utf8 after_line orders_from answer_of edges_of taken stuck named_cycle from_earliest cycle_back first_refusal head first ninth capture body_of head_bytes record_head tags_len is_ipv4 walk fates fates_of emitted_all out_bytes report_bytes drop_text drop_lines total_line function_line last_line summary done_text digits words is_changed change_sum has_same_places has_transport passes line_of
 cut_written = refl
 
 -- a capture of no bytes has no head, and nothing is written
-no_head : due run_words deny [] ≡ record { outcome = Capture CutHead; written = None; note = codes "capture: cut head\n" }
-unfolding run_words deny capture_text
+no_head : due_of_policy run_command (worth deny) [] ≡ nothing_but (Capture CutHead) (codes "capture: cut head\n")
+unfolding run_command worth deny capture_text policy_of_utf8 after_line orders_from answer_of edges_of taken stuck named_cycle from_earliest cycle_back first_refusal
 no_head = refl
 
--- a policy without its last line feed isn't of the first form, and it counts before the capture
-open_line : due run_words (codes "nfp 1\nchain main") [] ≡ record { outcome = NotBuilt Policy; written = None; note = codes "not built: policy\n" }
-unfolding run_words
-open_line = refl
+-- what `sig` writes prevails, so `fw` comes first; a plan doesn't look at the capture
+plan_shown : due_of_policy (Plan (codes "p")) (worth (codes "nfp 1\nchain main\nfn sig signature\nfn fw firewall\npriority sig > fw\n")) [] ≡ nothing_but Done (codes "chain main\norder fw sig\n")
+unfolding worth plan_text chain_plan pair_of first_forbidden pairs actions all_actions is_copied copied policy_of_utf8 after_line orders_from answer_of edges_of taken stuck named_cycle from_earliest cycle_back first_refusal
+plan_shown = refl
 
--- three names, two equal names, a name that begins with a dash, an empty name
-refused : Due
-refused = record { outcome = Usage Words; written = None; note = codes "usage: words\n" }
+-- another kind than firewall doesn't run yet, and that counts before the capture
+monitor_unbuilt : due_of_policy run_command (worth (codes "nfp 1\nchain main\nfn m monitor\n")) [] ≡ nothing_but (NotBuilt PolicySlot) (codes "not built: policy\n")
+unfolding run_command worth policy_of_utf8 after_line orders_from answer_of edges_of taken stuck named_cycle from_earliest cycle_back first_refusal
+monitor_unbuilt = refl
 
-three_names : due (codes "run" ∷ codes "a" ∷ codes "b" ∷ codes "c" ∷ []) deny capture ≡ refused
-unfolding refused
+-- no text at all has no version line
+no_policy : due_of_policy run_command (worth []) [] ≡ nothing_but (Policy (Text BadVersionLine)) (codes "policy: bad version line\n")
+unfolding run_command worth text_line policy_of_utf8
+no_policy = refl
+
+-- bytes that are no UTF-8
+no_text : due_of_policy run_command (judged_text (Err (NotUtf8 0))) [] ≡ nothing_but (Policy (Text (NotUtf8 0))) (codes "policy: not utf-8 at 0\n")
+unfolding run_command text_line digits
+no_text = refl
+
+-- a line that a function refuses counts before a cycle
+bad_setting : due_of_policy run_command (worth (codes "nfp 1\nchain a\nfn f firewall\nrule pass\norder f before f\n")) [] ≡ nothing_but (Policy (BadSetting 4)) (codes "policy: line 4: bad setting\n")
+unfolding run_command worth setting_line digits line_of policy_of_utf8 after_line
+bad_setting = refl
+
+cycle : due_of_policy run_command (worth (codes "nfp 1\nchain main\nfn a monitor\nfn b monitor\norder a before b\npriority a > b\n")) []
+    ≡ nothing_but (Policy (Check 0 (Cycle (0 ∷ 1 ∷ [])))) (codes "policy: cycle a b\n")
+unfolding run_command worth check_line policy_of_utf8 after_line orders_from answer_of edges_of taken stuck named_cycle from_earliest cycle_back first_refusal
+cycle = refl
+
+-- a monitor over a nat, whose settings are not looked at yet
+forbidden : due_of_policy run_command (worth (codes "nfp 1\nchain main\nfn mon monitor\nfn n nat\n\n\n\npriority mon > n\n")) []
+    ≡ nothing_but (Policy (Check 0 (PriorityForbidden 0 1 8 (Write SrcIp) (Read SrcIp)))) (codes "policy: line 8: priority mon over n forbidden: write src before read src\n")
+unfolding run_command worth check_line digits pair_of first_forbidden pairs actions all_actions is_copied copied policy_of_utf8 after_line orders_from answer_of edges_of taken stuck named_cycle from_earliest cycle_back first_refusal
+forbidden = refl
+
+four : List (List ℕ)
+four = codes "p" ∷ codes "c" ∷ codes "o" ∷ codes "r" ∷ []
+
+run_read : command_of (codes "run" ∷ four) ≡ Ok run_command
+unfolding four run_command
+run_read = refl
+
+plan_read : command_of (codes "plan" ∷ codes "p" ∷ []) ≡ Ok (Plan (codes "p"))
+plan_read = refl
+
+no_words : command_of [] ≡ Err NoCommand
+no_words = refl
+
+other_word : command_of (codes "walk" ∷ four) ≡ Err UnknownCommand
+unfolding four
+other_word = refl
+
+three_names : command_of (codes "run" ∷ codes "a" ∷ codes "b" ∷ codes "c" ∷ []) ≡ Err Words
 three_names = refl
 
-equal_names : due (codes "run" ∷ codes "a" ∷ codes "b" ∷ codes "c" ∷ codes "b" ∷ []) deny capture ≡ refused
-unfolding refused
+equal_names : command_of (codes "run" ∷ codes "p" ∷ codes "c" ∷ codes "c" ∷ codes "r" ∷ []) ≡ Err SameName
 equal_names = refl
 
-dashed_name : due (codes "run" ∷ codes "a" ∷ codes "b" ∷ codes "-" ∷ codes "d" ∷ []) deny capture ≡ refused
-unfolding refused
+dashed_name : command_of (codes "run" ∷ codes "a" ∷ codes "b" ∷ codes "-" ∷ codes "d" ∷ []) ≡ Err Words
 dashed_name = refl
 
-empty_name : due (codes "run" ∷ codes "a" ∷ codes "b" ∷ [] ∷ codes "d" ∷ []) deny capture ≡ refused
-unfolding refused
+empty_name : command_of (codes "plan" ∷ [] ∷ []) ≡ Err Words
 empty_name = refl

@@ -16,30 +16,32 @@ use Rattle.pcap_io.specs.declared.capture.CaptureFault.{CaptureFault}
 use Rattle.chain_walk.specs.Packets.{fates}
 use Rattle.chain_walk.specs.declared.walk.Fate.{Fate}
 use Rattle.chain_walk.specs.declared.walk.Fate.TheVariants.{Out, Gone}
-use Rattle.plain_policy.specs.Chain.{named_step}
-use Rattle.plain_policy.specs.declared.policy.PlainFunction.{PlainFunction}
-use Rattle.plain_policy.proofs.Chaining.{chain_stays}
+use Rattle.nfp_run.specs.Services.{named_step}
+use Rattle.policy_text.specs.declared.policy.ChainPolicy.{ChainPolicy}
+use Rattle.nfp_run.specs.declared.service.NamedFunction.{NamedFunction}
+use Rattle.nfp_run.proofs.Serving.{chain_stays}
 use Rattle.nfp_run.specs.declared.outcome.Outcome.{Outcome}
 use Rattle.nfp_run.specs.declared.stream.Ended.{Ended}
+use Rattle.nfp_run.specs.Answers.{IsBodyFault}
 use Rattle.nfp_run.specs.Slots.{Puts, PutsPrefixes, IsBroken, Breaks}
 use Rattle.nfp_run.specs.Emitted.{packet_of, fate_of, fates_of, emitted, emitted_all}
 use Rattle.nfp_run.specs.Report.{drop_line, drop_lines, is_gone}
 use Rattle.nfp_run.specs.Running.{Goes, Counts, RunsAll, RunBreaks}
 use Rattle.nfp_run.proofs.Putting.{puts_none, puts_more, puts_is, breaks_more, breaks_longer, breaks_is, breaks_none}
 
-fates_next : (fs : List PlainFunction) (unit : TimeUnit) (r : PcapRecord) (rs : List PcapRecord) → fates_of fs unit (r ∷ rs) ≡ fate_of fs unit r ∷ fates_of fs unit rs
+fates_next : (fs : List NamedFunction) (unit : TimeUnit) (r : PcapRecord) (rs : List PcapRecord) → fates_of fs unit (r ∷ rs) ≡ fate_of fs unit r ∷ fates_of fs unit rs
 unfolding fates_of fates
 fates_next fs unit r rs = ap (λ gs. fate_of fs unit r ∷ fates named_step gs (map (packet_of unit) rs)) (chain_stays (time_of unit r) 1 fs r.frame)
 
-no_fates : (fs : List PlainFunction) (unit : TimeUnit) → fates_of fs unit [] ≡ []
+no_fates : (fs : List NamedFunction) (unit : TimeUnit) → fates_of fs unit [] ≡ []
 unfolding fates_of fates
 no_fates fs unit = refl
 
-fates-append : (fs : List PlainFunction) (unit : TimeUnit) (xs ys : List PcapRecord) → fates_of fs unit (xs ++ ys) ≡ fates_of fs unit xs ++ fates_of fs unit ys
+fates-append : (fs : List NamedFunction) (unit : TimeUnit) (xs ys : List PcapRecord) → fates_of fs unit (xs ++ ys) ≡ fates_of fs unit xs ++ fates_of fs unit ys
 fates-append fs unit [] ys = ap (λ l. l ++ fates_of fs unit ys) (sym (no_fates fs unit))
 fates-append fs unit (x ∷ xs) ys = fates_next fs unit x (xs ++ ys) ∙ ap (λ l. fate_of fs unit x ∷ l) (fates-append fs unit xs ys) ∙ ap (λ l. l ++ fates_of fs unit ys) (sym (fates_next fs unit x xs))
 
-pub length-fates : (fs : List PlainFunction) (unit : TimeUnit) (xs : List PcapRecord) → length (fates_of fs unit xs) ≡ length xs
+pub length-fates : (fs : List NamedFunction) (unit : TimeUnit) (xs : List PcapRecord) → length (fates_of fs unit xs) ≡ length xs
 length-fates fs unit [] = ap length (no_fates fs unit)
 length-fates fs unit (x ∷ xs) = ap length (fates_next fs unit x xs) ∙ ap suc (length-fates fs unit xs)
 
@@ -53,33 +55,33 @@ enumerate-append : {X : Type 0} (n : ℕ) (xs ys : List X) → enumerate_from n 
 enumerate-append n [] ys = ap (λ m. enumerate_from m ys) (omega arith)
 enumerate-append n (x ∷ xs) ys = ap (λ l. (n, x) ∷ l) (enumerate-append (n + 1) xs ys) ∙ ap (λ m. (n, x) ∷ enumerate_from (n + 1) xs ++ enumerate_from m ys) (omega arith)
 
-emitted-append : (order : Endian) (fs : List PlainFunction) (unit : TimeUnit) (xs ys : List PcapRecord) →
+emitted-append : (order : Endian) (fs : List NamedFunction) (unit : TimeUnit) (xs ys : List PcapRecord) →
     emitted_all order (xs ++ ys) (fates_of fs unit (xs ++ ys)) ≡ emitted_all order xs (fates_of fs unit xs) ++ emitted_all order ys (fates_of fs unit ys)
 unfolding emitted_all
 emitted-append order fs unit xs ys = ap (emitted_all order (xs ++ ys)) (fates-append fs unit xs ys)
     ∙ ap (flat_map (λ x. emitted order x.0 x.1)) (zip-append xs ys (fates_of fs unit xs) (fates_of fs unit ys) (length-fates fs unit xs))
     ∙ flat_map-append (λ x. emitted order x.0 x.1) (zip xs (fates_of fs unit xs)) (zip ys (fates_of fs unit ys))
 
-lines-append : (chain : List ℕ) (fs : List PlainFunction) (unit : TimeUnit) (xs ys : List PcapRecord) →
+lines-append : (chain : ChainPolicy) (fs : List NamedFunction) (unit : TimeUnit) (xs ys : List PcapRecord) →
     drop_lines chain fs 1 (fates_of fs unit (xs ++ ys)) ≡ drop_lines chain fs 1 (fates_of fs unit xs) ++ drop_lines chain fs (length xs + 1) (fates_of fs unit ys)
 unfolding drop_lines
 lines-append chain fs unit xs ys = ap (drop_lines chain fs 1) (fates-append fs unit xs ys)
     ∙ ap (flat_map (λ x. drop_line chain fs x.0 x.1)) (enumerate-append 1 (fates_of fs unit xs) (fates_of fs unit ys) ∙ ap (λ m. enumerate_from 1 (fates_of fs unit xs) ++ enumerate_from m (fates_of fs unit ys)) (let e = length-fates fs unit xs in omega arith))
     ∙ flat_map-append (λ x. drop_line chain fs x.0 x.1) (enumerate_from 1 (fates_of fs unit xs)) (enumerate_from (length xs + 1) (fates_of fs unit ys))
 
-gone-append : (fs : List PlainFunction) (unit : TimeUnit) (xs ys : List PcapRecord) → count_by is_gone (fates_of fs unit (xs ++ ys)) ≡ count_by is_gone (fates_of fs unit xs) + count_by is_gone (fates_of fs unit ys)
+gone-append : (fs : List NamedFunction) (unit : TimeUnit) (xs ys : List PcapRecord) → count_by is_gone (fates_of fs unit (xs ++ ys)) ≡ count_by is_gone (fates_of fs unit xs) + count_by is_gone (fates_of fs unit ys)
 gone-append fs unit xs ys = ap (count_by is_gone) (fates-append fs unit xs ys) ∙ sum_by-append (λ x. cond (is_gone x) 1 0) (fates_of fs unit xs) (fates_of fs unit ys)
 
 -- one record alone
-one_emitted : (order : Endian) (fs : List PlainFunction) (unit : TimeUnit) (r : PcapRecord) → emitted_all order (r ∷ []) (fates_of fs unit (r ∷ [])) ≡ emitted order r (fate_of fs unit r)
+one_emitted : (order : Endian) (fs : List NamedFunction) (unit : TimeUnit) (r : PcapRecord) → emitted_all order (r ∷ []) (fates_of fs unit (r ∷ [])) ≡ emitted order r (fate_of fs unit r)
 unfolding emitted_all
 one_emitted order fs unit r = ap (emitted_all order (r ∷ [])) (fates_next fs unit r [] ∙ ap (λ l. fate_of fs unit r ∷ l) (no_fates fs unit)) ∙ append-nil (emitted order r (fate_of fs unit r))
 
-one_line : (chain : List ℕ) (fs : List PlainFunction) (unit : TimeUnit) (n : ℕ) (r : PcapRecord) → drop_lines chain fs n (fates_of fs unit (r ∷ [])) ≡ drop_line chain fs n (fate_of fs unit r)
+one_line : (chain : ChainPolicy) (fs : List NamedFunction) (unit : TimeUnit) (n : ℕ) (r : PcapRecord) → drop_lines chain fs n (fates_of fs unit (r ∷ [])) ≡ drop_line chain fs n (fate_of fs unit r)
 unfolding drop_lines
 one_line chain fs unit n r = ap (drop_lines chain fs n) (fates_next fs unit r [] ∙ ap (λ l. fate_of fs unit r ∷ l) (no_fates fs unit)) ∙ append-nil (drop_line chain fs n (fate_of fs unit r))
 
-one_gone : (fs : List PlainFunction) (unit : TimeUnit) (r : PcapRecord) → count_by is_gone (fates_of fs unit (r ∷ [])) ≡ (if is_gone (fate_of fs unit r) then 1 else 0)
+one_gone : (fs : List NamedFunction) (unit : TimeUnit) (r : PcapRecord) → count_by is_gone (fates_of fs unit (r ∷ [])) ≡ (if is_gone (fate_of fs unit r) then 1 else 0)
 one_gone fs unit r = ap (count_by is_gone) (fates_next fs unit r [] ∙ ap (λ l. fate_of fs unit r ∷ l) (no_fates fs unit)) ∙ omega arith
 
 -- records before those of a body
@@ -95,7 +97,7 @@ with_none None = refl
 with_none (Some body) = refl
 
 -- These records ran so far, and what is left of the body is this.
-pub record IsRunning (chain : List ℕ) (fs : List PlainFunction) (unit : TimeUnit) (order : Endian) (start left : Option Body) (records dropped : ℕ) (old now : Slot → SlotView) : Type 0 where
+pub record IsRunning (chain : ChainPolicy) (fs : List NamedFunction) (unit : TimeUnit) (order : Endian) (start left : Option Body) (records dropped : ℕ) (old now : Slot → SlotView) : Type 0 where
   pub done : List PcapRecord
   pub puts : Puts (emitted_all order done (fates_of fs unit done)) (drop_lines chain fs 1 (fates_of fs unit done)) old now
   pub read : records ≡ length done
@@ -103,15 +105,15 @@ pub record IsRunning (chain : List ℕ) (fs : List PlainFunction) (unit : TimeUn
   pub within : dropped ≤ records
   pub whole : start ≡ option_map (with_records done) left
 
-no_emitted : (order : Endian) (fs : List PlainFunction) (unit : TimeUnit) → emitted_all order [] (fates_of fs unit []) ≡ []
+no_emitted : (order : Endian) (fs : List NamedFunction) (unit : TimeUnit) → emitted_all order [] (fates_of fs unit []) ≡ []
 unfolding emitted_all
 no_emitted order fs unit = refl
 
-no_lines : (chain : List ℕ) (fs : List PlainFunction) (unit : TimeUnit) → drop_lines chain fs 1 (fates_of fs unit []) ≡ []
+no_lines : (chain : ChainPolicy) (fs : List NamedFunction) (unit : TimeUnit) → drop_lines chain fs 1 (fates_of fs unit []) ≡ []
 unfolding drop_lines
 no_lines chain fs unit = ap (drop_lines chain fs 1) (no_fates fs unit)
 
-pub run_begins : (chain : List ℕ) (fs : List PlainFunction) (unit : TimeUnit) (order : Endian) (start : Option Body) (old : Slot → SlotView) → IsRunning chain fs unit order start start 0 0 old old
+pub run_begins : (chain : ChainPolicy) (fs : List NamedFunction) (unit : TimeUnit) (order : Endian) (start : Option Body) (old : Slot → SlotView) → IsRunning chain fs unit order start start 0 0 old old
 run_begins chain fs unit order start old = record {
   done = [];
   puts = puts_is [] _ [] _ old old (sym (no_emitted order fs unit)) (sym (no_lines chain fs unit)) (puts_none old);
@@ -126,7 +128,7 @@ at_most_one (Out frame) = omega arith
 at_most_one (Gone position) = omega arith
 
 -- a record was read (putting nothing), and its packet walked
-pub run_goes_on : (chain : List ℕ) (fs : List PlainFunction) (unit : TimeUnit) (order : Endian) (start left left' : Option Body) (r : PcapRecord) (records dropped records' dropped' : ℕ) (old mid now new : Slot → SlotView) →
+pub run_goes_on : (chain : ChainPolicy) (fs : List NamedFunction) (unit : TimeUnit) (order : Endian) (start left left' : Option Body) (r : PcapRecord) (records dropped records' dropped' : ℕ) (old mid now new : Slot → SlotView) →
     IsRunning chain fs unit order start left records dropped old mid → left ≡ option_map (with_record r) left' → Puts [] [] mid now →
     Puts (emitted order r (fate_of fs unit r)) (drop_line chain fs (records + 1) (fate_of fs unit r)) now new →
     records' ≡ records + 1 → dropped' ≡ dropped + (if is_gone (fate_of fs unit r) then 1 else 0) →
@@ -160,23 +162,24 @@ pub broken_goes : (out report : List ℕ) (old new : Slot → SlotView) (e : Out
 broken_goes out report old new e b = record { out_name = b.prefixes.in_out.appended.same_name; report_name = b.prefixes.in_report.appended.same_name; later = b.prefixes.later }
 
 -- nothing is left, or a fault ends the capture
-pub run_ends : (chain : List ℕ) (fs : List PlainFunction) (unit : TimeUnit) (order : Endian) (start left : Option Body) (ended : Ended) (old mid new : Slot → SlotView) →
-    IsRunning chain fs unit order start left ended.totals.records ended.totals.dropped old mid → IfSome left (λ b. b ≡ record { records = []; fault = ended.fault }) → Puts [] [] mid new →
+pub run_ends : (chain : ChainPolicy) (fs : List NamedFunction) (unit : TimeUnit) (order : Endian) (start left : Option Body) (ended : Ended) (old mid new : Slot → SlotView) →
+    IsRunning chain fs unit order start left ended.totals.records ended.totals.dropped old mid → IfSome left (λ b. b ≡ record { records = []; fault = ended.fault }) → IfSome ended.fault IsBodyFault → Puts [] [] mid new →
     RunsAll chain fs unit order start old new ended
-run_ends chain fs unit order start left ended old mid new run empty reads =
+run_ends chain fs unit order start left ended old mid new run empty kind reads =
     let all = settled start left run.done ended.fault run.whole empty in
     let puts : Puts (emitted_all order run.done (fates_of fs unit run.done)) (drop_lines chain fs 1 (fates_of fs unit run.done)) old new =
     puts_is _ _ _ _ old new (append-nil (emitted_all order run.done (fates_of fs unit run.done))) (append-nil (drop_lines chain fs 1 (fates_of fs unit run.done))) (puts_more _ _ [] [] old mid new run.puts reads) in
     record {
       goes = goes_by _ _ old new puts;
       within = run.within;
+      kind = kind;
       counts = if_some start _ _ (λ b is. subst (λ (x : Body). Counts x (fates_of fs unit x.records) ended) (sym is)
           (record { read = run.read ∙ sym (length-fates fs unit run.done); dropped = run.gone; fault = refl })) all;
       puts = if_some start _ _ (λ b is. subst (λ (x : Body). Puts (emitted_all order x.records (fates_of fs unit x.records)) (drop_lines chain fs 1 (fates_of fs unit x.records)) old new) (sym is) puts) all;
     }
 
 -- these records are the first of the body
-front : (chain : List ℕ) (fs : List PlainFunction) (unit : TimeUnit) (order : Endian) (start left : Option Body) (done : List PcapRecord) (old new : Slot → SlotView) (e : Outcome) →
+front : (chain : ChainPolicy) (fs : List NamedFunction) (unit : TimeUnit) (order : Endian) (start left : Option Body) (done : List PcapRecord) (old new : Slot → SlotView) (e : Outcome) →
     start ≡ option_map (with_records done) left → Breaks (emitted_all order done (fates_of fs unit done)) (drop_lines chain fs 1 (fates_of fs unit done)) old new e →
     IfSome start (λ b. PutsPrefixes (emitted_all order b.records (fates_of fs unit b.records)) (drop_lines chain fs 1 (fates_of fs unit b.records)) old new)
 front chain fs unit order start None done old new e whole breaks =
@@ -187,7 +190,7 @@ front chain fs unit order start (Some left) done old new e whole breaks =
     (breaks_longer _ _ (emitted_all order left.records (fates_of fs unit left.records)) (drop_lines chain fs (length done + 1) (fates_of fs unit left.records)) old new e breaks)).prefixes
 
 -- reading the next record was refused
-pub run_unread : (chain : List ℕ) (fs : List PlainFunction) (unit : TimeUnit) (order : Endian) (start left : Option Body) (records dropped : ℕ) (old mid new : Slot → SlotView) (e : Outcome) →
+pub run_unread : (chain : ChainPolicy) (fs : List NamedFunction) (unit : TimeUnit) (order : Endian) (start left : Option Body) (records dropped : ℕ) (old mid new : Slot → SlotView) (e : Outcome) →
     IsRunning chain fs unit order start left records dropped old mid → Puts [] [] mid new → IsBroken mid new e → RunBreaks chain fs unit order start old new e
 run_unread chain fs unit order start left records dropped old mid new e run reads cause =
     let breaks : Breaks (emitted_all order run.done (fates_of fs unit run.done)) (drop_lines chain fs 1 (fates_of fs unit run.done)) old new e =
@@ -196,7 +199,7 @@ run_unread chain fs unit order start left records dropped old mid new e run read
     record { goes = broken_goes _ _ old new e breaks; cause = breaks.cause; prefixes = front chain fs unit order start left run.done old new e run.whole breaks }
 
 -- writing the next record or its line was refused
-pub run_unwritten : (chain : List ℕ) (fs : List PlainFunction) (unit : TimeUnit) (order : Endian) (start left left' : Option Body) (r : PcapRecord) (records dropped : ℕ) (old mid now new : Slot → SlotView) (e : Outcome) →
+pub run_unwritten : (chain : ChainPolicy) (fs : List NamedFunction) (unit : TimeUnit) (order : Endian) (start left left' : Option Body) (r : PcapRecord) (records dropped : ℕ) (old mid now new : Slot → SlotView) (e : Outcome) →
     IsRunning chain fs unit order start left records dropped old mid → left ≡ option_map (with_record r) left' → Puts [] [] mid now →
     Breaks (emitted order r (fate_of fs unit r)) (drop_line chain fs (records + 1) (fate_of fs unit r)) now new e → RunBreaks chain fs unit order start old new e
 run_unwritten chain fs unit order start left left' r records dropped old mid now new e run taken reads refused =

@@ -5,20 +5,24 @@ use Rattle.nfp_outside.specs.declared.slot.Slot.{Slot}
 use Rattle.nfp_outside.specs.declared.slot.Slot.TheVariants as slots
 use Rattle.nfp_outside.specs.Outside.{SlotView, IsRisen}
 use Rattle.nfp_run.specs.declared.outcome.Outcome.{Outcome}
-use Rattle.nfp_run.specs.declared.outcome.Outcome.TheVariants.{Done, NotBuilt, ReadFault, WriteFault, OutOfMemory}
-use Rattle.nfp_run.specs.declared.report.Totals.{Totals}
-use Rattle.nfp_run.specs.Words.{Names}
-use Rattle.nfp_run.specs.Closing.{outcome_seen, unnoted, Notes}
-use Rattle.nfp_run.specs.Answers.{HasNames, name_of, ReachesCapture, RefusalCause, ReadFaultCause, WriteFaultCause}
-use Rattle.nfp_run.proofs.Answering.{Called, policy_beside, capture_beside, out_beside, report_beside}
+use Rattle.nfp_run.specs.declared.outcome.Outcome.TheVariants.{Done, Usage, Policy, NotBuilt, Capture, ReadFault, WriteFault, OutOfMemory}
+use Rattle.policy_judge.specs.declared.fault.PolicyFault.{PolicyFault}
+use Rattle.nfp_run.specs.declared.ending.Ending.{Ending}
+use Rattle.nfp_run.specs.declared.outcome.UsageFault.{UsageFault}
+use Rattle.nfp_run.specs.Words.{Command}
+use Rattle.nfp_run.specs.Closing.{outcome_seen, untold, Notes}
+use Rattle.nfp_run.specs.Due.{due_of_command}
+use Rattle.nfp_run.specs.Answers.{IsDue, WhereTold, HasNames, name_of, AttachesDue, ReachesCapture, PolicyCause, NotBuiltCause, ReadFaultCause, WriteFaultCause}
+use Rattle.nfp_run.proofs.Attaching.{attaches_to, attaches_unmade, attaches_untold, reaches_unmade, reaches_untold}
+use Rattle.nfp_run.proofs.Answering.{Called, called_done, policy_beside, capture_beside, out_beside, report_beside}
 
-note_name : (ended : Result Totals Outcome) (result : Outcome) (old new : SlotView) → Notes ended old new result → new.name ≡ old.name
+note_name : (ended : Ending) (result : Outcome) (old new : SlotView) → Notes ended old new result → new.name ≡ old.name
 note_name ended result old new (inl (is, a)) = a.same_name
 note_name ended result old new (inr (inl (is, a))) = a.appended.same_name
 note_name ended result old new (inr (inr (is, r, a))) = a.appended.same_name
 
-pub called_names : (names : Option Names) (old mid new : Slot → SlotView) (ended : Result Totals Outcome) (result : Outcome) → Called names old mid new ended result → HasNames names new
-called_names names old mid new ended result called = go names called.ran.names_are
+pub called_names : (command : Result Command UsageFault) (old mid new : Slot → SlotView) (ended : Ending) (result : Outcome) → Called command old mid new ended result → HasNames command new
+called_names command old mid new ended result called = go command called.ran.names_are
   where
     same : (s : Slot) → (new s).name ≡ (mid s).name
     same slots.Policy = ap (λ v. v.name) (called.beside slots.Policy policy_beside)
@@ -27,70 +31,122 @@ called_names names old mid new ended result called = go names called.ran.names_a
     same slots.Report = ap (λ v. v.name) (called.beside slots.Report report_beside)
     same slots.Note = note_name ended result (mid slots.Note) (new slots.Note) called.notes
 
-    one : (n : Names) (s : Slot) → ((mid s).name ≡ None) ⊎ ((mid s).name ≡ name_of n s) → ((new s).name ≡ None) ⊎ ((new s).name ≡ name_of n s)
+    one : (n : Command) (s : Slot) → ((mid s).name ≡ None) ⊎ ((mid s).name ≡ name_of n s) → ((new s).name ≡ None) ⊎ ((new s).name ≡ name_of n s)
     one n s (inl h) = inl (same s ∙ h)
     one n s (inr h) = inr (same s ∙ h)
 
-    go : (n : Option Names) → HasNames n mid → HasNames n new
-    go None h = λ s. same s ∙ h s
-    go (Some n) h = λ s. one n s (h s)
+    go : (n : Result Command UsageFault) → HasNames n mid → HasNames n new
+    go (Err fault) h = λ s. same s ∙ h s
+    go (Ok n) h = λ s. one n s (h s)
 
 -- an outcome that is none of Note's own was there before
-unnoted_seen : (ended : Result Totals Outcome) (o : Outcome) → unnoted ended ≡ o → o ≢ WriteFault slots.Note → outcome_seen ended ≡ o
-unnoted_seen (Ok totals) o e other = absurd (other (sym e))
-unnoted_seen (Err outcome) o e other = e
+untold_seen : (seen o : Outcome) → untold seen ≡ o → o ≢ WriteFault slots.Note → seen ≡ o
+untold_seen Done o e other = absurd (other (sym e))
+untold_seen (Usage fault) o e other = e
+untold_seen (Policy fault) o e other = e
+untold_seen (NotBuilt s) o e other = e
+untold_seen (Capture fault) o e other = e
+untold_seen (ReadFault s) o e other = e
+untold_seen (WriteFault s) o e other = e
+untold_seen OutOfMemory o e other = e
 
-seen_before : (ended : Result Totals Outcome) (result o : Outcome) (old new : SlotView) → Notes ended old new result → result ≡ o → o ≢ OutOfMemory → o ≢ WriteFault slots.Note → outcome_seen ended ≡ o
+seen_before : (ended : Ending) (result o : Outcome) (old new : SlotView) → Notes ended old new result → result ≡ o → o ≢ OutOfMemory → o ≢ WriteFault slots.Note → outcome_seen ended ≡ o
 seen_before ended result o old new (inl (is, a)) e some other = sym is ∙ e
 seen_before ended result o old new (inr (inl (is, a))) e some other = absurd (some (sym e ∙ is))
-seen_before ended result o old new (inr (inr (is, r, a))) e some other = unnoted_seen ended o (sym is ∙ e) other
+seen_before ended result o old new (inr (inr (is, r, a))) e some other = untold_seen (outcome_seen ended) o (sym is ∙ e) other
 
-refusal_to : (old mid new : Slot → SlotView) (s : Slot) → new slots.Capture ≡ mid slots.Capture → RefusalCause old mid s → RefusalCause old new s
-refusal_to old mid new slots.Policy p (a, b) = (a, ap (λ v. v.name) p ∙ b)
-refusal_to old mid new slots.Capture p h = h
-refusal_to old mid new slots.Out p h = h
-refusal_to old mid new slots.Report p h = h
-refusal_to old mid new slots.Note p h = h
+capture_name : (mid new : Slot → SlotView) → new slots.Capture ≡ mid slots.Capture → (mid slots.Capture).name ≡ None → (new slots.Capture).name ≡ None
+capture_name mid new p h = ap (λ v. v.name) p ∙ h
 
-pub called_refused : (names : Option Names) (old mid new : Slot → SlotView) (ended : Result Totals Outcome) (result : Outcome) → Called names old mid new ended result →
-    (s : Slot) → result ≡ NotBuilt s → RefusalCause old new s
-called_refused names old mid new ended result called s e = refusal_to old mid new s (called.beside slots.Capture capture_beside)
-    (called.ran.refused s (seen_before ended result (NotBuilt s) (mid slots.Note) (new slots.Note) called.notes e (λ h. cc) (λ h. cc)))
+pub called_refused : (command : Result Command UsageFault) (old mid new : Slot → SlotView) (ended : Ending) (result : Outcome) → Called command old mid new ended result →
+    (fault : PolicyFault) → result ≡ Policy fault → PolicyCause command old new fault
+called_refused command old mid new ended result called fault e =
+    let cause = called.ran.refused fault (seen_before ended result (Policy fault) (mid slots.Note) (new slots.Note) called.notes e (λ h. cc) (λ h. cc)) in
+    (cause.0, cause.1, capture_name mid new (called.beside slots.Capture capture_beside) cause.2)
 
-read_to : (old mid new : Slot → SlotView) (s : Slot) → ((x : Slot) → x ≢ slots.Note → new x ≡ mid x) → ReadFaultCause old mid s → ReadFaultCause old new s
-read_to old mid new slots.Policy beside (a, b) = (subst (λ v. IsRisen (old slots.Policy).faults v.faults) (sym (beside slots.Policy policy_beside)) a, ap (λ v. v.name) (beside slots.Capture capture_beside) ∙ b)
-read_to old mid new slots.Capture beside (a, b) = (subst (λ v. IsRisen (old slots.Capture).faults v.faults) (sym (beside slots.Capture capture_beside)) a, b)
-read_to old mid new slots.Out beside h = h
-read_to old mid new slots.Report beside h = h
-read_to old mid new slots.Note beside h = h
+built_to : (command : Result Command UsageFault) (old mid new : Slot → SlotView) (s : Slot) → new slots.Capture ≡ mid slots.Capture → NotBuiltCause command old mid s → NotBuiltCause command old new s
+built_to command old mid new slots.Policy p h = (h.0, h.1, capture_name mid new p h.2)
+built_to command old mid new slots.Capture p h = h
+built_to command old mid new slots.Out p h = h
+built_to command old mid new slots.Report p h = h
+built_to command old mid new slots.Note p h = h
 
-pub called_read_faults : (names : Option Names) (old mid new : Slot → SlotView) (ended : Result Totals Outcome) (result : Outcome) → Called names old mid new ended result →
-    (s : Slot) → result ≡ ReadFault s → ReadFaultCause old new s
-called_read_faults names old mid new ended result called s e = read_to old mid new s called.beside
+pub called_not_built : (command : Result Command UsageFault) (old mid new : Slot → SlotView) (ended : Ending) (result : Outcome) → Called command old mid new ended result →
+    (s : Slot) → result ≡ NotBuilt s → NotBuiltCause command old new s
+called_not_built command old mid new ended result called s e = built_to command old mid new s (called.beside slots.Capture capture_beside)
+    (called.ran.not_built s (seen_before ended result (NotBuilt s) (mid slots.Note) (new slots.Note) called.notes e (λ h. cc) (λ h. cc)))
+
+read_to : (command : Result Command UsageFault) (old mid new : Slot → SlotView) (s : Slot) → ((x : Slot) → x ≢ slots.Note → new x ≡ mid x) → ReadFaultCause command old mid s → ReadFaultCause command old new s
+read_to command old mid new slots.Policy beside h = (h.0, subst (λ v. IsRisen (old slots.Policy).faults v.faults) (sym (beside slots.Policy policy_beside)) h.1, capture_name mid new (beside slots.Capture capture_beside) h.2)
+read_to command old mid new slots.Capture beside h = (h.0, subst (λ v. IsRisen (old slots.Capture).faults v.faults) (sym (beside slots.Capture capture_beside)) h.1, h.2)
+read_to command old mid new slots.Out beside h = h
+read_to command old mid new slots.Report beside h = h
+read_to command old mid new slots.Note beside h = h
+
+pub called_read_faults : (command : Result Command UsageFault) (old mid new : Slot → SlotView) (ended : Ending) (result : Outcome) → Called command old mid new ended result →
+    (s : Slot) → result ≡ ReadFault s → ReadFaultCause command old new s
+called_read_faults command old mid new ended result called s e = read_to command old mid new s called.beside
     (called.ran.read_faults s (seen_before ended result (ReadFault s) (mid slots.Note) (new slots.Note) called.notes e (λ h. cc) (λ h. cc)))
 
-unnoted_policy : (ended : Result Totals Outcome) (old : Slot → SlotView) → unnoted ended ≡ WriteFault slots.Note → (outcome_seen ended ≡ WriteFault slots.Note → ⊥) → outcome_seen ended ≡ Done
-unnoted_policy (Ok totals) old e none = refl
-unnoted_policy (Err outcome) old e none = absurd (none e)
+-- Note's fault takes the place of work that was done
+untold_done : (seen : Outcome) → untold seen ≡ WriteFault slots.Note → (seen ≡ WriteFault slots.Note → ⊥) → seen ≡ Done
+untold_done Done e none = refl
+untold_done (Usage fault) e none = absurd (none e)
+untold_done (Policy fault) e none = absurd (none e)
+untold_done (NotBuilt s) e none = absurd (none e)
+untold_done (Capture fault) e none = absurd (none e)
+untold_done (ReadFault s) e none = absurd (none e)
+untold_done (WriteFault s) e none = absurd (none e)
+untold_done OutOfMemory e none = absurd (none e)
 
-pub called_write_faults : (names : Option Names) (old mid new : Slot → SlotView) (ended : Result Totals Outcome) (result : Outcome) → Called names old mid new ended result →
-    (s : Slot) → result ≡ WriteFault s → WriteFaultCause old new s
-called_write_faults names old mid new ended result called slots.Out e =
+pub called_write_faults : (command : Result Command UsageFault) (old mid new : Slot → SlotView) (ended : Ending) (result : Outcome) → Called command old mid new ended result →
+    (s : Slot) → result ≡ WriteFault s → WriteFaultCause command old new s
+called_write_faults command old mid new ended result called slots.Out e =
     let cause = called.ran.write_faults slots.Out (seen_before ended result (WriteFault slots.Out) (mid slots.Note) (new slots.Note) called.notes e (λ h. cc) (λ h. cc)) in
-    (subst (λ v. IsRisen (old slots.Out).faults v.faults) (sym (called.beside slots.Out out_beside)) cause.0, cause.1, cause.2)
-called_write_faults names old mid new ended result called slots.Report e =
+    (cause.0, subst (λ v. IsRisen (old slots.Out).faults v.faults) (sym (called.beside slots.Out out_beside)) cause.1, cause.2, cause.3)
+called_write_faults command old mid new ended result called slots.Report e =
     let cause = called.ran.write_faults slots.Report (seen_before ended result (WriteFault slots.Report) (mid slots.Note) (new slots.Note) called.notes e (λ h. cc) (λ h. cc)) in
-    (subst (λ v. IsRisen (old slots.Report).faults v.faults) (sym (called.beside slots.Report report_beside)) cause.0, cause.1, cause.2)
-called_write_faults names old mid new ended result called slots.Policy e =
+    (cause.0, subst (λ v. IsRisen (old slots.Report).faults v.faults) (sym (called.beside slots.Report report_beside)) cause.1, cause.2, cause.3)
+called_write_faults command old mid new ended result called slots.Policy e =
     called.ran.write_faults slots.Policy (seen_before ended result (WriteFault slots.Policy) (mid slots.Note) (new slots.Note) called.notes e (λ h. cc) (λ h. cc))
-called_write_faults names old mid new ended result called slots.Capture e =
+called_write_faults command old mid new ended result called slots.Capture e =
     called.ran.write_faults slots.Capture (seen_before ended result (WriteFault slots.Capture) (mid slots.Note) (new slots.Note) called.notes e (λ h. cc) (λ h. cc))
-called_write_faults names old mid new ended result called slots.Note e = by_notes called.notes
+called_write_faults command old mid new ended result called slots.Note e = by_notes called.notes
   where
-    by_notes : Notes ended (mid slots.Note) (new slots.Note) result → WriteFaultCause old new slots.Note
+    by_notes : Notes ended (mid slots.Note) (new slots.Note) result → WriteFaultCause command old new slots.Note
     by_notes (inl (is, a)) = absurd (called.ran.no_note_fault (sym is ∙ e))
     by_notes (inr (inl (is, a))) = let h : OutOfMemory ≡ WriteFault slots.Note = sym is ∙ e in absurd cc
     by_notes (inr (inr (is, r, a))) = (
       subst (λ v. IsRisen v.faults (new slots.Note).faults) called.ran.note_stays r,
-      called.ran.policy (subst (λ o. ReachesCapture o) (sym (unnoted_policy ended old (sym is ∙ e) called.ran.no_note_fault)) tt),
+      subst (λ o. ReachesCapture command o old) (untold_done (outcome_seen ended) (sym is ∙ e) called.ran.no_note_fault) called.ran.policy,
     )
+
+pub called_note_fault : (command : Result Command UsageFault) (old mid new : Slot → SlotView) (ended : Ending) (result : Outcome) → Called command old mid new ended result →
+    result ≡ WriteFault slots.Note → WhereTold old (λ p c. IsDue (due_of_command command p c) old new Done)
+called_note_fault command old mid new ended result called e = by_notes called.notes
+  where
+    by_notes : Notes ended (mid slots.Note) (new slots.Note) result → WhereTold old (λ p c. IsDue (due_of_command command p c) old new Done)
+    by_notes (inl (is, a)) = absurd (called.ran.no_note_fault (sym is ∙ e))
+    by_notes (inr (inl (is, a))) = let h : OutOfMemory ≡ WriteFault slots.Note = sym is ∙ e in absurd cc
+    by_notes (inr (inr (is, r, a))) =
+        let done = untold_done (outcome_seen ended) (sym is ∙ e) called.ran.no_note_fault in
+        called_done command old mid new ended Done called done (sym done)
+
+pub called_attached : (command : Result Command UsageFault) (old mid new : Slot → SlotView) (ended : Ending) (result : Outcome) → Called command old mid new ended result → AttachesDue command result new
+called_attached command old mid new ended result called = by_notes called.notes
+  where
+    here : AttachesDue command (outcome_seen ended) new
+    here = attaches_to command (outcome_seen ended) mid new (called.beside slots.Out out_beside) (called.beside slots.Report report_beside) called.ran.attached
+
+    by_notes : Notes ended (mid slots.Note) (new slots.Note) result → AttachesDue command result new
+    by_notes (inl (is, a)) = subst (λ o. AttachesDue command o new) (sym is) here
+    by_notes (inr (inl (is, a))) = subst (λ o. AttachesDue command o new) (sym is) (attaches_unmade command (outcome_seen ended) new here)
+    by_notes (inr (inr (is, r, a))) = subst (λ o. AttachesDue command o new) (sym is) (attaches_untold command (outcome_seen ended) new here)
+
+pub called_policy : (command : Result Command UsageFault) (old mid new : Slot → SlotView) (ended : Ending) (result : Outcome) → Called command old mid new ended result → ReachesCapture command result old
+called_policy command old mid new ended result called = by_notes called.notes
+  where
+    by_notes : Notes ended (mid slots.Note) (new slots.Note) result → ReachesCapture command result old
+    by_notes (inl (is, a)) = subst (λ o. ReachesCapture command o old) (sym is) called.ran.policy
+    by_notes (inr (inl (is, a))) = subst (λ o. ReachesCapture command o old) (sym is) (reaches_unmade command old)
+    by_notes (inr (inr (is, r, a))) = subst (λ o. ReachesCapture command o old) (sym is) (reaches_untold command (outcome_seen ended) old called.ran.policy)

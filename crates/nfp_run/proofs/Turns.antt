@@ -8,10 +8,13 @@ use Rattle.nfp_outside.specs.Outside.{SlotView, IsRisen}
 use Rattle.pcap_io.specs.declared.capture.Endian.{Endian}
 use Rattle.pcap_io.specs.declared.capture.Unit.{Unit as TimeUnit}
 use Rattle.pcap_io.specs.Capture.{with_record}
-use Rattle.pcap_io.specs.Reader.{ReaderState, reader_at, body_left, ReadsRecord, IsAtEnd, RefusesRecord}
+use Rattle.pcap_io.specs.Reader.{ReaderState, reader_at, body_left, ReadsRecord, IsAtEnd, IsRecordFault, RefusesRecord}
+use Rattle.pcap_io.specs.declared.capture.CaptureFault.TheVariants.{BadMagic, BadVersion, BadLink, CutHead, CutRecord, FrameTooLong, TooManyRecords}
+use Rattle.nfp_run.specs.Answers.{IsBodyFault}
 use Rattle.pcap_io.specs.declared.capture.PcapRecord.{PcapRecord}
 use Rattle.pcap_io.specs.declared.capture.CaptureFault.{CaptureFault}
-use Rattle.plain_policy.specs.declared.policy.PlainFunction.{PlainFunction}
+use Rattle.policy_text.specs.declared.policy.ChainPolicy.{ChainPolicy}
+use Rattle.nfp_run.specs.declared.service.NamedFunction.{NamedFunction}
 use Rattle.nfp_run.specs.declared.outcome.Outcome.{Outcome}
 use Rattle.nfp_run.specs.declared.outcome.Outcome.TheVariants.{ReadFault, OutOfMemory}
 use Rattle.nfp_run.specs.Slots.{Puts, Breaks}
@@ -25,7 +28,7 @@ use Rattle.nfp_run.proofs.Putting.{puts_read, capture_is_not_out, capture_is_not
 use Rattle.nfp_run.proofs.Running.{IsRunning, run_begins, run_goes_on, run_ends, run_unread, run_unwritten}
 
 -- what a turn knows of the policy, the writer, the reader and the slots
-pub record IsAt (chain chain' : List ℕ) (fs fs' : List PlainFunction) (unit : TimeUnit) (order order' : Endian) (first reader : ReaderState) (records dropped : ℕ) (old now : Slot → SlotView) : Type 0 where
+pub record IsAt (chain chain' : ChainPolicy) (fs fs' : List NamedFunction) (unit : TimeUnit) (order order' : Endian) (first reader : ReaderState) (records dropped : ℕ) (old now : Slot → SlotView) : Type 0 where
   pub running : IsRunning chain fs unit order (body_left first (old slots.Capture)) (body_left reader (now slots.Capture)) records dropped old now
   pub same_chain : chain' ≡ chain
   pub same_functions : fs' ≡ fs
@@ -35,7 +38,7 @@ pub record IsAt (chain chain' : List ℕ) (fs fs' : List PlainFunction) (unit : 
   pub capture_name : (now slots.Capture).name ≡ (old slots.Capture).name
   pub others : (s : Slot) → s ≢ slots.Out → s ≢ slots.Report → s ≢ slots.Capture → now s ≡ old s
 
-pub at_begins : (chain : List ℕ) (fs : List PlainFunction) (unit : TimeUnit) (order : Endian) (reader : ReaderState) (old : Slot → SlotView) → reader ≡ reader_at order 0 →
+pub at_begins : (chain : ChainPolicy) (fs : List NamedFunction) (unit : TimeUnit) (order : Endian) (reader : ReaderState) (old : Slot → SlotView) → reader ≡ reader_at order 0 →
     IsAt chain chain fs fs unit order order reader reader 0 0 old old
 at_begins chain fs unit order reader old at = record {
   running = run_begins chain fs unit order (body_left reader (old slots.Capture)) old;
@@ -49,7 +52,7 @@ at_begins chain fs unit order reader old at = record {
 }
 
 -- a record was read, and written or dropped
-pub at_goes_on : (chain chain1 chain2 : List ℕ) (fs fs1 fs2 : List PlainFunction) (unit : TimeUnit) (order order1 order2 : Endian) (first reader reader' : ReaderState) (r : PcapRecord) (records dropped records' dropped' : ℕ) (old mid now new : Slot → SlotView) →
+pub at_goes_on : (chain chain1 chain2 : ChainPolicy) (fs fs1 fs2 : List NamedFunction) (unit : TimeUnit) (order order1 order2 : Endian) (first reader reader' : ReaderState) (r : PcapRecord) (records dropped records' dropped' : ℕ) (old mid now new : Slot → SlotView) →
     IsAt chain chain1 fs fs1 unit order order1 first reader records dropped old mid →
     ReadsRecord r reader reader' (mid slots.Capture) (now slots.Capture) → (mid slots.Capture).faults ≤ (now slots.Capture).faults → (now slots.Capture).name ≡ (mid slots.Capture).name → ((s : Slot) → s ≢ slots.Capture → now s ≡ mid s) →
     Puts (emitted order1 r (fate_of fs1 unit r)) (drop_line chain1 fs1 (records + 1) (fate_of fs1 unit r)) now new → ((s : Slot) → s ≢ slots.Out → s ≢ slots.Report → new s ≡ now s) →
@@ -75,26 +78,36 @@ at_goes_on chain chain1 chain2 fs fs1 fs2 unit order order1 order2 first reader 
     }
 
 -- nothing is left
-pub at_end : (chain chain1 : List ℕ) (fs fs1 : List PlainFunction) (unit : TimeUnit) (order order1 : Endian) (first reader reader' : ReaderState) (records dropped : ℕ) (old mid new : Slot → SlotView) →
+pub at_end : (chain chain1 : ChainPolicy) (fs fs1 : List NamedFunction) (unit : TimeUnit) (order order1 : Endian) (first reader reader' : ReaderState) (records dropped : ℕ) (old mid new : Slot → SlotView) →
     IsAt chain chain1 fs fs1 unit order order1 first reader records dropped old mid → IsAtEnd reader reader' (mid slots.Capture) (new slots.Capture) →
     (mid slots.Capture).faults ≤ (new slots.Capture).faults → ((s : Slot) → s ≢ slots.Capture → new s ≡ mid s) →
     RunsAll chain fs unit order (body_left first (old slots.Capture)) old new (record { totals = record { records = records; dropped = dropped }; fault = None })
 at_end chain chain1 fs fs1 unit order order1 first reader reader' records dropped old mid new at ends later beside =
-    run_ends chain fs unit order (body_left first (old slots.Capture)) (body_left reader (mid slots.Capture)) (record { totals = record { records = records; dropped = dropped }; fault = None }) old mid new at.running ends.whole (puts_read mid new later beside)
+    run_ends chain fs unit order (body_left first (old slots.Capture)) (body_left reader (mid slots.Capture)) (record { totals = record { records = records; dropped = dropped }; fault = None }) old mid new at.running ends.whole tt (puts_read mid new later beside)
+
+-- a fault of a record is none of a head
+body_fault : (given : ℕ) (fault : CaptureFault) → IsRecordFault given fault → IsBodyFault fault
+body_fault given BadMagic is = absurd is
+body_fault given BadVersion is = absurd is
+body_fault given (BadLink link) is = absurd is
+body_fault given CutHead is = absurd is
+body_fault given (CutRecord number) is = λ h. h
+body_fault given (FrameTooLong number length) is = λ h. h
+body_fault given TooManyRecords is = λ h. h
 
 -- the next record couldn't be read: a fault ends the capture
-pub at_stop : (chain chain1 : List ℕ) (fs fs1 : List PlainFunction) (unit : TimeUnit) (order order1 : Endian) (first reader : ReaderState) (totals : Totals) (refusal : PcapFault) (old mid new : Slot → SlotView) →
+pub at_stop : (chain chain1 : ChainPolicy) (fs fs1 : List NamedFunction) (unit : TimeUnit) (order order1 : Endian) (first reader : ReaderState) (totals : Totals) (refusal : PcapFault) (old mid new : Slot → SlotView) →
     IsAt chain chain1 fs fs1 unit order order1 first reader totals.records totals.dropped old mid →
     ((fault : CaptureFault) → refusal ≡ refusals.Capture fault → RefusesRecord fault reader (mid slots.Capture)) →
     (mid slots.Capture).faults ≤ (new slots.Capture).faults → ((s : Slot) → s ≢ slots.Capture → new s ≡ mid s) →
     IfOk (stop_of totals refusal) (RunsAll chain fs unit order (body_left first (old slots.Capture)) old new)
 at_stop chain chain1 fs fs1 unit order order1 first reader totals (refusals.Capture fault) old mid new at refused later beside =
-    run_ends chain fs unit order (body_left first (old slots.Capture)) (body_left reader (mid slots.Capture)) (record { totals = totals; fault = Some fault }) old mid new at.running (refused fault refl).whole (puts_read mid new later beside)
+    run_ends chain fs unit order (body_left first (old slots.Capture)) (body_left reader (mid slots.Capture)) (record { totals = totals; fault = Some fault }) old mid new at.running (refused fault refl).whole (body_fault reader.given fault (refused fault refl).kind) (puts_read mid new later beside)
 at_stop chain chain1 fs fs1 unit order order1 first reader totals (refusals.ReadFault slot) old mid new at refused later beside = tt
 at_stop chain chain1 fs fs1 unit order order1 first reader totals refusals.OutOfMemory old mid new at refused later beside = tt
 
 -- the same where it is no fault of the capture
-pub at_break : (chain chain1 : List ℕ) (fs fs1 : List PlainFunction) (unit : TimeUnit) (order order1 : Endian) (first reader : ReaderState) (totals : Totals) (refusal : PcapFault) (old mid new : Slot → SlotView) →
+pub at_break : (chain chain1 : ChainPolicy) (fs fs1 : List NamedFunction) (unit : TimeUnit) (order order1 : Endian) (first reader : ReaderState) (totals : Totals) (refusal : PcapFault) (old mid new : Slot → SlotView) →
     IsAt chain chain1 fs fs1 unit order order1 first reader totals.records totals.dropped old mid →
     ((slot : Slot) → refusal ≡ refusals.ReadFault slot → IsRisen (mid slots.Capture).faults (new slots.Capture).faults) →
     (mid slots.Capture).faults ≤ (new slots.Capture).faults → ((s : Slot) → s ≢ slots.Capture → new s ≡ mid s) →
@@ -106,7 +119,7 @@ at_break chain chain1 fs fs1 unit order order1 first reader totals refusals.OutO
     run_unread chain fs unit order (body_left first (old slots.Capture)) (body_left reader (mid slots.Capture)) totals.records totals.dropped old mid new OutOfMemory at.running (puts_read mid new later beside) tt
 
 -- writing was refused
-pub at_unwritten : (chain chain1 : List ℕ) (fs fs1 : List PlainFunction) (unit : TimeUnit) (order order1 : Endian) (first reader reader' : ReaderState) (r : PcapRecord) (records dropped : ℕ) (old mid now new : Slot → SlotView) (e : Outcome) →
+pub at_unwritten : (chain chain1 : ChainPolicy) (fs fs1 : List NamedFunction) (unit : TimeUnit) (order order1 : Endian) (first reader reader' : ReaderState) (r : PcapRecord) (records dropped : ℕ) (old mid now new : Slot → SlotView) (e : Outcome) →
     IsAt chain chain1 fs fs1 unit order order1 first reader records dropped old mid →
     ReadsRecord r reader reader' (mid slots.Capture) (now slots.Capture) → (mid slots.Capture).faults ≤ (now slots.Capture).faults → ((s : Slot) → s ≢ slots.Capture → now s ≡ mid s) →
     Breaks (emitted order1 r (fate_of fs1 unit r)) (drop_line chain1 fs1 (records + 1) (fate_of fs1 unit r)) now new e →

@@ -1,14 +1,22 @@
 -- What an outcome says of the slots.
-use Rattle.std.specs.Prelude.{◌≡◌, ◌⊎◌, ℕ, List, ◌++◌, Option, Some, None, IfSome, IsSome, IsOk}
+use Rattle.std.specs.Prelude.{◌≡◌, ◌⊎◌, ℕ, List, ◌++◌, Option, Some, None, IfSome, IsSome, IsOk, Result, Ok, Err}
 use Rattle.std.specs.Option.{option_map}
 use Rattle.nfp_outside.specs.declared.slot.Slot.{Slot}
 use Rattle.nfp_outside.specs.declared.slot.Slot.TheVariants as slots
 use Rattle.nfp_outside.specs.Outside.{SlotView, IsRisen}
 use Rattle.pcap_io.specs.Capture.{capture_of}
-use Rattle.plain_policy.specs.Policy.{policy_of}
+use Rattle.pcap_io.specs.Reader.{IsHeadFault}
+use Rattle.pcap_io.specs.declared.capture.CaptureFault.{CaptureFault}
+use Rattle.pcap_io.specs.declared.capture.CaptureFault.TheVariants.{BadMagic, BadVersion, BadLink, CutHead, CutRecord, FrameTooLong, TooManyRecords}
+use Rattle.policy_judge.specs.declared.fault.PolicyFault.{PolicyFault}
+use Rattle.policy_judge.specs.declared.fault.Refusal.{Refusal}
+use Rattle.policy_judge.specs.declared.judged.Judged.{Judged}
+use Rattle.policy_judge.specs.Judging.{judged}
 use Rattle.nfp_run.specs.declared.outcome.Outcome.{Outcome}
-use Rattle.nfp_run.specs.declared.outcome.Outcome.TheVariants.{Done, Usage, NotBuilt, Capture, ReadFault, WriteFault, OutOfMemory}
-use Rattle.nfp_run.specs.Words.{Names}
+use Rattle.nfp_run.specs.declared.outcome.Outcome.TheVariants.{Done, Usage, Policy, NotBuilt, Capture, ReadFault, WriteFault, OutOfMemory}
+use Rattle.nfp_run.specs.declared.outcome.UsageFault.{UsageFault}
+use Rattle.nfp_run.specs.Services.{service_of, service_among}
+use Rattle.nfp_run.specs.Words.{Command, Run, Plan}
 use Rattle.nfp_run.specs.Notes.{read_fault_text, write_fault_text}
 use Rattle.nfp_run.specs.Due.{Due, Written}
 
@@ -50,6 +58,7 @@ pub record IsDue (due : Due) (old new : Slot → SlotView) (outcome : Outcome) :
 abbrev pub IsFinal : Outcome → Type 0
 IsFinal Done = Unit {0}
 IsFinal (Usage fault) = Unit {0}
+IsFinal (Policy fault) = Unit {0}
 IsFinal (NotBuilt slot) = Unit {0}
 IsFinal (Capture fault) = Unit {0}
 IsFinal (ReadFault slot) = ⊥
@@ -72,22 +81,28 @@ note_due (WriteFault slots.Report) note = write_fault_text slots.Report
 note_due (WriteFault slot) note = note
 note_due outcome note = note
 
--- the name that the words give a slot
-abbrev pub name_of : Names → Slot → Option (List ℕ)
-name_of names slots.Policy = Some names.policy
-name_of names slots.Capture = Some names.capture
-name_of names slots.Out = Some names.out
-name_of names slots.Report = Some names.report
-name_of names slots.Note = None
+-- the name that a command gives a slot
+abbrev pub name_of : Command → Slot → Option (List ℕ)
+name_of (Run names) slots.Policy = Some names.policy
+name_of (Run names) slots.Capture = Some names.capture
+name_of (Run names) slots.Out = Some names.out
+name_of (Run names) slots.Report = Some names.report
+name_of (Run names) slots.Note = None
+name_of (Plan name) slots.Policy = Some name
+name_of (Plan name) slot = None
 
 -- each slot has no name or the one that the words give it, and none where the words are refused
-abbrev pub HasNames : Option Names → (Slot → SlotView) → Type 0
-HasNames None new = (s : Slot) → (new s).name ≡ None
-HasNames (Some names) new = (s : Slot) → ((new s).name ≡ None) ⊎ ((new s).name ≡ name_of names s)
+abbrev pub HasNames : Result Command UsageFault → (Slot → SlotView) → Type 0
+HasNames (Err fault) new = (s : Slot) → (new s).name ≡ None
+HasNames (Ok command) new = (s : Slot) → ((new s).name ≡ None) ⊎ ((new s).name ≡ name_of command s)
 
--- the policy is of the first form, where the desk tells it
+-- the policy has no fault, where the desk tells it
 abbrev pub HasPolicy : (Slot → SlotView) → Type 0
-HasPolicy old = IfSome (old slots.Policy).bytes (λ bytes. IsSome (policy_of bytes))
+HasPolicy old = IfSome (old slots.Policy).bytes (λ bytes. IsOk (judged bytes))
+
+-- it has none, and what it asks for runs today
+abbrev pub HasService : (Slot → SlotView) → Type 0
+HasService old = IfSome (old slots.Policy).bytes (λ bytes. IsSome (service_of (judged bytes)))
 
 -- the head of the capture has no fault, where the desk tells it
 abbrev pub HasHead : (Slot → SlotView) → Type 0
@@ -100,49 +115,89 @@ BothAttached new = IsSome (new slots.Out).name × IsSome (new slots.Report).name
 abbrev pub NoneAttached : (Slot → SlotView) → Type 0
 NoneAttached new = ((new slots.Out).name ≡ None) × ((new slots.Report).name ≡ None)
 
--- which of Out and Report are attached, whatever the desk tells
-abbrev pub AttachesDue : Outcome → (Slot → SlotView) → Type 0
-AttachesDue Done new = BothAttached new
-AttachesDue (Usage fault) new = NoneAttached new
-AttachesDue (NotBuilt slot) new = NoneAttached new
-AttachesDue (Capture fault) new = Unit {0}
-AttachesDue (ReadFault slots.Policy) new = NoneAttached new
-AttachesDue (ReadFault slot) new = Unit {0}
-AttachesDue (WriteFault slots.Note) new = BothAttached new
-AttachesDue (WriteFault slot) new = Unit {0}
-AttachesDue OutOfMemory new = Unit {0}
+-- a fault of a capture behind its head
+abbrev pub IsBodyFault : CaptureFault → Type 0
+IsBodyFault fault = ¬ IsHeadFault fault
 
--- an outcome that comes behind a policy of the first form alone
-abbrev pub ReachesCapture : Outcome → Type 0
-ReachesCapture Done = Unit {0}
-ReachesCapture (Capture fault) = Unit {0}
-ReachesCapture (WriteFault slot) = Unit {0}
-ReachesCapture (Usage fault) = ⊥
-ReachesCapture (NotBuilt slot) = ⊥
-ReachesCapture (ReadFault slot) = ⊥
-ReachesCapture OutOfMemory = ⊥
+-- a refused head leaves both unattached; a fault behind it is told in the report
+abbrev pub FaultAttaches : CaptureFault → (Slot → SlotView) → Type 0
+FaultAttaches BadMagic new = NoneAttached new
+FaultAttaches BadVersion new = NoneAttached new
+FaultAttaches (BadLink link) new = NoneAttached new
+FaultAttaches CutHead new = NoneAttached new
+FaultAttaches (CutRecord number) new = BothAttached new
+FaultAttaches (FrameTooLong number length) new = BothAttached new
+FaultAttaches TooManyRecords new = BothAttached new
 
--- why a policy was refused: it isn't of the first form, and the capture wasn't attached
-abbrev pub RefusalCause : (Slot → SlotView) → (Slot → SlotView) → Slot → Type 0
-RefusalCause old new slots.Policy = IfSome (old slots.Policy).bytes (λ bytes. policy_of bytes ≡ None) × ((new slots.Capture).name ≡ None)
-RefusalCause old new slots.Capture = ⊥
-RefusalCause old new slots.Out = ⊥
-RefusalCause old new slots.Report = ⊥
-RefusalCause old new slots.Note = ⊥
+-- which of Out and Report are attached by `run`, whatever the desk tells; Out is attached before Report
+abbrev pub RunAttaches : Outcome → (Slot → SlotView) → Type 0
+RunAttaches Done new = BothAttached new
+RunAttaches (Usage fault) new = NoneAttached new
+RunAttaches (Policy fault) new = NoneAttached new
+RunAttaches (NotBuilt slot) new = NoneAttached new
+RunAttaches (Capture fault) new = FaultAttaches fault new
+RunAttaches (ReadFault slots.Policy) new = NoneAttached new
+RunAttaches (ReadFault slot) new = Unit {0}
+RunAttaches (WriteFault slots.Note) new = BothAttached new
+RunAttaches (WriteFault slots.Report) new = IsSome (new slots.Out).name
+RunAttaches (WriteFault slot) new = Unit {0}
+RunAttaches OutOfMemory new = Unit {0}
+
+-- a plan attaches neither, nor do words that are refused
+abbrev pub AttachesDue : Result Command UsageFault → Outcome → (Slot → SlotView) → Type 0
+AttachesDue (Ok (Run names)) outcome new = RunAttaches outcome new
+AttachesDue (Ok (Plan name)) outcome new = NoneAttached new
+AttachesDue (Err fault) outcome new = NoneAttached new
+
+-- what is known of the words and the policy where work was done, or a slot was written: `run` needs a policy that runs,
+-- and `plan` one without fault, and then it tells nothing of a capture
+abbrev pub ReachesCapture : Result Command UsageFault → Outcome → (Slot → SlotView) → Type 0
+ReachesCapture (Ok (Run names)) Done old = HasService old
+ReachesCapture (Ok (Plan name)) Done old = HasPolicy old
+ReachesCapture (Err fault) Done old = ⊥
+ReachesCapture (Ok (Run names)) (Capture fault) old = HasService old
+ReachesCapture command (Capture fault) old = ⊥
+ReachesCapture command outcome old = Unit {0}
+
+-- a refusal of a policy tells this fault
+abbrev pub IsFaultOf : PolicyFault → Result Judged Refusal → Type 0
+IsFaultOf fault (Ok policy) = ⊥
+IsFaultOf fault (Err refusal) = refusal.fault ≡ fault
+
+-- why a policy was refused: the words are a command, its first fault is this, and the capture wasn't attached
+abbrev pub PolicyCause : Result Command UsageFault → (Slot → SlotView) → (Slot → SlotView) → PolicyFault → Type 0
+PolicyCause command old new fault = IsOk command × IfSome (old slots.Policy).bytes (λ bytes. IsFaultOf fault (judged bytes)) × ((new slots.Capture).name ≡ None)
+
+-- the words are `run`
+abbrev pub IsRun : Result Command UsageFault → Type 0
+IsRun (Ok (Run names)) = Unit {0}
+IsRun (Ok (Plan name)) = ⊥
+IsRun (Err fault) = ⊥
+
+-- a policy without fault that doesn't run yet
+abbrev pub IsUnbuilt : Result Judged Refusal → Type 0
+IsUnbuilt (Ok policy) = service_among policy.policy.chains policy.orders ≡ None
+IsUnbuilt (Err refusal) = ⊥
+
+-- why a policy without fault wasn't run: the words are `run`, it doesn't run yet, and the capture wasn't attached
+abbrev pub NotBuiltCause : Result Command UsageFault → (Slot → SlotView) → (Slot → SlotView) → Slot → Type 0
+NotBuiltCause command old new slots.Policy = IsRun command × IfSome (old slots.Policy).bytes (λ bytes. IsUnbuilt (judged bytes)) × ((new slots.Capture).name ≡ None)
+NotBuiltCause command old new slot = ⊥
 
 -- why a slot that is read gave a fault: its count rose; for the policy, before the capture was attached, and for the
--- capture, behind a policy of the first form
-abbrev pub ReadFaultCause : (Slot → SlotView) → (Slot → SlotView) → Slot → Type 0
-ReadFaultCause old new slots.Policy = IsRisen (old slots.Policy).faults (new slots.Policy).faults × ((new slots.Capture).name ≡ None)
-ReadFaultCause old new slots.Capture = IsRisen (old slots.Capture).faults (new slots.Capture).faults × HasPolicy old
-ReadFaultCause old new slots.Out = ⊥
-ReadFaultCause old new slots.Report = ⊥
-ReadFaultCause old new slots.Note = ⊥
+-- capture, behind a policy that runs
+abbrev pub ReadFaultCause : Result Command UsageFault → (Slot → SlotView) → (Slot → SlotView) → Slot → Type 0
+ReadFaultCause command old new slots.Policy = IsOk command × IsRisen (old slots.Policy).faults (new slots.Policy).faults × ((new slots.Capture).name ≡ None)
+ReadFaultCause command old new slots.Capture = IsRun command × IsRisen (old slots.Capture).faults (new slots.Capture).faults × HasService old
+ReadFaultCause command old new slots.Out = ⊥
+ReadFaultCause command old new slots.Report = ⊥
+ReadFaultCause command old new slots.Note = ⊥
 
--- why a slot that is written gave a fault: its count rose, behind a policy of the first form and a good head
-abbrev pub WriteFaultCause : (Slot → SlotView) → (Slot → SlotView) → Slot → Type 0
-WriteFaultCause old new slots.Out = IsRisen (old slots.Out).faults (new slots.Out).faults × HasPolicy old × HasHead old
-WriteFaultCause old new slots.Report = IsRisen (old slots.Report).faults (new slots.Report).faults × HasPolicy old × HasHead old
-WriteFaultCause old new slots.Note = IsRisen (old slots.Note).faults (new slots.Note).faults × HasPolicy old
-WriteFaultCause old new slots.Policy = ⊥
-WriteFaultCause old new slots.Capture = ⊥
+-- why a slot that is written gave a fault: its count rose, for Out and Report behind a policy that runs and a good head,
+-- and for Note where the work was done
+abbrev pub WriteFaultCause : Result Command UsageFault → (Slot → SlotView) → (Slot → SlotView) → Slot → Type 0
+WriteFaultCause command old new slots.Out = IsRun command × IsRisen (old slots.Out).faults (new slots.Out).faults × HasService old × HasHead old
+WriteFaultCause command old new slots.Report = IsRun command × IsRisen (old slots.Report).faults (new slots.Report).faults × HasService old × HasHead old
+WriteFaultCause command old new slots.Note = IsRisen (old slots.Note).faults (new slots.Note).faults × ReachesCapture command Done old
+WriteFaultCause command old new slots.Policy = ⊥
+WriteFaultCause command old new slots.Capture = ⊥

@@ -1,5 +1,5 @@
 -- How a call ends, before its line is put into Note.
-use Rattle.std.specs.Prelude.{◌≡◌, ◌⊎◌, ℕ, List, [], length, count_by, Option, Some, None, Result, Ok, Err}
+use Rattle.std.specs.Prelude.{◌≡◌, ◌⊎◌, ◌≤◌, ℕ, List, [], length, count_by, Option, Some, None, IsSome, Result, Ok, Err}
 use Rattle.nfp_outside.specs.declared.slot.Slot.{Slot}
 use Rattle.nfp_outside.specs.declared.slot.Slot.TheVariants as slots
 use Rattle.nfp_outside.specs.Outside.{SlotView, IsRisen, Appends, AppendsPrefix}
@@ -7,14 +7,16 @@ use Rattle.pcap_io.specs.Capture.{Body}
 use Rattle.pcap_io.specs.declared.capture.CaptureFault.{CaptureFault}
 use Rattle.chain_walk.specs.declared.walk.Fate.{Fate}
 use Rattle.nfp_run.specs.declared.outcome.Outcome.{Outcome}
-use Rattle.nfp_run.specs.declared.outcome.Outcome.TheVariants.{Done, Usage, NotBuilt, Capture, ReadFault, WriteFault, OutOfMemory}
+use Rattle.nfp_run.specs.declared.outcome.Outcome.TheVariants.{Done, Usage, Policy, NotBuilt, Capture, ReadFault, WriteFault, OutOfMemory}
+use Rattle.nfp_run.specs.declared.ending.Ending.{Ending}
+use Rattle.nfp_run.specs.declared.ending.Ending.TheVariants.{Completed, Planned, Refused, Stopped}
 use Rattle.nfp_run.specs.declared.report.Totals.{Totals}
 use Rattle.nfp_run.specs.declared.stream.Ended.{Ended}
-use Rattle.nfp_run.specs.Notes.{words_text, not_built_text, done_text, capture_text, read_fault_text, write_fault_text}
+use Rattle.nfp_run.specs.Notes.{usage_text, not_built_text, done_text, capture_text, read_fault_text, write_fault_text}
 use Rattle.nfp_run.specs.Report.{is_gone}
 use Rattle.nfp_run.specs.Due.{Due, Written}
 use Rattle.nfp_run.specs.Slots.{IsBroken}
-use Rattle.nfp_run.specs.Answers.{Leaves, LeavesPrefixes}
+use Rattle.nfp_run.specs.Answers.{Leaves, LeavesPrefixes, BothAttached, IsBodyFault}
 
 -- a capture that ended with a fault is answered by it
 abbrev pub closed : Totals → Option CaptureFault → Result Totals Outcome
@@ -24,21 +26,35 @@ closed totals (Some fault) = Err (Capture fault)
 abbrev pub close_of : Ended → Result Totals Outcome
 close_of ended = closed ended.totals ended.fault
 
--- the outcome of what ended so
-abbrev pub outcome_seen : Result Totals Outcome → Outcome
-outcome_seen (Ok totals) = Done
-outcome_seen (Err outcome) = outcome
+-- how the work of a call ended that ran a capture
+abbrev pub ending_of : Result Totals Outcome → Ending
+ending_of (Ok totals) = Completed totals
+ending_of (Err outcome) = Stopped outcome
 
--- the line of what ended so
-abbrev pub text_of : Result Totals Outcome → List ℕ
-text_of (Ok totals) = done_text totals.records totals.dropped
-text_of (Err Done) = []
-text_of (Err (Usage fault)) = words_text
-text_of (Err (NotBuilt slot)) = not_built_text
-text_of (Err (Capture fault)) = capture_text fault
-text_of (Err (ReadFault slot)) = read_fault_text slot
-text_of (Err (WriteFault slot)) = write_fault_text slot
-text_of (Err OutOfMemory) = []
+-- the outcome of what ended so
+abbrev pub outcome_seen : Ending → Outcome
+outcome_seen (Completed totals) = Done
+outcome_seen (Planned text) = Done
+outcome_seen (Refused refusal) = Policy refusal.fault
+outcome_seen (Stopped outcome) = outcome
+
+-- the line of an outcome that tells all
+abbrev pub stop_text : Outcome → List ℕ
+stop_text Done = []
+stop_text (Usage fault) = usage_text fault
+stop_text (Policy fault) = []
+stop_text (NotBuilt slot) = not_built_text
+stop_text (Capture fault) = capture_text fault
+stop_text (ReadFault slot) = read_fault_text slot
+stop_text (WriteFault slot) = write_fault_text slot
+stop_text OutOfMemory = []
+
+-- what is put into Note for what ended so
+abbrev pub text_of : Ending → List ℕ
+text_of (Completed totals) = done_text totals.records totals.dropped
+text_of (Planned text) = text
+text_of (Refused refusal) = refusal.line
+text_of (Stopped outcome) = stop_text outcome
 
 -- what a body that is told leaves, by how the run over it ended
 abbrev pub Left : Written → Body → List Fate → (Slot → SlotView) → (Slot → SlotView) → Result Totals Outcome → Type 0
@@ -51,20 +67,32 @@ abbrev pub EndCause : (Slot → SlotView) → (Slot → SlotView) → Outcome �
 EndCause old new (Capture fault) = Unit {0}
 EndCause old new outcome = IsBroken old new outcome
 
+-- which of Out and Report are attached where the writing of a capture ended so
+abbrev pub WriteAttaches : Result Totals Outcome → (Slot → SlotView) → Type 0
+WriteAttaches (Ok totals) new = BothAttached new
+WriteAttaches (Err (Capture fault)) new = IsBodyFault fault × BothAttached new
+WriteAttaches (Err (WriteFault slots.Report)) new = IsSome (new slots.Out).name
+WriteAttaches (Err outcome) new = Unit {0}
+
 -- An outcome that the words, the policy and the capture determine is the one that is due, and so is its line.
-pub record EndsDue (due : Due) (old new : Slot → SlotView) (result : Result Totals Outcome) : Type 0 where
-  pub answer : outcome_seen result ≡ due.outcome
+pub record EndsDue (due : Due) (old new : Slot → SlotView) (ending : Ending) : Type 0 where
+  pub answer : outcome_seen ending ≡ due.outcome
   pub left : Leaves due.written old new
-  pub note : text_of result ≡ due.note
+  pub note : text_of ending ≡ due.note
+
+-- what was counted is no more than there is
+abbrev pub CountsWithin : Ending → Type 0
+CountsWithin (Completed totals) = totals.dropped ≤ totals.records
+CountsWithin ending = Unit {0}
 
 -- an outcome whose line couldn't be put into Note: Done is told by that fault, and any other stays
-abbrev pub unnoted : Result Totals Outcome → Outcome
-unnoted (Ok totals) = WriteFault slots.Note
-unnoted (Err outcome) = outcome
+abbrev pub untold : Outcome → Outcome
+untold Done = WriteFault slots.Note
+untold outcome = outcome
 
 -- The line was put whole, or memory ran out, or Note failed; a front part was put in each case.
-abbrev pub Notes : Result Totals Outcome → SlotView → SlotView → Outcome → Type 0
-Notes ended old new outcome =
-    ((outcome ≡ outcome_seen ended) × Appends (text_of ended) old new)
-    ⊎ ((outcome ≡ OutOfMemory) × AppendsPrefix (text_of ended) old new)
-    ⊎ ((outcome ≡ unnoted ended) × IsRisen old.faults new.faults × AppendsPrefix (text_of ended) old new)
+abbrev pub Notes : Ending → SlotView → SlotView → Outcome → Type 0
+Notes ending old new outcome =
+    ((outcome ≡ outcome_seen ending) × Appends (text_of ending) old new)
+    ⊎ ((outcome ≡ OutOfMemory) × AppendsPrefix (text_of ending) old new)
+    ⊎ ((outcome ≡ untold (outcome_seen ending)) × IsRisen old.faults new.faults × AppendsPrefix (text_of ending) old new)

@@ -5,15 +5,20 @@ use Rattle.pcap_io.specs.Capture.{Body, capture_of}
 use Rattle.pcap_io.specs.declared.capture.CaptureHead.{CaptureHead}
 use Rattle.pcap_io.specs.declared.capture.CaptureFault.{CaptureFault}
 use Rattle.chain_walk.specs.declared.walk.Fate.{Fate}
-use Rattle.plain_policy.specs.Policy.{policy_of}
-use Rattle.plain_policy.specs.declared.policy.PlainFunction.{PlainFunction}
+use Rattle.policy_text.specs.declared.policy.ChainPolicy.{ChainPolicy}
+use Rattle.policy_judge.specs.declared.fault.Refusal.{Refusal}
+use Rattle.policy_judge.specs.declared.judged.Judged.{Judged}
+use Rattle.policy_judge.specs.Judging.{judged}
 use Rattle.nfp_run.specs.declared.outcome.Outcome.{Outcome}
-use Rattle.nfp_run.specs.declared.outcome.Outcome.TheVariants.{Done, Usage, NotBuilt, Capture}
-use Rattle.nfp_run.specs.declared.outcome.UsageFault.TheVariants.{Words}
-use Rattle.nfp_run.specs.Words.{Names, names_of}
-use Rattle.nfp_run.specs.Notes.{words_text, not_built_text, capture_text, done_text}
+use Rattle.nfp_run.specs.declared.outcome.Outcome.TheVariants as outcomes
+use Rattle.nfp_run.specs.declared.outcome.UsageFault.{UsageFault}
+use Rattle.nfp_run.specs.declared.service.NamedFunction.{NamedFunction}
+use Rattle.nfp_run.specs.Words.{Names, Command, Run, Plan, command_of}
+use Rattle.nfp_run.specs.Notes.{usage_text, not_built_text, capture_text, done_text}
 use Rattle.nfp_run.specs.Emitted.{fates_of, out_bytes}
+use Rattle.nfp_run.specs.Plan.{plan_text}
 use Rattle.nfp_run.specs.Report.{report_bytes, is_gone}
+use Rattle.nfp_run.specs.Services.{service_among}
 
 -- What is written: the bytes of Out and of Report.
 pub record Written : Type 0 where
@@ -26,41 +31,51 @@ pub record Due : Type 0 where
   pub written : Option Written
   pub note : List ℕ
 
--- what a chain of this name and these functions writes of a capture, by the fates of its packets
-abbrev pub written_by : List ℕ → List PlainFunction → CaptureHead → Body → List Fate → Written
+-- an outcome that writes nothing but its line
+abbrev pub nothing_but : Outcome → List ℕ → Due
+nothing_but outcome note = record { outcome = outcome; written = None; note = note }
+
+-- what a chain with these functions writes of a capture, by the fates of its packets
+abbrev pub written_by : ChainPolicy → List NamedFunction → CaptureHead → Body → List Fate → Written
 written_by chain functions head body fates = record { out = out_bytes head body.records fates; report = report_bytes chain functions fates body.fault }
 
 -- the same by the walk
-abbrev pub written_of : List ℕ → List PlainFunction → CaptureHead → Body → Written
+abbrev pub written_of : ChainPolicy → List NamedFunction → CaptureHead → Body → Written
 written_of chain functions head body = written_by chain functions head body (fates_of functions head.unit body.records)
 
 -- a capture without a fault is done
 abbrev pub outcome_of : Option CaptureFault → Outcome
-outcome_of None = Done
-outcome_of (Some fault) = Capture fault
+outcome_of None = outcomes.Done
+outcome_of (Some fault) = outcomes.Capture fault
 
 abbrev pub note_of : Option CaptureFault → List Fate → List ℕ
 note_of None fates = done_text (length fates) (count_by is_gone fates)
 note_of (Some fault) fates = capture_text fault
 
 -- a refused head leaves nothing to write; else the records before a fault go through the chain
-abbrev pub due_of_capture : List ℕ × List PlainFunction → Result (CaptureHead × Body) CaptureFault → Due
-due_of_capture policy (Err fault) = record { outcome = Capture fault; written = None; note = capture_text fault }
-due_of_capture policy (Ok capture) = record {
+abbrev pub due_of_capture : ChainPolicy × List NamedFunction → Result (CaptureHead × Body) CaptureFault → Due
+due_of_capture service (Err fault) = nothing_but (outcomes.Capture fault) (capture_text fault)
+due_of_capture service (Ok capture) = record {
   outcome = outcome_of capture.1.fault;
-  written = Some (written_of policy.0 policy.1 capture.0 capture.1);
-  note = note_of capture.1.fault (fates_of policy.1 capture.0.unit capture.1.records);
+  written = Some (written_of service.0 service.1 capture.0 capture.1);
+  note = note_of capture.1.fault (fates_of service.1 capture.0.unit capture.1.records);
 }
 
--- the policy counts before the capture
-abbrev pub due_of_policy : Option (List ℕ × List PlainFunction) → List ℕ → Due
-due_of_policy None capture = record { outcome = NotBuilt Policy; written = None; note = not_built_text }
-due_of_policy (Some policy) capture = due_of_capture policy (capture_of capture)
+-- a policy without fault that doesn't run yet counts before the capture
+abbrev pub due_of_service : Option (ChainPolicy × List NamedFunction) → List ℕ → Due
+due_of_service None capture = nothing_but (outcomes.NotBuilt Policy) not_built_text
+due_of_service (Some service) capture = due_of_capture service (capture_of capture)
 
-abbrev pub due_of_names : Option Names → List ℕ → List ℕ → Due
-due_of_names None policy capture = record { outcome = Usage Words; written = None; note = words_text }
-due_of_names (Some names) policy capture = due_of_policy (policy_of policy) capture
+-- a policy with a fault is told by it, whatever is asked for; a plan doesn't look at the capture
+abbrev pub due_of_policy : Command → Result Judged Refusal → List ℕ → Due
+due_of_policy command (Err refusal) capture = nothing_but (outcomes.Policy refusal.fault) refusal.line
+due_of_policy (Plan name) (Ok policy) capture = nothing_but outcomes.Done (plan_text policy)
+due_of_policy (Run names) (Ok policy) capture = due_of_service (service_among policy.policy.chains policy.orders) capture
+
+abbrev pub due_of_command : Result Command UsageFault → List ℕ → List ℕ → Due
+due_of_command (Err fault) policy capture = nothing_but (outcomes.Usage fault) (usage_text fault)
+due_of_command (Ok command) policy capture = due_of_policy command (judged policy) capture
 
 -- the result of a call with these words, where the policy and the capture have these bytes
 abbrev pub due : List (List ℕ) → List ℕ → List ℕ → Due
-due words policy capture = due_of_names (names_of words) policy capture
+due words policy capture = due_of_command (command_of words) policy capture

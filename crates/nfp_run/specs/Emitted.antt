@@ -12,19 +12,20 @@ use Rattle.chain_walk.specs.Packets.{Packet, fates}
 use Rattle.chain_walk.specs.Walk.{walk}
 use Rattle.chain_walk.specs.declared.walk.Fate.{Fate}
 use Rattle.chain_walk.specs.declared.walk.Fate.TheVariants.{Out, Gone}
-use Rattle.plain_policy.specs.Chain.{named_step}
-use Rattle.plain_policy.specs.declared.policy.PlainFunction.{PlainFunction}
+use Rattle.nfp_run.specs.Services.{named_step}
+use Rattle.policy_text.specs.declared.policy.ChainPolicy.{ChainPolicy}
+use Rattle.nfp_run.specs.declared.service.NamedFunction.{NamedFunction}
 
 -- the packet of a record
 abbrev pub packet_of : TimeUnit → PcapRecord → Packet
 packet_of unit r = record { time = time_of unit r; frame = r.frame }
 
 -- where the packet of a record ends that walks through these functions
-abbrev pub fate_of : List PlainFunction → TimeUnit → PcapRecord → Fate
+abbrev pub fate_of : List NamedFunction → TimeUnit → PcapRecord → Fate
 fate_of functions unit r = (walk named_step (time_of unit r) 1 functions r.frame).fate
 
 -- where the packets of a capture end, each walking through the functions as the one before left them
-unfoldable pub fates_of : List PlainFunction → TimeUnit → List PcapRecord → List Fate
+unfoldable pub fates_of : List NamedFunction → TimeUnit → List PcapRecord → List Fate
 fates_of functions unit records = fates named_step functions (map (packet_of unit) records)
 
 -- a record as it goes out, its checksums following what the chain changed, and nothing of one that was dropped

@@ -4,10 +4,12 @@ pub mod Due
 pub mod Emitted
 pub mod Named
 pub mod Notes
+pub mod Plan
 pub mod Ran
 pub mod Reading
 pub mod Report
 pub mod Running
+pub mod Services
 pub mod Slots
 pub mod Status
 pub mod Words

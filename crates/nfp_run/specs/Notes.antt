@@ -4,6 +4,8 @@ use Rattle.std.specs.List.{flat_map}
 use Rattle.std.specs.Fmt.{decimal}
 use Rattle.nfp_outside.specs.declared.slot.Slot.{Slot}
 use Rattle.nfp_outside.specs.declared.slot.Slot.TheVariants.{Policy, Capture, Out, Report, Note}
+use Rattle.nfp_run.specs.declared.outcome.UsageFault.{UsageFault}
+use Rattle.nfp_run.specs.declared.outcome.UsageFault.TheVariants.{NoCommand, UnknownCommand, Words, SameName}
 use Rattle.pcap_io.specs.declared.capture.CaptureFault.{CaptureFault}
 use Rattle.pcap_io.specs.declared.capture.CaptureFault.TheVariants.{BadMagic, BadVersion, BadLink, CutHead, CutRecord, FrameTooLong, TooManyRecords}
 
@@ -11,8 +13,12 @@ use Rattle.pcap_io.specs.declared.capture.CaptureFault.TheVariants.{BadMagic, Ba
 abbrev pub joined : List (List ℕ) → List ℕ
 joined pieces = flat_map (λ piece. piece) pieces
 
-abbrev pub words_text : List ℕ
-words_text = codes "usage: words\n"
+-- why the words are refused
+abbrev pub usage_text : UsageFault → List ℕ
+usage_text NoCommand = codes "usage: no command\n"
+usage_text UnknownCommand = codes "usage: unknown command\n"
+usage_text Words = codes "usage: words\n"
+usage_text SameName = codes "usage: same name\n"
 
 abbrev pub not_built_text : List ℕ
 not_built_text = codes "not built: policy\n"

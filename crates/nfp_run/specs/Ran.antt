@@ -1,28 +1,30 @@
 -- What stands after the words were done, before their line is put into Note.
-use Rattle.std.specs.Prelude.{◌≡◌, ◌≤◌, Option, None, Result, IfOk}
+use Rattle.std.specs.Prelude.{◌≡◌, Result, Ok, Err}
 use Rattle.nfp_outside.specs.declared.slot.Slot.{Slot}
 use Rattle.nfp_outside.specs.declared.slot.Slot.TheVariants as slots
 use Rattle.nfp_outside.specs.Outside.{SlotView}
+use Rattle.policy_judge.specs.declared.fault.PolicyFault.{PolicyFault}
+use Rattle.nfp_run.specs.declared.ending.Ending.{Ending}
 use Rattle.nfp_run.specs.declared.outcome.Outcome.{Outcome}
-use Rattle.nfp_run.specs.declared.outcome.Outcome.TheVariants.{Usage, NotBuilt, ReadFault, WriteFault}
-use Rattle.nfp_run.specs.declared.outcome.UsageFault.TheVariants.{Words}
-use Rattle.nfp_run.specs.declared.report.Totals.{Totals}
-use Rattle.nfp_run.specs.Words.{Names}
-use Rattle.nfp_run.specs.Due.{due_of_names}
-use Rattle.nfp_run.specs.Closing.{outcome_seen, EndsDue}
-use Rattle.nfp_run.specs.Answers.{IsFinal, WhereTold, LeavesPrefixes, HasNames, HasPolicy, AttachesDue, ReachesCapture, RefusalCause, ReadFaultCause, WriteFaultCause}
+use Rattle.nfp_run.specs.declared.outcome.Outcome.TheVariants.{Usage, Policy, NotBuilt, ReadFault, WriteFault}
+use Rattle.nfp_run.specs.declared.outcome.UsageFault.{UsageFault}
+use Rattle.nfp_run.specs.Words.{Command}
+use Rattle.nfp_run.specs.Due.{due_of_command}
+use Rattle.nfp_run.specs.Closing.{outcome_seen, EndsDue, CountsWithin}
+use Rattle.nfp_run.specs.Answers.{IsFinal, WhereTold, LeavesPrefixes, HasNames, AttachesDue, ReachesCapture, PolicyCause, NotBuiltCause, ReadFaultCause, WriteFaultCause}
 
-pub record Ran (names : Option Names) (old new : Slot → SlotView) (result : Result Totals Outcome) : Type 0 where
-  pub due : IsFinal (outcome_seen result) → WhereTold old (λ p c. EndsDue (due_of_names names p c) old new result)
-  pub prefixes : WhereTold old (λ p c. LeavesPrefixes (due_of_names names p c).written old new)
-  pub within : IfOk result (λ totals. totals.dropped ≤ totals.records)
-  pub names_are : HasNames names new
-  pub attached : AttachesDue (outcome_seen result) new
+pub record Ran (command : Result Command UsageFault) (old new : Slot → SlotView) (ending : Ending) : Type 0 where
+  pub due : IsFinal (outcome_seen ending) → WhereTold old (λ p c. EndsDue (due_of_command command p c) old new ending)
+  pub prefixes : WhereTold old (λ p c. LeavesPrefixes (due_of_command command p c).written old new)
+  pub within : CountsWithin ending
+  pub names_are : HasNames command new
+  pub attached : AttachesDue command (outcome_seen ending) new
   pub note_stays : new slots.Note ≡ old slots.Note
-  pub usage : outcome_seen result ≡ Usage Words → names ≡ None
-  pub usage_always : names ≡ None → outcome_seen result ≡ Usage Words
-  pub refused : (s : Slot) → outcome_seen result ≡ NotBuilt s → RefusalCause old new s
-  pub policy : ReachesCapture (outcome_seen result) → HasPolicy old
-  pub read_faults : (s : Slot) → outcome_seen result ≡ ReadFault s → ReadFaultCause old new s
-  pub write_faults : (s : Slot) → outcome_seen result ≡ WriteFault s → WriteFaultCause old new s
-  pub no_note_fault : outcome_seen result ≡ WriteFault slots.Note → ⊥
+  pub usage : (fault : UsageFault) → outcome_seen ending ≡ Usage fault → command ≡ Err fault
+  pub usage_always : (fault : UsageFault) → command ≡ Err fault → outcome_seen ending ≡ Usage fault
+  pub refused : (fault : PolicyFault) → outcome_seen ending ≡ Policy fault → PolicyCause command old new fault
+  pub not_built : (s : Slot) → outcome_seen ending ≡ NotBuilt s → NotBuiltCause command old new s
+  pub policy : ReachesCapture command (outcome_seen ending) old
+  pub read_faults : (s : Slot) → outcome_seen ending ≡ ReadFault s → ReadFaultCause command old new s
+  pub write_faults : (s : Slot) → outcome_seen ending ≡ WriteFault s → WriteFaultCause command old new s
+  pub no_note_fault : outcome_seen ending ≡ WriteFault slots.Note → ⊥

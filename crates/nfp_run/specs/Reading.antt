@@ -1,28 +1,81 @@
--- How the reading of the policy to a value ends, and the opening of the capture.
-use Rattle.std.specs.Prelude.{◌≡◌, ℕ, List, length, nat_lt, if◌then◌else◌, Option, Some, None, IfSome, Ok, Err}
-use Rattle.nfp_outside.specs.declared.slot.Slot.{Slot}
-use Rattle.nfp_outside.specs.Outside.{SlotView, IsRisen}
-use Rattle.nfp_outside.specs.declared.slot.Slot.TheVariants as slots
+-- How the reading of the policy ends, and the opening of the capture.
+use Rattle.std.specs.Prelude.{◌≡◌, ◌<◌, ◌⊎◌, ℕ, List, length, Some, IfSome, Result, Ok, Err}
 use Rattle.std.specs.Option.{option_map}
+use Rattle.nfp_outside.specs.declared.slot.Slot.TheVariants as slots
+use Rattle.nfp_outside.specs.Outside.{SlotView, IsRisen}
 use Rattle.pcap_io.specs.Capture.{capture_of}
 use Rattle.pcap_io.specs.Reader.{ReaderState, reader_at, body_left, IsHeadFault}
 use Rattle.pcap_io.specs.declared.capture.CaptureHead.{CaptureHead}
+use Rattle.policy_judge.specs.declared.fault.JudgeFault.{JudgeFault}
+use Rattle.policy_judge.specs.declared.fault.JudgeFault.TheVariants as faults
+use Rattle.policy_judge.specs.Judging.{judged, told}
+use Rattle.policy_judge.specs.Lines.{too_long_line}
+use Rattle.policy_judge.specs.declared.fault.PolicyFault.TheVariants as policies
+use Rattle.nfp_run.specs.declared.ending.Ending.{Ending}
+use Rattle.nfp_run.specs.declared.ending.Ending.TheVariants.{Completed, Planned, Refused, Stopped}
+use Rattle.nfp_run.specs.Answers.{IsUnbuilt}
+use Rattle.nfp_run.specs.Plan.{plan_text}
+use Rattle.policy_judge.specs.declared.fault.Refusal.{Refusal}
+use Rattle.policy_judge.specs.declared.judged.Judged.{Judged}
 use Rattle.nfp_run.specs.declared.outcome.Outcome.{Outcome}
-use Rattle.nfp_run.specs.declared.outcome.Outcome.TheVariants.{Done, Usage, NotBuilt, Capture, ReadFault, WriteFault, OutOfMemory}
+use Rattle.nfp_run.specs.declared.outcome.Outcome.TheVariants.{Done, Usage, Policy, NotBuilt, Capture, ReadFault, WriteFault, OutOfMemory}
+use Rattle.nfp_run.specs.declared.read.Unread.{Unread}
+use Rattle.nfp_run.specs.declared.read.Unread.TheVariants.{TooLong, Failed, NoMemory}
 
--- Why a slot wasn't read to a value: its bytes mean none, its count rose, or memory ran out.
-abbrev pub RefusedReading : {V : Type 0} → Slot → (List ℕ → Option V) → SlotView → SlotView → Outcome → Type 0
-RefusedReading slot meaning old new (NotBuilt s) = (s ≡ slot) × IfSome old.bytes (λ bytes. meaning bytes ≡ None)
-RefusedReading slot meaning old new (ReadFault s) = (s ≡ slot) × IsRisen old.faults new.faults
-RefusedReading slot meaning old new OutOfMemory = Unit {0}
-RefusedReading slot meaning old new (Capture fault) = ⊥
-RefusedReading slot meaning old new Done = ⊥
-RefusedReading slot meaning old new (Usage fault) = ⊥
-RefusedReading slot meaning old new (WriteFault s) = ⊥
+-- Why a slot wasn't read whole: it has more bytes than may be, its count rose, or memory ran out.
+abbrev pub IsUnread : ℕ → SlotView → SlotView → Unread → Type 0
+IsUnread max old new TooLong = IfSome old.bytes (λ bytes. max < length bytes)
+IsUnread max old new Failed = IsRisen old.faults new.faults
+IsUnread max old new NoMemory = Unit {0}
 
--- the bytes, where there are no more than max
-abbrev pub within : ℕ → List ℕ → Option (List ℕ)
-within max bytes = if nat_lt max (length bytes) then None else Some bytes
+-- how a call ends where the policy was judged so
+abbrev pub refused_by : JudgeFault → Ending
+refused_by (faults.Refused refusal) = Refused refusal
+refused_by faults.OutOfMemory = Stopped OutOfMemory
+
+-- how a call ends whose policy wasn't read
+abbrev pub UnreadEnds : Unread → Ending → Type 0
+UnreadEnds TooLong ending = (ending ≡ Refused (told policies.TooLong too_long_line)) ⊎ (ending ≡ Stopped OutOfMemory)
+UnreadEnds Failed ending = ending ≡ Stopped (ReadFault slots.Policy)
+UnreadEnds NoMemory ending = ending ≡ Stopped OutOfMemory
+
+-- Why a call ends at the policy: it has a fault, its count rose, or memory ran out.
+abbrev pub EndsAtPolicy : SlotView → SlotView → Ending → Type 0
+EndsAtPolicy old new (Refused refusal) = IfSome old.bytes (λ bytes. judged bytes ≡ Err refusal)
+EndsAtPolicy old new (Stopped (ReadFault s)) = (s ≡ slots.Policy) × IsRisen old.faults new.faults
+EndsAtPolicy old new (Stopped OutOfMemory) = Unit {0}
+EndsAtPolicy old new (Stopped Done) = ⊥
+EndsAtPolicy old new (Stopped (Usage fault)) = ⊥
+EndsAtPolicy old new (Stopped (Policy fault)) = ⊥
+EndsAtPolicy old new (Stopped (NotBuilt s)) = ⊥
+EndsAtPolicy old new (Stopped (Capture fault)) = ⊥
+EndsAtPolicy old new (Stopped (WriteFault s)) = ⊥
+EndsAtPolicy old new (Completed totals) = ⊥
+EndsAtPolicy old new (Planned text) = ⊥
+
+-- this is the plan of a policy that was judged so
+abbrev pub IsPlanOf : List ℕ → Result Judged Refusal → Type 0
+IsPlanOf text (Ok policy) = text ≡ plan_text policy
+IsPlanOf text (Err refusal) = ⊥
+
+-- How a call ends that shows a plan: with the plan, or at the policy.
+abbrev pub PlanEnds : SlotView → SlotView → Ending → Type 0
+PlanEnds old new (Planned text) = IfSome old.bytes (λ bytes. IsPlanOf text (judged bytes))
+PlanEnds old new ending = EndsAtPolicy old new ending
+
+-- Why a call ends before the capture: at the policy, or it has no fault and doesn't run yet.
+abbrev pub EndsBeforeCapture : SlotView → SlotView → Ending → Type 0
+EndsBeforeCapture old new (Refused refusal) = IfSome old.bytes (λ bytes. judged bytes ≡ Err refusal)
+EndsBeforeCapture old new (Stopped (NotBuilt s)) = (s ≡ slots.Policy) × IfSome old.bytes (λ bytes. IsUnbuilt (judged bytes))
+EndsBeforeCapture old new (Stopped (ReadFault s)) = (s ≡ slots.Policy) × IsRisen old.faults new.faults
+EndsBeforeCapture old new (Stopped OutOfMemory) = Unit {0}
+EndsBeforeCapture old new (Stopped Done) = ⊥
+EndsBeforeCapture old new (Stopped (Usage fault)) = ⊥
+EndsBeforeCapture old new (Stopped (Policy fault)) = ⊥
+EndsBeforeCapture old new (Stopped (Capture fault)) = ⊥
+EndsBeforeCapture old new (Stopped (WriteFault s)) = ⊥
+EndsBeforeCapture old new (Completed totals) = ⊥
+EndsBeforeCapture old new (Planned text) = ⊥
 
 -- The head of the capture was read, and the reader stands behind it.
 pub record Opens (name : List ℕ) (head : CaptureHead) (reader : ReaderState) (old new : SlotView) : Type 0 where
@@ -38,4 +91,5 @@ RefusedOpening old new OutOfMemory = Unit {0}
 RefusedOpening old new (NotBuilt s) = ⊥
 RefusedOpening old new Done = ⊥
 RefusedOpening old new (Usage fault) = ⊥
+RefusedOpening old new (Policy fault) = ⊥
 RefusedOpening old new (WriteFault s) = ⊥

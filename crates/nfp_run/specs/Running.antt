@@ -8,7 +8,8 @@ use Rattle.pcap_io.specs.declared.capture.Endian.{Endian}
 use Rattle.pcap_io.specs.declared.capture.Unit.{Unit as TimeUnit}
 use Rattle.pcap_io.specs.declared.capture.CaptureHead.{CaptureHead}
 use Rattle.chain_walk.specs.declared.walk.Fate.{Fate}
-use Rattle.plain_policy.specs.declared.policy.PlainFunction.{PlainFunction}
+use Rattle.policy_text.specs.declared.policy.ChainPolicy.{ChainPolicy}
+use Rattle.nfp_run.specs.declared.service.NamedFunction.{NamedFunction}
 use Rattle.nfp_run.specs.declared.outcome.Outcome.{Outcome}
 use Rattle.nfp_run.specs.declared.outcome.Outcome.TheVariants as outcomes
 use Rattle.pcap_io.specs.declared.fault.PcapFault.{PcapFault}
@@ -17,6 +18,7 @@ use Rattle.nfp_run.specs.declared.report.Totals.{Totals}
 use Rattle.nfp_run.specs.declared.stream.Ended.{Ended}
 use Rattle.nfp_run.specs.Emitted.{fates_of, emitted_all}
 use Rattle.nfp_run.specs.Report.{drop_lines, is_gone}
+use Rattle.nfp_run.specs.Answers.{IsBodyFault}
 use Rattle.nfp_run.specs.Due.{written_of}
 use Rattle.nfp_run.specs.Slots.{IsLater, Puts, PutsPrefixes, IsBroken}
 
@@ -33,26 +35,28 @@ pub record Counts (body : Body) (fates : List Fate) (ended : Ended) : Type 0 whe
   pub fault : ended.fault ≡ body.fault
 
 -- All the records of a body that is told ran, and their lines and records were put.
-pub record RunsAll (chain : List ℕ) (functions : List PlainFunction) (unit : TimeUnit) (order : Endian) (body : Option Body) (old new : Slot → SlotView) (ended : Ended) : Type 0 where
+pub record RunsAll (chain : ChainPolicy) (functions : List NamedFunction) (unit : TimeUnit) (order : Endian) (body : Option Body) (old new : Slot → SlotView) (ended : Ended) : Type 0 where
   pub goes : Goes old new
   pub within : ended.totals.dropped ≤ ended.totals.records
+  pub kind : IfSome ended.fault IsBodyFault
   pub counts : IfSome body (λ b. Counts b (fates_of functions unit b.records) ended)
   pub puts : IfSome body (λ b. Puts (emitted_all order b.records (fates_of functions unit b.records)) (drop_lines chain functions 1 (fates_of functions unit b.records)) old new)
 
 -- The run was broken off, and a front part was put.
-pub record RunBreaks (chain : List ℕ) (functions : List PlainFunction) (unit : TimeUnit) (order : Endian) (body : Option Body) (old new : Slot → SlotView) (outcome : Outcome) : Type 0 where
+pub record RunBreaks (chain : ChainPolicy) (functions : List NamedFunction) (unit : TimeUnit) (order : Endian) (body : Option Body) (old new : Slot → SlotView) (outcome : Outcome) : Type 0 where
   pub goes : Goes old new
   pub cause : IsBroken old new outcome
   pub prefixes : IfSome body (λ b. PutsPrefixes (emitted_all order b.records (fates_of functions unit b.records)) (drop_lines chain functions 1 (fates_of functions unit b.records)) old new)
 
 -- The same with the head, the report's first line and what stands behind the lines.
-pub record WritesAll (chain : List ℕ) (functions : List PlainFunction) (head : CaptureHead) (body : Option Body) (old new : Slot → SlotView) (ended : Ended) : Type 0 where
+pub record WritesAll (chain : ChainPolicy) (functions : List NamedFunction) (head : CaptureHead) (body : Option Body) (old new : Slot → SlotView) (ended : Ended) : Type 0 where
   pub goes : Goes old new
   pub within : ended.totals.dropped ≤ ended.totals.records
+  pub kind : IfSome ended.fault IsBodyFault
   pub counts : IfSome body (λ b. Counts b (fates_of functions head.unit b.records) ended)
   pub puts : IfSome body (λ b. Puts (written_of chain functions head b).out (written_of chain functions head b).report old new)
 
-pub record WriteBreaks (chain : List ℕ) (functions : List PlainFunction) (head : CaptureHead) (body : Option Body) (old new : Slot → SlotView) (outcome : Outcome) : Type 0 where
+pub record WriteBreaks (chain : ChainPolicy) (functions : List NamedFunction) (head : CaptureHead) (body : Option Body) (old new : Slot → SlotView) (outcome : Outcome) : Type 0 where
   pub goes : Goes old new
   pub cause : IsBroken old new outcome
   pub prefixes : IfSome body (λ b. PutsPrefixes (written_of chain functions head b).out (written_of chain functions head b).report old new)

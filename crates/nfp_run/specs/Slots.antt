@@ -41,6 +41,7 @@ IsBroken old new (outcomes.ReadFault Note) = ⊥
 IsBroken old new outcomes.OutOfMemory = Unit {0}
 IsBroken old new outcomes.Done = ⊥
 IsBroken old new (outcomes.Usage fault) = ⊥
+IsBroken old new (outcomes.Policy fault) = ⊥
 IsBroken old new (outcomes.NotBuilt slot) = ⊥
 IsBroken old new (outcomes.Capture fault) = ⊥
 
@@ -62,6 +63,7 @@ AttachCause slot old new (outcomes.WriteFault s) = (s ≡ slot) × IsRisen old.f
 AttachCause slot old new outcomes.OutOfMemory = Unit {0}
 AttachCause slot old new outcomes.Done = ⊥
 AttachCause slot old new (outcomes.Usage fault) = ⊥
+AttachCause slot old new (outcomes.Policy fault) = ⊥
 AttachCause slot old new (outcomes.NotBuilt s) = ⊥
 AttachCause slot old new (outcomes.Capture fault) = ⊥
 AttachCause slot old new (outcomes.ReadFault s) = ⊥

@@ -1,11 +1,12 @@
 -- The exit status of each outcome.
 use Rattle.std.specs.Prelude.{ℕ}
 use Rattle.nfp_run.specs.declared.outcome.Outcome.{Outcome}
-use Rattle.nfp_run.specs.declared.outcome.Outcome.TheVariants.{Done, Usage, NotBuilt, Capture, ReadFault, WriteFault, OutOfMemory}
+use Rattle.nfp_run.specs.declared.outcome.Outcome.TheVariants.{Done, Usage, Policy, NotBuilt, Capture, ReadFault, WriteFault, OutOfMemory}
 
 abbrev pub status_of : Outcome → ℕ
 status_of Done = 0
 status_of (Usage fault) = 1
+status_of (Policy fault) = 2
 status_of (Capture fault) = 3
 status_of (ReadFault slot) = 4
 status_of (WriteFault slot) = 5

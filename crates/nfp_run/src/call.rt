@@ -1,30 +1,33 @@
 //! The top call, with the program's theorem.
-ghost use Rattle.std.specs.Prelude.{◌≡◌, ◌≢◌, ◌≤◌, ◌⊎◌, ◌↔◌, [], map, IfOk, IfSome, IsNone, Some, None, string_bytes};
+ghost use Rattle.std.specs.Prelude.{◌≡◌, ◌≢◌, ◌⊎◌, [], map, IfSome, Err, None, string_bytes};
 ghost use Rattle.nfp_outside.specs.declared.slot.Slot.{Slot};
 ghost use Rattle.nfp_outside.specs.Outside.{Appends, AppendsPrefix, IsRisen};
+ghost use Rattle.policy_judge.specs.declared.fault.PolicyFault.{PolicyFault};
 ghost use Rattle.nfp_run.specs.declared.outcome.UsageFault.{UsageFault};
-ghost use Rattle.nfp_run.specs.Answers.{IsDue, IsFinal, HasNames, NoneRose, WhereTold, Leaves, LeavesPrefixes, AttachesDue, HasPolicy, ReachesCapture, RefusalCause, ReadFaultCause, WriteFaultCause, note_due};
-ghost use Rattle.nfp_run.specs.Closing.{outcome_seen, unnoted, Notes};
+ghost use Rattle.nfp_run.specs.Answers.{IsDue, IsFinal, HasNames, NoneRose, WhereTold, LeavesPrefixes, AttachesDue, ReachesCapture, PolicyCause, NotBuiltCause, ReadFaultCause, WriteFaultCause, note_due};
+ghost use Rattle.nfp_run.specs.Closing.{untold, CountsWithin, Notes};
 ghost use Rattle.nfp_run.specs.Ran.{Ran};
 ghost use Rattle.nfp_run.specs.Due.{due};
-ghost use Rattle.nfp_run.specs.Words.{names_of};
+ghost use Rattle.nfp_run.specs.Words.{command_of};
 
-use crate::note::note_text;
-use crate::outcome::{Outcome, UsageFault};
-use crate::report::Totals;
+use crate::ending::Ending;
+use crate::note::tell;
+use crate::outcome::Outcome;
+use crate::plan::plan;
 use crate::run::run;
-use crate::words::file_names;
+use crate::words::{Command, read_command};
 use nfp_outside::{Desk, Gate, OutsideFault, Slot, write_whole};
 use std::alloc::Global;
 use std::sync::Wait;
 use std::thread::Threads;
 
-/// Runs the chain of a policy over a capture, as the words say: `run POLICY CAPTURE OUT REPORT`.
+/// Runs the chain of a policy over a capture, as the words `run POLICY CAPTURE OUT REPORT` say, or shows the plan of a
+/// policy, as the words `plan POLICY` say.
 ///
-/// Out gets the capture of the packets that passed the chain, and Report the line of each that was dropped, the totals,
-/// the functions, and the capture's fault where it has one. The capture is read record by record, and each is written
-/// before the next is read. Last, one line goes into Note. The gate is passed by nothing yet, since a whole packet walks
-/// the chain in one go.
+/// The policy is checked whole before anything else is touched. `run` puts the capture of the packets that passed the chain
+/// into Out, and into Report the line of each that was dropped, the totals, the functions, and the capture's fault where it
+/// has one; the capture is read record by record, and each is written before the next is read. Last, one line goes into
+/// Note, or the plan. The gate is passed by nothing yet, since a whole packet walks the chain in one go.
 pub fn nfp<R: Threads + Wait, D: Desk, G: Gate + Sync>(
     _rt: &R,
     alloc: Global,
@@ -56,67 +59,62 @@ pub fn nfp<R: Threads + Wait, D: Desk, G: Gate + Sync>(
     ensures note_fault { result ≡ Outcome.WriteFault Slot.Note → WhereTold (D.slots desk.old) (λ p c.
         IsDue (due (map string_bytes words.now) p c) (D.slots desk.old) (D.slots desk.new) Outcome.Done) }
 
-    // Each attached slot has the name that the words give it.
-    ensures names { HasNames (names_of (map string_bytes words.now)) (D.slots desk.new) }
-    ensures attached { AttachesDue result (D.slots desk.new) }
+    // Each attached slot has the name that the words give it, so a plan attaches the policy alone.
+    ensures names { HasNames (command_of (map string_bytes words.now)) (D.slots desk.new) }
+    // Out and Report are attached exactly where the outcome says so, also where the desk tells no bytes.
+    ensures attached { AttachesDue (command_of (map string_bytes words.now)) result (D.slots desk.new) }
 
     // Words are refused only by the words, and always, unless there is no memory to say so.
-    ensures usage { result ≡ Outcome.Usage UsageFault.Words → (names_of (map string_bytes words.now) ≡ None) }
-    ensures usage_always { names_of (map string_bytes words.now) ≡ None → (result ≡ Outcome.Usage UsageFault.Words) ⊎ (result ≡ Outcome.OutOfMemory) }
-    // A policy is refused only where it isn't of the first form, and taken only where it is, also where the desk tells
-    // the policy alone.
-    ensures refused { (s : Slot) → result ≡ Outcome.NotBuilt s → RefusalCause (D.slots desk.old) (D.slots desk.new) s }
-    ensures policy { ReachesCapture result → HasPolicy (D.slots desk.old) }
+    ensures usage { (f : UsageFault) → result ≡ Outcome.Usage f → command_of (map string_bytes words.now) ≡ Err f }
+    ensures usage_always { (f : UsageFault) → command_of (map string_bytes words.now) ≡ Err f → (result ≡ Outcome.Usage f) ⊎ (result ≡ Outcome.OutOfMemory) }
+    // A policy is refused only for its first fault, and taken only where it has none, also where the desk tells the policy
+    // alone. One without fault is not run only where it doesn't run yet.
+    ensures refused { (f : PolicyFault) → result ≡ Outcome.Policy f → PolicyCause (command_of (map string_bytes words.now)) (D.slots desk.old) (D.slots desk.new) f }
+    ensures not_built { (s : Slot) → result ≡ Outcome.NotBuilt s → NotBuiltCause (command_of (map string_bytes words.now)) (D.slots desk.old) (D.slots desk.new) s }
+    ensures policy { ReachesCapture (command_of (map string_bytes words.now)) result (D.slots desk.old) }
     // Each fault comes only where the count of its own slot rose, and not before the slots that are due earlier were good.
-    ensures read_faults { (s : Slot) → result ≡ Outcome.ReadFault s → ReadFaultCause (D.slots desk.old) (D.slots desk.new) s }
-    ensures write_faults { (s : Slot) → result ≡ Outcome.WriteFault s → WriteFaultCause (D.slots desk.old) (D.slots desk.new) s }
+    ensures read_faults { (s : Slot) → result ≡ Outcome.ReadFault s → ReadFaultCause (command_of (map string_bytes words.now)) (D.slots desk.old) (D.slots desk.new) s }
+    ensures write_faults { (s : Slot) → result ≡ Outcome.WriteFault s → WriteFaultCause (command_of (map string_bytes words.now)) (D.slots desk.old) (D.slots desk.new) s }
 {
-    let ended = run_words(alloc, words, desk);
-    put_note(alloc, desk, ended)
+    let ending = run_words(alloc, words, desk);
+    put_note(alloc, desk, ending)
 }
 
-fn run_words<D: Desk>(alloc: Global, words: &[String], desk: &mut D) -> Result<Totals, Outcome>
+#[tactic(auto, using(crate::proofs::Planning::plan_ran, crate::proofs::Planning::usage_ran))]
+fn run_words<D: Desk>(alloc: Global, words: &[String], desk: &mut D) -> Ending
     requires { (s : Slot) → (D.slots desk.old s).name ≡ None }
-    ensures ran { Ran (names_of (map string_bytes words.now)) (D.slots desk.old) (D.slots desk.new) result }
+    ensures ran { Ran (command_of (map string_bytes words.now)) (D.slots desk.old) (D.slots desk.new) result }
 {
-    match file_names(words) {
-        Some(names) => run(alloc, &names, desk),
-        None => Err(Outcome::Usage(UsageFault::Words)),
+    match read_command(words) {
+        Ok(Command::Run(names)) => run(alloc, &names, desk),
+        Ok(Command::Plan(name)) => plan(alloc, name, desk),
+        Err(fault) => Ending::Stopped(Outcome::Usage(fault)),
     }
 }
 
 // Puts the line of what ended so into Note.
-fn put_note<D: Desk>(alloc: Global, desk: &mut D, ended: Result<Totals, Outcome>) -> Outcome
-    requires { IfOk ended (λ totals. totals.dropped ≤ totals.records) }
-    ensures notes { Notes ended (D.slots desk.old Slot.Note) (D.slots desk.new Slot.Note) result }
+fn put_note<D: Desk>(alloc: Global, desk: &mut D, ending: Ending) -> Outcome
+    requires { CountsWithin ending }
+    ensures notes { Notes ending (D.slots desk.old Slot.Note) (D.slots desk.new Slot.Note) result }
     ensures others { (s : Slot) → s ≢ Slot.Note → D.slots desk.new s ≡ D.slots desk.old s }
 {
-    let text = match note_text(alloc, ended) {
-        Ok(text) => text,
+    let told = match tell(alloc, ending) {
+        Ok(told) => told,
         Err(_) => return Outcome::OutOfMemory,
     };
-    match write_whole(desk, Slot::Note, &text) {
-        Ok(()) => outcome_of(ended),
-        Err(OutsideFault::WriteFault(_)) => unnoted(ended),
+    match write_whole(desk, Slot::Note, told.line.as_slice()) {
+        Ok(()) => told.outcome,
+        Err(OutsideFault::WriteFault(_)) => untold(told.outcome),
         Err(_) => Outcome::OutOfMemory,
     }
 }
 
-fn outcome_of(ended: Result<Totals, Outcome>) -> Outcome
-    ensures { result ≡ outcome_seen ended }
-{
-    match ended {
-        Ok(_) => Outcome::Done,
-        Err(outcome) => outcome,
-    }
-}
-
 // What is answered where the line couldn't be put: the work was done, or had ended otherwise before.
-fn unnoted(ended: Result<Totals, Outcome>) -> Outcome
-    ensures { result ≡ unnoted ended }
+fn untold(outcome: Outcome) -> Outcome
+    ensures { result ≡ untold outcome }
 {
-    match ended {
-        Ok(_) => Outcome::WriteFault(Slot::Note),
-        Err(outcome) => outcome,
+    match outcome {
+        Outcome::Done => Outcome::WriteFault(Slot::Note),
+        outcome => outcome,
     }
 }

@@ -10,12 +10,12 @@ ghost use Rattle.nfp_run.specs.Slots.{Puts, Breaks};
 
 use crate::outcome::Outcome;
 use crate::report::{Totals, drop_text};
+use crate::service::Service;
 use crate::write::{put_record, put_text};
 use chain_walk::Fate;
 use nfp_outside::Desk;
 use packet_fields::{Frame, seal};
 use pcap_io::{PcapRecord, Unit, Writer};
-use plain_policy::PlainPolicy;
 use std::alloc::Global;
 
 /// Leads one packet through the chain, and puts its record into Out or the line of its drop into Report.
@@ -23,23 +23,23 @@ pub fn write_record<D: Desk>(
     alloc: Global,
     desk: &mut D,
     writer: &mut Writer,
-    policy: &mut PlainPolicy,
+    service: &mut Service,
     unit: Unit,
     totals: &mut Totals,
     packet: PcapRecord,
 ) -> Result<(), Outcome>
     requires out { IsSome (D.slots desk.old Slot.Out).name }
     requires report { IsSome (D.slots desk.old Slot.Report).name }
-    requires few { vec_len policy.old.functions < 2 ^ 32 }
+    requires few { vec_len service.old.functions < 2 ^ 32 }
     requires short { IsShort packet }
     requires room { totals.old.records + 1 < 2 ^ 64 }
     requires within { totals.old.dropped ≤ totals.old.records }
-    ensures ok { OnOk result (let fate = fate_of policy.old.functions.items unit packet in Puts (emitted writer.old packet fate) (drop_line policy.old.chain policy.old.functions.items (totals.old.records + 1) fate) (D.slots desk.old) (D.slots desk.new)) }
-    ensures err { IfErr result (let fate = fate_of policy.old.functions.items unit packet in Breaks (emitted writer.old packet fate) (drop_line policy.old.chain policy.old.functions.items (totals.old.records + 1) fate) (D.slots desk.old) (D.slots desk.new)) }
+    ensures ok { OnOk result (let fate = fate_of service.old.functions.items unit packet in Puts (emitted writer.old packet fate) (drop_line service.old.declared service.old.functions.items (totals.old.records + 1) fate) (D.slots desk.old) (D.slots desk.new)) }
+    ensures err { IfErr result (let fate = fate_of service.old.functions.items unit packet in Breaks (emitted writer.old packet fate) (drop_line service.old.declared service.old.functions.items (totals.old.records + 1) fate) (D.slots desk.old) (D.slots desk.new)) }
     ensures read { OnOk result (totals.new.records ≡ totals.old.records + 1) }
-    ensures dropped { OnOk result (totals.new.dropped ≡ totals.old.dropped + (if is_gone (fate_of policy.old.functions.items unit packet) then 1 else 0)) }
-    ensures functions { OnOk result (policy.new.functions.items ≡ policy.old.functions.items) }
-    ensures chain { OnOk result (policy.new.chain ≡ policy.old.chain) }
+    ensures dropped { OnOk result (totals.new.dropped ≡ totals.old.dropped + (if is_gone (fate_of service.old.functions.items unit packet) then 1 else 0)) }
+    ensures functions { OnOk result (service.new.functions.items ≡ service.old.functions.items) }
+    ensures declared { OnOk result (service.new.declared ≡ service.old.declared) }
     ensures order { writer.new ≡ writer.old }
     ensures others { (s : Slot) → s ≢ Slot.Out → s ≢ Slot.Report → D.slots desk.new s ≡ D.slots desk.old s }
 {
@@ -52,7 +52,7 @@ pub fn write_record<D: Desk>(
         frame,
     } = packet;
     let before = frame.bytes().to_vec(alloc)?;
-    match policy.walk(time, frame)? {
+    match service.walk(time, frame)? {
         Fate::Out(frame) => {
             let packet = PcapRecord {
                 seconds,
@@ -64,7 +64,7 @@ pub fn write_record<D: Desk>(
         }
         Fate::Gone(position) => {
             totals.dropped += 1;
-            put_drop(alloc, desk, policy, totals.records, position)
+            put_drop(alloc, desk, service, totals.records, position)
         }
     }
 }
@@ -83,18 +83,23 @@ fn seal_frame(before: &[u8], frame: Frame) -> Frame
 fn put_drop<D: Desk>(
     alloc: Global,
     desk: &mut D,
-    policy: &PlainPolicy,
+    service: &Service,
     number: u64,
     position: u32,
 ) -> Result<(), Outcome>
     requires report { IsSome (D.slots desk.old Slot.Report).name }
     requires first { 1 ≤ position }
-    requires last { position ≤ vec_len policy.now.functions }
-    ensures ok { OnOk result (Puts [] (drop_line policy.now.chain policy.now.functions.items number (Fate.Gone position)) (D.slots desk.old) (D.slots desk.new)) }
-    ensures err { IfErr result (Breaks [] (drop_line policy.now.chain policy.now.functions.items number (Fate.Gone position)) (D.slots desk.old) (D.slots desk.new)) }
+    requires last { position ≤ vec_len service.now.functions }
+    ensures ok { OnOk result (Puts [] (drop_line service.now.declared service.now.functions.items number (Fate.Gone position)) (D.slots desk.old) (D.slots desk.new)) }
+    ensures err { IfErr result (Breaks [] (drop_line service.now.declared service.now.functions.items number (Fate.Gone position)) (D.slots desk.old) (D.slots desk.new)) }
     ensures others { (s : Slot) → s ≢ Slot.Report → D.slots desk.new s ≡ D.slots desk.old s }
 {
-    let function = &policy.functions[position as usize - 1];
-    let line = drop_text(alloc, policy.chain.bytes(), number, function.name.bytes())?;
+    let function = &service.functions[position as usize - 1];
+    let line = drop_text(
+        alloc,
+        service.declared.name.bytes(),
+        number,
+        function.name.bytes(),
+    )?;
     put_text(desk, &line)
 }

@@ -1,4 +1,4 @@
-//! `nfp` runs a service chain over a capture file.
+//! `nfp` runs a service chain over a capture file, and shows the plan of a policy.
 //!
 //! The program hands its words to [`call::nfp`], over files and an open gate, and ends with the status of the outcome.
 //! What that call promises is the program's theorem: its contract says it, and `specs/Due.antt` has the result that it
@@ -7,11 +7,14 @@
 
 mod call;
 mod emit;
+mod ending;
 mod note;
 mod outcome;
+mod plan;
 mod read;
 mod report;
 mod run;
+mod service;
 mod stream;
 #[cfg(test)]
 mod tests;

@@ -1,27 +1,73 @@
 //! The one line that is put into Note for each outcome.
 ghost use Rattle.std.specs.Prelude.{◌≡◌, ◌≤◌, IfOk};
-ghost use Rattle.nfp_run.specs.Notes.{done_text, capture_text, slot_word, read_fault_text, write_fault_text};
-ghost use Rattle.nfp_run.specs.Closing.{text_of};
+ghost use Rattle.nfp_run.specs.Notes.{usage_text, done_text, capture_text, slot_word, read_fault_text, write_fault_text};
+ghost use Rattle.nfp_run.specs.Closing.{outcome_seen, stop_text, text_of, CountsWithin};
 
-use crate::outcome::Outcome;
+use crate::ending::Ending;
+use crate::outcome::{Outcome, UsageFault};
 use crate::report::{Totals, join};
+use item_list::Items;
 use nfp_outside::Slot;
 use pcap_io::CaptureFault;
+use policy_judge::Refusal;
 use std::alloc::{AllocError, Global};
 
-/// The line of what ended so.
-pub fn note_text(alloc: Global, ended: Result<Totals, Outcome>) -> Result<Vec<u8>, AllocError>
-    requires { IfOk ended (λ totals. totals.dropped ≤ totals.records) }
-    ensures { IfOk result (λ v. v.items ≡ text_of ended) }
+/// How a call ended, and the line that tells it.
+#[derive(Drop)]
+pub struct Told {
+    pub outcome: Outcome,
+    pub line: Items<u8>,
+}
+
+/// The outcome of what ended so, with its line.
+pub fn tell(alloc: Global, ending: Ending) -> Result<Told, AllocError>
+    requires { CountsWithin ending }
+    ensures outcome { IfOk result (λ told. told.outcome ≡ outcome_seen ending) }
+    ensures line { IfOk result (λ told. told.line ≡ text_of ending) }
 {
-    match ended {
-        Ok(totals) => done_text(alloc, totals),
-        Err(Outcome::Usage(_)) => Vec::from_slice(alloc, b"usage: words\n".as_slice()),
-        Err(Outcome::NotBuilt(_)) => Vec::from_slice(alloc, b"not built: policy\n".as_slice()),
-        Err(Outcome::Capture(fault)) => capture_text(alloc, fault),
-        Err(Outcome::ReadFault(slot)) => read_fault_text(alloc, slot),
-        Err(Outcome::WriteFault(slot)) => write_fault_text(alloc, slot),
-        Err(Outcome::Done | Outcome::OutOfMemory) => Ok(Vec::new(alloc)),
+    match ending {
+        Ending::Completed(totals) => Ok(Told {
+            outcome: Outcome::Done,
+            line: Items::new(done_text(alloc, totals)?),
+        }),
+        Ending::Planned(text) => Ok(Told {
+            outcome: Outcome::Done,
+            line: text,
+        }),
+        Ending::Refused(Refusal { fault, line }) => Ok(Told {
+            outcome: Outcome::Policy(fault),
+            line,
+        }),
+        Ending::Stopped(outcome) => {
+            let line = Items::new(stop_text(alloc, &outcome)?);
+            Ok(Told { outcome, line })
+        }
+    }
+}
+
+// The line of an outcome that tells all.
+fn stop_text(alloc: Global, outcome: &Outcome) -> Result<Vec<u8>, AllocError>
+    ensures { IfOk result (λ v. v.items ≡ stop_text outcome.now) }
+{
+    match outcome {
+        Outcome::Usage(fault) => Vec::from_slice(alloc, usage_text(*fault)),
+        Outcome::NotBuilt(_) => Vec::from_slice(alloc, b"not built: policy\n".as_slice()),
+        Outcome::Capture(fault) => capture_text(alloc, *fault),
+        Outcome::ReadFault(slot) => read_fault_text(alloc, *slot),
+        Outcome::WriteFault(slot) => write_fault_text(alloc, *slot),
+        Outcome::Done | Outcome::Policy(_) | Outcome::OutOfMemory => Ok(Vec::new(alloc)),
+    }
+}
+
+// Why the words are refused.
+fn usage_text(fault: UsageFault) -> &'static [u8]
+    ensures { result.now ≡ usage_text fault }
+{
+    match fault {
+        UsageFault::NoCommand => b"usage: no command\n",
+        UsageFault::UnknownCommand => b"usage: unknown command\n",
+        UsageFault::Words => b"usage: words\n",
+        UsageFault::SameName => b"usage: same name\n",
     }
 }
 

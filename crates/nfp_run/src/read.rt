@@ -1,34 +1,72 @@
 //! Reads the policy and the head of the capture, and says why where that is refused.
-ghost use Rattle.std.specs.Prelude.{◌≡◌, ◌≢◌, ◌≤◌, ◌⊎◌, IfOk, IfErr, IfSome, IsTrue, MatchResult, Some, None, vec_len};
+ghost use Rattle.std.specs.Prelude.{◌≡◌, ◌≢◌, ◌≤◌, ◌⊎◌, length, All, IfOk, IfErr, IfSome, MatchResult, Ok, Some, None, vec_len};
+ghost use Rattle.std.specs.List.{AllZip};
 ghost use Rattle.nfp_outside.specs.declared.slot.Slot.{Slot};
-ghost use Rattle.nfp_outside.specs.Outside.{is_read};
-ghost use Rattle.plain_policy.specs.Policy.{policy_of};
-ghost use Rattle.nfp_run.specs.Reading.{RefusedReading, Opens, RefusedOpening, within};
+ghost use Rattle.policy_judge.specs.Judging.{judged};
+ghost use Rattle.policy_judge.specs.Orders.{IsOrdered};
+ghost use Rattle.policy_judge.specs.Settings.{IsSettled};
+ghost use Rattle.nfp_run.specs.Reading.{IsUnread, UnreadEnds, refused_by, EndsAtPolicy, EndsBeforeCapture, Opens, RefusedOpening};
+ghost use Rattle.nfp_run.specs.Services.{service_of};
 
+use crate::ending::Ending;
 use crate::outcome::Outcome;
+use crate::service::{Service, make_service};
 use nfp_outside::{Desk, DeskFault, OutsideFault, Slot, read_all};
 use pcap_io::{CaptureHead, PcapFault, Reader};
-use plain_policy::{PlainPolicy, plain_policy};
+use policy_judge::{JudgeFault, Judged, judge, too_long};
 use std::alloc::Global;
 
 // The most bytes that a policy has.
 const MAX_POLICY: usize = 1_048_576;
 
-/// Reads the policy whole.
-pub fn read_policy<D: Desk>(alloc: Global, desk: &mut D, name: &str) -> Result<PlainPolicy, Outcome>
+// Why the policy wasn't read whole.
+enum Unread {
+    TooLong,
+    Failed,
+    NoMemory,
+}
+
+/// Reads the policy whole and judges it.
+#[tactic(auto, using(crate::proofs::Judged::unread_ends, crate::proofs::Judged::refused_ends))]
+pub fn read_policy<D: Desk>(alloc: Global, desk: &mut D, name: &str) -> Result<Judged, Ending>
     requires { (D.slots desk.old Slot.Policy).name ≡ None }
     ensures read { MatchResult result
-        (λ policy. IfSome (D.slots desk.old Slot.Policy).bytes (λ bytes. policy_of bytes ≡ Some (policy.chain, policy.functions.items)))
-        (RefusedReading Slot.Policy policy_of (D.slots desk.old Slot.Policy) (D.slots desk.new Slot.Policy)) }
-    ensures few { IfOk result (λ policy. vec_len policy.functions ≤ 64) }
+        (λ policy. IfSome (D.slots desk.old Slot.Policy).bytes (λ bytes. judged bytes ≡ Ok policy))
+        (EndsAtPolicy (D.slots desk.old Slot.Policy) (D.slots desk.new Slot.Policy)) }
+    ensures settled { IfOk result (λ policy. All IsSettled policy.policy.chains) }
+    ensures ordered { IfOk result (λ policy. AllZip IsOrdered policy.policy.chains policy.orders) }
     ensures name { ((D.slots desk.new Slot.Policy).name ≡ None) ⊎ ((D.slots desk.new Slot.Policy).name ≡ Some name.now) }
     ensures others { (s : Slot) → s ≢ Slot.Policy → D.slots desk.new s ≡ D.slots desk.old s }
 {
-    let bytes = read_slot(alloc, desk, Slot::Policy, name, MAX_POLICY)?;
-    match plain_policy(alloc, &bytes) {
-        Ok(Some(policy)) => Ok(policy),
-        Ok(None) => Err(Outcome::NotBuilt(Slot::Policy)),
-        Err(_) => Err(Outcome::OutOfMemory),
+    let bytes = match read_bytes(alloc, desk, name) {
+        Ok(bytes) => bytes,
+        Err(unread) => return Err(unread_ending(alloc, unread)),
+    };
+    match judge(alloc, &bytes) {
+        Ok(judged) => Ok(judged),
+        Err(fault) => Err(refused_by(fault)),
+    }
+}
+
+/// Reads the policy, judges it, and makes the functions of its chain.
+#[tactic(auto, using(crate::proofs::Judged::policy_ends, crate::proofs::Judged::served, crate::proofs::Judged::unbuilt))]
+pub fn read_service<D: Desk>(alloc: Global, desk: &mut D, name: &str) -> Result<Service, Ending>
+    requires { (D.slots desk.old Slot.Policy).name ≡ None }
+    ensures read { MatchResult result
+        (λ s. IfSome (D.slots desk.old Slot.Policy).bytes (λ bytes. service_of (judged bytes) ≡ Some (s.declared, s.functions.items)))
+        (EndsBeforeCapture (D.slots desk.old Slot.Policy) (D.slots desk.new Slot.Policy)) }
+    ensures few { IfOk result (λ s. vec_len s.functions ≤ 64) }
+    ensures name { ((D.slots desk.new Slot.Policy).name ≡ None) ⊎ ((D.slots desk.new Slot.Policy).name ≡ Some name.now) }
+    ensures others { (s : Slot) → s ≢ Slot.Policy → D.slots desk.new s ≡ D.slots desk.old s }
+{
+    let judged = match read_policy(alloc, desk, name) {
+        Ok(judged) => judged,
+        Err(ending) => return Err(ending),
+    };
+    match make_service(alloc, judged) {
+        Ok(Some(service)) => Ok(service),
+        Ok(None) => Err(Ending::Stopped(Outcome::NotBuilt(Slot::Policy))),
+        Err(_) => Err(Ending::Stopped(Outcome::OutOfMemory)),
     }
 }
 
@@ -54,31 +92,46 @@ pub fn open_capture<D: Desk>(desk: &mut D, name: &str) -> Result<(CaptureHead, R
     }
 }
 
-// Attaches a slot that is read, and reads it whole. More bytes than `max` are of no form.
-fn read_slot<D: Desk>(
-    alloc: Global,
-    desk: &mut D,
-    slot: Slot,
-    name: &str,
-    max: usize,
-) -> Result<Vec<u8>, Outcome>
-    requires read_slot { IsTrue (is_read slot) }
-    requires free { (D.slots desk.old slot).name ≡ None }
+// Attaches the policy, and reads its bytes.
+fn read_bytes<D: Desk>(alloc: Global, desk: &mut D, name: &str) -> Result<Vec<u8>, Unread>
+    requires { (D.slots desk.old Slot.Policy).name ≡ None }
     ensures read { MatchResult result
-        (λ v. IfSome (D.slots desk.old slot).bytes (λ bytes. within max bytes ≡ Some v.items))
-        (RefusedReading slot (within max) (D.slots desk.old slot) (D.slots desk.new slot)) }
-    ensures name { ((D.slots desk.new slot).name ≡ None) ⊎ ((D.slots desk.new slot).name ≡ Some name.now) }
-    ensures others { (s : Slot) → s ≢ slot → D.slots desk.new s ≡ D.slots desk.old s }
+        (λ v. IfSome (D.slots desk.old Slot.Policy).bytes (λ bytes. bytes ≡ v.items))
+        (IsUnread MAX_POLICY (D.slots desk.old Slot.Policy) (D.slots desk.new Slot.Policy)) }
+    ensures few { IfOk result (λ v. length v.items ≤ MAX_POLICY) }
+    ensures name { ((D.slots desk.new Slot.Policy).name ≡ None) ⊎ ((D.slots desk.new Slot.Policy).name ≡ Some name.now) }
+    ensures others { (s : Slot) → s ≢ Slot.Policy → D.slots desk.new s ≡ D.slots desk.old s }
 {
-    match desk.attach(slot, name) {
+    match desk.attach(Slot::Policy, name) {
         Ok(()) => {}
-        Err(DeskFault::Failed) => return Err(Outcome::ReadFault(slot)),
-        Err(DeskFault::NoMemory) => return Err(Outcome::OutOfMemory),
+        Err(DeskFault::Failed) => return Err(Unread::Failed),
+        Err(DeskFault::NoMemory) => return Err(Unread::NoMemory),
     }
-    match read_all(alloc, desk, slot, max) {
+    match read_all(alloc, desk, Slot::Policy, MAX_POLICY) {
         Ok(bytes) => Ok(bytes),
-        Err(OutsideFault::TooLong) => Err(Outcome::NotBuilt(slot)),
-        Err(OutsideFault::ReadFault(_)) => Err(Outcome::ReadFault(slot)),
-        Err(_) => Err(Outcome::OutOfMemory),
+        Err(OutsideFault::TooLong) => Err(Unread::TooLong),
+        Err(OutsideFault::ReadFault(_)) => Err(Unread::Failed),
+        Err(_) => Err(Unread::NoMemory),
+    }
+}
+
+// How a call ends whose policy wasn't read.
+fn unread_ending(alloc: Global, unread: Unread) -> Ending
+    ensures { UnreadEnds unread result }
+{
+    match unread {
+        Unread::TooLong => refused_by(too_long(alloc)),
+        Unread::Failed => Ending::Stopped(Outcome::ReadFault(Slot::Policy)),
+        Unread::NoMemory => Ending::Stopped(Outcome::OutOfMemory),
+    }
+}
+
+// How a call ends whose policy was judged so.
+fn refused_by(fault: JudgeFault) -> Ending
+    ensures { result ≡ refused_by fault }
+{
+    match fault {
+        JudgeFault::Refused(refusal) => Ending::Refused(refusal),
+        JudgeFault::OutOfMemory => Ending::Stopped(Outcome::OutOfMemory),
     }
 }

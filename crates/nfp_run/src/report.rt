@@ -1,11 +1,12 @@
 //! The texts of the report.
 ghost use Rattle.std.specs.Prelude.{◌≡◌, ◌≤◌, ◌++◌, IfOk, OnOk};
 ghost use Rattle.std.specs.List.{flat_map};
-ghost use Rattle.nfp_run.specs.Report.{drop_text, total_line, function_line, last_line, summary};
+ghost use Rattle.nfp_run.specs.Report.{drop_text, total_line, kind_word, function_line, last_line, summary};
 
 use crate::note::capture_text;
+use action_profile::Kind;
 use pcap_io::CaptureFault;
-use plain_policy::{PlainFunction, PlainPolicy};
+use policy_text::{ChainPolicy, FunctionDecl};
 use std::alloc::{AllocError, Global};
 
 /// The report's first line.
@@ -39,15 +40,15 @@ pub fn drop_text(
 #[tactic(auto, unfolding(crate::specs::Report::summary))]
 pub fn summary(
     alloc: Global,
-    policy: &PlainPolicy,
+    chain: &ChainPolicy,
     totals: Totals,
     fault: Option<CaptureFault>,
 ) -> Result<Vec<u8>, AllocError>
     requires { totals.dropped ≤ totals.records }
-    ensures { IfOk result (λ v. v.items ≡ summary policy.now.chain policy.now.functions.items totals.records totals.dropped fault) }
+    ensures { IfOk result (λ v. v.items ≡ summary chain.now totals.records totals.dropped fault) }
 {
     let mut text = total_line(alloc, totals)?;
-    push_function_lines(&mut text, policy)?;
+    push_function_lines(&mut text, chain)?;
     push_last_line(alloc, &mut text, fault)?;
     Ok(text)
 }
@@ -91,23 +92,24 @@ fn total_line(alloc: Global, totals: Totals) -> Result<Vec<u8>, AllocError>
     )
 }
 
-fn push_function_lines(text: &mut Vec<u8>, policy: &PlainPolicy) -> Result<(), AllocError>
-    ensures { OnOk result (text.new.items ≡ text.old.items ++ flat_map (function_line policy.now.chain) policy.now.functions.items) }
+fn push_function_lines(text: &mut Vec<u8>, chain: &ChainPolicy) -> Result<(), AllocError>
+    ensures { OnOk result (text.new.items ≡ text.old.items ++ flat_map (function_line chain.now.name) chain.now.functions) }
 {
-    'functions: for function in &policy.functions {
-        push_function_line(text, policy.chain.bytes(), function)?;
+    'functions: for function in chain.functions.as_slice() {
+        push_function_line(text, chain.name.bytes(), function)?;
     }
     Ok(())
 }
 
 #[tactic(auto, unfolding(crate::specs::Report::function_line))]
-fn push_function_line(
+fn push_function_line<'a>(
     text: &mut Vec<u8>,
-    chain: &[u8],
-    function: &PlainFunction,
+    chain: &'a [u8],
+    function: &'a FunctionDecl,
 ) -> Result<(), AllocError>
     ensures { OnOk result (text.new.items ≡ text.old.items ++ function_line chain.now function.now) }
 {
+    let kind = kind_word(function.kind);
     push_all(
         text,
         &[
@@ -115,9 +117,30 @@ fn push_function_line(
             chain,
             b" ",
             function.name.bytes(),
-            b" firewall\n",
+            b" ",
+            kind,
+            b"\n",
         ],
     )
+}
+
+fn kind_word<'a>(kind: Kind) -> &'a [u8]
+    ensures { result.now ≡ kind_word kind }
+{
+    match kind {
+        Kind::Firewall => b"firewall",
+        Kind::Signature => b"signature",
+        Kind::Nat => b"nat",
+        Kind::Balancer => b"balancer",
+        Kind::Monitor => b"monitor",
+        Kind::Limiter => b"limiter",
+        Kind::Marker => b"marker",
+        Kind::Nexthop => b"nexthop",
+        Kind::Hop => b"hop",
+        Kind::Redactor => b"redactor",
+        Kind::Tagger => b"tagger",
+        Kind::Untagger => b"untagger",
+    }
 }
 
 /// Pieces of a text in a row.

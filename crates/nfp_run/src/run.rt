@@ -1,79 +1,94 @@
-//! Runs the chain of a policy over a capture, up to the line in Note.
-ghost use Rattle.std.specs.Prelude.{◌≡◌, ◌≢◌, ◌≤◌, ◌<◌, ◌^◌, ◌⊎◌, IfErr, IfOk, OnOk, IfSome, IsSome, Some, None, vec_len};
+//! Runs the chain of a policy over a capture, or shows the plan of a policy, up to the line in Note.
+ghost use Rattle.std.specs.Prelude.{◌≡◌, ◌≢◌, ◌≤◌, ◌<◌, ◌^◌, ◌⊎◌, IfErr, IfOk, IfSome, IsSome, Ok, Some, None, vec_len};
 ghost use Rattle.nfp_outside.specs.declared.slot.Slot.{Slot};
 ghost use Rattle.pcap_io.specs.Reader.{reader_at, body_left};
+ghost use Rattle.policy_judge.specs.declared.fault.PolicyFault.{PolicyFault};
 ghost use Rattle.nfp_run.specs.declared.outcome.UsageFault.{UsageFault};
-ghost use Rattle.nfp_run.specs.Answers.{IsFinal, WhereTold, LeavesPrefixes, HasNames, HasPolicy, AttachesDue, BothAttached, ReachesCapture, RefusalCause, ReadFaultCause, WriteFaultCause};
-ghost use Rattle.nfp_run.specs.Closing.{outcome_seen, close_of, Left, EndCause, EndsDue};
-ghost use Rattle.nfp_run.specs.Due.{due_of_names, written_of};
+ghost use Rattle.nfp_run.specs.Words.{Run};
+ghost use Rattle.nfp_run.specs.Answers.{IsFinal, WhereTold, LeavesPrefixes, HasNames, RunAttaches, ReachesCapture, PolicyCause, NotBuiltCause, ReadFaultCause, WriteFaultCause};
+ghost use Rattle.nfp_run.specs.Closing.{outcome_seen, ending_of, close_of, Left, EndCause, EndsDue, WriteAttaches, CountsWithin};
+ghost use Rattle.nfp_run.specs.Due.{due_of_command, written_of};
 ghost use Rattle.nfp_run.specs.Emitted.{fates_of};
 ghost use Rattle.nfp_run.specs.Named.{names_seen};
 
+use crate::ending::Ending;
 use crate::outcome::Outcome;
-use crate::read::{open_capture, read_policy};
+use crate::read::{open_capture, read_service};
 use crate::report::Totals;
+use crate::service::Service;
 use crate::stream::{Ended, write_capture};
 use crate::words::FileNames;
 use crate::write::attach_sink;
 use nfp_outside::{Desk, Slot};
 use pcap_io::{CaptureHead, Reader};
-use plain_policy::PlainPolicy;
 use std::alloc::Global;
 
 /// Runs the chain of the policy over the capture. The words are accepted, and nothing is put into Note.
-pub fn run<D: Desk>(alloc: Global, names: &FileNames<'_>, desk: &mut D) -> Result<Totals, Outcome>
+pub fn run<D: Desk>(alloc: Global, names: &FileNames<'_>, desk: &mut D) -> Ending
     requires { (s : Slot) → (D.slots desk.old s).name ≡ None }
     ensures due { IsFinal (outcome_seen result) → WhereTold (D.slots desk.old) (λ p c.
-        EndsDue (due_of_names (Some (names_seen names.now)) p c) (D.slots desk.old) (D.slots desk.new) result) }
+        EndsDue (due_of_command (Ok (Run (names_seen names.now))) p c) (D.slots desk.old) (D.slots desk.new) result) }
     ensures prefixes { WhereTold (D.slots desk.old) (λ p c.
-        LeavesPrefixes (due_of_names (Some (names_seen names.now)) p c).written (D.slots desk.old) (D.slots desk.new)) }
-    ensures within { IfOk result (λ totals. totals.dropped ≤ totals.records) }
-    ensures names { HasNames (Some (names_seen names.now)) (D.slots desk.new) }
-    ensures attached { AttachesDue (outcome_seen result) (D.slots desk.new) }
+        LeavesPrefixes (due_of_command (Ok (Run (names_seen names.now))) p c).written (D.slots desk.old) (D.slots desk.new)) }
+    ensures within { CountsWithin result }
+    ensures names { HasNames (Ok (Run (names_seen names.now))) (D.slots desk.new) }
+    ensures attached { RunAttaches (outcome_seen result) (D.slots desk.new) }
     ensures note_stays { D.slots desk.new Slot.Note ≡ D.slots desk.old Slot.Note }
     ensures no_usage { (f : UsageFault) → outcome_seen result ≡ Outcome.Usage f → ⊥ }
-    ensures refused { (s : Slot) → outcome_seen result ≡ Outcome.NotBuilt s → RefusalCause (D.slots desk.old) (D.slots desk.new) s }
-    ensures policy { ReachesCapture (outcome_seen result) → HasPolicy (D.slots desk.old) }
-    ensures read_faults { (s : Slot) → outcome_seen result ≡ Outcome.ReadFault s → ReadFaultCause (D.slots desk.old) (D.slots desk.new) s }
-    ensures write_faults { (s : Slot) → outcome_seen result ≡ Outcome.WriteFault s → WriteFaultCause (D.slots desk.old) (D.slots desk.new) s }
+    ensures refused { (f : PolicyFault) → outcome_seen result ≡ Outcome.Policy f → PolicyCause (Ok (Run (names_seen names.now))) (D.slots desk.old) (D.slots desk.new) f }
+    ensures not_built { (s : Slot) → outcome_seen result ≡ Outcome.NotBuilt s → NotBuiltCause (Ok (Run (names_seen names.now))) (D.slots desk.old) (D.slots desk.new) s }
+    ensures policy { ReachesCapture (Ok (Run (names_seen names.now))) (outcome_seen result) (D.slots desk.old) }
+    ensures read_faults { (s : Slot) → outcome_seen result ≡ Outcome.ReadFault s → ReadFaultCause (Ok (Run (names_seen names.now))) (D.slots desk.old) (D.slots desk.new) s }
+    ensures write_faults { (s : Slot) → outcome_seen result ≡ Outcome.WriteFault s → WriteFaultCause (Ok (Run (names_seen names.now))) (D.slots desk.old) (D.slots desk.new) s }
     ensures no_note_fault { outcome_seen result ≡ Outcome.WriteFault Slot.Note → ⊥ }
 {
-    let policy = match read_policy(alloc, desk, names.policy) {
-        Ok(policy) => policy,
-        Err(outcome) => return Err(outcome),
+    let service = match read_service(alloc, desk, names.policy) {
+        Ok(service) => service,
+        Err(ending) => return ending,
     };
     let (head, reader) = match open_capture(desk, names.capture) {
         Ok(opened) => opened,
-        Err(outcome) => return Err(outcome),
+        Err(outcome) => return Ending::Stopped(outcome),
     };
-    write(alloc, desk, names, policy, &head, reader)
+    ending_of(write(alloc, desk, names, service, &head, reader))
+}
+
+// How the work of a call ended that ran a capture.
+fn ending_of(written: Result<Totals, Outcome>) -> Ending
+    ensures { result ≡ ending_of written }
+{
+    match written {
+        Ok(totals) => Ending::Completed(totals),
+        Err(outcome) => Ending::Stopped(outcome),
+    }
 }
 
 // Attaches Out and Report, and writes both.
+#[tactic(auto, using(crate::proofs::Attaching::attached_at_end, crate::proofs::Attaching::attached_at_break, crate::proofs::Attaching::attached_no_out, crate::proofs::Attaching::attached_no_report))]
 fn write<D: Desk>(
     alloc: Global,
     desk: &mut D,
     names: &FileNames<'_>,
-    policy: PlainPolicy,
+    service: Service,
     head: &CaptureHead,
     reader: Reader,
 ) -> Result<Totals, Outcome>
     requires capture { IsSome (D.slots desk.old Slot.Capture).name }
     requires out_free { (D.slots desk.old Slot.Out).name ≡ None }
     requires report_free { (D.slots desk.old Slot.Report).name ≡ None }
-    requires few { vec_len policy.functions < 2 ^ 32 }
+    requires few { vec_len service.functions < 2 ^ 32 }
     requires fresh { reader ≡ reader_at head.now.order 0 }
     ensures left { IfSome (body_left reader (D.slots desk.old Slot.Capture)) (λ body.
-        Left (written_of policy.chain policy.functions.items head.now body) body (fates_of policy.functions.items head.now.unit body.records) (D.slots desk.old) (D.slots desk.new) result) }
+        Left (written_of service.declared service.functions.items head.now body) body (fates_of service.functions.items head.now.unit body.records) (D.slots desk.old) (D.slots desk.new) result) }
     ensures cause { IfErr result (EndCause (D.slots desk.old) (D.slots desk.new)) }
-    ensures both { OnOk result (BothAttached (D.slots desk.new)) }
+    ensures attached { WriteAttaches result (D.slots desk.new) }
     ensures within { IfOk result (λ totals. totals.dropped ≤ totals.records) }
     ensures out_name { ((D.slots desk.new Slot.Out).name ≡ None) ⊎ ((D.slots desk.new Slot.Out).name ≡ Some names.now.out.now) }
     ensures report_name { ((D.slots desk.new Slot.Report).name ≡ None) ⊎ ((D.slots desk.new Slot.Report).name ≡ Some names.now.report.now) }
     ensures capture_name { (D.slots desk.new Slot.Capture).name ≡ (D.slots desk.old Slot.Capture).name }
     ensures others { (s : Slot) → s ≢ Slot.Out → s ≢ Slot.Report → s ≢ Slot.Capture → D.slots desk.new s ≡ D.slots desk.old s }
 {
-    let mut policy = policy;
+    let mut service = service;
     match attach_sink(desk, Slot::Out, names.out) {
         Ok(()) => {}
         Err(outcome) => return Err(outcome),
@@ -82,7 +97,7 @@ fn write<D: Desk>(
         Ok(()) => {}
         Err(outcome) => return Err(outcome),
     }
-    match write_capture(alloc, desk, &mut policy, head, reader) {
+    match write_capture(alloc, desk, &mut service, head, reader) {
         Ok(ended) => close(&ended),
         Err(outcome) => Err(outcome),
     }

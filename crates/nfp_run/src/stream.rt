@@ -1,4 +1,4 @@
-//! Runs a capture through a policy's chain, record by record, and writes what passes and the report.
+//! Runs a capture through a chain, record by record, and writes what passes and the report.
 ghost use Rattle.std.specs.Prelude.{◌≡◌, ◌≢◌, ◌≤◌, ◌<◌, ◌^◌, [], IfOk, IfErr, OnOk, IsSome, vec_len};
 ghost use Rattle.nfp_outside.specs.declared.slot.Slot.{Slot};
 ghost use Rattle.pcap_io.specs.Reader.{reader_at, body_left};
@@ -9,10 +9,11 @@ ghost use Rattle.nfp_run.specs.Slots.{Puts, Breaks};
 use crate::emit::write_record;
 use crate::outcome::Outcome;
 use crate::report::{TITLE, Totals, summary};
+use crate::service::Service;
 use crate::write::{put_head, put_text};
 use nfp_outside::{Desk, Slot};
 use pcap_io::{CaptureFault, CaptureHead, PcapFault, Reader, Unit, Writer};
-use plain_policy::PlainPolicy;
+use policy_text::ChainPolicy;
 use std::alloc::Global;
 
 /// How a capture ended: what was counted, and the fault that ended it, if one did.
@@ -28,24 +29,24 @@ pub struct Ended {
 pub fn write_capture<D: Desk>(
     alloc: Global,
     desk: &mut D,
-    policy: &mut PlainPolicy,
+    service: &mut Service,
     head: &CaptureHead,
     reader: Reader,
 ) -> Result<Ended, Outcome>
     requires capture { IsSome (D.slots desk.old Slot.Capture).name }
     requires out { IsSome (D.slots desk.old Slot.Out).name }
     requires report { IsSome (D.slots desk.old Slot.Report).name }
-    requires few { vec_len policy.old.functions < 2 ^ 32 }
+    requires few { vec_len service.old.functions < 2 ^ 32 }
     requires fresh { reader ≡ reader_at head.now.order 0 }
-    ensures ok { IfOk result (WritesAll policy.old.chain policy.old.functions.items head.now (body_left reader (D.slots desk.old Slot.Capture)) (D.slots desk.old) (D.slots desk.new)) }
-    ensures err { IfErr result (WriteBreaks policy.old.chain policy.old.functions.items head.now (body_left reader (D.slots desk.old Slot.Capture)) (D.slots desk.old) (D.slots desk.new)) }
+    ensures ok { IfOk result (WritesAll service.old.declared service.old.functions.items head.now (body_left reader (D.slots desk.old Slot.Capture)) (D.slots desk.old) (D.slots desk.new)) }
+    ensures err { IfErr result (WriteBreaks service.old.declared service.old.functions.items head.now (body_left reader (D.slots desk.old Slot.Capture)) (D.slots desk.old) (D.slots desk.new)) }
     ensures capture_name { (D.slots desk.new Slot.Capture).name ≡ (D.slots desk.old Slot.Capture).name }
     ensures others { (s : Slot) → s ≢ Slot.Out → s ≢ Slot.Report → s ≢ Slot.Capture → D.slots desk.new s ≡ D.slots desk.old s }
 {
     let mut writer = put_head(desk, head)?;
     put_text(desk, TITLE)?;
-    let ended = write_records(alloc, desk, reader, &mut writer, policy, head.unit)?;
-    put_summary(alloc, desk, policy, &ended)?;
+    let ended = write_records(alloc, desk, reader, &mut writer, service, head.unit)?;
+    put_summary(alloc, desk, &service.declared, &ended)?;
     Ok(ended)
 }
 
@@ -53,16 +54,16 @@ pub fn write_capture<D: Desk>(
 fn put_summary<D: Desk>(
     alloc: Global,
     desk: &mut D,
-    policy: &PlainPolicy,
+    chain: &ChainPolicy,
     ended: &Ended,
 ) -> Result<(), Outcome>
     requires report { IsSome (D.slots desk.old Slot.Report).name }
     requires within { ended.now.totals.dropped ≤ ended.now.totals.records }
-    ensures ok { OnOk result (Puts [] (summary policy.now.chain policy.now.functions.items ended.now.totals.records ended.now.totals.dropped ended.now.fault) (D.slots desk.old) (D.slots desk.new)) }
-    ensures err { IfErr result (Breaks [] (summary policy.now.chain policy.now.functions.items ended.now.totals.records ended.now.totals.dropped ended.now.fault) (D.slots desk.old) (D.slots desk.new)) }
+    ensures ok { OnOk result (Puts [] (summary chain.now ended.now.totals.records ended.now.totals.dropped ended.now.fault) (D.slots desk.old) (D.slots desk.new)) }
+    ensures err { IfErr result (Breaks [] (summary chain.now ended.now.totals.records ended.now.totals.dropped ended.now.fault) (D.slots desk.old) (D.slots desk.new)) }
     ensures others { (s : Slot) → s ≢ Slot.Report → D.slots desk.new s ≡ D.slots desk.old s }
 {
-    let text = summary(alloc, policy, ended.totals, ended.fault)?;
+    let text = summary(alloc, chain, ended.totals, ended.fault)?;
     put_text(desk, &text)
 }
 
@@ -71,18 +72,18 @@ fn write_records<D: Desk>(
     desk: &mut D,
     reader: Reader,
     writer: &mut Writer,
-    policy: &mut PlainPolicy,
+    service: &mut Service,
     unit: Unit,
 ) -> Result<Ended, Outcome>
     requires capture { IsSome (D.slots desk.old Slot.Capture).name }
     requires out { IsSome (D.slots desk.old Slot.Out).name }
     requires report { IsSome (D.slots desk.old Slot.Report).name }
-    requires few { vec_len policy.old.functions < 2 ^ 32 }
+    requires few { vec_len service.old.functions < 2 ^ 32 }
     requires fresh { reader ≡ reader_at writer.old 0 }
-    ensures ok { IfOk result (RunsAll policy.old.chain policy.old.functions.items unit writer.old (body_left reader (D.slots desk.old Slot.Capture)) (D.slots desk.old) (D.slots desk.new)) }
-    ensures err { IfErr result (RunBreaks policy.old.chain policy.old.functions.items unit writer.old (body_left reader (D.slots desk.old Slot.Capture)) (D.slots desk.old) (D.slots desk.new)) }
-    ensures functions { OnOk result (policy.new.functions.items ≡ policy.old.functions.items) }
-    ensures chain { OnOk result (policy.new.chain ≡ policy.old.chain) }
+    ensures ok { IfOk result (RunsAll service.old.declared service.old.functions.items unit writer.old (body_left reader (D.slots desk.old Slot.Capture)) (D.slots desk.old) (D.slots desk.new)) }
+    ensures err { IfErr result (RunBreaks service.old.declared service.old.functions.items unit writer.old (body_left reader (D.slots desk.old Slot.Capture)) (D.slots desk.old) (D.slots desk.new)) }
+    ensures functions { OnOk result (service.new.functions.items ≡ service.old.functions.items) }
+    ensures declared { OnOk result (service.new.declared ≡ service.old.declared) }
     ensures capture_name { (D.slots desk.new Slot.Capture).name ≡ (D.slots desk.old Slot.Capture).name }
     ensures others { (s : Slot) → s ≢ Slot.Out → s ≢ Slot.Report → s ≢ Slot.Capture → D.slots desk.new s ≡ D.slots desk.old s }
 {
@@ -94,7 +95,7 @@ fn write_records<D: Desk>(
     'records: loop {
         match reader.next(alloc, desk) {
             Ok(Some(packet)) => {
-                match write_record(alloc, desk, writer, policy, unit, &mut totals, packet) {
+                match write_record(alloc, desk, writer, service, unit, &mut totals, packet) {
                     Ok(()) => {}
                     Err(outcome) => return Err(outcome),
                 }

@@ -8,8 +8,9 @@ use std::test::Fail;
 
 const POLICY: &[u8] = b"nfp 1\nchain main\nfn fw firewall\nrule deny src 10.0.0.9\n";
 
-const EXCEPTION: &[u8] =
-    b"nfp 1\nchain main\nfn fw firewall\nrule allow src 10.0.0.9\nrule deny src 10.0.0.0/8\n";
+// The second function stands before the first, and denies what no rule of its own allows.
+const TWO: &[u8] =
+    b"nfp 1\nchain main\nfn a firewall\nrule deny src 10.0.0.1\nfn b firewall\nset default deny\nrule allow proto udp dport 50-60 src 10.0.0.0/30\norder b before a\n";
 
 // Version 2.4, snaplen 65535, Ethernet.
 const HEAD: [u8; 24] = [
@@ -24,8 +25,8 @@ const BIG_HEAD: [u8; 24] = [
 const REPORT: &[u8] =
     b"nfp report 1\ndrop 2 main fw\nrecords 3 emitted 2 dropped 1\nfunction main fw firewall\nend\n";
 
-const EXCEPTION_REPORT: &[u8] =
-    b"nfp report 1\ndrop 1 main fw\ndrop 3 main fw\nrecords 3 emitted 1 dropped 2\nfunction main fw firewall\nend\n";
+const TWO_REPORT: &[u8] =
+    b"nfp report 1\ndrop 1 main a\ndrop 2 main b\ndrop 3 main a\nrecords 3 emitted 0 dropped 3\nfunction main a firewall\nfunction main b firewall\nend\n";
 
 const CUT_REPORT: &[u8] =
     b"nfp report 1\ndrop 2 main fw\nrecords 2 emitted 1 dropped 1\nfunction main fw firewall\nfault capture: cut record 3\n";
@@ -56,13 +57,13 @@ fn words(alloc: Global, texts: &[&str]) -> Result<Vec<String>, AllocError> {
 }
 
 #[test]
-fn the_first_rule_that_matches_decides(rt: HostRuntime) -> Result<(), Fail> {
+fn a_capture_goes_through_the_functions_in_chain_order(rt: HostRuntime) -> Result<(), Fail> {
     let alloc = rt.alloc();
     let words = words(alloc, &["run", "p", "c", "o", "r"])?;
-    for (policy, out, report) in [(POLICY, 140, REPORT), (EXCEPTION, 82, EXCEPTION_REPORT)] {
+    for (policy, out, report) in [(POLICY, 140, REPORT), (TWO, 24, TWO_REPORT)] {
         let mut desk = FixedDesk::new(alloc, policy.to_vec(alloc)?, capture(alloc)?, 7);
         let outcome = nfp(&rt, alloc, &words, &mut desk, &OpenGate);
-        assert_eq!(rt; outcome, Outcome::Done);
+        assert!(rt; matches!(outcome, Outcome::Done));
         assert_eq!(rt; desk.put(Slot::Out).len(), out);
         assert_eq!(rt; desk.put(Slot::Report), report);
     }
@@ -75,45 +76,76 @@ fn each_order_and_unit_is_carried(rt: HostRuntime) -> Result<(), Fail> {
     let run = words(alloc, &["run", "p", "c", "o", "r"])?;
     let mut desk = FixedDesk::new(alloc, POLICY.to_vec(alloc)?, BIG_HEAD.to_vec(alloc)?, 7);
     let outcome = nfp(&rt, alloc, &run, &mut desk, &OpenGate);
-    assert_eq!(rt; outcome, Outcome::Done);
+    assert!(rt; matches!(outcome, Outcome::Done));
     assert_eq!(rt; desk.put(Slot::Out), BIG_HEAD.as_slice());
     Ok(())
 }
 
 #[test]
-fn refusals_are_told_in_the_note(rt: HostRuntime) -> Result<(), Fail> {
+fn a_plan_shows_each_chain_in_order(rt: HostRuntime) -> Result<(), Fail> {
     let alloc = rt.alloc();
-    let run = words(alloc, &["run", "p", "c", "o", "r"])?;
-    let three = words(alloc, &["run", "a", "b", "c"])?;
-    for (words, policy, outcome, status, note) in [
-        (
-            &three,
-            POLICY,
-            Outcome::Usage(UsageFault::Words),
-            1,
-            b"usage: words\n".as_slice(),
-        ),
-        (
-            &run,
-            b"nfp 1\nchain main".as_slice(),
-            Outcome::NotBuilt(Slot::Policy),
-            7,
-            b"not built: policy\n",
-        ),
-        (
-            &run,
-            POLICY,
-            Outcome::Capture(CaptureFault::CutHead),
-            3,
-            b"capture: cut head\n",
-        ),
+    let plan = words(alloc, &["plan", "p"])?;
+    let policy = b"nfp 1\nchain main\nfn sig signature\nfn fw firewall\npriority sig > fw\nchain rest match proto tcp\n";
+    let mut desk = FixedDesk::new(alloc, policy.to_vec(alloc)?, Vec::new(alloc), 7);
+    let outcome = nfp(&rt, alloc, &plan, &mut desk, &OpenGate);
+    assert!(rt; matches!(outcome, Outcome::Done));
+    assert_eq!(rt; desk.put(Slot::Note), b"chain main\norder fw sig\nchain rest\norder\n".as_slice());
+    Ok(())
+}
+
+#[test]
+fn words_that_are_no_command_are_told(rt: HostRuntime) -> Result<(), Fail> {
+    let alloc = rt.alloc();
+    for (texts, fault, note) in [
+        ([].as_slice(), UsageFault::NoCommand, b"usage: no command\n".as_slice()),
+        (&["walk", "p"], UsageFault::UnknownCommand, b"usage: unknown command\n"),
+        (&["run", "p", "c", "o"], UsageFault::Words, b"usage: words\n"),
+        (&["plan", "-p"], UsageFault::Words, b"usage: words\n"),
+        (&["run", "p", "c", "c", "r"], UsageFault::SameName, b"usage: same name\n"),
     ] {
-        let mut desk = FixedDesk::new(alloc, policy.to_vec(alloc)?, Vec::new(alloc), 7);
-        let answer = nfp(&rt, alloc, words, &mut desk, &OpenGate);
-        assert_eq!(rt; answer, outcome);
-        assert_eq!(rt; answer.status(), status);
+        let words = words(alloc, texts)?;
+        let mut desk = FixedDesk::new(alloc, POLICY.to_vec(alloc)?, capture(alloc)?, 7);
+        let outcome = nfp(&rt, alloc, &words, &mut desk, &OpenGate);
+        assert!(rt; matches!(outcome, Outcome::Usage(found) if found == fault));
         assert_eq!(rt; desk.put(Slot::Note), note);
     }
+    Ok(())
+}
+
+// What a policy is refused with, in the order of the checks.
+#[test]
+fn a_policy_is_refused_for_its_first_fault(rt: HostRuntime) -> Result<(), Fail> {
+    let alloc = rt.alloc();
+    let run = words(alloc, &["run", "p", "c", "o", "r"])?;
+    for (policy, note) in [
+        (b"".as_slice(), b"policy: bad version line\n".as_slice()),
+        (b"\xff", b"policy: not utf-8 at 0\n"),
+        (b"nfp 1\nchain a\nfn f firewall\nrule pass\nfn g gate\n", b"policy: line 5: unknown kind\n"),
+        (b"nfp 1\nchain a\nfn f firewall\nrule pass\norder f before f\n", b"policy: line 4: bad setting\n"),
+        (b"nfp 1\nchain main\nfn a monitor\nfn b monitor\norder a before b\npriority a > b\n", b"policy: cycle a b\n"),
+        (
+            b"nfp 1\nchain main\nfn mon monitor\nfn n nat\nset inside 10.0.0.0/8\nset public 192.0.2.1\nset ports 40000-40009\npriority mon > n\n",
+            b"policy: line 8: priority mon over n forbidden: write src before read src\n",
+        ),
+    ] {
+        let mut desk = FixedDesk::new(alloc, policy.to_vec(alloc)?, capture(alloc)?, 7);
+        let outcome = nfp(&rt, alloc, &run, &mut desk, &OpenGate);
+        assert_eq!(rt; outcome.status(), 2);
+        assert_eq!(rt; desk.put(Slot::Note), note);
+    }
+    Ok(())
+}
+
+#[test]
+fn a_policy_of_another_kind_is_not_run(rt: HostRuntime) -> Result<(), Fail> {
+    let alloc = rt.alloc();
+    let run = words(alloc, &["run", "p", "c", "o", "r"])?;
+    let policy = b"nfp 1\nchain main\nfn m monitor\n";
+    let mut desk = FixedDesk::new(alloc, policy.to_vec(alloc)?, Vec::new(alloc), 7);
+    let outcome = nfp(&rt, alloc, &run, &mut desk, &OpenGate);
+    assert!(rt; matches!(outcome, Outcome::NotBuilt(Slot::Policy)));
+    assert_eq!(rt; outcome.status(), 7);
+    assert_eq!(rt; desk.put(Slot::Note), b"not built: policy\n".as_slice());
     Ok(())
 }
 
@@ -126,7 +158,7 @@ fn a_cut_capture_is_done_up_to_its_fault(rt: HostRuntime) -> Result<(), Fail> {
     cut.truncate(170);
     let mut desk = FixedDesk::new(alloc, POLICY.to_vec(alloc)?, cut, 7);
     let outcome = nfp(&rt, alloc, &run, &mut desk, &OpenGate);
-    assert_eq!(rt; outcome, Outcome::Capture(CaptureFault::CutRecord(3)));
+    assert!(rt; matches!(outcome, Outcome::Capture(CaptureFault::CutRecord(3))));
     assert_eq!(rt; desk.put(Slot::Out).len(), 82);
     assert_eq!(rt; desk.put(Slot::Report), CUT_REPORT);
     assert_eq!(rt; desk.put(Slot::Note), b"capture: cut record 3\n".as_slice());
@@ -138,27 +170,15 @@ fn a_cut_capture_is_done_up_to_its_fault(rt: HostRuntime) -> Result<(), Fail> {
 fn failures_are_told_by_their_slot(rt: HostRuntime) -> Result<(), Fail> {
     let alloc = rt.alloc();
     let words = words(alloc, &["run", "p", "c", "o", "r"])?;
-    for (slot, call, outcome, out, note) in [
-        (
-            Slot::Policy,
-            0,
-            Outcome::ReadFault(Slot::Policy),
-            0,
-            b"read fault: policy\n".as_slice(),
-        ),
-        (
-            Slot::Out,
-            4,
-            Outcome::WriteFault(Slot::Out),
-            82,
-            b"write fault: out\n",
-        ),
-        (Slot::Note, 0, Outcome::WriteFault(Slot::Note), 140, b""),
+    for (slot, call, status, out, note) in [
+        (Slot::Policy, 0, 4, 0, b"read fault: policy\n".as_slice()),
+        (Slot::Out, 4, 5, 82, b"write fault: out\n"),
+        (Slot::Note, 0, 5, 140, b""),
     ] {
         let fails = vec![in alloc; (slot, call)]?;
         let mut desk = MemDesk::new(alloc, POLICY.to_vec(alloc)?, capture(alloc)?, 4096, fails);
         let answer = nfp(&rt, alloc, &words, &mut desk, &OpenGate);
-        assert_eq!(rt; answer, outcome);
+        assert_eq!(rt; answer.status(), status);
         assert_eq!(rt; desk.put(Slot::Out).len(), out);
         assert_eq!(rt; desk.put(Slot::Note), note);
     }

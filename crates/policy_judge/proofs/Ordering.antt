@@ -1,5 +1,5 @@
 -- How the orders of the chains are found, one after another.
-use Rattle.std.proofs.Common.{◌≡◌, ◌<◌, ◌≤◌, ◌+◌, ◌∙◌, ℕ, List, [], ◌∷◌, ◌++◌, length, take, drop, get_or, refl, sym, ap, append_assoc, arith, subst, Ok, Err}
+use Rattle.std.proofs.Common.{◌≡◌, ◌<◌, ◌≤◌, ◌+◌, ◌∙◌, ℕ, List, [], ◌∷◌, ◌++◌, length, take, drop, get_or, refl, sym, ap, append_assoc, subst, Ok, Err}
 use Rattle.std.proofs.lemmas.List.{take_more, take_all, drop_more, drop_all, append-nil}
 use Rattle.std.specs.Prelude.{Result}
 use Rattle.std.specs.List.{AllZip}

@@ -1,6 +1,6 @@
 -- A policy that was read has few functions in each chain.
 use Rattle.std.proofs.Common.{◌≡◌, ◌<◌, ◌≤◌, ◌+◌, ◌∙◌, ℕ, List, [], ◌∷◌, length, map, arith, ap, sym, subst, false, Err}
-use Rattle.std.specs.Prelude.{All, nat_lt, if◌then◌else◌, Result}
+use Rattle.std.specs.Prelude.{All, nat_lt, Result}
 use Rattle.std.specs.List.{range_with_len}
 use Rattle.std.proofs.lemmas.List.Sorted.{All-permutation}
 use Rattle.std.proofs.lemmas.List.Elements.{All-nil, All-cons}

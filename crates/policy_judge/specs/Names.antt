@@ -1,5 +1,5 @@
 -- The names of functions in a text.
-use Rattle.std.specs.Prelude.{ℕ, List, [], ◌∷◌, ◌++◌, codes, slice_get}
+use Rattle.std.specs.Prelude.{ℕ, List, [], ◌++◌, codes, slice_get}
 use Rattle.std.specs.List.{flat_map}
 use Rattle.std.specs.Option.{option_map_or}
 use Rattle.policy_text.specs.declared.policy.FunctionDecl.{FunctionDecl}

@@ -1,7 +1,7 @@
 -- The least line of a policy that a function refuses.
-use Rattle.std.specs.Prelude.{ℕ, min, List, Option, Some, None, fold}
+use Rattle.std.specs.Prelude.{◌≡◌, ℕ, min, List, All, Option, Some, None, fold}
 use Rattle.action_profile.specs.declared.kind.Kind.{Kind}
-use Rattle.action_profile.specs.declared.kind.Kind.TheVariants.{Firewall, Signature, Nat, Balancer, Monitor, Limiter, Marker, Nexthop, Hop, Redactor, Tagger, Untagger}
+use Rattle.action_profile.specs.declared.kind.Kind.TheVariants.{Firewall}
 use Rattle.policy_text.specs.declared.policy.ChainPolicy.{ChainPolicy}
 use Rattle.policy_text.specs.declared.policy.FunctionDecl.{FunctionDecl}
 use Rattle.nf_filter.specs.Firewalls.{refused_line}
@@ -24,3 +24,7 @@ least_among least functions = fold (λ line f. lesser_of line (refused_by f.kind
 -- the least line that a function refuses, over all functions of these chains
 abbrev pub least_refused : List ChainPolicy → Option ℕ
 least_refused chains = fold (λ line c. least_among line c.functions) None chains
+
+-- no function of the chain refuses a line
+abbrev pub IsSettled : ChainPolicy → Type 0
+IsSettled chain = All (λ f. refused_by f.kind f ≡ None) chain.functions

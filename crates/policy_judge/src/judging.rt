@@ -1,12 +1,12 @@
 //! Reads a policy text and judges it.
-ghost use Rattle.std.specs.Prelude.{◌≡◌, ◌≤◌, length, IfOk, MatchResult};
+ghost use Rattle.std.specs.Prelude.{◌≡◌, ◌≤◌, length, All, IfOk, MatchResult};
 ghost use Rattle.std.specs.List.{AllZip};
 ghost use Rattle.policy_text.specs.Soundness.{IsSound};
 ghost use Rattle.policy_judge.specs.declared.fault.JudgeFault.{JudgeFault};
 ghost use Rattle.policy_judge.specs.declared.fault.PolicyFault.{PolicyFault};
 ghost use Rattle.policy_judge.specs.Judging.{judged, judged_settings, told, Judges, Tells, TellsText};
 ghost use Rattle.policy_judge.specs.Lines.{too_long_line};
-ghost use Rattle.policy_judge.specs.Settings.{least_refused};
+ghost use Rattle.policy_judge.specs.Settings.{least_refused, IsSettled};
 ghost use Rattle.policy_judge.specs.Orders.{IsOrdered};
 
 use crate::chains::orders_of;
@@ -24,6 +24,7 @@ use std::alloc::{AllocError, Global};
 pub fn judge(alloc: Global, bytes: &[u8]) -> Result<Judged, JudgeFault>
     requires { length bytes.now ≤ 1048576 }
     ensures exact { Judges (judged bytes.now) result }
+    ensures settled { IfOk result (λ judged. All IsSettled judged.policy.chains) }
     ensures ordered { IfOk result (λ judged. AllZip IsOrdered judged.policy.chains judged.orders) }
 {
     match parse(alloc, bytes) {
@@ -43,10 +44,11 @@ pub fn too_long(alloc: Global) -> JudgeFault
 }
 
 // The settings of all functions, and then the orders of the chains.
-#[tactic(auto, using(crate::proofs::Sounding::few_here))]
+#[tactic(auto, using(crate::proofs::Sounding::few_here, crate::proofs::Settling::all_settled))]
 fn judge_policy(alloc: Global, policy: Policy) -> Result<Judged, JudgeFault>
     requires { IsSound policy.chains }
     ensures exact { Judges (judged_settings policy (least_refused policy.chains)) result }
+    ensures settled { IfOk result (λ judged. All IsSettled judged.policy.chains) }
     ensures ordered { IfOk result (λ judged. AllZip IsOrdered judged.policy.chains judged.orders) }
 {
     if let Some(line) = least_refused(alloc, policy.chains.as_slice())? {

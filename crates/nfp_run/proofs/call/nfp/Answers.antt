@@ -1,42 +1,58 @@
 use Rattle.std.proofs.Common.{map}
 use Rattle.std.specs.Prelude.{string_bytes}
-use Rattle.nfp_run.specs.Words.{names_of}
+use Rattle.nfp_run.specs.Words.{command_of}
 use Rattle.nfp_run.proofs.Answering.{called_exact, called_prefixes, called_answers, called_noted, called_noted_whole}
-use Rattle.nfp_run.proofs.Telling.{called_names, called_refused, called_read_faults, called_write_faults}
+use Rattle.nfp_run.proofs.Telling.{called_names, called_note_fault, called_attached, called_policy, called_refused, called_not_built, called_read_faults, called_write_faults}
 use Rattle.nfp_run.proofs.call.nfp.Goals as goal
 
 pub returns-clause-answers : goal.returns-clause-answers
-returns-clause-answers g c = called_answers (names_of (map string_bytes c.args.words.now)) (g.D.Desk.slots c.args.desk.now) (g.D.Desk.slots c.run_words-ended.new.desk) (g.D.Desk.slots c.put_note.new.desk) c.run_words-ended.result c.put_note.result
-    (record { ran = c.run_words-ended.ensures.ran; notes = c.put_note.ensures.notes; beside = c.put_note.ensures.others })
+returns-clause-answers g c = called_answers (command_of (map string_bytes c.args.words.now)) (g.D.Desk.slots c.args.desk.now) (g.D.Desk.slots c.run_words-ending.new.desk) (g.D.Desk.slots c.put_note.new.desk) c.run_words-ending.result c.put_note.result
+    (record { ran = c.run_words-ending.ensures.ran; notes = c.put_note.ensures.notes; beside = c.put_note.ensures.others })
 
 pub returns-clause-exact : goal.returns-clause-exact
-returns-clause-exact g c = called_exact (names_of (map string_bytes c.args.words.now)) (g.D.Desk.slots c.args.desk.now) (g.D.Desk.slots c.run_words-ended.new.desk) (g.D.Desk.slots c.put_note.new.desk) c.run_words-ended.result c.put_note.result
-    (record { ran = c.run_words-ended.ensures.ran; notes = c.put_note.ensures.notes; beside = c.put_note.ensures.others })
+returns-clause-exact g c = called_exact (command_of (map string_bytes c.args.words.now)) (g.D.Desk.slots c.args.desk.now) (g.D.Desk.slots c.run_words-ending.new.desk) (g.D.Desk.slots c.put_note.new.desk) c.run_words-ending.result c.put_note.result
+    (record { ran = c.run_words-ending.ensures.ran; notes = c.put_note.ensures.notes; beside = c.put_note.ensures.others })
 
 pub returns-clause-prefixes : goal.returns-clause-prefixes
-returns-clause-prefixes g c = called_prefixes (names_of (map string_bytes c.args.words.now)) (g.D.Desk.slots c.args.desk.now) (g.D.Desk.slots c.run_words-ended.new.desk) (g.D.Desk.slots c.put_note.new.desk) c.run_words-ended.result c.put_note.result
-    (record { ran = c.run_words-ended.ensures.ran; notes = c.put_note.ensures.notes; beside = c.put_note.ensures.others })
+returns-clause-prefixes g c = called_prefixes (command_of (map string_bytes c.args.words.now)) (g.D.Desk.slots c.args.desk.now) (g.D.Desk.slots c.run_words-ending.new.desk) (g.D.Desk.slots c.put_note.new.desk) c.run_words-ending.result c.put_note.result
+    (record { ran = c.run_words-ending.ensures.ran; notes = c.put_note.ensures.notes; beside = c.put_note.ensures.others })
 
 pub returns-clause-noted : goal.returns-clause-noted
-returns-clause-noted g c = called_noted (names_of (map string_bytes c.args.words.now)) (g.D.Desk.slots c.args.desk.now) (g.D.Desk.slots c.run_words-ended.new.desk) (g.D.Desk.slots c.put_note.new.desk) c.run_words-ended.result c.put_note.result
-    (record { ran = c.run_words-ended.ensures.ran; notes = c.put_note.ensures.notes; beside = c.put_note.ensures.others })
+returns-clause-noted g c = called_noted (command_of (map string_bytes c.args.words.now)) (g.D.Desk.slots c.args.desk.now) (g.D.Desk.slots c.run_words-ending.new.desk) (g.D.Desk.slots c.put_note.new.desk) c.run_words-ending.result c.put_note.result
+    (record { ran = c.run_words-ending.ensures.ran; notes = c.put_note.ensures.notes; beside = c.put_note.ensures.others })
 
 pub returns-clause-noted_whole : goal.returns-clause-noted_whole
-returns-clause-noted_whole g c = called_noted_whole (names_of (map string_bytes c.args.words.now)) (g.D.Desk.slots c.args.desk.now) (g.D.Desk.slots c.run_words-ended.new.desk) (g.D.Desk.slots c.put_note.new.desk) c.run_words-ended.result c.put_note.result
-    (record { ran = c.run_words-ended.ensures.ran; notes = c.put_note.ensures.notes; beside = c.put_note.ensures.others })
+returns-clause-noted_whole g c = called_noted_whole (command_of (map string_bytes c.args.words.now)) (g.D.Desk.slots c.args.desk.now) (g.D.Desk.slots c.run_words-ending.new.desk) (g.D.Desk.slots c.put_note.new.desk) c.run_words-ending.result c.put_note.result
+    (record { ran = c.run_words-ending.ensures.ran; notes = c.put_note.ensures.notes; beside = c.put_note.ensures.others })
 
 pub returns-clause-names : goal.returns-clause-names
-returns-clause-names g c = called_names (names_of (map string_bytes c.args.words.now)) (g.D.Desk.slots c.args.desk.now) (g.D.Desk.slots c.run_words-ended.new.desk) (g.D.Desk.slots c.put_note.new.desk) c.run_words-ended.result c.put_note.result
-    (record { ran = c.run_words-ended.ensures.ran; notes = c.put_note.ensures.notes; beside = c.put_note.ensures.others })
+returns-clause-names g c = called_names (command_of (map string_bytes c.args.words.now)) (g.D.Desk.slots c.args.desk.now) (g.D.Desk.slots c.run_words-ending.new.desk) (g.D.Desk.slots c.put_note.new.desk) c.run_words-ending.result c.put_note.result
+    (record { ran = c.run_words-ending.ensures.ran; notes = c.put_note.ensures.notes; beside = c.put_note.ensures.others })
 
 pub returns-clause-refused : goal.returns-clause-refused
-returns-clause-refused g c = called_refused (names_of (map string_bytes c.args.words.now)) (g.D.Desk.slots c.args.desk.now) (g.D.Desk.slots c.run_words-ended.new.desk) (g.D.Desk.slots c.put_note.new.desk) c.run_words-ended.result c.put_note.result
-    (record { ran = c.run_words-ended.ensures.ran; notes = c.put_note.ensures.notes; beside = c.put_note.ensures.others })
+returns-clause-refused g c = called_refused (command_of (map string_bytes c.args.words.now)) (g.D.Desk.slots c.args.desk.now) (g.D.Desk.slots c.run_words-ending.new.desk) (g.D.Desk.slots c.put_note.new.desk) c.run_words-ending.result c.put_note.result
+    (record { ran = c.run_words-ending.ensures.ran; notes = c.put_note.ensures.notes; beside = c.put_note.ensures.others })
+
+pub returns-clause-not_built : goal.returns-clause-not_built
+returns-clause-not_built g c = called_not_built (command_of (map string_bytes c.args.words.now)) (g.D.Desk.slots c.args.desk.now) (g.D.Desk.slots c.run_words-ending.new.desk) (g.D.Desk.slots c.put_note.new.desk) c.run_words-ending.result c.put_note.result
+    (record { ran = c.run_words-ending.ensures.ran; notes = c.put_note.ensures.notes; beside = c.put_note.ensures.others })
 
 pub returns-clause-read_faults : goal.returns-clause-read_faults
-returns-clause-read_faults g c = called_read_faults (names_of (map string_bytes c.args.words.now)) (g.D.Desk.slots c.args.desk.now) (g.D.Desk.slots c.run_words-ended.new.desk) (g.D.Desk.slots c.put_note.new.desk) c.run_words-ended.result c.put_note.result
-    (record { ran = c.run_words-ended.ensures.ran; notes = c.put_note.ensures.notes; beside = c.put_note.ensures.others })
+returns-clause-read_faults g c = called_read_faults (command_of (map string_bytes c.args.words.now)) (g.D.Desk.slots c.args.desk.now) (g.D.Desk.slots c.run_words-ending.new.desk) (g.D.Desk.slots c.put_note.new.desk) c.run_words-ending.result c.put_note.result
+    (record { ran = c.run_words-ending.ensures.ran; notes = c.put_note.ensures.notes; beside = c.put_note.ensures.others })
 
 pub returns-clause-write_faults : goal.returns-clause-write_faults
-returns-clause-write_faults g c = called_write_faults (names_of (map string_bytes c.args.words.now)) (g.D.Desk.slots c.args.desk.now) (g.D.Desk.slots c.run_words-ended.new.desk) (g.D.Desk.slots c.put_note.new.desk) c.run_words-ended.result c.put_note.result
-    (record { ran = c.run_words-ended.ensures.ran; notes = c.put_note.ensures.notes; beside = c.put_note.ensures.others })
+returns-clause-write_faults g c = called_write_faults (command_of (map string_bytes c.args.words.now)) (g.D.Desk.slots c.args.desk.now) (g.D.Desk.slots c.run_words-ending.new.desk) (g.D.Desk.slots c.put_note.new.desk) c.run_words-ending.result c.put_note.result
+    (record { ran = c.run_words-ending.ensures.ran; notes = c.put_note.ensures.notes; beside = c.put_note.ensures.others })
+
+pub returns-clause-note_fault : goal.returns-clause-note_fault
+returns-clause-note_fault g c = called_note_fault (command_of (map string_bytes c.args.words.now)) (g.D.Desk.slots c.args.desk.now) (g.D.Desk.slots c.run_words-ending.new.desk) (g.D.Desk.slots c.put_note.new.desk) c.run_words-ending.result c.put_note.result
+    (record { ran = c.run_words-ending.ensures.ran; notes = c.put_note.ensures.notes; beside = c.put_note.ensures.others })
+
+pub returns-clause-attached : goal.returns-clause-attached
+returns-clause-attached g c = called_attached (command_of (map string_bytes c.args.words.now)) (g.D.Desk.slots c.args.desk.now) (g.D.Desk.slots c.run_words-ending.new.desk) (g.D.Desk.slots c.put_note.new.desk) c.run_words-ending.result c.put_note.result
+    (record { ran = c.run_words-ending.ensures.ran; notes = c.put_note.ensures.notes; beside = c.put_note.ensures.others })
+
+pub returns-clause-policy : goal.returns-clause-policy
+returns-clause-policy g c = called_policy (command_of (map string_bytes c.args.words.now)) (g.D.Desk.slots c.args.desk.now) (g.D.Desk.slots c.run_words-ending.new.desk) (g.D.Desk.slots c.put_note.new.desk) c.run_words-ending.result c.put_note.result
+    (record { ran = c.run_words-ending.ensures.ran; notes = c.put_note.ensures.notes; beside = c.put_note.ensures.others })

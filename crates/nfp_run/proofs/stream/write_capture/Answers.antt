@@ -26,11 +26,11 @@ returns-in_err-put_summary-clause-err g c = handed_on c.from_residual-in_err-put
     (ran_here _ _ c.args.head.now _ _ _ _ _ _ c.in_ok-writer.ensures.order
     (same_left c.args.reader (g.D.Desk.slots c.args.desk.now Capture) (g.D.Desk.slots c.put_head.new.desk Capture) (g.D.Desk.slots c.put_text.new.desk Capture) (c.put_text.ensures.others Capture capture_is_not_report) (c.put_head.ensures.others Capture capture_is_not_out))
     c.in_ok-ended.ensures.ok)
-    (subst (λ t. Breaks [] t (g.D.Desk.slots c.write_records.new.desk) (g.D.Desk.slots c.put_summary.new.desk) c.in_err-put_summary.field-0.0) (summary_of _ _ _ _ _ _ _ c.in_ok-ended.ensures.chain c.in_ok-ended.ensures.functions) c.in_err-put_summary.ensures.err))
+    (subst (λ t. Breaks [] t (g.D.Desk.slots c.write_records.new.desk) (g.D.Desk.slots c.put_summary.new.desk) c.in_err-put_summary.field-0.0) (summary_of _ _ _ _ _ c.in_ok-ended.ensures.declared) c.in_err-put_summary.ensures.err))
 
 pub returns-clause-ok : goal.returns-clause-ok
 returns-clause-ok g c = writes_all _ _ _ _ _ _ _ _ _ (begun _ _ _ _ c.in_ok-writer.ensures.ok c.in_ok-put_text.ensures.ok)
     (ran_here _ _ c.args.head.now _ _ _ _ _ _ c.in_ok-writer.ensures.order
     (same_left c.args.reader (g.D.Desk.slots c.args.desk.now Capture) (g.D.Desk.slots c.put_head.new.desk Capture) (g.D.Desk.slots c.put_text.new.desk Capture) (c.put_text.ensures.others Capture capture_is_not_report) (c.put_head.ensures.others Capture capture_is_not_out))
     c.in_ok-ended.ensures.ok)
-    (subst (λ t. Puts [] t (g.D.Desk.slots c.write_records.new.desk) (g.D.Desk.slots c.put_summary.new.desk)) (summary_of _ _ _ _ _ _ _ c.in_ok-ended.ensures.chain c.in_ok-ended.ensures.functions) c.in_ok-put_summary.ensures.ok)
+    (subst (λ t. Puts [] t (g.D.Desk.slots c.write_records.new.desk) (g.D.Desk.slots c.put_summary.new.desk)) (summary_of _ _ _ _ _ c.in_ok-ended.ensures.declared) c.in_ok-put_summary.ensures.ok)

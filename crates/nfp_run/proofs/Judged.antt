@@ -1,0 +1,113 @@
+-- How a call ends at its policy.
+use Rattle.std.proofs.Common.{◌≡◌, ◌<◌, ◌≤◌, ◌⊎◌, ◌∙◌, inl, inr, ℕ, List, [], ◌∷◌, length, Bool, false, refl, ap, sym, subst, true, Err, arith}
+use Rattle.std.specs.Prelude.{Option, Some, None, IfSome, nat_lt, if◌then◌else◌, Result, Ok}
+use Rattle.std.specs.Prelude.{slice_get}
+use Rattle.std.specs.Option.{option_map_or}
+use Rattle.std.specs.List.{AllZip, range_with_len}
+use Rattle.std.proofs.lemmas.Bool.Decides.{nat_tests}
+use Rattle.std.proofs.lemmas.List.{length-append}
+use Rattle.std.proofs.lemmas.List.FromFn.{length-range_with_len}
+use Rattle.std.proofs.lemmas.List.Sorted.{length_permutation}
+use Rattle.policy_text.specs.declared.policy.ChainPolicy.{ChainPolicy}
+use Rattle.policy_text.specs.declared.policy.FunctionDecl.{FunctionDecl}
+use Rattle.policy_check.specs.declared.fault.Order.{Order}
+use Rattle.policy_judge.specs.declared.judged.Judged.{Judged}
+use Rattle.policy_judge.specs.Orders.{IsOrdered}
+use Rattle.nfp_run.specs.declared.service.NamedFunction.{NamedFunction}
+use Rattle.nfp_run.specs.Answers.{IsUnbuilt}
+use Rattle.nfp_run.specs.Plan.{plan_text}
+use Rattle.nfp_run.specs.Services.{named, function_at, functions_at, is_plain, service_in, service_among, service_of}
+use Rattle.nfp_outside.specs.Outside.{SlotView, IsRisen}
+use Rattle.nfp_outside.specs.declared.slot.Slot.TheVariants as slots
+use Rattle.policy_text.specs.Grammar.{policy_of}
+use Rattle.policy_judge.specs.declared.fault.JudgeFault.{JudgeFault}
+use Rattle.policy_judge.specs.declared.fault.JudgeFault.TheVariants as faults
+use Rattle.policy_judge.specs.declared.fault.PolicyFault.TheVariants as policies
+use Rattle.policy_judge.specs.Judging.{judged, judged_text, told, Judges}
+use Rattle.policy_judge.specs.Lines.{too_long_line}
+use Rattle.nfp_run.specs.declared.ending.Ending.{Ending}
+use Rattle.nfp_run.specs.declared.ending.Ending.TheVariants.{Completed, Planned, Refused, Stopped}
+use Rattle.nfp_run.specs.declared.outcome.Outcome.TheVariants.{Done, Usage, Policy, NotBuilt, Capture, ReadFault, WriteFault, OutOfMemory}
+use Rattle.nfp_run.specs.declared.read.Unread.{Unread}
+use Rattle.nfp_run.specs.declared.read.Unread.TheVariants.{TooLong, Failed, NoMemory}
+use Rattle.nfp_run.specs.Reading.{IsUnread, UnreadEnds, refused_by, EndsAtPolicy, EndsBeforeCapture, IsPlanOf, PlanEnds}
+
+judged_long : (bytes : List ℕ) → 1048576 < length bytes → judged bytes ≡ Err (told policies.TooLong too_long_line)
+unfolding judged
+judged_long bytes long =
+    let beyond : nat_lt 1048576 (length bytes) ≡ true = grind (arith, nat_tests) in
+    ap (λ b. if b then Err (told policies.TooLong too_long_line) else judged_text (policy_of bytes)) beyond
+
+pub if_told : (o : Option (List ℕ)) (P Q : List ℕ → Type 0) → ((bytes : List ℕ) → P bytes → Q bytes) → IfSome o P → IfSome o Q
+if_told None P Q f h = tt
+if_told (Some bytes) P Q f h = f bytes h
+
+pub unread_ends : (old new : SlotView) (unread : Unread) (ending : Ending) → IsUnread 1048576 old new unread → UnreadEnds unread ending → EndsAtPolicy old new ending
+unread_ends old new TooLong ending is (inl e) = subst (EndsAtPolicy old new) (sym e) (if_told old.bytes _ _ (λ bytes long. judged_long bytes long) is)
+unread_ends old new TooLong ending is (inr e) = subst (EndsAtPolicy old new) (sym e) tt
+unread_ends old new Failed ending is e = subst (EndsAtPolicy old new) (sym e) (refl, is)
+unread_ends old new NoMemory ending is e = subst (EndsAtPolicy old new) (sym e) tt
+
+pub refused_ends : (old new : SlotView) (read : List ℕ) (fault : JudgeFault) → IfSome old.bytes (λ bytes. bytes ≡ read) → Judges (judged read) (Err fault) → EndsAtPolicy old new (refused_by fault)
+refused_ends old new read (faults.Refused refusal) is due = if_told old.bytes _ _ (λ bytes e. ap judged e ∙ due) is
+refused_ends old new read faults.OutOfMemory is due = tt
+
+-- what ends a call at its policy ends it before the capture
+pub policy_ends : (old new : SlotView) (ending : Ending) → EndsAtPolicy old new ending → EndsBeforeCapture old new ending
+policy_ends old new (Refused refusal) ends = ends
+policy_ends old new (Stopped (ReadFault s)) ends = ends
+policy_ends old new (Stopped OutOfMemory) ends = tt
+policy_ends old new (Stopped Done) ends = ends
+policy_ends old new (Stopped (Usage fault)) ends = ends
+policy_ends old new (Stopped (Policy fault)) ends = ends
+policy_ends old new (Stopped (NotBuilt s)) ends = absurd ends
+policy_ends old new (Stopped (Capture fault)) ends = ends
+policy_ends old new (Stopped (WriteFault s)) ends = ends
+policy_ends old new (Completed totals) ends = ends
+policy_ends old new (Planned text) ends = ends
+
+pub plan_ends : (old new : SlotView) (ending : Ending) → EndsAtPolicy old new ending → PlanEnds old new ending
+plan_ends old new (Refused refusal) ends = ends
+plan_ends old new (Stopped outcome) ends = ends
+plan_ends old new (Completed totals) ends = ends
+plan_ends old new (Planned text) ends = absurd ends
+
+pub plan_shown : (o : Option (List ℕ)) (policy : Judged) (text : List ℕ) → IfSome o (λ bytes. judged bytes ≡ Ok policy) → text ≡ plan_text policy → IfSome o (λ bytes. IsPlanOf text (judged bytes))
+plan_shown o policy text told is = if_told o _ _ (λ bytes e. subst (IsPlanOf text) (sym e) is) told
+
+-- what the policy runs
+pub served : (o : Option (List ℕ)) (policy : Judged) (service : ChainPolicy × List NamedFunction) → IfSome o (λ bytes. judged bytes ≡ Ok policy) → service_among policy.policy.chains policy.orders ≡ Some service →
+    IfSome o (λ bytes. service_of (judged bytes) ≡ Some service)
+served o policy service told is = if_told o _ _ (λ bytes e. ap service_of e ∙ is) told
+
+pub unbuilt : (o : Option (List ℕ)) (policy : Judged) → IfSome o (λ bytes. judged bytes ≡ Ok policy) → service_among policy.policy.chains policy.orders ≡ None → IfSome o (λ bytes. IsUnbuilt (judged bytes))
+unbuilt o policy told is = if_told o _ _ (λ bytes e. subst IsUnbuilt (sym e) is) told
+
+one_at_most : (declared : List FunctionDecl) (place : ℕ) → length (function_at declared place) ≤ 1
+one_at_most declared place = go (slice_get declared place)
+  where
+    go : (o : Option FunctionDecl) → length (option_map_or (λ decl. named decl ∷ []) o []) ≤ 1
+    go None = omega arith
+    go (Some decl) = omega arith
+
+few_at : (declared : List FunctionDecl) (places : List ℕ) → length (functions_at declared places) ≤ length places
+few_at declared [] = omega arith
+few_at declared (place ∷ places) = omega (arith, length-append (function_at declared place) (functions_at declared places), one_at_most declared place, few_at declared places)
+
+few_in : (chain : ChainPolicy) (order : Order) (service : ChainPolicy × List NamedFunction) → IsOrdered chain order → service_in chain order ≡ Some service → length service.1 ≤ 64
+few_in chain order service ordered is = go (is_plain chain) is
+  where
+    go : (b : Bool) → (if b then Some (chain, functions_at chain.functions order.positions) else None) ≡ Some service → length service.1 ≤ 64
+    go false e = absurd cc
+    go true e =
+        let functions : functions_at chain.functions order.positions ≡ service.1 = cc in
+        let all = length_permutation (range_with_len 0 (length chain.functions)) order.positions ordered.each_once in
+        let few = ordered.few in
+        rw (← functions) (omega (arith, few_at chain.functions order.positions, all, few, length-range_with_len 0 (length chain.functions)))
+
+pub few_functions : (chains : List ChainPolicy) (orders : List Order) (service : ChainPolicy × List NamedFunction) → AllZip IsOrdered chains orders → service_among chains orders ≡ Some service → length service.1 ≤ 64
+few_functions (chain ∷ []) (order ∷ []) service ordered is = few_in chain order service ordered.0 is
+few_functions [] orders service ordered is = absurd cc
+few_functions (chain ∷ []) [] service ordered is = absurd cc
+few_functions (chain ∷ []) (order ∷ order2 ∷ orders) service ordered is = absurd cc
+few_functions (chain ∷ chain2 ∷ chains) orders service ordered is = absurd cc

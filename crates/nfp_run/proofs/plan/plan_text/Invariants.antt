@@ -1,0 +1,5 @@
+use Rattle.nfp_run.proofs.Planning.{IsShown}
+use Rattle.nfp_run.proofs.plan.plan_text.Given as goal
+
+abbrev pub invariant-chains : goal.invariant-chains
+invariant-chains l = IsShown l.chains l.orders l.place l.text.items

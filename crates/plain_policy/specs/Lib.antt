@@ -1,4 +1,0 @@
-pub mod Grammar
-pub mod Policy
-pub mod Text
-pub mod Chain
