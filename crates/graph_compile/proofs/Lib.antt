@@ -1,0 +1,2 @@
+pub mod Drafts
+mod Rows

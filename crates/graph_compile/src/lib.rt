@@ -1,0 +1,27 @@
+//! Which functions of a chain run side by side, and what each branch gets of a packet.
+//!
+//! A chain of network functions becomes a list of stages, which a packet passes one after another.
+//! A stage has branches that work on the packet side by side, and a branch is a run of functions,
+//! one after another. [`compile`] makes the stages by one greedy pass over the chain: a function
+//! joins the branch that must come before it, opens a branch where none must, and closes the stage
+//! where two must. [`lawful`] tells of any graph whether it may stand for the chain.
+//!
+//! Each field of a packet is shared by the branches that only read it, moved to the one branch that
+//! touches it, or copied for those that write it. [`copies`] counts the copies, and
+//! [`no_copy_is_spared`] says that there is none too many.
+//!
+//! How a packet is dealt to branches and put together again is left out.
+#![tactic(auto)]
+
+mod copying;
+mod draft;
+mod graph;
+mod lawfulness;
+mod parts;
+mod placing;
+mod touching;
+
+pub use copying::copies;
+pub use graph::{Branch, Graph, Stage};
+pub use lawfulness::lawful;
+pub use placing::compile;
