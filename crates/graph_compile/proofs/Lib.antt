@@ -1,2 +1,5 @@
+pub mod Counting
 pub mod Drafts
+pub mod Following
 mod Rows
+pub mod Standing
