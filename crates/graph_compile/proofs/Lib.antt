@@ -1,5 +1,7 @@
 pub mod Counting
 pub mod Drafts
 pub mod Following
+pub mod Making
 mod Rows
 pub mod Standing
+pub mod Testing
