@@ -5,3 +5,4 @@ pub mod Making
 mod Rows
 pub mod Standing
 pub mod Testing
+pub mod Times

@@ -1,3 +1,4 @@
+pub mod Facts
 pub mod Lawful
 pub mod Parts
 pub mod Stages
