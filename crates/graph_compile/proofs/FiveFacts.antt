@@ -1,5 +1,5 @@
 -- Stages that follow each other are what the five facts say, and the other way round.
-use Rattle.std.proofs.Common.{◌≡◌, ◌≢◌, ◌↔◌, ℕ, zero, suc, ◌+◌, ◌<◌, ◌≤◌, Bool, true, false, ◌||◌, List, [], ◌∷◌, ◌++◌, length, refl, sym, ap, ◌∙◌, subst, arith, Some, None, inl, inr}
+use Rattle.std.proofs.Common.{◌≡◌, ◌≢◌, ◌↔◌, ℕ, zero, suc, ◌+◌, ◌-◌, ◌<◌, ◌≤◌, Bool, true, false, ◌||◌, List, [], ◌∷◌, ◌++◌, length, refl, sym, ap, ◌∙◌, subst, arith, Some, None, inl, inr}
 use Rattle.std.specs.Prelude.{◌==◌, ◌⊎◌, nat_le, nat_lt, count_by, sum_by, flat_map, slice_get, IsTrue}
 use Rattle.std.specs.List.{list_any, AllByRecursion}
 use Rattle.std.proofs.lemmas.Bool.Decides.{nat_tests}
@@ -218,3 +218,142 @@ lawful-from_staged graph chain h = record {
     stage-apart chain p.first (p.first + size s.branches) s.branches (is_stage-to chain p.first s.branches p.lawful.stands);
   parts = λ i s e. (place-of chain 1 graph.stages (suc (length chain)) h i s e).lawful.parts;
 }
+
+-- from the five facts
+
+-- the facts, of stages from one position up to another
+record HasFacts (chain : List Profile) (first last : ℕ) (stages : List Stage) : Type 0 where
+  pub order : first ≤ last
+  pub each : (q : ℕ) → times q (all_positions stages) ≡ inside first last q
+  pub rising : (i : ℕ) (s : Stage) → slice_get stages i ≡ Some s → AreRising s.branches
+  pub below : (i j : ℕ) (s t : Stage) → i < j → slice_get stages i ≡ Some s → slice_get stages j ≡ Some t → (q r : ℕ) → stands q s ≡ true → stands r t ≡ true → q < r
+  pub apart : (i : ℕ) (s : Stage) → slice_get stages i ≡ Some s → AreApart chain s.branches
+  pub parts : (i : ℕ) (s : Stage) → slice_get stages i ≡ Some s → s.parts ≡ parts_of chain s.branches
+
+rising-each : (bs : List Branch) → AreRising bs → AllByRecursion RisesFrom bs
+rising-each bs r = each-from RisesFrom bs (λ j b e. record { low = 0; rise = r j b e })
+
+-- a position that is counted stands in some stage
+stands-counted : (q : ℕ) (s : Stage) → AreRising s.branches → times q (positions_of s.branches) ≢ 0 → stands q s ≡ true
+stands-counted q s r n =
+    let counted = times-stage q s.branches (rising-each s.branches r) in
+    any-from_count (holds q) s.branches (omega (arith, counted, n))
+
+all-find : (q : ℕ) (stages : List Stage) → ((i : ℕ) (s : Stage) → slice_get stages i ≡ Some s → AreRising s.branches) → times q (all_positions stages) ≢ 0 → PassesSomewhere (stands q) stages
+all-find q [] r n = absurd (n refl)
+all-find q (s ∷ stages) r n =
+    elim (times q (positions_of s.branches) == 0) as (λ b. (times q (positions_of s.branches) == 0) ≡ b → PassesSomewhere (stands q) (s ∷ stages)) [
+      | true ↦ λ e.
+          let none : times q (positions_of s.branches) ≡ 0 = grind (arith, nat_tests) in
+          let sum = times-append q (positions_of s.branches) (all_positions stages) in
+          let some : times q (all_positions stages) ≢ 0 = λ z. n (omega (arith, sum, none, z)) in
+          let rest = all-find q stages (λ i t e. r (suc i) t e) some in
+          record { at = suc rest.at; it = rest.it; there = rest.there; passes = rest.passes }
+      | false ↦ λ e.
+          let some : times q (positions_of s.branches) ≢ 0 = grind (arith, nat_tests) in
+          record { at = 0; it = s; there = refl; passes = stands-counted q s (r 0 s refl) some }
+    ] refl
+
+facts-parted : (chain : List Profile) (first last : ℕ) (s : Stage) (stages : List Stage) → HasFacts chain first last (s ∷ stages) → IsParted first last (positions_of s.branches) (all_positions stages)
+facts-parted chain first last s stages h = record {
+  order = h.order;
+  each = λ q. sym (times-append q (positions_of s.branches) (all_positions stages)) ∙ h.each q;
+  below = λ q r n m.
+    let there = all-find r stages (λ i t e. h.rising (suc i) t e) m in
+    h.below 0 (suc there.at) s there.it (omega arith) refl there.there q r (stands-counted q s (h.rising 0 s refl) n) there.passes;
+}
+
+rises-higher : (low : ℕ) (xs : List ℕ) → rises 0 xs ≡ true → ((q : ℕ) → list_any (λ x. x == q) xs ≡ true → low ≤ q) → rises low xs ≡ true
+rises-higher low [] h f = refl
+rises-higher low (x ∷ xs) h f =
+    let here : (x == x) ≡ true = grind (arith, nat_tests) in
+    let least : low ≤ x = f x (grind arith) in
+    grind (arith, nat_tests)
+
+-- a stage of which each position of a range stands once, and no other
+facts-stand : (chain : List Profile) (first : ℕ) (bs : List Branch) → ((q : ℕ) → times q (positions_of bs) ≡ inside first (first + size bs) q) → AreRising bs → AreApart chain bs → Stands chain first (first + size bs) bs
+facts-stand chain first bs t r a = record {
+  count = refl;
+  rise = each-from (Rises first) bs (λ j b e. record { rises = rises-higher first b.positions (r j b e) (λ q i. (bounds q j b e i).0) });
+  end = each-from (EndsBelow (first + size bs)) bs (λ j b e. record { below = λ q i. (bounds q j b e i).1 });
+  once = λ q l u. let c = counted q in let n = t q in let one = inside-yes first (first + size bs) q l u in omega (arith, c, n, one);
+  join = each-from (Joins chain first) bs (λ j b e. record { joins = λ q s i l u f. joined j b e q s i l u f });
+}
+  where
+    counted : (q : ℕ) → times q (positions_of bs) ≡ count_by (holds q) bs
+    counted q = times-stage q bs (rising-each bs r)
+    bounds : (q j : ℕ) (b : Branch) → slice_get bs j ≡ Some b → holds q b ≡ true → (first ≤ q) × (q < first + size bs)
+    bounds q j b e i =
+        let some = count-at (holds q) bs j b e i in
+        let c = counted q in
+        let n = t q in
+        inside-cases first (first + size bs) q (let z : inside first (first + size bs) q ≢ 0 = omega (arith, c, n, some) in z)
+    joined : (j : ℕ) (b : Branch) → slice_get bs j ≡ Some b → (q s : ℕ) → holds s b ≡ true → first ≤ q → q < s → is_forbidden chain q s ≡ true → holds q b ≡ true
+    joined j b e q s i l u f =
+        let above = (bounds s j b e i).1 in
+        let one = inside-yes first (first + size bs) q l (omega (arith, u, above)) in
+        let c = counted q in
+        let n = t q in
+        let there = count-find (holds q) bs (omega (arith, c, n, one)) in
+        elim (there.at == j) as (λ x. (there.at == j) ≡ x → holds q b ≡ true) [
+          | true ↦ λ w.
+              let same : there.at ≡ j = grind (arith, nat_tests) in
+              let P : ℕ → Type 0 = λ k. slice_get bs k ≡ Some there.it in
+              let got : slice_get bs j ≡ Some there.it = subst P same there.there in
+              let one_branch : there.it ≡ b = cc in
+              let Q : Branch → Type 0 = λ y. holds q y ≡ true in
+              subst Q one_branch there.passes
+          | false ↦ λ w.
+              let other : there.at ≢ j = grind (arith, nat_tests) in
+              let not_so = a there.at j there.it b other there.there e q s there.passes i u in
+              absurd (grind (arith, f, not_so))
+        ] refl
+
+facts-staged : (chain : List Profile) (first last : ℕ) (stages : List Stage) → HasFacts chain first last stages → IsStaged chain first stages last
+unfolding IsStaged
+facts-staged chain first last [] h =
+    let o = h.order in
+    elim (nat_lt first last) as (λ b. nat_lt first last ≡ b → first ≡ last) [
+      | true ↦ λ e. let less : first < last = grind (arith, nat_tests) in let none = h.each first in let one = inside-yes first last first (omega arith) less in absurd (omega (arith, none, one))
+      | false ↦ λ e. let more : last ≤ first = grind (arith, nat_tests) in omega (arith, o, more)
+    ] refl
+facts-staged chain first last (s ∷ stages) h =
+    let long : length (positions_of s.branches) ≡ size s.branches = length-flat_map (λ (b : Branch). b.positions) s.branches in
+    let o = h.order in
+    let n : ℕ = last - first in
+    let front = front-of n first last (positions_of s.branches) (all_positions stages) (omega (arith, o)) (facts-parted chain first last s stages h) in
+    let P : ℕ → Type 0 = λ k. (q : ℕ) → times q (positions_of s.branches) ≡ inside first (first + k) q in
+    let R : ℕ → Type 0 = λ k. (q : ℕ) → times q (all_positions stages) ≡ inside (first + k) last q in
+    let O : ℕ → Type 0 = λ k. first + k ≤ last in
+    let st = facts-stand chain first s.branches (subst P long front.front) (h.rising 0 s refl) (h.apart 0 s refl) in
+    ( record { stands = is_stage-from chain first (first + size s.branches) s.branches st; parts = h.parts 0 s refl }
+    , facts-staged chain (first + size s.branches) last stages (record {
+        order = subst O long front.room;
+        each = subst R long front.rest;
+        rising = λ i t e. h.rising (suc i) t e;
+        below = λ i j t u l e f q r a b. h.below (suc i) (suc j) t u (omega arith) e f q r a b;
+        apart = λ i t e. h.apart (suc i) t e;
+        parts = λ i t e. h.parts (suc i) t e;
+      }) )
+
+pub staged-from_lawful : (graph : Graph) (chain : List Profile) → IsLawful graph chain → IsStaged chain 1 graph.stages (suc (length chain))
+staged-from_lawful graph chain h = facts-staged chain 1 (suc (length chain)) graph.stages (record {
+  order = omega arith;
+  each = λ q. elim (nat_lt q 1) as (λ b. nat_lt q 1 ≡ b → times q (all_positions graph.stages) ≡ inside 1 (suc (length chain)) q) [
+    | true ↦ λ e. let less : q < 1 = grind (arith, nat_tests) in h.no_other q (inl less) ∙ sym (inside-low 1 (suc (length chain)) q less)
+    | false ↦ λ e.
+        let more : 1 ≤ q = grind (arith, nat_tests) in
+        elim (nat_le q (length chain)) as (λ b. nat_le q (length chain) ≡ b → times q (all_positions graph.stages) ≡ inside 1 (suc (length chain)) q) [
+          | true ↦ λ f. let within : q ≤ length chain = grind (arith, nat_tests) in h.each_once q more within ∙ sym (inside-yes 1 (suc (length chain)) q more (omega arith))
+          | false ↦ λ f. let out : length chain < q = grind (arith, nat_tests) in h.no_other q (inr out) ∙ sym (inside-high 1 (suc (length chain)) q (omega arith))
+        ] refl
+  ] refl;
+  rising = h.rising;
+  below = h.below;
+  apart = h.apart;
+  parts = h.parts;
+})
+
+-- an answer that is true just where stages follow each other is true just where the five facts hold
+pub lawful-answer : (answer : Bool) (graph : Graph) (chain : List Profile) → IsTrue answer ↔ IsStaged chain 1 graph.stages (suc (length chain)) → IsTrue answer ↔ IsLawful graph chain
+lawful-answer answer graph chain h = (λ e. lawful-from_staged graph chain (h.0 e), λ l. h.1 (staged-from_lawful graph chain l))
