@@ -1,5 +1,6 @@
 pub mod Counting
 pub mod Drafts
+pub mod Filling
 pub mod FiveFacts
 pub mod Following
 pub mod Making

@@ -2,6 +2,7 @@
 
 ghost use Rattle.std.specs.Prelude.{◌≡◌, ◌==◌, ◌<◌, ◌≤◌, ◌+◌, ◌-◌, ◌^◌, ◌↔◌, suc, length, count_by, IsTrue, MatchOption, map};
 ghost use Rattle.std.specs.List.{list_any, list_all, range_with_len};
+ghost use Rattle.graph_compile.specs.Facts.{IsLawful};
 ghost use Rattle.graph_compile.specs.Lawful.{holds, size, rises, ends_below, stands_once, joins, is_branch, is_stage, IsLawfulStage, IsStaged};
 ghost use Rattle.graph_compile.specs.Parts.{mode_of, modes_of, touches_of, parts_of};
 
@@ -13,11 +14,24 @@ use action_profile::{Mode, Profile, StageParts, Touch, all_fields};
 use packet_fields::Field;
 
 /// Whether a graph may stand for a chain, whose profiles come in chain order. Takes no memory.
+///
+/// It may where each position from 1 to the number of functions stands once and no other number
+/// stands, positions rise within each branch, every position of a stage is below those of the
+/// stages that follow, no function is forbidden by the dependency table before another in a
+/// different branch of its stage, and the parts of each stage are those that its branches need.
 pub fn lawful(graph: &Graph, profiles: &[Profile]) -> bool
-    ensures { IsTrue result ↔ IsStaged profiles.now 1 graph.now.stages (suc (length profiles.now)) }
+    ensures facts { IsTrue result ↔ IsLawful graph.now profiles.now }
+    // The same stage by stage, each from the position of its first function on.
+    ensures staged { IsTrue result ↔ IsStaged profiles.now 1 graph.now.stages (suc (length profiles.now)) }
+{
+    are_staged(graph.stages.as_slice(), profiles)
+}
+
+fn are_staged(stages: &[Stage], profiles: &[Profile]) -> bool
+    ensures { IsTrue result ↔ IsStaged profiles.now 1 stages.now (suc (length profiles.now)) }
 {
     let mut first = 1;
-    'stages: for stage in graph.stages.as_slice() {
+    'stages: for stage in stages {
         let Some(next) = position_behind(first, stage.branches.as_slice()) else {
             return false;
         };

@@ -1,7 +1,9 @@
 //! Functions are placed into stages.
 
-ghost use Rattle.std.specs.Prelude.{◌≡◌, ◌<◌, ◌≤◌, ◌+◌, ◌^◌, length, map, count_by, IfOk};
+ghost use Rattle.std.specs.Prelude.{◌≡◌, ◌<◌, ◌≤◌, ◌+◌, ◌^◌, suc, length, map, count_by, IfOk};
 ghost use Rattle.graph_compile.specs.declared.draft.Draft.{Draft};
+ghost use Rattle.graph_compile.specs.Facts.{IsLawful, IsFull, IsClosedForCause};
+ghost use Rattle.graph_compile.specs.Lawful.{IsStaged};
 ghost use Rattle.graph_compile.specs.Stages.{is_forbidden, holds_back, alone, grown, stage_of, placed, finished, graph_of};
 
 use crate::draft::Draft;
@@ -19,6 +21,17 @@ use std::alloc::{AllocError, Global};
 /// branch holds one that is forbidden before it by the dependency table; it comes to the end of the
 /// branch where exactly one does; and where more do, it closes the stage and opens the next.
 pub fn compile(alloc: Global, profiles: &[Profile]) -> Result<Graph, AllocError>
+    requires { length profiles.now ≤ 64 }
+    ensures exact { IfOk result (λ graph. graph ≡ graph_of profiles.now) }
+    ensures lawful { IfOk result (λ graph. IsLawful graph profiles.now) }
+    ensures staged { IfOk result (λ graph. IsStaged profiles.now 1 graph.stages (suc (length profiles.now))) }
+    ensures full { IfOk result IsFull }
+    ensures caused { IfOk result (λ graph. IsClosedForCause profiles.now graph.stages) }
+{
+    compiled(alloc, profiles)
+}
+
+fn compiled(alloc: Global, profiles: &[Profile]) -> Result<Graph, AllocError>
     requires { length profiles.now ≤ 64 }
     ensures { IfOk result (λ graph. graph ≡ graph_of profiles.now) }
 {

@@ -1,20 +1,28 @@
-use Rattle.std.proofs.Common.{◌≡◌, ◌∙◌, sym, subst, IfOk, arith, ◌+◌}
+use Rattle.std.proofs.Common.{suc, length}
 use Rattle.graph_compile.specs.declared.graph.Graph.{Graph}
-use Rattle.graph_compile.proofs.Drafts.{few_placed, rest_placed-next, finished_rest}
+use Rattle.graph_compile.specs.Facts.{IsLawful, IsFull, IsClosedForCause}
+use Rattle.graph_compile.specs.Lawful.{IsStaged}
+use Rattle.graph_compile.specs.Stages.{graph_of}
+use Rattle.graph_compile.proofs.Filling.{graph-full, graph-caused}
+use Rattle.graph_compile.proofs.FiveFacts.{lawful-from_staged}
+use Rattle.graph_compile.proofs.Making.{graph-staged, if_ok-same}
 use Rattle.graph_compile.proofs.placing.compile.Goals as goal
 
-pub chain-preserved : goal.chain-preserved
-chain-preserved c =
+pub returns-clause-lawful : goal.returns-clause-lawful
+returns-clause-lawful c =
     let chain = c.args.profiles.now in
-    let is = c.in_ok-draft.ensures in
-    record {
-      rest = rw is (sym (rest_placed-next chain c.chain.draft c.chain.index c.chain-test.true) ∙ c.chain.invariant.rest);
-      few = rw is (omega (arith, few_placed chain c.chain.draft (c.chain.index + 1), c.chain.invariant.few));
-    }
+    if_ok-same c.compiled.result (graph_of chain) (λ g. IsLawful g chain) c.compiled.ensures (lawful-from_staged (graph_of chain) chain (graph-staged chain))
 
-pub returns : goal.returns
-returns c =
+pub returns-clause-staged : goal.returns-clause-staged
+returns-clause-staged c =
     let chain = c.args.profiles.now in
-    let same = finished_rest chain c.chain.draft c.chain.index c.chain-test.false c.chain.invariant.rest in
-    let P : Graph → Type 0 = λ g. IfOk c.finished.result (λ graph. graph ≡ g) in
-    subst P same c.finished.ensures
+    if_ok-same c.compiled.result (graph_of chain) (λ g. IsStaged chain 1 g.stages (suc (length chain))) c.compiled.ensures (graph-staged chain)
+
+pub returns-clause-full : goal.returns-clause-full
+returns-clause-full c =
+    if_ok-same c.compiled.result (graph_of c.args.profiles.now) IsFull c.compiled.ensures (graph-full c.args.profiles.now)
+
+pub returns-clause-caused : goal.returns-clause-caused
+returns-clause-caused c =
+    let chain = c.args.profiles.now in
+    if_ok-same c.compiled.result (graph_of chain) (λ g. IsClosedForCause chain g.stages) c.compiled.ensures (graph-caused chain)

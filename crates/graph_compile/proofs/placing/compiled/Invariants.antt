@@ -1,7 +1,7 @@
 use Rattle.std.proofs.Common.{◌≡◌, ◌≤◌, ◌+◌, ◌-◌, length}
 use Rattle.graph_compile.proofs.Drafts.{rest_placed}
 use Rattle.graph_compile.specs.Stages.{nothing_placed}
-use Rattle.graph_compile.proofs.placing.compile.Given as goal
+use Rattle.graph_compile.proofs.placing.compiled.Given as goal
 
 -- the functions so far, and those of the rest; each opens one branch at most
 abbrev pub invariant-chain : goal.invariant-chain
