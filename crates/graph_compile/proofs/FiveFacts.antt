@@ -118,6 +118,7 @@ stage-times chain first next bs s q =
   where
     not_high : (q : ℕ) (b : Branch) → next ≤ q → EndsBelow next b → holds q b ≡ false
     not_high q b a x = elim (holds q b) as (λ t. holds q b ≡ t → t ≡ false) [ true ↦ λ i. let l = x.below q i in absurd (omega (arith, l, a)) | false ↦ λ i. refl ] refl
+
     low_out : (low q : ℕ) (xs : List ℕ) → q < low → rises low xs ≡ true → list_any (λ x. x == q) xs ≡ false
     low_out low q [] l h = refl
     low_out low q (x ∷ xs) l h =
@@ -125,10 +126,11 @@ stage-times chain first next bs s q =
         let other : (x == q) ≡ false = grind (arith, nat_tests) in
         let rest = low_out (suc x) q xs (omega arith) (grind arith) in
         grind arith
+
     not_low : (first q : ℕ) (b : Branch) → q < first → Rises first b → holds q b ≡ false
     not_low first q b l r = low_out first q b.positions l r.rises
 
-stage-apart : (chain : List Profile) (first next : ℕ) (bs : List Branch) → Stands chain first next bs → AreApart chain bs
+pub stage-apart : (chain : List Profile) (first next : ℕ) (bs : List Branch) → Stands chain first next bs → AreApart chain bs
 stage-apart chain first next bs s j k b c n e f q r i h less =
     elim (is_forbidden chain q r) as (λ t. is_forbidden chain q r ≡ t → t ≡ false) [
       | true ↦ λ t.
@@ -208,14 +210,14 @@ lawful-from_staged graph chain h = record {
   each_once = λ q l u. all-times chain 1 graph.stages (suc (length chain)) h q ∙ inside-yes 1 (suc (length chain)) q l (omega arith);
   no_other = λ q out. all-times chain 1 graph.stages (suc (length chain)) h q ∙ (elim out [ inl l ↦ inside-low 1 (suc (length chain)) q l | inr u ↦ inside-high 1 (suc (length chain)) q (omega arith) ]);
   rising = λ i s e j b f.
-    let p = place-of chain 1 graph.stages (suc (length chain)) h i s e in
-    let st = is_stage-to chain p.first s.branches p.lawful.stands in
-    let r = each-at (Rises p.first) s.branches st.rise j b f in
-    rises-lower 0 p.first b.positions (omega arith) r.rises;
+      let p = place-of chain 1 graph.stages (suc (length chain)) h i s e in
+      let st = is_stage-to chain p.first s.branches p.lawful.stands in
+      let r = each-at (Rises p.first) s.branches st.rise j b f in
+      rises-lower 0 p.first b.positions (omega arith) r.rises;
   below = λ i j s t l e f q r a b. all-below chain 1 graph.stages (suc (length chain)) h i j s t l e f q r a b;
   apart = λ i s e.
-    let p = place-of chain 1 graph.stages (suc (length chain)) h i s e in
-    stage-apart chain p.first (p.first + size s.branches) s.branches (is_stage-to chain p.first s.branches p.lawful.stands);
+      let p = place-of chain 1 graph.stages (suc (length chain)) h i s e in
+      stage-apart chain p.first (p.first + size s.branches) s.branches (is_stage-to chain p.first s.branches p.lawful.stands);
   parts = λ i s e. (place-of chain 1 graph.stages (suc (length chain)) h i s e).lawful.parts;
 }
 
@@ -259,8 +261,8 @@ facts-parted chain first last s stages h = record {
   order = h.order;
   each = λ q. sym (times-append q (positions_of s.branches) (all_positions stages)) ∙ h.each q;
   below = λ q r n m.
-    let there = all-find r stages (λ i t e. h.rising (suc i) t e) m in
-    h.below 0 (suc there.at) s there.it (omega arith) refl there.there q r (stands-counted q s (h.rising 0 s refl) n) there.passes;
+      let there = all-find r stages (λ i t e. h.rising (suc i) t e) m in
+      h.below 0 (suc there.at) s there.it (omega arith) refl there.there q r (stands-counted q s (h.rising 0 s refl) n) there.passes;
 }
 
 rises-higher : (low : ℕ) (xs : List ℕ) → rises 0 xs ≡ true → ((q : ℕ) → list_any (λ x. x == q) xs ≡ true → low ≤ q) → rises low xs ≡ true
@@ -282,12 +284,14 @@ facts-stand chain first bs t r a = record {
   where
     counted : (q : ℕ) → times q (positions_of bs) ≡ count_by (holds q) bs
     counted q = times-stage q bs (rising-each bs r)
+
     bounds : (q j : ℕ) (b : Branch) → slice_get bs j ≡ Some b → holds q b ≡ true → (first ≤ q) × (q < first + size bs)
     bounds q j b e i =
         let some = count-at (holds q) bs j b e i in
         let c = counted q in
         let n = t q in
         inside-cases first (first + size bs) q (let z : inside first (first + size bs) q ≢ 0 = omega (arith, c, n, some) in z)
+
     joined : (j : ℕ) (b : Branch) → slice_get bs j ≡ Some b → (q s : ℕ) → holds s b ≡ true → first ≤ q → q < s → is_forbidden chain q s ≡ true → holds q b ≡ true
     joined j b e q s i l u f =
         let above = (bounds s j b e i).1 in
@@ -325,16 +329,17 @@ facts-staged chain first last (s ∷ stages) h =
     let P : ℕ → Type 0 = λ k. (q : ℕ) → times q (positions_of s.branches) ≡ inside first (first + k) q in
     let R : ℕ → Type 0 = λ k. (q : ℕ) → times q (all_positions stages) ≡ inside (first + k) last q in
     let O : ℕ → Type 0 = λ k. first + k ≤ last in
-    let st = facts-stand chain first s.branches (subst P long front.front) (h.rising 0 s refl) (h.apart 0 s refl) in
-    ( record { stands = is_stage-from chain first (first + size s.branches) s.branches st; parts = h.parts 0 s refl }
-    , facts-staged chain (first + size s.branches) last stages (record {
+    let st = facts-stand chain first s.branches (subst P long front.front) (h.rising 0 s refl) (h.apart 0 s refl) in (
+      record { stands = is_stage-from chain first (first + size s.branches) s.branches st; parts = h.parts 0 s refl },
+      facts-staged chain (first + size s.branches) last stages (record {
         order = subst O long front.room;
         each = subst R long front.rest;
         rising = λ i t e. h.rising (suc i) t e;
         below = λ i j t u l e f q r a b. h.below (suc i) (suc j) t u (omega arith) e f q r a b;
         apart = λ i t e. h.apart (suc i) t e;
         parts = λ i t e. h.parts (suc i) t e;
-      }) )
+      }),
+    )
 
 pub staged-from_lawful : (graph : Graph) (chain : List Profile) → IsLawful graph chain → IsStaged chain 1 graph.stages (suc (length chain))
 staged-from_lawful graph chain h = facts-staged chain 1 (suc (length chain)) graph.stages (record {

@@ -4,7 +4,9 @@ pub mod Filling
 pub mod FiveFacts
 pub mod Following
 pub mod Making
+pub mod Owning
 mod Rows
 pub mod Standing
 pub mod Testing
 pub mod Times
+pub mod Touches

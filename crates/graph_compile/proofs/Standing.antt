@@ -80,6 +80,7 @@ Stands-new chain first next bs s none = record {
               let here : one_if (holds q (alone next)) ≡ 0 = rw e refl in
               omega (arith, count-push (holds q) bs (alone next), before, here)
         ] refl
+
     joins_new : (q r : ℕ) → holds r (alone next) ≡ true → first ≤ q → q < r → is_forbidden chain q r ≡ true → holds q (alone next) ≡ true
     joins_new q r i l h f =
         let same : next ≡ r = grind (arith, nat_tests) in
@@ -95,9 +96,9 @@ Stands-alone chain position = record {
   rise = (record { rises = grind (arith, nat_tests) }, tt);
   end = (record { below = λ q i. grind (arith, nat_tests) }, tt);
   once = λ q l h.
-    let same : position ≡ q = omega arith in
-    let here : one_if (holds q (alone position)) ≡ 1 = grind (arith, nat_tests) in
-    omega (arith, count-cons (holds q) (alone position) [], here);
+      let same : position ≡ q = omega arith in
+      let here : one_if (holds q (alone position)) ≡ 1 = grind (arith, nat_tests) in
+      omega (arith, count-cons (holds q) (alone position) [], here);
   join = (record { joins = λ q r i l h f. let same : position ≡ r = grind (arith, nat_tests) in absurd (omega arith) }, tt);
 }
 
@@ -118,9 +119,10 @@ all-from_count p h f [] l = tt
 all-from_count p h f (b ∷ bs) l =
     let fewer = count-le p h f bs in
     let hc = count-cons h b bs in
-    let pc = count-cons p b bs in
-    ( here (p b) (h b) refl refl
-    , all-from_count p h f bs (rest (p b) (h b) refl refl) )
+    let pc = count-cons p b bs in (
+      here (p b) (h b) refl refl,
+      all-from_count p h f bs (rest (p b) (h b) refl refl),
+    )
   where
     here : (s t : Bool) → p b ≡ s → h b ≡ t → h b ≡ true → p b ≡ true
     here true t e g i = e
@@ -129,6 +131,7 @@ all-from_count p h f (b ∷ bs) l =
         let a : one_if (h b) ≡ 1 = ap one_if i in
         let z : one_if (p b) ≡ 0 = ap one_if e in
         absurd (omega (arith, l, count-cons h b bs, count-cons p b bs, fewer, a, z))
+
     rest : (s t : Bool) → p b ≡ s → h b ≡ t → count_by h bs ≤ count_by p bs
     rest true t e g =
         let a : one_if (h b) ≡ 1 = ap one_if (f b e) in
@@ -156,8 +159,8 @@ unfolding holds_back
 all_held chain first next bs s one =
     AllByRecursion-weaker (λ b. (q : ℕ) → Precedes chain first next q → holds_back chain next b ≡ true → holds q b ≡ true) (HoldsAll chain first next) (λ b x. record { has = λ q l h f. x q (record { from = l; before = h; forbidden = f }) }) bs
     (all-of_each (λ q b. holds_back chain next b ≡ true → holds q b ≡ true) (Precedes chain first next) bs (λ q a.
-      let once = s.once q a.from a.before in
-      all-from_count (holds q) (holds_back chain next) (λ b i. any-at (λ x. is_forbidden chain x next) b.positions q i a.forbidden) bs (omega (arith, once, one))))
+    let once = s.once q a.from a.before in
+    all-from_count (holds q) (holds_back chain next) (λ b i. any-at (λ x. is_forbidden chain x next) b.positions q i a.forbidden) bs (omega (arith, once, one))))
 
 -- what is known of one branch before a function comes
 record Before (chain : List Profile) (first next : ℕ) (b : Branch) : Type 0 where
@@ -186,23 +189,27 @@ record After (chain : List Profile) (first next : ℕ) (b c : Branch) : Type 0 w
 after-held : (chain : List Profile) (first next : ℕ) (b : Branch) → first ≤ next → Before chain first next b → holds_back chain next b ≡ true → After chain first next b (longer b next)
 after-held chain first next b l x t = record {
   rise = record { rises = rises-longer first next b.positions x.rise.rises x.end.below l };
-  end = record { below = λ q i.
-    elim (holds q b) as (λ s. holds q b ≡ s → q < next + 1) [
-      | true ↦ λ e. let m = x.end.below q e in omega (arith, m)
-      | false ↦ λ e. let j = holds-longer q next b in let same : next ≡ q = grind (arith, nat_tests) in omega (arith, same)
-    ] refl };
-  join = record { joins = λ q r i m h f.
-    let kept = holds-longer q next b in
-    let old : holds q b ≡ true =
-      elim (holds r b) as (λ s. holds r b ≡ s → holds q b ≡ true) [
-        | true ↦ λ e. x.join.joins q r e m h f
-        | false ↦ λ e.
-            let j = holds-longer r next b in
-            let same : next ≡ r = grind (arith, nat_tests) in
-            let P : ℕ → Type 0 = λ n. is_forbidden chain q n ≡ true in
-            x.held.has q m (omega (arith, same, h)) (subst P (sym same) f) t
-      ] refl in
-    grind arith };
+  end = record {
+    below = λ q i.
+        elim (holds q b) as (λ s. holds q b ≡ s → q < next + 1) [
+          | true ↦ λ e. let m = x.end.below q e in omega (arith, m)
+          | false ↦ λ e. let j = holds-longer q next b in let same : next ≡ q = grind (arith, nat_tests) in omega (arith, same)
+        ] refl;
+  };
+  join = record {
+    joins = λ q r i m h f.
+        let kept = holds-longer q next b in
+        let old : holds q b ≡ true =
+        elim (holds r b) as (λ s. holds r b ≡ s → holds q b ≡ true) [
+          | true ↦ λ e. x.join.joins q r e m h f
+          | false ↦ λ e.
+              let j = holds-longer r next b in
+              let same : next ≡ r = grind (arith, nat_tests) in
+              let P : ℕ → Type 0 = λ n. is_forbidden chain q n ≡ true in
+              x.held.has q m (omega (arith, same, h)) (subst P (sym same) f) t
+        ] refl in
+        grind arith;
+  };
   others = λ q ne. let j = holds-longer q next b in grind (arith, nat_tests);
   itself = let j = holds-longer next next b in let same : (next == next) ≡ true = grind (arith, nat_tests) in let none = not_held next b x.end in grind arith;
 }
@@ -233,14 +240,14 @@ Stands-grown chain first next bs s one =
       rise = AllByRecursion-map (Rises first) (grown chain next) bs (AllByRecursion-weaker (λ b. After chain first next b (grown chain next b)) (λ b. Rises first (grown chain next b)) (λ b x. x.rise) bs all);
       end = AllByRecursion-map (EndsBelow (next + 1)) (grown chain next) bs (AllByRecursion-weaker (λ b. After chain first next b (grown chain next b)) (λ b. EndsBelow (next + 1) (grown chain next b)) (λ b x. x.end) bs all);
       once = λ q l h.
-        elim (q == next) as (λ t. (q == next) ≡ t → count_by (holds q) (map (grown chain next) bs) ≡ 1) [
-          | true ↦ λ e.
-              let same : q ≡ next = grind (arith, nat_tests) in
-              let P : ℕ → Type 0 = λ n. count_by (holds n) (map (grown chain next) bs) ≡ 1 in
-              subst P (sym same) (count-map (holds next) (grown chain next) (holds_back chain next) bs (AllByRecursion-weaker (λ b. After chain first next b (grown chain next b)) (λ b. holds next (grown chain next b) ≡ holds_back chain next b) (λ b x. x.itself) bs all) ∙ one)
-          | false ↦ λ e.
-              let other : q ≢ next = grind (arith, nat_tests) in
-              count-map (holds q) (grown chain next) (holds q) bs (AllByRecursion-weaker (λ b. After chain first next b (grown chain next b)) (λ b. holds q (grown chain next b) ≡ holds q b) (λ b x. x.others q other) bs all) ∙ s.once q l (omega (arith, h, other))
-        ] refl;
+          elim (q == next) as (λ t. (q == next) ≡ t → count_by (holds q) (map (grown chain next) bs) ≡ 1) [
+            | true ↦ λ e.
+                let same : q ≡ next = grind (arith, nat_tests) in
+                let P : ℕ → Type 0 = λ n. count_by (holds n) (map (grown chain next) bs) ≡ 1 in
+                subst P (sym same) (count-map (holds next) (grown chain next) (holds_back chain next) bs (AllByRecursion-weaker (λ b. After chain first next b (grown chain next b)) (λ b. holds next (grown chain next b) ≡ holds_back chain next b) (λ b x. x.itself) bs all) ∙ one)
+            | false ↦ λ e.
+                let other : q ≢ next = grind (arith, nat_tests) in
+                count-map (holds q) (grown chain next) (holds q) bs (AllByRecursion-weaker (λ b. After chain first next b (grown chain next b)) (λ b. holds q (grown chain next b) ≡ holds q b) (λ b x. x.others q other) bs all) ∙ s.once q l (omega (arith, h, other))
+          ] refl;
       join = AllByRecursion-map (Joins chain first) (grown chain next) bs (AllByRecursion-weaker (λ b. After chain first next b (grown chain next b)) (λ b. Joins chain first (grown chain next b)) (λ b x. x.join) bs all);
     }

@@ -68,13 +68,15 @@ or-to a b h e = grind arith
 pub joins-from : (chain : List Profile) (first : ℕ) (b : Branch) → Joins chain first b → list_all (joins chain first b) b.positions ≡ true
 joins-from chain first b j =
     list_all-from (joins chain first b) b.positions (λ r i.
-      range_all-from (λ q. not (is_forbidden chain q r) || holds q b) first (r - first) (λ q l u.
-        or-from (is_forbidden chain q r) (holds q b) (λ f. j.joins q r i l (omega arith) f)))
+    range_all-from (λ q. not (is_forbidden chain q r) || holds q b) first (r - first) (λ q l u.
+    or-from (is_forbidden chain q r) (holds q b) (λ f. j.joins q r i l (omega arith) f)))
 
 pub joins-to : (chain : List Profile) (first : ℕ) (b : Branch) → list_all (joins chain first b) b.positions ≡ true → Joins chain first b
-joins-to chain first b h = record { joins = λ q r i l u f.
-  let all : joins chain first b r ≡ true = list_all-at (joins chain first b) b.positions r h i in
-  or-to (is_forbidden chain q r) (holds q b) (range_all-at (λ q. not (is_forbidden chain q r) || holds q b) first (r - first) q all l (omega arith)) f }
+joins-to chain first b h = record {
+  joins = λ q r i l u f.
+      let all : joins chain first b r ≡ true = list_all-at (joins chain first b) b.positions r h i in
+      or-to (is_forbidden chain q r) (holds q b) (range_all-at (λ q. not (is_forbidden chain q r) || holds q b) first (r - first) q all l (omega arith)) f;
+}
 
 and-from : (a b c : Bool) → a ≡ true → b ≡ true → c ≡ true → (a && b && c) ≡ true
 and-from a b c d e f = grind arith
@@ -85,17 +87,18 @@ unfolding is_stage
 is_stage-from chain first next bs s =
     let end : first + size bs ≡ next = s.count in
     let branches : list_all (is_branch chain first (first + size bs)) bs ≡ true =
-      all-from_recursion (is_branch chain first (first + size bs)) bs (each bs (first + size bs) (sym end) s.rise s.end s.join) in
+    all-from_recursion (is_branch chain first (first + size bs)) bs (each bs (first + size bs) (sym end) s.rise s.end s.join) in
     let once : stands_once first (size bs) bs ≡ true =
-      range_all-from (λ q. count_by (holds q) bs == 1) first (size bs) (λ q l u. let n = s.once q l (omega (arith, u, end)) in grind (arith, nat_tests)) in
+    range_all-from (λ q. count_by (holds q) bs == 1) first (size bs) (λ q l u. let n = s.once q l (omega (arith, u, end)) in grind (arith, nat_tests)) in
     grind arith
   where
     each : (cs : List Branch) (high : ℕ) → next ≡ high → AllByRecursion (Rises first) cs → AllByRecursion (EndsBelow next) cs → AllByRecursion (Joins chain first) cs → AllByRecursion (λ b. is_branch chain first high b ≡ true) cs
     each [] high e r n j = tt
     each (c ∷ cs) high e r n j =
-        let P : ℕ → Type 0 = λ n. EndsBelow n c in
-        ( and-from (rises first c.positions) (ends_below high c.positions) (list_all (joins chain first c) c.positions) r.0.rises (ends-from high c (subst P e n.0)) (joins-from chain first c j.0)
-        , each cs high e r.1 n.1 j.1 )
+        let P : ℕ → Type 0 = λ n. EndsBelow n c in (
+          and-from (rises first c.positions) (ends_below high c.positions) (list_all (joins chain first c) c.positions) r.0.rises (ends-from high c (subst P e n.0)) (joins-from chain first c j.0),
+          each cs high e r.1 n.1 j.1,
+        )
 
 -- and only there
 pub is_stage-to : (chain : List Profile) (first : ℕ) (bs : List Branch) → is_stage chain first bs ≡ true → Stands chain first (first + size bs) bs
@@ -115,9 +118,11 @@ is_stage-to chain first bs h =
     rise : (cs : List Branch) (high : ℕ) → AllByRecursion (λ b. is_branch chain first high b ≡ true) cs → AllByRecursion (Rises first) cs
     rise [] high h = tt
     rise (c ∷ cs) high h = (let here = h.0 in record { rises = grind arith }, rise cs high h.1)
+
     end : (cs : List Branch) (high : ℕ) → AllByRecursion (λ b. is_branch chain first high b ≡ true) cs → AllByRecursion (EndsBelow high) cs
     end [] high h = tt
     end (c ∷ cs) high h = (let here = h.0 in let e : ends_below high c.positions ≡ true = grind arith in ends-to high c e, end cs high h.1)
+
     join : (cs : List Branch) (high : ℕ) → AllByRecursion (λ b. is_branch chain first high b ≡ true) cs → AllByRecursion (Joins chain first) cs
     join [] high h = tt
     join (c ∷ cs) high h = (let here = h.0 in let e : list_all (joins chain first c) c.positions ≡ true = grind arith in joins-to chain first c e, join cs high h.1)

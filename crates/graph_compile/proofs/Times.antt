@@ -202,6 +202,7 @@ parted-next low high xs ys less p one = record {
           | false ↦ λ e. let more : low ≤ q = grind (arith, nat_tests) in inside-high low (low + 1) q (omega (arith, n, more))
         ] refl in
         omega (arith, both, none)
+
     gone : (q : ℕ) → times q xs ≡ 0 → times q (without low xs) ≡ 0
     gone q z = elim (q == low) as (λ b. (q == low) ≡ b → times q (without low xs) ≡ 0) [
       | true ↦ λ e. let same : q ≡ low = grind (arith, nat_tests) in let P : ℕ → Type 0 = λ n. times n (without low xs) ≡ 0 in subst P (sym same) (times-without_same low xs)
@@ -216,35 +217,35 @@ front-next low high xs ys less p one f =
     record {
       room = subst R end f.room;
       front = λ q.
-        let P : ℕ → Type 0 = λ n. times q (without low xs) ≡ inside (low + 1) n q in
-        let old = subst P end (f.front q) in
-        elim (q == low) as (λ b. (q == low) ≡ b → times q xs ≡ inside low (low + length xs) q) [
-          | true ↦ λ e.
-              let same : q ≡ low = grind (arith, nat_tests) in
-              let Q : ℕ → Type 0 = λ n. times n xs ≡ inside low (low + length xs) n in
-              subst Q (sym same) (one ∙ sym (inside-yes low (low + length xs) low (omega arith) (omega (arith, long, one))))
-          | false ↦ λ e.
-              let other : q ≢ low = grind (arith, nat_tests) in
-              let both = inside-both low (low + 1) (low + length xs) q (omega arith) (omega (arith, long, one)) in
-              let none : inside low (low + 1) q ≡ 0 = elim (nat_lt q low) as (λ a. nat_lt q low ≡ a → inside low (low + 1) q ≡ 0) [
-                | true ↦ λ e. inside-low low (low + 1) q (grind (arith, nat_tests))
-                | false ↦ λ e. let more : low ≤ q = grind (arith, nat_tests) in inside-high low (low + 1) q (omega (arith, other, more))
-              ] refl in
-              let kept = times-without_other low q xs other in
-              omega (arith, old, both, none, kept)
-        ] refl;
+          let P : ℕ → Type 0 = λ n. times q (without low xs) ≡ inside (low + 1) n q in
+          let old = subst P end (f.front q) in
+          elim (q == low) as (λ b. (q == low) ≡ b → times q xs ≡ inside low (low + length xs) q) [
+            | true ↦ λ e.
+                let same : q ≡ low = grind (arith, nat_tests) in
+                let Q : ℕ → Type 0 = λ n. times n xs ≡ inside low (low + length xs) n in
+                subst Q (sym same) (one ∙ sym (inside-yes low (low + length xs) low (omega arith) (omega (arith, long, one))))
+            | false ↦ λ e.
+                let other : q ≢ low = grind (arith, nat_tests) in
+                let both = inside-both low (low + 1) (low + length xs) q (omega arith) (omega (arith, long, one)) in
+                let none : inside low (low + 1) q ≡ 0 = elim (nat_lt q low) as (λ a. nat_lt q low ≡ a → inside low (low + 1) q ≡ 0) [
+                  | true ↦ λ e. inside-low low (low + 1) q (grind (arith, nat_tests))
+                  | false ↦ λ e. let more : low ≤ q = grind (arith, nat_tests) in inside-high low (low + 1) q (omega (arith, other, more))
+                ] refl in
+                let kept = times-without_other low q xs other in
+                omega (arith, old, both, none, kept)
+          ] refl;
       rest = λ q. let P : ℕ → Type 0 = λ n. times q ys ≡ inside n high q in subst P end (f.rest q);
     }
 
 pub front-of : (n low high : ℕ) (xs ys : List ℕ) → low + n ≡ high → IsParted low high xs ys → IsFront low high xs ys
 front-of zero low high xs ys e p =
     front-none low high xs ys p (none-empty xs (λ q.
-      let all = p.each q in
-      let none : inside low high q ≡ 0 = elim (nat_lt q low) as (λ a. nat_lt q low ≡ a → inside low high q ≡ 0) [
-        | true ↦ λ t. inside-low low high q (grind (arith, nat_tests))
-        | false ↦ λ t. let more : low ≤ q = grind (arith, nat_tests) in inside-high low high q (omega (arith, e, more))
-      ] refl in
-      omega (arith, all, none)))
+    let all = p.each q in
+    let none : inside low high q ≡ 0 = elim (nat_lt q low) as (λ a. nat_lt q low ≡ a → inside low high q ≡ 0) [
+      | true ↦ λ t. inside-low low high q (grind (arith, nat_tests))
+      | false ↦ λ t. let more : low ≤ q = grind (arith, nat_tests) in inside-high low high q (omega (arith, e, more))
+    ] refl in
+    omega (arith, all, none)))
 front-of (suc n) low high xs ys e p =
     let all = p.each low in
     let here = inside-yes low high low (omega arith) (omega arith) in
@@ -257,13 +258,13 @@ front-of (suc n) low high xs ys e p =
           let other : times low xs ≢ 1 = grind (arith, nat_tests) in
           let later : times low ys ≢ 0 = omega (arith, all, here, other) in
           front-none low high xs ys p (none-empty xs (λ q.
-            elim (times q xs == 0) as (λ b. (times q xs == 0) ≡ b → times q xs ≡ 0) [
-              | true ↦ λ s. grind (arith, nat_tests)
-              | false ↦ λ s.
-                  let some : times q xs ≢ 0 = grind (arith, nat_tests) in
-                  let less = p.below q low some later in
-                  let sum = p.each q in
-                  let none = inside-low low high q less in
-                  omega (arith, sum, none)
-            ] refl))
+          elim (times q xs == 0) as (λ b. (times q xs == 0) ≡ b → times q xs ≡ 0) [
+            | true ↦ λ s. grind (arith, nat_tests)
+            | false ↦ λ s.
+                let some : times q xs ≢ 0 = grind (arith, nat_tests) in
+                let less = p.below q low some later in
+                let sum = p.each q in
+                let none = inside-low low high q less in
+                omega (arith, sum, none)
+          ] refl))
     ] refl

@@ -1,5 +1,5 @@
 -- How a stage hands on the fields of a packet to its branches.
-use Rattle.std.specs.Prelude.{◌-◌, ◌==◌, ◌&&◌, ◌||◌, ℕ, Bool, false, not, if◌then◌else◌, List, Option, Some, None, map, filter, count_by, position, slice_get, slice_index_or}
+use Rattle.std.specs.Prelude.{◌≡◌, ◌-◌, ◌==◌, ◌&&◌, ◌||◌, ℕ, Bool, true, false, not, if◌then◌else◌, List, Option, Some, None, map, filter, count_by, position, slice_get, slice_index_or}
 use Rattle.std.specs.List.{list_any}
 use Rattle.std.specs.Option.{option_map_or}
 use Rattle.packet_fields.specs.Fields.{number_of}
@@ -80,3 +80,10 @@ copies_by_mode mode touches f = 0
 -- how many copies of a field a stage makes of each packet that has it
 unfoldable pub copies : StageParts → Field → ℕ
 copies parts f = copies_by_mode (slice_index_or parts.modes (number_of f) Shared) parts.touches f
+
+-- What a mode says of the branches. No branch writes a field that is shared; one is moved to the first branch that writes it, where no other touches it; of one that is copied the original is leased where some branch only reads it, and else goes to the first that writes it.
+abbrev pub ModeSays : List Touch → Field → Mode → Type 0
+ModeSays touches f Shared = list_any (has_write f) touches ≡ false
+ModeSays touches f (Moved k) = (position (has_write f) touches ≡ Some k) × (count_by (has_touch f) touches ≡ 1)
+ModeSays touches f (Copied None) = list_any (only_reads f) touches ≡ true
+ModeSays touches f (Copied (Some k)) = (position (has_write f) touches ≡ Some k) × (list_any (only_reads f) touches ≡ false)

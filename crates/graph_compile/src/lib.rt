@@ -17,11 +17,18 @@ mod copying;
 mod draft;
 mod graph;
 mod lawfulness;
+mod laws;
 mod parts;
 mod placing;
+#[cfg(test)]
+mod tests;
 mod touching;
 
 pub use copying::copies;
 pub use graph::{Branch, Graph, Stage};
 pub use lawfulness::lawful;
+pub use laws::{
+    lawful_graph_is_staged, lawful_stage_has_owners, modes_are_right, no_copy_is_spared,
+    unwritten_is_not_copied,
+};
 pub use placing::compile;
