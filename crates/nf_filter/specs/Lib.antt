@@ -1,2 +1,4 @@
-pub mod Firewall
-pub mod Source
+pub mod Builds
+pub mod Firewalls
+pub mod Lines
+pub mod Settings

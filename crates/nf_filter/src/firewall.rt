@@ -1,106 +1,59 @@
-//! A firewall on source prefixes.
+//! A firewall, and what it decides.
 ghost use Rattle.std.specs.Prelude.{◌≡◌, find};
 ghost use Rattle.std.specs.Option.{option_copied};
-ghost use Rattle.nf_filter.specs.Firewall.{matches};
+ghost use Rattle.policy_text.specs.Meeting.{is_fitting};
 
-use crate::source::source_address;
 use chain_walk::{Function, Verdict};
+use frame_seen::seen;
+use item_list::Items;
 use packet_fields::Frame;
+use policy_text::{Match, Seen, fits};
 use std::alloc::AllocError;
-use std::marker::Model;
 
-/// A rule on the source address alone.
-#[derive(Clone, Copy, Debug, PartialEq, Eq)]
-pub struct PlainRule {
-    /// Does a packet that matches pass?
+/// A rule: whether a packet that meets all its clauses passes.
+#[derive(Debug, Drop)]
+pub struct Rule {
     pub allow: bool,
-    /// An IPv4 address, most significant byte first. Its bits behind the first `bits` mean nothing.
-    pub prefix: u32,
-    /// How many bits of the address count: 0 matches every address, 32 (and any more) this one alone.
-    pub bits: u8,
+    pub fit: Match,
 }
 
-impl PlainRule {
-    ghost use Rattle.std.specs.Prelude.{◌≡◌};
-    ghost use Rattle.nf_filter.specs.Firewall.{matches};
-
-    fn matches(&self, src: Option<u32>) -> bool
-        ensures { result ≡ matches src self.now }
-    {
-        match src {
-            Some(address) => {
-                let past = 32u32.saturating_sub(u32::from(self.bits));
-                u64::from(address) >> past == u64::from(self.prefix) >> past
-            }
-            None => false,
-        }
-    }
-}
-
-/// A list of rules, of which the first that matches decides.
-#[derive(Drop)]
+/// Rules, of which the first that a packet meets decides.
+#[derive(Debug, Drop)]
 pub struct Firewall {
-    rules: Vec<PlainRule>,
-}
-
-impl Model for Firewall {
-    ghost use Rattle.std.specs.Prelude.{List};
-    ghost use Rattle.nf_filter.specs.declared.firewall.PlainRule.{PlainRule};
-
-    ghost Value = { List PlainRule };
-
-    ghost view = { λ f. f.rules.items };
+    /// Does a packet pass that meets no rule?
+    pub default: bool,
+    pub rules: Items<Rule>,
 }
 
 impl Firewall {
-    ghost use Rattle.std.specs.Prelude.{◌≡◌, ◌↔◌, [], length, IsTrue};
-    ghost use Rattle.nf_filter.specs.Firewall.{passes};
+    ghost use Rattle.std.specs.Prelude.{◌≡◌};
+    ghost use Rattle.nf_filter.specs.Firewalls.{passes};
 
-    /// A firewall of these rules, in their order.
-    pub fn plain(rules: Vec<PlainRule>) -> Firewall
-        ensures { result ≡ rules.items }
+    /// Does a packet of which this is seen pass?
+    #[tactic(auto, unfolding(crate::specs::Firewalls::passes))]
+    pub fn judge(&self, seen: &Seen) -> bool
+        ensures { result ≡ passes self.now seen.now }
     {
-        Firewall { rules }
-    }
-
-    /// How many rules there are.
-    pub fn len(&self) -> usize
-        ensures { result ≡ length self.now }
-    {
-        self.rules.len()
-    }
-
-    /// Is there no rule, so that every packet passes?
-    pub fn is_empty(&self) -> bool
-        ensures { IsTrue result ↔ (self.now ≡ []) }
-    {
-        self.rules.is_empty()
-    }
-
-    /// Does a packet from this source pass?
-    pub fn judge(&self, src: Option<u32>) -> bool
-        ensures { result ≡ passes self.now src }
-    {
-        match first_match(&self.rules, src) {
+        match first_met(self.rules.as_slice(), seen) {
             Some(rule) => rule.allow,
-            None => true,
+            None => self.default,
         }
     }
 }
 
-fn first_match(rules: &[PlainRule], src: Option<u32>) -> Option<&PlainRule>
-    ensures { option_copied result ≡ find (matches src) rules.now }
+fn first_met<'a>(rules: &'a [Rule], seen: &Seen) -> Option<&'a Rule>
+    ensures { option_copied result ≡ find (λ rule. is_fitting rule.fit seen.now) rules.now }
 {
-    rules.iter().find(|rule| rule.matches(src))
+    rules.iter().find(|rule| fits(&rule.fit, seen))
 }
 
 impl Function for Firewall {
-    ghost use Rattle.nf_filter.specs.Firewall.{firewall_step};
+    ghost use Rattle.nf_filter.specs.Firewalls.{firewall_step};
 
     ghost step_gives = { firewall_step };
 
     fn step(&mut self, _time: u64, frame: &mut Frame) -> Result<Verdict, AllocError> {
-        if self.judge(source_address(frame.bytes())) {
+        if self.judge(&seen(frame.bytes())) {
             Ok(Verdict::Pass)
         } else {
             Ok(Verdict::Drop)

@@ -1,15 +1,20 @@
 //! Network functions that decide whether a packet passes, and change nothing of it.
 //!
-//! A [`Firewall`] is a list of rules on the prefix of a packet's IPv4 source address (RFC 791, section 3.1; prefixes as
-//! in RFC 4632, section 3.1). The first rule that matches decides, and where none matches the packet passes; a packet
-//! without a source address matches no rule. What it decides is [`Firewall::judge`]; as a function of a chain it is a
-//! [`chain_walk::Function`]. Other fields, other defaults and patterns in a payload are not here yet.
+//! A [`Firewall`] is a list of rules, each with clauses on a packet's addresses, ports, protocol and
+//! outermost VLAN id (RFC 791, RFC 793, RFC 768, IEEE 802.1Q). The first rule whose clauses are all
+//! met decides, and where none is the default does, which allows unless it is set otherwise.
+//! [`Firewall::build`] makes it of the lines that an operator wrote, or names the least line that is
+//! refused; what it decides is [`Firewall::judge`]. As a function of a chain it is a
+//! [`chain_walk::Function`].
+//!
+//! Patterns in a packet's data are not here yet.
 #![tactic(auto)]
 
+mod build;
 mod firewall;
-mod source;
+mod lines;
+mod settings;
 #[cfg(test)]
 mod tests;
 
-pub use firewall::{Firewall, PlainRule};
-pub use source::source_address;
+pub use firewall::{Firewall, Rule};

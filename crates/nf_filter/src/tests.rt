@@ -1,58 +1,98 @@
-//! Firewalls judge, also one after another.
-use crate::firewall::{Firewall, PlainRule};
+//! Firewalls are made of an operator's lines, and judge, also one after another.
+use crate::firewall::Firewall;
 use chain_walk::{Fate, walk_chain};
 use packet_fields::Frame;
-use std::alloc::{AllocError, Global};
-use std::test::Fail;
+use policy_text::{BuildFault, Policy, Seen, TagSeen, parse};
+use std::alloc::Global;
+use std::process::Abort;
 
-// A UDP packet from 10.0.0.9 to 10.0.0.2.
+// A UDP packet from 10.0.0.9, port 1000, to 10.0.0.2, port 53.
 const FRAME: [u8; 42] = [
     2, 0, 0, 0, 0, 2, 2, 0, 0, 0, 0, 1, 8, 0, 0x45, 0, 0, 28, 0, 0, 0, 0, 64, 17, 0x66, 0xc7, 10,
     0, 0, 9, 10, 0, 0, 2, 3, 0xe8, 0, 53, 0, 8, 0, 0,
 ];
 
-const NINTH: u32 = 0x0a00_0009;
+const SEEN: Seen = Seen {
+    tag: TagSeen::Bare,
+    src: Some(0x0a00_0009),
+    dst: Some(0x0a00_0002),
+    sport: Some(1000),
+    dport: Some(53),
+    proto: Some(17),
+};
 
-// Allows 10.0.0.9, and denies the rest of 10.0.0.0/8.
-fn exception(alloc: Global) -> Result<Firewall, AllocError> {
-    let allowed = PlainRule {
-        allow: true,
-        prefix: NINTH,
-        bits: 32,
-    };
-    let denied = PlainRule {
-        allow: false,
-        prefix: NINTH,
-        bits: 8,
-    };
-    Ok(Firewall::plain(vec![in alloc; allowed, denied]?))
+fn built(rt: &impl Abort, alloc: Global, text: &str) -> Result<Firewall, BuildFault> {
+    assert!(rt; text.len() < 1000);
+    let policy: Policy = parse(alloc, text.as_bytes()).expect(rt, "a policy");
+    let chain = policy.chains.as_slice().first().expect(rt, "a chain");
+    let decl = chain.functions.as_slice().first().expect(rt, "a function");
+    assert!(rt; decl.kind == action_profile::Kind::Firewall);
+    Firewall::build(alloc, decl)
 }
 
-fn deny_ninth(alloc: Global) -> Result<Firewall, AllocError> {
-    let denied = PlainRule {
-        allow: false,
-        prefix: NINTH,
-        bits: 32,
-    };
-    Ok(Firewall::plain(vec![in alloc; denied]?))
-}
-
-#[test]
-fn the_first_rule_that_matches_decides(rt: HostRuntime) -> Result<(), Fail> {
-    let firewall = exception(rt.alloc())?;
-    assert_eq!(rt; firewall.len(), 2);
-    assert!(rt; firewall.judge(Some(NINTH)));
-    assert!(rt; !firewall.judge(Some(NINTH + 1)));
-    assert!(rt; firewall.judge(Some(0x0b00_0009)));
-    assert!(rt; firewall.judge(None));
-    Ok(())
+fn firewall(rt: &impl Abort, alloc: Global, text: &str) -> Firewall {
+    match built(rt, alloc, text) {
+        Ok(firewall) => firewall,
+        Err(_) => rt.abort(),
+    }
 }
 
 #[test]
-fn the_second_firewall_drops(rt: HostRuntime) -> Result<(), Fail> {
+fn the_first_rule_that_is_met_decides(rt: HostRuntime) {
+    let rules =
+        "nfp 1\nchain main\nfn fw firewall\nset default deny\nrule deny src 10.0.0.9 dport 80\nrule allow proto udp dport 50-60\n";
+    let firewall = firewall(&rt, rt.alloc(), rules);
+    assert!(rt; firewall.judge(&SEEN));
+    let web = Seen {
+        dport: Some(80),
+        ..SEEN
+    };
+    assert!(rt; !firewall.judge(&web));
+    let other = Seen {
+        proto: Some(6),
+        ..SEEN
+    };
+    assert!(rt; !firewall.judge(&other));
+}
+
+#[test]
+fn the_least_refused_line_is_told(rt: HostRuntime) {
+    for (text, line) in [
+        ("nfp 1\nchain main\nfn fw firewall\nrule pass\n", 4),
+        (
+            "nfp 1\nchain main\nfn fw firewall\nset default deny\nset default deny\n",
+            5,
+        ),
+        (
+            "nfp 1\nchain main\nfn fw firewall\nset size 1\nrule allow src\n",
+            4,
+        ),
+    ] {
+        match built(&rt, rt.alloc(), text) {
+            Err(BuildFault::BadSetting(found)) => assert_eq!(rt; found, line),
+            _ => rt.abort(),
+        }
+    }
+}
+
+#[test]
+fn the_second_firewall_drops(rt: HostRuntime) {
     let alloc = rt.alloc();
-    let mut chain = vec![in alloc; exception(alloc)?, deny_ninth(alloc)?]?;
-    let fate = walk_chain(&mut chain, 0, Frame::new(FRAME.to_vec(alloc)?))?;
-    assert!(rt; matches!(fate, Fate::Gone(2)));
-    Ok(())
+    let first = firewall(
+        &rt,
+        alloc,
+        "nfp 1\nchain main\nfn a firewall\nrule allow src 10.0.0.9\nset default deny\n",
+    );
+    let second = firewall(
+        &rt,
+        alloc,
+        "nfp 1\nchain main\nfn b firewall\nrule deny sport 1000\n",
+    );
+    let mut chain = Vec::new(alloc);
+    assert!(rt; chain.push(first).is_ok() && chain.push(second).is_ok());
+    let frame = FRAME.to_vec(alloc).expect(&rt, "memory");
+    match walk_chain(&mut chain, 0, Frame::new(frame)) {
+        Ok(Fate::Gone(position)) => assert_eq!(rt; position, 2),
+        _ => rt.abort(),
+    }
 }

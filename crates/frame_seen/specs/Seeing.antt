@@ -1,0 +1,34 @@
+-- What the clauses of a policy see of a packet, as numbers, most significant byte first.
+use Rattle.std.specs.Prelude.{ℕ, ◌%◌, ◌==◌, if◌then◌else◌, List, length, take, drop, Option}
+use Rattle.std.specs.Option.{option_map, option_map_or}
+use Rattle.byteorder.specs.Endian.{big_number}
+use Rattle.packet_fields.specs.Fields.{value, layout_of}
+use Rattle.packet_fields.specs.declared.field.Field.{Field}
+use Rattle.packet_fields.specs.declared.field.Field.TheVariants.{Tag, SrcIp, DstIp, SrcPort, DstPort}
+use Rattle.policy_text.specs.declared.seen.Seen.{Seen}
+use Rattle.policy_text.specs.declared.seen.TagSeen.{TagSeen}
+use Rattle.policy_text.specs.declared.seen.TagSeen.TheVariants.{Absent, Bare, Id}
+
+-- the VLAN id of a tag: the low twelve bits of its control information, which stands behind the two bytes of the tag's
+-- own identifier (IEEE 802.1Q, 9.6)
+abbrev pub vlan_id : List ℕ → ℕ
+vlan_id tag = big_number 2 (take 2 (drop 2 tag)) % 4096
+
+-- the outermost tag stands first
+abbrev pub outermost : List ℕ → TagSeen
+outermost tags = if length tags == 0 then Bare else Id (vlan_id tags)
+
+-- what is seen where the fields have these values, by the protocol of the IPv4 header
+abbrev pub seen_by : (Field → Option (List ℕ)) → Option ℕ → Seen
+seen_by values protocol = record {
+  tag = option_map_or outermost (values Tag) Absent;
+  src = option_map (big_number 4) (values SrcIp);
+  dst = option_map (big_number 4) (values DstIp);
+  sport = option_map (big_number 2) (values SrcPort);
+  dport = option_map (big_number 2) (values DstPort);
+  proto = protocol;
+}
+
+-- what is seen of a frame
+abbrev pub seen_of : List ℕ → Seen
+seen_of frame = seen_by (λ f. value f frame) (layout_of frame).proto

@@ -1,0 +1,55 @@
+//! Values of fields as numbers.
+ghost use Rattle.std.specs.Prelude.{◌≡◌, length, IfSome};
+ghost use Rattle.std.specs.Option.{option_map, option_map_or, option_copied};
+ghost use Rattle.byteorder.specs.Endian.{big_number};
+ghost use Rattle.packet_fields.specs.Fields.{IsLengthOf};
+ghost use Rattle.packet_fields.specs.declared.field.Field.{Field};
+ghost use Rattle.policy_text.specs.declared.seen.TagSeen.{TagSeen};
+ghost use Rattle.frame_seen.specs.Seeing.{outermost, seen_of};
+
+use byteorder::{BigEndian, ByteOrder};
+use packet_fields::{Field, get, layout};
+use policy_text::{Seen, TagSeen};
+
+/// What clauses see of a frame. Takes no memory.
+pub fn seen(frame: &[u8]) -> Seen
+    ensures { result ≡ seen_of frame.now }
+{
+    let plan = layout(frame);
+    Seen {
+        tag: seen_tags(get(Field::Tag, frame, &plan)),
+        src: seen_address(get(Field::SrcIp, frame, &plan)),
+        dst: seen_address(get(Field::DstIp, frame, &plan)),
+        sport: seen_port(get(Field::SrcPort, frame, &plan)),
+        dport: seen_port(get(Field::DstPort, frame, &plan)),
+        proto: plan.proto,
+    }
+}
+
+/// The outermost of a frame's tags, where the frame is long enough to have some.
+pub fn seen_tags(tags: Option<&[u8]>) -> TagSeen
+    requires { IfSome tags (λ bytes. IsLengthOf Field.Tag (length bytes.now)) }
+    ensures { result ≡ option_map_or outermost (option_copied tags.entry) TagSeen.Absent }
+{
+    match tags {
+        None => TagSeen::Absent,
+        Some(bytes) if bytes.len() < 4 => TagSeen::Bare,
+        Some(bytes) => TagSeen::Id(BigEndian::read_u16(&bytes[2..4]) % 4096),
+    }
+}
+
+/// An IPv4 address as a number, most significant byte first (RFC 791, 3.1).
+pub fn seen_address(bytes: Option<&[u8]>) -> Option<u32>
+    requires { IfSome bytes (λ address. length address.now ≡ 4) }
+    ensures { result ≡ option_map (big_number 4) (option_copied bytes.entry) }
+{
+    Some(BigEndian::read_u32(bytes?))
+}
+
+/// A port as a number, most significant byte first (RFC 793, 3.1; RFC 768).
+pub fn seen_port(bytes: Option<&[u8]>) -> Option<u16>
+    requires { IfSome bytes (λ port. length port.now ≡ 2) }
+    ensures { result ≡ option_map (big_number 2) (option_copied bytes.entry) }
+{
+    Some(BigEndian::read_u16(bytes?))
+}

@@ -1,0 +1,13 @@
+-- The names of functions in a text.
+use Rattle.std.specs.Prelude.{ℕ, List, [], ◌∷◌, ◌++◌, codes, slice_get}
+use Rattle.std.specs.List.{flat_map}
+use Rattle.std.specs.Option.{option_map_or}
+use Rattle.policy_text.specs.declared.policy.FunctionDecl.{FunctionDecl}
+
+-- the name of the function at this place of a chain, counted from 0 as declared
+abbrev pub name_at : List FunctionDecl → ℕ → List ℕ
+name_at functions place = option_map_or (λ f. f.name) (slice_get functions place) []
+
+-- the names of the functions at these places, each after one space
+abbrev pub names_at : List FunctionDecl → List ℕ → List ℕ
+names_at functions places = flat_map (λ place. codes " " ++ name_at functions place) places

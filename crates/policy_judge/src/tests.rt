@@ -1,0 +1,1 @@
+//! Policies with one fault each, and the line that tells it.
