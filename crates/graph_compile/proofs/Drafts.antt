@@ -1,12 +1,11 @@
 -- Functions are placed one after another.
-use Rattle.std.proofs.Common.{◌≡◌, ℕ, zero, suc, ◌+◌, ◌-◌, ◌<◌, ◌≤◌, List, [], ◌∷◌, ◌++◌, length, refl, ap, arith, length-append, map, fold, sym, ◌∙◌}
+use Rattle.std.proofs.Common.{◌≡◌, ℕ, zero, suc, ◌+◌, ◌-◌, ◌<◌, ◌≤◌, List, length, refl, ap, arith, length-append, fold, sym, ◌∙◌}
 use Rattle.std.specs.Prelude.{count_by}
 use Rattle.std.specs.List.{range_with_len}
 use Rattle.std.proofs.lemmas.List.{length-map}
 use Rattle.action_profile.specs.declared.rights.Profile.{Profile}
 use Rattle.graph_compile.specs.declared.draft.Draft.{Draft}
-use Rattle.graph_compile.specs.declared.graph.Branch.{Branch}
-use Rattle.graph_compile.specs.Stages.{holds_back, grown, placed, placed_by, nothing_placed, finished, graph_of}
+use Rattle.graph_compile.specs.Stages.{holds_back, placed, placed_by, nothing_placed, finished, graph_of}
 
 -- a draft, and then the functions from a place on, which counts from 0
 unfoldable pub rest_placed : List Profile → Draft → ℕ → Draft

@@ -1,6 +1,6 @@
 -- Stages that follow each other are what the five facts say, and the other way round.
-use Rattle.std.proofs.Common.{◌≡◌, ◌≢◌, ◌↔◌, ℕ, zero, suc, ◌+◌, ◌-◌, ◌<◌, ◌≤◌, Bool, true, false, ◌||◌, List, [], ◌∷◌, ◌++◌, length, refl, sym, ap, ◌∙◌, subst, arith, Some, None, inl, inr}
-use Rattle.std.specs.Prelude.{◌==◌, ◌⊎◌, nat_le, nat_lt, count_by, sum_by, flat_map, slice_get, IsTrue}
+use Rattle.std.proofs.Common.{◌≡◌, ◌≢◌, ◌↔◌, ℕ, zero, suc, ◌+◌, ◌-◌, ◌<◌, ◌≤◌, Bool, true, false, ◌||◌, List, [], ◌∷◌, length, refl, sym, ap, ◌∙◌, subst, arith, Some, inl, inr}
+use Rattle.std.specs.Prelude.{◌==◌, nat_le, nat_lt, count_by, slice_get, IsTrue}
 use Rattle.std.specs.List.{list_any, AllByRecursion}
 use Rattle.std.proofs.lemmas.Bool.Decides.{nat_tests}
 use Rattle.std.proofs.lemmas.List.Concat.{length-flat_map}
@@ -14,9 +14,9 @@ use Rattle.graph_compile.specs.Parts.{parts_of}
 use Rattle.graph_compile.specs.Stages.{is_forbidden}
 use Rattle.graph_compile.proofs.Counting.{AllByRecursion-weaker, one_if, count-cons, count-none}
 use Rattle.graph_compile.proofs.Following.{IsStaged-le}
-use Rattle.graph_compile.proofs.Standing.{Stands, Rises, EndsBelow, Joins, not_held}
+use Rattle.graph_compile.proofs.Standing.{Stands, Rises, EndsBelow, Joins}
 use Rattle.graph_compile.proofs.Testing.{is_stage-from, is_stage-to}
-use Rattle.graph_compile.proofs.Times.{inside, inside-yes, inside-low, inside-high, inside-cases, inside-both, times-append, times-stage, RisesFrom, IsParted, IsFront, front-of}
+use Rattle.graph_compile.proofs.Times.{inside, inside-yes, inside-low, inside-high, inside-cases, inside-both, times-append, times-stage, RisesFrom, IsParted, front-of}
 
 -- a fact of each item, and of the item at a place
 pub each-at : {X : Type 0} (P : X → Type 0) (xs : List X) → AllByRecursion P xs → (i : ℕ) (x : X) → slice_get xs i ≡ Some x → P x

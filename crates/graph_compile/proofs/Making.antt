@@ -1,12 +1,12 @@
 -- The graph that the rule makes is lawful.
-use Rattle.std.proofs.Common.{◌≡◌, ℕ, zero, suc, ◌+◌, ◌<◌, ◌≤◌, List, [], ◌∷◌, ◌++◌, length, refl, sym, ap, ◌∙◌, subst, arith, fold, Result, Ok, Err}
+use Rattle.std.proofs.Common.{◌≡◌, ℕ, zero, suc, ◌+◌, List, [], ◌∷◌, ◌++◌, length, refl, sym, subst, arith, fold, Result, Ok, Err}
 use Rattle.std.specs.Prelude.{count_by, IfOk}
 use Rattle.std.specs.List.{range_with_len}
 use Rattle.action_profile.specs.declared.rights.Profile.{Profile}
 use Rattle.graph_compile.specs.declared.draft.Draft.{Draft}
 use Rattle.graph_compile.specs.declared.graph.Branch.{Branch}
 use Rattle.graph_compile.specs.declared.graph.Stage.{Stage}
-use Rattle.graph_compile.specs.Lawful.{size, IsStaged}
+use Rattle.graph_compile.specs.Lawful.{IsStaged}
 use Rattle.graph_compile.specs.Stages.{holds_back, stage_of, placed, placed_by, nothing_placed, all_stages, graph_of}
 use Rattle.graph_compile.proofs.Following.{IsStaged-push}
 use Rattle.graph_compile.proofs.Standing.{Stands, Stands-new, Stands-alone, Stands-grown}

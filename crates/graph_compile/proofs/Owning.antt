@@ -1,6 +1,6 @@
 -- Which branch owns a position of a stage.
-use Rattle.std.proofs.Common.{◌≡◌, ◌≢◌, ℕ, zero, suc, ◌+◌, ◌<◌, ◌≤◌, Bool, true, false, ◌||◌, not, cond, List, [], ◌∷◌, length, map, refl, sym, ap, ◌∙◌, subst, arith, Some, None}
-use Rattle.std.specs.Prelude.{◌==◌, nat_lt, Option, filter, count_by, slice_get, IsTrue}
+use Rattle.std.proofs.Common.{◌≡◌, ℕ, zero, suc, ◌+◌, ◌<◌, ◌≤◌, Bool, true, false, ◌||◌, not, cond, List, [], ◌∷◌, length, map, refl, sym, ap, ◌∙◌, subst, arith, Some}
+use Rattle.std.specs.Prelude.{◌==◌, Option, filter, count_by, slice_get}
 use Rattle.std.specs.Option.{option_map_or}
 use Rattle.std.specs.List.{list_any, range_with_len, position_or_len}
 use Rattle.std.proofs.lemmas.Bool.Decides.{nat_tests}
@@ -14,7 +14,6 @@ use Rattle.action_profile.specs.declared.rights.Profile.{Profile}
 use Rattle.dependency_table.specs.Table.{pair_of, is_allowed}
 use Rattle.graph_compile.specs.declared.graph.Branch.{Branch}
 use Rattle.graph_compile.specs.declared.graph.Stage.{Stage}
-use Rattle.graph_compile.specs.Facts.{AreApart}
 use Rattle.graph_compile.specs.Lawful.{holds, size, rises, IsLawfulStage}
 use Rattle.graph_compile.specs.Owners.{owner, HasOwners}
 use Rattle.graph_compile.specs.Parts.{profile_at, reads_at, writes_at, branch_reads, branch_writes, touch_of, touches_of, parts_of}

@@ -2,8 +2,8 @@
 use Rattle.std.proofs.Common.{◌≡◌, ℕ, refl, List, [], ◌∷◌, Some, None}
 use Rattle.std.specs.Prelude.{map}
 use Rattle.action_profile.specs.FieldSets.{all_fields}
-use Rattle.action_profile.specs.Profiles.{plain, profile_of}
-use Rattle.action_profile.specs.declared.kind.Kind.TheVariants.{Firewall, Signature, Nat, Balancer, Monitor, Limiter, Marker, Redactor, Tagger}
+use Rattle.action_profile.specs.Profiles.{profile_of}
+use Rattle.action_profile.specs.declared.kind.Kind.TheVariants.{Firewall, Signature, Nat, Balancer, Monitor, Limiter, Marker, Tagger}
 use Rattle.action_profile.specs.declared.parts.Mode.{Mode}
 use Rattle.action_profile.specs.declared.parts.Mode.TheVariants.{Shared, Moved, Copied}
 use Rattle.action_profile.specs.declared.rights.Profile.{Profile}
@@ -12,7 +12,6 @@ use Rattle.dependency_table.specs.Table.{pairs, first_forbidden, is_copied, copi
 use Rattle.graph_compile.specs.Parts.{branch_reads, branch_writes, touch_of, mode_of, parts_of, copies}
 use Rattle.graph_compile.specs.Stages.{is_forbidden, holds_back, placed, graph_of}
 use Rattle.graph_compile.specs.declared.graph.Branch.{Branch}
-use Rattle.graph_compile.specs.declared.graph.Graph.{Graph}
 use Rattle.graph_compile.specs.declared.graph.Stage.{Stage}
 
 abbrev positions : Branch → List ℕ

@@ -1,13 +1,11 @@
 -- What the tests of a stage say of its positions.
-use Rattle.std.proofs.Common.{◌≡◌, ℕ, zero, suc, ◌+◌, ◌-◌, ◌<◌, ◌≤◌, Bool, true, false, ◌&&◌, ◌||◌, not, List, [], ◌∷◌, length, refl, sym, ap, ◌∙◌, subst, arith}
-use Rattle.std.specs.Prelude.{◌==◌, nat_le, nat_lt, count_by}
+use Rattle.std.proofs.Common.{◌≡◌, ℕ, zero, suc, ◌+◌, ◌-◌, ◌<◌, ◌≤◌, Bool, true, false, ◌&&◌, ◌||◌, not, List, [], ◌∷◌, refl, sym, subst, arith}
+use Rattle.std.specs.Prelude.{◌==◌, nat_lt, count_by}
 use Rattle.std.specs.List.{list_any, list_all, range_with_len, AllByRecursion}
 use Rattle.std.proofs.lemmas.Bool.Decides.{nat_tests}
 use Rattle.action_profile.specs.declared.rights.Profile.{Profile}
 use Rattle.graph_compile.specs.declared.graph.Branch.{Branch}
-use Rattle.graph_compile.specs.declared.graph.Stage.{Stage}
 use Rattle.graph_compile.specs.Lawful.{holds, size, rises, ends_below, stands_once, joins, is_branch, is_stage, IsLawfulStage}
-use Rattle.graph_compile.specs.Parts.{parts_of}
 use Rattle.graph_compile.specs.Stages.{is_forbidden, stage_of}
 use Rattle.graph_compile.proofs.Standing.{Stands, Rises, EndsBelow, Joins}
 

@@ -1,12 +1,12 @@
 -- How often a position stands.
 use Rattle.std.proofs.Common.{◌≡◌, ◌≢◌, ℕ, zero, suc, ◌+◌, ◌<◌, ◌≤◌, Bool, true, false, ◌&&◌, ◌||◌, not, cond, List, [], ◌∷◌, ◌++◌, length, refl, sym, ap, ◌∙◌, subst, arith}
-use Rattle.std.specs.Prelude.{◌==◌, nat_le, nat_lt, count_by, flat_map, filter, sum_by}
+use Rattle.std.specs.Prelude.{◌==◌, nat_le, nat_lt, count_by, filter}
 use Rattle.std.specs.List.{list_any, AllByRecursion}
 use Rattle.std.proofs.lemmas.Bool.Decides.{nat_tests}
-use Rattle.std.proofs.lemmas.List.Sums.{sum_by-append, sum_by-cons}
+use Rattle.std.proofs.lemmas.List.Sums.{sum_by-append}
 use Rattle.graph_compile.specs.declared.graph.Branch.{Branch}
 use Rattle.graph_compile.specs.Facts.{times, positions_of}
-use Rattle.graph_compile.specs.Lawful.{holds, rises, size}
+use Rattle.graph_compile.specs.Lawful.{holds, rises}
 use Rattle.graph_compile.proofs.Counting.{one_if, count-cons}
 
 -- 1 where a number is within bounds, the first of them included

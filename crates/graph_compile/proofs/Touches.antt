@@ -1,6 +1,6 @@
 -- What a branch touches, and the copies that a stage makes.
-use Rattle.std.proofs.Common.{◌≡◌, ◌≢◌, ℕ, zero, suc, ◌+◌, ◌-◌, ◌<◌, ◌≤◌, Bool, true, false, ◌&&◌, ◌||◌, not, cond, List, [], ◌∷◌, length, map, refl, sym, ap, ◌∙◌, subst, arith, Some, None}
-use Rattle.std.specs.Prelude.{◌==◌, nat_lt, Option, filter, count_by, position, slice_get, slice_index_or}
+use Rattle.std.proofs.Common.{◌≡◌, ℕ, suc, ◌+◌, ◌-◌, ◌<◌, Bool, true, false, ◌&&◌, ◌||◌, not, cond, List, [], ◌∷◌, length, map, refl, sym, ap, ◌∙◌, subst, arith, Some, None}
+use Rattle.std.specs.Prelude.{◌==◌, nat_lt, Option, filter, count_by, position, slice_index_or}
 use Rattle.std.specs.Option.{option_map_or}
 use Rattle.std.specs.List.{list_any, position_or_len}
 use Rattle.std.proofs.lemmas.Bool.Decides.{nat_tests, Decides-eqb}
@@ -15,8 +15,8 @@ use Rattle.action_profile.specs.declared.rights.Profile.{Profile}
 use Rattle.action_profile.proofs.Members.{has_fields}
 use Rattle.graph_compile.specs.declared.graph.Branch.{Branch}
 use Rattle.graph_compile.specs.Parts.{branch_reads, branch_writes, touch_of, has_write, has_touch, only_reads, written_mode, mode_of, modes_of, touches_of, parts_of, copies_by_mode, copies, ModeSays}
-use Rattle.graph_compile.proofs.Counting.{one_if, count-cons, count-map, count-le}
-use Rattle.graph_compile.proofs.FiveFacts.{each-from, any-count, any-from_count}
+use Rattle.graph_compile.proofs.Counting.{one_if, count-cons, count-map}
+use Rattle.graph_compile.proofs.FiveFacts.{each-from, any-count}
 
 any-filter : (p t : Field → Bool) (fs : List Field) → list_any t (filter p fs) ≡ list_any (λ g. p g && t g) fs
 any-filter p t [] = refl

@@ -1,5 +1,5 @@
 -- When a graph may stand for a chain: stage by stage, from the position of a stage's first function on.
-use Rattle.std.specs.Prelude.{◌≡◌, ◌+◌, ◌-◌, ◌==◌, ◌&&◌, ◌||◌, ◌<◌, ℕ, suc, Bool, true, not, nat_le, nat_lt, List, [], ◌∷◌, length, sum_by, count_by, IsTrue}
+use Rattle.std.specs.Prelude.{◌≡◌, ◌+◌, ◌-◌, ◌==◌, ◌&&◌, ◌||◌, ℕ, suc, Bool, true, not, nat_le, nat_lt, List, [], ◌∷◌, length, sum_by, count_by}
 use Rattle.std.specs.List.{list_any, list_all, range_with_len}
 use Rattle.action_profile.specs.declared.rights.Profile.{Profile}
 use Rattle.graph_compile.specs.declared.graph.Branch.{Branch}

@@ -1,4 +1,4 @@
-use Rattle.std.proofs.Common.{◌≡◌, drop, ◌<◌, ◌≤◌, ◌+◌, ◌∙◌, suc, ℕ, length, sym, ap, refl, subst, arith, rules, List, IsTrue, ◌==◌, true}
+use Rattle.std.proofs.Common.{◌≡◌, drop, ◌+◌, ◌∙◌, suc, ℕ, length, sym, ap, subst, arith, List}
 use Rattle.std.proofs.lemmas.Bool.Decides.{nat_tests}
 use Rattle.graph_compile.specs.Lawful.{size, IsLawfulStage, IsStaged}
 use Rattle.graph_compile.specs.declared.graph.Branch.{Branch}

@@ -1,4 +1,4 @@
-use Rattle.std.proofs.Common.{subst, ◌≡◌, List, suc, length, IsTrue, ◌↔◌}
+use Rattle.std.proofs.Common.{subst, List, suc, length, IsTrue, ◌↔◌}
 use Rattle.graph_compile.specs.Lawful.{IsStaged}
 use Rattle.graph_compile.specs.declared.graph.Stage.{Stage}
 use Rattle.graph_compile.proofs.FiveFacts.{lawful-answer}

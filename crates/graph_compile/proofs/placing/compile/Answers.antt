@@ -1,5 +1,4 @@
 use Rattle.std.proofs.Common.{suc, length}
-use Rattle.graph_compile.specs.declared.graph.Graph.{Graph}
 use Rattle.graph_compile.specs.Facts.{IsLawful, IsFull, IsClosedForCause}
 use Rattle.graph_compile.specs.Lawful.{IsStaged}
 use Rattle.graph_compile.specs.Stages.{graph_of}

@@ -1,4 +1,4 @@
-use Rattle.std.proofs.Common.{◌≡◌, ◌≤◌, ◌+◌, ◌-◌, length}
+use Rattle.std.proofs.Common.{◌≡◌, ◌≤◌, length}
 use Rattle.graph_compile.proofs.Drafts.{rest_placed}
 use Rattle.graph_compile.specs.Stages.{nothing_placed}
 use Rattle.graph_compile.proofs.placing.compiled.Given as goal
