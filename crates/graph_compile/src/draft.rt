@@ -5,7 +5,7 @@ use item_list::Items;
 
 /// The stages that are closed, and the branches of the open one.
 #[derive(Drop)]
-pub struct Draft {
+pub(crate) struct Draft {
     pub(crate) stages: Items<Stage>,
     pub(crate) branches: Items<Branch>,
 }
