@@ -1,6 +1,6 @@
 //! What a graph and its parts are worth.
 
-ghost use Rattle.std.specs.Prelude.{◌≡◌, ◌+◌, ◌&&◌, not, suc, ℕ, true, false, List, length, if◌then◌else◌, count_by};
+ghost use Rattle.std.specs.Prelude.{◌≡◌, ◌≤◌, ◌+◌, ◌&&◌, not, suc, ℕ, true, false, List, length, if◌then◌else◌, count_by};
 ghost use Rattle.std.specs.List.{list_any};
 ghost use Rattle.packet_fields.specs.declared.field.Field.{Field};
 ghost use Rattle.action_profile.specs.declared.parts.Touch.{Touch};
@@ -18,6 +18,12 @@ ghost use Rattle.graph_compile.specs.Parts.{branch_reads, branch_writes, mode_of
 pub fn lawful_graph_is_staged()
     ensures staged { (graph : Graph) → (chain : List Profile) → IsLawful graph chain → IsStaged chain 1 graph.stages (suc (length chain)) }
     ensures lawful { (graph : Graph) → (chain : List Profile) → IsStaged chain 1 graph.stages (suc (length chain)) → IsLawful graph chain }
+{}
+
+/// A law: stages that follow each other don't end before they begin, so each position of a stage is
+/// one of the chain.
+pub fn stages_rise()
+    ensures { (chain : List Profile) → (first : ℕ) → (stages : List Stage) → (next : ℕ) → IsStaged chain first stages next → first ≤ next }
 {}
 
 /// A law: each position of a lawful stage is owned by one branch, which has its positions in order

@@ -10,6 +10,10 @@
 //! touches it, or copied for those that write it. [`copies`] counts the copies, and
 //! [`no_copy_is_spared`] says that there is none too many.
 //!
+//! `specs/Facts.antt` says what a lawful graph is. [`lawful_graph_is_staged`] and
+//! [`lawful_stage_has_owners`] say the same stage by stage and position by position, for proofs that
+//! go over the functions in chain order.
+//!
 //! How a packet is dealt to branches and put together again is left out.
 #![tactic(auto)]
 
@@ -29,6 +33,6 @@ pub use graph::{Branch, Graph, Stage};
 pub use lawfulness::lawful;
 pub use laws::{
     lawful_graph_is_staged, lawful_stage_has_owners, modes_are_right, no_copy_is_spared,
-    unwritten_is_not_copied,
+    stages_rise, unwritten_is_not_copied,
 };
 pub use placing::compile;
