@@ -31,7 +31,11 @@ fn compile_often(alloc: Global, profiles: &[Profile], times: u32) -> Result<usiz
     Ok(stages)
 }
 
-fn measure(rt: &(impl Alloc<A = Global> + Print), chain: &ChainPolicy, times: u32) -> io::Result<()> {
+fn measure(
+    rt: &(impl Alloc<A = Global> + Print),
+    chain: &ChainPolicy,
+    times: u32,
+) -> io::Result<()> {
     let profiles = profiles_of(rt.alloc(), chain)?;
     if profiles.len() > 64 {
         return println!(rt; "too many functions");

@@ -19,7 +19,8 @@ use std::alloc::{AllocError, Global};
 ///
 /// The functions are taken in chain order. A function opens a new branch of the stage where no
 /// branch holds one that is forbidden before it by the dependency table; it comes to the end of the
-/// branch where exactly one does; and where more do, it closes the stage and opens the next.
+/// branch where exactly one does; and where more do, it closes the stage and opens the next. The one
+/// error is want of memory.
 pub fn compile(alloc: Global, profiles: &[Profile]) -> Result<Graph, AllocError>
     requires { length profiles.now ≤ 64 }
     ensures exact { IfOk result (λ graph. graph ≡ graph_of profiles.now) }

@@ -11,7 +11,8 @@ use policy_text::{ChainPolicy, FunctionDecl};
 use std::alloc::{AllocError, Global};
 
 /// Adds the plan of a chain. The order has the chain's functions, counted from 0 as declared, in the
-/// order in which a packet passes them.
+/// order in which a packet passes them. The one error is want of memory; nothing is said of `out`
+/// then.
 #[tactic(auto, unfolding(crate::specs::Plan::chain_plan))]
 pub fn put_chain(
     alloc: Global,
