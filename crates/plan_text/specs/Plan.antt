@@ -1,8 +1,66 @@
 -- The plan of a chain, as text.
-use Rattle.std.specs.Prelude.{ℕ, List, ◌++◌, codes}
+use Rattle.std.specs.Prelude.{ℕ, suc, ◌+◌, ◌-◌, List, [], ◌∷◌, ◌++◌, codes, map, slice_get, slice_index_or, if◌then◌else◌}
+use Rattle.std.specs.Fmt.{decimal}
+use Rattle.std.specs.List.{flat_map, list_any}
+use Rattle.std.specs.Option.{option_map_or}
+use Rattle.packet_fields.specs.Fields.{number_of, name_of}
+use Rattle.packet_fields.specs.declared.field.Field.{Field}
+use Rattle.action_profile.specs.FieldSets.{all_fields}
+use Rattle.action_profile.specs.Profiles.{plain, profile_of}
+use Rattle.action_profile.specs.declared.parts.Mode.{Mode}
+use Rattle.action_profile.specs.declared.parts.Mode.TheVariants.{Shared, Moved, Copied}
+use Rattle.action_profile.specs.declared.parts.StageParts.{StageParts}
+use Rattle.action_profile.specs.declared.rights.Profile.{Profile}
+use Rattle.graph_compile.specs.Parts.{has_touch, copies}
+use Rattle.graph_compile.specs.Stages.{graph_of}
+use Rattle.graph_compile.specs.declared.graph.Branch.{Branch}
+use Rattle.graph_compile.specs.declared.graph.Stage.{Stage}
+use Rattle.policy_judge.specs.Names.{name_at, names_at}
 use Rattle.policy_text.specs.declared.policy.ChainPolicy.{ChainPolicy}
-use Rattle.policy_judge.specs.Names.{names_at}
+use Rattle.policy_text.specs.declared.policy.FunctionDecl.{FunctionDecl}
 
--- the line of a chain, and that of its functions in the order in which a packet walks through them
+-- the profile of the function at a place, counted from 0 as declared
+abbrev pub profile_in : List FunctionDecl → ℕ → Profile
+profile_in functions place = option_map_or (λ f. profile_of f.kind) (slice_get functions place) (plain [] [])
+
+-- the profiles of the functions, in chain order
+abbrev pub profiles_in : List FunctionDecl → List ℕ → List Profile
+profiles_in functions order = map (profile_in functions) order
+
+-- texts of numbered things, the first with this number
+abbrev pub numbered : {X : Type 0} → (ℕ → X → List ℕ) → ℕ → List X → List ℕ
+numbered text number [] = []
+numbered text number (x ∷ xs) = text number x ++ numbered text (suc number) xs
+
+-- the name of the function at a position of the chain, counted from 1
+abbrev pub name_in : List FunctionDecl → List ℕ → ℕ → List ℕ
+name_in functions order position = option_map_or (name_at functions) (slice_get order (position - 1)) []
+
+-- `branch J F G ..`
+unfoldable pub branch_text : List FunctionDecl → List ℕ → ℕ → Branch → List ℕ
+branch_text functions order number branch =
+    codes "branch " ++ decimal number ++ flat_map (λ p. codes " " ++ name_in functions order p) branch.positions ++ codes "\n"
+
+-- how a field is handed on: shared, moved to a branch, counted from 1, or copied so often
+abbrev pub mode_text : Mode → ℕ → List ℕ
+mode_text Shared count = codes " shared"
+mode_text (Moved branch) count = codes " moved " ++ decimal (branch + 1)
+mode_text (Copied original) count = codes " copied " ++ decimal count
+
+-- `part FIELD ..`
+unfoldable pub part_line : StageParts → Field → List ℕ
+part_line parts f = codes "part " ++ name_of f ++ mode_text (slice_index_or parts.modes (number_of f) Shared) (copies parts f) ++ codes "\n"
+
+-- only of a field that some branch touches
+abbrev pub part_text : StageParts → Field → List ℕ
+part_text parts f = if list_any (has_touch f) parts.touches then part_line parts f else []
+
+-- `stage K`, its branches, and the parts of its fields, in the fields' order
+unfoldable pub stage_text : List FunctionDecl → List ℕ → ℕ → Stage → List ℕ
+stage_text functions order number stage =
+    codes "stage " ++ decimal number ++ codes "\n" ++ numbered (branch_text functions order) 1 stage.branches ++ flat_map (part_text stage.parts) all_fields
+
+-- the line of a chain, that of its functions in chain order, and its stages
 unfoldable pub chain_plan : ChainPolicy → List ℕ → List ℕ
-chain_plan chain order = codes "chain " ++ chain.name ++ codes "\norder" ++ names_at chain.functions order ++ codes "\n"
+chain_plan chain order =
+    codes "chain " ++ chain.name ++ codes "\norder" ++ names_at chain.functions order ++ codes "\n" ++ numbered (stage_text chain.functions order) 1 (graph_of (profiles_in chain.functions order)).stages

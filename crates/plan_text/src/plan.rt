@@ -1,15 +1,21 @@
 //! The plan of a chain.
-ghost use Rattle.std.specs.Prelude.{◌≡◌, ◌<◌, ◌≤◌, ◌++◌, length, All, OnOk};
-ghost use Rattle.plan_text.specs.Plan.{chain_plan};
+ghost use Rattle.std.specs.Prelude.{◌≡◌, ◌<◌, ◌≤◌, ◌+◌, ◌++◌, length, All, OnOk};
+ghost use Rattle.plan_text.specs.Plan.{chain_plan, numbered, stage_text};
 
+use crate::branches::{put_branches, put_number};
+use crate::functions::profiles_in;
+use crate::parts::put_parts;
+use graph_compile::{Stage, compile};
 use policy_judge::push_names;
-use policy_text::ChainPolicy;
+use policy_text::{ChainPolicy, FunctionDecl};
 use std::alloc::{AllocError, Global};
 
-/// Adds the plan of a chain. The order has the chain's functions, counted from 0 as declared.
+/// Adds the plan of a chain. The order has the chain's functions, counted from 0 as declared, in the
+/// order in which a packet passes them. The one error is want of memory; nothing is said of `out`
+/// then.
 #[tactic(auto, unfolding(crate::specs::Plan::chain_plan))]
 pub fn put_chain(
-    _alloc: Global,
+    alloc: Global,
     out: &mut Vec<u8>,
     chain: &ChainPolicy,
     order: &[u32],
@@ -18,10 +24,47 @@ pub fn put_chain(
     requires few { length order.now ≤ 64 }
     ensures { OnOk result (out.new.items ≡ out.old.items ++ chain_plan chain.now order.now) }
 {
+    let functions = chain.functions.as_slice();
+    let profiles = profiles_in(alloc, functions, order)?;
+    let graph = compile(alloc, &profiles)?;
     out.extend_from_slice(b"chain ".as_slice())?;
     out.extend_from_slice(chain.name.bytes())?;
     out.extend_from_slice(b"\norder".as_slice())?;
-    push_names(out, chain.functions.as_slice(), order)?;
+    push_names(out, functions, order)?;
     out.push(b'\n')?;
+    put_stages(alloc, out, functions, order, graph.stages.as_slice())
+}
+
+// Adds the lines of stages, counted from 1.
+fn put_stages(
+    alloc: Global,
+    out: &mut Vec<u8>,
+    functions: &[FunctionDecl],
+    order: &[u32],
+    stages: &[Stage],
+) -> Result<(), AllocError>
+    ensures { OnOk result (out.new.items ≡ out.old.items ++ numbered (stage_text functions.now order.now) 1 stages.now) }
+{
+    'stages: for (index, stage) in stages.iter().enumerate() {
+        put_stage(alloc, out, functions, order, index + 1, stage)?;
+    }
     Ok(())
+}
+
+#[tactic(auto, unfolding(crate::specs::Plan::stage_text))]
+fn put_stage(
+    alloc: Global,
+    out: &mut Vec<u8>,
+    functions: &[FunctionDecl],
+    order: &[u32],
+    number: usize,
+    stage: &Stage,
+) -> Result<(), AllocError>
+    ensures { OnOk result (out.new.items ≡ out.old.items ++ stage_text functions.now order.now number stage.now) }
+{
+    out.extend_from_slice(b"stage ".as_slice())?;
+    put_number(alloc, out, number)?;
+    out.push(b'\n')?;
+    put_branches(alloc, out, functions, order, stage.branches.as_slice())?;
+    put_parts(alloc, out, &stage.parts)
 }

@@ -1,0 +1,12 @@
+pub mod Counting
+pub mod Drafts
+pub mod Filling
+pub mod FiveFacts
+pub mod Following
+pub mod Making
+pub mod Owning
+mod Rows
+pub mod Standing
+pub mod Testing
+pub mod Times
+pub mod Touches

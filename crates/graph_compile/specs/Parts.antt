@@ -1,0 +1,89 @@
+-- How a stage hands on the fields of a packet to its branches.
+use Rattle.std.specs.Prelude.{◌≡◌, ◌-◌, ◌==◌, ◌&&◌, ◌||◌, ℕ, Bool, true, false, not, if◌then◌else◌, List, Option, Some, None, map, filter, count_by, position, slice_get, slice_index_or}
+use Rattle.std.specs.List.{list_any}
+use Rattle.std.specs.Option.{option_map_or}
+use Rattle.packet_fields.specs.Fields.{number_of}
+use Rattle.packet_fields.specs.declared.field.Field.{Field}
+use Rattle.action_profile.specs.FieldSets.{all_fields, fields, has}
+use Rattle.action_profile.specs.Profiles.{reads_of, writes_of}
+use Rattle.action_profile.specs.declared.parts.Mode.{Mode}
+use Rattle.action_profile.specs.declared.parts.Mode.TheVariants.{Shared, Moved, Copied}
+use Rattle.action_profile.specs.declared.parts.StageParts.{StageParts}
+use Rattle.action_profile.specs.declared.parts.Touch.{Touch}
+use Rattle.action_profile.specs.declared.rights.Profile.{Profile}
+use Rattle.graph_compile.specs.declared.graph.Branch.{Branch}
+
+-- the profile at a position of the chain; positions count from 1
+abbrev pub profile_at : List Profile → ℕ → Option Profile
+profile_at chain position = slice_get chain (position - 1)
+
+-- the function at a position reads a field, and writes it
+abbrev pub reads_at : List Profile → Field → ℕ → Bool
+reads_at chain f position = option_map_or (λ p. reads_of p f) (profile_at chain position) false
+
+abbrev pub writes_at : List Profile → Field → ℕ → Bool
+writes_at chain f position = option_map_or (λ p. writes_of p f) (profile_at chain position) false
+
+-- some function of a branch reads a field, and some writes it
+unfoldable pub branch_reads : List Profile → Branch → Field → Bool
+branch_reads chain branch f = list_any (reads_at chain f) branch.positions
+
+unfoldable pub branch_writes : List Profile → Branch → Field → Bool
+branch_writes chain branch f = list_any (writes_at chain f) branch.positions
+
+-- the fields that the functions of a branch read, and those that they write
+unfoldable pub touch_of : List Profile → Branch → Touch
+touch_of chain branch = record {
+  reads = fields (filter (branch_reads chain branch) all_fields);
+  writes = fields (filter (branch_writes chain branch) all_fields);
+}
+
+abbrev pub has_write : Field → Touch → Bool
+has_write f touch = has touch.writes f
+
+abbrev pub has_touch : Field → Touch → Bool
+has_touch f touch = has touch.reads f || has touch.writes f
+
+abbrev pub only_reads : Field → Touch → Bool
+only_reads f touch = has touch.reads f && not (has touch.writes f)
+
+-- how a field that some branch writes is handed on, `first` being the first branch that does: moved to it where no other touches the field, else copied
+abbrev pub written_mode : List Touch → Field → ℕ → Mode
+written_mode touches f first =
+    if count_by (has_touch f) touches == 1
+    then Moved first
+    else Copied (if list_any (only_reads f) touches then None else Some first)
+
+-- the mode of a field: shared where no branch writes it
+unfoldable pub mode_of : List Touch → Field → Mode
+mode_of touches f = option_map_or (written_mode touches f) (position (has_write f) touches) Shared
+
+abbrev pub modes_of : List Touch → List Mode
+modes_of touches = map (mode_of touches) all_fields
+
+abbrev pub touches_of : List Profile → List Branch → List Touch
+touches_of chain branches = map (touch_of chain) branches
+
+-- the parts of a stage: what each branch touches, and the mode of each field by that
+unfoldable pub parts_of : List Profile → List Branch → StageParts
+parts_of chain branches = record {
+  modes = modes_of (touches_of chain branches);
+  touches = touches_of chain branches;
+}
+
+-- the copies of a copied field: one for each branch that writes it, and one less where no branch only reads it, since the first that writes has the original
+abbrev pub copies_by_mode : Mode → List Touch → Field → ℕ
+copies_by_mode (Copied original) touches f =
+    if list_any (only_reads f) touches then count_by (has_write f) touches else count_by (has_write f) touches - 1
+copies_by_mode mode touches f = 0
+
+-- how many copies of a field a stage makes of each packet that has it
+unfoldable pub copies : StageParts → Field → ℕ
+copies parts f = copies_by_mode (slice_index_or parts.modes (number_of f) Shared) parts.touches f
+
+-- What a mode says of the branches. No branch writes a field that is shared; one is moved to the first branch that writes it, where no other touches it; of one that is copied the original is leased where some branch only reads it, and else goes to the first that writes it.
+abbrev pub ModeSays : List Touch → Field → Mode → Type 0
+ModeSays touches f Shared = list_any (has_write f) touches ≡ false
+ModeSays touches f (Moved k) = (position (has_write f) touches ≡ Some k) × (count_by (has_touch f) touches ≡ 1)
+ModeSays touches f (Copied None) = list_any (only_reads f) touches ≡ true
+ModeSays touches f (Copied (Some k)) = (position (has_write f) touches ≡ Some k) × (list_any (only_reads f) touches ≡ false)

@@ -1,0 +1,31 @@
+//! How many copies a stage makes.
+
+ghost use Rattle.std.specs.Prelude.{◌≡◌, ◌≤◌, length, count_by};
+ghost use Rattle.graph_compile.specs.Parts.{has_write, copies};
+
+use crate::parts::some_only_reads;
+use action_profile::{Mode, StageParts, Touch};
+use packet_fields::Field;
+
+/// How many copies of the field a stage makes of each packet that has it. Takes no memory.
+///
+/// A field that is shared or moved isn't copied. Of one that is copied, each branch that writes it
+/// has a copy of its own; where no branch only reads it, the first of them has the original in
+/// place of a copy.
+#[tactic(auto, unfolding(crate::specs::Parts::copies))]
+pub fn copies(parts: &StageParts, field: Field) -> usize
+    ensures { result ≡ copies parts.now field }
+{
+    let touches = parts.touches.as_slice();
+    match parts.modes[field.number()] {
+        Mode::Copied { .. } if some_only_reads(touches, field) => writers(touches, field),
+        Mode::Copied { .. } => writers(touches, field).saturating_sub(1),
+        _ => 0,
+    }
+}
+
+fn writers(touches: &[Touch], field: Field) -> usize
+    ensures { result ≡ count_by (has_write field) touches.now }
+{
+    touches.iter().filter(|t| t.writes.has(field)).count()
+}

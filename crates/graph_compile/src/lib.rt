@@ -1,0 +1,38 @@
+//! Which functions of a chain run side by side, and what each branch gets of a packet.
+//!
+//! A chain of network functions becomes a list of stages, which a packet passes one after another.
+//! A stage has branches that work on the packet side by side, and a branch is a run of functions,
+//! one after another. [`compile`] makes the stages by one greedy pass over the chain: a function
+//! joins the branch that must come before it, opens a branch where none must, and closes the stage
+//! where two must. [`lawful`] tells of any graph whether it may stand for the chain.
+//!
+//! Each field of a packet is shared by the branches that only read it, moved to the one branch that
+//! touches it, or copied for those that write it. [`copies`] counts the copies, and
+//! [`no_copy_is_spared`] says that there is none too many.
+//!
+//! `specs/Facts.antt` says what a lawful graph is. [`lawful_graph_is_staged`] and
+//! [`lawful_stage_has_owners`] say the same stage by stage and position by position, for proofs that
+//! go over the functions in chain order.
+//!
+//! How a packet is dealt to branches and put together again is left out.
+#![tactic(auto)]
+
+mod copying;
+mod draft;
+mod graph;
+mod lawfulness;
+mod laws;
+mod parts;
+mod placing;
+#[cfg(test)]
+mod tests;
+mod touching;
+
+pub use copying::copies;
+pub use graph::{Branch, Graph, Stage};
+pub use lawfulness::lawful;
+pub use laws::{
+    lawful_graph_is_staged, lawful_stage_has_owners, modes_are_right, no_copy_is_spared,
+    stages_rise, unwritten_is_not_copied,
+};
+pub use placing::compile;
