@@ -24,7 +24,7 @@ tied_or_apart q p = keys q p (same q p) refl
 apart_is_false : (q p : ℕ) → q ≢ p → same q p ≡ false
 apart_is_false q p n = elim (tied_or_apart q p) [ inl t ↦ absurd (n t.1) | inr t ↦ t.0 ]
 
-tied_itself : (p : ℕ) → same p p ≡ true
+pub tied_itself : (p : ℕ) → same p p ≡ true
 tied_itself p = elim (tied_or_apart p p) [ inl t ↦ t.0 | inr t ↦ absurd (t.1 refl) ]
 
 pub not_None : {A : Type 0} (x : A) → Some x ≢ None

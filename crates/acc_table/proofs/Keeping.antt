@@ -1,15 +1,15 @@
 -- What a table shows where one row changes.
-use Rattle.std.proofs.Common.{◌≡◌, ◌≢◌, ℕ, ◌<◌, ◌≤◌, ◌⊎◌, inl, inr, Bool, true, false, cond, List, length, get_or, set, replicate, Option, Some, None, All, IsSome, refl, sym, ap, ◌∙◌, arith, unwrap_or}
-use Rattle.std.proofs.lemmas.Bool.{false≢true}
+use Rattle.std.proofs.Common.{◌≡◌, ◌≢◌, ℕ, ◌<◌, ◌≤◌, ◌⊎◌, inl, inr, Bool, true, false, cond, List, length, get_or, set, replicate, Option, Some, None, All, IsSome, refl, sym, ap, ◌∙◌, arith, is_some, unwrap_or}
+use Rattle.std.proofs.lemmas.Bool.{cases_eq, false≢true}
 use Rattle.std.proofs.lemmas.List.{length-replicate, length-set}
 use Rattle.std.proofs.lemmas.List.Elements.{All-get_or, All-set}
 use Rattle.std.specs.List.{HoldsAt}
 use Rattle.std.specs.Ordering.{nat_cmp, eq_by_cmp}
 use Rattle.std.specs.Cmp.{nat_cmp_total}
-use Rattle.std.specs.FinMap.{FinMap, empty, find, from_entries, get, insert, remove, get-from_entries, get-insert, get-remove, same_map, nat_cmp-IsAntisymmetric}
-use Rattle.acc_table.specs.Arrivals.{IsOpen, Table, arrivals, forgetting, keeping, nothing, open_count, with_arrival}
+use Rattle.std.specs.FinMap.{FinMap, empty, find, from_entries, get, insert, remove, get-from_entries, get-insert, get-remove, get-empty, same_map, nat_cmp-IsAntisymmetric}
+use Rattle.acc_table.specs.Arrivals.{HasRoomFor, IsOpen, Table, arrivals, forgetting, keeping, nothing, open_count, with_arrival}
 use Rattle.acc_table.specs.Rows.{Place, Absent, AreKept, IsKept, IsPlaceFor, Once, opened}
-use Rattle.acc_table.proofs.Finding.{IsFor, OnlyAt, found, found-absent, found-at, found-set, held, len-opened, not_None, once-set, opened-free, only_at-from_once, tied_or_apart}
+use Rattle.acc_table.proofs.Finding.{IsFor, OnlyAt, found, found-absent, found-at, found-set, held, len-opened, not_None, once-set, opened-free, tied_itself, only_at-from_once, tied_or_apart}
 
 abbrev pub shown : {T : Type 0} → ℕ → List (Place T) → Table T
 shown branches rows = record { entries = length rows; branches = branches; waiting = from_entries (opened rows) }
@@ -125,7 +125,7 @@ open_or_none None is e = false≢true is
 open_or_none (Some x) is e = not_None x e
 
 -- where no row is this packet's, some row is free
-pub has_free_row : {T : Type 0} (branches p : ℕ) (rows : List (Place T)) (t : Table T) → shown branches rows ≡ t → AreKept branches rows → IsOpen t p ⊎ (open_count t < t.entries) → Absent p rows → length (opened rows) < length rows
+pub has_free_row : {T : Type 0} (branches p : ℕ) (rows : List (Place T)) (t : Table T) → shown branches rows ≡ t → AreKept branches rows → HasRoomFor t p → Absent p rows → length (opened rows) < length rows
 has_free_row branches p rows t view kept room absent =
     let none : get t.waiting p ≡ None = ap (λ u. get u.waiting p) (sym view) ∙ (get-from_entries nat_cmp_total (opened rows) p ∙ found-absent p rows absent) in
     elim room [
@@ -135,3 +135,28 @@ has_free_row branches p rows t view kept room absent =
 
 pub shown-free : {T : Type 0} (branches n : ℕ) (a : List (Option T)) → shown branches (replicate n (record { pid = None; arrived = a })) ≡ record { entries = n; branches = branches; waiting = empty }
 shown-free branches n a = same_table _ _ branches _ _ (length-replicate n _) (ap (λ es. from_entries {R = nat_cmp} es) (opened-free n a))
+
+-- a row that is another packet's or none opens no other packet
+pub opens_none : {T : Type 0} (branches p : ℕ) (rows : List (Place T)) (i : ℕ) (r s : Place T) (t : Table T) → shown branches rows ≡ t → At branches p rows i r → IsFor p s.pid → (q : ℕ) → IsOpen (shown branches (set rows i s)) q → (q ≡ p) ⊎ IsOpen t q
+opens_none branches p rows i r s t view at own q is = elim (cases_eq q p) [
+  | inl e ↦ inl e
+  | inr n ↦ inr (sym (ap is_some (same_get branches q p rows i r s at own n ∙ ap (λ u. get u.waiting q) view)) ∙ is)
+]
+
+own_get : {T : Type 0} (branches p : ℕ) (rows : List (Place T)) (i : ℕ) (r s : Place T) → At branches p rows i r → IsFor p s.pid → get (from_entries {R = nat_cmp} (opened (set rows i s))) p ≡ held s.pid s.arrived
+own_get branches p rows i r s at own =
+    get-set branches p p rows i r s at own ∙ ap (λ b. cond b (held s.pid s.arrived) (get (from_entries {R = nat_cmp} (opened rows)) p)) (tied_itself p)
+
+pub arrivals-puts : {T : Type 0} (branches p branch : ℕ) (value : T) (rows : List (Place T)) (i : ℕ) (r s : Place T) (t : Table T) → shown branches rows ≡ t → At branches p rows i r → Puts p branch value r s → arrivals (shown branches (set rows i s)) p ≡ with_arrival t p branch value
+arrivals-puts branches p branch value rows i r s t view at puts =
+    ap (λ o. unwrap_or o (nothing branches)) (own_get branches p rows i r s at (inr puts.own) ∙ ap (λ o. held o s.arrived) puts.own)
+    ∙ arrived_is branches p branch value rows i r s t view at puts
+
+pub arrivals-forgets : {T : Type 0} (branches p : ℕ) (rows : List (Place T)) (i : ℕ) (r s : Place T) (t : Table T) → shown branches rows ≡ t → At branches p rows i r → s.pid ≡ None → arrivals (shown branches (set rows i s)) p ≡ nothing t.branches
+arrivals-forgets branches p rows i r s t view at free =
+    ap (λ o. unwrap_or o (nothing branches)) (own_get branches p rows i r s at (inl free) ∙ ap (λ o. held o s.arrived) free)
+    ∙ ap (λ u. nothing u.branches) view
+
+-- nothing has come of any packet of an empty table
+pub none_waits : {T : Type 0} (branches : ℕ) (rows : List (Place T)) (n : ℕ) (a : List (Option T)) → rows ≡ replicate n (record { pid = None; arrived = a }) → (q : ℕ) → get (shown branches rows).waiting q ≡ None
+none_waits branches rows n a e q = ap (λ t. get t.waiting q) (ap (shown branches) e ∙ shown-free branches n a) ∙ get-empty nat_cmp q

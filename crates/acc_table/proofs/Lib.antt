@@ -1,3 +1,4 @@
+pub mod Filling
 pub mod Finding
 pub mod Handing
 pub mod Keeping

@@ -1,5 +1,5 @@
 -- What has come so far of each packet, by branch: a finite map from a packet's number.
-use Rattle.std.specs.Prelude.{ℕ, ◌≡◌, ◌<◌, List, [], ◌∷◌, Option, Some, None, IsSome, length, replicate, slice_set, unwrap_or, Contains, refl}
+use Rattle.std.specs.Prelude.{ℕ, ◌≡◌, ◌<◌, ◌⊎◌, List, [], ◌∷◌, Option, Some, None, IsSome, replicate, slice_set, unwrap_or, Contains, refl}
 use Rattle.std.specs.Ordering.{nat_cmp}
 use Rattle.std.specs.Coded.{Coded, code_by, coded×, coded_ℕ, coded_list, coded_option}
 use Rattle.std.specs.FinMap as finite
@@ -49,7 +49,10 @@ keeping t pid arrived = with_waiting t (finite.insert t.waiting pid arrived)
 abbrev pub forgetting : {T : Type 0} → Table T → ℕ → Table T
 forgetting t pid = with_waiting t (finite.remove t.waiting pid)
 
--- Each open packet takes one place: where all that are open are among some numbers, one of which isn't open,
--- fewer are open than there are numbers.
-abbrev pub FillsOnce : {T : Type 0} → Table T → Type 0
-FillsOnce t = (pids : List ℕ) (pid : ℕ) → ((p : ℕ) → IsOpen t p → Contains pids p) → Contains pids pid → (IsOpen t pid → ⊥) → open_count t < length pids
+-- something more may come of this packet: it is open, or there is a place for it
+abbrev pub HasRoomFor : {T : Type 0} → Table T → ℕ → Type 0
+HasRoomFor t pid = IsOpen t pid ⊎ (open_count t < t.entries)
+
+-- all open packets are among these
+abbrev pub IsOpenAmong : {T : Type 0} → Table T → List ℕ → Type 0
+IsOpenAmong t pids = (p : ℕ) → IsOpen t p → Contains pids p

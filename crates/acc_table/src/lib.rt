@@ -11,10 +11,12 @@
 //! What is left out: how rows are found is the crate's own affair, and no clause speaks of it.
 #![tactic(auto)]
 
+mod laws;
 mod place;
 mod row;
 mod table;
 #[cfg(test)]
 mod tests;
 
+pub use laws::open_packets_take_a_place_each;
 pub use table::{AccTable, Complete, MOST_BRANCHES, MOST_ENTRIES};

@@ -2,7 +2,7 @@
 ghost use Rattle.std.specs.Prelude.{◌≡◌, ◌≢◌, ◌↔◌, ◌<◌, ◌≤◌, ◌⊎◌, ℕ, [], IfOk, IfSome, IsNone, IsSome, All, None, Some, length, map, slice_index_or};
 ghost use Rattle.std.specs.Vec.{vec_capacity};
 ghost use Rattle.std.specs.FinMap as finite;
-ghost use Rattle.acc_table.specs.Arrivals.{IsOpen, arrivals, forgetting, keeping, open_count, with_arrival};
+ghost use Rattle.acc_table.specs.Arrivals.{HasRoomFor, IsOpen, arrivals, forgetting, keeping, nothing, open_count, with_arrival};
 
 use crate::place::{free_rows, place_for, taken_rows};
 use crate::row::Row;
@@ -51,7 +51,9 @@ impl<T: Drop> AccTable<T> {
         requires few_entries { entries ≤ MOST_ENTRIES }
         requires some_branches { 0 < branches }
         requires few_branches { branches ≤ MOST_BRANCHES }
-        ensures { IfOk result (λ t. t ≡ record { entries = entries; branches = branches; waiting = finite.empty }) }
+        ensures made { IfOk result (λ t. t ≡ record { entries = entries; branches = branches; waiting = finite.empty }) }
+        ensures nothing { IfOk result (λ t. (p : ℕ) → arrivals t p ≡ nothing branches) }
+        ensures none_open { IfOk result (λ t. (p : ℕ) → IsOpen t p → ⊥) }
     {
         Ok(AccTable {
             branches,
@@ -65,21 +67,28 @@ impl<T: Drop> AccTable<T> {
     pub fn arrive(&mut self, pid: u32, branch: u32, value: T, into: &mut Vec<T>) -> Option<Complete>
         requires branch { branch < self.old.branches }
         requires first { slice_index_or (arrivals self.old pid) branch None ≡ None }
-        requires room { IsOpen self.old pid ⊎ (open_count self.old < self.old.entries) }
+        requires room { HasRoomFor self.old pid }
         requires empty { into.old.items ≡ [] }
         requires into_room { self.old.branches ≤ vec_capacity into.old }
 
-        // Complete exactly where every branch has arrived now.
+        // Complete exactly where every branch has arrived now, with the values in branch order.
         ensures complete { IsSome result ↔ All (λ a. IsSome a) (with_arrival self.old pid branch value) }
         ensures number { IfSome result (λ c. c.pid ≡ pid) }
         ensures values { IsSome result → map Some into.new.items ≡ with_arrival self.old pid branch value }
-        ensures forgotten { IsSome result → self.new ≡ forgetting self.old pid }
-
-        // Until then the value is kept beside what had come of the packet.
         ensures no_values { IsNone result → into.new.items ≡ [] }
+
+        // A packet that is complete is forgotten, and of any other the value is kept.
+        ensures forgotten { IsSome result → self.new ≡ forgetting self.old pid }
         ensures kept { IsNone result → self.new ≡ keeping self.old pid (with_arrival self.old pid branch value) }
 
+        // The same, packet by packet.
+        ensures none_left { IsSome result → arrivals self.new pid ≡ nothing self.old.branches }
+        ensures arrived { IsNone result → arrivals self.new pid ≡ with_arrival self.old pid branch value }
         ensures others { (p : ℕ) → p ≢ pid → arrivals self.new p ≡ arrivals self.old p }
+        ensures opened { (p : ℕ) → IsOpen self.new p → (p ≡ pid) ⊎ IsOpen self.old p }
+
+        ensures entries { self.new.entries ≡ self.old.entries }
+        ensures branches { self.new.branches ≡ self.old.branches }
         ensures into_room { vec_capacity into.old ≤ vec_capacity into.new }
     {
         let place = place_for(self.rows.as_slice(), pid);

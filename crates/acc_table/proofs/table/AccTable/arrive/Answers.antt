@@ -1,5 +1,5 @@
 use Rattle.std.proofs.Common.{sym, ap, ◌∙◌, inl, inr}
-use Rattle.acc_table.proofs.Keeping.{at_place, puts_from, arrived_is, keeps, kept-puts, length-puts, forgets, kept-free, arrivals_other, has_free_row}
+use Rattle.acc_table.proofs.Keeping.{at_place, puts_from, arrived_is, keeps, kept-puts, length-puts, forgets, kept-free, arrivals_other, arrivals-puts, arrivals-forgets, opens_none, has_free_row}
 use Rattle.acc_table.proofs.table.AccTable.arrive.Goals as goal
 
 pub place_for-place-requires : goal.place_for-place-requires
@@ -51,3 +51,23 @@ pub returns-clause-others : goal.returns-clause-others
 returns-clause-others g c =
     let at = at_place c.self.inside.branches c.args.pid _ _ _ _ c.self.invariant c.as_slice.ensures.value c.place_for-place.ensures c.index_mut-row.ensures.value in
     arrivals_other _ _ _ _ _ _ _ c.self.view_is at (inl (ap (λ s. s.pid) c.hand_over.ensures.free))
+
+pub returns-then-not-is_whole-clause-arrived : goal.returns-then-not-is_whole-clause-arrived
+returns-then-not-is_whole-clause-arrived g c _ =
+    let at = at_place c.self.inside.branches c.args.pid _ _ _ _ c.self.invariant c.as_slice.ensures.value c.place_for-place.ensures c.index_mut-row.ensures.value in
+    arrivals-puts _ _ _ _ _ _ _ _ _ c.self.view_is at (puts_from c.args.pid c.args.branch c.args.value c.index_mut-row.result.now c.put.new.self c.put.ensures)
+
+pub returns-then-not-is_whole-clause-opened : goal.returns-then-not-is_whole-clause-opened
+returns-then-not-is_whole-clause-opened g c =
+    let at = at_place c.self.inside.branches c.args.pid _ _ _ _ c.self.invariant c.as_slice.ensures.value c.place_for-place.ensures c.index_mut-row.ensures.value in
+    opens_none _ _ _ _ _ _ _ c.self.view_is at (inr (puts_from c.args.pid c.args.branch c.args.value c.index_mut-row.result.now c.put.new.self c.put.ensures).own)
+
+pub returns-clause-none_left : goal.returns-clause-none_left
+returns-clause-none_left g c _ =
+    let at = at_place c.self.inside.branches c.args.pid _ _ _ _ c.self.invariant c.as_slice.ensures.value c.place_for-place.ensures c.index_mut-row.ensures.value in
+    arrivals-forgets _ _ _ _ _ _ _ c.self.view_is at (ap (λ s. s.pid) c.hand_over.ensures.free)
+
+pub returns-clause-opened : goal.returns-clause-opened
+returns-clause-opened g c =
+    let at = at_place c.self.inside.branches c.args.pid _ _ _ _ c.self.invariant c.as_slice.ensures.value c.place_for-place.ensures c.index_mut-row.ensures.value in
+    opens_none _ _ _ _ _ _ _ c.self.view_is at (inl (ap (λ s. s.pid) c.hand_over.ensures.free))
