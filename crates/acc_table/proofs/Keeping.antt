@@ -1,5 +1,5 @@
 -- What a table shows where one row changes.
-use Rattle.std.proofs.Common.{◌≡◌, ◌≢◌, ℕ, ◌<◌, ◌≤◌, ◌⊎◌, inl, inr, Bool, true, false, cond, List, length, get_or, set, replicate, Option, Some, None, All, IsSome, refl, sym, ap, ◌∙◌, arith, is_some, unwrap_or}
+use Rattle.std.proofs.Common.{◌≡◌, ◌≢◌, ◌↔◌, ℕ, ◌<◌, ◌≤◌, ◌⊎◌, inl, inr, Bool, true, false, cond, List, length, get_or, set, replicate, Option, Some, None, All, IsSome, refl, sym, ap, ◌∙◌, arith, is_some, unwrap_or}
 use Rattle.std.proofs.lemmas.Bool.{cases_eq, false≢true}
 use Rattle.std.proofs.lemmas.List.{length-replicate, length-set}
 use Rattle.std.proofs.lemmas.List.Elements.{All-get_or, All-set}
@@ -136,12 +136,11 @@ has_free_row branches p rows t view kept room absent =
 pub shown-free : {T : Type 0} (branches n : ℕ) (a : List (Option T)) → shown branches (replicate n (record { pid = None; arrived = a })) ≡ record { entries = n; branches = branches; waiting = empty }
 shown-free branches n a = same_table _ _ branches _ _ (length-replicate n _) (ap (λ es. from_entries {R = nat_cmp} es) (opened-free n a))
 
--- a row that is another packet's or none opens no other packet
-pub opens_none : {T : Type 0} (branches p : ℕ) (rows : List (Place T)) (i : ℕ) (r s : Place T) (t : Table T) → shown branches rows ≡ t → At branches p rows i r → IsFor p s.pid → (q : ℕ) → IsOpen (shown branches (set rows i s)) q → (q ≡ p) ⊎ IsOpen t q
-opens_none branches p rows i r s t view at own q is = elim (cases_eq q p) [
-  | inl e ↦ inl e
-  | inr n ↦ inr (sym (ap is_some (same_get branches q p rows i r s at own n ∙ ap (λ u. get u.waiting q) view)) ∙ is)
-]
+-- every other packet is open as before
+pub others_open : {T : Type 0} (branches p : ℕ) (rows : List (Place T)) (i : ℕ) (r s : Place T) (t : Table T) → shown branches rows ≡ t → At branches p rows i r → IsFor p s.pid → (q : ℕ) → q ≢ p → IsOpen (shown branches (set rows i s)) q ↔ IsOpen t q
+others_open branches p rows i r s t view at own q n =
+    let e = ap is_some (same_get branches q p rows i r s at own n ∙ ap (λ u. get u.waiting q) view) in
+    (λ is. sym e ∙ is, λ is. e ∙ is)
 
 own_get : {T : Type 0} (branches p : ℕ) (rows : List (Place T)) (i : ℕ) (r s : Place T) → At branches p rows i r → IsFor p s.pid → get (from_entries {R = nat_cmp} (opened (set rows i s))) p ≡ held s.pid s.arrived
 own_get branches p rows i r s at own =
@@ -151,6 +150,12 @@ pub arrivals-puts : {T : Type 0} (branches p branch : ℕ) (value : T) (rows : L
 arrivals-puts branches p branch value rows i r s t view at puts =
     ap (λ o. unwrap_or o (nothing branches)) (own_get branches p rows i r s at (inr puts.own) ∙ ap (λ o. held o s.arrived) puts.own)
     ∙ arrived_is branches p branch value rows i r s t view at puts
+
+pub open-puts : {T : Type 0} (branches p branch : ℕ) (value : T) (rows : List (Place T)) (i : ℕ) (r s : Place T) → At branches p rows i r → Puts p branch value r s → IsOpen (shown branches (set rows i s)) p
+open-puts branches p branch value rows i r s at puts = ap is_some (own_get branches p rows i r s at (inr puts.own) ∙ ap (λ o. held o s.arrived) puts.own)
+
+pub open-forgets : {T : Type 0} (branches p : ℕ) (rows : List (Place T)) (i : ℕ) (r s : Place T) → At branches p rows i r → s.pid ≡ None → IsOpen (shown branches (set rows i s)) p → ⊥
+open-forgets branches p rows i r s at free is = false≢true (sym (ap is_some (own_get branches p rows i r s at (inl free) ∙ ap (λ o. held o s.arrived) free)) ∙ is)
 
 pub arrivals-forgets : {T : Type 0} (branches p : ℕ) (rows : List (Place T)) (i : ℕ) (r s : Place T) (t : Table T) → shown branches rows ≡ t → At branches p rows i r → s.pid ≡ None → arrivals (shown branches (set rows i s)) p ≡ nothing t.branches
 arrivals-forgets branches p rows i r s t view at free =

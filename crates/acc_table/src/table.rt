@@ -1,5 +1,5 @@
 //! The table of what has come, and its calls.
-ghost use Rattle.std.specs.Prelude.{◌≡◌, ◌≢◌, ◌↔◌, ◌<◌, ◌≤◌, ◌⊎◌, ℕ, [], IfOk, IfSome, IsNone, IsSome, All, None, Some, length, map, slice_index_or};
+ghost use Rattle.std.specs.Prelude.{◌≡◌, ◌≢◌, ◌↔◌, ◌<◌, ◌≤◌, ℕ, [], IfOk, IfSome, IsNone, IsSome, All, None, Some, length, map, slice_index_or};
 ghost use Rattle.std.specs.Vec.{vec_capacity};
 ghost use Rattle.std.specs.FinMap as finite;
 ghost use Rattle.acc_table.specs.Arrivals.{HasRoomFor, IsOpen, arrivals, forgetting, keeping, nothing, open_count, with_arrival};
@@ -85,7 +85,8 @@ impl<T: Drop> AccTable<T> {
         ensures none_left { IsSome result → arrivals self.new pid ≡ nothing self.old.branches }
         ensures arrived { IsNone result → arrivals self.new pid ≡ with_arrival self.old pid branch value }
         ensures others { (p : ℕ) → p ≢ pid → arrivals self.new p ≡ arrivals self.old p }
-        ensures opened { (p : ℕ) → IsOpen self.new p → (p ≡ pid) ⊎ IsOpen self.old p }
+        ensures open { IsNone result ↔ IsOpen self.new pid }
+        ensures others_open { (p : ℕ) → p ≢ pid → (IsOpen self.new p ↔ IsOpen self.old p) }
 
         ensures entries { self.new.entries ≡ self.old.entries }
         ensures branches { self.new.branches ≡ self.old.branches }

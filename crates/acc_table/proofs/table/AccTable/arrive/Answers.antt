@@ -1,5 +1,6 @@
-use Rattle.std.proofs.Common.{sym, ap, ◌∙◌, inl, inr}
-use Rattle.acc_table.proofs.Keeping.{at_place, puts_from, arrived_is, keeps, kept-puts, length-puts, forgets, kept-free, arrivals_other, arrivals-puts, arrivals-forgets, opens_none, has_free_row}
+use Rattle.std.proofs.Common.{sym, ap, ◌∙◌, inl, inr, refl}
+use Rattle.std.proofs.lemmas.Bool.{false≢true}
+use Rattle.acc_table.proofs.Keeping.{at_place, puts_from, arrived_is, keeps, kept-puts, length-puts, forgets, kept-free, arrivals_other, arrivals-puts, arrivals-forgets, others_open, open-puts, open-forgets, has_free_row}
 use Rattle.acc_table.proofs.table.AccTable.arrive.Goals as goal
 
 pub place_for-place-requires : goal.place_for-place-requires
@@ -57,17 +58,27 @@ returns-then-not-is_whole-clause-arrived g c _ =
     let at = at_place c.self.inside.branches c.args.pid _ _ _ _ c.self.invariant c.as_slice.ensures.value c.place_for-place.ensures c.index_mut-row.ensures.value in
     arrivals-puts _ _ _ _ _ _ _ _ _ c.self.view_is at (puts_from c.args.pid c.args.branch c.args.value c.index_mut-row.result.now c.put.new.self c.put.ensures)
 
-pub returns-then-not-is_whole-clause-opened : goal.returns-then-not-is_whole-clause-opened
-returns-then-not-is_whole-clause-opened g c =
+pub returns-then-not-is_whole-clause-others_open : goal.returns-then-not-is_whole-clause-others_open
+returns-then-not-is_whole-clause-others_open g c =
     let at = at_place c.self.inside.branches c.args.pid _ _ _ _ c.self.invariant c.as_slice.ensures.value c.place_for-place.ensures c.index_mut-row.ensures.value in
-    opens_none _ _ _ _ _ _ _ c.self.view_is at (inr (puts_from c.args.pid c.args.branch c.args.value c.index_mut-row.result.now c.put.new.self c.put.ensures).own)
+    others_open _ _ _ _ _ _ _ c.self.view_is at (inr (puts_from c.args.pid c.args.branch c.args.value c.index_mut-row.result.now c.put.new.self c.put.ensures).own)
 
 pub returns-clause-none_left : goal.returns-clause-none_left
 returns-clause-none_left g c _ =
     let at = at_place c.self.inside.branches c.args.pid _ _ _ _ c.self.invariant c.as_slice.ensures.value c.place_for-place.ensures c.index_mut-row.ensures.value in
     arrivals-forgets _ _ _ _ _ _ _ c.self.view_is at (ap (λ s. s.pid) c.hand_over.ensures.free)
 
-pub returns-clause-opened : goal.returns-clause-opened
-returns-clause-opened g c =
+pub returns-clause-others_open : goal.returns-clause-others_open
+returns-clause-others_open g c =
     let at = at_place c.self.inside.branches c.args.pid _ _ _ _ c.self.invariant c.as_slice.ensures.value c.place_for-place.ensures c.index_mut-row.ensures.value in
-    opens_none _ _ _ _ _ _ _ c.self.view_is at (inl (ap (λ s. s.pid) c.hand_over.ensures.free))
+    others_open _ _ _ _ _ _ _ c.self.view_is at (inl (ap (λ s. s.pid) c.hand_over.ensures.free))
+
+pub returns-then-not-is_whole-clause-open : goal.returns-then-not-is_whole-clause-open
+returns-then-not-is_whole-clause-open g c =
+    let at = at_place c.self.inside.branches c.args.pid _ _ _ _ c.self.invariant c.as_slice.ensures.value c.place_for-place.ensures c.index_mut-row.ensures.value in
+    (λ _. open-puts _ _ _ _ _ _ _ _ at (puts_from c.args.pid c.args.branch c.args.value c.index_mut-row.result.now c.put.new.self c.put.ensures), λ _. refl)
+
+pub returns-clause-open : goal.returns-clause-open
+returns-clause-open g c =
+    let at = at_place c.self.inside.branches c.args.pid _ _ _ _ c.self.invariant c.as_slice.ensures.value c.place_for-place.ensures c.index_mut-row.ensures.value in
+    (λ none. absurd (false≢true (sym none)), λ is. absurd (open-forgets _ _ _ _ _ _ at (ap (λ s. s.pid) c.hand_over.ensures.free) is))
