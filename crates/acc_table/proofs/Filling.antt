@@ -1,11 +1,11 @@
 -- Each open packet takes one place.
 use Rattle.std.proofs.Common.{◌≡◌, ◌≢◌, ℕ, ◌+◌, ◌-◌, ◌<◌, ◌≤◌, zero, suc, ◌⊎◌, inl, inr, Bool, true, false, cond, List, [], ◌∷◌, length, get_or, Option, Some, None, IsSome, refl, sym, ap, ◌∙◌, arith, is_some, Contains}
 use Rattle.std.proofs.lemmas.Bool.{false≢true, cases_eq}
-use Rattle.std.specs.Ordering.{nat_cmp, eq_by_cmp}
+use Rattle.std.specs.Ordering.{nat_cmp}
 use Rattle.std.specs.Cmp.{nat_cmp_total}
 use Rattle.std.specs.FinMap.{FinMap, empty, get, len, remove, get-empty, get-remove, len-empty, len-remove, same_map, nat_cmp-IsAntisymmetric}
 use Rattle.acc_table.specs.Arrivals.{HasRoomFor, IsOpen, IsOpenAmong, Table, open_count}
-use Rattle.acc_table.proofs.Finding.{not_None, tied_or_apart}
+use Rattle.acc_table.proofs.Finding.{tied_or_apart}
 
 at_place : (p : ℕ) (ps : List ℕ) (q k : ℕ) → k < length (p ∷ ps) → get_or (p ∷ ps) k q ≡ q → (p ≡ q) ⊎ Contains ps q
 at_place p ps q zero lt e = inl e

@@ -7,7 +7,7 @@ use Rattle.std.proofs.lemmas.List.Elements.{All-head, All-tail}
 use Rattle.std.specs.List.{HoldsAt}
 use Rattle.std.specs.Ordering.{nat_cmp, eq_by_cmp}
 use Rattle.std.specs.Cmp.{nat_cmp_total, unsigned_tied}
-use Rattle.std.specs.FinMap.{FinMap, find, from_entries, get, len, insert, get-from_entries, len-insert, len-empty}
+use Rattle.std.specs.FinMap.{find, from_entries, len, get-from_entries, len-insert, len-empty}
 use Rattle.acc_table.specs.Rows.{Place, Absent, Once, entered, opened}
 
 abbrev same : ℕ → ℕ → Bool

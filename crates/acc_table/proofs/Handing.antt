@@ -1,5 +1,5 @@
 -- A row that hands its values over, one branch after another.
-use Rattle.std.proofs.Common.{◌≡◌, ℕ, zero, ◌+◌, ◌-◌, ◌<◌, ◌≤◌, ◌++◌, List, [], ◌∷◌, map, replicate, take, drop, set, get_or, length, Option, Some, None, refl, sym, ap, ◌∙◌, arith, add-one, drop-cons, append_assoc}
+use Rattle.std.proofs.Common.{◌≡◌, ℕ, zero, ◌+◌, ◌-◌, ◌<◌, ◌++◌, List, [], ◌∷◌, map, replicate, take, drop, set, get_or, length, Option, Some, sym, ap, ◌∙◌, arith, add-one, drop-cons, append_assoc}
 use Rattle.std.proofs.lemmas.List.{get_or-append_right, length-replicate, replicate_more, set_at, take_more}
 
 seam : {X : Type 0} (items all : List X) (i : ℕ) (n x : X) → i < length all → items ≡ replicate i n ++ drop i all → items ≡ replicate i n ++ get_or all i x ∷ drop (i + 1) all

@@ -1,15 +1,14 @@
 -- What a table shows where one row changes.
-use Rattle.std.proofs.Common.{◌≡◌, ◌≢◌, ◌↔◌, ℕ, ◌<◌, ◌≤◌, ◌⊎◌, inl, inr, Bool, true, false, cond, List, length, get_or, set, replicate, Option, Some, None, All, IsSome, refl, sym, ap, ◌∙◌, arith, is_some, unwrap_or}
-use Rattle.std.proofs.lemmas.Bool.{cases_eq, false≢true}
+use Rattle.std.proofs.Common.{◌≡◌, ◌≢◌, ◌↔◌, ℕ, ◌<◌, inl, inr, cond, List, length, get_or, set, replicate, Option, Some, None, IsSome, refl, sym, ap, ◌∙◌, arith, is_some, unwrap_or}
+use Rattle.std.proofs.lemmas.Bool.{false≢true}
 use Rattle.std.proofs.lemmas.List.{length-replicate, length-set}
 use Rattle.std.proofs.lemmas.List.Elements.{All-get_or, All-set}
-use Rattle.std.specs.List.{HoldsAt}
 use Rattle.std.specs.Ordering.{nat_cmp, eq_by_cmp}
 use Rattle.std.specs.Cmp.{nat_cmp_total}
-use Rattle.std.specs.FinMap.{FinMap, empty, find, from_entries, get, insert, remove, get-from_entries, get-insert, get-remove, get-empty, same_map, nat_cmp-IsAntisymmetric}
+use Rattle.std.specs.FinMap.{FinMap, empty, from_entries, get, get-from_entries, get-insert, get-remove, get-empty, same_map, nat_cmp-IsAntisymmetric}
 use Rattle.acc_table.specs.Arrivals.{HasRoomFor, IsOpen, Table, arrivals, forgetting, keeping, nothing, open_count, with_arrival}
-use Rattle.acc_table.specs.Rows.{Place, Absent, AreKept, IsKept, IsPlaceFor, Once, opened}
-use Rattle.acc_table.proofs.Finding.{IsFor, OnlyAt, found, found-absent, found-at, found-set, held, len-opened, not_None, once-set, opened-free, tied_itself, only_at-from_once, tied_or_apart}
+use Rattle.acc_table.specs.Rows.{Place, Absent, AreKept, IsKept, IsPlaceFor, opened}
+use Rattle.acc_table.proofs.Finding.{IsFor, OnlyAt, found-absent, found-at, found-set, held, len-opened, not_None, once-set, opened-free, tied_itself, only_at-from_once, tied_or_apart}
 
 abbrev pub shown : {T : Type 0} → ℕ → List (Place T) → Table T
 shown branches rows = record { entries = length rows; branches = branches; waiting = from_entries (opened rows) }

@@ -2,3 +2,4 @@ pub mod Filling
 pub mod Finding
 pub mod Handing
 pub mod Keeping
+mod Rows

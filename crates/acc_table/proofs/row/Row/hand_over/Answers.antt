@@ -1,4 +1,4 @@
-use Rattle.std.proofs.Common.{None, arith, rules}
+use Rattle.std.proofs.Common.{None, rules}
 use Rattle.acc_table.proofs.Handing.{emptied_more, handed_more}
 use Rattle.acc_table.proofs.row.Row.hand_over.Goals as goal
 
