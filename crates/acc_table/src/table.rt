@@ -85,7 +85,7 @@ impl<T: Drop> AccTable<T> {
         ensures none_left { IsSome result → arrivals self.new pid ≡ nothing self.old.branches }
         ensures arrived { IsNone result → arrivals self.new pid ≡ with_arrival self.old pid branch value }
         ensures others { (p : ℕ) → p ≢ pid → arrivals self.new p ≡ arrivals self.old p }
-        ensures open { IsNone result ↔ IsOpen self.new pid }
+        ensures still_open { IsNone result ↔ IsOpen self.new pid }
         ensures others_open { (p : ℕ) → p ≢ pid → (IsOpen self.new p ↔ IsOpen self.old p) }
 
         ensures entries { self.new.entries ≡ self.old.entries }

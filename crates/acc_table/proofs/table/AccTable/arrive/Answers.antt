@@ -73,12 +73,12 @@ returns-clause-others_open g c =
     let at = at_place c.self.inside.branches c.args.pid _ _ _ _ c.self.invariant c.as_slice.ensures.value c.place_for-place.ensures c.index_mut-row.ensures.value in
     others_open _ _ _ _ _ _ _ c.self.view_is at (inl (ap (λ s. s.pid) c.hand_over.ensures.free))
 
-pub returns-then-not-is_whole-clause-open : goal.returns-then-not-is_whole-clause-open
-returns-then-not-is_whole-clause-open g c =
+pub returns-then-not-is_whole-clause-still_open : goal.returns-then-not-is_whole-clause-still_open
+returns-then-not-is_whole-clause-still_open g c =
     let at = at_place c.self.inside.branches c.args.pid _ _ _ _ c.self.invariant c.as_slice.ensures.value c.place_for-place.ensures c.index_mut-row.ensures.value in
     (λ _. open-puts _ _ _ _ _ _ _ _ at (puts_from c.args.pid c.args.branch c.args.value c.index_mut-row.result.now c.put.new.self c.put.ensures), λ _. refl)
 
-pub returns-clause-open : goal.returns-clause-open
-returns-clause-open g c =
+pub returns-clause-still_open : goal.returns-clause-still_open
+returns-clause-still_open g c =
     let at = at_place c.self.inside.branches c.args.pid _ _ _ _ c.self.invariant c.as_slice.ensures.value c.place_for-place.ensures c.index_mut-row.ensures.value in
     (λ none. absurd (false≢true (sym none)), λ is. absurd (open-forgets _ _ _ _ _ _ at (ap (λ s. s.pid) c.hand_over.ensures.free) is))
