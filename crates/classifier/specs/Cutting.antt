@@ -1,5 +1,5 @@
 -- Packets, numbered from 1 in their order, cut into bursts.
-use Rattle.std.specs.Prelude.{ℕ, ◌≡◌, ◌+◌, List, [], ◌∷◌, ◌++◌, Bool, true, false, ◌||◌, Option, Some, None, All, length, nat_le, if◌then◌else◌}
+use Rattle.std.specs.Prelude.{ℕ, ◌≡◌, ◌+◌, List, [], ◌∷◌, ◌++◌, Bool, true, false, ◌||◌, Option, All, length, nat_le, if◌then◌else◌}
 use Rattle.std.specs.List.{sum_by}
 use Rattle.pcap_io.specs.declared.capture.PcapRecord.{PcapRecord}
 use Rattle.classifier.specs.declared.burst.Item.{Item}
@@ -65,3 +65,10 @@ in_a_row (b ∷ bs) = b ++ in_a_row bs
 -- the last of its packets closed it: it is full, and was not without it
 abbrev pub IsClosedByLast : ℕ → List Item → Type 0
 IsClosedByLast limit burst = (front : List Item) × (last : Item) × (burst ≡ front ++ last ∷ []) × (is_full limit front ≡ false) × (is_full limit burst ≡ true)
+
+-- a way to cut packets: bursts and an open one that in a row are the packets, where each burst was closed by its last packet and
+-- the open one isn't full
+pub record IsCut (limit : ℕ) (items : List Item) (bursts : List (List Item)) (rest : List Item) : Type 0 where
+  pub row : in_a_row bursts ++ rest ≡ items
+  pub closed : All (IsClosedByLast limit) bursts
+  pub not_full : is_full limit rest ≡ false

@@ -1,15 +1,15 @@
 //! What cutting is worth.
-ghost use Rattle.std.specs.Prelude.{◌≡◌, ◌≤◌, ◌<◌, ℕ, ◌+◌, ◌++◌, List, [], ◌∷◌, All, Option, false, if◌then◌else◌, length, map, slice_index_or};
+ghost use Rattle.std.specs.Prelude.{◌≡◌, ◌<◌, ℕ, ◌+◌, ◌++◌, List, [], ◌∷◌, Option, if◌then◌else◌, length, map, slice_index_or};
 ghost use Rattle.pcap_io.specs.declared.capture.PcapRecord.{PcapRecord};
-ghost use Rattle.classifier.specs.Cutting.{IsClosedByLast, bursts_from, class_of, in_a_row, is_full, numbered, rest_from};
+ghost use Rattle.classifier.specs.Cutting.{IsCut, bursts_from, class_of, is_full, numbered, rest_from};
 ghost use Rattle.classifier.specs.declared.burst.Item.{Item};
 
-/// A law: the bursts in a row, and the open one behind them, are the packets in a row, numbered from
-/// 1. Each burst was closed by its last packet, and the open one isn't full.
+/// A law: the bursts in a row, and the open one behind them, are the packets in a row. Each burst
+/// was closed by its last packet, and the open one isn't full. There is no other way to cut so.
 pub fn bursts_are_the_packets_in_a_row()
-    ensures in_a_row { (limit : ℕ) → (packets : List (PcapRecord × Option ℕ)) → in_a_row (bursts_from limit [] (numbered 1 packets)) ++ rest_from limit [] (numbered 1 packets) ≡ numbered 1 packets }
-    ensures closed { (limit : ℕ) → (packets : List (PcapRecord × Option ℕ)) → 0 < limit → All (IsClosedByLast limit) (bursts_from limit [] (numbered 1 packets)) }
-    ensures not_full { (limit : ℕ) → (packets : List (PcapRecord × Option ℕ)) → 0 < limit → is_full limit (rest_from limit [] (numbered 1 packets)) ≡ false }
+    ensures is_cut { (limit : ℕ) → (items : List Item) → 0 < limit → IsCut limit items (bursts_from limit [] items) (rest_from limit [] items) }
+    ensures only_bursts { (limit : ℕ) → (items : List Item) → (bursts : List (List Item)) → (rest : List Item) → IsCut limit items bursts rest → bursts ≡ bursts_from limit [] items }
+    ensures only_rest { (limit : ℕ) → (items : List Item) → (bursts : List (List Item)) → (rest : List Item) → IsCut limit items bursts rest → rest ≡ rest_from limit [] items }
 {}
 
 /// A law: numbering leaves the packets and their classes as they are and in their order, and the

@@ -26,6 +26,8 @@ fn every_second_packet_closes_a_burst(rt: HostRuntime) -> Result<(), Fail> {
     assert!(rt; first.is_none() && third.is_none());
     assert!(rt; second.is_some_and(|b| b.items.as_slice().len() == 2));
     let last = rest.items.into_vec().pop();
-    assert!(rt; last.is_some_and(|i| i.number == 3 && i.packet.frame.bytes() == b"\x03"));
+    assert!(rt;
+        last.is_some_and(|i| i.number == 3 && i.packet.frame.bytes() == b"\x03".as_slice())
+    );
     Ok(())
 }
