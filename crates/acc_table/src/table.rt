@@ -21,7 +21,7 @@ pub struct Complete {
     pub pid: u32,
 }
 
-/// What has come of packets so far. A contract sees a finite map: [`arrivals`] of a packet's number
+/// What has come of packets so far. A contract sees a finite map: `arrivals` of a packet's number
 /// is what has come of it, by branch.
 #[derive(Drop)]
 pub struct AccTable<T> {
