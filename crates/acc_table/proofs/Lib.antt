@@ -1,0 +1,5 @@
+pub mod Filling
+pub mod Finding
+pub mod Handing
+pub mod Keeping
+mod Rows

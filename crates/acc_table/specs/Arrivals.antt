@@ -1,0 +1,58 @@
+-- What has come so far of each packet, by branch: a finite map from a packet's number.
+use Rattle.std.specs.Prelude.{ℕ, ◌<◌, ◌⊎◌, List, Option, Some, None, IsSome, replicate, slice_set, unwrap_or, Contains, refl}
+use Rattle.std.specs.Ordering.{nat_cmp}
+use Rattle.std.specs.Coded.{Coded, code_by, coded×, coded_ℕ, coded_list, coded_option}
+use Rattle.std.specs.FinMap as finite
+
+-- room for so many packets, of so many branches each, and the packets of which something has come:
+-- by its number what has come of it, by branch
+pub record Table (T : Type 0) : Type 0 where
+  pub entries : ℕ
+  pub branches : ℕ
+  pub waiting : finite.FinMap nat_cmp (List (Option T))
+
+abbrev pub table_code : {T : Type 0} → Coded T → Coded (Table T)
+table_code {T} code =
+    code_by (ℕ × (ℕ × finite.FinMap nat_cmp (List (Option T))))
+    (coded× coded_ℕ (coded× coded_ℕ (finite.code coded_ℕ (coded_list (coded_option code)))))
+    (λ t. (t.entries, (t.branches, t.waiting)))
+    (λ p. record { entries = p.0; branches = p.1.0; waiting = p.1.1 })
+    (λ _. refl)
+
+-- of no branch has anything come
+abbrev pub nothing : {T : Type 0} → ℕ → List (Option T)
+nothing branches = replicate branches None
+
+-- what has come of the packet of this number, by branch
+abbrev pub arrivals : {T : Type 0} → Table T → ℕ → List (Option T)
+arrivals t pid = unwrap_or (finite.get t.waiting pid) (nothing t.branches)
+
+-- what has come of it with the value of one more branch
+abbrev pub with_arrival : {T : Type 0} → Table T → ℕ → ℕ → T → List (Option T)
+with_arrival t pid branch value = slice_set (arrivals t pid) branch (Some value)
+
+-- something has come of it, and not all
+abbrev pub IsOpen : {T : Type 0} → Table T → ℕ → Type 0
+IsOpen t pid = IsSome (finite.get t.waiting pid)
+
+abbrev pub open_count : {T : Type 0} → Table T → ℕ
+open_count t = finite.len t.waiting
+
+abbrev pub with_waiting : {T : Type 0} → Table T → finite.FinMap nat_cmp (List (Option T)) → Table T
+with_waiting t waiting = record t { waiting = waiting }
+
+-- the table with this instead of what had come of the packet
+abbrev pub keeping : {T : Type 0} → Table T → ℕ → List (Option T) → Table T
+keeping t pid arrived = with_waiting t (finite.insert t.waiting pid arrived)
+
+-- the table without the packet
+abbrev pub forgetting : {T : Type 0} → Table T → ℕ → Table T
+forgetting t pid = with_waiting t (finite.remove t.waiting pid)
+
+-- something more may come of this packet: it is open, or there is a place for it
+abbrev pub HasRoomFor : {T : Type 0} → Table T → ℕ → Type 0
+HasRoomFor t pid = IsOpen t pid ⊎ (open_count t < t.entries)
+
+-- all open packets are among these
+abbrev pub IsOpenAmong : {T : Type 0} → Table T → List ℕ → Type 0
+IsOpenAmong t pids = (p : ℕ) → IsOpen t p → Contains pids p

@@ -1,0 +1,12 @@
+//! What the map of a table is worth.
+
+ghost use Rattle.std.specs.Prelude.{ℕ, ◌<◌, ◌≤◌, List, Contains, length};
+ghost use Rattle.acc_table.specs.Arrivals.{HasRoomFor, IsOpen, IsOpenAmong, Table};
+
+/// A law: each open packet takes one place. So a table with a place for each of some packets, among
+/// which are all that are open, has room for any of these. The second clause says it of the packets
+/// of a burst, numbered from 0.
+pub fn open_packets_take_a_place_each<T>()
+    ensures among { (t : Table T) → (pids : List ℕ) → (pid : ℕ) → IsOpenAmong t pids → length pids ≤ t.entries → Contains pids pid → HasRoomFor t pid }
+    ensures below { (t : Table T) → (count pid : ℕ) → ((p : ℕ) → IsOpen t p → p < count) → count ≤ t.entries → pid < count → HasRoomFor t pid }
+{}

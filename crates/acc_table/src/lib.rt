@@ -1,0 +1,22 @@
+//! What has come of packets from the branches of a stage, kept until each branch has given its part.
+//!
+//! A stage's branches work side by side, so a packet's results come from them in any order, and
+//! results of many packets come mixed. An [`AccTable`] keeps them by the packet's number and the
+//! branch: [`AccTable::arrive`] puts one in, and tells when it was the packet's last. Then it hands
+//! over the values in branch order and forgets the packet.
+//!
+//! Contracts see a table as a finite map from a packet's number to what has come of it, by branch.
+//! All memory is taken by [`AccTable::with_room`].
+//!
+//! What is left out: how rows are found is the crate's own affair, and no clause speaks of it.
+#![tactic(auto)]
+
+mod laws;
+mod place;
+mod row;
+mod table;
+#[cfg(test)]
+mod tests;
+
+pub use laws::open_packets_take_a_place_each;
+pub use table::{AccTable, Complete, MOST_BRANCHES, MOST_ENTRIES};

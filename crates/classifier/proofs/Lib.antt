@@ -1,0 +1,2 @@
+pub mod Bursts
+mod Rows

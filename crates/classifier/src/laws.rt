@@ -1,0 +1,30 @@
+//! What cutting is worth.
+ghost use Rattle.std.specs.Prelude.{◌≡◌, ◌<◌, ℕ, ◌+◌, ◌++◌, List, [], ◌∷◌, Option, if◌then◌else◌, length, map, slice_index_or};
+ghost use Rattle.pcap_io.specs.declared.capture.PcapRecord.{PcapRecord};
+ghost use Rattle.classifier.specs.Cutting.{IsCut, bursts_from, class_of, is_full, numbered, rest_from};
+ghost use Rattle.classifier.specs.declared.burst.Item.{Item};
+
+/// A law: the bursts in a row, and the open one behind them, are the packets in a row. Each burst
+/// was closed by its last packet, and the open one isn't full. There is no other way to cut so.
+pub fn bursts_are_the_packets_in_a_row()
+    ensures is_cut { (limit : ℕ) → (items : List Item) → 0 < limit → IsCut limit items (bursts_from limit [] items) (rest_from limit [] items) }
+    ensures only_bursts { (limit : ℕ) → (items : List Item) → (bursts : List (List Item)) → (rest : List Item) → IsCut limit items bursts rest → bursts ≡ bursts_from limit [] items }
+    ensures only_rest { (limit : ℕ) → (items : List Item) → (bursts : List (List Item)) → (rest : List Item) → IsCut limit items bursts rest → rest ≡ rest_from limit [] items }
+{}
+
+/// A law: numbering leaves the packets and their classes as they are and in their order, and the
+/// packet behind k others has the number k more than the first.
+pub fn numbered_in_order()
+    ensures packets { (first : ℕ) → (packets : List (PcapRecord × Option ℕ)) → map class_of (numbered first packets) ≡ packets }
+    ensures numbers { (first : ℕ) → (packets : List (PcapRecord × Option ℕ)) → (k : ℕ) → (d : Item) → k < length packets → (slice_index_or (numbered first packets) k d).number ≡ first + k }
+    ensures more { (first : ℕ) → (packets more : List (PcapRecord × Option ℕ)) → numbered first (packets ++ more) ≡ numbered first packets ++ numbered (first + length packets) more }
+{}
+
+/// A law: more packets are cut where the open burst was left, and one packet is cut as a cutter
+/// does it.
+pub fn cutting_goes_on()
+    ensures bursts { (limit : ℕ) → (held items more : List Item) → bursts_from limit held (items ++ more) ≡ bursts_from limit held items ++ bursts_from limit (rest_from limit held items) more }
+    ensures rest { (limit : ℕ) → (held items more : List Item) → rest_from limit held (items ++ more) ≡ rest_from limit (rest_from limit held items) more }
+    ensures one_burst { (limit : ℕ) → (held : List Item) → (i : Item) → bursts_from limit held (i ∷ []) ≡ (if is_full limit (held ++ i ∷ []) then (held ++ i ∷ []) ∷ [] else []) }
+    ensures one_rest { (limit : ℕ) → (held : List Item) → (i : Item) → rest_from limit held (i ∷ []) ≡ (if is_full limit (held ++ i ∷ []) then [] else held ++ i ∷ []) }
+{}
