@@ -2,7 +2,8 @@
 """Makes the captures of the examples, and works out from the rules what must come out.
 
     tools/make_examples.py                writes in.pcap and expected/ of each example
-    tools/make_examples.py --check        writes nothing, and fails where a file is not what would be written
+    tools/make_examples.py --check        writes nothing, and fails where a file is not what would be written, or an
+                                          example of docs/POLICY.md is not what the rules say
     tools/make_examples.py --list NAME    prints a line for each record of this example: what it is, and what drops it
 
 The expected files are worked out here, with Python's standard library alone, and never taken from the program's own
@@ -11,11 +12,16 @@ output: two accounts of the same rules that agree say more than one.
 
 import ipaddress
 import pathlib
+import re
 import struct
+import subprocess
 import sys
 import typing
 
+import policy_rules
+
 EXAMPLES = pathlib.Path(__file__).resolve().parent.parent / 'examples'
+PAGE = EXAMPLES.parent / 'docs' / 'POLICY.md'
 
 # The classic capture file: magic of microseconds or nanoseconds, version 2.4, time zone, accuracy, snaplen, link type.
 MICRO, NANO, LINK_ETHERNET = 0xA1B2C3D4, 0xA1B23C4D, 1
@@ -226,6 +232,48 @@ def full_disk():
     return [(number * 180_503, what, frame, None) for number, (what, frame) in enumerate(made)]
 
 
+def servers():
+    """What was seen on the line to the servers of a site, and how many bytes of it were captured."""
+    web, name_server, operator = '192.0.2.80', '192.0.2.53', '198.51.100.20'
+
+    def syn(source, port, to=web, **fields):
+        return plain(source, tcp(50123, port, SYN), to=to, **fields)
+
+    def query(source, port):
+        return plain(source, udp(port, 53, QUERY), to=name_server)
+
+    in_99, in_service = tag(VLAN_TAG, 99), tag(SERVICE_TAG, 100) + tag(VLAN_TAG, 99)
+    return [
+        ('ARP request of the gateway', arp_request('192.0.2.1', web), None),
+        ('TCP SYN of a customer to the web server, port 443', syn(CUSTOMER, 443), None),
+        ('the same to port 80', syn(CUSTOMER, 80), None),
+        ('the same to port 22', syn(CUSTOMER, 22), None),
+        ('UDP of a customer to the web server, port 443', plain(CUSTOMER, udp(50124, 443, b'quic'), to=web), None),
+        ('TCP SYN to port 443 of the machine beside it', syn(CUSTOMER, 443, to='192.0.2.81'), None),
+        ('DNS query of a customer', query(CUSTOMER, 40001), None),
+        ('DNS query from port 1023', query(CUSTOMER, 1023), None),
+        ('DNS query from port 1024', query(CUSTOMER, 1024), None),
+        ('TCP SYN of the scanner to port 443', syn(SCANNER, 443), None),
+        ('TCP SYN of the scanner to port 22', syn(SCANNER, 22), None),
+        ('TCP SYN of the scanner in VLAN 99', syn(SCANNER, 443, tags=in_99), None),
+        ('ping of the monitoring', plain(operator, echo(1), to=web), None),
+        ('ping of a stranger', plain('198.51.101.1', echo(2), to=web), None),
+        ('TCP SYN to port 22 in VLAN 99, from a private address', syn('10.9.0.1', 22, tags=in_99), None),
+        ('the same without the tag', syn('10.9.0.1', 22), None),
+        ('TCP SYN to port 443 without a tag, from a private address', syn('10.9.0.1', 443), None),
+        ('TCP SYN to port 22 in VLAN 99 inside service VLAN 100', syn(operator, 22, tags=in_service), None),
+        ('TCP SYN to port 443 in the same two', syn(operator, 443, tags=in_service), None),
+        ('TCP SYN to port 443 behind IP options', syn(CUSTOMER, 443, options=RECORD_ROUTE), None),
+        ('first fragment to port 443', plain(CUSTOMER, tcp(50123, 443, PUSH_ACK, b'x' * 28), to=web, more=True), None),
+        ('a later fragment of it', plain(CUSTOMER, (TCP, lambda *_: b'x' * 24), to=web, offset=48), None),
+        ('TCP SYN to port 443, cut behind the destination port', syn(CUSTOMER, 443), 38),
+        ('TCP SYN to port 443, cut inside the destination port', syn(CUSTOMER, 443), 37),
+        ('IPv6 ping', ipv6(), None),
+        ('ARP request in VLAN 99', ethernet(TYPE_ARP, arp_request('192.0.2.1', web)[14:], tags=in_99, to=BROADCAST), None),
+        ('a runt of 13 bytes', syn(CUSTOMER, 443), 13),
+    ]
+
+
 class Example(typing.NamedTuple):
     order: str  # of the bytes in the capture's own numbers, as struct spells it
     magic: int
@@ -238,6 +286,10 @@ MADE = {
     'first-path': Example('<', MICRO, 96, [(n * 180_503, *record) for n, record in enumerate(uplink())]),
     'nanoseconds': Example('>', NANO, 65535, tap()),
     'cut-capture': Example('<', MICRO, 262144, full_disk(), room=4096),
+    'two-firewalls': Example('<', MICRO, 262144, [(n * 180_503, *record) for n, record in enumerate(servers())]),
+    'refused-policy': Example('<', MICRO, 262144, full_disk()[:2]),
+    # This one is planned and not run.
+    'plan': None,
 }
 
 
@@ -254,41 +306,48 @@ def written_capture(example):
 # What comes out: the rules, once more.
 
 
-def source_address(frame):
-    """The four bytes of an IPv4 source address, or None where the frame has none that was captured."""
+def seen(frame):
+    """What clauses see of a frame: those of src, dst, sport, dport, proto and tag that it has. A tag of None is no tag."""
+    if len(frame) < 14:
+        return {}
     place = 12
     while frame[place : place + 2] in (b'\x81\x00', b'\x88\xa8') and place + 6 <= len(frame):
         place += 4
-    if frame[place : place + 2] != b'\x08\x00':
-        return None
+    found = {'tag': None if place == 12 else int.from_bytes(frame[14:16], 'big') & 0xFFF}
     packet = frame[place + 2 :]
-    # Version 4 and a header of at least five words stand in the first byte; the address lies twelve behind it.
-    if packet[:1] < b'\x45' or packet[:1] > b'\x4f' or len(packet) < 16:
-        return None
-    return ipaddress.IPv4Address(packet[12:16])
+    # Version 4 and a header of at least five words stand in the first byte.
+    if frame[place : place + 2] != b'\x08\x00' or not b'\x45' <= packet[:1] <= b'\x4f':
+        return found
+    for name, begin in ('src', 12), ('dst', 16):
+        if len(packet) >= begin + 4:
+            found[name] = ipaddress.IPv4Address(packet[begin : begin + 4])
+    if len(packet) < 10:
+        return found
+    found['proto'] = packet[9]
+    header, length, fragment = 4 * (packet[0] & 0xF), int.from_bytes(packet[2:4], 'big'), int.from_bytes(packet[6:8], 'big')
+    if found['proto'] in (TCP, UDP) and fragment & 0x1FFF == 0 and header <= length:
+        for name, begin in ('sport', header), ('dport', header + 2):
+            if begin + 2 <= min(len(packet), length):
+                found[name] = int.from_bytes(packet[begin : begin + 2], 'big')
+    return found
 
 
-def read_policy(text):
-    """The chain's name, and each function's name with its rules, as (allow, network)."""
-    chain, functions = None, []
-    for line in text.splitlines():
-        word, *rest = line.split(' ')
-        if word == 'chain':
-            chain = rest[0]
-        elif word == 'fn':
-            functions.append((rest[0], []))
-        elif word == 'rule':
-            action, _, prefix = rest
-            functions[-1][1].append((action == 'allow', ipaddress.IPv4Network(prefix, strict=False)))
-    return chain, functions
+def meets(lead, wanted, found):
+    if lead not in found:
+        return False
+    if lead in ('src', 'dst'):
+        return found[lead] in wanted
+    if lead in ('sport', 'dport'):
+        return wanted[0] <= found[lead] <= wanted[1]
+    return found[lead] == wanted
 
 
-def dropped_by(functions, frame):
-    """The name of the first function whose first matching rule denies, or None."""
-    source = source_address(frame)
-    for name, rules in functions:
-        verdicts = [allow for allow, network in rules if source is not None and source in network]
-        if verdicts and not verdicts[0]:
+def dropped_by(walk, frame):
+    """The name of the first firewall of the walk whose first rule that matches denies, or None."""
+    found = seen(frame)
+    for name, firewall in walk:
+        verdicts = [allow for allow, clauses in firewall.rules if all(meets(*clause, found) for clause in clauses.items())]
+        if not [*verdicts, firewall.default][0]:
             return name
     return None
 
@@ -311,60 +370,81 @@ def read_capture(data):
 class Answer(typing.NamedTuple):
     frames: list
     fates: list  # for each record the name of the function that drops it, or None
-    out: bytes
-    report: str
+    out: typing.Optional[bytes]  # None where nothing is written
+    report: typing.Optional[str]
     note: str
     status: int
 
 
 def answer(policy, capture):
-    chain, functions = read_policy(policy)
+    """What `nfp run` must write for a policy of one chain of firewalls, or for one that is refused."""
+    try:
+        [(chain, order)] = policy_rules.check(policy)
+    except policy_rules.Refused as refused:
+        return Answer([], [], None, None, f'policy: {refused}', 2)
+    firewalls = {function.name: policy_rules.read_firewall(function) for function in chain.functions}
     head, made, fault = read_capture(capture)
-    fates = [dropped_by(functions, frame) for _, frame in made]
+    fates = [dropped_by([(name, firewalls[name]) for name in order], frame) for _, frame in made]
     out = head + b''.join(record + frame for (record, frame), fate in zip(made, fates) if fate is None)
-    drops = [f'drop {number} {chain} {fate}' for number, fate in enumerate(fates, 1) if fate is not None]
+    drops = [f'drop {number} {chain.name} {fate}' for number, fate in enumerate(fates, 1) if fate is not None]
     total = f'records {len(fates)} emitted {len(fates) - len(drops)} dropped {len(drops)}'
-    kinds = [f'function {chain} {name} firewall' for name, _ in functions]
+    kinds = [f'function {chain.name} {name} firewall' for name in firewalls]
     last = f'fault {fault}' if fault else 'end'
     report = '\n'.join(['nfp report 1', *drops, total, *kinds, last, ''])
     return Answer([frame for _, frame in made], fates, out, report, fault or f'done {total}', 3 if fault else 0)
 
 
 def files_of(name, example):
-    """The bytes of each file that is made in the example's folder, and what they are taken to mean."""
+    """The bytes of each file that is made in the example's folder."""
     folder = EXAMPLES / name
+    policy = (folder / 'policy').read_bytes()
+    files = {folder / 'expected' / 'plan': policy_rules.plan(policy)[0].encode('ascii')}
+    if example is None:
+        return files
     capture = written_capture(example)
-    due = answer((folder / 'policy').read_text('ascii'), capture)
-    return due, {
-        folder / 'in.pcap': capture,
-        folder / 'expected' / 'out.pcap': due.out,
-        folder / 'expected' / 'report.txt': due.report.encode('ascii'),
-        folder / 'expected' / 'note': f'{due.note}\n'.encode('ascii'),
-        folder / 'expected' / 'status': f'{due.status}\n'.encode('ascii'),
-    }
+    due = answer(policy, capture)
+    files[folder / 'in.pcap'] = capture
+    files[folder / 'expected' / 'note'] = f'{due.note}\n'.encode('ascii')
+    files[folder / 'expected' / 'status'] = f'{due.status}\n'.encode('ascii')
+    if due.out is not None:
+        files[folder / 'expected' / 'out.pcap'] = due.out
+        files[folder / 'expected' / 'report.txt'] = due.report.encode('ascii')
+    return files
+
+
+def told_examples():
+    """The examples of the page on the language: the line of each, its policy, and what must be printed for it."""
+    blocks = re.findall(r'^```(policy|sh|plan)\n(.*?)^```$', PAGE.read_text('ascii'), re.MULTILINE | re.DOTALL)
+    for (kind, text), (answer_kind, wanted) in zip(blocks[::2], blocks[1::2], strict=True):
+        if kind == 'plan' or answer_kind != 'plan':
+            raise ValueError(f'an example without what is printed, or the other way round: {text}')
+        policy = subprocess.run(['bash', '-c', text], capture_output=True, check=True).stdout if kind == 'sh' else text.encode('ascii')
+        yield text, policy, wanted
 
 
 def show(name):
-    due, _ = files_of(name, MADE[name])
+    due = answer((EXAMPLES / name / 'policy').read_bytes(), written_capture(MADE[name]))
     for number, ((_, what, _, _), frame, fate) in enumerate(zip(MADE[name].records, due.frames, due.fates), 1):
-        source = source_address(frame)
-        print(f'| {number} | {what} | {len(frame)} | {source if source else "none"} | {fate if fate else "passes"} |')
+        print(f'| {number} | {what} | {len(frame)} | {seen(frame).get("src", "none")} | {fate if fate else "passes"} |')
     print(due.note)
 
 
 def main(words):
-    if len(words) == 2 and words[0] == '--list' and words[1] in MADE:
+    if len(words) == 2 and words[0] == '--list' and MADE.get(words[1]):
         show(words[1])
         return 0
     if words not in ([], ['--check']):
         print(__doc__, file=sys.stderr)
         return 2
-    files = {path: data for name, example in MADE.items() for path, data in files_of(name, example)[1].items()}
+    files = {path: data for name, example in MADE.items() for path, data in files_of(name, example).items()}
     if words == ['--check']:
         stale = [path for path, data in files.items() if not path.is_file() or path.read_bytes() != data]
         for path in stale:
             print(f'{path.relative_to(EXAMPLES.parent)} is not what tools/make_examples.py writes')
-        return 1 if stale else 0
+        untrue = [text for text, policy, wanted in told_examples() if policy_rules.plan(policy)[0] != wanted]
+        for text in untrue:
+            print(f'{PAGE.relative_to(EXAMPLES.parent)} has something else printed than the rules say, for:\n{text}')
+        return 1 if stale or untrue else 0
     for path, data in files.items():
         path.parent.mkdir(parents=True, exist_ok=True)
         path.write_bytes(data)

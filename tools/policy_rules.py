@@ -1,0 +1,333 @@
+"""The policy language by its rules, in Python's standard library alone: what `nfp plan` must print for a text.
+
+It is a second account of what the program is proved to do, and shares nothing with it. docs/POLICY.md says the same
+in words.
+"""
+
+import ipaddress
+import re
+import typing
+
+LONGEST, CHAINS, FUNCTIONS, RULES = 1_048_576, 16, 64, 256
+
+# The ten fields in their order, by the words that name them.
+FIELDS = ['link-dst', 'link-src', 'tag', 'tos', 'ttl', 'src', 'dst', 'sport', 'dport', 'payload']
+
+# What each kind reads, what it writes, and what else it does.
+KINDS = {
+    'firewall': ('tag src dst sport dport', '', 'drop'),
+    'signature': ('payload', '', 'drop'),
+    'nat': ('src dst sport dport', 'src dst sport dport', 'drop state'),
+    'balancer': ('src sport dst', 'dst', 'state'),
+    'monitor': ('src dst sport dport', '', 'state'),
+    'limiter': ('src', '', 'drop state'),
+    'marker': ('src dst sport dport', 'tos', ''),
+    'nexthop': ('dst', 'link-dst link-src', ''),
+    'hop': ('ttl', 'ttl', 'drop'),
+    'redactor': ('payload', 'payload', ''),
+    'tagger': ('tag src', 'tag', ''),
+    'untagger': ('tag', 'tag', ''),
+}
+
+
+class Refused(Exception):
+    """A policy is refused with this line, without the `policy: ` before it."""
+
+
+class Misfit(Exception):
+    """The word at this place of its line, counted from 0, does not fit."""
+
+
+class Function(typing.NamedTuple):
+    name: str
+    kind: str
+    settings: list  # line and words
+
+
+class Chain(typing.NamedTuple):
+    name: str
+    clauses: dict
+    functions: list
+    statements: list  # line, and the words of an order, priority or position
+
+
+class Line(typing.NamedTuple):
+    number: int
+    words: list
+    columns: list
+
+    def misfit(self, place):
+        """The fault of a word that does not fit, or, where it is missing, one past the last word."""
+        column = self.columns[place] if place < len(self.words) else self.columns[-1] + len(self.words[-1].encode())
+        return Refused(f'line {self.number} column {column}: syntax')
+
+    def fault(self, what):
+        return Refused(f'line {self.number}: {what}')
+
+
+def lines_of(text):
+    for number, line in enumerate(text.split(b'\n'), 1):
+        line = line.removesuffix(b'\r').split(b'#')[0]
+        found = list(re.finditer(rb'[^ \t]+', line))
+        if found:
+            yield Line(number, [word[0].decode() for word in found], [word.start() + 1 for word in found])
+
+
+# Values: each raises ValueError where the word is not spelled so.
+
+
+def numeral(word, greatest, digits=20):
+    if re.fullmatch(f'[0-9]{{1,{digits}}}', word) is None or int(word) > greatest:
+        raise ValueError(word)
+    return int(word)
+
+
+def prefix(word):
+    address, slash, bits = word.partition('/')
+    parts = [numeral(part, 255, 3) for part in address.split('.')]
+    if len(parts) != 4:
+        raise ValueError(word)
+    return ipaddress.IPv4Network((bytes(parts), numeral(bits, 32, 2) if slash else 32), strict=False)
+
+
+def port_range(word):
+    low, dash, high = word.partition('-')
+    ports = numeral(low, 65535), numeral(high, 65535) if dash else numeral(low, 65535)
+    if ports[0] > ports[1]:
+        raise ValueError(word)
+    return ports
+
+
+def protocol(word):
+    return {'tcp': 6, 'udp': 17}[word] if word in ('tcp', 'udp') else numeral(word, 255)
+
+
+def vlan(word):
+    return None if word == 'none' else numeral(word, 4095)
+
+
+CLAUSES = {'src': prefix, 'dst': prefix, 'sport': port_range, 'dport': port_range, 'proto': protocol, 'tag': vlan}
+
+
+def read_clauses(words, place):
+    """The clauses that stand in the words from this place on, by their leading words."""
+    clauses = {}
+    while place < len(words):
+        lead = words[place]
+        if lead not in CLAUSES or lead in clauses:
+            raise Misfit(place)
+        try:
+            clauses[lead] = CLAUSES[lead](words[place + 1])
+        except (IndexError, ValueError):
+            raise Misfit(place + 1) from None
+        place += 2
+    return clauses
+
+
+# The text, line by line.
+
+
+def is_name(word):
+    return re.fullmatch('[a-z][a-z0-9_-]{0,31}', word) is not None
+
+
+FORMS = {
+    'fn': [is_name, is_name],
+    'order': [is_name, 'before'.__eq__, is_name],
+    'priority': [is_name, '>'.__eq__, is_name],
+    'position': [is_name, ('first', 'last').__contains__],
+}
+
+
+def fit(line, form):
+    for place, fits in enumerate(form, 1):
+        if place >= len(line.words) or not fits(line.words[place]):
+            raise line.misfit(place)
+    if len(line.words) > len(form) + 1:
+        raise line.misfit(len(form) + 1)
+
+
+def read_chain_line(chains, line):
+    words = line.words
+    if len(words) < 2 or not is_name(words[1]):
+        raise line.misfit(1)
+    if len(words) > 2 and words[2] != 'match':
+        raise line.misfit(2)
+    if len(words) == 3:
+        raise line.misfit(3)
+    try:
+        clauses = read_clauses(words, 3)
+    except Misfit as misfit:
+        raise line.misfit(misfit.args[0]) from None
+    if len(chains) == CHAINS:
+        raise line.fault('too many chains')
+    if words[1] in [chain.name for chain in chains]:
+        raise line.fault('duplicate name')
+    chains.append(Chain(words[1], clauses, [], []))
+
+
+def read_function_line(chains, line):
+    fit(line, FORMS['fn'])
+    _, name, kind = line.words
+    names = [function.name for chain in chains for function in chain.functions]
+    if len(names) == FUNCTIONS:
+        raise line.fault('too many functions')
+    if name in names:
+        raise line.fault('duplicate name')
+    if kind not in KINDS:
+        raise line.fault('unknown kind')
+    chains[-1].functions.append(Function(name, kind, []))
+
+
+def read_setting_line(chains, line):
+    if len(line.words) < 2:
+        raise line.misfit(1)
+    settings = chains[-1].functions[-1].settings
+    if line.words[0] == 'rule' and [words[0] for _, words in settings].count('rule') == RULES:
+        raise line.fault('too many rules')
+    settings.append((line.number, line.words))
+
+
+def read_statement_line(chains, line):
+    fit(line, FORMS[line.words[0]])
+    named = line.words[1:2] if line.words[0] == 'position' else line.words[1::2]
+    if not set(named) <= {function.name for function in chains[-1].functions}:
+        raise line.fault('unknown name')
+    chains[-1].statements.append((line.number, line.words))
+
+
+def read_line(chains, line):
+    lead = line.words[0]
+    if lead == 'chain':
+        read_chain_line(chains, line)
+    elif lead == 'fn' and chains:
+        read_function_line(chains, line)
+    elif lead in ('set', 'rule') and chains and chains[-1].functions:
+        read_setting_line(chains, line)
+    elif lead in ('order', 'priority', 'position') and chains:
+        read_statement_line(chains, line)
+    else:
+        raise line.misfit(0)
+
+
+def read_text(text):
+    """The chains of a text, or its first fault."""
+    if len(text) > LONGEST:
+        raise Refused('too long')
+    try:
+        text.decode()
+    except UnicodeDecodeError as fault:
+        raise Refused(f'not utf-8 at {fault.start}') from None
+    lines = list(lines_of(text))
+    if not lines or lines[0].words != ['nfp', '1']:
+        raise Refused('bad version line')
+    chains = []
+    for line in lines[1:]:
+        read_line(chains, line)
+    return chains
+
+
+# The settings of firewalls.
+
+
+class Firewall(typing.NamedTuple):
+    default: bool
+    rules: list  # allow, and the clauses
+
+
+def read_firewall(function):
+    """The firewall that a function's lines set up, or the least line that it refuses."""
+    default, rules, keys = True, [], set()
+    verdicts = {'allow': True, 'deny': False}
+    for number, words in function.settings:
+        try:
+            if words[0] == 'rule':
+                rules.append((verdicts[words[1]], read_clauses(words, 2)))
+                continue
+            _, key, verdict = words
+            if key != 'default' or key in keys:
+                raise Misfit(1)
+            default = verdicts[verdict]
+            keys.add(key)
+        except (KeyError, ValueError, Misfit):
+            raise Refused(f'line {number}: bad setting') from None
+    return Firewall(default, rules)
+
+
+# The order of a chain.
+
+
+def actions(kind):
+    reads, writes, others = (words.split() for words in KINDS[kind])
+    return [f'read {field}' for field in FIELDS if field in reads] + [f'write {field}' for field in FIELDS if field in writes] + others
+
+
+def forbidden(first, second):
+    """The first two actions that forbid a Priority of the second kind over the first, or None."""
+    for a in actions(first):
+        for b in actions(second):
+            if (a, b) == ('drop', 'state') or a.startswith('write ') and b == a.replace('write', 'read'):
+                return a, b
+    return None
+
+
+def edges_of(chain):
+    names = [function.name for function in chain.functions]
+    for _, (lead, name, *rest) in chain.statements:
+        if lead == 'order':
+            yield name, rest[1]
+        elif lead == 'priority':
+            yield rest[1], name
+        else:
+            yield from ((name, other) if rest == ['first'] else (other, name) for other in names if other != name)
+
+
+def order_of(chain):
+    """The names in the order of the chain, or its cycle, or its first forbidden Priority."""
+    edges = set(edges_of(chain))
+    waiting, order = [function.name for function in chain.functions], []
+    while waiting:
+        ready = [name for name in waiting if not any((other, name) in edges for other in waiting)]
+        if not ready:
+            raise Refused('cycle ' + ' '.join(cycle_of(edges, waiting)))
+        waiting.remove(ready[0])
+        order.append(ready[0])
+    kinds = {function.name: function.kind for function in chain.functions}
+    for number, words in chain.statements:
+        if words[0] == 'priority':
+            _, high, _, low = words
+            pair = forbidden(kinds[low], kinds[high])
+            if pair:
+                raise Refused(f'line {number}: priority {high} over {low} forbidden: {pair[0]} before {pair[1]}')
+    return order
+
+
+def cycle_of(edges, waiting):
+    """From the earliest that waits back to its earliest predecessor, and so on, until a function comes again."""
+    trail = [waiting[0]]
+    while True:
+        before = next(name for name in waiting if (name, trail[-1]) in edges)
+        if before in trail:
+            cycle = trail[trail.index(before) :][::-1]
+            start = cycle.index(min(cycle, key=waiting.index))
+            return cycle[start:] + cycle[:start]
+        trail.append(before)
+
+
+def check(text):
+    """The chains of a text, each with its order, or its first fault."""
+    chains = read_text(text)
+    for chain in chains:
+        for function in chain.functions:
+            if function.kind == 'firewall':
+                read_firewall(function)
+    return [(chain, order_of(chain)) for chain in chains]
+
+
+def plan(text):
+    """What `nfp plan` prints for a text, and its status."""
+    try:
+        checked = check(text)
+    except Refused as refused:
+        return f'policy: {refused}\n', 2
+    return ''.join(f'chain {chain.name}\n{" ".join(["order", *order])}\n' for chain, order in checked), 0
