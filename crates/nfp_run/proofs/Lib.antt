@@ -2,6 +2,7 @@ pub mod Answering
 pub mod Attaching
 pub mod Capturing
 pub mod Closing
+pub mod Completing
 pub mod Holding
 pub mod Judged
 pub mod Naming

@@ -8,6 +8,7 @@
 mod call;
 mod emit;
 mod ending;
+mod laws;
 mod note;
 mod outcome;
 mod plan;
