@@ -413,13 +413,14 @@ def files_of(name, example):
 
 
 def told_examples():
-    """The examples of the page on the language: the line of each, its policy, and what must be printed for it."""
-    blocks = re.findall(r'^```(policy|sh|plan)\n(.*?)^```$', PAGE.read_text('ascii'), re.MULTILINE | re.DOTALL)
-    for (kind, text), (answer_kind, wanted) in zip(blocks[::2], blocks[1::2], strict=True):
-        if kind == 'plan' or answer_kind != 'plan':
+    """The examples of the page on the language: the text of each, what it says is printed, and what the rules say."""
+    blocks = re.findall(r'^```(policy|sh|plan|order)\n(.*?)^```$', PAGE.read_text('ascii'), re.MULTILINE | re.DOTALL)
+    for (kind, text), (answer_kind, told) in zip(blocks[::2], blocks[1::2], strict=True):
+        if kind in ('plan', 'order') or answer_kind not in ('plan', 'order'):
             raise ValueError(f'an example without what is printed, or the other way round: {text}')
         policy = subprocess.run(['bash', '-c', text], capture_output=True, check=True).stdout if kind == 'sh' else text.encode('ascii')
-        yield text, policy, wanted
+        due = policy_rules.plan(policy)[0]
+        yield text, told, policy_rules.order_lines(due) if answer_kind == 'order' else due
 
 
 def show(name):
@@ -441,7 +442,7 @@ def main(words):
         stale = [path for path, data in files.items() if not path.is_file() or path.read_bytes() != data]
         for path in stale:
             print(f'{path.relative_to(EXAMPLES.parent)} is not what tools/make_examples.py writes')
-        untrue = [text for text, policy, wanted in told_examples() if policy_rules.plan(policy)[0] != wanted]
+        untrue = [text for text, told, due in told_examples() if told != due]
         for text in untrue:
             print(f'{PAGE.relative_to(EXAMPLES.parent)} has something else printed than the rules say, for:\n{text}')
         return 1 if stale or untrue else 0

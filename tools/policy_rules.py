@@ -263,7 +263,7 @@ def actions(kind):
 
 
 def forbidden(first, second):
-    """The first two actions that forbid a Priority of the second kind over the first, or None."""
+    """The first two actions that forbid the second kind to stand beside the first, which is before it, or None."""
     for a in actions(first):
         for b in actions(second):
             if (a, b) == ('drop', 'state') or a.startswith('write ') and b == a.replace('write', 'read'):
@@ -324,10 +324,59 @@ def check(text):
     return [(chain, order_of(chain)) for chain in chains]
 
 
+# The plan of a chain: stages of branches, which are lists of places in the chain, and the parts of each stage.
+
+
+def stages_of(kinds):
+    """The stages of a chain of these kinds. The functions are taken one after another, each into the last stage if it can be."""
+    stages = []
+    for place, kind in enumerate(kinds):
+        stage = stages[-1] if stages else []
+        behind = [branch for branch in stage if any(forbidden(kinds[other], kind) for other in branch)]
+        if not stages or len(behind) > 1:
+            stages.append([[place]])
+        elif behind:
+            behind[0].append(place)
+        else:
+            stage.append([place])
+    return stages
+
+
+def part_of(field, stage):
+    """How this field goes to the branches of a stage, each a list of kinds, or None where none of them touches it."""
+    reading, writing = ([any(field in KINDS[kind][way].split() for kind in branch) for branch in stage] for way in (0, 1))
+    if not any(reading + writing):
+        return None
+    if not any(writing):
+        return 'shared'
+    touching = [reads or writes for reads, writes in zip(reading, writing)]
+    if touching.count(True) == 1:
+        return f'moved {touching.index(True) + 1}'
+    # Branches that only read take the original. Without them the first that writes takes it, and needs no copy.
+    return f'copied {writing.count(True) - (touching == writing)}'
+
+
+def plan_lines(chain, order):
+    kinds = {function.name: function.kind for function in chain.functions}
+    yield f'chain {chain.name}'
+    yield ' '.join(['order', *order])
+    for number, places in enumerate(stages_of([kinds[name] for name in order]), 1):
+        stage = [[order[place] for place in branch] for branch in places]
+        yield f'stage {number}'
+        yield from (' '.join([f'branch {at}', *names]) for at, names in enumerate(stage, 1))
+        parts = [(field, part_of(field, [[kinds[name] for name in names] for names in stage])) for field in FIELDS]
+        yield from (f'part {field} {part}' for field, part in parts if part)
+
+
 def plan(text):
     """What `nfp plan` prints for a text, and its status."""
     try:
         checked = check(text)
     except Refused as refused:
         return f'policy: {refused}\n', 2
-    return ''.join(f'chain {chain.name}\n{" ".join(["order", *order])}\n' for chain, order in checked), 0
+    return ''.join(f'{line}\n' for chain, order in checked for line in plan_lines(chain, order)), 0
+
+
+def order_lines(planned):
+    """The lines of a plan that name the chains and their orders."""
+    return ''.join(line for line in planned.splitlines(keepends=True) if re.match(r'chain |order( |$)', line))
