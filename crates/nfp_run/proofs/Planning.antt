@@ -20,13 +20,13 @@ use Rattle.nfp_run.specs.declared.ending.Ending.{Ending}
 use Rattle.nfp_run.specs.declared.ending.Ending.TheVariants.{Completed, Planned, Refused, Stopped}
 use Rattle.nfp_run.specs.declared.outcome.Outcome.TheVariants.{Done, Usage, Policy, NotBuilt, Capture, ReadFault, WriteFault, OutOfMemory}
 use Rattle.nfp_run.specs.declared.outcome.UsageFault.{UsageFault}
-use Rattle.nfp_run.specs.Words.{Command, Run, Plan}
+use Rattle.nfp_run.specs.Words.{Command, Plan}
 use Rattle.nfp_run.specs.Due.{due_of_policy, due_of_command}
 use Rattle.nfp_run.specs.Answers.{IsUntouched, LeavesPrefixes, WhereTold, HasNames, IsFaultOf, NoneAttached, ReadFaultCause}
 use Rattle.nfp_run.specs.Closing.{EndsDue}
 use Rattle.plan_text.specs.Plan.{chain_plan}
 use Rattle.nfp_run.specs.Ran.{Ran}
-use Rattle.nfp_run.specs.Reading.{EndsAtPolicy, IsPlanOf, PlanEnds}
+use Rattle.nfp_run.specs.Reading.{IsPlanOf, PlanEnds}
 use Rattle.nfp_run.proofs.Holding.{untouched_same}
 use Rattle.nfp_run.proofs.Judged.{if_told}
 

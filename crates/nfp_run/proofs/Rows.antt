@@ -1,5 +1,5 @@
 -- Worked rows, computed by the definitions.
-use Rattle.std.specs.Prelude.{◌≡◌, ℕ, List, [], ◌∷◌, ◌++◌, refl, take, Some, None, Result, Ok, Err, codes}
+use Rattle.std.specs.Prelude.{◌≡◌, ℕ, List, [], ◌∷◌, ◌++◌, refl, take, Some, Result, Ok, Err, codes}
 use Rattle.std.specs.Fmt.{digits}
 use Rattle.nfp_outside.specs.declared.slot.Slot.TheVariants.{Policy as PolicySlot}
 use Rattle.pcap_io.specs.declared.capture.CaptureFault.TheVariants.{CutRecord, CutHead}
@@ -27,7 +27,6 @@ use Rattle.policy_judge.specs.Judging.{judged_text, orders_from}
 use Rattle.policy_judge.specs.Lines.{text_line, setting_line, check_line}
 use Rattle.nf_filter.specs.Firewalls.{passes}
 use Rattle.nf_filter.specs.Lines.{line_of}
-use Rattle.plan_text.specs.Plan.{chain_plan}
 use Rattle.chain_walk.specs.Walk.{walk}
 use Rattle.chain_walk.specs.Packets.{fates}
 use Rattle.nfp_run.specs.declared.outcome.Outcome.TheVariants.{Done, Policy, NotBuilt, Capture}
@@ -105,12 +104,12 @@ cut_written = refl
 
 -- a capture of no bytes has no head, and nothing is written
 no_head : due_of_policy run_command (worth deny) [] ≡ nothing_but (Capture CutHead) (codes "capture: cut head\n")
-unfolding run_command worth deny capture_text policy_of_utf8 after_line orders_from answer_of edges_of taken stuck named_cycle from_earliest cycle_back first_refusal
+unfolding run_command worth deny capture_text line_of policy_of_utf8 after_line orders_from answer_of edges_of taken stuck named_cycle from_earliest cycle_back first_refusal
 no_head = refl
 
--- what `sig` writes prevails, so `fw` comes first; a plan doesn't look at the capture
-plan_shown : due_of_policy (Plan (codes "p")) (worth (codes "nfp 1\nchain main\nfn sig signature\nfn fw firewall\npriority sig > fw\n")) [] ≡ nothing_but Done (codes "chain main\norder fw sig\n")
-unfolding worth plan_text chain_plan pair_of first_forbidden pairs actions all_actions is_copied copied policy_of_utf8 after_line orders_from answer_of edges_of taken stuck named_cycle from_earliest cycle_back first_refusal
+-- a policy without chains has an empty plan, which doesn't look at the capture
+plan_shown : due_of_policy (Plan (codes "p")) (worth (codes "nfp 1\n")) [] ≡ nothing_but Done []
+unfolding worth plan_text policy_of_utf8 after_line orders_from
 plan_shown = refl
 
 -- another kind than firewall doesn't run yet, and that counts before the capture

@@ -10,7 +10,7 @@ use Rattle.policy_judge.specs.Settings.{refused_by}
 use Rattle.nfp_run.specs.Services.{is_built, IsReady, named, function_at}
 use Rattle.std.specs.Option.{option_map_or}
 use Rattle.std.proofs.lemmas.List.{append-nil}
-use Rattle.chain_walk.specs.Walk.{Walked, walk, then_walked, dropped_at}
+use Rattle.chain_walk.specs.Walk.{Walked, walk}
 use Rattle.chain_walk.proofs.Walking.{walk_passes, walk_drops}
 use Rattle.nf_filter.specs.Firewalls.{passes}
 use Rattle.frame_seen.specs.Seeing.{seen_of}

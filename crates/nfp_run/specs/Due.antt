@@ -13,7 +13,7 @@ use Rattle.nfp_run.specs.declared.outcome.Outcome.{Outcome}
 use Rattle.nfp_run.specs.declared.outcome.Outcome.TheVariants as outcomes
 use Rattle.nfp_run.specs.declared.outcome.UsageFault.{UsageFault}
 use Rattle.nfp_run.specs.declared.service.NamedFunction.{NamedFunction}
-use Rattle.nfp_run.specs.Words.{Names, Command, Run, Plan, command_of}
+use Rattle.nfp_run.specs.Words.{Command, Run, Plan, command_of}
 use Rattle.nfp_run.specs.Notes.{usage_text, not_built_text, capture_text, done_text}
 use Rattle.nfp_run.specs.Emitted.{fates_of, out_bytes}
 use Rattle.nfp_run.specs.Plan.{plan_text}

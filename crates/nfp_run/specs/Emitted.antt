@@ -13,7 +13,6 @@ use Rattle.chain_walk.specs.Walk.{walk}
 use Rattle.chain_walk.specs.declared.walk.Fate.{Fate}
 use Rattle.chain_walk.specs.declared.walk.Fate.TheVariants.{Out, Gone}
 use Rattle.nfp_run.specs.Services.{named_step}
-use Rattle.policy_text.specs.declared.policy.ChainPolicy.{ChainPolicy}
 use Rattle.nfp_run.specs.declared.service.NamedFunction.{NamedFunction}
 
 -- the packet of a record

@@ -1,5 +1,5 @@
 -- How a capture runs through a chain, where the desk tells it and where it doesn't.
-use Rattle.std.specs.Prelude.{◌≡◌, ◌≤◌, ℕ, List, length, count_by, Option, Some, IfSome, Result, Ok, Err}
+use Rattle.std.specs.Prelude.{◌≡◌, ◌≤◌, List, length, count_by, Option, Some, IfSome, Result, Ok, Err}
 use Rattle.nfp_outside.specs.declared.slot.Slot.{Slot}
 use Rattle.nfp_outside.specs.declared.slot.Slot.TheVariants.{Capture, Out, Report}
 use Rattle.nfp_outside.specs.Outside.{SlotView}

@@ -31,6 +31,9 @@ const TWO_REPORT: &[u8] =
 const CUT_REPORT: &[u8] =
     b"nfp report 1\ndrop 2 main fw\nrecords 2 emitted 1 dropped 1\nfunction main fw firewall\nfault capture: cut record 3\n";
 
+const PLAN: &[u8] =
+    b"chain main\norder fw sig\nstage 1\nbranch 1 fw\nbranch 2 sig\npart tag shared\npart src shared\npart dst shared\npart sport shared\npart dport shared\npart payload shared\nchain rest\norder\n";
+
 // A record with a UDP packet of 42 bytes from 10.0.0.`host`, port 1000, to 10.0.0.2, port 53.
 fn push_record(capture: &mut Vec<u8>, host: u8) -> Result<(), AllocError> {
     capture.extend_from_slice(&[0, 0, 0, 0, 0, 0, 0, 0, 42, 0, 0, 0, 42, 0, 0, 0])?;
@@ -85,11 +88,12 @@ fn each_order_and_unit_is_carried(rt: HostRuntime) -> Result<(), Fail> {
 fn a_plan_shows_each_chain_in_order(rt: HostRuntime) -> Result<(), Fail> {
     let alloc = rt.alloc();
     let plan = words(alloc, &["plan", "p"])?;
-    let policy = b"nfp 1\nchain main\nfn sig signature\nfn fw firewall\npriority sig > fw\nchain rest match proto tcp\n";
+    let policy =
+        b"nfp 1\nchain main\nfn sig signature\nfn fw firewall\npriority sig > fw\nchain rest match proto tcp\n";
     let mut desk = FixedDesk::new(alloc, policy.to_vec(alloc)?, Vec::new(alloc), 7);
     let outcome = nfp(&rt, alloc, &plan, &mut desk, &OpenGate);
     assert!(rt; matches!(outcome, Outcome::Done));
-    assert_eq!(rt; desk.put(Slot::Note), b"chain main\norder fw sig\nchain rest\norder\n".as_slice());
+    assert_eq!(rt; desk.put(Slot::Note), PLAN);
     Ok(())
 }
 
@@ -97,11 +101,27 @@ fn a_plan_shows_each_chain_in_order(rt: HostRuntime) -> Result<(), Fail> {
 fn words_that_are_no_command_are_told(rt: HostRuntime) -> Result<(), Fail> {
     let alloc = rt.alloc();
     for (texts, fault, note) in [
-        ([].as_slice(), UsageFault::NoCommand, b"usage: no command\n".as_slice()),
-        (&["walk", "p"], UsageFault::UnknownCommand, b"usage: unknown command\n"),
-        (&["run", "p", "c", "o"], UsageFault::Words, b"usage: words\n"),
+        (
+            [].as_slice(),
+            UsageFault::NoCommand,
+            b"usage: no command\n".as_slice(),
+        ),
+        (
+            &["walk", "p"],
+            UsageFault::UnknownCommand,
+            b"usage: unknown command\n",
+        ),
+        (
+            &["run", "p", "c", "o"],
+            UsageFault::Words,
+            b"usage: words\n",
+        ),
         (&["plan", "-p"], UsageFault::Words, b"usage: words\n"),
-        (&["run", "p", "c", "c", "r"], UsageFault::SameName, b"usage: same name\n"),
+        (
+            &["run", "p", "c", "c", "r"],
+            UsageFault::SameName,
+            b"usage: same name\n",
+        ),
     ] {
         let words = words(alloc, texts)?;
         let mut desk = FixedDesk::new(alloc, POLICY.to_vec(alloc)?, capture(alloc)?, 7);
@@ -120,9 +140,18 @@ fn a_policy_is_refused_for_its_first_fault(rt: HostRuntime) -> Result<(), Fail> 
     for (policy, note) in [
         (b"".as_slice(), b"policy: bad version line\n".as_slice()),
         (b"\xff", b"policy: not utf-8 at 0\n"),
-        (b"nfp 1\nchain a\nfn f firewall\nrule pass\nfn g gate\n", b"policy: line 5: unknown kind\n"),
-        (b"nfp 1\nchain a\nfn f firewall\nrule pass\norder f before f\n", b"policy: line 4: bad setting\n"),
-        (b"nfp 1\nchain main\nfn a monitor\nfn b monitor\norder a before b\npriority a > b\n", b"policy: cycle a b\n"),
+        (
+            b"nfp 1\nchain a\nfn f firewall\nrule pass\nfn g gate\n",
+            b"policy: line 5: unknown kind\n",
+        ),
+        (
+            b"nfp 1\nchain a\nfn f firewall\nrule pass\norder f before f\n",
+            b"policy: line 4: bad setting\n",
+        ),
+        (
+            b"nfp 1\nchain main\nfn a monitor\nfn b monitor\norder a before b\npriority a > b\n",
+            b"policy: cycle a b\n",
+        ),
         (
             b"nfp 1\nchain main\nfn mon monitor\nfn n nat\nset inside 10.0.0.0/8\nset public 192.0.2.1\nset ports 40000-40009\npriority mon > n\n",
             b"policy: line 8: priority mon over n forbidden: write src before read src\n",
