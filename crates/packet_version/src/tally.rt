@@ -1,0 +1,47 @@
+//! How many copies were made of the parts of packets.
+
+use packet_fields::Field;
+use std::marker::Model;
+
+/// Counts of copies, one for each field. A count stops at 2^64 - 1.
+#[derive(Debug, Drop)]
+pub struct Tally {
+    counts: [u64; 10],
+}
+
+impl Model for Tally {
+    ghost use Rattle.std.specs.Prelude.{List, ℕ};
+
+    ghost Value = { List ℕ };
+
+    ghost view = { λ t. t.counts };
+}
+
+impl Tally {
+    ghost use Rattle.std.specs.Prelude.{◌≡◌, if◌then◌else◌};
+    ghost use Rattle.packet_fields.specs.declared.field.Field.{Field};
+    ghost use Rattle.packet_version.specs.Parts.{is_field};
+    ghost use Rattle.packet_version.specs.Tallies.{count_of, raised};
+
+    /// No copies.
+    pub fn new() -> Self
+        ensures { (f : Field) → count_of result f ≡ 0 }
+    {
+        Tally { counts: [0; 10] }
+    }
+
+    /// How many copies were made of this field's parts.
+    pub fn of(&self, field: Field) -> u64
+        ensures { result ≡ count_of self.now field }
+    {
+        self.counts[field.number()]
+    }
+
+    /// Counts one copy of this field's part.
+    pub(crate) fn count(&mut self, field: Field)
+        ensures { (f : Field) → count_of self.new f ≡ (if is_field field f then raised (count_of self.old f) 1 else count_of self.old f) }
+    {
+        let number = field.number();
+        self.counts[number] = self.counts[number].saturating_add(1);
+    }
+}
