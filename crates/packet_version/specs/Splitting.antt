@@ -1,9 +1,9 @@
 -- A frame that comes apart into its fields and its rest, and goes together again.
-use Rattle.std.specs.Prelude.{◌≡◌, ℕ, ◌+◌, ◌*◌, List, length, Option, option_map, Bool, if◌then◌else◌}
+use Rattle.std.specs.Prelude.{◌≡◌, ℕ, ◌+◌, ◌*◌, List, length, Option, option_map, is_some, if◌then◌else◌}
 use Rattle.packet_fields.specs.Frames.{packet}
 use Rattle.packet_fields.specs.Packets.{total_len, protocol, control_bits}
 use Rattle.packet_fields.specs.Fields.{value, ether_type}
-use Rattle.packet_fields.specs.Writing.{written}
+use Rattle.packet_fields.specs.Writing.{written, AllFit}
 use Rattle.packet_fields.specs.declared.field.Field.{Field}
 use Rattle.action_profile.specs.Profiles.{is_tag}
 use Rattle.packet_version.specs.Parts.{PlainPart, Parts, as_map, values_of}
@@ -43,3 +43,9 @@ split_parts taggers frame f = option_map (fresh (spare_room taggers f)) (value f
 -- the frame of some parts: its rest, with each part in its field's place
 abbrev pub joined : PlainApart → List ℕ
 joined whole = written (values_of (parts_of whole)) whole.rest
+
+-- these are the parts of such a frame: there is one exactly where the frame has the field, and it can stand
+-- in the field's place
+pub record IsWhole (parts : Parts) (frame : List ℕ) : Type 0 where
+  pub there : (f : Field) → is_some (parts f) ≡ is_some (value f frame)
+  pub fits : AllFit (values_of parts) frame

@@ -1,10 +1,13 @@
 //! A packet in parts.
 #![tactic(auto)]
 
+mod apart;
 mod fixed;
 mod part;
+mod rest;
 mod tally;
 
+pub use apart::{Apart, join, split};
 pub use chain_walk::Verdict;
 pub use fixed::Fixed;
 pub use part::{Part, copy};
