@@ -1,2 +1,4 @@
 pub mod Maps
 pub mod Joining
+pub mod Slotting
+pub mod Editing

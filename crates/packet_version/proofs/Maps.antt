@@ -7,7 +7,7 @@ use Rattle.packet_fields.specs.Fields.{number_of}
 use Rattle.packet_fields.specs.Writing.{all_fields}
 use Rattle.packet_fields.specs.declared.field.Field.{Field}
 use Rattle.packet_fields.specs.declared.field.Field.TheVariants.{LinkDst, LinkSrc, Tag, Tos, Ttl, SrcIp, DstIp, SrcPort, DstPort, Payload}
-use Rattle.packet_version.specs.Parts.{PlainPart, Parts, as_map}
+use Rattle.packet_version.specs.Parts.{PlainPart, Parts, as_map, as_list}
 
 listed_at : {A : Type 0} (g : Field → A) (d : A) (f : Field) → get_or (map g all_fields) (number_of f) d ≡ g f
 listed_at g d LinkDst = refl
@@ -32,3 +32,8 @@ part_at parts n f o read is below len = sym (get_or_read_under parts n 10 o None
 -- the field at an index, and those behind it
 pub left_at : (fields : List Field) (i : ℕ) → i < length fields → drop i fields ≡ get_or fields i LinkDst ∷ drop (i + 1) fields
 left_at fields i below = rw (add-one, drop-cons fields i LinkDst) refl
+
+-- a list of ten is the list of its map
+pub as_list-again : (parts : List (Option PlainPart)) → length parts ≡ 10 → as_list (as_map parts) ≡ parts
+as_list-again (a ∷ b ∷ c ∷ d ∷ e ∷ f ∷ g ∷ h ∷ i ∷ j ∷ []) len = refl
+as_list-again parts len = absurd (omega arith)

@@ -1,3 +1,9 @@
 pub mod Parts
 pub mod Splitting
 pub mod Tallies
+pub mod Slots
+pub mod Versions
+pub mod Views
+pub mod Lending
+pub mod SlotLending
+pub mod ViewLending

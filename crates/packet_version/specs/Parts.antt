@@ -1,6 +1,7 @@
 -- A packet in parts: for each field that it has its bytes, who wrote them last, and how many fit.
-use Rattle.std.specs.Prelude.{◌≡◌, ℕ, List, Option, Some, None, Bool, true, false, if◌then◌else◌, ◌==◌, option_map, slice_index_or}
+use Rattle.std.specs.Prelude.{ℕ, List, Option, Some, None, Bool, if◌then◌else◌, ◌==◌, option_map, slice_index_or, map}
 use Rattle.packet_fields.specs.Fields.{number_of}
+use Rattle.packet_fields.specs.Writing.{all_fields}
 use Rattle.packet_fields.specs.declared.field.Field.{Field}
 
 -- A field's bytes, the chain position of the function that wrote them last in this stage (0 where none
@@ -17,6 +18,10 @@ Parts = Field → Option PlainPart
 -- a list of optional parts in the fields' order, read as a map
 abbrev pub as_map : List (Option PlainPart) → Parts
 as_map parts f = slice_index_or parts (number_of f) None
+
+-- a map as such a list
+abbrev pub as_list : Parts → List (Option PlainPart)
+as_list parts = map parts all_fields
 
 -- the bytes of each field
 abbrev pub values_of : Parts → Field → Option (List ℕ)

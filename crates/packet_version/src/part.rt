@@ -27,8 +27,10 @@ impl Model for Part {
 }
 
 impl Part {
-    ghost use Rattle.std.specs.Prelude.{◌≡◌, ◌≤◌, ◌+◌, length, IfOk};
-    ghost use Rattle.packet_version.specs.Parts.{unwritten};
+    ghost use Rattle.std.specs.Prelude.{◌≡◌, ◌≤◌, ◌+◌, ◌++◌, length, drop, IfOk};
+    ghost use Rattle.std.specs.Borrow.{sem};
+    ghost use Rattle.packet_version.specs.Parts.{unwritten, rewritten};
+    ghost use Rattle.packet_version.specs.Lending.{LendsBytes};
     ghost use Rattle.packet_version.specs.Splitting.{fresh};
 
     /// A part of these bytes that nobody wrote, with room for `spare` bytes more.
@@ -59,6 +61,49 @@ impl Part {
         ensures { result ≡ self.now.writer }
     {
         self.writer
+    }
+
+    /// Writes the bytes, as many as there are.
+    pub(crate) fn set(&mut self, writer: u32, bytes: &[u8])
+        requires { length bytes.now ≡ length self.old.bytes }
+        ensures { self.new ≡ rewritten bytes.now writer self.old }
+    {
+        self.writer = writer;
+        self.bytes.copy_from_slice(bytes);
+    }
+
+    /// Sets the writer, and lends the bytes.
+    pub(crate) fn edit(&mut self, writer: u32) -> &mut [u8]
+        ensures* writes_back { sem 𝓛 (LendsBytes self.entry writer result) }
+        ensures bytes { result.now ≡ self.old.bytes }
+    {
+        self.writer = writer;
+        self.bytes.as_mut_slice()
+    }
+
+    /// Puts four bytes before the others.
+    pub(crate) fn push_front(&mut self, writer: u32, four: [u8; 4])
+        requires { length self.old.bytes + 4 ≤ self.old.room }
+        ensures { self.new ≡ rewritten (four ++ self.old.bytes) writer self.old }
+    {
+        let [first, second, third, fourth] = four;
+        self.bytes.push_reserved(first);
+        self.bytes.push_reserved(second);
+        self.bytes.push_reserved(third);
+        self.bytes.push_reserved(fourth);
+        self.bytes.rotate_right(4);
+        self.writer = writer;
+    }
+
+    /// Takes the first four bytes away.
+    pub(crate) fn pop_front(&mut self, writer: u32)
+        requires { 4 ≤ length self.old.bytes }
+        ensures { self.new ≡ rewritten (drop 4 self.old.bytes) writer self.old }
+    {
+        let left = self.bytes.len() - 4;
+        self.bytes.rotate_left(4);
+        self.bytes.truncate(left);
+        self.writer = writer;
     }
 
     /// The greatest length in bytes that the part can have without taking memory.

@@ -1,0 +1,118 @@
+-- A slot that is changed in its place.
+use Rattle.std.proofs.Common.{◌≡◌, ◌≢◌, ◌∙◌, ◌<◌, ◌+◌, ℕ, Bool, true, false, List, [], ◌∷◌, map, take, drop, ◌++◌, sym, ap, refl, subst, get_or, length, set, arith, All}
+use mathlib.Core.Path.{fun_ext}
+use Rattle.std.specs.Prelude.{Option, Some, None, if◌then◌else◌, ◌==◌}
+use Rattle.std.proofs.lemmas.Bool.Decides.{Decides-eqb}
+use Rattle.std.proofs.lemmas.List.{get_or-set_same, get_or-set_other, length-set, get_or_read_under, take_more_set, length-map}
+use Rattle.std.proofs.lemmas.List.Elements.{All-set, All-append, All-cons}
+use Rattle.std.proofs.Math.ListN.{get_or-map}
+use Rattle.packet_fields.specs.Fields.{number_of}
+use Rattle.packet_fields.specs.declared.field.Field.{Field}
+use Rattle.action_profile.specs.FieldSets.{has}
+use Rattle.action_profile.specs.declared.parts.Touch.{Touch}
+use Rattle.packet_version.specs.Parts.{PlainPart, Parts, as_map, as_list, changed, is_field, writer_in}
+use Rattle.packet_version.specs.Slots.{part_in, is_own, is_shown, slot_of, AreSlots}
+use Rattle.packet_version.specs.Versions.{with_part}
+use Rattle.packet_version.specs.Views.{IsView, PlainView}
+use Rattle.packet_version.specs.declared.fixed.Fixed.{Fixed}
+use Rattle.action_profile.specs.declared.rights.Profile.{Profile}
+use Rattle.packet_version.specs.declared.slot.Slot.{Slot}
+use Rattle.packet_version.specs.declared.slot.Slot.TheVariants.{Absent, Own, Lent, Claimed}
+use Rattle.packet_version.proofs.Maps.{as_map-listed, as_list-again}
+
+-- the slot of a field once another was put into a place
+slot_set : (slots : List Slot) (n : ℕ) (s : Slot) (g : Field) → n < length slots → slot_of (set slots n s) g ≡ (if n == number_of g then s else slot_of slots g)
+slot_set slots n s g inside = by_test (n == number_of g) refl
+  where
+    by_test : (b : Bool) → (n == number_of g) ≡ b → slot_of (set slots n s) g ≡ (if b then s else slot_of slots g)
+    by_test true e = let is : n ≡ number_of g = (Decides-eqb n (number_of g)).0 e in ap (λ (k : ℕ). get_or (set slots n s) k Absent) (sym is) ∙ get_or-set_same slots n s Absent inside
+    by_test false e =
+        let apart : number_of g ≢ n = λ same. (let t : (n == number_of g) ≡ true = (Decides-eqb n (number_of g)).1 (sym same) in cc) in
+        get_or-set_other slots n (number_of g) s Absent apart
+
+own_if : (b : Bool) (s t : Slot) → is_own s ≡ true → is_own t ≡ true → is_own (if b then s else t) ≡ true
+own_if true s t own_s own_t = own_s
+own_if false s t own_s own_t = own_t
+
+lent_if : (b : Bool) (s t : Slot) → is_own s ≡ true → (is_own t ≡ false → writer_in (part_in t) ≡ 0) → is_own (if b then s else t) ≡ false → writer_in (part_in (if b then s else t)) ≡ 0
+lent_if true s t own_s lent_t lent = absurd (cc)
+lent_if false s t own_s lent_t lent = lent_t lent
+
+-- a slot of the branch's own was put into a place
+pub slots_put : (touch : Touch) (slots : List Slot) (n : ℕ) (s : Slot) → n < 10 → is_own s ≡ true → AreSlots touch slots → AreSlots touch (set slots n s)
+slots_put touch slots n s below own_s a =
+    let ten = a.ten in
+    let inside : n < length slots = omega arith in
+    record {
+      ten = length-set slots n s ∙ ten;
+      own = λ g w. subst (λ (t : Slot). is_own t ≡ true) (sym (slot_set slots n s g inside)) (own_if (n == number_of g) s (slot_of slots g) own_s (a.own g w));
+      lent = λ g. subst (λ (t : Slot). is_own t ≡ false → writer_in (part_in t) ≡ 0) (sym (slot_set slots n s g inside)) (lent_if (n == number_of g) s (slot_of slots g) own_s (a.lent g));
+    }
+
+pub view_put : (profile : Profile) (touch : Touch) (slots : List Slot) (n : ℕ) (s : Slot) → n < 10 → is_own s ≡ true → is_shown s ≡ true → IsView profile touch slots → IsView profile touch (set slots n s)
+view_put profile touch slots n s below own_s shown_s v = record {
+  slots_are = slots_put touch slots n s below own_s v.slots_are;
+  holds = v.holds;
+  shown = All-set (λ t. is_shown t ≡ true) slots n s shown_s v.shown;
+}
+
+part_if : (b : Bool) (s t : Slot) → part_in (if b then s else t) ≡ (if b then part_in s else part_in t)
+part_if true s t = refl
+part_if false s t = refl
+
+-- the map of some slots
+map_at : (slots : List Slot) (g : Field) → as_map (map part_in slots) g ≡ part_in (slot_of slots g)
+map_at slots g = get_or-map part_in slots (number_of g) Absent
+
+-- the parts once another was put into a field's place
+pub parts_put : (slots : List Slot) (n : ℕ) (f : Field) (s : Slot) → n ≡ number_of f → n < 10 → length slots ≡ 10 → map part_in (set slots n s) ≡ as_list (changed f (part_in s) (as_map (map part_in slots)))
+parts_put slots n f s is below ten =
+    let inside : n < length slots = omega arith in
+    let len : length (map part_in (set slots n s)) ≡ 10 = length-map (set slots n s) part_in ∙ (length-set slots n s ∙ ten) in
+    sym (as_list-again (map part_in (set slots n s)) len)
+    ∙ ap as_list (fun_ext (λ g.
+    map_at (set slots n s) g
+    ∙ (ap part_in (slot_set slots n s g inside)
+    ∙ (part_if (n == number_of g) s (slot_of slots g)
+    ∙ (ap (λ (k : ℕ). if k == number_of g then part_in s else part_in (slot_of slots g)) is
+    ∙ ap (λ (o : Option PlainPart). if is_field f g then part_in s else o) (sym (map_at slots g)))))))
+
+-- the slot that was read in a field's place
+pub slot_there : (slots : List Slot) (n : ℕ) (f : Field) (s : Slot) → s ≡ get_or slots n s → n ≡ number_of f → n < 10 → length slots ≡ 10 → s ≡ slot_of slots f
+slot_there slots n f s read is below ten = get_or_read_under slots n 10 s Absent read below (sym ten) ∙ ap (λ (k : ℕ). get_or slots k Absent) is
+
+-- the part in a field's slot
+pub part_there : (slots : List Slot) (n : ℕ) (f : Field) (s : Slot) → s ≡ get_or slots n s → n ≡ number_of f → n < 10 → length slots ≡ 10 → as_map (map part_in slots) f ≡ part_in s
+part_there slots n f s read is below ten = map_at slots f ∙ ap part_in (sym (slot_there slots n f s read is below ten))
+
+-- one slot more with a claim on what is lent
+pub shown_more : (slots : List Slot) (i : ℕ) (s : Slot) → i < length slots → is_shown s ≡ true → All (λ t. is_shown t ≡ true) (take i slots) → All (λ t. is_shown t ≡ true) (take (i + 1) (set slots i s))
+shown_more slots i s inside shown all =
+    subst (λ (xs : List Slot). All (λ t. is_shown t ≡ true) xs) (sym (take_more_set slots i s inside)) (All-append (λ (t : Slot). is_shown t ≡ true) (take i slots) (s ∷ []) all (All-cons (λ (t : Slot). is_shown t ≡ true) s [] shown (λ k d lt. absurd (omega arith))))
+
+-- the view of some slots
+abbrev pub view_of : List Slot → Touch → Fixed → Profile → ℕ → PlainView
+view_of slots touch fixed profile position = record { version = record { parts = map part_in slots; touch = touch; fixed = fixed }; profile = profile; position = position }
+
+-- a view once a part, or none, was put into a field's place
+pub put_seen : (slots : List Slot) (n : ℕ) (f : Field) (s : Slot) (part : Option PlainPart) (touch : Touch) (fixed : Fixed) (profile : Profile) (position : ℕ) (old : PlainView) → n ≡ number_of f → n < 10 → part_in s ≡ part → IsView profile touch slots → view_of slots touch fixed profile position ≡ old → view_of (set slots n s) touch fixed profile position ≡ record { version = with_part f part old.version; profile = old.profile; position = old.position }
+put_seen slots n f s part touch fixed profile position old is below same v old_is =
+    ap (λ (ps : List (Option PlainPart)). let w : PlainView = record { version = record { parts = ps; touch = touch; fixed = fixed }; profile = profile; position = position } in w) (parts_put slots n f s is below v.slots_are.ten ∙ ap (λ (p : Option PlainPart). as_list (changed f p (as_map (map part_in slots)))) same)
+    ∙ ap (λ (w : PlainView). let x : PlainView = record { version = with_part f part w.version; profile = w.profile; position = w.position } in x) old_is
+
+own_at : (slots : List Slot) (g : Field) → get_or (map is_own slots) (number_of g) true ≡ is_own (slot_of slots g)
+own_at slots g = get_or-map is_own slots (number_of g) Absent
+
+same_own : (old new : List Slot) (g : Field) → map is_own new ≡ map is_own old → is_own (slot_of new g) ≡ is_own (slot_of old g)
+same_own old new g same = sym (own_at new g) ∙ (ap (λ (bs : List Bool). get_or bs (number_of g) true) same ∙ own_at old g)
+
+same_part : (old new : List Slot) (g : Field) → map part_in new ≡ map part_in old → part_in (slot_of new g) ≡ part_in (slot_of old g)
+same_part old new g same = sym (map_at new g) ∙ (ap (λ (ps : List (Option PlainPart)). as_map ps g) same ∙ map_at old g)
+
+-- the same parts, had in the same way
+pub slots_same : (touch : Touch) (old new : List Slot) → map part_in new ≡ map part_in old → map is_own new ≡ map is_own old → AreSlots touch old → AreSlots touch new
+slots_same touch old new parts own a = record {
+  ten = sym (length-map new is_own) ∙ (ap (λ (bs : List Bool). length bs) own ∙ (length-map old is_own ∙ a.ten));
+  own = λ g w. same_own old new g own ∙ a.own g w;
+  lent = λ g lent. ap writer_in (same_part old new g parts) ∙ a.lent g (sym (same_own old new g own) ∙ lent);
+}
