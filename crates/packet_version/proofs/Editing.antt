@@ -1,8 +1,9 @@
 -- A field whose bytes are lent to be written.
-use Rattle.std.proofs.Common.{◌≡◌, ◌∙◌, ◌<◌, ℕ, true, List, map, sym, ap, refl, subst, get_or, length, set}
-use Rattle.std.specs.Prelude.{Option, Some, None, IsSome, IfSome, option_map}
+use Rattle.std.proofs.Common.{◌≡◌, ◌≢◌, ◌∙◌, ◌<◌, ℕ, true, List, map, sym, ap, refl, subst, get_or, length, set}
+use Rattle.std.specs.Prelude.{Option, Some, None, IsSome, IfSome, option_map, ◌==◌}
 use Rattle.packet_fields.specs.Fields.{number_of}
 use Rattle.packet_fields.specs.declared.field.Field.{Field}
+use Rattle.packet_fields.specs.declared.field.Field.TheVariants.{Tag}
 use Rattle.action_profile.specs.Profiles.{writes_of}
 use Rattle.action_profile.specs.declared.parts.Touch.{Touch}
 use Rattle.action_profile.specs.declared.rights.Profile.{Profile}
@@ -15,7 +16,7 @@ use Rattle.packet_version.specs.ViewLending.{left}
 use Rattle.packet_version.specs.declared.fixed.Fixed.{Fixed}
 use Rattle.packet_version.specs.declared.slot.Slot.{Slot}
 use Rattle.packet_version.specs.declared.slot.Slot.TheVariants.{Absent, Own, Lent, Claimed}
-use Rattle.packet_version.proofs.Slotting.{view_of, view_put, put_seen, slot_there, part_there}
+use Rattle.packet_version.proofs.Slotting.{view_of, view_put, number-tag, put_seen, slot_there, part_there}
 
 edited_own : (w : List ℕ) (k : ℕ) (s : Slot) → is_own s ≡ true → is_own (edited_slot w k s) ≡ true
 edited_own w k (Own part) own = refl
@@ -40,8 +41,9 @@ own_there slots n f s touch fixed profile position old read is below written v o
     ap is_own (slot_there slots n f s read is below v.slots_are.ten) ∙ v.slots_are.own f (v.holds.written f mine)
 
 -- whatever was left in the bytes, it is a view
-pub view_left : (slots : List Slot) (n : ℕ) (w : List ℕ) (s : Slot) (touch : Touch) (profile : Profile) (position : ℕ) → n < 10 → is_own s ≡ true → IsView profile touch slots → IsView profile touch (set slots n (edited_slot w position s))
-view_left slots n w s touch profile position below own v = view_put profile touch slots n (edited_slot w position s) below (edited_own w position s own) (edited_shown w position s own) v
+pub view_left : (slots : List Slot) (n : ℕ) (f : Field) (w : List ℕ) (s : Slot) (touch : Touch) (profile : Profile) (position : ℕ) → f ≢ Tag → n ≡ number_of f → n < 10 → is_own s ≡ true → IsView profile touch slots → IsView profile touch (set slots n (edited_slot w position s))
+view_left slots n f w s touch profile position not_tag is below own v =
+    view_put profile touch slots n (edited_slot w position s) below (edited_own w position s own) (edited_shown w position s own) (λ e. absurd (not_tag (number-tag f (ap (λ (k : ℕ). k == number_of Tag) (sym is) ∙ e)))) v
 
 pub left_seen : (slots : List Slot) (n : ℕ) (f : Field) (s : Slot) (w : List ℕ) (touch : Touch) (fixed : Fixed) (profile : Profile) (position : ℕ) (old : PlainView) → s ≡ get_or slots n s → n ≡ number_of f → n < 10 → is_own s ≡ true → IsView profile touch slots → view_of slots touch fixed profile position ≡ old → view_of (set slots n (edited_slot w position s)) touch fixed profile position ≡ left f w old
 left_seen slots n f s w touch fixed profile position old read is below own v old_is =

@@ -8,10 +8,11 @@ use Rattle.std.proofs.lemmas.List.Elements.{All-set, All-append, All-cons}
 use Rattle.std.proofs.Math.ListN.{get_or-map}
 use Rattle.packet_fields.specs.Fields.{number_of}
 use Rattle.packet_fields.specs.declared.field.Field.{Field}
+use Rattle.packet_fields.specs.declared.field.Field.TheVariants.{LinkDst, LinkSrc, Tag, Tos, Ttl, SrcIp, DstIp, SrcPort, DstPort, Payload}
 use Rattle.action_profile.specs.FieldSets.{has}
 use Rattle.action_profile.specs.declared.parts.Touch.{Touch}
 use Rattle.packet_version.specs.Parts.{PlainPart, Parts, as_map, as_list, changed, is_field, writer_in}
-use Rattle.packet_version.specs.Slots.{part_in, is_own, is_shown, slot_of, AreSlots}
+use Rattle.packet_version.specs.Slots.{part_in, is_own, is_shown, slot_of, AreSlots, AreTags}
 use Rattle.packet_version.specs.Versions.{with_part}
 use Rattle.packet_version.specs.Views.{IsView, PlainView}
 use Rattle.packet_version.specs.declared.fixed.Fixed.{Fixed}
@@ -30,31 +31,48 @@ slot_set slots n s g inside = by_test (n == number_of g) refl
         let apart : number_of g ≢ n = λ same. (let t : (n == number_of g) ≡ true = (Decides-eqb n (number_of g)).1 (sym same) in cc) in
         get_or-set_other slots n (number_of g) s Absent apart
 
-own_if : (b : Bool) (s t : Slot) → is_own s ≡ true → is_own t ≡ true → is_own (if b then s else t) ≡ true
-own_if true s t own_s own_t = own_s
+own_if : (b : Bool) (s t : Slot) → (b ≡ true → is_own s ≡ true) → is_own t ≡ true → is_own (if b then s else t) ≡ true
+own_if true s t own_s own_t = own_s refl
 own_if false s t own_s own_t = own_t
 
-lent_if : (b : Bool) (s t : Slot) → is_own s ≡ true → (is_own t ≡ false → writer_in (part_in t) ≡ 0) → is_own (if b then s else t) ≡ false → writer_in (part_in (if b then s else t)) ≡ 0
-lent_if true s t own_s lent_t lent = absurd (cc)
-lent_if false s t own_s lent_t lent = lent_t lent
+lent_if : (b : Bool) (s t : Slot) → (is_own s ≡ false → writer_in (part_in s) ≡ 0) → (is_own t ≡ false → writer_in (part_in t) ≡ 0) → is_own (if b then s else t) ≡ false → writer_in (part_in (if b then s else t)) ≡ 0
+lent_if true s t lent_s lent_t lent = lent_s lent
+lent_if false s t lent_s lent_t lent = lent_t lent
 
--- a slot of the branch's own was put into a place
-pub slots_put : (touch : Touch) (slots : List Slot) (n : ℕ) (s : Slot) → n < 10 → is_own s ≡ true → AreSlots touch slots → AreSlots touch (set slots n s)
-slots_put touch slots n s below own_s a =
+tags_if : (b : Bool) (s t : Slot) → (b ≡ true → AreTags (part_in s)) → AreTags (part_in t) → AreTags (part_in (if b then s else t))
+tags_if true s t whole tags = whole refl
+tags_if false s t whole tags = tags
+
+-- a slot was put into a place, by which the branch's own slots stay its own
+pub slots_put : (touch : Touch) (slots : List Slot) (n : ℕ) (s : Slot) → n < 10 → ((f : Field) → n ≡ number_of f → has touch.writes f ≡ true → is_own s ≡ true) → (is_own s ≡ false → writer_in (part_in s) ≡ 0) → ((n == number_of Tag) ≡ true → AreTags (part_in s)) → AreSlots touch slots → AreSlots touch (set slots n s)
+slots_put touch slots n s below own_s lent_s tags_s a =
     let ten = a.ten in
     let inside : n < length slots = omega arith in
     record {
       ten = length-set slots n s ∙ ten;
-      own = λ g w. subst (λ (t : Slot). is_own t ≡ true) (sym (slot_set slots n s g inside)) (own_if (n == number_of g) s (slot_of slots g) own_s (a.own g w));
-      lent = λ g. subst (λ (t : Slot). is_own t ≡ false → writer_in (part_in t) ≡ 0) (sym (slot_set slots n s g inside)) (lent_if (n == number_of g) s (slot_of slots g) own_s (a.lent g));
+      own = λ g w. subst (λ (t : Slot). is_own t ≡ true) (sym (slot_set slots n s g inside)) (own_if (n == number_of g) s (slot_of slots g) (λ e. own_s g ((Decides-eqb n (number_of g)).0 e) w) (a.own g w));
+      lent = λ g. subst (λ (t : Slot). is_own t ≡ false → writer_in (part_in t) ≡ 0) (sym (slot_set slots n s g inside)) (lent_if (n == number_of g) s (slot_of slots g) lent_s (a.lent g));
+      tags = subst (λ (t : Slot). AreTags (part_in t)) (sym (slot_set slots n s Tag inside)) (tags_if (n == number_of Tag) s (slot_of slots Tag) tags_s a.tags);
     }
 
-pub view_put : (profile : Profile) (touch : Touch) (slots : List Slot) (n : ℕ) (s : Slot) → n < 10 → is_own s ≡ true → is_shown s ≡ true → IsView profile touch slots → IsView profile touch (set slots n s)
-view_put profile touch slots n s below own_s shown_s v = record {
-  slots_are = slots_put touch slots n s below own_s v.slots_are;
+never : (s : Slot) → is_own s ≡ true → is_own s ≡ false → writer_in (part_in s) ≡ 0
+never s own lent = absurd (cc)
+
+-- a slot of the branch's own was put into a place
+pub own_put : (touch : Touch) (slots : List Slot) (n : ℕ) (s : Slot) → n < 10 → is_own s ≡ true → ((n == number_of Tag) ≡ true → AreTags (part_in s)) → AreSlots touch slots → AreSlots touch (set slots n s)
+own_put touch slots n s below own_s tags_s a = slots_put touch slots n s below (λ f e w. own_s) (never s own_s) tags_s a
+
+pub view_put : (profile : Profile) (touch : Touch) (slots : List Slot) (n : ℕ) (s : Slot) → n < 10 → is_own s ≡ true → is_shown s ≡ true → ((n == number_of Tag) ≡ true → AreTags (part_in s)) → IsView profile touch slots → IsView profile touch (set slots n s)
+view_put profile touch slots n s below own_s shown_s tags_s v = record {
+  slots_are = own_put touch slots n s below own_s tags_s v.slots_are;
   holds = v.holds;
   shown = All-set (λ t. is_shown t ≡ true) slots n s shown_s v.shown;
 }
+
+-- only the tags have their number
+pub number-tag : (f : Field) → (number_of f == number_of Tag) ≡ true → f ≡ Tag
+number-tag Tag e = refl
+number-tag f e = absurd (cc)
 
 part_if : (b : Bool) (s t : Slot) → part_in (if b then s else t) ≡ (if b then part_in s else part_in t)
 part_if true s t = refl
@@ -115,4 +133,11 @@ slots_same touch old new parts own a = record {
   ten = sym (length-map new is_own) ∙ (ap (λ (bs : List Bool). length bs) own ∙ (length-map old is_own ∙ a.ten));
   own = λ g w. same_own old new g own ∙ a.own g w;
   lent = λ g lent. ap writer_in (same_part old new g parts) ∙ a.lent g (sym (same_own old new g own) ∙ lent);
+  tags = subst AreTags (sym (same_part old new Tag parts)) a.tags;
 }
+
+-- the tags that were taken out of their slot are whole
+pub tags_there : (slots : List Slot) (n : ℕ) (f : Field) (seen held : Slot) (part : Option PlainPart) (touch : Touch) → f ≡ Tag → seen ≡ get_or slots n seen → n ≡ number_of f → n < 10 → held ≡ seen → part ≡ part_in held → AreSlots touch slots → AreTags part
+tags_there slots n f seen held part touch is_tags read is below same out a =
+    let there : part_in (slot_of slots f) ≡ part = ap part_in (sym (slot_there slots n f seen read is below a.ten) ∙ sym same) ∙ sym out in
+    subst AreTags (subst (λ (g : Field). part_in (slot_of slots g) ≡ part) is_tags there) a.tags

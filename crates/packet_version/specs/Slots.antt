@@ -1,7 +1,9 @@
 -- How a branch has a field: as a part of its own, or as one that is lent to it.
-use Rattle.std.specs.Prelude.{◌≡◌, List, length, Option, Some, None, Bool, true, false, slice_index_or}
+use Rattle.std.specs.Prelude.{◌≡◌, List, length, Option, Some, None, Bool, true, false, slice_index_or, IfSome}
+use Rattle.packet_fields.specs.Frames.{is_tag_list}
 use Rattle.packet_fields.specs.Fields.{number_of}
 use Rattle.packet_fields.specs.declared.field.Field.{Field}
+use Rattle.packet_fields.specs.declared.field.Field.TheVariants.{Tag}
 use Rattle.action_profile.specs.FieldSets.{has}
 use Rattle.action_profile.specs.declared.parts.Touch.{Touch}
 use Rattle.packet_version.specs.Parts.{PlainPart, writer_in}
@@ -30,8 +32,13 @@ is_shown slot = true
 abbrev pub slot_of : List Slot → Field → Slot
 slot_of slots f = slice_index_or slots (number_of f) Absent
 
--- ten slots, of which those that the branch writes are its own, and what is lent was written by nobody
+-- the bytes of a part, where it is there, are whole tags
+abbrev pub AreTags : Option PlainPart → Type 0
+AreTags part = IfSome part (λ p. is_tag_list p.bytes ≡ true)
+
+-- ten slots, of which those that the branch writes are its own, what is lent was written by nobody, and the tags are whole
 pub record AreSlots (touch : Touch) (slots : List Slot) : Type 0 where
   pub ten : length slots ≡ 10
   pub own : (f : Field) → has touch.writes f ≡ true → is_own (slot_of slots f) ≡ true
   pub lent : (f : Field) → is_own (slot_of slots f) ≡ false → writer_in (part_in (slot_of slots f)) ≡ 0
+  pub tags : AreTags (part_in (slot_of slots Tag))

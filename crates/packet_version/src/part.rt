@@ -84,7 +84,8 @@ impl Part {
     /// Puts four bytes before the others.
     pub(crate) fn push_front(&mut self, writer: u32, four: [u8; 4])
         requires { length self.old.bytes + 4 ≤ self.old.room }
-        ensures { self.new ≡ rewritten (four ++ self.old.bytes) writer self.old }
+        ensures part { self.new ≡ rewritten (four ++ self.old.bytes) writer self.old }
+        ensures len { length self.new.bytes ≡ length self.old.bytes + 4 }
     {
         let [first, second, third, fourth] = four;
         self.bytes.push_reserved(first);

@@ -37,7 +37,7 @@ impl View {
     ghost use Rattle.packet_fields.specs.Frames.{is_tpid, word};
     ghost use Rattle.packet_fields.specs.declared.field.Field.{Field};
     ghost use Rattle.action_profile.specs.Profiles.{reads_of, writes_of};
-    ghost use Rattle.packet_version.specs.Parts.{values_of};
+    ghost use Rattle.packet_version.specs.Slots.{AreTags};
     ghost use Rattle.packet_version.specs.Versions.{names, with_part};
     ghost use Rattle.packet_version.specs.Views.{seen_parts, seen_values, wrote, pushed, popped, HasBytes, HasTagRoom};
     ghost use Rattle.packet_version.specs.ViewLending.{LendsField};
@@ -102,7 +102,7 @@ impl View {
     /// Takes the first tag away, where there is one.
     pub fn pop_tag(&mut self)
         requires removes { self.old.profile.removes ≡ true }
-        requires tagged { HasBytes self.old Field.Tag (λ tags. 4 ≤ length tags) }
+        requires tagged { HasBytes self.old Field.Tag (λ tags. 0 < length tags) }
         ensures { self.new ≡ popped self.old }
     {
         let held = self.take(Field::Tag);
@@ -115,6 +115,7 @@ impl View {
         requires written { writes_of self.old.profile field ≡ true }
         ensures part { result ≡ seen_parts self.old field }
         ensures left { self.new ≡ record self.old { version = with_part field None self.old.version } }
+        ensures tags { field ≡ Field.Tag → AreTags result }
     {
         let slot = mem::replace(&mut self.slots[field.number()], Slot::Absent);
         slot.into_own()
@@ -122,6 +123,7 @@ impl View {
 
     /// Puts a part, or none, into the place of a field.
     fn put(&mut self, field: Field, part: Option<Part>)
+        requires { field ≡ Field.Tag → AreTags part }
         ensures { self.new ≡ record self.old { version = with_part field part self.old.version } }
     {
         self.slots[field.number()] = Slot::of(part);
@@ -181,7 +183,9 @@ impl View {
     }
 }
 
-ghost use Rattle.std.specs.Prelude.{◌≡◌, ◌≤◌, ◌+◌, ◌++◌, drop, length, option_map, IsSomeAnd};
+ghost use Rattle.std.specs.Prelude.{◌≡◌, ◌≤◌, ◌<◌, ◌+◌, ◌++◌, true, drop, length, option_map, IsSomeAnd};
+ghost use Rattle.packet_fields.specs.Frames.{is_tpid, word};
+ghost use Rattle.packet_version.specs.Slots.{AreTags};
 ghost use Rattle.packet_version.specs.Parts.{rewritten as rewritten_part};
 
 /// A part that is there, with other bytes by this writer.
@@ -196,8 +200,11 @@ fn rewritten(part: Option<Part>, writer: u32, bytes: &[u8]) -> Option<Part>
 
 /// Tags that are there, with one more before them.
 fn with_first_tag(part: Option<Part>, writer: u32, tag: [u8; 4]) -> Option<Part>
-    requires { IsSomeAnd part (λ p. length p.bytes + 4 ≤ p.room) }
-    ensures { result ≡ option_map (λ p. rewritten_part (tag ++ p.bytes) writer p) part }
+    requires identified { is_tpid (word tag 0) ≡ true }
+    requires room { IsSomeAnd part (λ p. length p.bytes + 4 ≤ p.room) }
+    requires tags { AreTags part }
+    ensures pushed { result ≡ option_map (λ p. rewritten_part (tag ++ p.bytes) writer p) part }
+    ensures tags { AreTags result }
 {
     let mut part = part?;
     part.push_front(writer, tag);
@@ -206,8 +213,10 @@ fn with_first_tag(part: Option<Part>, writer: u32, tag: [u8; 4]) -> Option<Part>
 
 /// Tags that are there, without the first.
 fn without_first_tag(part: Option<Part>, writer: u32) -> Option<Part>
-    requires { IsSomeAnd part (λ p. 4 ≤ length p.bytes) }
-    ensures { result ≡ option_map (λ p. rewritten_part (drop 4 p.bytes) writer p) part }
+    requires tagged { IsSomeAnd part (λ p. 0 < length p.bytes) }
+    requires tags { AreTags part }
+    ensures popped { result ≡ option_map (λ p. rewritten_part (drop 4 p.bytes) writer p) part }
+    ensures tags { AreTags result }
 {
     let mut part = part?;
     part.pop_front(writer);
