@@ -1,7 +1,7 @@
 -- A slot that is changed in its place.
 use Rattle.std.proofs.Common.{◌≡◌, ◌≢◌, ◌∙◌, ◌<◌, ◌+◌, ℕ, Bool, true, false, List, [], ◌∷◌, map, take, drop, ◌++◌, sym, ap, refl, subst, get_or, length, set, arith, All}
 use mathlib.Core.Path.{fun_ext}
-use Rattle.std.specs.Prelude.{Option, Some, None, if◌then◌else◌, ◌==◌}
+use Rattle.std.specs.Prelude.{Option, Some, None, if◌then◌else◌, ◌==◌, ◌&&◌, not}
 use Rattle.std.proofs.lemmas.Bool.Decides.{Decides-eqb}
 use Rattle.std.proofs.lemmas.List.{get_or-set_same, get_or-set_other, length-set, get_or_read_under, take_more_set, length-map}
 use Rattle.std.proofs.lemmas.List.Elements.{All-set, All-append, All-cons}
@@ -9,17 +9,22 @@ use Rattle.std.proofs.Math.ListN.{get_or-map}
 use Rattle.packet_fields.specs.Fields.{number_of}
 use Rattle.packet_fields.specs.declared.field.Field.{Field}
 use Rattle.packet_fields.specs.declared.field.Field.TheVariants.{LinkDst, LinkSrc, Tag, Tos, Ttl, SrcIp, DstIp, SrcPort, DstPort, Payload}
+use Rattle.std.specs.Int.{bit_at}
+use Rattle.std.proofs.lemmas.Bool.{false≢true}
+use Rattle.packet_fields.specs.Frames.{is_tag_list}
+use Rattle.packet_fields.specs.Writing.{all_fields}
 use Rattle.action_profile.specs.FieldSets.{has}
+use Rattle.action_profile.specs.Modes.{has_write, only_reads}
 use Rattle.action_profile.specs.declared.parts.Touch.{Touch}
 use Rattle.packet_version.specs.Parts.{PlainPart, Parts, as_map, as_list, changed, is_field, writer_in}
 use Rattle.packet_version.specs.Slots.{part_in, is_own, is_shown, slot_of, AreSlots, AreTags}
-use Rattle.packet_version.specs.Versions.{with_part}
+use Rattle.packet_version.specs.Versions.{with_part, PlainVersion}
 use Rattle.packet_version.specs.Views.{IsView, PlainView}
 use Rattle.packet_version.specs.declared.fixed.Fixed.{Fixed}
 use Rattle.action_profile.specs.declared.rights.Profile.{Profile}
 use Rattle.packet_version.specs.declared.slot.Slot.{Slot}
 use Rattle.packet_version.specs.declared.slot.Slot.TheVariants.{Absent, Own, Lent, Claimed}
-use Rattle.packet_version.proofs.Maps.{as_map-listed, as_list-again}
+use Rattle.packet_version.proofs.Maps.{as_map-listed, as_list-again, listed_at}
 
 -- the slot of a field once another was put into a place
 slot_set : (slots : List Slot) (n : ℕ) (s : Slot) (g : Field) → n < length slots → slot_of (set slots n s) g ≡ (if n == number_of g then s else slot_of slots g)
@@ -44,7 +49,7 @@ tags_if true s t whole tags = whole refl
 tags_if false s t whole tags = tags
 
 -- a slot was put into a place, by which the branch's own slots stay its own
-pub slots_put : (touch : Touch) (slots : List Slot) (n : ℕ) (s : Slot) → n < 10 → ((f : Field) → n ≡ number_of f → has touch.writes f ≡ true → is_own s ≡ true) → (is_own s ≡ false → writer_in (part_in s) ≡ 0) → ((n == number_of Tag) ≡ true → AreTags (part_in s)) → AreSlots touch slots → AreSlots touch (set slots n s)
+pub slots_put : (touch : Touch) (slots : List Slot) (n : ℕ) (s : Slot) → n < 10 → ((f : Field) → n ≡ number_of f → has_write f touch ≡ true → is_own s ≡ true) → (is_own s ≡ false → writer_in (part_in s) ≡ 0) → ((n == number_of Tag) ≡ true → AreTags (part_in s)) → AreSlots touch slots → AreSlots touch (set slots n s)
 slots_put touch slots n s below own_s lent_s tags_s a =
     let ten = a.ten in
     let inside : n < length slots = omega arith in
@@ -141,3 +146,40 @@ pub tags_there : (slots : List Slot) (n : ℕ) (f : Field) (seen held : Slot) (p
 tags_there slots n f seen held part touch is_tags read is below same out a =
     let there : part_in (slot_of slots f) ≡ part = ap part_in (sym (slot_there slots n f seen read is below a.ten) ∙ sym same) ∙ sym out in
     subst AreTags (subst (λ (g : Field). part_in (slot_of slots g) ≡ part) is_tags there) a.tags
+
+-- the version of some slots
+abbrev pub version_of : List Slot → Touch → Fixed → PlainVersion
+version_of slots touch fixed = record { parts = map part_in slots; touch = touch; fixed = fixed }
+
+-- a version once a part, or none, was put into a field's place
+pub put_had : (slots : List Slot) (n : ℕ) (f : Field) (s : Slot) (part : Option PlainPart) (touch : Touch) (fixed : Fixed) (old : PlainVersion) → n ≡ number_of f → n < 10 → part_in s ≡ part → AreSlots touch slots → version_of slots touch fixed ≡ old → version_of (set slots n s) touch fixed ≡ with_part f part old
+put_had slots n f s part touch fixed old is below same a old_is =
+    ap (λ (ps : List (Option PlainPart)). let w : PlainVersion = record { parts = ps; touch = touch; fixed = fixed } in w) (parts_put slots n f s is below a.ten ∙ ap (λ (p : Option PlainPart). as_list (changed f p (as_map (map part_in slots)))) same)
+    ∙ ap (λ (w : PlainVersion). with_part f part w) old_is
+
+-- slots without any field
+pub empty_slots : (touch : Touch) (slots : List Slot) → slots ≡ map (λ f. Absent) all_fields → AreSlots touch slots
+empty_slots touch slots is = subst (λ (xs : List Slot). AreSlots touch xs) (sym is) (record {
+  ten = refl;
+  own = λ f w. ap is_own (listed_at (λ g. Absent) Absent f);
+  lent = λ f lent. ap (λ (s : Slot). writer_in (part_in s)) (listed_at (λ g. Absent) Absent f);
+  tags = tt;
+})
+
+not_both : (r w : Bool) → (r && not w) ≡ true → w ≡ true → ⊥
+not_both true true only writes = false≢true only
+not_both false w only writes = false≢true only
+not_both true false only writes = false≢true writes
+
+-- what a branch only reads it doesn't write
+unwritten_by : (touch : Touch) (f g : Field) → number_of f ≡ number_of g → only_reads f touch ≡ true → has_write g touch ≡ true → ⊥
+unwritten_by touch f g same only writes = not_both (has touch.reads f) (has touch.writes f) only (ap (λ (k : ℕ). bit_at touch.writes.0 k == 1) same ∙ writes)
+
+-- a slot of a field that the branch only reads
+pub lent_put : (touch : Touch) (slots : List Slot) (n : ℕ) (f : Field) (part : PlainPart) → n ≡ number_of f → n < 10 → only_reads f touch ≡ true → part.writer ≡ 0 → (f ≡ Tag → is_tag_list part.bytes ≡ true) → AreSlots touch slots → AreSlots touch (set slots n (Lent part))
+lent_put touch slots n f part is below reads unwritten tags a =
+    slots_put touch slots n (Lent part) below
+    (λ g here w. absurd (unwritten_by touch f g (sym is ∙ here) reads w))
+    (λ e. unwritten)
+    (λ e. tags (number-tag f (ap (λ (k : ℕ). k == number_of Tag) (sym is) ∙ e)))
+    a

@@ -4,7 +4,7 @@ use Rattle.packet_fields.specs.Frames.{is_tag_list}
 use Rattle.packet_fields.specs.Fields.{number_of}
 use Rattle.packet_fields.specs.declared.field.Field.{Field}
 use Rattle.packet_fields.specs.declared.field.Field.TheVariants.{Tag}
-use Rattle.action_profile.specs.FieldSets.{has}
+use Rattle.action_profile.specs.Modes.{has_write}
 use Rattle.action_profile.specs.declared.parts.Touch.{Touch}
 use Rattle.packet_version.specs.Parts.{PlainPart, writer_in}
 use Rattle.packet_version.specs.declared.slot.Slot.{Slot}
@@ -39,6 +39,6 @@ AreTags part = IfSome part (λ p. is_tag_list p.bytes ≡ true)
 -- ten slots, of which those that the branch writes are its own, what is lent was written by nobody, and the tags are whole
 pub record AreSlots (touch : Touch) (slots : List Slot) : Type 0 where
   pub ten : length slots ≡ 10
-  pub own : (f : Field) → has touch.writes f ≡ true → is_own (slot_of slots f) ≡ true
+  pub own : (f : Field) → has_write f touch ≡ true → is_own (slot_of slots f) ≡ true
   pub lent : (f : Field) → is_own (slot_of slots f) ≡ false → writer_in (part_in (slot_of slots f)) ≡ 0
   pub tags : AreTags (part_in (slot_of slots Tag))

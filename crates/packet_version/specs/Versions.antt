@@ -1,7 +1,7 @@
 -- What a branch of a stage has of a packet.
-use Rattle.std.specs.Prelude.{◌≡◌, List, Option, Bool, true, ◌||◌}
+use Rattle.std.specs.Prelude.{◌≡◌, List, Option, None, Bool, true, ◌||◌}
 use Rattle.packet_fields.specs.declared.field.Field.{Field}
-use Rattle.action_profile.specs.FieldSets.{has}
+use Rattle.action_profile.specs.Modes.{has_touch, has_write}
 use Rattle.action_profile.specs.Profiles.{reads_of, writes_of}
 use Rattle.action_profile.specs.declared.parts.Touch.{Touch}
 use Rattle.action_profile.specs.declared.rights.Profile.{Profile}
@@ -21,9 +21,9 @@ parts_of version = as_map version.parts
 abbrev pub with_part : Field → Option PlainPart → PlainVersion → PlainVersion
 with_part f part version = record version { parts = as_list (changed f part (parts_of version)) }
 
--- a branch touches a field where one of its functions reads or writes it
-abbrev pub touches : Touch → Field → Bool
-touches touch f = has touch.reads f || has touch.writes f
+-- a version without any field
+abbrev pub nothing : Touch → Fixed → PlainVersion
+nothing touch fixed = record { parts = as_list (λ f. None); touch = touch; fixed = fixed }
 
 -- the profile names the field
 abbrev pub names : Profile → Field → Bool
@@ -32,5 +32,5 @@ names profile f = reads_of profile f || writes_of profile f
 -- a branch holds what a profile names: it touches each field that the profile reads or writes, and writes each
 -- field that the profile writes
 pub record HoldsNamed (profile : Profile) (touch : Touch) : Type 0 where
-  pub touched : (f : Field) → names profile f ≡ true → touches touch f ≡ true
-  pub written : (f : Field) → writes_of profile f ≡ true → has touch.writes f ≡ true
+  pub touched : (f : Field) → names profile f ≡ true → has_touch f touch ≡ true
+  pub written : (f : Field) → writes_of profile f ≡ true → has_write f touch ≡ true

@@ -63,6 +63,14 @@ impl Part {
         self.writer
     }
 
+    /// The part as the next stage finds it: written by nobody.
+    pub(crate) fn unwritten(mut self) -> Part
+        ensures { result ≡ unwritten self }
+    {
+        self.writer = 0;
+        self
+    }
+
     /// Writes the bytes, as many as there are.
     pub(crate) fn set(&mut self, writer: u32, bytes: &[u8])
         requires { length bytes.now ≡ length self.old.bytes }
@@ -116,17 +124,16 @@ impl Part {
     }
 }
 
-ghost use Rattle.std.specs.Prelude.{◌≡◌, OnErr, IfOk, if◌then◌else◌, is_ok, ◌&&◌};
-ghost use Rattle.packet_fields.specs.declared.field.Field.{Field};
-ghost use Rattle.packet_version.specs.Parts.{is_field, unwritten};
-ghost use Rattle.packet_version.specs.Tallies.{count_of, raised};
+ghost use Rattle.std.specs.Prelude.{◌≡◌, IfOk, if◌then◌else◌, is_ok};
+ghost use Rattle.packet_version.specs.Parts.{unwritten};
+ghost use Rattle.packet_version.specs.Tallies.{RaisesBy};
 
 /// A second part with the same bytes and the same room, which nobody wrote in this stage.
 ///
 /// The tally of the field rises by one exactly where the copy is made.
 pub fn copy(alloc: Global, part: &Part, field: Field, tally: &mut Tally) -> Result<Part, AllocError>
     ensures same { IfOk result (λ made. made ≡ unwritten part.now) }
-    ensures counted { (f : Field) → count_of tally.new f ≡ (if is_ok result && is_field field f then raised (count_of tally.old f) 1 else count_of tally.old f) }
+    ensures counted { RaisesBy (if is_ok result then 1 else 0) field tally.old tally.new }
 {
     let made = Part::new(alloc, part.bytes(), part.room() - part.bytes().len())?;
     tally.count(field);

@@ -1,9 +1,10 @@
 //! How a branch has a field.
 
-ghost use Rattle.std.specs.Prelude.{◌≡◌, true, is_some, IsSome, IfSome};
+ghost use Rattle.std.specs.Prelude.{◌≡◌, true, false, is_some, IsSome, IfSome};
 ghost use Rattle.std.specs.Option.{option_copied};
 ghost use Rattle.std.specs.Borrow.{sem};
 ghost use Rattle.packet_version.specs.SlotLending.{LendsSlot};
+ghost use Rattle.packet_version.specs.Parts.{writer_in};
 ghost use Rattle.packet_version.specs.Slots.{part_in, is_own, is_shown};
 
 use crate::part::Part;
@@ -91,6 +92,17 @@ impl Slot {
         ensures { result ≡ is_some (part_in self.now) }
     {
         !matches!(self, Slot::Absent)
+    }
+
+    /// Who wrote the part, where it is there. What is lent was written by nobody.
+    pub(crate) fn writer(&self) -> u32
+        requires { is_own self.now ≡ false → writer_in (part_in self.now) ≡ 0 }
+        ensures { result ≡ writer_in (part_in self.now) }
+    {
+        match self {
+            Slot::Own(part) => part.writer(),
+            _ => 0,
+        }
     }
 
     /// The part that is the branch's own.

@@ -18,10 +18,9 @@ impl Model for Tally {
 }
 
 impl Tally {
-    ghost use Rattle.std.specs.Prelude.{◌≡◌, if◌then◌else◌};
+    ghost use Rattle.std.specs.Prelude.{◌≡◌};
     ghost use Rattle.packet_fields.specs.declared.field.Field.{Field};
-    ghost use Rattle.packet_version.specs.Parts.{is_field};
-    ghost use Rattle.packet_version.specs.Tallies.{count_of, raised};
+    ghost use Rattle.packet_version.specs.Tallies.{count_of, RaisesBy};
 
     /// No copies.
     pub fn new() -> Self
@@ -39,7 +38,7 @@ impl Tally {
 
     /// Counts one copy of this field's part.
     pub(crate) fn count(&mut self, field: Field)
-        ensures { (f : Field) → count_of self.new f ≡ (if is_field field f then raised (count_of self.old f) 1 else count_of self.old f) }
+        ensures { RaisesBy 1 field self.old self.new }
     {
         let number = field.number();
         self.counts[number] = self.counts[number].saturating_add(1);

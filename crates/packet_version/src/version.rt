@@ -1,9 +1,13 @@
 //! What a branch of a stage has of a packet.
 
 use crate::fixed::Fixed;
+use crate::part::Part;
 use crate::slot::Slot;
 use crate::view::View;
-use action_profile::{Profile, Touch};
+use action_profile::{Profile, Touch, all_fields};
+use packet_fields::Field;
+use part_lease::Reader;
+use std::alloc::{AllocError, Global};
 use std::marker::Model;
 use std::mem;
 use std::sync::Wait;
@@ -53,6 +57,83 @@ impl Version {
             profile: *profile,
             position,
         }
+    }
+}
+
+impl Version {
+    ghost use Rattle.std.specs.Prelude.{◌≡◌, Some, None, true, IfOk};
+    ghost use Rattle.packet_fields.specs.Frames.{is_tag_list};
+    ghost use Rattle.packet_fields.specs.declared.field.Field.{Field};
+    ghost use Rattle.action_profile.specs.Modes.{has_write, only_reads};
+    ghost use Rattle.packet_version.specs.Parts.{writers_of};
+    ghost use Rattle.packet_version.specs.Slots.{AreTags};
+    ghost use Rattle.packet_version.specs.Versions.{parts_of, with_part, nothing};
+
+    /// A branch's version in which there is no field yet.
+    pub(crate) fn empty(alloc: Global, touch: Touch, fixed: Fixed) -> Result<Version, AllocError>
+        ensures { IfOk result (λ version. version ≡ nothing touch fixed) }
+    {
+        let fields = all_fields();
+        let mut slots = Vec::with_capacity(alloc, fields.len())?;
+        for _field in fields {
+            slots.push(Slot::Absent)?;
+        }
+        Ok(Version {
+            slots,
+            touch,
+            fixed,
+        })
+    }
+
+    /// Does the branch write the field?
+    pub fn writes(&self, field: Field) -> bool
+        ensures { result ≡ has_write field self.now.touch }
+    {
+        self.touch.writes.has(field)
+    }
+
+    /// Does the branch read the field and not write it?
+    pub(crate) fn only_reads(&self, field: Field) -> bool
+        ensures { result ≡ only_reads field self.now.touch }
+    {
+        self.touch.reads.has(field) && !self.touch.writes.has(field)
+    }
+
+    /// The chain position of the function that wrote the field last in this stage, 0 for none.
+    pub fn writer(&self, field: Field) -> u32
+        ensures { result ≡ writers_of (parts_of self.now) field }
+    {
+        self.slots[field.number()].writer()
+    }
+
+    /// Gives the branch a part of its own.
+    pub(crate) fn give(&mut self, field: Field, part: Part)
+        requires { field ≡ Field.Tag → is_tag_list part.bytes ≡ true }
+        ensures { self.new ≡ with_part field (Some part) self.old }
+    {
+        self.slots[field.number()] = Slot::Own(part);
+    }
+
+    /// Lends the branch, which only reads the field, a part that nobody wrote.
+    pub(crate) fn lend(&mut self, field: Field, reader: Reader<Part>)
+        requires reads { only_reads field self.old.touch ≡ true }
+        requires unwritten { reader.writer ≡ 0 }
+        requires tags { field ≡ Field.Tag → is_tag_list reader.bytes ≡ true }
+        ensures { self.new ≡ with_part field (Some reader) self.old }
+    {
+        self.slots[field.number()] = Slot::Lent(reader);
+    }
+
+    /// Takes the branch's own part of a field away.
+    pub fn take(&mut self, field: Field) -> Option<Part>
+        requires { has_write field self.old.touch ≡ true }
+        ensures part { result ≡ parts_of self.old field }
+        ensures left { self.new ≡ with_part field None self.old }
+        // The tags of a version are whole.
+        ensures tags { field ≡ Field.Tag → AreTags result }
+    {
+        let slot = mem::replace(&mut self.slots[field.number()], Slot::Absent);
+        slot.into_own()
     }
 }
 
