@@ -3,3 +3,10 @@ pub mod Joining
 pub mod Slotting
 pub mod Editing
 pub mod Tagging
+pub mod Mapping
+pub mod Counting
+pub mod Handing
+pub mod Firsts
+pub mod Modal
+pub mod Originals
+pub mod Dealt

@@ -7,3 +7,5 @@ pub mod Views
 pub mod Lending
 pub mod SlotLending
 pub mod ViewLending
+pub mod Dealing
+pub mod Handing

@@ -50,3 +50,8 @@ unwritten p = record p { writer = 0 }
 -- a part with other bytes, by this writer
 abbrev pub rewritten : List ℕ → ℕ → PlainPart → PlainPart
 rewritten bytes writer p = record p { bytes = bytes; writer = writer }
+
+-- A part that is lent, and how many readers are still to get it.
+pub record PlainLease : Type 0 where
+  pub part : PlainPart
+  pub left : ℕ

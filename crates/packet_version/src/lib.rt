@@ -2,7 +2,10 @@
 #![tactic(auto)]
 
 mod apart;
+mod base;
 mod fixed;
+mod hand;
+mod lease;
 mod part;
 mod rest;
 mod slot;
@@ -11,6 +14,7 @@ mod version;
 mod view;
 
 pub use apart::{Apart, join, split};
+pub use base::Base;
 pub use chain_walk::Verdict;
 pub use fixed::Fixed;
 pub use part::{Part, copy};
