@@ -10,3 +10,4 @@ pub mod Firsts
 pub mod Modal
 pub mod Originals
 pub mod Dealt
+pub mod Stepping

@@ -3,7 +3,7 @@ use Rattle.std.specs.Prelude.{ℕ, List, Option, Some, None, if◌then◌else◌
 use Rattle.packet_fields.specs.declared.field.Field.{Field}
 use Rattle.action_profile.specs.Modes.{has_touch, has_write, only_reads}
 use Rattle.action_profile.specs.declared.parts.Touch.{Touch}
-use Rattle.packet_version.specs.Parts.{PlainPart, unwritten}
+use Rattle.packet_version.specs.Parts.{PlainPart, as_list, unwritten}
 use Rattle.packet_version.specs.Versions.{PlainVersion, with_part}
 use Rattle.packet_version.specs.declared.base.Kept.{Kept}
 use Rattle.packet_version.specs.declared.base.Kept.TheVariants.{Absent, Own, Lent}
@@ -39,3 +39,7 @@ abbrev pub kept_in : Kept → Option PlainPart
 kept_in Absent = None
 kept_in (Own part) = Some part
 kept_in (Lent part) = Some part
+
+-- a version that has no field
+abbrev pub without_fields : PlainVersion → PlainVersion
+without_fields version = record version { parts = as_list (λ f. None) }

@@ -12,9 +12,9 @@ use std::marker::Model;
 /// values.
 #[derive(Drop)]
 pub struct Apart {
-    parts: Vec<Option<Part>>,
-    rest: Rest,
-    fixed: Fixed,
+    pub(crate) parts: Vec<Option<Part>>,
+    pub(crate) rest: Rest,
+    pub(crate) fixed: Fixed,
 }
 
 impl Model for Apart {

@@ -3,6 +3,7 @@
 
 mod apart;
 mod base;
+mod dealing;
 mod fixed;
 mod hand;
 mod lease;
@@ -16,6 +17,7 @@ mod view;
 pub use apart::{Apart, join, split};
 pub use base::Base;
 pub use chain_walk::Verdict;
+pub use dealing::deal;
 pub use fixed::Fixed;
 pub use part::{Part, copy};
 pub use tally::Tally;
