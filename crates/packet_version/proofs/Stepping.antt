@@ -1,7 +1,7 @@
 -- The parts of a packet are dealt field by field.
 use Rattle.std.proofs.Common.{◌≡◌, ◌≢◌, ◌∙◌, ◌<◌, ◌≤◌, ◌+◌, ℕ, zero, suc, Bool, true, false, List, [], ◌∷◌, ◌++◌, map, take, sym, ap, refl, subst, get_or, length, set, arith}
 use mathlib.Core.Path.{fun_ext}
-use Rattle.std.specs.Prelude.{if◌then◌else◌, Option, Some, None, option_map, ◌==◌, nat_lt, OnErr}
+use Rattle.std.specs.Prelude.{if◌then◌else◌, Option, Some, None, option_map, ◌==◌, nat_lt, IfSome}
 use Rattle.std.proofs.lemmas.Bool.Decides.{Decides-eqb, nat_tests}
 use Rattle.std.proofs.lemmas.List.{get_or-set_other, get_or_read_under, map-append}
 use Rattle.packet_fields.specs.Fields.{number_of}
@@ -13,7 +13,11 @@ use Rattle.action_profile.specs.declared.parts.Mode.{Mode}
 use Rattle.action_profile.specs.declared.parts.Touch.{Touch}
 use Rattle.packet_version.specs.Parts.{PlainPart, Parts, as_map, as_list, changed, is_field, unwritten}
 use Rattle.packet_version.specs.Tallies.{count_of, raised, RaisesBy, RaisesAtMost}
-use Rattle.packet_version.specs.Versions.{PlainVersion, with_part}
+use Rattle.packet_version.specs.Versions.{PlainVersion, with_part, nothing}
+use Rattle.packet_fields.specs.Writing.{Fits}
+use Rattle.packet_version.specs.Slots.{AreTags}
+use Rattle.packet_version.specs.Splitting.{IsWhole}
+use Rattle.packet_version.specs.declared.fixed.Fixed.{Fixed}
 use Rattle.packet_version.specs.Dealing.{dealt_parts, dealt_version, kept_part, kept_parts}
 use Rattle.packet_version.specs.Handing.{touches_in, dealt_some, dealt_to, without_fields, kept_in}
 use Rattle.packet_version.specs.declared.base.Kept.{Kept}
@@ -119,9 +123,9 @@ before_all none values Payload = refl
 abbrev pub first_dealt : ℕ → Parts → PlainVersion → PlainVersion
 first_dealt i parts v = record v { parts = as_list (before None i (dealt_parts v.touch parts)) }
 
-none_both : (b : Bool) (none : Option PlainPart) → (if b then none else none) ≡ none
-none_both true none = refl
-none_both false none = refl
+none_both : (b : Bool) (o : Option PlainPart) → (if b then o else o) ≡ o
+none_both true o = refl
+none_both false o = refl
 
 dealt_none : (touch : Touch) (parts : Parts) (f : Field) → parts f ≡ None → dealt_parts touch parts f ≡ None
 dealt_none touch parts f none = ap (λ (o : Option PlainPart). if has_touch f touch then option_map unwritten o else None) none ∙ none_both (has_touch f touch) None
@@ -296,3 +300,33 @@ kept_next ts parts fields i before after one mode part below made is mode_is own
 -- and of all
 pub kept_over : (ts : List Touch) (parts : Parts) (fields : List Field) (i : ℕ) (kept : List Kept) → fields ≡ all_fields → length fields ≤ i → map kept_in kept ≡ map (kept_parts ts parts) (take i fields) → map kept_in kept ≡ as_list (kept_parts ts parts)
 kept_over ts parts fields i kept is past was = mapped_over (kept_parts ts parts) fields i (map kept_in kept) is past was
+
+-- versions that have no field
+pub touches_begin : (ts : List Touch) (fixed : Fixed) (vs : List PlainVersion) → vs ≡ map (λ t. nothing t fixed) ts → touches_in vs ≡ ts
+touches_begin ts fixed vs is = ap touches_in is ∙ same ts
+  where
+    same : (us : List Touch) → touches_in (map (λ t. nothing t fixed) us) ≡ us
+    same [] = refl
+    same (u ∷ us) = ap (λ (xs : List Touch). u ∷ xs) (same us)
+
+pub empty_begin : (ts : List Touch) (fixed : Fixed) (vs : List PlainVersion) → vs ≡ map (λ t. nothing t fixed) ts → vs ≡ map without_fields vs
+empty_begin ts fixed vs is = is ∙ (sym (same ts) ∙ ap (λ (xs : List PlainVersion). map without_fields xs) (sym is))
+  where
+    same : (us : List Touch) → map without_fields (map (λ t. nothing t fixed) us) ≡ map (λ t. nothing t fixed) us
+    same [] = refl
+    same (u ∷ us) = ap (λ (xs : List PlainVersion). nothing u fixed ∷ xs) (same us)
+
+pub dealt_begin : (ts : List Touch) (parts : Parts) (fixed : Fixed) (vs : List PlainVersion) → vs ≡ map (λ t. nothing t fixed) ts → map (λ v. dealt_version parts v.fixed v.touch) vs ≡ map (dealt_version parts fixed) ts
+dealt_begin ts parts fixed vs is = ap (λ (xs : List PlainVersion). map (λ v. dealt_version parts v.fixed v.touch) xs) is ∙ same ts
+  where
+    same : (us : List Touch) → map (λ v. dealt_version parts v.fixed v.touch) (map (λ t. nothing t fixed) us) ≡ map (dealt_version parts fixed) us
+    same [] = refl
+    same (u ∷ us) = ap (λ (xs : List PlainVersion). dealt_version parts fixed u ∷ xs) (same us)
+
+-- the tags of a packet are whole
+pub tags_whole : (parts : Parts) (frame : List ℕ) → IsWhole parts frame → AreTags (parts Tag)
+tags_whole parts frame w = by_part (parts Tag) (w.fits Tag)
+  where
+    by_part : (o : Option PlainPart) → IfSome (option_map (λ p. p.bytes) o) (λ new. Fits Tag new frame) → AreTags o
+    by_part None fits = tt
+    by_part (Some p) fits = fits.1

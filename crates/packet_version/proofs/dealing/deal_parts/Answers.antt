@@ -28,7 +28,7 @@ returns-in_err-left-clause-refused c =
     let at : number_of field ≡ c.loop-field.field-index = number_at c.all_fields-fields.result.now c.loop-field.field-index c.loop-field.invariant.fields c.loop-field-test.true in
     let own : c.replace-part.result ≡ parts field = c.replace-part.ensures.value ∙ held_part c.loop-field.field-index c.number-number.result field c.args.held.items c.loop-field.held.items c.index_mut.result.now c.index_mut.ensures.value c.number-number.ensures.number (c.number-number.ensures.number ∙ at) c.number-number.ensures.below c.loop-field.invariant.ten c.loop-field.invariant.held in
     let all : copies_due (touches_in c.loop-field.versions) field c.replace-part.result ≡ copies_due ts field (parts field) =
-        ap (λ (us : List Touch). copies_due us field c.replace-part.result) (touches_stay c.loop-field.field-index parts c.args.versions.now c.loop-field.versions c.loop-field.invariant.dealt) ∙ ap (λ (o : Option PlainPart). copies_due ts field o) own in
+    ap (λ (us : List Touch). copies_due us field c.replace-part.result) (touches_stay c.loop-field.field-index parts c.args.versions.now c.loop-field.versions c.loop-field.invariant.dealt) ∙ ap (λ (o : Option PlainPart). copies_due ts field o) own in
     on_err c.from_residual-in_err-left.result _ (counted_refused (λ g. copies_due ts g (parts g)) field c.loop-field.field-index (copies_due (touches_in c.loop-field.versions) field c.replace-part.result) c.args.tally.now c.loop-field.tally c.deal_field.new.tally at all c.loop-field.invariant.counted c.in_err-left.ensures.refused)
 
 pub returns-in_err-push-clause-refused : goal.returns-in_err-push-clause-refused
@@ -39,7 +39,7 @@ returns-in_err-push-clause-refused c =
     let at : number_of field ≡ c.loop-field.field-index = number_at c.all_fields-fields.result.now c.loop-field.field-index c.loop-field.invariant.fields c.loop-field-test.true in
     let own : c.replace-part.result ≡ parts field = c.replace-part.ensures.value ∙ held_part c.loop-field.field-index c.number-number.result field c.args.held.items c.loop-field.held.items c.index_mut.result.now c.index_mut.ensures.value c.number-number.ensures.number (c.number-number.ensures.number ∙ at) c.number-number.ensures.below c.loop-field.invariant.ten c.loop-field.invariant.held in
     let all : copies_due (touches_in c.loop-field.versions) field c.replace-part.result ≡ copies_due ts field (parts field) =
-        ap (λ (us : List Touch). copies_due us field c.replace-part.result) (touches_stay c.loop-field.field-index parts c.args.versions.now c.loop-field.versions c.loop-field.invariant.dealt) ∙ ap (λ (o : Option PlainPart). copies_due ts field o) own in
+    ap (λ (us : List Touch). copies_due us field c.replace-part.result) (touches_stay c.loop-field.field-index parts c.args.versions.now c.loop-field.versions c.loop-field.invariant.dealt) ∙ ap (λ (o : Option PlainPart). copies_due ts field o) own in
     on_err c.from_residual-in_err-push.result _ (counted_within (λ g. copies_due ts g (parts g)) (c.loop-field.field-index + 1) c.args.tally.now c.deal_field.new.tally
     (counted_next (λ g. copies_due ts g (parts g)) field c.loop-field.field-index (copies_due (touches_in c.loop-field.versions) field c.replace-part.result) c.args.tally.now c.loop-field.tally c.deal_field.new.tally at all c.loop-field.invariant.counted c.in_ok-left.ensures.counted))
 
@@ -51,7 +51,7 @@ loop-field-preserved c =
     let at : number_of field ≡ c.loop-field.field-index = number_at c.all_fields-fields.result.now c.loop-field.field-index c.loop-field.invariant.fields c.loop-field-test.true in
     let own : c.replace-part.result ≡ parts field = c.replace-part.ensures.value ∙ held_part c.loop-field.field-index c.number-number.result field c.args.held.items c.loop-field.held.items c.index_mut.result.now c.index_mut.ensures.value c.number-number.ensures.number (c.number-number.ensures.number ∙ at) c.number-number.ensures.below c.loop-field.invariant.ten c.loop-field.invariant.held in
     let all : copies_due (touches_in c.loop-field.versions) field c.replace-part.result ≡ copies_due ts field (parts field) =
-        ap (λ (us : List Touch). copies_due us field c.replace-part.result) (touches_stay c.loop-field.field-index parts c.args.versions.now c.loop-field.versions c.loop-field.invariant.dealt) ∙ ap (λ (o : Option PlainPart). copies_due ts field o) own in
+    ap (λ (us : List Touch). copies_due us field c.replace-part.result) (touches_stay c.loop-field.field-index parts c.args.versions.now c.loop-field.versions c.loop-field.invariant.dealt) ∙ ap (λ (o : Option PlainPart). copies_due ts field o) own in
     let mode = mode_read ts c.args.modes.now field c.number-number.result Shared c.requires.modes c.number-number.ensures.number in
     record {
       fields = c.loop-field.invariant.fields;
