@@ -11,3 +11,5 @@ pub mod Modal
 pub mod Originals
 pub mod Dealt
 pub mod Stepping
+pub mod Resting
+pub mod Placing

@@ -32,7 +32,7 @@ impl Model for Apart {
 
 ghost use Rattle.std.specs.Prelude.{◌≡◌, ◌*◌, ◌+◌, ◌^◌, ◌<◌, IfOk, map};
 ghost use Rattle.packet_fields.specs.Writing.{rest_of, all_fields as every_field};
-ghost use Rattle.packet_version.specs.Splitting.{parts_of, split_parts as split_parts_of, fixed_of, joined, spare_room as spare_room_of};
+ghost use Rattle.packet_version.specs.Splitting.{parts_of, split_parts as split_parts_of, fixed_of, joined, spare_room as spare_room_of, IsWhole};
 
 /// Takes a frame of any bytes apart. The parts are written by nobody, and the list of tags has room for
 /// `taggers` tags more. `time` is when the packet was captured, in nanoseconds.
@@ -40,6 +40,9 @@ pub fn split(alloc: Global, frame: &[u8], time: u64, taggers: u32) -> Result<Apa
     ensures parts { IfOk result (λ whole. parts_of whole ≡ split_parts_of taggers frame.now) }
     ensures rest { IfOk result (λ whole. whole.rest ≡ rest_of frame.now) }
     ensures fixed { IfOk result (λ whole. whole.fixed ≡ fixed_of time frame.now) }
+
+    // There is a part for each field of the frame, and it has the field's length.
+    ensures fits { IfOk result (λ whole. IsWhole (parts_of whole) whole.rest) }
 
     // Put together again it is the same frame.
     ensures whole { IfOk result (λ whole. joined whole ≡ frame.now) }

@@ -5,7 +5,7 @@ ghost use Rattle.packet_fields.specs.declared.field.Field.{Field};
 ghost use Rattle.action_profile.specs.Modes.{modes_of};
 ghost use Rattle.packet_version.specs.Parts.{as_map, as_list};
 ghost use Rattle.packet_version.specs.Slots.{AreTags};
-ghost use Rattle.packet_version.specs.Splitting.{parts_of};
+ghost use Rattle.packet_version.specs.Splitting.{parts_of, IsWhole};
 ghost use Rattle.packet_version.specs.Versions.{nothing};
 ghost use Rattle.packet_version.specs.Dealing.{dealt, dealt_version, based, kept_parts, RaisesByDue, RaisesWithinDue};
 ghost use Rattle.packet_version.specs.Handing.{touches_in, kept_in, without_fields};
@@ -41,15 +41,24 @@ pub fn deal(
     ensures base { IfOk result (λ d. d.0 ≡ based parts.now.touches whole) }
     ensures counted { OnOk result (RaisesByDue parts.now.touches (parts_of whole) tally.old tally.new) }
     ensures refused { OnErr result (RaisesWithinDue parts.now.touches (parts_of whole) tally.old tally.new) }
+
+    // The packet's parts are those of its frame, in number and length.
+    ensures fits { IsWhole (parts_of whole) whole.rest }
 {
     let Apart {
-        parts: held,
+        parts: mut held,
         rest,
         fixed,
     } = whole;
     let mut versions = empty_versions(alloc, parts.touches.as_slice(), fixed)?;
-    let kept = deal_parts(alloc, held, &parts.modes, &mut versions, tally)?;
-    Ok((Base { kept, rest, fixed }, versions))
+    let kept = deal_parts(alloc, &mut held, &parts.modes, &mut versions, tally)?;
+    let base = Base {
+        kept,
+        places: held,
+        rest,
+        fixed,
+    };
+    Ok((base, versions))
 }
 
 /// Versions without any field.
@@ -70,20 +79,21 @@ fn empty_versions(
 /// Hands each part to the versions, which have no field yet, and gives what is kept of each.
 fn deal_parts(
     alloc: Global,
-    mut held: Vec<Option<Part>>,
+    held: &mut Vec<Option<Part>>,
     modes: &[Mode; 10],
     versions: &mut [Version],
     tally: &mut Tally,
 ) -> Result<Vec<Kept>, AllocError>
-    requires ten { length held.items ≡ 10 }
+    requires ten { length held.old.items ≡ 10 }
     requires few { length versions.old ≤ 64 }
     requires modes { modes.now ≡ modes_of (touches_in versions.old) }
-    requires tags { AreTags (as_map held.items Field.Tag) }
+    requires tags { AreTags (as_map held.old.items Field.Tag) }
     requires empty { versions.old ≡ map without_fields versions.old }
-    ensures dealt { OnOk result (versions.new ≡ map (λ v. dealt_version (as_map held.items) v.fixed v.touch) versions.old) }
-    ensures kept { IfOk result (λ kept. map kept_in kept.items ≡ as_list (kept_parts (touches_in versions.old) (as_map held.items))) }
-    ensures counted { OnOk result (RaisesByDue (touches_in versions.old) (as_map held.items) tally.old tally.new) }
-    ensures refused { OnErr result (RaisesWithinDue (touches_in versions.old) (as_map held.items) tally.old tally.new) }
+    ensures ten { OnOk result (length held.new.items ≡ 10) }
+    ensures dealt { OnOk result (versions.new ≡ map (λ v. dealt_version (as_map held.old.items) v.fixed v.touch) versions.old) }
+    ensures kept { IfOk result (λ kept. map kept_in kept.items ≡ as_list (kept_parts (touches_in versions.old) (as_map held.old.items))) }
+    ensures counted { OnOk result (RaisesByDue (touches_in versions.old) (as_map held.old.items) tally.old tally.new) }
+    ensures refused { OnErr result (RaisesWithinDue (touches_in versions.old) (as_map held.old.items) tally.old tally.new) }
 {
     let fields = all_fields();
     let mut kept = Vec::with_capacity(alloc, fields.len())?;

@@ -5,11 +5,12 @@ use Rattle.packet_fields.specs.Writing.{rest_of}
 use Rattle.action_profile.specs.Modes.{modes_of}
 use Rattle.action_profile.specs.declared.parts.Touch.{Touch}
 use Rattle.packet_version.specs.Parts.{PlainPart, as_map, as_list}
-use Rattle.packet_version.specs.Splitting.{PlainApart, parts_of}
+use Rattle.packet_version.specs.Splitting.{PlainApart, IsWhole, parts_of}
 use Rattle.packet_version.specs.Versions.{PlainVersion, nothing}
 use Rattle.packet_version.specs.Dealing.{dealt, dealt_version, based, kept_parts, RaisesByDue, RaisesWithinDue}
 use Rattle.packet_version.specs.Handing.{touches_in, kept_in}
 use Rattle.packet_version.proofs.Handing.{on_err}
+use Rattle.packet_version.proofs.Resting.{whole_to}
 use Rattle.packet_version.proofs.Stepping.{touches_begin, empty_begin, dealt_begin, tags_whole}
 use Rattle.packet_version.proofs.dealing.deal.Goals as goal
 
@@ -34,8 +35,8 @@ returns-in_err-kept-clause-refused c =
     (subst (λ (w : PlainApart). RaisesWithinDue c.args.parts.now.touches (parts_of w) c.args.tally.now c.deal_parts.new.tally) c.whole.view_is
     (subst (λ (us : List Touch). RaisesWithinDue us (as_map c.whole.inside.parts.items) c.args.tally.now c.deal_parts.new.tally) ts c.in_err-kept.ensures.refused))
 
-pub invariant_of-result : goal.invariant_of-result
-invariant_of-result c = sym (length-map c.in_ok-kept.kept.items kept_in) ∙ ap (λ (ps : List (Option PlainPart)). length ps) c.in_ok-kept.ensures.kept
+pub invariant_of-base : goal.invariant_of-base
+invariant_of-base c = (sym (length-map c.in_ok-kept.kept.items kept_in) ∙ ap (λ (ps : List (Option PlainPart)). length ps) c.in_ok-kept.ensures.kept, c.in_ok-kept.ensures.ten)
 
 pub returns-clause-versions : goal.returns-clause-versions
 returns-clause-versions c =
@@ -59,3 +60,12 @@ returns-clause-counted c =
     let ts = touches_begin c.args.parts.now.touches c.whole.inside.fixed c.deref_mut.result.now made in
     subst (λ (w : PlainApart). RaisesByDue c.args.parts.now.touches (parts_of w) c.args.tally.now c.deal_parts.new.tally) c.whole.view_is
     (subst (λ (us : List Touch). RaisesByDue us (as_map c.whole.inside.parts.items) c.args.tally.now c.deal_parts.new.tally) ts c.in_ok-kept.ensures.counted)
+
+pub returns-in_err-versions-clause-fits : goal.returns-in_err-versions-clause-fits
+returns-in_err-versions-clause-fits c = subst (λ (w : PlainApart). IsWhole (parts_of w) w.rest) c.whole.view_is (whole_to (as_map c.whole.inside.parts.items) c.whole.inside.rest c.whole.invariant.1)
+
+pub returns-in_err-kept-clause-fits : goal.returns-in_err-kept-clause-fits
+returns-in_err-kept-clause-fits c = subst (λ (w : PlainApart). IsWhole (parts_of w) w.rest) c.whole.view_is (whole_to (as_map c.whole.inside.parts.items) c.whole.inside.rest c.whole.invariant.1)
+
+pub returns-clause-fits : goal.returns-clause-fits
+returns-clause-fits c = subst (λ (w : PlainApart). IsWhole (parts_of w) w.rest) c.whole.view_is (whole_to (as_map c.whole.inside.parts.items) c.whole.inside.rest c.whole.invariant.1)
