@@ -13,3 +13,5 @@ pub mod Dealt
 pub mod Stepping
 pub mod Resting
 pub mod Placing
+pub mod Rows
+pub mod Lawful

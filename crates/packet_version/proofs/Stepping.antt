@@ -44,7 +44,7 @@ number_at fields i is below =
     ap (λ (fs : List Field). number_of (get_or fs i LinkDst)) is ∙ number_in i (omega arith)
 
 -- a field is known by its number
-same_field : (f g : Field) → number_of f ≡ number_of g → f ≡ g
+pub same_field : (f g : Field) → number_of f ≡ number_of g → f ≡ g
 same_field f g same = sym (listed_at (λ h. h) LinkDst f) ∙ (ap (λ (n : ℕ). get_or (map (λ h. h) all_fields) n LinkDst) same ∙ listed_at (λ h. h) LinkDst g)
 
 -- the values of the fields before an index, and nothing for the others

@@ -1,10 +1,10 @@
 -- What a function sees of its branch's version, and how it writes there.
-use Rattle.std.specs.Prelude.{◌≡◌, ℕ, ◌≤◌, ◌+◌, List, ◌++◌, length, drop, Option, true, option_map, IsSomeAnd, All}
+use Rattle.std.specs.Prelude.{◌≡◌, ◌≢◌, ℕ, ◌≤◌, ◌+◌, List, ◌++◌, length, drop, Option, true, option_map, IsSomeAnd, All}
 use Rattle.packet_fields.specs.declared.field.Field.{Field}
 use Rattle.packet_fields.specs.declared.field.Field.TheVariants.{Tag}
 use Rattle.action_profile.specs.declared.parts.Touch.{Touch}
 use Rattle.action_profile.specs.declared.rights.Profile.{Profile}
-use Rattle.packet_version.specs.Parts.{Parts, values_of, rewritten}
+use Rattle.packet_version.specs.Parts.{PlainPart, Parts, values_of, rewritten, changed}
 use Rattle.packet_version.specs.Slots.{is_shown, AreSlots}
 use Rattle.packet_version.specs.Versions.{PlainVersion, parts_of, with_part, HoldsNamed}
 use Rattle.packet_version.specs.declared.slot.Slot.{Slot}
@@ -49,3 +49,14 @@ pub record IsView (profile : Profile) (touch : Touch) (slots : List Slot) : Type
   pub slots_are : AreSlots touch slots
   pub holds : HoldsNamed profile touch
   pub shown : All (λ s. is_shown s ≡ true) slots
+
+-- One field of a view became this part. Every other field is as it was, and so is all else: what the branch touches, the
+-- fixed values, the profile and the position.
+pub record WroteAlone (f : Field) (part : Option PlainPart) (before after : PlainView) : Type 0 where
+  pub whole : seen_parts after ≡ changed f part (seen_parts before)
+  pub own : seen_parts after f ≡ part
+  pub others : (g : Field) → f ≢ g → seen_parts after g ≡ seen_parts before g
+  pub touch : after.version.touch ≡ before.version.touch
+  pub fixed : after.version.fixed ≡ before.version.fixed
+  pub profile : after.profile ≡ before.profile
+  pub position : after.position ≡ before.position

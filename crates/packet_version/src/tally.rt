@@ -1,5 +1,6 @@
 //! How many copies were made of the parts of packets.
 
+use action_profile::all_fields;
 use packet_fields::Field;
 use std::marker::Model;
 
@@ -20,7 +21,7 @@ impl Model for Tally {
 impl Tally {
     ghost use Rattle.std.specs.Prelude.{◌≡◌};
     ghost use Rattle.packet_fields.specs.declared.field.Field.{Field};
-    ghost use Rattle.packet_version.specs.Tallies.{count_of, RaisesBy};
+    ghost use Rattle.packet_version.specs.Tallies.{count_of, raised, RaisesBy};
 
     /// No copies.
     pub fn new() -> Self
@@ -36,11 +37,27 @@ impl Tally {
         self.counts[field.number()]
     }
 
+    /// Adds the counts of another tally, field by field.
+    pub fn add(&mut self, other: &Tally)
+        ensures { (f : Field) → count_of self.new f ≡ raised (count_of self.old f) (count_of other.now f) }
+    {
+        let fields = all_fields();
+        for field in fields {
+            self.raise(*field, other.of(*field));
+        }
+    }
+
     /// Counts one copy of this field's part.
     pub(crate) fn count(&mut self, field: Field)
         ensures { RaisesBy 1 field self.old self.new }
     {
+        self.raise(field, 1);
+    }
+
+    fn raise(&mut self, field: Field, by: u64)
+        ensures { RaisesBy by field self.old self.new }
+    {
         let number = field.number();
-        self.counts[number] = self.counts[number].saturating_add(1);
+        self.counts[number] = self.counts[number].saturating_add(by);
     }
 }
