@@ -5,6 +5,7 @@ use crate::{Fixed, Tally, copy, join, split};
 use action_profile::{FieldSet, Kind, Touch, profile};
 use packet_fields::Field;
 use std::test::Fail;
+use std::thread;
 
 const FIXED: Fixed = Fixed {
     time: 7,
@@ -37,5 +38,44 @@ fn counts_the_copies_of_a_part(rt: HostRuntime) -> Result<(), Fail> {
     sum.add(&tally);
     sum.add(&tally);
     assert!(rt; sum.of(Field::DstIp) == 2 && sum.of(Field::SrcIp) == 0);
+    Ok(())
+}
+
+/// Reads the source and the destination's former value, and writes the destination.
+const BALANCES: Touch = Touch {
+    reads: FieldSet::ENDPOINTS,
+    writes: FieldSet::DST_IP,
+};
+
+#[test]
+fn reads_a_lent_part_and_writes_its_own(rt: HostRuntime) -> Result<(), Fail> {
+    let source = Part::new(rt.alloc(), b"\x0a\0\0\x01", 0)?;
+    let mut lease = Lease::new(rt.alloc(), source, 1)?;
+    let mut version = Version::empty(rt.alloc(), BALANCES, FIXED)?;
+    version.lend(Field::SrcIp, lease.next());
+    version.give(Field::DstIp, Part::new(rt.alloc(), b"\x0a\0\0\x02", 0)?);
+
+    let mut view = version.view(&rt, &profile(Kind::Balancer), 3);
+    assert!(rt; view.get(Field::SrcIp) == Some(b"\x0a\0\0\x01".as_slice()));
+    assert!(rt; !view.has(Field::SrcPort) && view.time() == 7);
+    view.set(Field::DstIp, b"\x0a\x09\0\x01");
+    assert!(rt; view.get(Field::DstIp) == Some(b"\x0a\x09\0\x01".as_slice()));
+    view.edit(Field::DstIp)[3] = 2;
+
+    let mut version = view.end();
+    assert!(rt; version.writer(Field::DstIp) == 3 && version.writer(Field::SrcIp) == 0);
+    let written = version.take(Field::DstIp);
+    assert!(rt; written.is_some_and(|part| part.bytes() == b"\x0a\x09\0\x02".as_slice()));
+    assert!(rt; lease.into_owner().take(&rt).bytes() == b"\x0a\0\0\x01".as_slice());
+    Ok(())
+}
+
+#[test]
+fn goes_to_other_threads(rt: HostRuntime) -> Result<(), Fail> {
+    let version = Version::empty(rt.alloc(), BALANCES, FIXED)?;
+    let whole = split(rt.alloc(), PACKET, 7, 0)?;
+    let (writer, back) = thread::join(&rt, move || version.writer(Field::DstIp), move || whole);
+    assert_eq!(rt; writer, 0);
+    assert!(rt; join(rt.alloc(), back)?.bytes() == PACKET);
     Ok(())
 }
