@@ -7,7 +7,7 @@ use Rattle.packet_fields.specs.declared.field.Field.{Field}
 use Rattle.packet_fields.specs.declared.field.Field.TheVariants.{LinkDst, LinkSrc, Tag, Tos, Ttl, SrcIp, DstIp, SrcPort, DstPort, Payload}
 use Rattle.action_profile.specs.FieldSets.{fields}
 use Rattle.action_profile.specs.Profiles.{profile_of, endpoints, writes_of}
-use Rattle.action_profile.specs.Modes.{mode_of, has_touch, has_write}
+use Rattle.action_profile.specs.Modes.{mode_of, modes_of, has_touch, has_write}
 use Rattle.action_profile.specs.declared.kind.Kind.TheVariants.{Balancer}
 use Rattle.action_profile.specs.declared.parts.Mode.TheVariants.{Shared, Moved, Copied}
 use Rattle.action_profile.specs.declared.parts.Touch.{Touch}
@@ -130,3 +130,11 @@ balancer_holds = record { touched = touched; written = written }
     written SrcPort writes = writes
     written DstPort writes = writes
     written Payload writes = writes
+
+-- a monitor beside a balancer: the modes of all fields
+abbrev pub beside : List Touch
+beside = record { reads = record { 0 = 0x1e0 }; writes = record { 0 = 0 } } ∷ record { reads = record { 0 = 0x1e0 }; writes = record { 0 = 64 } } ∷ []
+
+pub beside_modes : modes_of beside ≡ Shared ∷ Shared ∷ Shared ∷ Shared ∷ Shared ∷ Shared ∷ Copied None ∷ Shared ∷ Shared ∷ Shared ∷ []
+unfolding mode_of
+beside_modes = refl

@@ -1,9 +1,14 @@
+ghost use Rattle.std.specs.Prelude.{◌≡◌, length, IfOk};
+ghost use Rattle.action_profile.specs.Modes.{modes_of};
+
 use crate::lease::Lease;
 use crate::part::Part;
 use crate::version::Version;
-use crate::{Fixed, Tally, copy, join, split};
-use action_profile::{FieldSet, Kind, Touch, profile};
+use crate::{Fixed, Tally, copy, deal, join, split};
+use action_profile::{FieldSet, Kind, Mode, StageParts, Touch, all_fields, profile};
+use item_list::Items;
 use packet_fields::Field;
+use std::alloc::{AllocError, Global};
 use std::test::Fail;
 use std::thread;
 
@@ -77,5 +82,49 @@ fn goes_to_other_threads(rt: HostRuntime) -> Result<(), Fail> {
     let (writer, back) = thread::join(&rt, move || version.writer(Field::DstIp), move || whole);
     assert_eq!(rt; writer, 0);
     assert!(rt; join(rt.alloc(), back)?.bytes() == PACKET);
+    Ok(())
+}
+
+/// Reads both addresses and both ports.
+const WATCHES: Touch = Touch {
+    reads: FieldSet::ENDPOINTS,
+    writes: FieldSet::NONE,
+};
+
+/// A monitor beside a balancer: each writes no field that the other reads but the destination address.
+fn stage(alloc: Global) -> Result<StageParts, AllocError>
+    ensures modes { IfOk result (λ parts. parts.modes ≡ modes_of parts.touches) }
+    ensures count { IfOk result (λ parts. length parts.touches ≡ 2) }
+{
+    let touches = Vec::from_array(alloc, [WATCHES, BALANCES])?;
+    Ok(StageParts {
+        modes: [
+            Mode::Shared,
+            Mode::Shared,
+            Mode::Shared,
+            Mode::Shared,
+            Mode::Shared,
+            Mode::Shared,
+            Mode::Copied { original: None },
+            Mode::Shared,
+            Mode::Shared,
+            Mode::Shared,
+        ],
+        touches: Items::new(touches),
+    })
+}
+
+#[test]
+fn copies_the_destination_alone(rt: HostRuntime) -> Result<(), Fail> {
+    let mut tally = Tally::new();
+    let parts = stage(rt.alloc())?;
+    let whole = split(rt.alloc(), PACKET, 7, 0)?;
+    let (base, versions) = deal(rt.alloc(), whole, &parts, &mut tally)?;
+    for field in all_fields() {
+        assert!(rt; tally.of(*field) == u64::from(*field == Field::DstIp));
+    }
+    assert!(rt; versions.len() == 2);
+    let gathered = base.gather(&rt);
+    assert!(rt; gathered.has(Field::DstIp) && gathered.has(Field::Payload));
     Ok(())
 }
