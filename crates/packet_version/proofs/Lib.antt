@@ -15,3 +15,4 @@ pub mod Resting
 pub mod Placing
 pub mod Rows
 pub mod Lawful
+pub mod Shaping

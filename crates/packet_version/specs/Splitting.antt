@@ -1,10 +1,11 @@
 -- A frame that comes apart into its fields and its rest, and goes together again.
-use Rattle.std.specs.Prelude.{◌≡◌, ℕ, ◌+◌, ◌*◌, List, length, Option, option_map, is_some, if◌then◌else◌}
-use Rattle.packet_fields.specs.Frames.{packet}
+use Rattle.std.specs.Prelude.{◌≡◌, ◌≢◌, ℕ, ◌+◌, ◌*◌, List, length, true, Option, IfSome, option_map, is_some, if◌then◌else◌}
+use Rattle.packet_fields.specs.Frames.{packet, is_tag_list}
 use Rattle.packet_fields.specs.Packets.{total_len, protocol, control_bits}
 use Rattle.packet_fields.specs.Fields.{value, ether_type}
 use Rattle.packet_fields.specs.Writing.{written, AllFit}
 use Rattle.packet_fields.specs.declared.field.Field.{Field}
+use Rattle.packet_fields.specs.declared.field.Field.TheVariants.{Tag}
 use Rattle.action_profile.specs.Profiles.{is_tag}
 use Rattle.packet_version.specs.Parts.{PlainPart, Parts, as_map, values_of}
 use Rattle.packet_version.specs.declared.fixed.Fixed.{Fixed}
@@ -49,3 +50,9 @@ joined whole = written (values_of (parts_of whole)) whole.rest
 pub record IsWhole (parts : Parts) (frame : List ℕ) : Type 0 where
   pub there : (f : Field) → is_some (parts f) ≡ is_some (value f frame)
   pub fits : AllFit (values_of parts) frame
+
+-- Parts of the same fields as others, of the same lengths but for the tags, which are whole: so they fit the same rest.
+pub record IsShapedAs (old new : Parts) : Type 0 where
+  pub there : (f : Field) → is_some (new f) ≡ is_some (old f)
+  pub lengths : (f : Field) → f ≢ Tag → option_map (λ p. length p.bytes) (new f) ≡ option_map (λ p. length p.bytes) (old f)
+  pub tags : IfSome (new Tag) (λ p. is_tag_list p.bytes ≡ true)

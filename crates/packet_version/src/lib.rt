@@ -48,7 +48,7 @@ pub use chain_walk::Verdict;
 pub use dealing::deal;
 pub use fixed::Fixed;
 pub use gathered::Gathered;
-pub use laws::{left_is_read, written_is_read};
+pub use laws::{dealt_is_read, left_is_read, shape_fits, write_apart, written_is_read};
 pub use part::{Part, copy};
 pub use tally::Tally;
 pub use version::Version;
