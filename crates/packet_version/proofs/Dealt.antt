@@ -1,5 +1,5 @@
 -- A part that is dealt by the mode of its field.
-use Rattle.std.proofs.Common.{◌≡◌, ◌∙◌, ◌<◌, ◌≤◌, ◌-◌, ℕ, Bool, true, false, List, [], ◌∷◌, map, sym, ap, refl, subst, arith}
+use Rattle.std.proofs.Common.{◌≡◌, ◌∙◌, ◌-◌, ℕ, Bool, true, false, List, [], ◌∷◌, map, sym, ap, refl, arith}
 use Rattle.std.specs.Prelude.{if◌then◌else◌, count_by, position, Option, Some, None, OnOk, Result, Ok, Err, ◌||◌}
 use Rattle.std.specs.List.{list_any}
 use Rattle.packet_fields.specs.declared.field.Field.{Field}
@@ -7,12 +7,11 @@ use Rattle.action_profile.specs.FieldSets.{has}
 use Rattle.action_profile.specs.Modes.{has_write, has_touch, only_reads, mode_of, copies_by_mode}
 use Rattle.action_profile.specs.declared.parts.Mode.{Mode}
 use Rattle.action_profile.specs.declared.parts.Mode.TheVariants.{Shared, Moved, Copied}
-use Rattle.action_profile.specs.declared.parts.Touch.{Touch}
 use Rattle.packet_version.specs.Parts.{PlainPart}
 use Rattle.packet_version.specs.Versions.{PlainVersion}
 use Rattle.packet_version.specs.Dealing.{copies_due}
 use Rattle.packet_version.specs.Handing.{touches_in, lent_to, dealt_to, dealt_some, writers_in}
-use Rattle.packet_version.proofs.Firsts.{NoneOf, count-map, count-weaker, any-none, none-map}
+use Rattle.packet_version.proofs.Firsts.{count-map, count-weaker, any-none, none-map}
 use Rattle.packet_version.proofs.Modal.{shared_unwritten, moved_given, copied_given, copied_lent}
 use Rattle.packet_version.proofs.Originals.{all_lent}
 

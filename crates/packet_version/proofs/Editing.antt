@@ -1,5 +1,5 @@
 -- A field whose bytes are lent to be written.
-use Rattle.std.proofs.Common.{◌≡◌, ◌≢◌, ◌∙◌, ◌<◌, ℕ, true, List, map, sym, ap, refl, subst, get_or, length, set}
+use Rattle.std.proofs.Common.{◌≡◌, ◌≢◌, ◌∙◌, ◌<◌, ℕ, true, List, sym, ap, refl, subst, get_or, set}
 use Rattle.std.specs.Prelude.{Option, Some, None, IsSome, IfSome, option_map, ◌==◌}
 use Rattle.packet_fields.specs.Fields.{number_of}
 use Rattle.packet_fields.specs.declared.field.Field.{Field}

@@ -1,6 +1,6 @@
 -- The first item that passes a test, and items that all fail it.
-use Rattle.std.proofs.Common.{◌≡◌, ◌∙◌, ◌<◌, ◌≤◌, ◌+◌, ◌-◌, ℕ, zero, suc, Bool, true, false, List, [], ◌∷◌, ◌++◌, map, take, drop, sym, ap, refl, subst, get_or, length, set, arith}
-use Rattle.std.specs.Prelude.{if◌then◌else◌, count_by, position, Option, Some, None, ◌||◌, nat_lt}
+use Rattle.std.proofs.Common.{◌≡◌, ◌∙◌, ◌<◌, ◌≤◌, ◌+◌, ℕ, zero, suc, Bool, true, false, List, [], ◌∷◌, map, drop, sym, ap, refl, get_or, length, arith}
+use Rattle.std.specs.Prelude.{if◌then◌else◌, count_by, position, Some, None, ◌||◌, nat_lt}
 use Rattle.std.specs.List.{list_any, position_or_len}
 use Rattle.std.proofs.lemmas.Bool.{false≢true}
 use Rattle.std.proofs.lemmas.List.Sums.{sum_by-cons, fails_before_first}

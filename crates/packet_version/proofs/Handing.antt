@@ -1,6 +1,6 @@
 -- Handing one part to the versions of a stage.
-use Rattle.std.proofs.Common.{◌≡◌, ◌∙◌, ◌<◌, ◌≤◌, ◌+◌, ◌-◌, ℕ, Bool, true, false, List, [], ◌∷◌, map, take, drop, sym, ap, refl, subst, get_or, length, arith}
-use Rattle.std.specs.Prelude.{if◌then◌else◌, count_by, OnErr, Result, Ok, Err}
+use Rattle.std.proofs.Common.{◌≡◌, ◌∙◌, ◌<◌, ◌+◌, ◌-◌, ℕ, Bool, true, false, List, take, drop, sym, ap, subst, get_or, length, arith}
+use Rattle.std.specs.Prelude.{if◌then◌else◌, OnErr, Result, Ok, Err}
 use Rattle.packet_fields.specs.declared.field.Field.{Field}
 use Rattle.action_profile.specs.Modes.{has_write, only_reads}
 use Rattle.packet_version.specs.Tallies.{RaisesBy, RaisesAtMost}

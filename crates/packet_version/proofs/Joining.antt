@@ -5,7 +5,7 @@ use Rattle.std.specs.Prelude.{Option, Some, None, IfSome, is_some, option_map}
 use Rattle.std.proofs.lemmas.Option.{same_Some}
 use Rattle.std.specs.Option.{option_or}
 use Rattle.packet_fields.specs.Fields.{value}
-use Rattle.packet_fields.specs.Writing.{put, put_some, Fits, written_in, written, all_fields, AllFit, fields_of, over, blank, rest_of}
+use Rattle.packet_fields.specs.Writing.{put, put_some, Fits, written_in, written, all_fields, AllFit, fields_of, blank, rest_of}
 use Rattle.packet_fields.specs.declared.field.Field.{Field}
 use Rattle.packet_fields.proofs.Walk.{all_fit_after, written-written, written-rest, blanks, blanks_fit, fields_fit}
 use Rattle.packet_version.specs.Parts.{PlainPart, Parts, as_map, values_of}

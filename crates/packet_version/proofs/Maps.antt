@@ -1,8 +1,8 @@
 -- Lists of ten parts, read as maps.
-use Rattle.std.proofs.Common.{◌≡◌, ◌∙◌, ◌<◌, ◌≤◌, ◌+◌, ℕ, List, [], ◌∷◌, ◌++◌, map, take, sym, ap, refl, subst, get_or, length, drop, drop-cons, add-one, arith}
+use Rattle.std.proofs.Common.{◌≡◌, ◌∙◌, ◌<◌, ◌≤◌, ◌+◌, ℕ, List, [], ◌∷◌, ◌++◌, map, take, sym, ap, refl, get_or, length, drop, drop-cons, add-one, arith}
 use Rattle.std.proofs.lemmas.List.{get_or_read_under, take_more, take_all, map-append}
 use mathlib.Core.Path.{fun_ext}
-use Rattle.std.specs.Prelude.{Option, Some, None, is_some, option_map, if◌then◌else◌}
+use Rattle.std.specs.Prelude.{Option, None}
 use Rattle.packet_fields.specs.Fields.{number_of}
 use Rattle.packet_fields.specs.Writing.{all_fields}
 use Rattle.packet_fields.specs.declared.field.Field.{Field}

@@ -1,5 +1,5 @@
 -- What the mode of a field says of the branches.
-use Rattle.std.proofs.Common.{◌≡◌, ◌∙◌, ◌<◌, ◌≤◌, ◌+◌, ◌-◌, ℕ, Bool, true, false, List, [], ◌∷◌, sym, ap, refl, subst, length, arith}
+use Rattle.std.proofs.Common.{◌≡◌, ◌∙◌, ℕ, Bool, true, false, List, sym, ap, refl}
 use Rattle.std.specs.Prelude.{if◌then◌else◌, count_by, position, Option, Some, None, ◌||◌, ◌&&◌, not, ◌==◌}
 use Rattle.std.specs.List.{list_any}
 use Rattle.std.specs.Option.{option_map_or}
@@ -7,11 +7,10 @@ use Rattle.std.proofs.lemmas.Bool.{false≢true}
 use Rattle.std.proofs.lemmas.Bool.Decides.{Decides-eqb}
 use Rattle.packet_fields.specs.declared.field.Field.{Field}
 use Rattle.action_profile.specs.FieldSets.{has}
-use Rattle.action_profile.specs.Modes.{has_write, has_touch, only_reads, written_mode, mode_of, copies_by_mode}
-use Rattle.action_profile.specs.declared.parts.Mode.{Mode}
+use Rattle.action_profile.specs.Modes.{has_write, has_touch, only_reads, written_mode, mode_of}
 use Rattle.action_profile.specs.declared.parts.Mode.TheVariants.{Shared, Moved, Copied}
 use Rattle.action_profile.specs.declared.parts.Touch.{Touch}
-use Rattle.packet_version.proofs.Firsts.{NoneOf, IsFirst, first-position, none-any, alone, none-position}
+use Rattle.packet_version.proofs.Firsts.{NoneOf, first-position, none-any, alone, none-position}
 
 by_position : (ts : List Touch) (f : Field) (o : Option ℕ) → position (has_write f) ts ≡ o → mode_of ts f ≡ option_map_or (written_mode ts f) o Shared
 unfolding mode_of

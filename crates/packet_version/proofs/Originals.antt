@@ -1,12 +1,12 @@
 -- The original goes to the first branch that writes the field, and each later one gets a copy.
-use Rattle.std.proofs.Common.{◌≡◌, ◌∙◌, ◌<◌, ◌≤◌, ◌+◌, ◌-◌, ℕ, zero, suc, Bool, true, false, List, [], ◌∷◌, ◌++◌, map, take, drop, sym, ap, refl, subst, get_or, length, set, arith, length-drop, add-one}
+use Rattle.std.proofs.Common.{◌≡◌, ◌∙◌, ◌<◌, ◌≤◌, ◌+◌, ◌-◌, ℕ, zero, suc, Bool, true, false, List, [], ◌∷◌, ◌++◌, map, take, drop, sym, ap, refl, get_or, length, set, arith, length-drop, add-one}
 use Rattle.std.specs.Prelude.{if◌then◌else◌, ◌||◌, ◌&&◌, not, Some, position}
 use Rattle.std.proofs.lemmas.Bool.{false≢true}
 use Rattle.std.proofs.lemmas.List.{take_all, drop_all}
 use borrow.Rule.Slice.PartMut.{put_mid, mid_of}
 use Rattle.packet_fields.specs.declared.field.Field.{Field}
 use Rattle.action_profile.specs.FieldSets.{has}
-use Rattle.action_profile.specs.Modes.{has_write, has_touch, only_reads}
+use Rattle.action_profile.specs.Modes.{has_write, only_reads}
 use Rattle.packet_version.specs.Parts.{PlainPart, unwritten}
 use Rattle.packet_version.specs.Versions.{PlainVersion, with_part}
 use Rattle.packet_version.specs.Handing.{copied_to, lent_to, dealt_to, writers_in, touches_in}

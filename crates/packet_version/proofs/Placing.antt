@@ -8,7 +8,7 @@ use Rattle.std.proofs.Math.ListN.{get_or-map}
 use Rattle.packet_fields.specs.Fields.{number_of}
 use Rattle.packet_fields.specs.declared.field.Field.{Field}
 use Rattle.packet_fields.specs.declared.field.Field.TheVariants.{LinkDst, LinkSrc, Tag, Tos, Ttl, SrcIp, DstIp, SrcPort, DstPort, Payload}
-use Rattle.packet_version.specs.Parts.{PlainPart, as_map, as_list, changed, is_field}
+use Rattle.packet_version.specs.Parts.{PlainPart, as_map, as_list, changed}
 use Rattle.packet_version.specs.Handing.{kept_in}
 use Rattle.packet_version.specs.declared.base.Kept.{Kept}
 use Rattle.packet_version.specs.declared.base.Kept.TheVariants.{Absent}

@@ -1,15 +1,14 @@
 -- The parts of a frame fit its rest where they fit the frame.
 use Rattle.std.proofs.Common.{◌≡◌, ◌∙◌, ℕ, List, length, replicate, sym, ap, refl, subst}
-use Rattle.std.specs.Prelude.{Option, Some, None, IfSome, IsSome, IsSomeAnd, is_some, option_map, true}
+use Rattle.std.specs.Prelude.{Option, Some, None, IfSome, IsSomeAnd, is_some, option_map}
 use Rattle.std.specs.Option.{option_or}
 use Rattle.std.proofs.lemmas.List.{length-replicate}
-use Rattle.packet_fields.specs.Frames.{is_tag_list}
 use Rattle.packet_fields.specs.Fields.{value}
-use Rattle.packet_fields.specs.Writing.{Fits, AllFit, blank, rest_of}
+use Rattle.packet_fields.specs.Writing.{Fits, blank, rest_of}
 use Rattle.packet_fields.specs.declared.field.Field.{Field}
 use Rattle.packet_fields.specs.declared.field.Field.TheVariants.{LinkDst, LinkSrc, Tag, Tos, Ttl, SrcIp, DstIp, SrcPort, DstPort, Payload}
 use Rattle.packet_fields.proofs.Walk.{value-written, blanks, blanks_fit}
-use Rattle.packet_version.specs.Parts.{PlainPart, Parts, values_of}
+use Rattle.packet_version.specs.Parts.{Parts, values_of}
 use Rattle.packet_version.specs.Splitting.{IsWhole}
 
 or_self : (b : List ℕ → List ℕ) (o : Option (List ℕ)) → option_or (option_map b o) o ≡ option_map b o

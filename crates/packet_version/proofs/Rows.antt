@@ -1,8 +1,8 @@
 -- Worked rows, computed by the definitions.
-use Rattle.std.proofs.Common.{◌≡◌, ℕ, List, [], ◌∷◌, ◌++◌, length, refl, Some, None, true}
+use Rattle.std.proofs.Common.{◌≡◌, ℕ, List, [], ◌∷◌, ◌++◌, refl, Some, None, true}
 use Rattle.packet_fields.specs.Frames.{tags_len}
 use Rattle.packet_fields.specs.Packets.{is_ipv4, has_transport}
-use Rattle.packet_fields.specs.Writing.{written_in, with_tags, rest_of}
+use Rattle.packet_fields.specs.Writing.{written_in, rest_of}
 use Rattle.packet_fields.specs.declared.field.Field.{Field}
 use Rattle.packet_fields.specs.declared.field.Field.TheVariants.{LinkDst, LinkSrc, Tag, Tos, Ttl, SrcIp, DstIp, SrcPort, DstPort, Payload}
 use Rattle.action_profile.specs.FieldSets.{fields}

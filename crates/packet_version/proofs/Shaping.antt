@@ -1,6 +1,6 @@
 -- Parts of the shape of others fit where those fit.
-use Rattle.std.proofs.Common.{◌≡◌, ◌∙◌, ℕ, List, length, true, sym, ap}
-use Rattle.std.specs.Prelude.{Option, Some, None, IfSome, IsSome, IsSomeAnd, is_some, option_map}
+use Rattle.std.proofs.Common.{◌≡◌, ◌∙◌, ℕ, List, length, true}
+use Rattle.std.specs.Prelude.{Option, Some, None, IfSome, IsSomeAnd, is_some, option_map}
 use Rattle.packet_fields.specs.Frames.{is_tag_list}
 use Rattle.packet_fields.specs.Fields.{value}
 use Rattle.packet_fields.specs.Writing.{Fits}

@@ -1,14 +1,14 @@
 -- A slot that is changed in its place.
-use Rattle.std.proofs.Common.{◌≡◌, ◌≢◌, ◌∙◌, ◌<◌, ◌+◌, ℕ, Bool, true, false, List, [], ◌∷◌, map, take, drop, ◌++◌, sym, ap, refl, subst, get_or, length, set, arith, All}
+use Rattle.std.proofs.Common.{◌≡◌, ◌≢◌, ◌∙◌, ◌<◌, ◌+◌, ℕ, Bool, true, false, List, [], ◌∷◌, map, take, sym, ap, refl, subst, get_or, length, set, arith, All}
 use mathlib.Core.Path.{fun_ext}
-use Rattle.std.specs.Prelude.{Option, Some, None, if◌then◌else◌, ◌==◌, ◌&&◌, not}
+use Rattle.std.specs.Prelude.{Option, if◌then◌else◌, ◌==◌, ◌&&◌, not}
 use Rattle.std.proofs.lemmas.Bool.Decides.{Decides-eqb}
 use Rattle.std.proofs.lemmas.List.{get_or-set_same, get_or-set_other, length-set, get_or_read_under, take_more_set, length-map}
 use Rattle.std.proofs.lemmas.List.Elements.{All-set, All-append, All-cons}
 use Rattle.std.proofs.Math.ListN.{get_or-map}
 use Rattle.packet_fields.specs.Fields.{number_of}
 use Rattle.packet_fields.specs.declared.field.Field.{Field}
-use Rattle.packet_fields.specs.declared.field.Field.TheVariants.{LinkDst, LinkSrc, Tag, Tos, Ttl, SrcIp, DstIp, SrcPort, DstPort, Payload}
+use Rattle.packet_fields.specs.declared.field.Field.TheVariants.{Tag}
 use Rattle.std.specs.Int.{bit_at}
 use Rattle.std.proofs.lemmas.Bool.{false≢true}
 use Rattle.packet_fields.specs.Frames.{is_tag_list}
@@ -16,15 +16,15 @@ use Rattle.packet_fields.specs.Writing.{all_fields}
 use Rattle.action_profile.specs.FieldSets.{has}
 use Rattle.action_profile.specs.Modes.{has_write, only_reads}
 use Rattle.action_profile.specs.declared.parts.Touch.{Touch}
-use Rattle.packet_version.specs.Parts.{PlainPart, Parts, as_map, as_list, changed, is_field, writer_in}
+use Rattle.packet_version.specs.Parts.{PlainPart, as_map, as_list, changed, is_field, writer_in}
 use Rattle.packet_version.specs.Slots.{part_in, is_own, is_shown, slot_of, AreSlots, AreTags}
 use Rattle.packet_version.specs.Versions.{with_part, PlainVersion}
 use Rattle.packet_version.specs.Views.{IsView, PlainView}
 use Rattle.packet_version.specs.declared.fixed.Fixed.{Fixed}
 use Rattle.action_profile.specs.declared.rights.Profile.{Profile}
 use Rattle.packet_version.specs.declared.slot.Slot.{Slot}
-use Rattle.packet_version.specs.declared.slot.Slot.TheVariants.{Absent, Own, Lent, Claimed}
-use Rattle.packet_version.proofs.Maps.{as_map-listed, as_list-again, listed_at}
+use Rattle.packet_version.specs.declared.slot.Slot.TheVariants.{Absent, Lent}
+use Rattle.packet_version.proofs.Maps.{as_list-again, listed_at}
 
 -- the slot of a field once another was put into a place
 slot_set : (slots : List Slot) (n : ℕ) (s : Slot) (g : Field) → n < length slots → slot_of (set slots n s) g ≡ (if n == number_of g then s else slot_of slots g)

@@ -1,7 +1,7 @@
 -- The parts of a packet are dealt field by field.
-use Rattle.std.proofs.Common.{◌≡◌, ◌≢◌, ◌∙◌, ◌<◌, ◌≤◌, ◌+◌, ℕ, zero, suc, Bool, true, false, List, [], ◌∷◌, ◌++◌, map, take, sym, ap, refl, subst, get_or, length, set, arith}
+use Rattle.std.proofs.Common.{◌≡◌, ◌≢◌, ◌∙◌, ◌<◌, ◌≤◌, ◌+◌, ℕ, zero, suc, Bool, true, false, List, [], ◌∷◌, ◌++◌, map, take, sym, ap, refl, get_or, length, set, arith}
 use mathlib.Core.Path.{fun_ext}
-use Rattle.std.specs.Prelude.{if◌then◌else◌, Option, Some, None, option_map, ◌==◌, nat_lt, IfSome}
+use Rattle.std.specs.Prelude.{if◌then◌else◌, Option, Some, None, option_map, nat_lt, IfSome}
 use Rattle.std.proofs.lemmas.Bool.Decides.{Decides-eqb, nat_tests}
 use Rattle.std.proofs.lemmas.List.{get_or-set_other, get_or_read_under, map-append}
 use Rattle.packet_fields.specs.Fields.{number_of}

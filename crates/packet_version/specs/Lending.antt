@@ -1,5 +1,5 @@
 -- Bytes that are lent to be written.
-use Rattle.std.specs.Prelude.{ℕ, List, ◌++◌, take, drop, length, Option, option_map}
+use Rattle.std.specs.Prelude.{ℕ, List, ◌++◌, take, drop, length}
 use Rattle.std.specs.Borrow.{Lends, MutBor, Fml, Array, u8}
 use Rattle.packet_version.specs.Parts.{PlainPart, rewritten}
 use Rattle.packet_version.specs.contracts.part.Part.{the_row}

@@ -3,7 +3,7 @@ use Rattle.std.specs.Prelude.{ℕ, List}
 use Rattle.std.specs.Borrow.{Lends, MutBor, Fml, Array, u8}
 use Rattle.packet_version.specs.Lending.{edited}
 use Rattle.packet_version.specs.declared.slot.Slot.{Slot}
-use Rattle.packet_version.specs.declared.slot.Slot.TheVariants.{Absent, Own, Lent, Claimed}
+use Rattle.packet_version.specs.declared.slot.Slot.TheVariants.{Own}
 use Rattle.packet_version.specs.contracts.slot.Slot.{the_row}
 
 -- a slot in whose part these bytes were left

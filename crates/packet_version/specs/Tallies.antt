@@ -1,5 +1,5 @@
 -- Counts of copies, field by field.
-use Rattle.std.specs.Prelude.{ℕ, ◌+◌, ◌-◌, ◌^◌, min, max, List, if◌then◌else◌, Bool, ◌≡◌, ◌≤◌, slice_index}
+use Rattle.std.specs.Prelude.{ℕ, ◌+◌, ◌-◌, ◌^◌, min, max, List, if◌then◌else◌, ◌≡◌, ◌≤◌, slice_index}
 use Rattle.packet_fields.specs.Fields.{number_of}
 use Rattle.packet_fields.specs.declared.field.Field.{Field}
 use Rattle.packet_version.specs.Parts.{is_field}

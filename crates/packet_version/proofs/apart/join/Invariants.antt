@@ -1,4 +1,4 @@
-use Rattle.std.proofs.Common.{◌≡◌, drop, length}
+use Rattle.std.proofs.Common.{◌≡◌, drop}
 use Rattle.packet_fields.specs.Writing.{all_fields, written}
 use Rattle.packet_version.specs.Parts.{as_map, values_of}
 use Rattle.packet_version.proofs.Joining.{IsJoining}

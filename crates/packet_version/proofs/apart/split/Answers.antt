@@ -1,4 +1,4 @@
-use Rattle.std.proofs.Common.{◌∙◌, sym}
+use Rattle.std.proofs.Common.{◌∙◌}
 use Rattle.packet_version.specs.Parts.{as_map}
 use Rattle.packet_version.proofs.Resting.{whole_to}
 use Rattle.packet_version.proofs.Joining.{made_parts, made_whole, made_again}

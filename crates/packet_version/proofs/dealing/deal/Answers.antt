@@ -1,4 +1,4 @@
-use Rattle.std.proofs.Common.{◌≡◌, ◌∙◌, List, map, sym, ap, subst, length, take, arith}
+use Rattle.std.proofs.Common.{◌≡◌, ◌∙◌, List, map, sym, ap, subst, length, arith}
 use Rattle.std.specs.Prelude.{Option}
 use Rattle.std.proofs.lemmas.List.{take_at, length-map}
 use Rattle.packet_fields.specs.Writing.{rest_of}
@@ -7,8 +7,8 @@ use Rattle.action_profile.specs.declared.parts.Touch.{Touch}
 use Rattle.packet_version.specs.Parts.{PlainPart, as_map, as_list}
 use Rattle.packet_version.specs.Splitting.{PlainApart, IsWhole, parts_of}
 use Rattle.packet_version.specs.Versions.{PlainVersion, nothing}
-use Rattle.packet_version.specs.Dealing.{dealt, dealt_version, based, kept_parts, RaisesByDue, RaisesWithinDue}
-use Rattle.packet_version.specs.Handing.{touches_in, kept_in}
+use Rattle.packet_version.specs.Dealing.{dealt, based, kept_parts, RaisesByDue, RaisesWithinDue}
+use Rattle.packet_version.specs.Handing.{kept_in}
 use Rattle.packet_version.proofs.Handing.{on_err}
 use Rattle.packet_version.proofs.Resting.{whole_to}
 use Rattle.packet_version.proofs.Stepping.{touches_begin, empty_begin, dealt_begin, tags_whole}

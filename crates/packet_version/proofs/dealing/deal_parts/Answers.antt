@@ -1,17 +1,16 @@
-use Rattle.std.proofs.Common.{◌≡◌, ◌∙◌, ◌+◌, ◌≤◌, ℕ, List, map, sym, ap, refl, get_or, length, arith}
-use Rattle.std.specs.Prelude.{Option, None}
+use Rattle.std.proofs.Common.{◌≡◌, ◌∙◌, ◌+◌, List, sym, ap, get_or}
+use Rattle.std.specs.Prelude.{Option}
 use Rattle.std.proofs.lemmas.List.{length-set}
 use Rattle.packet_fields.specs.Fields.{number_of}
-use Rattle.packet_fields.specs.declared.field.Field.{Field}
 use Rattle.packet_fields.specs.declared.field.Field.TheVariants.{LinkDst}
 use Rattle.action_profile.specs.Modes.{mode_of}
 use Rattle.action_profile.specs.declared.parts.Mode.TheVariants.{Shared}
 use Rattle.action_profile.specs.declared.parts.Touch.{Touch}
 use Rattle.packet_version.specs.Parts.{PlainPart, as_map}
 use Rattle.packet_version.specs.Dealing.{copies_due}
-use Rattle.packet_version.specs.Handing.{touches_in, kept_in}
+use Rattle.packet_version.specs.Handing.{touches_in}
 use Rattle.packet_version.proofs.Handing.{on_err}
-use Rattle.packet_version.proofs.Stepping.{number_at, held_part, held_next, mode_read, touches_stay, counted_begin, counted_next, counted_within, counted_over, counted_refused, versions_begin, versions_next, versions_over, kept_next, kept_over}
+use Rattle.packet_version.proofs.Stepping.{number_at, held_part, held_next, mode_read, touches_stay, counted_next, counted_within, counted_refused, versions_next, kept_next}
 use Rattle.packet_version.proofs.dealing.deal_parts.Goals as goal
 
 pub deal_field-requires-clause-mode : goal.deal_field-requires-clause-mode

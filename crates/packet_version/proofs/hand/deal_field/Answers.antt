@@ -1,5 +1,5 @@
-use Rattle.std.proofs.Common.{◌≡◌, ◌∙◌, ℕ, List, map, ap, sym, subst}
-use Rattle.std.specs.Prelude.{Some, None, OnOk, OnErr, Option}
+use Rattle.std.proofs.Common.{◌≡◌, ◌∙◌, ℕ, map, ap, subst}
+use Rattle.std.specs.Prelude.{OnOk, OnErr, Option}
 use Rattle.action_profile.specs.declared.parts.Mode.TheVariants.{Copied}
 use Rattle.packet_version.specs.Tallies.{RaisesBy, RaisesAtMost}
 use Rattle.packet_version.specs.Handing.{lent_to, dealt_some}

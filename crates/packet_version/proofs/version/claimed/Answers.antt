@@ -1,6 +1,6 @@
-use Rattle.std.proofs.Common.{◌≡◌, ◌∙◌, ◌<◌, ◌++◌, true, List, take, ap, sym, subst, All, length, arith}
+use Rattle.std.proofs.Common.{◌≡◌, ◌∙◌, true, List, ap, sym, subst, All, arith}
 use Rattle.std.proofs.Math.Seq.{map-set_same}
-use Rattle.std.proofs.lemmas.List.{take_at, take_all, take_more_set}
+use Rattle.std.proofs.lemmas.List.{take_at, take_all}
 use Rattle.packet_version.specs.Slots.{part_in, is_own, is_shown}
 use Rattle.packet_version.specs.declared.slot.Slot.{Slot}
 use Rattle.packet_version.proofs.Slotting.{shown_more}

@@ -1,4 +1,4 @@
-use Rattle.std.proofs.Common.{◌≡◌, ℕ, List, sym, refl}
+use Rattle.std.proofs.Common.{sym}
 use Rattle.packet_fields.specs.declared.field.Field.TheVariants.{Tag}
 use Rattle.packet_fields.proofs.Laws.{put_own}
 use Rattle.packet_version.proofs.rest.Rest.with_tags.Goals as goal

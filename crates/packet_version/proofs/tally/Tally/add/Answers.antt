@@ -1,4 +1,4 @@
-use Rattle.std.proofs.Common.{◌≡◌, ◌∙◌, List, get_or, length, ap, arith}
+use Rattle.std.proofs.Common.{◌≡◌, List, get_or, length, ap, arith}
 use Rattle.packet_fields.specs.declared.field.Field.{Field}
 use Rattle.packet_fields.specs.declared.field.Field.TheVariants.{LinkDst}
 use Rattle.packet_version.specs.Tallies.{count_of}

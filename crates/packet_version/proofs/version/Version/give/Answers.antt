@@ -1,4 +1,4 @@
-use Rattle.std.proofs.Common.{◌∙◌, ℕ, ap, sym, refl, subst}
+use Rattle.std.proofs.Common.{◌∙◌, ℕ, ap, sym, refl}
 use Rattle.std.specs.Prelude.{◌==◌}
 use Rattle.packet_fields.specs.Fields.{number_of}
 use Rattle.packet_fields.specs.declared.field.Field.TheVariants.{Tag}

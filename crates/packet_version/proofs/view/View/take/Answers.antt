@@ -1,4 +1,4 @@
-use Rattle.std.proofs.Common.{◌∙◌, ap, sym, refl, subst}
+use Rattle.std.proofs.Common.{ap, sym, subst}
 use Rattle.packet_version.specs.declared.slot.Slot.{Slot}
 use Rattle.packet_version.specs.Slots.{is_own, is_shown, part_in, AreTags}
 use Rattle.packet_version.proofs.Slotting.{view_put, put_seen, tags_there}
