@@ -94,6 +94,7 @@ impl Rest {
     pub(crate) fn into_bytes(self) -> Vec<u8>
         ensures { result.items ≡ self }
     {
-        self.bytes
+        let Rest { bytes, plan: _ } = self;
+        bytes
     }
 }
