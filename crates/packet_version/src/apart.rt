@@ -109,7 +109,7 @@ pub fn join(alloc: Global, whole: Apart) -> Result<Frame, AllocError>
     let fields = all_fields();
     for field in fields {
         if let Some(part) = &parts[field.number()] {
-            rest = rest.put(alloc, *field, part.bytes())?;
+            rest.put(alloc, *field, part.bytes())?;
         }
     }
     Ok(Frame::new(rest.into_bytes()))

@@ -23,7 +23,7 @@ impl Model for Rest {
 }
 
 impl Rest {
-    ghost use Rattle.std.specs.Prelude.{◌≡◌, ◌≢◌, IfOk, IsTrue};
+    ghost use Rattle.std.specs.Prelude.{◌≡◌, ◌≢◌, OnOk, IsTrue};
     ghost use Rattle.std.specs.Option.{option_copied};
     ghost use Rattle.packet_fields.specs.Fields.{value, layout_of};
     ghost use Rattle.packet_fields.specs.Writing.{put as put_in, Fits};
@@ -50,27 +50,36 @@ impl Rest {
         packet_fields::get(field, &self.bytes, &self.plan)
     }
 
-    /// The frame with these bytes in a field's place.
-    pub(crate) fn put(self, alloc: Global, field: Field, bytes: &[u8]) -> Result<Rest, AllocError>
-        requires { Fits field bytes.now self }
-        ensures { IfOk result (λ whole. whole ≡ put_in field bytes.now self) }
+    /// Puts these bytes into a field's place.
+    pub(crate) fn put(
+        &mut self,
+        alloc: Global,
+        field: Field,
+        bytes: &[u8],
+    ) -> Result<(), AllocError>
+        requires { Fits field bytes.now self.old }
+        ensures { OnOk result (self.new ≡ put_in field bytes.now self.old) }
     {
         match field {
-            Field::Tag => self.with_tags(alloc, bytes),
-            _ => Ok(self.with_value(field, bytes)),
+            Field::Tag => self.put_tags(alloc, bytes),
+            _ => {
+                self.put_value(field, bytes);
+                Ok(())
+            }
         }
     }
 
     /// Tags that stay as they are take no memory.
-    fn with_tags(self, alloc: Global, list: &[u8]) -> Result<Rest, AllocError>
-        requires { Fits Field.Tag list.now self }
-        ensures { IfOk result (λ whole. whole ≡ put_in Field.Tag list.now self) }
+    fn put_tags(&mut self, alloc: Global, list: &[u8]) -> Result<(), AllocError>
+        requires { Fits Field.Tag list.now self.old }
+        ensures { OnOk result (self.new ≡ put_in Field.Tag list.now self.old) }
     {
         if self.has_tags(list) {
-            return Ok(self);
+            return Ok(());
         }
         let frame = packet_fields::with_tags(alloc, list, &self.bytes)?;
-        Ok(Rest::new(frame.into_bytes()))
+        *self = Rest::new(frame.into_bytes());
+        Ok(())
     }
 
     fn has_tags(&self, list: &[u8]) -> bool
@@ -82,13 +91,12 @@ impl Rest {
         }
     }
 
-    fn with_value(mut self, field: Field, bytes: &[u8]) -> Rest
+    fn put_value(&mut self, field: Field, bytes: &[u8])
         requires not_tag { field ≢ Field.Tag }
-        requires fits { Fits field bytes.now self }
-        ensures { result ≡ put_in field bytes.now self }
+        requires fits { Fits field bytes.now self.old }
+        ensures { self.new ≡ put_in field bytes.now self.old }
     {
         packet_fields::put(field, bytes, &mut self.bytes, &self.plan);
-        self
     }
 
     pub(crate) fn into_bytes(self) -> Vec<u8>

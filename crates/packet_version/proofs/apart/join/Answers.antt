@@ -4,7 +4,7 @@ use Rattle.packet_version.specs.Splitting.{joined}
 use Rattle.packet_version.proofs.Maps.{part_at}
 use Rattle.packet_version.proofs.Joining.{turns_begin, turn_some, turn_fits, turn_stays, turns_over, written-whole}
 use Rattle.packet_version.proofs.apart.join.Goals as goal
-use Rattle.packet_version.proofs.apart.join.Goals.{in-Some+in_ok-rest, in_default}
+use Rattle.packet_version.proofs.apart.join.Goals.{in-Some+in_ok-put, in_default}
 
 pub put-requires : goal.put-requires
 put-requires c =
@@ -19,7 +19,7 @@ loop-field-preserved c =
     let is = part_at c.whole.inside.parts.items c.number.result _ c.index.result.now c.index.ensures c.number.ensures.number c.number.ensures.below c.whole.invariant.0 in (
       c.loop-field.invariant.0,
       elim c.match-index.branch [
-        | in-Some+in_ok-rest w ↦ turn_some (as_map c.whole.inside.parts.items) c.all_fields-fields.result.now c.loop-field.field-index c.loop-field.rest c.match-index.rest _ w.bytes.result.now w.in-Some.part c.loop-field-test.true (is ∙ w.in-Some.is) w.bytes.ensures (w.rest-is ∙ w.in_ok-rest.ensures) c.loop-field.invariant.1
+        | in-Some+in_ok-put w ↦ turn_some (as_map c.whole.inside.parts.items) c.all_fields-fields.result.now c.loop-field.field-index c.loop-field.rest c.match-index.rest _ w.bytes.result.now w.in-Some.part c.loop-field-test.true (is ∙ w.in-Some.is) w.bytes.ensures (w.rest-is ∙ w.in_ok-put.ensures) c.loop-field.invariant.1
         | in_default w ↦ turn_stays (as_map c.whole.inside.parts.items) c.all_fields-fields.result.now c.loop-field.field-index c.loop-field.rest c.match-index.rest _ c.loop-field-test.true (is ∙ w.in_default.is) w.rest-is c.loop-field.invariant.1
       ],
     )
