@@ -30,7 +30,7 @@ impl Model for Apart {
     ghost invariant = { λ a. (length a.parts.items ≡ 10) × IsWhole (as_map a.parts.items) a.rest };
 }
 
-ghost use Rattle.std.specs.Prelude.{◌≡◌, ◌*◌, ◌+◌, ◌^◌, ◌<◌, IfOk, map};
+ghost use Rattle.std.specs.Prelude.{◌≡◌, IfOk, map};
 ghost use Rattle.packet_fields.specs.Writing.{rest_of, all_fields as every_field};
 ghost use Rattle.packet_version.specs.Splitting.{parts_of, split_parts as split_parts_of, fixed_of, joined, spare_room as spare_room_of, IsWhole};
 

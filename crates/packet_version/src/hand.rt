@@ -1,6 +1,6 @@
 //! Handing one part to the versions of a stage's branches.
 
-ghost use Rattle.std.specs.Prelude.{◌≡◌, ◌≤◌, ◌<◌, ◌-◌, ◌&&◌, map, length, true, false, Some, OnOk, OnErr, IfOk, count_by, position, if◌then◌else◌, is_ok};
+ghost use Rattle.std.specs.Prelude.{◌≡◌, ◌≤◌, ◌<◌, ◌-◌, ◌&&◌, map, length, true, false, OnOk, OnErr, IfOk, position, if◌then◌else◌, is_ok};
 ghost use Rattle.std.specs.List.{list_any};
 ghost use Rattle.packet_fields.specs.Frames.{is_tag_list};
 ghost use Rattle.packet_fields.specs.declared.field.Field.{Field};

@@ -1,5 +1,4 @@
 //! Laws of versions and views, for what stands on them.
-
 ghost use Rattle.std.specs.Prelude.{◌≡◌, ◌≢◌, ℕ, List, length, true, option_map};
 ghost use Rattle.packet_fields.specs.declared.field.Field.{Field};
 ghost use Rattle.action_profile.specs.declared.parts.Touch.{Touch};
@@ -34,7 +33,6 @@ pub fn write_apart(mine: &mut View, other: &mut View, field: Field, value: &[u8]
     ensures mine { mine.new ≡ wrote field value.now mine.old }
     ensures other { other.new ≡ other.old }
 {
-    let _ = other.time();
     mine.set(field, value);
 }
 

@@ -34,8 +34,7 @@ impl Model for Version {
 }
 
 impl Version {
-    ghost use Rattle.std.specs.Prelude.{◌≡◌, ◌≤◌, map, true, All};
-    ghost use Rattle.packet_version.specs.Slots.{part_in, is_own, is_shown};
+    ghost use Rattle.std.specs.Prelude.{◌≡◌, ◌≤◌};
     ghost use Rattle.packet_version.specs.Versions.{HoldsNamed};
 
     /// The version as the function with this profile at this chain position sees it. It waits for

@@ -32,7 +32,7 @@ impl Model for View {
 }
 
 impl View {
-    ghost use Rattle.std.specs.Prelude.{◌≡◌, ◌≢◌, ◌≤◌, ◌<◌, ◌+◌, ◌*◌, ◌++◌, ◌||◌, true, false, length, drop, slice_index, IsSome, is_some, IsSomeAnd};
+    ghost use Rattle.std.specs.Prelude.{◌≡◌, ◌≢◌, ◌<◌, true, length, IsSome, is_some};
     ghost use Rattle.std.specs.Option.{option_copied};
     ghost use Rattle.packet_fields.specs.Frames.{is_tpid, word};
     ghost use Rattle.packet_fields.specs.declared.field.Field.{Field};
