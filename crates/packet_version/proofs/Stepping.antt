@@ -1,0 +1,332 @@
+-- The parts of a packet are dealt field by field.
+use Rattle.std.proofs.Common.{◌≡◌, ◌≢◌, ◌∙◌, ◌<◌, ◌≤◌, ◌+◌, ℕ, zero, suc, Bool, true, false, List, [], ◌∷◌, ◌++◌, map, take, sym, ap, refl, get_or, length, set, arith}
+use mathlib.Core.Path.{fun_ext}
+use Rattle.std.specs.Prelude.{if◌then◌else◌, Option, Some, None, option_map, nat_lt, IfSome}
+use Rattle.std.proofs.lemmas.Bool.Decides.{Decides-eqb, nat_tests}
+use Rattle.std.proofs.lemmas.List.{get_or-set_other, get_or_read_under, map-append}
+use Rattle.packet_fields.specs.Fields.{number_of}
+use Rattle.packet_fields.specs.Writing.{all_fields}
+use Rattle.packet_fields.specs.declared.field.Field.{Field}
+use Rattle.packet_fields.specs.declared.field.Field.TheVariants.{LinkDst, LinkSrc, Tag, Tos, Ttl, SrcIp, DstIp, SrcPort, DstPort, Payload}
+use Rattle.packet_version.specs.Modes.{has_touch, mode_of, modes_of}
+use Rattle.action_profile.specs.declared.parts.Mode.{Mode}
+use Rattle.action_profile.specs.declared.parts.Touch.{Touch}
+use Rattle.packet_version.specs.Parts.{PlainPart, Parts, as_map, as_list, changed, is_field, unwritten}
+use Rattle.packet_version.specs.Tallies.{count_of, raised, RaisesBy, RaisesAtMost}
+use Rattle.packet_version.specs.Versions.{PlainVersion, with_part, nothing}
+use Rattle.packet_fields.specs.Writing.{Fits}
+use Rattle.packet_version.specs.Slots.{AreTags}
+use Rattle.packet_version.specs.Splitting.{IsWhole}
+use Rattle.packet_version.specs.declared.fixed.Fixed.{Fixed}
+use Rattle.packet_version.specs.Dealing.{dealt_parts, dealt_version, kept_part, kept_parts}
+use Rattle.packet_version.specs.Handing.{touches_in, dealt_some, dealt_to, without_fields, kept_in}
+use Rattle.packet_version.specs.declared.base.Kept.{Kept}
+use Rattle.packet_version.proofs.Maps.{as_map-listed, listed_at, mapped_more, mapped_over}
+use Rattle.packet_version.proofs.Counting.{raised_twice, raised_up, raised_more, raised_none}
+
+-- the field at an index has it as its number
+number_in : (i : ℕ) → i < 10 → number_of (get_or all_fields i LinkDst) ≡ i
+number_in zero b = refl
+number_in (suc zero) b = refl
+number_in (suc (suc zero)) b = refl
+number_in (suc (suc (suc zero))) b = refl
+number_in (suc (suc (suc (suc zero)))) b = refl
+number_in (suc (suc (suc (suc (suc zero))))) b = refl
+number_in (suc (suc (suc (suc (suc (suc zero)))))) b = refl
+number_in (suc (suc (suc (suc (suc (suc (suc zero))))))) b = refl
+number_in (suc (suc (suc (suc (suc (suc (suc (suc zero)))))))) b = refl
+number_in (suc (suc (suc (suc (suc (suc (suc (suc (suc zero))))))))) b = refl
+number_in (suc (suc (suc (suc (suc (suc (suc (suc (suc (suc i)))))))))) b = absurd (omega arith)
+
+pub number_at : (fields : List Field) (i : ℕ) → fields ≡ all_fields → i < length fields → number_of (get_or fields i LinkDst) ≡ i
+number_at fields i is below =
+    let len : length fields ≡ 10 = ap (λ (fs : List Field). length fs) is in
+    ap (λ (fs : List Field). number_of (get_or fs i LinkDst)) is ∙ number_in i (omega arith)
+
+-- a field is known by its number
+pub same_field : (f g : Field) → number_of f ≡ number_of g → f ≡ g
+same_field f g same = sym (listed_at (λ h. h) LinkDst f) ∙ (ap (λ (n : ℕ). get_or (map (λ h. h) all_fields) n LinkDst) same ∙ listed_at (λ h. h) LinkDst g)
+
+-- the values of the fields before an index, and nothing for the others
+abbrev pub before : {A : Type 0} → A → ℕ → (Field → A) → Field → A
+before none i values g = if nat_lt (number_of g) i then values g else none
+
+lt_self : (i : ℕ) → nat_lt i i ≡ false
+lt_self i = grind (arith, nat_tests)
+
+lt_next : (i : ℕ) → nat_lt i (i + 1) ≡ true
+lt_next i = grind (arith, nat_tests)
+
+lt_other : (a i : ℕ) → a ≢ i → nat_lt a (i + 1) ≡ nat_lt a i
+lt_other a i apart = grind (arith, nat_tests)
+
+here_none : {A : Type 0} (none : A) (i : ℕ) (values : Field → A) (g : Field) → number_of g ≡ i → before none i values g ≡ none
+here_none none i values g is = ap (λ (b : Bool). if b then values g else none) (ap (λ (n : ℕ). nat_lt n i) is ∙ lt_self i)
+
+here_next : {A : Type 0} (none : A) (i : ℕ) (values : Field → A) (g : Field) → number_of g ≡ i → before none (i + 1) values g ≡ values g
+here_next none i values g is = ap (λ (b : Bool). if b then values g else none) (ap (λ (n : ℕ). nat_lt n (i + 1)) is ∙ lt_next i)
+
+other_next : {A : Type 0} (none : A) (i : ℕ) (values : Field → A) (g : Field) → number_of g ≢ i → before none (i + 1) values g ≡ before none i values g
+other_next none i values g apart = ap (λ (b : Bool). if b then values g else none) (lt_other (number_of g) i apart)
+
+-- cases by whether two fields are one
+by_field : (f g : Field) (P : Type 0) → (f ≡ g → is_field f g ≡ true → P) → (number_of g ≢ number_of f → is_field f g ≡ false → P) → P
+by_field f g P same other = by_test (is_field f g) refl
+  where
+    by_test : (b : Bool) → is_field f g ≡ b → P
+    by_test true e = same (same_field f g ((Decides-eqb (number_of f) (number_of g)).0 e)) e
+    by_test false e = other (λ s. (let t : is_field f g ≡ true = (Decides-eqb (number_of f) (number_of g)).1 (sym s) in cc)) e
+
+-- one field more
+before_changed : (f : Field) (i : ℕ) (parts : Parts) (g : Field) → number_of f ≡ i → changed f (parts f) (before None i parts) g ≡ before None (i + 1) parts g
+before_changed f i parts g is = by_field f g (changed f (parts f) (before None i parts) g ≡ before None (i + 1) parts g)
+    (λ same e.
+    ap (λ (b : Bool). if b then parts f else before None i parts g) e
+    ∙ (ap parts same ∙ sym (here_next None i parts g (sym (ap number_of same) ∙ is))))
+    (λ apart e.
+    ap (λ (b : Bool). if b then parts f else before None i parts g) e
+    ∙ sym (other_next None i parts g (λ s. apart (s ∙ sym is))))
+
+-- one field more, which is absent
+before_same : (f : Field) (i : ℕ) (parts : Parts) (g : Field) → number_of f ≡ i → parts f ≡ None → before None i parts g ≡ before None (i + 1) parts g
+before_same f i parts g is none = by_field f g (before None i parts g ≡ before None (i + 1) parts g)
+    (λ same e.
+    here_none None i parts g (sym (ap number_of same) ∙ is)
+    ∙ (sym none ∙ (ap parts same ∙ sym (here_next None i parts g (sym (ap number_of same) ∙ is)))))
+    (λ apart e. sym (other_next None i parts g (λ s. apart (s ∙ sym is))))
+
+before_none : (parts : Parts) (g : Field) → before None 0 parts g ≡ None
+before_none parts LinkDst = refl
+before_none parts LinkSrc = refl
+before_none parts Tag = refl
+before_none parts Tos = refl
+before_none parts Ttl = refl
+before_none parts SrcIp = refl
+before_none parts DstIp = refl
+before_none parts SrcPort = refl
+before_none parts DstPort = refl
+before_none parts Payload = refl
+
+before_all : {A : Type 0} (none : A) (values : Field → A) (g : Field) → before none 10 values g ≡ values g
+before_all none values LinkDst = refl
+before_all none values LinkSrc = refl
+before_all none values Tag = refl
+before_all none values Tos = refl
+before_all none values Ttl = refl
+before_all none values SrcIp = refl
+before_all none values DstIp = refl
+before_all none values SrcPort = refl
+before_all none values DstPort = refl
+before_all none values Payload = refl
+
+-- a version with the fields before an index
+abbrev pub first_dealt : ℕ → Parts → PlainVersion → PlainVersion
+first_dealt i parts v = record v { parts = as_list (before None i (dealt_parts v.touch parts)) }
+
+none_both : (b : Bool) (o : Option PlainPart) → (if b then o else o) ≡ o
+none_both true o = refl
+none_both false o = refl
+
+dealt_none : (touch : Touch) (parts : Parts) (f : Field) → parts f ≡ None → dealt_parts touch parts f ≡ None
+dealt_none touch parts f none = ap (λ (o : Option PlainPart). if has_touch f touch then option_map unwritten o else None) none ∙ none_both (has_touch f touch) None
+
+dealt_by : (touch : Touch) (parts : Parts) (f : Field) (p : PlainPart) (b : Bool) → parts f ≡ Some p → has_touch f touch ≡ b → dealt_parts touch parts f ≡ (if b then Some (unwritten p) else None)
+dealt_by touch parts f p b is e = ap (λ (o : Option PlainPart). if has_touch f touch then option_map unwritten o else None) is ∙ ap (λ (c : Bool). if c then Some (unwritten p) else None) e
+
+abbrev with_parts : PlainVersion → Parts → PlainVersion
+with_parts v parts = record v { parts = as_list parts }
+
+stays_dealt : (f : Field) (i : ℕ) (parts : Parts) (v : PlainVersion) → number_of f ≡ i → dealt_parts v.touch parts f ≡ None → first_dealt i parts v ≡ first_dealt (i + 1) parts v
+stays_dealt f i parts v is none = ap (λ (ps : Parts). with_parts v ps) (fun_ext (λ g. before_same f i (dealt_parts v.touch parts) g is none))
+
+gets_dealt : (f : Field) (i : ℕ) (parts : Parts) (v : PlainVersion) (o : Option PlainPart) → number_of f ≡ i → dealt_parts v.touch parts f ≡ o → with_part f o (first_dealt i parts v) ≡ first_dealt (i + 1) parts v
+gets_dealt f i parts v o is own =
+    ap (λ (ps : Parts). with_parts v (changed f o ps)) (as_map-listed (before None i (dealt_parts v.touch parts)))
+    ∙ (ap (λ (p : Option PlainPart). with_parts v (changed f p (before None i (dealt_parts v.touch parts)))) (sym own)
+    ∙ ap (λ (ps : Parts). with_parts v ps) (fun_ext (λ g. before_changed f i (dealt_parts v.touch parts) g is)))
+
+dealt_step : (f : Field) (i : ℕ) (parts : Parts) (v : PlainVersion) → number_of f ≡ i → dealt_some f (parts f) (first_dealt i parts v) ≡ first_dealt (i + 1) parts v
+dealt_step f i parts v is = by_part (parts f) refl
+  where
+    by_touch : (p : PlainPart) (b : Bool) → parts f ≡ Some p → has_touch f v.touch ≡ b → dealt_to f p (first_dealt i parts v) ≡ first_dealt (i + 1) parts v
+    by_touch p true own e =
+        ap (λ (c : Bool). if c then with_part f (Some (unwritten p)) (first_dealt i parts v) else first_dealt i parts v) e
+        ∙ gets_dealt f i parts v (Some (unwritten p)) is (dealt_by v.touch parts f p true own e)
+    by_touch p false own e =
+        ap (λ (c : Bool). if c then with_part f (Some (unwritten p)) (first_dealt i parts v) else first_dealt i parts v) e
+        ∙ stays_dealt f i parts v is (dealt_by v.touch parts f p false own e)
+
+    by_part : (o : Option PlainPart) → parts f ≡ o → dealt_some f (parts f) (first_dealt i parts v) ≡ first_dealt (i + 1) parts v
+    by_part None own = ap (λ (o : Option PlainPart). dealt_some f o (first_dealt i parts v)) own ∙ stays_dealt f i parts v is (dealt_none v.touch parts f own)
+    by_part (Some p) own = ap (λ (o : Option PlainPart). dealt_some f o (first_dealt i parts v)) own ∙ by_touch p (has_touch f v.touch) own refl
+
+all_step : (f : Field) (i : ℕ) (parts : Parts) (vs : List PlainVersion) → number_of f ≡ i → map (dealt_some f (parts f)) (map (first_dealt i parts) vs) ≡ map (first_dealt (i + 1) parts) vs
+all_step f i parts [] is = refl
+all_step f i parts (v ∷ vs) is =
+    ap (λ (x : PlainVersion). x ∷ map (dealt_some f (parts f)) (map (first_dealt i parts) vs)) (dealt_step f i parts v is)
+    ∙ ap (λ (xs : List PlainVersion). first_dealt (i + 1) parts v ∷ xs) (all_step f i parts vs is)
+
+-- the versions once one field more was dealt
+pub versions_next : (f : Field) (i : ℕ) (parts : Parts) (part : Option PlainPart) (vs now new : List PlainVersion) → number_of f ≡ i → part ≡ parts f → now ≡ map (first_dealt i parts) vs → new ≡ map (dealt_some f part) now → new ≡ map (first_dealt (i + 1) parts) vs
+versions_next f i parts part vs now new is own was made =
+    made ∙ (ap (λ (xs : List PlainVersion). map (dealt_some f part) xs) was ∙ (ap (λ (o : Option PlainPart). map (dealt_some f o) (map (first_dealt i parts) vs)) own ∙ all_step f i parts vs is))
+
+-- before the first field
+pub versions_begin : (parts : Parts) (vs : List PlainVersion) → vs ≡ map without_fields vs → vs ≡ map (first_dealt 0 parts) vs
+versions_begin parts vs empty = empty ∙ same vs
+  where
+    one : (v : PlainVersion) → without_fields v ≡ first_dealt 0 parts v
+    one v = ap (λ (ps : Parts). with_parts v ps) (fun_ext (λ g. sym (before_none (dealt_parts v.touch parts) g)))
+
+    same : (ws : List PlainVersion) → map without_fields ws ≡ map (first_dealt 0 parts) ws
+    same [] = refl
+    same (w ∷ ws) = ap (λ (x : PlainVersion). x ∷ map without_fields ws) (one w) ∙ ap (λ (xs : List PlainVersion). first_dealt 0 parts w ∷ xs) (same ws)
+
+-- behind the last field
+pub versions_over : (i : ℕ) (parts : Parts) (vs now : List PlainVersion) → i ≡ 10 → now ≡ map (first_dealt i parts) vs → now ≡ map (λ v. dealt_version parts v.fixed v.touch) vs
+versions_over i parts vs now over was = was ∙ (ap (λ (n : ℕ). map (first_dealt n parts) vs) over ∙ same vs)
+  where
+    one : (v : PlainVersion) → first_dealt 10 parts v ≡ dealt_version parts v.fixed v.touch
+    one v = ap (λ (ps : Parts). with_parts v ps) (fun_ext (λ g. before_all None (dealt_parts v.touch parts) g))
+
+    same : (ws : List PlainVersion) → map (first_dealt 10 parts) ws ≡ map (λ v. dealt_version parts v.fixed v.touch) ws
+    same [] = refl
+    same (w ∷ ws) = ap (λ (x : PlainVersion). x ∷ map (first_dealt 10 parts) ws) (one w) ∙ ap (λ (xs : List PlainVersion). dealt_version parts w.fixed w.touch ∷ xs) (same ws)
+
+-- what the branches touch stays
+pub touches_stay : (i : ℕ) (parts : Parts) (vs now : List PlainVersion) → now ≡ map (first_dealt i parts) vs → touches_in now ≡ touches_in vs
+touches_stay i parts vs now was = ap touches_in was ∙ same vs
+  where
+    same : (ws : List PlainVersion) → touches_in (map (first_dealt i parts) ws) ≡ touches_in ws
+    same [] = refl
+    same (w ∷ ws) = ap (λ (ts : List Touch). w.touch ∷ ts) (same ws)
+
+-- a mode that is read from the list of all
+pub mode_read : (ts : List Touch) (modes : List Mode) (f : Field) (n : ℕ) (d : Mode) → modes ≡ modes_of ts → n ≡ number_of f → get_or modes n d ≡ mode_of ts f
+mode_read ts modes f n d is at = ap (λ (ms : List Mode). get_or ms n d) is ∙ (ap (λ (k : ℕ). get_or (map (mode_of ts) all_fields) k d) at ∙ listed_at (mode_of ts) d f)
+
+plus_before : (f g : Field) (i : ℕ) (due : Field → ℕ) → number_of f ≡ i → before 0 i due g + (if is_field f g then due f else 0) ≡ before 0 (i + 1) due g
+plus_before f g i due is = by_field f g (before 0 i due g + (if is_field f g then due f else 0) ≡ before 0 (i + 1) due g)
+    (λ same e.
+    let a = here_none 0 i due g (sym (ap number_of same) ∙ is) in
+    let b : (if is_field f g then due f else 0) ≡ due g = ap (λ (c : Bool). if c then due f else 0) e ∙ ap due same in
+    let c = here_next 0 i due g (sym (ap number_of same) ∙ is) in
+    omega arith)
+    (λ apart e.
+    let b : (if is_field f g then due f else 0) ≡ 0 = ap (λ (c : Bool). if c then due f else 0) e in
+    let c = other_next 0 i due g (λ s. apart (s ∙ sym is)) in
+    omega arith)
+
+-- the counts rose by the copies that are due of the fields before an index
+abbrev pub RaisesBefore : (Field → ℕ) → ℕ → List ℕ → List ℕ → Type 0
+RaisesBefore due i old new = (g : Field) → count_of new g ≡ raised (count_of old g) (before 0 i due g)
+
+pub counted_begin : (due : Field → ℕ) (t : List ℕ) → RaisesBefore due 0 t t
+counted_begin due t g = sym (ap (λ (n : ℕ). raised (count_of t g) n) (none g) ∙ raised_none (count_of t g))
+  where
+    none : (h : Field) → before 0 0 due h ≡ 0
+    none LinkDst = refl
+    none LinkSrc = refl
+    none Tag = refl
+    none Tos = refl
+    none Ttl = refl
+    none SrcIp = refl
+    none DstIp = refl
+    none SrcPort = refl
+    none DstPort = refl
+    none Payload = refl
+
+pub counted_next : (due : Field → ℕ) (f : Field) (i most : ℕ) (t u v : List ℕ) → number_of f ≡ i → most ≡ due f → RaisesBefore due i t u → RaisesBy most f u v → RaisesBefore due (i + 1) t v
+counted_next due f i most t u v is all was more g =
+    more g
+    ∙ (ap (λ (n : ℕ). raised n (if is_field f g then most else 0)) (was g)
+    ∙ (raised_twice (count_of t g) (before 0 i due g) (if is_field f g then most else 0)
+    ∙ ap (λ (n : ℕ). raised (count_of t g) n) (ap (λ (n : ℕ). before 0 i due g + (if is_field f g then n else 0)) all ∙ plus_before f g i due is)))
+
+pub counted_over : (due : Field → ℕ) (i : ℕ) (t u : List ℕ) → i ≡ 10 → RaisesBefore due i t u → (g : Field) → count_of u g ≡ raised (count_of t g) (due g)
+counted_over due i t u over was g = was g ∙ ap (λ (n : ℕ). raised (count_of t g) n) (ap (λ (k : ℕ). before 0 k due g) over ∙ before_all 0 due g)
+
+before_less : (due : Field → ℕ) (i : ℕ) (g : Field) → before 0 i due g ≤ due g
+before_less due i g = by_test (nat_lt (number_of g) i)
+  where
+    by_test : (b : Bool) → (if b then due g else 0) ≤ due g
+    by_test true = omega arith
+    by_test false = omega arith
+
+-- so they rose by no more than all that are due
+pub counted_within : (due : Field → ℕ) (i : ℕ) (t u : List ℕ) → RaisesBefore due i t u → (g : Field) → (count_of t g ≤ count_of u g) × (count_of u g ≤ raised (count_of t g) (due g))
+counted_within due i t u was g =
+    let e = was g in
+    let up = raised_up (count_of t g) (before 0 i due g) in
+    let more = raised_more (count_of t g) (before 0 i due g) (due g) (before_less due i g) in
+    (omega arith, omega arith)
+
+-- and where memory ran out at a field
+pub counted_refused : (due : Field → ℕ) (f : Field) (i most : ℕ) (t u v : List ℕ) → number_of f ≡ i → most ≡ due f → RaisesBefore due i t u → RaisesAtMost most f u v → (g : Field) → (count_of t g ≤ count_of v g) × (count_of v g ≤ raised (count_of t g) (due g))
+counted_refused due f i most t u v is all was more g =
+    let e = was g in
+    let m = more g in
+    let up = raised_up (count_of t g) (before 0 i due g) in
+    let sum : raised (count_of u g) (if is_field f g then most else 0) ≡ raised (count_of t g) (before 0 (i + 1) due g) =
+    ap (λ (n : ℕ). raised n (if is_field f g then most else 0)) e
+    ∙ (raised_twice (count_of t g) (before 0 i due g) (if is_field f g then most else 0)
+    ∙ ap (λ (n : ℕ). raised (count_of t g) n) (ap (λ (n : ℕ). before 0 i due g + (if is_field f g then n else 0)) all ∙ plus_before f g i due is)) in
+    let most_due = raised_more (count_of t g) (before 0 (i + 1) due g) (due g) (before_less due (i + 1) g) in
+    (omega arith, omega arith)
+
+-- the parts that are still held are as they were
+abbrev pub HeldFrom : ℕ → List (Option PlainPart) → List (Option PlainPart) → Type 0
+HeldFrom i old now = (k : ℕ) → i ≤ k → get_or now k None ≡ get_or old k None
+
+pub held_next : (i n : ℕ) (old now : List (Option PlainPart)) (o : Option PlainPart) → n ≡ i → HeldFrom i old now → HeldFrom (i + 1) old (set now n o)
+held_next i n old now o is same k le =
+    let apart : k ≢ n = λ e. absurd (omega arith) in
+    get_or-set_other now n k o None apart ∙ same k (omega arith)
+
+-- the part that is taken is the packet's
+pub held_part : (i n : ℕ) (f : Field) (old now : List (Option PlainPart)) (o : Option PlainPart) → o ≡ get_or now n o → n ≡ number_of f → n ≡ i → n < 10 → length now ≡ 10 → HeldFrom i old now → o ≡ as_map old f
+held_part i n f old now o read is at below ten same =
+    get_or_read_under now n 10 o None read below (sym ten) ∙ (same n (omega arith) ∙ ap (λ (k : ℕ). get_or old k None) is)
+
+-- what is kept of one field more
+pub kept_next : (ts : List Touch) (parts : Parts) (fields : List Field) (i : ℕ) (before after : List Kept) (one : Kept) (mode : Mode) (part : Option PlainPart) → i < length fields → after ≡ before ++ one ∷ [] → kept_in one ≡ kept_part mode part → mode ≡ mode_of ts (get_or fields i LinkDst) → part ≡ parts (get_or fields i LinkDst) → map kept_in before ≡ map (kept_parts ts parts) (take i fields) → map kept_in after ≡ map (kept_parts ts parts) (take (i + 1) fields)
+kept_next ts parts fields i before after one mode part below made is mode_is own was =
+    let kept : kept_in one ≡ kept_parts ts parts (get_or fields i LinkDst) = is ∙ (ap (λ (m : Mode). kept_part m part) mode_is ∙ ap (λ (o : Option PlainPart). kept_part (mode_of ts (get_or fields i LinkDst)) o) own) in
+    ap (λ (xs : List Kept). map kept_in xs) made
+    ∙ (map-append kept_in before (one ∷ [])
+    ∙ (ap (λ (xs : List (Option PlainPart)). xs ++ kept_in one ∷ []) was
+    ∙ (ap (λ (o : Option PlainPart). map (kept_parts ts parts) (take i fields) ++ o ∷ []) kept ∙ sym (mapped_more (kept_parts ts parts) fields i below))))
+
+-- and of all
+pub kept_over : (ts : List Touch) (parts : Parts) (fields : List Field) (i : ℕ) (kept : List Kept) → fields ≡ all_fields → length fields ≤ i → map kept_in kept ≡ map (kept_parts ts parts) (take i fields) → map kept_in kept ≡ as_list (kept_parts ts parts)
+kept_over ts parts fields i kept is past was = mapped_over (kept_parts ts parts) fields i (map kept_in kept) is past was
+
+-- versions that have no field
+pub touches_begin : (ts : List Touch) (fixed : Fixed) (vs : List PlainVersion) → vs ≡ map (λ t. nothing t fixed) ts → touches_in vs ≡ ts
+touches_begin ts fixed vs is = ap touches_in is ∙ same ts
+  where
+    same : (us : List Touch) → touches_in (map (λ t. nothing t fixed) us) ≡ us
+    same [] = refl
+    same (u ∷ us) = ap (λ (xs : List Touch). u ∷ xs) (same us)
+
+pub empty_begin : (ts : List Touch) (fixed : Fixed) (vs : List PlainVersion) → vs ≡ map (λ t. nothing t fixed) ts → vs ≡ map without_fields vs
+empty_begin ts fixed vs is = is ∙ (sym (same ts) ∙ ap (λ (xs : List PlainVersion). map without_fields xs) (sym is))
+  where
+    same : (us : List Touch) → map without_fields (map (λ t. nothing t fixed) us) ≡ map (λ t. nothing t fixed) us
+    same [] = refl
+    same (u ∷ us) = ap (λ (xs : List PlainVersion). nothing u fixed ∷ xs) (same us)
+
+pub dealt_begin : (ts : List Touch) (parts : Parts) (fixed : Fixed) (vs : List PlainVersion) → vs ≡ map (λ t. nothing t fixed) ts → map (λ v. dealt_version parts v.fixed v.touch) vs ≡ map (dealt_version parts fixed) ts
+dealt_begin ts parts fixed vs is = ap (λ (xs : List PlainVersion). map (λ v. dealt_version parts v.fixed v.touch) xs) is ∙ same ts
+  where
+    same : (us : List Touch) → map (λ v. dealt_version parts v.fixed v.touch) (map (λ t. nothing t fixed) us) ≡ map (dealt_version parts fixed) us
+    same [] = refl
+    same (u ∷ us) = ap (λ (xs : List PlainVersion). dealt_version parts fixed u ∷ xs) (same us)
+
+-- the tags of a packet are whole
+pub tags_whole : (parts : Parts) (frame : List ℕ) → IsWhole parts frame → AreTags (parts Tag)
+tags_whole parts frame w = by_part (parts Tag) (w.fits Tag)
+  where
+    by_part : (o : Option PlainPart) → IfSome (option_map (λ p. p.bytes) o) (λ new. Fits Tag new frame) → AreTags o
+    by_part None fits = tt
+    by_part (Some p) fits = fits.1

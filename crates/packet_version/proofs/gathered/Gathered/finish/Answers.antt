@@ -1,0 +1,8 @@
+use Rattle.std.proofs.Common.{sym, subst}
+use Rattle.packet_version.specs.Parts.{as_map}
+use Rattle.packet_version.specs.Splitting.{PlainApart, IsWhole, parts_of}
+use Rattle.packet_version.proofs.Resting.{whole_from}
+use Rattle.packet_version.proofs.gathered.Gathered.finish.Goals as goal
+
+pub invariant_of-result : goal.invariant_of-result
+invariant_of-result c = (c.self.invariant, whole_from (as_map c.self.inside.parts.items) c.self.inside.rest (subst (λ (w : PlainApart). IsWhole (parts_of w) w.rest) (sym c.self.view_is) c.requires))

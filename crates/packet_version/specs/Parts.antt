@@ -1,0 +1,57 @@
+-- A packet in parts: for each field that it has its bytes, who wrote them last, and how many fit.
+use Rattle.std.specs.Prelude.{ℕ, List, Option, Some, None, Bool, if◌then◌else◌, ◌==◌, option_map, slice_index_or, map}
+use Rattle.packet_fields.specs.Fields.{number_of}
+use Rattle.packet_fields.specs.Writing.{all_fields}
+use Rattle.packet_fields.specs.declared.field.Field.{Field}
+
+-- A field's bytes, the chain position of the function that wrote them last in this stage (0 where none
+-- did), and the greatest number of bytes that it can have without taking memory.
+pub record PlainPart : Type 0 where
+  pub bytes : List ℕ
+  pub writer : ℕ
+  pub room : ℕ
+
+-- the part of each field, where there is one
+abbrev pub Parts : Type 0
+Parts = Field → Option PlainPart
+
+-- a list of optional parts in the fields' order, read as a map
+abbrev pub as_map : List (Option PlainPart) → Parts
+as_map parts f = slice_index_or parts (number_of f) None
+
+-- a map as such a list
+abbrev pub as_list : Parts → List (Option PlainPart)
+as_list parts = map parts all_fields
+
+-- the bytes of each field
+abbrev pub values_of : Parts → Field → Option (List ℕ)
+values_of parts f = option_map (λ p. p.bytes) (parts f)
+
+abbrev pub writer_in : Option PlainPart → ℕ
+writer_in None = 0
+writer_in (Some p) = p.writer
+
+-- the last writer of each field, 0 where there is none
+abbrev pub writers_of : Parts → Field → ℕ
+writers_of parts f = writer_in (parts f)
+
+-- two names of one field
+abbrev pub is_field : Field → Field → Bool
+is_field f g = number_of f == number_of g
+
+-- the parts with this part in a field's place, or none
+abbrev pub changed : Field → Option PlainPart → Parts → Parts
+changed f part parts g = if is_field f g then part else parts g
+
+-- a part that nobody wrote in this stage
+abbrev pub unwritten : PlainPart → PlainPart
+unwritten p = record p { writer = 0 }
+
+-- a part with other bytes, by this writer
+abbrev pub rewritten : List ℕ → ℕ → PlainPart → PlainPart
+rewritten bytes writer p = record p { bytes = bytes; writer = writer }
+
+-- A part that is lent, and how many readers are still to get it.
+pub record PlainLease : Type 0 where
+  pub part : PlainPart
+  pub left : ℕ

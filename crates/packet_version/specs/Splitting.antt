@@ -1,0 +1,58 @@
+-- A frame that comes apart into its fields and its rest, and goes together again.
+use Rattle.std.specs.Prelude.{◌≡◌, ◌≢◌, ℕ, ◌+◌, ◌*◌, List, length, true, Option, IfSome, option_map, is_some, if◌then◌else◌}
+use Rattle.packet_fields.specs.Frames.{packet, is_tag_list}
+use Rattle.packet_fields.specs.Packets.{total_len, protocol, control_bits}
+use Rattle.packet_fields.specs.Fields.{value, ether_type}
+use Rattle.packet_fields.specs.Writing.{written, AllFit}
+use Rattle.packet_fields.specs.declared.field.Field.{Field}
+use Rattle.packet_fields.specs.declared.field.Field.TheVariants.{Tag}
+use Rattle.action_profile.specs.Profiles.{is_tag}
+use Rattle.packet_version.specs.Parts.{PlainPart, Parts, as_map, values_of}
+use Rattle.packet_version.specs.declared.fixed.Fixed.{Fixed}
+
+-- The parts of a packet in the fields' order, what is left of its frame without them, and its fixed values.
+pub record PlainApart : Type 0 where
+  pub parts : List (Option PlainPart)
+  pub rest : List ℕ
+  pub fixed : Fixed
+
+abbrev pub parts_of : PlainApart → Parts
+parts_of whole = as_map whole.parts
+
+-- the values of a frame that no function writes, and when it was captured
+abbrev pub fixed_of : ℕ → List ℕ → Fixed
+fixed_of time frame = record {
+  time = time;
+  ether_type = ether_type frame;
+  proto = protocol (packet frame);
+  ip_len = total_len (packet frame);
+  tcp_flags = control_bits (packet frame);
+}
+
+-- room for so many further tags of four bytes each, in the list of tags alone
+abbrev pub spare_room : ℕ → Field → ℕ
+spare_room taggers f = if is_tag f then 4 * taggers else 0
+
+-- a part of these bytes, which nobody wrote
+abbrev pub fresh : ℕ → List ℕ → PlainPart
+fresh spare bytes = record { bytes = bytes; writer = 0; room = length bytes + spare }
+
+-- the part of each field of a frame
+abbrev pub split_parts : ℕ → List ℕ → Parts
+split_parts taggers frame f = option_map (fresh (spare_room taggers f)) (value f frame)
+
+-- the frame of some parts: its rest, with each part in its field's place
+abbrev pub joined : PlainApart → List ℕ
+joined whole = written (values_of (parts_of whole)) whole.rest
+
+-- these are the parts of such a frame: there is one exactly where the frame has the field, and it can stand
+-- in the field's place
+pub record IsWhole (parts : Parts) (frame : List ℕ) : Type 0 where
+  pub there : (f : Field) → is_some (parts f) ≡ is_some (value f frame)
+  pub fits : AllFit (values_of parts) frame
+
+-- Parts of the same fields as others, of the same lengths but for the tags, which are whole: so they fit the same rest.
+pub record IsShapedAs (old new : Parts) : Type 0 where
+  pub there : (f : Field) → is_some (new f) ≡ is_some (old f)
+  pub lengths : (f : Field) → f ≢ Tag → option_map (λ p. length p.bytes) (new f) ≡ option_map (λ p. length p.bytes) (old f)
+  pub tags : IfSome (new Tag) (λ p. is_tag_list p.bytes ≡ true)

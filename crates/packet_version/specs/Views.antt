@@ -1,0 +1,62 @@
+-- What a function sees of its branch's version, and how it writes there.
+use Rattle.std.specs.Prelude.{◌≡◌, ◌≢◌, ℕ, ◌≤◌, ◌+◌, List, ◌++◌, length, drop, Option, true, option_map, IsSomeAnd, All}
+use Rattle.packet_fields.specs.declared.field.Field.{Field}
+use Rattle.packet_fields.specs.declared.field.Field.TheVariants.{Tag}
+use Rattle.action_profile.specs.declared.parts.Touch.{Touch}
+use Rattle.action_profile.specs.declared.rights.Profile.{Profile}
+use Rattle.packet_version.specs.Parts.{PlainPart, Parts, values_of, rewritten, changed}
+use Rattle.packet_version.specs.Slots.{is_shown, AreSlots}
+use Rattle.packet_version.specs.Versions.{PlainVersion, parts_of, with_part, HoldsNamed}
+use Rattle.packet_version.specs.declared.slot.Slot.{Slot}
+
+-- The version, the profile of the function that sees it, and the function's position in its chain.
+pub record PlainView : Type 0 where
+  pub version : PlainVersion
+  pub profile : Profile
+  pub position : ℕ
+
+-- the parts behind a view
+abbrev pub seen_parts : PlainView → Parts
+seen_parts view = parts_of view.version
+
+-- the bytes behind a view
+abbrev pub seen_values : PlainView → Field → Option (List ℕ)
+seen_values view = values_of (seen_parts view)
+
+-- the view once its function wrote these bytes into a field that is present
+abbrev pub wrote : Field → List ℕ → PlainView → PlainView
+wrote f bytes view = record view { version = with_part f (option_map (rewritten bytes view.position) (seen_parts view f)) view.version }
+
+-- the view once its function put a tag before the others
+abbrev pub pushed : List ℕ → PlainView → PlainView
+pushed tag view = record view { version = with_part Tag (option_map (λ part. rewritten (tag ++ part.bytes) view.position part) (seen_parts view Tag)) view.version }
+
+-- the view once its function took the first tag away
+abbrev pub popped : PlainView → PlainView
+popped view = record view { version = with_part Tag (option_map (λ part. rewritten (drop 4 part.bytes) view.position part) (seen_parts view Tag)) view.version }
+
+-- a field is present, with bytes of which this holds
+abbrev pub HasBytes : PlainView → Field → (List ℕ → Type 0) → Type 0
+HasBytes view f P = IsSomeAnd (seen_values view f) P
+
+-- a further tag fits behind the tags of a part
+abbrev pub HasTagRoom : PlainView → Type 0
+HasTagRoom view = IsSomeAnd (seen_parts view Tag) (λ part. length part.bytes + 4 ≤ part.room)
+
+-- what a view keeps of its slots: the version holds what the profile names, and there is a claim on each part
+-- that is lent
+pub record IsView (profile : Profile) (touch : Touch) (slots : List Slot) : Type 0 where
+  pub slots_are : AreSlots touch slots
+  pub holds : HoldsNamed profile touch
+  pub shown : All (λ s. is_shown s ≡ true) slots
+
+-- One field of a view became this part. Every other field is as it was, and so is all else: what the branch touches, the
+-- fixed values, the profile and the position.
+pub record WroteAlone (f : Field) (part : Option PlainPart) (before after : PlainView) : Type 0 where
+  pub whole : seen_parts after ≡ changed f part (seen_parts before)
+  pub own : seen_parts after f ≡ part
+  pub others : (g : Field) → f ≢ g → seen_parts after g ≡ seen_parts before g
+  pub touch : after.version.touch ≡ before.version.touch
+  pub fixed : after.version.fixed ≡ before.version.fixed
+  pub profile : after.profile ≡ before.profile
+  pub position : after.position ≡ before.position

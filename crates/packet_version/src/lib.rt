@@ -1,0 +1,55 @@
+//! A packet in parts, and what each branch of a stage gets of it.
+//!
+//! [`split`] takes a frame of any bytes apart into one [`Part`] for each field that it has and the rest
+//! of its bytes; [`join`] puts them together again to the same frame. [`deal`] hands the parts to the
+//! branches of a stage, each of which gets a [`Version`] of its own with the fields that it touches: a
+//! part that no branch writes is lent to all that read it, one that a single branch touches is moved
+//! there, and of any other each branch that writes it has its own. [`copy`] alone makes a second part,
+//! and a [`Tally`] counts it. A function sees its branch's version through a [`View`], by its profile:
+//! it reads and writes what the profile names and nothing else. What no branch has stays in the [`Base`];
+//! behind the stage it gathers the lent parts ([`Base::gather`]), takes those that the branches wrote
+//! ([`Version::take`], [`Gathered::put`]), and is a packet again ([`Gathered::finish`]).
+//!
+//! What is promised: a frame that was split and joined is the same frame, whatever its bytes; each branch
+//! is dealt exactly the fields that it touches and the packet has, written by nobody; the tally rises by
+//! exactly the copies that are due; a view shows the bytes of the version, a write changes that one
+//! field and tells its writer, and no call of a view takes memory or changes a part's room. No two
+//! branches have the same part, but for one that is lent, which nobody writes. [`written_is_read`] and
+//! [`left_is_read`] say what is read after a write.
+//!
+//! Contracts see a packet, a base, a version and a view as plain data: a list of ten optional parts, each
+//! with its bytes, its writer and its room, which `as_map` of `specs/Parts.antt` reads as a map from the
+//! fields (`parts_of` of a packet or a version, `seen_parts` of a view); beside it what the branch
+//! touches, the fixed values, the profile and the position.
+//!
+//! Which part of several prevails behind a stage is left out, and so is what a function does.
+#![tactic(auto)]
+
+mod apart;
+mod base;
+mod dealing;
+mod fixed;
+mod gathered;
+mod hand;
+mod laws;
+mod lease;
+mod part;
+mod rest;
+mod slot;
+mod tally;
+#[cfg(test)]
+mod tests;
+mod version;
+mod view;
+
+pub use apart::{Apart, join, split};
+pub use base::Base;
+pub use chain_walk::Verdict;
+pub use dealing::deal;
+pub use fixed::Fixed;
+pub use gathered::Gathered;
+pub use laws::{dealt_is_read, left_is_read, shape_fits, write_apart, written_is_read};
+pub use part::{Part, copy};
+pub use tally::Tally;
+pub use version::Version;
+pub use view::View;

@@ -1,0 +1,141 @@
+//! The part of a packet that is one field.
+
+use crate::tally::Tally;
+use packet_fields::Field;
+use std::alloc::{AllocError, Global};
+use std::marker::Model;
+
+/// A field's bytes, who wrote them last in this stage, and how many bytes fit without taking memory.
+///
+/// A part can't be cloned: [`copy`] alone makes a second one, and counts it.
+#[derive(Drop)]
+pub struct Part {
+    bytes: Vec<u8>,
+    writer: u32,
+    room: usize,
+}
+
+impl Model for Part {
+    ghost use Rattle.std.specs.Prelude.{◌≤◌, vec_len, vec_capacity};
+    ghost use Rattle.packet_version.specs.Parts.{PlainPart};
+
+    ghost Value = { PlainPart };
+
+    ghost view = { λ p. record { bytes = p.bytes.items; writer = p.writer; room = p.room } };
+
+    ghost invariant = { λ p. (vec_len p.bytes ≤ p.room) × (p.room ≤ vec_capacity p.bytes) };
+}
+
+impl Part {
+    ghost use Rattle.std.specs.Prelude.{◌≡◌, ◌≤◌, ◌+◌, ◌++◌, length, drop, IfOk};
+    ghost use Rattle.std.specs.Borrow.{sem};
+    ghost use Rattle.packet_version.specs.Parts.{unwritten, rewritten};
+    ghost use Rattle.packet_version.specs.Lending.{LendsBytes};
+    ghost use Rattle.packet_version.specs.Splitting.{fresh};
+
+    /// A part of these bytes that nobody wrote, with room for `spare` bytes more.
+    pub(crate) fn new(alloc: Global, bytes: &[u8], spare: usize) -> Result<Part, AllocError>
+        ensures { IfOk result (λ part. part ≡ fresh spare bytes.now) }
+    {
+        let Some(room) = bytes.len().checked_add(spare) else {
+            return Err(AllocError);
+        };
+        let mut held = Vec::with_capacity(alloc, room)?;
+        held.extend_from_slice(bytes)?;
+        Ok(Part {
+            bytes: held,
+            writer: 0,
+            room,
+        })
+    }
+
+    /// The field's bytes.
+    pub fn bytes(&self) -> &[u8]
+        ensures { result.now ≡ self.now.bytes }
+    {
+        &self.bytes
+    }
+
+    /// The chain position of the function that wrote the part last in this stage, 0 for none.
+    pub fn writer(&self) -> u32
+        ensures { result ≡ self.now.writer }
+    {
+        self.writer
+    }
+
+    /// The part as the next stage finds it: written by nobody.
+    pub(crate) fn unwritten(mut self) -> Part
+        ensures { result ≡ unwritten self }
+    {
+        self.writer = 0;
+        self
+    }
+
+    /// Writes the bytes, as many as there are.
+    pub(crate) fn set(&mut self, writer: u32, bytes: &[u8])
+        requires { length bytes.now ≡ length self.old.bytes }
+        ensures { self.new ≡ rewritten bytes.now writer self.old }
+    {
+        self.writer = writer;
+        self.bytes.copy_from_slice(bytes);
+    }
+
+    /// Sets the writer, and lends the bytes.
+    pub(crate) fn edit(&mut self, writer: u32) -> &mut [u8]
+        ensures* writes_back { sem 𝓛 (LendsBytes self.entry writer result) }
+        ensures bytes { result.now ≡ self.old.bytes }
+    {
+        self.writer = writer;
+        self.bytes.as_mut_slice()
+    }
+
+    /// Puts four bytes before the others.
+    pub(crate) fn push_front(&mut self, writer: u32, four: [u8; 4])
+        requires { length self.old.bytes + 4 ≤ self.old.room }
+        ensures part { self.new ≡ rewritten (four ++ self.old.bytes) writer self.old }
+        ensures len { length self.new.bytes ≡ length self.old.bytes + 4 }
+    {
+        let [first, second, third, fourth] = four;
+        self.bytes.push_reserved(first);
+        self.bytes.push_reserved(second);
+        self.bytes.push_reserved(third);
+        self.bytes.push_reserved(fourth);
+        self.bytes.rotate_right(4);
+        self.writer = writer;
+    }
+
+    /// Takes the first four bytes away.
+    pub(crate) fn pop_front(&mut self, writer: u32)
+        requires { 4 ≤ length self.old.bytes }
+        ensures { self.new ≡ rewritten (drop 4 self.old.bytes) writer self.old }
+    {
+        let left = self.bytes.len() - 4;
+        self.bytes.rotate_left(4);
+        self.bytes.truncate(left);
+        self.writer = writer;
+    }
+
+    /// The greatest length in bytes that the part can have without taking memory.
+    pub fn room(&self) -> usize
+        ensures room { result ≡ self.now.room }
+        ensures fits { length self.now.bytes ≤ result }
+    {
+        self.room
+    }
+}
+
+ghost use Rattle.std.specs.Prelude.{◌≡◌, IfOk, if◌then◌else◌, is_ok};
+ghost use Rattle.packet_version.specs.Parts.{unwritten};
+ghost use Rattle.packet_version.specs.Tallies.{RaisesBy};
+
+/// A second part with the same bytes and the same room, which nobody wrote in this stage.
+///
+/// The tally of the field rises by one exactly where the copy is made.
+pub fn copy(alloc: Global, part: &Part, field: Field, tally: &mut Tally) -> Result<Part, AllocError>
+    ensures same { IfOk result (λ made. made ≡ unwritten part.now) }
+    ensures counted { RaisesBy (if is_ok result then 1 else 0) field tally.old tally.new }
+{
+    let made = Part::new(alloc, part.bytes(), part.room() - part.bytes().len())?;
+    tally.count(field);
+    Ok(made)
+}

@@ -1,0 +1,108 @@
+//! What is left of a frame without its fields.
+
+use packet_fields::{Field, Layout, layout};
+use std::alloc::{AllocError, Global};
+use std::marker::Model;
+
+/// A frame whose fields are of no account, with its own layout.
+#[derive(Drop)]
+pub(crate) struct Rest {
+    bytes: Vec<u8>,
+    plan: Layout,
+}
+
+impl Model for Rest {
+    ghost use Rattle.std.specs.Prelude.{◌≡◌, List, ℕ};
+    ghost use Rattle.packet_fields.specs.Fields.{layout_of};
+
+    ghost Value = { List ℕ };
+
+    ghost view = { λ r. r.bytes.items };
+
+    ghost invariant = { λ r. r.plan ≡ layout_of r.bytes.items };
+}
+
+impl Rest {
+    ghost use Rattle.std.specs.Prelude.{◌≡◌, ◌≢◌, OnOk, IsTrue};
+    ghost use Rattle.std.specs.Option.{option_copied};
+    ghost use Rattle.packet_fields.specs.Fields.{value, layout_of};
+    ghost use Rattle.packet_fields.specs.Writing.{put as put_in, Fits};
+    ghost use Rattle.packet_fields.specs.declared.field.Field.{Field};
+
+    pub(crate) fn new(bytes: Vec<u8>) -> Self
+        ensures { result ≡ bytes.items }
+    {
+        let plan = layout(&bytes);
+        Rest { bytes, plan }
+    }
+
+    /// The frame's own values.
+    pub(crate) fn plan(&self) -> &Layout
+        ensures { result.now ≡ layout_of self.now }
+    {
+        &self.plan
+    }
+
+    /// The bytes in a field's place.
+    pub(crate) fn get(&self, field: Field) -> Option<&[u8]>
+        ensures { option_copied result ≡ value field self.now }
+    {
+        packet_fields::get(field, &self.bytes, &self.plan)
+    }
+
+    /// Puts these bytes into a field's place.
+    pub(crate) fn put(
+        &mut self,
+        alloc: Global,
+        field: Field,
+        bytes: &[u8],
+    ) -> Result<(), AllocError>
+        requires { Fits field bytes.now self.old }
+        ensures { OnOk result (self.new ≡ put_in field bytes.now self.old) }
+    {
+        match field {
+            Field::Tag => self.put_tags(alloc, bytes),
+            _ => {
+                self.put_value(field, bytes);
+                Ok(())
+            }
+        }
+    }
+
+    /// Tags that stay as they are take no memory.
+    fn put_tags(&mut self, alloc: Global, list: &[u8]) -> Result<(), AllocError>
+        requires { Fits Field.Tag list.now self.old }
+        ensures { OnOk result (self.new ≡ put_in Field.Tag list.now self.old) }
+    {
+        if self.has_tags(list) {
+            return Ok(());
+        }
+        let frame = packet_fields::with_tags(alloc, list, &self.bytes)?;
+        *self = Rest::new(frame.into_bytes());
+        Ok(())
+    }
+
+    fn has_tags(&self, list: &[u8]) -> bool
+        ensures { IsTrue result → value Field.Tag self.now ≡ Some list.now }
+    {
+        match self.get(Field::Tag) {
+            Some(own) => own == list,
+            None => false,
+        }
+    }
+
+    fn put_value(&mut self, field: Field, bytes: &[u8])
+        requires not_tag { field ≢ Field.Tag }
+        requires fits { Fits field bytes.now self.old }
+        ensures { self.new ≡ put_in field bytes.now self.old }
+    {
+        packet_fields::put(field, bytes, &mut self.bytes, &self.plan);
+    }
+
+    pub(crate) fn into_bytes(self) -> Vec<u8>
+        ensures { result.items ≡ self }
+    {
+        let Rest { bytes, plan: _ } = self;
+        bytes
+    }
+}

@@ -1,0 +1,224 @@
+//! What a function sees of its branch's version.
+
+use crate::fixed::Fixed;
+use crate::part::Part;
+use crate::slot::Slot;
+use crate::version::{Version, released};
+use action_profile::{Profile, Touch};
+use packet_fields::Field;
+use std::marker::Model;
+use std::mem;
+
+/// A version as one function sees it: what its profile names, and nothing else. A view can't be
+/// dropped: [`View::end`] gives the version back.
+pub struct View {
+    pub(crate) slots: Vec<Slot>,
+    pub(crate) touch: Touch,
+    pub(crate) fixed: Fixed,
+    pub(crate) profile: Profile,
+    pub(crate) position: u32,
+}
+
+impl Model for View {
+    ghost use Rattle.std.specs.Prelude.{map};
+    ghost use Rattle.packet_version.specs.Slots.{part_in};
+    ghost use Rattle.packet_version.specs.Views.{PlainView, IsView};
+
+    ghost Value = { PlainView };
+
+    ghost view = { λ v. record { version = record { parts = map part_in v.slots.items; touch = v.touch; fixed = v.fixed }; profile = v.profile; position = v.position } };
+
+    ghost invariant = { λ v. IsView v.profile v.touch v.slots.items };
+}
+
+impl View {
+    ghost use Rattle.std.specs.Prelude.{◌≡◌, ◌≢◌, ◌<◌, true, length, IsSome, is_some};
+    ghost use Rattle.std.specs.Option.{option_copied};
+    ghost use Rattle.packet_fields.specs.Frames.{is_tpid, word};
+    ghost use Rattle.packet_fields.specs.declared.field.Field.{Field};
+    ghost use Rattle.action_profile.specs.Profiles.{reads_of, writes_of};
+    ghost use Rattle.packet_version.specs.Slots.{AreTags};
+    ghost use Rattle.packet_version.specs.Versions.{names, with_part};
+    ghost use Rattle.packet_version.specs.Views.{seen_parts, seen_values, wrote, pushed, popped, HasBytes, HasTagRoom};
+    ghost use Rattle.packet_version.specs.ViewLending.{LendsField};
+    ghost use Rattle.std.specs.Borrow.{sem};
+
+    /// The bytes of a field that the profile reads, where the packet has it.
+    pub fn get(&self, field: Field) -> Option<&[u8]>
+        requires read { reads_of self.now.profile field ≡ true }
+        ensures { option_copied result ≡ seen_values self.now field }
+    {
+        Some(self.slots[field.number()].part()?.bytes())
+    }
+
+    /// Does the packet have this field, which the profile reads or writes?
+    pub fn has(&self, field: Field) -> bool
+        requires named { names self.now.profile field ≡ true }
+        ensures { result ≡ is_some (seen_parts self.now field) }
+    {
+        self.slots[field.number()].is_there()
+    }
+
+    /// Writes a field that is present and that the profile writes, other than the tags. The value has as
+    /// many bytes as the old one.
+    pub fn set(&mut self, field: Field, value: &[u8])
+        requires not_tag { field ≢ Field.Tag }
+        requires written { writes_of self.old.profile field ≡ true }
+        requires fits { HasBytes self.old field (λ old. length value.now ≡ length old) }
+        ensures { self.new ≡ wrote field value.now self.old }
+    {
+        let held = self.take(field);
+        let part = rewritten(held, self.position, value);
+        self.put(field, part);
+    }
+
+    /// Lends the bytes of a field that is present and that the profile reads and writes, other than the
+    /// tags. What is left there is written by this function.
+    pub fn edit(&mut self, field: Field) -> &mut [u8]
+        requires not_tag { field ≢ Field.Tag }
+        requires read { reads_of self.old.profile field ≡ true }
+        requires written { writes_of self.old.profile field ≡ true }
+        requires present { IsSome (seen_parts self.old field) }
+        ensures* writes_back { sem 𝓛 (LendsField self.entry field result) }
+        ensures bytes { seen_values self.old field ≡ Some result.now }
+    {
+        let slot = &mut self.slots[field.number()];
+        slot.edit(self.position)
+    }
+
+    /// Puts a tag before the others, for which there is room. It begins with the identifier of a tag
+    /// (IEEE 802.1Q, 9.5).
+    pub fn push_tag(&mut self, tag: [u8; 4])
+        requires adds { self.old.profile.adds ≡ true }
+        requires identified { is_tpid (word tag 0) ≡ true }
+        requires room { HasTagRoom self.old }
+        ensures { self.new ≡ pushed tag self.old }
+    {
+        let held = self.take(Field::Tag);
+        let part = with_first_tag(held, self.position, tag);
+        self.put(Field::Tag, part);
+    }
+
+    /// Takes the first tag away, where there is one.
+    pub fn pop_tag(&mut self)
+        requires removes { self.old.profile.removes ≡ true }
+        requires tagged { HasBytes self.old Field.Tag (λ tags. 0 < length tags) }
+        ensures { self.new ≡ popped self.old }
+    {
+        let held = self.take(Field::Tag);
+        let part = without_first_tag(held, self.position);
+        self.put(Field::Tag, part);
+    }
+
+    /// Takes the part of a field away.
+    fn take(&mut self, field: Field) -> Option<Part>
+        requires written { writes_of self.old.profile field ≡ true }
+        ensures part { result ≡ seen_parts self.old field }
+        ensures left { self.new ≡ record self.old { version = with_part field None self.old.version } }
+        ensures tags { field ≡ Field.Tag → AreTags result }
+    {
+        let slot = mem::replace(&mut self.slots[field.number()], Slot::Absent);
+        slot.into_own()
+    }
+
+    /// Puts a part, or none, into the place of a field.
+    fn put(&mut self, field: Field, part: Option<Part>)
+        requires { field ≡ Field.Tag → AreTags part }
+        ensures { self.new ≡ record self.old { version = with_part field part self.old.version } }
+    {
+        self.slots[field.number()] = Slot::of(part);
+    }
+
+    /// When the packet was captured, in nanoseconds.
+    pub fn time(&self) -> u64
+        ensures { result ≡ self.now.version.fixed.time }
+    {
+        self.fixed.time
+    }
+
+    /// The EtherType (IEEE 802.3, 3.2.6), where the frame has one.
+    pub fn ether_type(&self) -> Option<u16>
+        ensures { result ≡ self.now.version.fixed.ether_type }
+    {
+        self.fixed.ether_type
+    }
+
+    /// The IPv4 header's protocol (RFC 791, 3.1), where it is captured.
+    pub fn proto(&self) -> Option<u8>
+        ensures { result ≡ self.now.version.fixed.proto }
+    {
+        self.fixed.proto
+    }
+
+    /// The IPv4 header's total length in bytes (RFC 791, 3.1), where it is captured.
+    pub fn ip_len(&self) -> Option<u16>
+        ensures { result ≡ self.now.version.fixed.ip_len }
+    {
+        self.fixed.ip_len
+    }
+
+    /// The TCP header's byte of control bits (RFC 793, 3.1), where it is captured.
+    pub fn tcp_flags(&self) -> Option<u8>
+        ensures { result ≡ self.now.version.fixed.tcp_flags }
+    {
+        self.fixed.tcp_flags
+    }
+
+    /// Gives the claims back, and the version with what was written.
+    pub fn end(self) -> Version
+        ensures { result ≡ self.version }
+    {
+        let View {
+            slots,
+            touch,
+            fixed,
+            profile: _,
+            position: _,
+        } = self;
+        Version {
+            slots: released(slots),
+            touch,
+            fixed,
+        }
+    }
+}
+
+ghost use Rattle.std.specs.Prelude.{◌≡◌, ◌≤◌, ◌<◌, ◌+◌, ◌++◌, true, drop, length, option_map, IsSomeAnd};
+ghost use Rattle.packet_fields.specs.Frames.{is_tpid, word};
+ghost use Rattle.packet_version.specs.Slots.{AreTags};
+ghost use Rattle.packet_version.specs.Parts.{rewritten as rewritten_part};
+
+/// A part that is there, with other bytes by this writer.
+fn rewritten(part: Option<Part>, writer: u32, bytes: &[u8]) -> Option<Part>
+    requires { IsSomeAnd part (λ p. length bytes.now ≡ length p.bytes) }
+    ensures { result ≡ option_map (rewritten_part bytes.now writer) part }
+{
+    let mut part = part?;
+    part.set(writer, bytes);
+    Some(part)
+}
+
+/// Tags that are there, with one more before them.
+fn with_first_tag(part: Option<Part>, writer: u32, tag: [u8; 4]) -> Option<Part>
+    requires identified { is_tpid (word tag 0) ≡ true }
+    requires room { IsSomeAnd part (λ p. length p.bytes + 4 ≤ p.room) }
+    requires tags { AreTags part }
+    ensures pushed { result ≡ option_map (λ p. rewritten_part (tag ++ p.bytes) writer p) part }
+    ensures tags { AreTags result }
+{
+    let mut part = part?;
+    part.push_front(writer, tag);
+    Some(part)
+}
+
+/// Tags that are there, without the first.
+fn without_first_tag(part: Option<Part>, writer: u32) -> Option<Part>
+    requires tagged { IsSomeAnd part (λ p. 0 < length p.bytes) }
+    requires tags { AreTags part }
+    ensures popped { result ≡ option_map (λ p. rewritten_part (drop 4 p.bytes) writer p) part }
+    ensures tags { AreTags result }
+{
+    let mut part = part?;
+    part.pop_front(writer);
+    Some(part)
+}
