@@ -2,28 +2,32 @@
 
 use crate::tally::Tally;
 use packet_fields::Field;
+use smallvec::SmallVec;
 use std::alloc::{AllocError, Global};
 use std::marker::Model;
+
+// Every field of fixed length, and three tags, lie in the part itself.
+const INLINE: usize = 12;
 
 /// A field's bytes, who wrote them last in this stage, and how many bytes fit without taking memory.
 ///
 /// A part can't be cloned: [`copy`] alone makes a second one, and counts it.
 #[derive(Drop)]
 pub struct Part {
-    bytes: Vec<u8>,
+    bytes: SmallVec<u8, INLINE>,
     writer: u32,
     room: usize,
 }
 
 impl Model for Part {
-    ghost use Rattle.std.specs.Prelude.{◌≤◌, vec_len, vec_capacity};
+    ghost use Rattle.std.specs.Prelude.{◌≤◌, length};
     ghost use Rattle.packet_version.specs.Parts.{PlainPart};
 
     ghost Value = { PlainPart };
 
     ghost view = { λ p. record { bytes = p.bytes.items; writer = p.writer; room = p.room } };
 
-    ghost invariant = { λ p. (vec_len p.bytes ≤ p.room) × (p.room ≤ vec_capacity p.bytes) };
+    ghost invariant = { λ p. (length p.bytes.items ≤ p.room) × (p.room ≤ p.bytes.capacity) };
 }
 
 impl Part {
@@ -40,7 +44,7 @@ impl Part {
         let Some(room) = bytes.len().checked_add(spare) else {
             return Err(AllocError);
         };
-        let mut held = Vec::with_capacity(alloc, room)?;
+        let mut held = SmallVec::with_capacity(alloc, room)?;
         held.extend_from_slice(bytes)?;
         Ok(Part {
             bytes: held,
@@ -53,7 +57,7 @@ impl Part {
     pub fn bytes(&self) -> &[u8]
         ensures { result.now ≡ self.now.bytes }
     {
-        &self.bytes
+        self.bytes.as_slice()
     }
 
     /// The chain position of the function that wrote the part last in this stage, 0 for none.
@@ -77,7 +81,7 @@ impl Part {
         ensures { self.new ≡ rewritten bytes.now writer self.old }
     {
         self.writer = writer;
-        self.bytes.copy_from_slice(bytes);
+        self.bytes.as_mut_slice().copy_from_slice(bytes);
     }
 
     /// Sets the writer, and lends the bytes.
@@ -95,12 +99,7 @@ impl Part {
         ensures part { self.new ≡ rewritten (four ++ self.old.bytes) writer self.old }
         ensures len { length self.new.bytes ≡ length self.old.bytes + 4 }
     {
-        let [first, second, third, fourth] = four;
-        self.bytes.push_reserved(first);
-        self.bytes.push_reserved(second);
-        self.bytes.push_reserved(third);
-        self.bytes.push_reserved(fourth);
-        self.bytes.rotate_right(4);
+        self.bytes.insert_from_slice(0, &four).unwrap();
         self.writer = writer;
     }
 
@@ -110,7 +109,7 @@ impl Part {
         ensures { self.new ≡ rewritten (drop 4 self.old.bytes) writer self.old }
     {
         let left = self.bytes.len() - 4;
-        self.bytes.rotate_left(4);
+        self.bytes.as_mut_slice().rotate_left(4);
         self.bytes.truncate(left);
         self.writer = writer;
     }
