@@ -48,8 +48,20 @@ fn a_forbidden_priority_is_told_with_its_pair(rt: HostRuntime) {
 
 #[test]
 fn a_text_is_told_by_its_own_fault(rt: HostRuntime) {
-    let text = b"nfp 1\nchain a\nfn m monitor\norder m after m\n";
-    tells(&rt, rt.alloc(), text, b"policy: line 4 column 9: syntax\n");
+    let after = b"nfp 1\nchain main\nfn mon monitor\nfn fw firewall\norder mon after fw\n";
+    tells(
+        &rt,
+        rt.alloc(),
+        after,
+        b"policy: line 5 column 11: syntax\n",
+    );
+    let nowhere = b"nfp 1\nchain main\nfn mon monitor\nfn fw firewall\nposition mon\n";
+    tells(
+        &rt,
+        rt.alloc(),
+        nowhere,
+        b"policy: line 5 column 13: syntax\n",
+    );
     tells(
         &rt,
         rt.alloc(),
