@@ -1,9 +1,13 @@
 //! What a branch of a stage gives of a packet.
 
-ghost use Rattle.std.specs.Prelude.{◌≡◌};
-ghost use Rattle.merge_ops.specs.Merging.{is_short, nil_of, writer_of};
+ghost use Rattle.std.specs.Prelude.{◌≡◌, true};
+ghost use Rattle.packet_fields.specs.declared.field.Field.{Field};
+ghost use Rattle.packet_version.specs.Slots.{AreTags};
+ghost use Rattle.merge_ops.specs.Merging.{is_short, nil_of, writer_of, part_of};
+ghost use Rattle.merge_ops.specs.Taking.{writes_in, without};
 
 use packet_fields::Field;
+use packet_version::Part;
 
 /// What comes from a branch: its version of the packet, the chain position of the function that dropped
 /// it, or nothing, where a worker found no memory for it or for an earlier packet.
@@ -42,6 +46,29 @@ impl Arrival {
         match self {
             Arrival::Version(version) => version.writer(field),
             _ => 0,
+        }
+    }
+
+    /// Does the branch write the field?
+    pub(crate) fn writes(&self, field: Field) -> bool
+        ensures { result ≡ writes_in field self.now }
+    {
+        match self {
+            Arrival::Version(version) => version.writes(field),
+            _ => false,
+        }
+    }
+
+    /// Takes the part of a field that the branch writes.
+    pub(crate) fn take(&mut self, field: Field) -> Option<Part>
+        requires { writes_in field self.old ≡ true }
+        ensures part { result ≡ part_of field self.old }
+        ensures left { self.new ≡ without field self.old }
+        ensures tags { field ≡ Field.Tag → AreTags result }
+    {
+        match self {
+            Arrival::Version(version) => version.take(field),
+            _ => None,
         }
     }
 }

@@ -3,6 +3,8 @@
 
 mod arrival;
 mod decision;
+mod merging;
 
 pub use arrival::Arrival;
 pub use decision::{Decision, MergeOp, decide};
+pub use merging::{Merged, merge};
