@@ -1,5 +1,5 @@
 -- The arrivals of a base: what the branches of its stage made of the versions that they were dealt.
-use Rattle.std.specs.Prelude.{◌≡◌, ◌≢◌, ◌<◌, ℕ, true, List, length, Option, Some, None, is_some, option_map, slice_index_or}
+use Rattle.std.specs.Prelude.{◌≡◌, ◌≢◌, ◌<◌, ℕ, true, List, length, Option, Some, None, is_some, option_map, map, slice_index_or}
 use Rattle.packet_fields.specs.declared.field.Field.{Field}
 use Rattle.packet_fields.specs.declared.field.Field.TheVariants.{Tag}
 use Rattle.action_profile.specs.declared.parts.Touch.{Touch}
@@ -7,7 +7,7 @@ use Rattle.packet_version.specs.Modes.{has_write}
 use Rattle.packet_version.specs.Parts.{Parts, values_of, writers_of}
 use Rattle.packet_version.specs.Splitting.{PlainApart, IsWhole, parts_of}
 use Rattle.packet_version.specs.Versions.{PlainVersion, parts_of as parts_in}
-use Rattle.packet_version.specs.Dealing.{dealt_parts, based}
+use Rattle.packet_version.specs.Dealing.{dealt_parts, dealt, based}
 use Rattle.merge_ops.specs.Merging.{part_of, last_writer}
 use Rattle.merge_ops.specs.Taking.{arrival_at}
 use Rattle.merge_ops.specs.declared.arrival.Arrival.{Arrival}
@@ -55,3 +55,10 @@ value_by whole arrivals f (Some branch) = option_map (λ p. p.bytes) (part_of f 
 
 abbrev pub value_behind : PlainApart → List Arrival → Field → Option (List ℕ)
 value_behind whole arrivals f = value_by whole arrivals f (last_writer arrivals f)
+
+-- the versions that branches with these touches are dealt, as they come where no branch has a function
+abbrev pub dealt_arrival : PlainApart → Touch → Arrival
+dealt_arrival whole touch = Version (dealt whole touch)
+
+abbrev pub dealt_arrivals : PlainApart → List Touch → List Arrival
+dealt_arrivals whole touches = map (dealt_arrival whole) touches

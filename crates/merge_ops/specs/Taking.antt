@@ -57,8 +57,12 @@ merged_parts base arrivals f = part_behind f arrivals (last_writer arrivals f) (
 abbrev pub with_parts : PlainApart → Parts → PlainApart
 with_parts base parts = record base { parts = as_list parts }
 
+-- the base with those parts
+abbrev pub merged_packet : PlainApart → List Arrival → PlainApart
+merged_packet base arrivals = with_parts base (merged_parts base arrivals)
+
 abbrev pub merged_by : PlainApart → List Arrival → Decision → Merged
-merged_by base arrivals (Take ops) = Whole (with_parts base (merged_parts base arrivals))
+merged_by base arrivals (Take ops) = Whole (merged_packet base arrivals)
 merged_by base arrivals (IsGone p) = Gone p
 merged_by base arrivals IsShort = Halted
 

@@ -1,0 +1,34 @@
+//! Laws of merging, for what stands on it.
+ghost use Rattle.std.specs.Prelude.{◌≡◌, List, map};
+ghost use Rattle.packet_fields.specs.declared.field.Field.{Field};
+ghost use Rattle.action_profile.specs.FieldSets.{all_fields};
+ghost use Rattle.action_profile.specs.declared.parts.Touch.{Touch};
+ghost use Rattle.packet_version.specs.Dealing.{based};
+ghost use Rattle.packet_version.specs.Parts.{values_of};
+ghost use Rattle.packet_version.specs.Splitting.{PlainApart, IsWhole, joined, parts_of};
+ghost use Rattle.merge_ops.specs.declared.arrival.Arrival.{Arrival};
+ghost use Rattle.merge_ops.specs.declared.decision.MergeOp.{MergeOp};
+ghost use Rattle.merge_ops.specs.declared.decision.MergeOp.TheVariants.{Keep};
+ghost use Rattle.merge_ops.specs.declared.decision.Decision.TheVariants.{Take};
+ghost use Rattle.merge_ops.specs.Merging.{decision_of};
+ghost use Rattle.merge_ops.specs.Taking.{merged_parts, merged_packet};
+ghost use Rattle.merge_ops.specs.Behind.{AreFrom, value_behind, dealt_arrivals};
+
+/// A packet that goes on has of each field the value that was written last, or its own where nobody
+/// wrote it, and its own rest and fixed values.
+pub fn merged_is_written_last()
+    ensures values { (whole : PlainApart) (touches : List Touch) (base : PlainApart) (arrivals : List Arrival) (ops : List MergeOp) (f : Field) → AreFrom whole touches base arrivals → decision_of arrivals ≡ Take ops → values_of (parts_of (merged_packet base arrivals)) f ≡ value_behind whole arrivals f }
+    ensures rest { (whole : PlainApart) (touches : List Touch) (base : PlainApart) (arrivals : List Arrival) → AreFrom whole touches base arrivals → (merged_packet base arrivals).rest ≡ whole.rest }
+    ensures fixed { (whole : PlainApart) (touches : List Touch) (base : PlainApart) (arrivals : List Arrival) → AreFrom whole touches base arrivals → (merged_packet base arrivals).fixed ≡ whole.fixed }
+{}
+
+/// The versions that branches are dealt, which nobody wrote, are arrivals of their base.
+pub fn dealt_are_arrivals()
+    ensures { (whole : PlainApart) (touches : List Touch) → IsWhole (parts_of whole) whole.rest → AreFrom whole touches (based touches whole) (dealt_arrivals whole touches) }
+{}
+
+/// A packet that was dealt and that nobody wrote goes on as the same frame.
+pub fn unwritten_is_same()
+    ensures kept { (whole : PlainApart) (touches : List Touch) → decision_of (dealt_arrivals whole touches) ≡ Take (map (λ f. Keep) all_fields) }
+    ensures same { (whole : PlainApart) (touches : List Touch) → IsWhole (parts_of whole) whole.rest → joined (merged_packet (based touches whole) (dealt_arrivals whole touches)) ≡ joined whole }
+{}
