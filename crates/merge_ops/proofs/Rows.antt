@@ -3,7 +3,9 @@ use Rattle.std.proofs.Common.{◌≡◌, ℕ, List, [], ◌∷◌, refl, Some, N
 use Rattle.std.specs.Prelude.{if◌then◌else◌}
 use Rattle.packet_fields.specs.declared.field.Field.{Field}
 use Rattle.packet_fields.specs.declared.field.Field.TheVariants.{Tag, Tos}
-use Rattle.packet_version.specs.Parts.{as_list, is_field}
+use Rattle.packet_version.specs.Splitting.{PlainApart}
+use Rattle.merge_ops.specs.Taking.{merged_parts}
+use Rattle.packet_version.specs.Parts.{values_of, as_list, is_field}
 use Rattle.packet_version.specs.declared.fixed.Fixed.{Fixed}
 use Rattle.merge_ops.specs.Merging.{decision_of, last_writer}
 use Rattle.merge_ops.specs.declared.arrival.Arrival.{Arrival}
@@ -59,3 +61,37 @@ dropped_first = refl
 halted : decision_of (Nil 4 ∷ Nil 2 ∷ Short ∷ []) ≡ Halted
 unfolding decision_of last_writer
 halted = refl
+
+-- a base that kept the type of service, 0, and one that gave it to a branch
+abbrev pub kept_base : PlainApart
+kept_base = record {
+  parts = as_list (λ g. if is_field Tos g then Some (record { bytes = 0 ∷ []; writer = 0; room = 1 }) else None);
+  rest = [];
+  fixed = fixed;
+}
+
+abbrev pub bare_base : PlainApart
+bare_base = record { parts = as_list (λ g. None); rest = []; fixed = fixed }
+
+-- 8 by the first function and 16 by the second give 16; with the second unwritten they give 8; with none written, the base's own
+later_value : values_of (merged_parts kept_base (branch_with Tos (8 ∷ []) 1 ∷ branch_with Tos (16 ∷ []) 2 ∷ [])) Tos ≡ Some (16 ∷ [])
+unfolding merged_parts last_writer
+later_value = refl
+
+first_value : values_of (merged_parts kept_base (branch_with Tos (8 ∷ []) 1 ∷ branch_with Tos (16 ∷ []) 0 ∷ [])) Tos ≡ Some (8 ∷ [])
+unfolding merged_parts last_writer
+first_value = refl
+
+own_value : values_of (merged_parts kept_base (branch_with Tos (8 ∷ []) 0 ∷ branch_with Tos (16 ∷ []) 0 ∷ [])) Tos ≡ Some (0 ∷ [])
+unfolding merged_parts last_writer
+own_value = refl
+
+-- the original that a branch was given comes back from there
+given_value : values_of (merged_parts bare_base (Nil 3 ∷ branch_with Tos (16 ∷ []) 0 ∷ [])) Tos ≡ Some (16 ∷ [])
+unfolding merged_parts last_writer
+given_value = refl
+
+-- a packet without the field goes on without it
+absent_value : values_of (merged_parts bare_base (branch_with Tos (16 ∷ []) 2 ∷ [])) Tag ≡ None
+unfolding merged_parts last_writer
+absent_value = refl

@@ -39,7 +39,7 @@ nobody false o = refl
 dealt_writer : (whole : PlainApart) (touch : Touch) (f : Field) → writers_of (parts_in (dealt whole touch)) f ≡ 0
 dealt_writer whole touch f = ap (λ (m : Parts). writers_of m f) (as_map-listed (dealt_parts touch (parts_of whole))) ∙ nobody (has_touch f touch) (parts_of whole f)
 
-dealt_made : (whole : PlainApart) (touch : Touch) → IsMadeOf whole touch (dealt whole touch)
+pub dealt_made : (whole : PlainApart) (touch : Touch) → IsMadeOf whole touch (dealt whole touch)
 dealt_made whole touch =
     let read = as_map-listed (dealt_parts touch (parts_of whole)) in
     record {

@@ -1,18 +1,20 @@
 //! Laws of merging, for what stands on it.
-ghost use Rattle.std.specs.Prelude.{◌≡◌, List, map};
+ghost use Rattle.std.specs.Prelude.{◌≡◌, ◌≢◌, ◌≤◌, List, Some, length, map, true};
 ghost use Rattle.packet_fields.specs.declared.field.Field.{Field};
 ghost use Rattle.action_profile.specs.FieldSets.{all_fields};
 ghost use Rattle.action_profile.specs.declared.parts.Touch.{Touch};
-ghost use Rattle.packet_version.specs.Dealing.{based};
-ghost use Rattle.packet_version.specs.Parts.{values_of};
+ghost use Rattle.packet_version.specs.Dealing.{dealt, based};
+ghost use Rattle.packet_version.specs.Parts.{PlainPart, values_of};
 ghost use Rattle.packet_version.specs.Splitting.{PlainApart, IsWhole, joined, parts_of};
+ghost use Rattle.packet_version.specs.Modes.{has_write};
+ghost use Rattle.packet_version.specs.Versions.{PlainVersion, with_part, parts_of as parts_in};
 ghost use Rattle.merge_ops.specs.declared.arrival.Arrival.{Arrival};
 ghost use Rattle.merge_ops.specs.declared.decision.MergeOp.{MergeOp};
 ghost use Rattle.merge_ops.specs.declared.decision.MergeOp.TheVariants.{Keep};
 ghost use Rattle.merge_ops.specs.declared.decision.Decision.TheVariants.{Take};
 ghost use Rattle.merge_ops.specs.Merging.{decision_of};
 ghost use Rattle.merge_ops.specs.Taking.{merged_parts, merged_packet};
-ghost use Rattle.merge_ops.specs.Behind.{AreFrom, value_behind, dealt_arrivals};
+ghost use Rattle.merge_ops.specs.Behind.{IsMadeOf, AreFrom, value_behind, dealt_arrivals};
 
 /// A packet that goes on has of each field the value that was written last, or its own where nobody
 /// wrote it, and its own rest and fixed values.
@@ -25,6 +27,13 @@ pub fn merged_is_written_last()
 /// The versions that branches are dealt, which nobody wrote, are arrivals of their base.
 pub fn dealt_are_arrivals()
     ensures { (whole : PlainApart) (touches : List Touch) → IsWhole (parts_of whole) whole.rest → AreFrom whole touches (based touches whole) (dealt_arrivals whole touches) }
+{}
+
+/// The version that a branch is dealt it may have made, and so may it one in which it wrote a field that
+/// is there: by any function, as long as before unless it is the list of tags.
+pub fn written_is_made()
+    ensures dealt { (whole : PlainApart) (touch : Touch) → IsMadeOf whole touch (dealt whole touch) }
+    ensures written { (whole : PlainApart) (touch : Touch) (version : PlainVersion) (f : Field) (old new : PlainPart) → IsMadeOf whole touch version → has_write f touch ≡ true → parts_in version f ≡ Some old → 1 ≤ new.writer → (f ≢ Field.Tag → length new.bytes ≡ length old.bytes) → IsMadeOf whole touch (with_part f (Some new) version) }
 {}
 
 /// A packet that was dealt and that nobody wrote goes on as the same frame.

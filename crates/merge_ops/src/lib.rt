@@ -22,5 +22,5 @@ mod merging;
 
 pub use arrival::Arrival;
 pub use decision::{Decision, MergeOp, decide};
-pub use laws::{dealt_are_arrivals, merged_is_written_last, unwritten_is_same};
+pub use laws::{dealt_are_arrivals, merged_is_written_last, unwritten_is_same, written_is_made};
 pub use merging::{Merged, merge};
