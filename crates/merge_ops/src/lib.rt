@@ -19,6 +19,8 @@ mod arrival;
 mod decision;
 mod laws;
 mod merging;
+#[cfg(test)]
+mod tests;
 
 pub use arrival::Arrival;
 pub use decision::{Decision, MergeOp, decide};
