@@ -72,6 +72,7 @@ reached (a ∷ others) f m is some none =
 pub record IsLast (arrivals : List Arrival) (f : Field) (b : ℕ) : Type 0 where
   pub below : b < length arrivals
   pub wrote : writer_of f (arrival_at arrivals b) ≢ 0
+  pub greatest : writer_of f (arrival_at arrivals b) ≡ greatest_writer arrivals f
 
 last_by : (arrivals : List Arrival) (f : Field) (b : ℕ) (t : Bool) → (greatest_writer arrivals f == 0) ≡ t → (if t then None else position (λ a. writer_of f a == greatest_writer arrivals f) arrivals) ≡ Some b → IsLast arrivals f b
 last_by arrivals f b true is e = absurd (cc)
@@ -80,6 +81,7 @@ last_by arrivals f b false is e =
     let same : writer_of f (arrival_at arrivals b) ≡ greatest_writer arrivals f = (Decides-eqb (writer_of f (arrival_at arrivals b)) (greatest_writer arrivals f)).0 found.1 in
     record {
       below = found.0;
+      greatest = same;
       wrote = λ zero. (let t : (greatest_writer arrivals f == 0) ≡ true = (Decides-eqb (greatest_writer arrivals f) 0).1 (sym same ∙ zero) in cc);
     }
 
@@ -99,3 +101,10 @@ greatest_none arrivals f e = unwritten_by arrivals f (greatest_writer arrivals f
 -- where there is none, nobody wrote it
 pub last_none : (arrivals : List Arrival) (f : Field) (b : ℕ) → last_writer arrivals f ≡ None → writer_of f (arrival_at arrivals b) ≡ 0
 last_none arrivals f b e = let g = greatest_none arrivals f e in let r = below_greatest arrivals f b in omega arith
+
+-- the branch that wrote it last is the one with the greatest writer
+pub last_greatest : (arrivals : List Arrival) (f : Field) (b k : ℕ) → last_writer arrivals f ≡ Some b → writer_of f (arrival_at arrivals k) ≤ writer_of f (arrival_at arrivals b)
+last_greatest arrivals f b k e = let last = last_is arrivals f b e in let same = last.greatest in let below = below_greatest arrivals f k in omega arith
+
+pub last_there : (arrivals : List Arrival) (f : Field) (b : ℕ) → last_writer arrivals f ≡ Some b → (b < length arrivals) × (0 < writer_of f (arrival_at arrivals b))
+last_there arrivals f b e = let last = last_is arrivals f b e in (last.below, (let some = last.wrote in omega arith))

@@ -1,5 +1,5 @@
 //! Laws of merging, for what stands on it.
-ghost use Rattle.std.specs.Prelude.{◌≡◌, ◌≢◌, ◌≤◌, List, Some, length, map, true};
+ghost use Rattle.std.specs.Prelude.{◌≡◌, ◌≢◌, ◌<◌, ◌≤◌, ℕ, List, None, Some, length, map, true};
 ghost use Rattle.packet_fields.specs.declared.field.Field.{Field};
 ghost use Rattle.action_profile.specs.FieldSets.{all_fields};
 ghost use Rattle.action_profile.specs.declared.parts.Touch.{Touch};
@@ -12,9 +12,17 @@ ghost use Rattle.merge_ops.specs.declared.arrival.Arrival.{Arrival};
 ghost use Rattle.merge_ops.specs.declared.decision.MergeOp.{MergeOp};
 ghost use Rattle.merge_ops.specs.declared.decision.MergeOp.TheVariants.{Keep};
 ghost use Rattle.merge_ops.specs.declared.decision.Decision.TheVariants.{Take};
-ghost use Rattle.merge_ops.specs.Merging.{decision_of};
-ghost use Rattle.merge_ops.specs.Taking.{merged_parts, merged_packet};
+ghost use Rattle.merge_ops.specs.Merging.{writer_of, last_writer, decision_of};
+ghost use Rattle.merge_ops.specs.Taking.{arrival_at, merged_packet};
 ghost use Rattle.merge_ops.specs.Behind.{IsMadeOf, AreFrom, value_behind, dealt_arrivals};
+
+/// The branch that wrote a field last is the one with the greatest writer; there is none exactly where
+/// every writer is 0.
+pub fn last_writer_is_greatest()
+    ensures greatest { (arrivals : List Arrival) (f : Field) (branch other : ℕ) → last_writer arrivals f ≡ Some branch → writer_of f (arrival_at arrivals other) ≤ writer_of f (arrival_at arrivals branch) }
+    ensures wrote { (arrivals : List Arrival) (f : Field) (branch : ℕ) → last_writer arrivals f ≡ Some branch → (branch < length arrivals) × (0 < writer_of f (arrival_at arrivals branch)) }
+    ensures unwritten { (arrivals : List Arrival) (f : Field) (branch : ℕ) → last_writer arrivals f ≡ None → writer_of f (arrival_at arrivals branch) ≡ 0 }
+{}
 
 /// A packet that goes on has of each field the value that was written last, or its own where nobody
 /// wrote it, and its own rest and fixed values.

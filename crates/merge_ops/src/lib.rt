@@ -24,5 +24,8 @@ mod tests;
 
 pub use arrival::Arrival;
 pub use decision::{Decision, MergeOp, decide};
-pub use laws::{dealt_are_arrivals, merged_is_written_last, unwritten_is_same, written_is_made};
+pub use laws::{
+    dealt_are_arrivals, last_writer_is_greatest, merged_is_written_last, unwritten_is_same,
+    written_is_made,
+};
 pub use merging::{Merged, merge};
