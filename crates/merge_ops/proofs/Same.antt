@@ -1,0 +1,183 @@
+-- A part that is taken leaves every other field of the arrivals as it was.
+use Rattle.std.proofs.Common.{◌≡◌, ◌≢◌, ◌∙◌, ◌<◌, ◌+◌, ℕ, Bool, true, false, List, map, sym, ap, refl, get_or, length, set, arith, subst}
+use mathlib.Core.Path.{fun_ext}
+use Rattle.std.specs.Prelude.{if◌then◌else◌, not, Option, Some, None, is_some, nat_lt, position}
+use Rattle.std.specs.List.{position_or_len}
+use Rattle.std.specs.Option.{option_or}
+use Rattle.std.proofs.Math.ListN.{get_or-map}
+use Rattle.std.proofs.Math.Seq.{map-set_same}
+use Rattle.std.proofs.lemmas.Bool.Decides.{Decides-eqb, nat_tests}
+use Rattle.std.proofs.lemmas.List.{length-map}
+use Rattle.std.proofs.lemmas.List.Recursion.{is_position_or_len}
+use Rattle.packet_fields.specs.Fields.{number_of}
+use Rattle.packet_fields.specs.declared.field.Field.{Field}
+use Rattle.packet_fields.specs.declared.field.Field.TheVariants.{LinkDst, LinkSrc, Tag, Tos, Ttl, SrcIp, DstIp, SrcPort, DstPort, Payload}
+use Rattle.packet_version.specs.Parts.{PlainPart, Parts, changed, is_field}
+use Rattle.packet_version.specs.Splitting.{PlainApart, parts_of as parts_in}
+use Rattle.packet_version.specs.Versions.{parts_of}
+use Rattle.packet_version.proofs.Maps.{as_map-listed}
+use Rattle.packet_version.proofs.Stepping.{same_field}
+use Rattle.merge_ops.specs.Merging.{part_of, last_writer, op_from, op_of}
+use Rattle.merge_ops.specs.Taking.{writes_in, without, arrival_at, branch_of, source, part_from, part_behind, merged_parts, with_parts, IsWriting, SameIn}
+use Rattle.merge_ops.specs.declared.arrival.Arrival.{Arrival}
+use Rattle.merge_ops.specs.declared.arrival.Arrival.TheVariants.{Version, Nil, Short}
+use Rattle.merge_ops.specs.declared.decision.MergeOp.{MergeOp}
+
+-- two fields have two numbers
+other_field : (f g : Field) → f ≢ g → is_field g f ≡ false
+other_field f g apart = by_test (is_field g f) refl
+  where
+    by_test : (b : Bool) → is_field g f ≡ b → is_field g f ≡ false
+    by_test true e = absurd (apart (sym (same_field g f ((Decides-eqb (number_of g) (number_of f)).0 e))))
+    by_test false e = e
+
+without_part : (f g : Field) (a : Arrival) → f ≢ g → part_of f (without g a) ≡ part_of f a
+without_part f g (Version v) apart = ap (λ (m : Parts). m f) (as_map-listed (changed g None (parts_of v))) ∙ ap (λ (b : Bool). if b then None else parts_of v f) (other_field f g apart)
+without_part f g (Nil p) apart = refl
+without_part f g Short apart = refl
+
+without_writes : (f g : Field) (a : Arrival) → writes_in f (without g a) ≡ writes_in f a
+without_writes f g (Version v) = refl
+without_writes f g (Nil p) = refl
+without_writes f g Short = refl
+
+-- the arrivals behind a part that was taken
+pub same_taken : (f g : Field) (arrivals : List Arrival) (b : ℕ) (new d : Arrival) → f ≢ g → new ≡ without g (get_or arrivals b d) → SameIn f arrivals (set arrivals b new)
+same_taken f g arrivals b new d apart is = record {
+  parts = map-set_same (part_of f) arrivals b new d (ap (λ (a : Arrival). part_of f a) is ∙ without_part f g (get_or arrivals b d) apart);
+  writes = map-set_same (writes_in f) arrivals b new d (ap (λ (a : Arrival). writes_in f a) is ∙ without_writes f g (get_or arrivals b d));
+}
+
+-- and those behind two
+pub same_on : (f : Field) (first old new : List Arrival) → SameIn f first old → SameIn f old new → SameIn f first new
+same_on f first old new s t = record { parts = t.parts ∙ s.parts; writes = t.writes ∙ s.writes }
+
+pub same_self : (f : Field) (arrivals : List Arrival) → SameIn f arrivals arrivals
+same_self f arrivals = record { parts = refl; writes = refl }
+
+turned : (b : Bool) (n : ℕ) → (if not b then n else 0) ≡ (if b then 0 else n)
+turned true n = refl
+turned false n = refl
+
+-- the first that passes is known by the tests
+position-map : {A : Type 0} (p : A → Bool) (xs : List A) → position (λ b. b) (map p xs) ≡ position p xs
+position-map p xs =
+    let first : position_or_len (λ b. b) (map p xs) ≡ position_or_len p xs = is_position_or_len (λ ys. position_or_len (λ b. b) (map p ys)) p refl (λ y ys. turned (p y) (1 + position_or_len (λ b. b) (map p ys))) xs in
+    let len : length (map p xs) ≡ length xs = length-map xs p in
+    cc
+
+same_at : (f : Field) (old new : List Arrival) (b : ℕ) → SameIn f old new → part_of f (arrival_at new b) ≡ part_of f (arrival_at old b)
+same_at f old new b s = sym (get_or-map (part_of f) new b Short) ∙ (ap (λ (ps : List (Option PlainPart)). get_or ps b None) s.parts ∙ get_or-map (part_of f) old b Short)
+
+same_writing : (f : Field) (old new : List Arrival) (b : ℕ) → SameIn f old new → writes_in f (arrival_at new b) ≡ writes_in f (arrival_at old b)
+same_writing f old new b s = sym (get_or-map (writes_in f) new b Short) ∙ (ap (λ (ps : List Bool). get_or ps b false) s.writes ∙ get_or-map (writes_in f) old b Short)
+
+same_length : (f : Field) (old new : List Arrival) → SameIn f old new → length new ≡ length old
+same_length f old new s = sym (length-map new (writes_in f)) ∙ (ap (λ (ps : List Bool). length ps) s.writes ∙ length-map old (writes_in f))
+
+same_source : (f : Field) (old new : List Arrival) (last : Option ℕ) (own : Option PlainPart) → SameIn f old new → source f new last own ≡ source f old last own
+same_source f old new (Some b) own s = refl
+same_source f old new None own s =
+    ap (λ (o : Option ℕ). if is_some own then None else o) (sym (position-map (writes_in f) new) ∙ (ap (λ (ps : List Bool). position (λ b. b) ps) s.writes ∙ position-map (writes_in f) old))
+
+same_from : (f : Field) (old new : List Arrival) (branch : Option ℕ) → SameIn f old new → part_from f new branch ≡ part_from f old branch
+same_from f old new None s = refl
+same_from f old new (Some b) s = same_at f old new b s
+
+-- the part behind the stage is the same of such arrivals
+same_behind : (f : Field) (old new : List Arrival) (last : Option ℕ) (own : Option PlainPart) → SameIn f old new → part_behind f new last own ≡ part_behind f old last own
+same_behind f old new last own s =
+    ap (λ (b : Option ℕ). option_or (part_from f new b) own) (same_source f old new last own s)
+    ∙ ap (λ (p : Option PlainPart). option_or p own) (same_from f old new (source f old last own) s)
+
+still_writing : (f : Field) (old new : List Arrival) (branch : Option ℕ) → SameIn f old new → IsWriting f old branch → IsWriting f new branch
+still_writing f old new None s w = tt
+still_writing f old new (Some b) s w = (let len = same_length f old new s in let inside : b < length old = w.0 in omega arith, same_writing f old new b s ∙ w.1)
+
+-- an operation names the branch that it was made for
+op_branch : (f : Field) (o : Option ℕ) → branch_of (op_from f o) ≡ o
+op_branch f None = refl
+op_branch LinkDst (Some b) = refl
+op_branch LinkSrc (Some b) = refl
+op_branch Tag (Some b) = refl
+op_branch Tos (Some b) = refl
+op_branch Ttl (Some b) = refl
+op_branch SrcIp (Some b) = refl
+op_branch DstIp (Some b) = refl
+op_branch SrcPort (Some b) = refl
+op_branch DstPort (Some b) = refl
+op_branch Payload (Some b) = refl
+
+pub writing_op : (f : Field) (op : MergeOp) (old new : List Arrival) → op ≡ op_of old f → SameIn f old new → IsWriting f old (last_writer old f) → IsWriting f new (branch_of op)
+writing_op f op old new is s w = subst (λ (b : Option ℕ). IsWriting f new b) (sym (ap branch_of is ∙ op_branch f (last_writer old f))) (still_writing f old new (last_writer old f) s w)
+
+-- the parts behind the stage for the fields before an index, and those that were there for the others
+abbrev pub way : ℕ → Parts → Parts → Parts
+way i done left g = if nat_lt (number_of g) i then done g else left g
+
+way_by : (i : ℕ) (done left : Parts) (g : Field) (b : Bool) → nat_lt (number_of g) i ≡ b → way i done left g ≡ (if b then done g else left g)
+way_by i done left g b e = ap (λ (c : Bool). if c then done g else left g) e
+
+lt_self : (a i : ℕ) → a ≡ i → nat_lt a i ≡ false
+lt_self a i is = grind (arith, nat_tests)
+
+lt_next : (a i : ℕ) → a ≡ i → nat_lt a (i + 1) ≡ true
+lt_next a i is = grind (arith, nat_tests)
+
+lt_other : (a i : ℕ) → a ≢ i → nat_lt a (i + 1) ≡ nat_lt a i
+lt_other a i apart = grind (arith, nat_tests)
+
+way_next : (f : Field) (i : ℕ) (done left : Parts) (part : Option PlainPart) (g : Field) → number_of f ≡ i → part ≡ done f → changed f part (way i done left) g ≡ way (i + 1) done left g
+way_next f i done left part g is here = by_test (is_field f g) refl
+  where
+    by_test : (b : Bool) → is_field f g ≡ b → changed f part (way i done left) g ≡ way (i + 1) done left g
+    by_test true e =
+        let same : number_of f ≡ number_of g = (Decides-eqb (number_of f) (number_of g)).0 e in
+        ap (λ (b : Bool). if b then part else way i done left g) e ∙ (here ∙ (ap done (same_field f g same) ∙ sym (way_by (i + 1) done left g true (lt_next (number_of g) i (sym same ∙ is)))))
+    by_test false e =
+        ap (λ (b : Bool). if b then part else way i done left g) e
+        ∙ sym (way_by (i + 1) done left g (nat_lt (number_of g) i) (lt_other (number_of g) i (λ s. (let t : is_field f g ≡ true = (Decides-eqb (number_of f) (number_of g)).1 (is ∙ sym s) in cc))))
+
+pub way_none : (done left : Parts) → way 0 done left ≡ left
+way_none done left = fun_ext none
+  where
+    none : (g : Field) → way 0 done left g ≡ left g
+    none g = way_by 0 done left g false (grind (arith, nat_tests))
+
+pub way_all : (done left : Parts) → way 10 done left ≡ done
+way_all done left = fun_ext all
+  where
+    all : (g : Field) → way 10 done left g ≡ done g
+    all LinkDst = refl
+    all LinkSrc = refl
+    all Tag = refl
+    all Tos = refl
+    all Ttl = refl
+    all SrcIp = refl
+    all DstIp = refl
+    all SrcPort = refl
+    all DstPort = refl
+    all Payload = refl
+
+abbrev pub on_way : ℕ → PlainApart → List Arrival → PlainApart
+on_way i first arrivals = with_parts first (way i (merged_parts first arrivals) (parts_in first))
+
+pub way_parts : (i : ℕ) (first was : PlainApart) (old : List Arrival) → was ≡ on_way i first old → parts_in was ≡ way i (merged_parts first old) (parts_in first)
+way_parts i first was old e = ap parts_in e ∙ as_map-listed (way i (merged_parts first old) (parts_in first))
+
+merged_by_op : (f : Field) (op : MergeOp) (first : PlainApart) (old now : List Arrival) → op ≡ op_of old f → SameIn f old now → part_behind f now (branch_of op) (parts_in first f) ≡ merged_parts first old f
+unfolding merged_parts
+merged_by_op f op first old now is s =
+    ap (λ (b : Option ℕ). part_behind f now b (parts_in first f)) (ap branch_of is ∙ op_branch f (last_writer old f)) ∙ same_behind f old now (last_writer old f) (parts_in first f) s
+
+-- one part more
+pub put_next : (f : Field) (i : ℕ) (op : MergeOp) (first was next : PlainApart) (old now : List Arrival) → number_of f ≡ i → op ≡ op_of old f → SameIn f old now → was ≡ on_way i first old → next ≡ with_parts was (changed f (part_behind f now (branch_of op) (parts_in was f)) (parts_in was)) → next ≡ on_way (i + 1) first old
+put_next f i op first was next old now is made s e step =
+    let done = merged_parts first old in
+    let parts : parts_in was ≡ way i done (parts_in first) = way_parts i first was old e in
+    let here : parts_in was f ≡ parts_in first f = ap (λ (m : Parts). m f) parts ∙ way_by i done (parts_in first) f false (lt_self (number_of f) i is) in
+    let part : part_behind f now (branch_of op) (parts_in was f) ≡ done f = ap (λ (o : Option PlainPart). part_behind f now (branch_of op) o) here ∙ merged_by_op f op first old now made s in
+    step
+    ∙ (ap (λ (w : PlainApart). with_parts w (changed f (part_behind f now (branch_of op) (parts_in was f)) (parts_in was))) e
+    ∙ (ap (λ (m : Parts). with_parts first (changed f (part_behind f now (branch_of op) (parts_in was f)) m)) parts
+    ∙ ap (λ (m : Parts). with_parts first m) (fun_ext (λ g. way_next f i done (parts_in first) (part_behind f now (branch_of op) (parts_in was f)) g is part))))

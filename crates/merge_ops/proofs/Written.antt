@@ -1,0 +1,38 @@
+-- A write leaves a version one that its branch may have made.
+use Rattle.std.proofs.Common.{◌≡◌, ◌≢◌, ◌∙◌, ◌≤◌, ℕ, Bool, true, false, length, sym, ap, refl, subst, arith}
+use Rattle.std.specs.Prelude.{if◌then◌else◌, Option, Some, is_some, option_map}
+use Rattle.std.proofs.lemmas.Bool.Decides.{Decides-eqb}
+use Rattle.packet_fields.specs.Fields.{number_of}
+use Rattle.packet_fields.specs.declared.field.Field.{Field}
+use Rattle.packet_fields.specs.declared.field.Field.TheVariants.{Tag}
+use Rattle.action_profile.specs.declared.parts.Touch.{Touch}
+use Rattle.packet_version.specs.Modes.{has_write}
+use Rattle.packet_version.specs.Parts.{PlainPart, Parts, changed, is_field, writer_in}
+use Rattle.packet_version.specs.Splitting.{PlainApart, parts_of}
+use Rattle.packet_version.specs.Versions.{PlainVersion, parts_of as parts_in, with_part}
+use Rattle.packet_version.specs.Dealing.{dealt_parts}
+use Rattle.packet_version.proofs.Maps.{as_map-listed}
+use Rattle.packet_version.proofs.Stepping.{same_field}
+use Rattle.merge_ops.specs.Behind.{IsMadeOf}
+
+abbrev length_in : Option PlainPart → Option ℕ
+length_in part = option_map (λ p. length p.bytes) part
+
+-- what holds of the new part and of each other one holds of every field
+changed_cases : (f g : Field) (part : Option PlainPart) (v : PlainVersion) (P : Option PlainPart → Type 0) → (f ≡ g → P part) → P (parts_in v g) → P (parts_in (with_part f part v) g)
+changed_cases f g part v P own other = by_test (is_field f g) refl
+  where
+    by_test : (b : Bool) → is_field f g ≡ b → P (parts_in (with_part f part v) g)
+    by_test true e = subst P (sym (ap (λ (m : Parts). m g) (as_map-listed (changed f part (parts_in v))) ∙ ap (λ (b : Bool). if b then part else parts_in v g) e)) (own (same_field f g ((Decides-eqb (number_of f) (number_of g)).0 e)))
+    by_test false e = subst P (sym (ap (λ (m : Parts). m g) (as_map-listed (changed f part (parts_in v))) ∙ ap (λ (b : Bool). if b then part else parts_in v g) e)) other
+
+pub made_on : (whole : PlainApart) (touch : Touch) (v : PlainVersion) (f : Field) (old new : PlainPart) → IsMadeOf whole touch v → has_write f touch ≡ true → parts_in v f ≡ Some old → 1 ≤ new.writer → (f ≢ Tag → length new.bytes ≡ length old.bytes) → IsMadeOf whole touch (with_part f (Some new) v)
+made_on whole touch v f old new m w is by len =
+    let dealt = dealt_parts touch (parts_of whole) in
+    record {
+      touched = m.touched;
+      there = λ g. changed_cases f g (Some new) v (λ o. is_some o ≡ is_some (dealt g)) (λ e. sym (ap (λ (o : Option PlainPart). is_some o) is) ∙ (m.there f ∙ ap (λ (h : Field). is_some (dealt h)) e)) (m.there g);
+      own = λ g. changed_cases f g (Some new) v (λ o. writer_in o ≡ 0 → option_map (λ p. p.bytes) o ≡ option_map (λ p. p.bytes) (dealt g)) (λ e zero. absurd (omega arith)) (m.own g);
+      written = λ g. changed_cases f g (Some new) v (λ o. writer_in o ≢ 0 → has_write g touch ≡ true) (λ e wrote. sym (ap (λ (h : Field). has_write h touch) e) ∙ w) (m.written g);
+      lengths = λ g. changed_cases f g (Some new) v (λ o. g ≢ Tag → length_in o ≡ length_in (dealt g)) (λ e apart. ap (λ (n : ℕ). Some n) (len (λ t. apart (sym e ∙ t))) ∙ (sym (ap length_in is) ∙ (m.lengths f (λ t. apart (sym e ∙ t)) ∙ ap (λ (h : Field). length_in (dealt h)) e))) (m.lengths g);
+    }

@@ -1,0 +1,31 @@
+use Rattle.std.proofs.Common.{◌≡◌, ◌∙◌, ℕ, List, get_or, ap, arith}
+use Rattle.packet_fields.specs.Fields.{number_of}
+use Rattle.packet_fields.specs.declared.field.Field.TheVariants.{LinkDst}
+use Rattle.packet_version.proofs.Maps.{listed_at}
+use Rattle.packet_version.proofs.Stepping.{number_at}
+use Rattle.merge_ops.specs.Merging.{op_of}
+use Rattle.merge_ops.specs.declared.decision.MergeOp.{MergeOp}
+use Rattle.merge_ops.specs.declared.decision.MergeOp.TheVariants.{Keep}
+use Rattle.merge_ops.proofs.Same.{writing_op, put_next, same_on}
+use Rattle.merge_ops.proofs.merging.put_parts.Goals as goal
+
+pub put_part-requires-clause-writing : goal.put_part-requires-clause-writing
+put_part-requires-clause-writing c =
+    let f = get_or c.all_fields-field-items.result.now c.loop-field.field-index LinkDst in
+    let at : number_of f ≡ c.loop-field.field-index = number_at c.all_fields-field-items.result.now c.loop-field.field-index c.loop-field.invariant.fields c.loop-field-test.true in
+    let op : get_or c.args.ops.now c.number.result Keep ≡ op_of c.args.arrivals.now f =
+    ap (λ (n : ℕ). get_or c.args.ops.now n Keep) c.number.ensures.number ∙ (ap (λ (ops : List MergeOp). get_or ops (number_of f) Keep) c.requires.ops ∙ listed_at (op_of c.args.arrivals.now) Keep f) in
+    writing_op f (get_or c.args.ops.now c.number.result Keep) c.args.arrivals.now c.loop-field.arrivals op (c.loop-field.invariant.left f (omega arith)) (c.requires.writing f)
+
+pub loop-field-preserved : goal.loop-field-preserved
+loop-field-preserved c =
+    let f = get_or c.all_fields-field-items.result.now c.loop-field.field-index LinkDst in
+    let at : number_of f ≡ c.loop-field.field-index = number_at c.all_fields-field-items.result.now c.loop-field.field-index c.loop-field.invariant.fields c.loop-field-test.true in
+    let op : get_or c.args.ops.now c.number.result Keep ≡ op_of c.args.arrivals.now f =
+    ap (λ (n : ℕ). get_or c.args.ops.now n Keep) c.number.ensures.number ∙ (ap (λ (ops : List MergeOp). get_or ops (number_of f) Keep) c.requires.ops ∙ listed_at (op_of c.args.arrivals.now) Keep f) in
+    record {
+      fields = c.loop-field.invariant.fields;
+      left = λ g below. same_on g c.args.arrivals.now c.loop-field.arrivals c.put_part.new.arrivals (c.loop-field.invariant.left g (omega arith)) (c.put_part.ensures.others g (λ e. (let same : number_of g ≡ number_of f = ap number_of e in omega arith)));
+      done = put_next f c.loop-field.field-index (get_or c.args.ops.now c.number.result Keep) c.args.gathered.now c.loop-field.gathered c.put_part.new.gathered c.args.arrivals.now c.loop-field.arrivals at op (c.loop-field.invariant.left f (omega arith)) c.loop-field.invariant.done c.put_part.ensures.part;
+      tags = λ t. c.put_part.ensures.tags (c.loop-field.invariant.tags t);
+    }

@@ -1,0 +1,31 @@
+//! Where the versions of a packet come together behind a stage.
+//!
+//! From each branch of a stage comes an [`Arrival`]: its version of the packet, the chain position of the
+//! function that dropped it, or nothing, where a worker found no memory. [`decide`] says what comes of
+//! the packet, and [`merge`] makes it so: it takes the lent parts back into the base, and puts in of each
+//! field the part that was written last.
+//!
+//! What is promised: a packet is short exactly where an arrival is; else gone exactly where it was
+//! dropped, at the least chain position; else each field has the part with the greatest writer, and the
+//! packet's own where nobody wrote it. The rest of the frame and the fixed values are the base's. The list
+//! of arrivals is emptied, and no memory is taken. [`merged_is_written_last`] says it of the values,
+//! [`dealt_are_arrivals`] and [`unwritten_is_same`] of a packet that nobody wrote.
+//!
+//! What `merge` needs of the arrivals stands in `specs/Behind.antt`: one from each branch of the base's
+//! stage, in branch order, each with the fields that its branch was dealt.
+#![tactic(auto)]
+
+mod arrival;
+mod decision;
+mod laws;
+mod merging;
+#[cfg(test)]
+mod tests;
+
+pub use arrival::Arrival;
+pub use decision::{Decision, MergeOp, decide};
+pub use laws::{
+    dealt_are_arrivals, last_writer_is_greatest, merged_is_written_last, unwritten_is_same,
+    written_is_made,
+};
+pub use merging::{Merged, merge};

@@ -1,0 +1,108 @@
+//! How a packet is put together behind a stage.
+
+ghost use Rattle.std.specs.Prelude.{◌≡◌, ◌≢◌, ◌<◌, ◌^◌, [], length, map, position};
+ghost use Rattle.packet_fields.specs.declared.field.Field.{Field};
+ghost use Rattle.action_profile.specs.FieldSets.{all_fields as every_field};
+ghost use Rattle.packet_version.specs.Parts.{as_list, changed};
+ghost use Rattle.packet_version.specs.Slots.{AreTags};
+ghost use Rattle.packet_version.specs.Splitting.{parts_of};
+ghost use Rattle.merge_ops.specs.Merging.{op_of, last_writer};
+ghost use Rattle.merge_ops.specs.Taking.{branch_of, source as source_of, part_behind, merged_parts, with_parts, writes_in, merged, IsWriting, SameIn};
+ghost use Rattle.merge_ops.specs.Behind.{AreArrivals};
+
+use crate::arrival::Arrival;
+use crate::decision::{Decision, MergeOp, decide};
+use action_profile::all_fields;
+use packet_fields::Field;
+use packet_version::{Apart, Base, Gathered};
+use std::sync::Wait;
+
+/// What came of a packet.
+#[derive(Drop)]
+pub enum Merged {
+    /// It goes on.
+    Whole(Apart),
+    /// The function at this chain position dropped it.
+    Gone(u32),
+    /// A worker found no memory for it or for an earlier packet.
+    Short,
+}
+
+/// Puts a packet together again behind a stage, from its base and what came from each branch of the
+/// stage, in branch order. It takes the lent parts back, empties the list, and takes no memory.
+///
+/// What comes of it is as [`decide`] says. A packet that goes on has of each field the part that was
+/// written last, or its own where nobody wrote it, and the rest and the fixed values of the base.
+pub fn merge<R: Wait>(rt: &R, base: Base, arrivals: &mut Vec<Arrival>) -> Merged
+    requires few { length arrivals.old.items < 2 ^ 32 }
+    requires arrivals { AreArrivals base arrivals.old.items }
+    ensures merged { result ≡ merged base arrivals.old.items }
+    ensures emptied { arrivals.new.items ≡ [] }
+{
+    let mut gathered = base.gather(rt);
+    let merged = match decide(arrivals) {
+        Decision::Short => Merged::Short,
+        Decision::Gone(position) => Merged::Gone(position),
+        Decision::Take(ops) => {
+            put_parts(&mut gathered, arrivals, &ops);
+            Merged::Whole(gathered.finish())
+        }
+    };
+    arrivals.clear();
+    merged
+}
+
+/// Puts the part of each field in.
+fn put_parts(gathered: &mut Gathered, arrivals: &mut [Arrival], ops: &[MergeOp; 10])
+    requires listed { gathered.old.parts ≡ as_list (parts_of gathered.old) }
+    requires ops { ops.now ≡ map (op_of arrivals.old) every_field }
+    requires writing { (f : Field) → IsWriting f arrivals.old (last_writer arrivals.old f) }
+    ensures parts { gathered.new ≡ with_parts gathered.old (merged_parts gathered.old arrivals.old) }
+    ensures tags { AreTags (parts_of gathered.old Field.Tag) → AreTags (parts_of gathered.new Field.Tag) }
+{
+    for field in all_fields() {
+        put_part(gathered, arrivals, *field, ops[field.number()]);
+    }
+}
+
+/// Puts the part of a field in, where a branch has it.
+fn put_part(gathered: &mut Gathered, arrivals: &mut [Arrival], field: Field, op: MergeOp)
+    requires listed { gathered.old.parts ≡ as_list (parts_of gathered.old) }
+    requires writing { IsWriting field arrivals.old (branch_of op) }
+    ensures part { gathered.new ≡ with_parts gathered.old (changed field (part_behind field arrivals.old (branch_of op) (parts_of gathered.old field)) (parts_of gathered.old)) }
+    ensures tags { AreTags (parts_of gathered.old Field.Tag) → AreTags (parts_of gathered.new Field.Tag) }
+    ensures others { (f : Field) → f ≢ field → SameIn f arrivals.old arrivals.new }
+{
+    let Some(branch) = source(gathered, arrivals, field, op) else {
+        return;
+    };
+    if let Some(part) = arrivals[branch].take(field) {
+        gathered.put(field, part);
+    }
+}
+
+/// The branch that the part of a field is taken from.
+fn source(gathered: &Gathered, arrivals: &[Arrival], field: Field, op: MergeOp) -> Option<usize>
+    requires writing { IsWriting field arrivals.now (branch_of op) }
+    ensures branch { result ≡ source_of field arrivals.now (branch_of op) (parts_of gathered.now field) }
+    ensures writing { IsWriting field arrivals.now result }
+{
+    match op {
+        MergeOp::Modify(branch) => Some(branch as usize),
+        MergeOp::SetTags(branch) => Some(branch as usize),
+        MergeOp::Keep => {
+            if gathered.has(field) {
+                return None;
+            }
+            first_writing(arrivals, field)
+        }
+    }
+}
+
+/// The first branch that writes the field.
+fn first_writing(arrivals: &[Arrival], field: Field) -> Option<usize>
+    ensures branch { result ≡ position (writes_in field) arrivals.now }
+    ensures writing { IsWriting field arrivals.now result }
+{
+    arrivals.iter().position(|arrival| arrival.writes(field))
+}
