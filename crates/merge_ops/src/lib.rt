@@ -9,10 +9,12 @@
 //! dropped, at the least chain position; else each field has the part with the greatest writer, and the
 //! packet's own where nobody wrote it. The rest of the frame and the fixed values are the base's. The list
 //! of arrivals is emptied, and no memory is taken. [`merged_is_written_last`] says it of the values,
-//! [`dealt_are_arrivals`] and [`unwritten_is_same`] of a packet that nobody wrote.
+//! [`last_writer_is_greatest`] says who wrote last, and [`unwritten_is_same`] that a packet which nobody
+//! wrote comes back as the same frame.
 //!
 //! What `merge` needs of the arrivals stands in `specs/Behind.antt`: one from each branch of the base's
-//! stage, in branch order, each with the fields that its branch was dealt.
+//! stage, in branch order, each with the fields that its branch was dealt. [`dealt_are_arrivals`] and
+//! [`written_is_made`] give it from what was dealt and then written.
 #![tactic(auto)]
 
 mod arrival;
