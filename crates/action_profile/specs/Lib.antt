@@ -1,2 +1,4 @@
 pub mod FieldSets
+pub mod Kinds
+pub mod Modes
 pub mod Profiles

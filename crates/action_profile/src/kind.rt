@@ -1,4 +1,6 @@
 //! The kinds of network functions.
+ghost use Rattle.std.specs.Prelude.{◌≡◌};
+ghost use Rattle.action_profile.specs.Kinds.{kind_name};
 
 /// A kind of network function.
 #[derive(Clone, Copy, Debug, PartialEq, Eq)]
@@ -27,4 +29,26 @@ pub enum Kind {
     Tagger,
     /// Removes a tag (IEEE 802.1Q).
     Untagger,
+}
+
+impl Kind {
+    /// The kind's name in policies and printed texts.
+    pub fn name(self) -> &'static str
+        ensures { result.now ≡ kind_name self }
+    {
+        match self {
+            Kind::Firewall => "firewall",
+            Kind::Signature => "signature",
+            Kind::Nat => "nat",
+            Kind::Balancer => "balancer",
+            Kind::Monitor => "monitor",
+            Kind::Limiter => "limiter",
+            Kind::Marker => "marker",
+            Kind::Nexthop => "nexthop",
+            Kind::Hop => "hop",
+            Kind::Redactor => "redactor",
+            Kind::Tagger => "tagger",
+            Kind::Untagger => "untagger",
+        }
+    }
 }

@@ -1,3 +1,6 @@
-pub mod Packets
+pub mod Shown
 pub mod Step
+pub mod Laws
 pub mod Walk
+pub mod Packets
+pub mod FieldWalk

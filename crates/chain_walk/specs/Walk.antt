@@ -1,9 +1,18 @@
 -- The way of a packet through the functions of a chain, one after another.
-use Rattle.std.specs.Prelude.{ℕ, ◌+◌, ◌≤◌, List, [], ◌∷◌}
-use Rattle.std.specs.Option.{option_map_or}
-use Rattle.chain_walk.specs.Step.{Step}
+use Rattle.std.specs.Prelude.{ℕ, ◌+◌, ◌≤◌, List, [], ◌∷◌, if◌then◌else◌}
+use Rattle.packet_fields.specs.Writing.{written, fields_of}
+use Rattle.chain_walk.specs.Shown.{fixed_of}
+use Rattle.chain_walk.specs.Step.{Step, Behaviour, stepped, is_drop}
 use Rattle.chain_walk.specs.declared.walk.Fate.{Fate}
 use Rattle.chain_walk.specs.declared.walk.Fate.TheVariants.{Out, Gone}
+
+-- what a function does with a whole frame that was captured at this time, in nanoseconds
+abbrev pub applied : {F : Type 0} → Behaviour F → ℕ → F → List ℕ → Step F
+applied b time f frame = stepped b (fixed_of time frame) f (fields_of frame)
+
+-- the frame once what the function wrote is put into its fields
+abbrev pub frame_after : {F : Type 0} → Behaviour F → ℕ → F → List ℕ → List ℕ
+frame_after b time f frame = written (applied b time f frame).written frame
 
 -- Where a packet ended, and the functions as it left them.
 pub record Walked (F : Type 0) : Type 0 where
@@ -20,12 +29,12 @@ dropped_at position f later = record { functions = f ∷ later; fate = Gone posi
 
 -- The walk from the function at this position on: each function acts on the frame that the one before handed on,
 -- and the first that drops the packet ends it.
-unfoldable pub walk : {F : Type 0} → (F → ℕ → List ℕ → Step F) → ℕ → ℕ → List F → List ℕ → Walked F
-walk step time position [] frame = record { functions = []; fate = Out frame }
-walk step time position (f ∷ later) frame = option_map_or
-    (λ next. then_walked (step f time frame).after (walk step time (position + 1) later next))
-    (step f time frame).passed
-    (dropped_at position (step f time frame).after later)
+unfoldable pub walk : {F : Type 0} → Behaviour F → ℕ → ℕ → List F → List ℕ → Walked F
+walk b time position [] frame = record { functions = []; fate = Out frame }
+walk b time position (f ∷ later) frame =
+    if is_drop (applied b time f frame).verdict
+    then dropped_at position (applied b time f frame).after later
+    else then_walked (applied b time f frame).after (walk b time (position + 1) later (frame_after b time f frame))
 
 -- a chain of so many functions has one at the position where the packet was dropped
 abbrev pub EndsWithin : ℕ → Fate → Type 0

@@ -2,12 +2,24 @@
 //! and each packet of a capture through the functions as the packet before it left them.
 //!
 //! This is the yardstick. Whatever else runs a chain (in bursts, in branches, in threads) is measured against the
-//! definitions of `specs/Walk.antt`: no stage, part, copy, queue or thread is known there. [`walk`] is the plain body of
-//! the definition for one packet. A network function is anything that implements [`Function`] and says what a step does.
+//! definitions of `specs/Walk.antt`: no stage, part, copy, queue or thread is known there. [`walk_chain`] is the plain body
+//! of the definition for one packet.
+//!
+//! What a function does is told once, by a `Behaviour` of `specs/Step.antt`: its profile, and its step by what it is
+//! shown of a packet, which is the values of the fields that it reads, which of the fields that it writes are there, and
+//! the packet's [`Fixed`] values. That a function is shown a whole frame or a version of it are two readings of this one
+//! definition. `KeepsProfile` of `specs/Laws.antt` is what every function keeps to; from it alone,
+//! [`frames_walk_as_fields`] says that a frame walks as its fields do.
 #![tactic(auto)]
 
+mod fixed;
 mod function;
+mod laws;
+mod verdict;
 mod walk;
 
-pub use function::{Function, Verdict};
+pub use fixed::Fixed;
+pub use function::FrameFunction;
+pub use laws::frames_walk_as_fields;
+pub use verdict::Verdict;
 pub use walk::{Fate, walk_chain};

@@ -2,7 +2,8 @@
 ghost use Rattle.std.specs.Prelude.{◌≡◌, ◌<◌, ◌^◌, length, IfOk, OnOk};
 ghost use Rattle.chain_walk.specs.Walk.{walk, EndsWithin};
 
-use crate::function::{Function, Verdict};
+use crate::function::FrameFunction;
+use crate::verdict::Verdict;
 use packet_fields::Frame;
 use std::alloc::AllocError;
 
@@ -19,16 +20,16 @@ pub enum Fate {
 ///
 /// The only error is want of memory in a function's step. The functions before it have then seen the packet, and those
 /// behind it have not.
-pub fn walk_chain<F: Function>(
+pub fn walk_chain<F: FrameFunction>(
     functions: &mut [F],
     time: u64,
     frame: Frame,
 ) -> Result<Fate, AllocError>
     requires { length functions.old < 2 ^ 32 }
-    ensures fate { IfOk result (λ fate. fate ≡ (walk F.step_gives time 1 functions.old frame).fate) }
+    ensures fate { IfOk result (λ fate. fate ≡ (walk F.behaviour time 1 functions.old frame).fate) }
     // The function that is named stands in the chain.
     ensures within { IfOk result (EndsWithin (length functions.old)) }
-    ensures functions { OnOk result (functions.new ≡ (walk F.step_gives time 1 functions.old frame).functions) }
+    ensures functions { OnOk result (functions.new ≡ (walk F.behaviour time 1 functions.old frame).functions) }
 {
     let mut frame = frame;
     'functions: for index in 0..functions.len() {

@@ -9,7 +9,8 @@ use Rattle.action_profile.specs.declared.parts.Mode.TheVariants.{Shared, Moved, 
 use Rattle.action_profile.specs.declared.rights.Profile.{Profile}
 use Rattle.dependency_table.specs.Actions.{all_actions, actions}
 use Rattle.dependency_table.specs.Table.{pairs, first_forbidden, is_copied, copied, pair_of}
-use Rattle.graph_compile.specs.Parts.{branch_reads, branch_writes, touch_of, mode_of, parts_of, copies}
+use Rattle.action_profile.specs.Modes.{mode_of, copies}
+use Rattle.graph_compile.specs.Parts.{branch_reads, branch_writes, touch_of, parts_of}
 use Rattle.graph_compile.specs.Stages.{is_forbidden, holds_back, placed, graph_of}
 use Rattle.graph_compile.specs.declared.graph.Branch.{Branch}
 use Rattle.graph_compile.specs.declared.graph.Stage.{Stage}

@@ -14,7 +14,8 @@ use Rattle.action_profile.specs.declared.parts.Touch.{Touch}
 use Rattle.action_profile.specs.declared.rights.Profile.{Profile}
 use Rattle.action_profile.proofs.Members.{has_fields}
 use Rattle.graph_compile.specs.declared.graph.Branch.{Branch}
-use Rattle.graph_compile.specs.Parts.{branch_reads, branch_writes, touch_of, has_write, has_touch, only_reads, written_mode, mode_of, modes_of, touches_of, parts_of, copies_by_mode, copies, ModeSays}
+use Rattle.action_profile.specs.Modes.{has_write, has_touch, only_reads, written_mode, mode_of, modes_of, copies_by_mode, copies}
+use Rattle.graph_compile.specs.Parts.{branch_reads, branch_writes, touch_of, touches_of, parts_of, ModeSays}
 use Rattle.graph_compile.proofs.Counting.{one_if, count-cons, count-map}
 use Rattle.graph_compile.proofs.FiveFacts.{each-from, any-count}
 

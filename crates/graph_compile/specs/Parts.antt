@@ -1,10 +1,10 @@
 -- How a stage hands on the fields of a packet to its branches.
-use Rattle.std.specs.Prelude.{◌≡◌, ◌-◌, ◌==◌, ◌&&◌, ◌||◌, ℕ, Bool, true, false, not, if◌then◌else◌, List, Option, Some, None, map, filter, count_by, position, slice_get, slice_index_or}
+use Rattle.std.specs.Prelude.{◌≡◌, ◌-◌, ℕ, Bool, true, false, List, Option, Some, None, map, filter, count_by, position, slice_get}
 use Rattle.std.specs.List.{list_any}
 use Rattle.std.specs.Option.{option_map_or}
-use Rattle.packet_fields.specs.Fields.{number_of}
 use Rattle.packet_fields.specs.declared.field.Field.{Field}
-use Rattle.action_profile.specs.FieldSets.{all_fields, fields, has}
+use Rattle.action_profile.specs.FieldSets.{all_fields, fields}
+use Rattle.action_profile.specs.Modes.{has_write, has_touch, only_reads, modes_of}
 use Rattle.action_profile.specs.Profiles.{reads_of, writes_of}
 use Rattle.action_profile.specs.declared.parts.Mode.{Mode}
 use Rattle.action_profile.specs.declared.parts.Mode.TheVariants.{Shared, Moved, Copied}
@@ -38,29 +38,6 @@ touch_of chain branch = record {
   writes = fields (filter (branch_writes chain branch) all_fields);
 }
 
-abbrev pub has_write : Field → Touch → Bool
-has_write f touch = has touch.writes f
-
-abbrev pub has_touch : Field → Touch → Bool
-has_touch f touch = has touch.reads f || has touch.writes f
-
-abbrev pub only_reads : Field → Touch → Bool
-only_reads f touch = has touch.reads f && not (has touch.writes f)
-
--- how a field that some branch writes is handed on, `first` being the first branch that does: moved to it where no other touches the field, else copied
-abbrev pub written_mode : List Touch → Field → ℕ → Mode
-written_mode touches f first =
-    if count_by (has_touch f) touches == 1
-    then Moved first
-    else Copied (if list_any (only_reads f) touches then None else Some first)
-
--- the mode of a field: shared where no branch writes it
-unfoldable pub mode_of : List Touch → Field → Mode
-mode_of touches f = option_map_or (written_mode touches f) (position (has_write f) touches) Shared
-
-abbrev pub modes_of : List Touch → List Mode
-modes_of touches = map (mode_of touches) all_fields
-
 abbrev pub touches_of : List Profile → List Branch → List Touch
 touches_of chain branches = map (touch_of chain) branches
 
@@ -70,16 +47,6 @@ parts_of chain branches = record {
   modes = modes_of (touches_of chain branches);
   touches = touches_of chain branches;
 }
-
--- the copies of a copied field: one for each branch that writes it, and one less where no branch only reads it, since the first that writes has the original
-abbrev pub copies_by_mode : Mode → List Touch → Field → ℕ
-copies_by_mode (Copied original) touches f =
-    if list_any (only_reads f) touches then count_by (has_write f) touches else count_by (has_write f) touches - 1
-copies_by_mode mode touches f = 0
-
--- how many copies of a field a stage makes of each packet that has it
-unfoldable pub copies : StageParts → Field → ℕ
-copies parts f = copies_by_mode (slice_index_or parts.modes (number_of f) Shared) parts.touches f
 
 -- What a mode says of the branches. No branch writes a field that is shared; one is moved to the first branch that writes it, where no other touches it; of one that is copied the original is leased where some branch only reads it, and else goes to the first that writes it.
 abbrev pub ModeSays : List Touch → Field → Mode → Type 0

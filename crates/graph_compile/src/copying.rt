@@ -1,7 +1,7 @@
 //! How many copies a stage makes.
 
 ghost use Rattle.std.specs.Prelude.{◌≡◌, ◌≤◌, length, count_by};
-ghost use Rattle.graph_compile.specs.Parts.{has_write, copies};
+ghost use Rattle.action_profile.specs.Modes.{has_write, copies};
 
 use crate::parts::some_only_reads;
 use action_profile::{Mode, StageParts, Touch};
@@ -12,7 +12,7 @@ use packet_fields::Field;
 /// A field that is shared or moved isn't copied. Of one that is copied, each branch that writes it
 /// has a copy of its own; where no branch only reads it, the first of them has the original in
 /// place of a copy.
-#[tactic(auto, unfolding(crate::specs::Parts::copies))]
+#[tactic(auto, unfolding(action_profile::specs::Modes::copies))]
 pub fn copies(parts: &StageParts, field: Field) -> usize
     ensures { result ≡ copies parts.now field }
 {

@@ -4,7 +4,8 @@ ghost use Rattle.std.specs.Prelude.{◌≡◌, ◌==◌, ◌<◌, ◌≤◌, ◌
 ghost use Rattle.std.specs.List.{list_any, list_all, range_with_len};
 ghost use Rattle.graph_compile.specs.Facts.{IsLawful};
 ghost use Rattle.graph_compile.specs.Lawful.{holds, size, rises, ends_below, stands_once, joins, is_branch, is_stage, IsLawfulStage, IsStaged};
-ghost use Rattle.graph_compile.specs.Parts.{mode_of, modes_of, touches_of, parts_of};
+ghost use Rattle.action_profile.specs.Modes.{mode_of, modes_of};
+ghost use Rattle.graph_compile.specs.Parts.{touches_of, parts_of};
 
 use crate::graph::{Branch, Graph, Stage};
 use crate::parts::{first_writer, is_alone, some_only_reads};
@@ -177,7 +178,7 @@ fn are_modes(modes: &[Mode; 10], touches: &[Touch]) -> bool
 }
 
 // Is it the mode of the field? A branch may have a number that no mode holds.
-#[tactic(auto, unfolding(crate::specs::Parts::mode_of))]
+#[tactic(auto, unfolding(action_profile::specs::Modes::mode_of))]
 fn is_mode(mode: Mode, touches: &[Touch], field: Field) -> bool
     ensures { IsTrue result ↔ (mode ≡ mode_of touches.now field) }
 {

@@ -11,7 +11,8 @@ ghost use Rattle.graph_compile.specs.declared.graph.Stage.{Stage};
 ghost use Rattle.graph_compile.specs.Facts.{IsLawful};
 ghost use Rattle.graph_compile.specs.Lawful.{IsLawfulStage, IsStaged};
 ghost use Rattle.graph_compile.specs.Owners.{HasOwners};
-ghost use Rattle.graph_compile.specs.Parts.{branch_reads, branch_writes, mode_of, ModeSays, parts_of, copies};
+ghost use Rattle.action_profile.specs.Modes.{mode_of, copies};
+ghost use Rattle.graph_compile.specs.Parts.{branch_reads, branch_writes, ModeSays, parts_of};
 
 /// A law: a graph is lawful for a chain just where its stages follow each other, each from the
 /// position of its first function on.

@@ -2,7 +2,8 @@
 
 ghost use Rattle.std.specs.Prelude.{◌≡◌, ◌==◌, ◌<◌, ◌≤◌, ◌^◌, ◌↔◌, IsTrue, IfOk, length, count_by, position};
 ghost use Rattle.std.specs.List.{list_any};
-ghost use Rattle.graph_compile.specs.Parts.{has_write, has_touch, only_reads, mode_of, modes_of, touches_of, parts_of};
+ghost use Rattle.action_profile.specs.Modes.{has_write, has_touch, only_reads, mode_of, modes_of};
+ghost use Rattle.graph_compile.specs.Parts.{touches_of, parts_of};
 
 use crate::graph::Branch;
 use crate::touching::touch_of;
@@ -59,7 +60,7 @@ fn modes_of(touches: &[Touch]) -> [Mode; 10]
     ]
 }
 
-#[tactic(auto, unfolding(crate::specs::Parts::mode_of))]
+#[tactic(auto, unfolding(action_profile::specs::Modes::mode_of))]
 fn mode_of(touches: &[Touch], field: Field) -> Mode
     requires { length touches.now < 2 ^ 32 }
     ensures { result ≡ mode_of touches.now field }

@@ -6,7 +6,7 @@ use Rattle.packet_fields.specs.declared.field.Field.TheVariants.{Tag, Tos}
 use Rattle.packet_version.specs.Splitting.{PlainApart}
 use Rattle.merge_ops.specs.Taking.{merged_parts}
 use Rattle.packet_version.specs.Parts.{values_of, as_list, is_field}
-use Rattle.packet_version.specs.declared.fixed.Fixed.{Fixed}
+use Rattle.chain_walk.specs.declared.fixed.Fixed.{Fixed}
 use Rattle.merge_ops.specs.Merging.{decision_of, last_writer}
 use Rattle.merge_ops.specs.declared.arrival.Arrival.{Arrival}
 use Rattle.merge_ops.specs.declared.arrival.Arrival.TheVariants.{Version, Nil, Short}

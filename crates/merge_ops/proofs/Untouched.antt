@@ -8,7 +8,7 @@ use Rattle.packet_fields.specs.Writing.{written}
 use Rattle.packet_fields.specs.declared.field.Field.{Field}
 use Rattle.action_profile.specs.FieldSets.{all_fields}
 use Rattle.action_profile.specs.declared.parts.Touch.{Touch}
-use Rattle.packet_version.specs.Modes.{has_touch}
+use Rattle.action_profile.specs.Modes.{has_touch}
 use Rattle.packet_version.specs.Parts.{PlainPart, Parts, unwritten, values_of, writers_of, writer_in}
 use Rattle.packet_version.specs.Splitting.{PlainApart, IsWhole, joined, parts_of}
 use Rattle.packet_version.specs.Versions.{parts_of as parts_in}

@@ -10,7 +10,7 @@ use Rattle.packet_fields.specs.declared.field.Field.TheVariants.{Tag}
 use Rattle.action_profile.specs.FieldSets.{has}
 use Rattle.action_profile.specs.declared.parts.Mode.TheVariants.{Shared}
 use Rattle.action_profile.specs.declared.parts.Touch.{Touch}
-use Rattle.packet_version.specs.Modes.{has_write, mode_of, written_mode}
+use Rattle.action_profile.specs.Modes.{has_write, mode_of, written_mode}
 use Rattle.packet_version.specs.Parts.{PlainPart, Parts, unwritten, values_of, writers_of, writer_in}
 use Rattle.packet_version.specs.Slots.{AreTags}
 use Rattle.packet_version.specs.Splitting.{PlainApart, IsWhole, parts_of}

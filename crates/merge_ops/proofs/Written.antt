@@ -6,7 +6,7 @@ use Rattle.packet_fields.specs.Fields.{number_of}
 use Rattle.packet_fields.specs.declared.field.Field.{Field}
 use Rattle.packet_fields.specs.declared.field.Field.TheVariants.{Tag}
 use Rattle.action_profile.specs.declared.parts.Touch.{Touch}
-use Rattle.packet_version.specs.Modes.{has_write}
+use Rattle.action_profile.specs.Modes.{has_write}
 use Rattle.packet_version.specs.Parts.{PlainPart, Parts, changed, is_field, writer_in}
 use Rattle.packet_version.specs.Splitting.{PlainApart, parts_of}
 use Rattle.packet_version.specs.Versions.{PlainVersion, parts_of as parts_in, with_part}

@@ -2,7 +2,7 @@
 use Rattle.std.specs.Prelude.{◌≡◌, ◌<◌, ℕ, Bool, true, false, if◌then◌else◌, List, length, Option, Some, None, is_some, IfSome, map, position, slice_index_or}
 use Rattle.std.specs.Option.{option_or}
 use Rattle.packet_fields.specs.declared.field.Field.{Field}
-use Rattle.packet_version.specs.Modes.{has_write}
+use Rattle.action_profile.specs.Modes.{has_write}
 use Rattle.packet_version.specs.Parts.{PlainPart, Parts, as_list}
 use Rattle.packet_version.specs.Splitting.{PlainApart, parts_of}
 use Rattle.packet_version.specs.Versions.{with_part}

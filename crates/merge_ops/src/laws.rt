@@ -6,7 +6,7 @@ ghost use Rattle.action_profile.specs.declared.parts.Touch.{Touch};
 ghost use Rattle.packet_version.specs.Dealing.{dealt, based};
 ghost use Rattle.packet_version.specs.Parts.{PlainPart, values_of};
 ghost use Rattle.packet_version.specs.Splitting.{PlainApart, IsWhole, joined, parts_of};
-ghost use Rattle.packet_version.specs.Modes.{has_write};
+ghost use Rattle.action_profile.specs.Modes.{has_write};
 ghost use Rattle.packet_version.specs.Versions.{PlainVersion, with_part, parts_of as parts_in};
 ghost use Rattle.merge_ops.specs.declared.arrival.Arrival.{Arrival};
 ghost use Rattle.merge_ops.specs.declared.decision.MergeOp.{MergeOp};

@@ -1,5 +1,5 @@
 ghost use Rattle.std.specs.Prelude.{◌≡◌, ◌≤◌, length, map, IfOk};
-ghost use Rattle.packet_version.specs.Modes.{modes_of};
+ghost use Rattle.action_profile.specs.Modes.{modes_of};
 ghost use Rattle.merge_ops.specs.Behind.{AreArrivals};
 ghost use Rattle.merge_ops.specs.declared.arrival.Arrival.TheVariants.{Version as of_version};
 

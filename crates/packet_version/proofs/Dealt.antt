@@ -4,7 +4,7 @@ use Rattle.std.specs.Prelude.{if◌then◌else◌, count_by, position, Option, S
 use Rattle.std.specs.List.{list_any}
 use Rattle.packet_fields.specs.declared.field.Field.{Field}
 use Rattle.action_profile.specs.FieldSets.{has}
-use Rattle.packet_version.specs.Modes.{has_write, has_touch, only_reads, mode_of, copies_by_mode}
+use Rattle.action_profile.specs.Modes.{has_write, has_touch, only_reads, mode_of, copies_by_mode}
 use Rattle.action_profile.specs.declared.parts.Mode.{Mode}
 use Rattle.action_profile.specs.declared.parts.Mode.TheVariants.{Shared, Moved, Copied}
 use Rattle.packet_version.specs.Parts.{PlainPart}

@@ -13,7 +13,7 @@ use Rattle.packet_version.specs.Views.{IsView, PlainView, seen_parts, seen_value
 use Rattle.packet_version.specs.Lending.{edited}
 use Rattle.packet_version.specs.SlotLending.{edited_slot}
 use Rattle.packet_version.specs.ViewLending.{left}
-use Rattle.packet_version.specs.declared.fixed.Fixed.{Fixed}
+use Rattle.chain_walk.specs.declared.fixed.Fixed.{Fixed}
 use Rattle.packet_version.specs.declared.slot.Slot.{Slot}
 use Rattle.packet_version.specs.declared.slot.Slot.TheVariants.{Absent, Own, Lent, Claimed}
 use Rattle.packet_version.proofs.Slotting.{view_of, view_put, number-tag, put_seen, slot_there, part_there}

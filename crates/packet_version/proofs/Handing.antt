@@ -2,7 +2,7 @@
 use Rattle.std.proofs.Common.{◌≡◌, ◌∙◌, ◌<◌, ◌+◌, ◌-◌, ℕ, Bool, true, false, List, take, drop, sym, ap, subst, get_or, length, arith}
 use Rattle.std.specs.Prelude.{if◌then◌else◌, OnErr, Result, Ok, Err}
 use Rattle.packet_fields.specs.declared.field.Field.{Field}
-use Rattle.packet_version.specs.Modes.{has_write, only_reads}
+use Rattle.action_profile.specs.Modes.{has_write, only_reads}
 use Rattle.packet_version.specs.Tallies.{RaisesBy, RaisesAtMost}
 use Rattle.packet_version.specs.Versions.{PlainVersion}
 use Rattle.packet_version.specs.Handing.{writers_in, readers_in}

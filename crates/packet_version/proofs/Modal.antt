@@ -7,7 +7,7 @@ use Rattle.std.proofs.lemmas.Bool.{false≢true}
 use Rattle.std.proofs.lemmas.Bool.Decides.{Decides-eqb}
 use Rattle.packet_fields.specs.declared.field.Field.{Field}
 use Rattle.action_profile.specs.FieldSets.{has}
-use Rattle.packet_version.specs.Modes.{has_write, has_touch, only_reads, written_mode, mode_of}
+use Rattle.action_profile.specs.Modes.{has_write, has_touch, only_reads, written_mode, mode_of}
 use Rattle.action_profile.specs.declared.parts.Mode.TheVariants.{Shared, Moved, Copied}
 use Rattle.action_profile.specs.declared.parts.Touch.{Touch}
 use Rattle.packet_version.proofs.Firsts.{NoneOf, first-position, none-any, alone, none-position}

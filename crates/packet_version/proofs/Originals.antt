@@ -6,7 +6,7 @@ use Rattle.std.proofs.lemmas.List.{take_all, drop_all}
 use borrow.Rule.Slice.PartMut.{put_mid, mid_of}
 use Rattle.packet_fields.specs.declared.field.Field.{Field}
 use Rattle.action_profile.specs.FieldSets.{has}
-use Rattle.packet_version.specs.Modes.{has_write, only_reads}
+use Rattle.action_profile.specs.Modes.{has_write, only_reads}
 use Rattle.packet_version.specs.Parts.{PlainPart, unwritten}
 use Rattle.packet_version.specs.Versions.{PlainVersion, with_part}
 use Rattle.packet_version.specs.Handing.{copied_to, lent_to, dealt_to, writers_in, touches_in}

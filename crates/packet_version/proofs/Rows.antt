@@ -7,7 +7,7 @@ use Rattle.packet_fields.specs.declared.field.Field.{Field}
 use Rattle.packet_fields.specs.declared.field.Field.TheVariants.{LinkDst, LinkSrc, Tag, Tos, Ttl, SrcIp, DstIp, SrcPort, DstPort, Payload}
 use Rattle.action_profile.specs.FieldSets.{fields}
 use Rattle.action_profile.specs.Profiles.{profile_of, endpoints, writes_of}
-use Rattle.packet_version.specs.Modes.{mode_of, modes_of, has_touch, has_write}
+use Rattle.action_profile.specs.Modes.{mode_of, modes_of, has_touch, has_write}
 use Rattle.action_profile.specs.declared.kind.Kind.TheVariants.{Balancer}
 use Rattle.action_profile.specs.declared.parts.Mode.TheVariants.{Shared, Moved, Copied}
 use Rattle.action_profile.specs.declared.parts.Touch.{Touch}

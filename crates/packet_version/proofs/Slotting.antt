@@ -14,13 +14,13 @@ use Rattle.std.proofs.lemmas.Bool.{false≢true}
 use Rattle.packet_fields.specs.Frames.{is_tag_list}
 use Rattle.packet_fields.specs.Writing.{all_fields}
 use Rattle.action_profile.specs.FieldSets.{has}
-use Rattle.packet_version.specs.Modes.{has_write, only_reads}
+use Rattle.action_profile.specs.Modes.{has_write, only_reads}
 use Rattle.action_profile.specs.declared.parts.Touch.{Touch}
 use Rattle.packet_version.specs.Parts.{PlainPart, as_map, as_list, changed, is_field, writer_in}
 use Rattle.packet_version.specs.Slots.{part_in, is_own, is_shown, slot_of, AreSlots, AreTags}
 use Rattle.packet_version.specs.Versions.{with_part, PlainVersion}
 use Rattle.packet_version.specs.Views.{IsView, PlainView}
-use Rattle.packet_version.specs.declared.fixed.Fixed.{Fixed}
+use Rattle.chain_walk.specs.declared.fixed.Fixed.{Fixed}
 use Rattle.action_profile.specs.declared.rights.Profile.{Profile}
 use Rattle.packet_version.specs.declared.slot.Slot.{Slot}
 use Rattle.packet_version.specs.declared.slot.Slot.TheVariants.{Absent, Lent}

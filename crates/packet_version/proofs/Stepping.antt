@@ -8,7 +8,7 @@ use Rattle.packet_fields.specs.Fields.{number_of}
 use Rattle.packet_fields.specs.Writing.{all_fields}
 use Rattle.packet_fields.specs.declared.field.Field.{Field}
 use Rattle.packet_fields.specs.declared.field.Field.TheVariants.{LinkDst, LinkSrc, Tag, Tos, Ttl, SrcIp, DstIp, SrcPort, DstPort, Payload}
-use Rattle.packet_version.specs.Modes.{has_touch, mode_of, modes_of}
+use Rattle.action_profile.specs.Modes.{has_touch, mode_of, modes_of}
 use Rattle.action_profile.specs.declared.parts.Mode.{Mode}
 use Rattle.action_profile.specs.declared.parts.Touch.{Touch}
 use Rattle.packet_version.specs.Parts.{PlainPart, Parts, as_map, as_list, changed, is_field, unwritten}
@@ -17,7 +17,7 @@ use Rattle.packet_version.specs.Versions.{PlainVersion, with_part, nothing}
 use Rattle.packet_fields.specs.Writing.{Fits}
 use Rattle.packet_version.specs.Slots.{AreTags}
 use Rattle.packet_version.specs.Splitting.{IsWhole}
-use Rattle.packet_version.specs.declared.fixed.Fixed.{Fixed}
+use Rattle.chain_walk.specs.declared.fixed.Fixed.{Fixed}
 use Rattle.packet_version.specs.Dealing.{dealt_parts, dealt_version, kept_part, kept_parts}
 use Rattle.packet_version.specs.Handing.{touches_in, dealt_some, dealt_to, without_fields, kept_in}
 use Rattle.packet_version.specs.declared.base.Kept.{Kept}

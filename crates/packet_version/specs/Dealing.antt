@@ -1,7 +1,7 @@
 -- How the branches of a stage come to the parts of a packet.
 use Rattle.std.specs.Prelude.{◌≡◌, ◌≤◌, ℕ, List, Option, Some, None, Bool, true, false, if◌then◌else◌, option_map}
 use Rattle.packet_fields.specs.declared.field.Field.{Field}
-use Rattle.packet_version.specs.Modes.{has_touch, mode_of, copies_by_mode}
+use Rattle.action_profile.specs.Modes.{has_touch, mode_of, copies_by_mode}
 use Rattle.action_profile.specs.declared.parts.Mode.{Mode}
 use Rattle.action_profile.specs.declared.parts.Mode.TheVariants.{Shared, Moved, Copied}
 use Rattle.action_profile.specs.declared.parts.Touch.{Touch}
@@ -9,7 +9,7 @@ use Rattle.packet_version.specs.Parts.{PlainPart, Parts, as_list, unwritten}
 use Rattle.packet_version.specs.Tallies.{count_of, raised}
 use Rattle.packet_version.specs.Splitting.{PlainApart, parts_of}
 use Rattle.packet_version.specs.Versions.{PlainVersion}
-use Rattle.packet_version.specs.declared.fixed.Fixed.{Fixed}
+use Rattle.chain_walk.specs.declared.fixed.Fixed.{Fixed}
 
 -- a branch has the fields that it touches and the packet has, written by nobody
 abbrev pub dealt_parts : Touch → Parts → Parts

@@ -1,7 +1,7 @@
 -- One part that is handed to the versions of a stage's branches.
 use Rattle.std.specs.Prelude.{ℕ, List, Option, Some, None, if◌then◌else◌, map, count_by}
 use Rattle.packet_fields.specs.declared.field.Field.{Field}
-use Rattle.packet_version.specs.Modes.{has_touch, has_write, only_reads}
+use Rattle.action_profile.specs.Modes.{has_touch, has_write, only_reads}
 use Rattle.action_profile.specs.declared.parts.Touch.{Touch}
 use Rattle.packet_version.specs.Parts.{PlainPart, as_list, unwritten}
 use Rattle.packet_version.specs.Versions.{PlainVersion, with_part}

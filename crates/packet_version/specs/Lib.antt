@@ -1,4 +1,3 @@
-pub mod Modes
 pub mod Parts
 pub mod Splitting
 pub mod Tallies

@@ -4,7 +4,7 @@ use Rattle.packet_fields.specs.Frames.{is_tag_list}
 use Rattle.packet_fields.specs.Fields.{number_of}
 use Rattle.packet_fields.specs.declared.field.Field.{Field}
 use Rattle.packet_fields.specs.declared.field.Field.TheVariants.{Tag}
-use Rattle.packet_version.specs.Modes.{has_write}
+use Rattle.action_profile.specs.Modes.{has_write}
 use Rattle.action_profile.specs.declared.parts.Touch.{Touch}
 use Rattle.packet_version.specs.Parts.{PlainPart, writer_in}
 use Rattle.packet_version.specs.declared.slot.Slot.{Slot}

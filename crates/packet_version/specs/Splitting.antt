@@ -8,7 +8,7 @@ use Rattle.packet_fields.specs.declared.field.Field.{Field}
 use Rattle.packet_fields.specs.declared.field.Field.TheVariants.{Tag}
 use Rattle.action_profile.specs.Profiles.{is_tag}
 use Rattle.packet_version.specs.Parts.{PlainPart, Parts, as_map, values_of}
-use Rattle.packet_version.specs.declared.fixed.Fixed.{Fixed}
+use Rattle.chain_walk.specs.declared.fixed.Fixed.{Fixed}
 
 -- The parts of a packet in the fields' order, what is left of its frame without them, and its fixed values.
 pub record PlainApart : Type 0 where
@@ -18,16 +18,6 @@ pub record PlainApart : Type 0 where
 
 abbrev pub parts_of : PlainApart → Parts
 parts_of whole = as_map whole.parts
-
--- the values of a frame that no function writes, and when it was captured
-abbrev pub fixed_of : ℕ → List ℕ → Fixed
-fixed_of time frame = record {
-  time = time;
-  ether_type = ether_type frame;
-  proto = protocol (packet frame);
-  ip_len = total_len (packet frame);
-  tcp_flags = control_bits (packet frame);
-}
 
 -- room for so many further tags of four bytes each, in the list of tags alone
 abbrev pub spare_room : ℕ → Field → ℕ

@@ -1,12 +1,12 @@
 -- What a branch of a stage has of a packet.
 use Rattle.std.specs.Prelude.{◌≡◌, List, Option, None, Bool, true, ◌||◌}
 use Rattle.packet_fields.specs.declared.field.Field.{Field}
-use Rattle.packet_version.specs.Modes.{has_touch, has_write}
+use Rattle.action_profile.specs.Modes.{has_touch, has_write}
 use Rattle.action_profile.specs.Profiles.{reads_of, writes_of}
 use Rattle.action_profile.specs.declared.parts.Touch.{Touch}
 use Rattle.action_profile.specs.declared.rights.Profile.{Profile}
 use Rattle.packet_version.specs.Parts.{PlainPart, Parts, as_map, as_list, changed}
-use Rattle.packet_version.specs.declared.fixed.Fixed.{Fixed}
+use Rattle.chain_walk.specs.declared.fixed.Fixed.{Fixed}
 
 -- The parts of a branch in the fields' order, what the branch touches, and the packet's fixed values.
 pub record PlainVersion : Type 0 where

@@ -1,10 +1,11 @@
 -- What a function sees of its branch's version, and how it writes there.
-use Rattle.std.specs.Prelude.{◌≡◌, ◌≢◌, ℕ, ◌≤◌, ◌+◌, List, ◌++◌, length, drop, Option, true, option_map, IsSomeAnd, All}
+use Rattle.std.specs.Prelude.{◌≡◌, ◌≢◌, ℕ, ◌≤◌, ◌+◌, List, ◌++◌, length, drop, Option, true, option_map, Some, None, IsSomeAnd, All}
 use Rattle.packet_fields.specs.declared.field.Field.{Field}
 use Rattle.packet_fields.specs.declared.field.Field.TheVariants.{Tag}
 use Rattle.action_profile.specs.declared.parts.Touch.{Touch}
 use Rattle.action_profile.specs.declared.rights.Profile.{Profile}
-use Rattle.packet_version.specs.Parts.{PlainPart, Parts, values_of, rewritten, changed}
+use Rattle.chain_walk.specs.Shown.{Values}
+use Rattle.packet_version.specs.Parts.{PlainPart, Parts, as_list, values_of, rewritten, changed}
 use Rattle.packet_version.specs.Slots.{is_shown, AreSlots}
 use Rattle.packet_version.specs.Versions.{PlainVersion, parts_of, with_part, HoldsNamed}
 use Rattle.packet_version.specs.declared.slot.Slot.{Slot}
@@ -34,6 +35,15 @@ pushed tag view = record view { version = with_part Tag (option_map (λ part. re
 -- the view once its function took the first tag away
 abbrev pub popped : PlainView → PlainView
 popped view = record view { version = with_part Tag (option_map (λ part. rewritten (drop 4 part.bytes) view.position part) (seen_parts view Tag)) view.version }
+
+-- a part with its new bytes, where there are some
+abbrev pub rewritten_by : Option (List ℕ) → ℕ → Option PlainPart → Option PlainPart
+rewritten_by None position part = part
+rewritten_by (Some bytes) position part = option_map (rewritten bytes position) part
+
+-- the view once its function wrote these values
+abbrev pub wrote_all : Values → PlainView → PlainView
+wrote_all new view = record view { version = record view.version { parts = as_list (λ f. rewritten_by (new f) view.position (seen_parts view f)) } }
 
 -- a field is present, with bytes of which this holds
 abbrev pub HasBytes : PlainView → Field → (List ℕ → Type 0) → Type 0

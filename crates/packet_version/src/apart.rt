@@ -1,6 +1,6 @@
 //! A frame in its parts: how it comes apart, and how it goes together again.
 
-use crate::fixed::Fixed;
+use chain_walk::Fixed;
 use crate::part::Part;
 use crate::rest::Rest;
 use action_profile::all_fields;

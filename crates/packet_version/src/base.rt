@@ -1,6 +1,6 @@
 //! What stays of a packet behind the branches of a stage.
 
-use crate::fixed::Fixed;
+use chain_walk::Fixed;
 use crate::gathered::Gathered;
 use crate::part::Part;
 use crate::rest::Rest;

@@ -2,7 +2,7 @@
 
 ghost use Rattle.std.specs.Prelude.{◌≡◌, ◌≤◌, map, length, OnOk, OnErr, IfOk};
 ghost use Rattle.packet_fields.specs.declared.field.Field.{Field};
-ghost use Rattle.packet_version.specs.Modes.{modes_of};
+ghost use Rattle.action_profile.specs.Modes.{modes_of};
 ghost use Rattle.packet_version.specs.Parts.{as_map, as_list};
 ghost use Rattle.packet_version.specs.Slots.{AreTags};
 ghost use Rattle.packet_version.specs.Splitting.{parts_of, IsWhole};
@@ -12,7 +12,7 @@ ghost use Rattle.packet_version.specs.Handing.{touches_in, kept_in, without_fiel
 
 use crate::apart::Apart;
 use crate::base::{Base, Kept};
-use crate::fixed::Fixed;
+use chain_walk::Fixed;
 use crate::hand::deal_field;
 use crate::part::Part;
 use crate::tally::Tally;

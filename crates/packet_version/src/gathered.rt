@@ -1,7 +1,7 @@
 //! The parts of a packet that are gathered behind a stage.
 
 use crate::apart::Apart;
-use crate::fixed::Fixed;
+use chain_walk::Fixed;
 use crate::part::Part;
 use crate::rest::Rest;
 use packet_fields::Field;

@@ -4,7 +4,7 @@ ghost use Rattle.std.specs.Prelude.{◌≡◌, ◌≤◌, ◌<◌, ◌-◌, ◌&
 ghost use Rattle.std.specs.List.{list_any};
 ghost use Rattle.packet_fields.specs.Frames.{is_tag_list};
 ghost use Rattle.packet_fields.specs.declared.field.Field.{Field};
-ghost use Rattle.packet_version.specs.Modes.{has_write, only_reads, mode_of};
+ghost use Rattle.action_profile.specs.Modes.{has_write, only_reads, mode_of};
 ghost use Rattle.packet_version.specs.Parts.{unwritten};
 ghost use Rattle.packet_version.specs.Slots.{AreTags};
 ghost use Rattle.packet_version.specs.Tallies.{RaisesBy, RaisesAtMost};

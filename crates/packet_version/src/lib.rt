@@ -28,7 +28,6 @@
 mod apart;
 mod base;
 mod dealing;
-mod fixed;
 mod gathered;
 mod hand;
 mod laws;
@@ -44,9 +43,8 @@ mod view;
 
 pub use apart::{Apart, join, split};
 pub use base::Base;
-pub use chain_walk::Verdict;
+pub use chain_walk::{Fixed, Verdict};
 pub use dealing::deal;
-pub use fixed::Fixed;
 pub use gathered::Gathered;
 pub use laws::{dealt_is_read, left_is_read, shape_fits, write_apart, written_is_read};
 pub use part::{Part, copy};

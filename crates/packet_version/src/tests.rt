@@ -1,5 +1,5 @@
 ghost use Rattle.std.specs.Prelude.{◌≡◌, length, IfOk};
-ghost use Rattle.packet_version.specs.Modes.{modes_of};
+ghost use Rattle.action_profile.specs.Modes.{modes_of};
 
 use crate::lease::Lease;
 use crate::part::Part;

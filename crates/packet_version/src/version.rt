@@ -1,6 +1,6 @@
 //! What a branch of a stage has of a packet.
 
-use crate::fixed::Fixed;
+use chain_walk::Fixed;
 use crate::part::Part;
 use crate::slot::Slot;
 use crate::view::View;
@@ -63,7 +63,7 @@ impl Version {
     ghost use Rattle.std.specs.Prelude.{◌≡◌, Some, None, true, IfOk};
     ghost use Rattle.packet_fields.specs.Frames.{is_tag_list};
     ghost use Rattle.packet_fields.specs.declared.field.Field.{Field};
-    ghost use Rattle.packet_version.specs.Modes.{has_write, only_reads};
+    ghost use Rattle.action_profile.specs.Modes.{has_write, only_reads};
     ghost use Rattle.packet_version.specs.Parts.{writers_of};
     ghost use Rattle.packet_version.specs.Slots.{AreTags};
     ghost use Rattle.packet_version.specs.Versions.{parts_of, with_part, nothing};

@@ -1,6 +1,6 @@
 //! What a function sees of its branch's version.
 
-use crate::fixed::Fixed;
+use chain_walk::Fixed;
 use crate::part::Part;
 use crate::slot::Slot;
 use crate::version::{Version, released};

@@ -2,7 +2,7 @@
 ghost use Rattle.std.specs.Prelude.{◌≡◌, ◌++◌, OnOk};
 ghost use Rattle.std.specs.List.{flat_map, list_any};
 ghost use Rattle.action_profile.specs.FieldSets.{all_fields};
-ghost use Rattle.graph_compile.specs.Parts.{has_touch};
+ghost use Rattle.action_profile.specs.Modes.{has_touch};
 ghost use Rattle.plan_text.specs.Plan.{part_line, part_text, mode_text};
 
 use crate::branches::put_number;

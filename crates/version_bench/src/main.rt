@@ -3,7 +3,7 @@
 #![tactic(auto)]
 
 ghost use Rattle.std.specs.Prelude.{◌≡◌, length, IfOk};
-ghost use Rattle.packet_version.specs.Modes.{modes_of};
+ghost use Rattle.action_profile.specs.Modes.{modes_of};
 
 use action_profile::{FieldSet, Mode, StageParts, Touch};
 use item_list::Items;

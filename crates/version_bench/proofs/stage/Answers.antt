@@ -1,5 +1,5 @@
 use Rattle.std.proofs.Common.{◌∙◌, List, ap, sym}
-use Rattle.packet_version.specs.Modes.{modes_of}
+use Rattle.action_profile.specs.Modes.{modes_of}
 use Rattle.action_profile.specs.declared.parts.Touch.{Touch}
 use Rattle.packet_version.proofs.Rows.{beside_modes}
 use Rattle.version_bench.proofs.stage.Goals as goal

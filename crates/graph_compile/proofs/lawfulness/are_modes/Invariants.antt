@@ -1,6 +1,6 @@
 use Rattle.std.proofs.Common.{◌≡◌, take, map}
 use Rattle.action_profile.specs.FieldSets.{all_fields}
-use Rattle.graph_compile.specs.Parts.{mode_of}
+use Rattle.action_profile.specs.Modes.{mode_of}
 use Rattle.graph_compile.proofs.lawfulness.are_modes.Given as goal
 
 -- the modes so far are those of their fields

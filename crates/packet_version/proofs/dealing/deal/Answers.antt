@@ -2,7 +2,7 @@ use Rattle.std.proofs.Common.{◌≡◌, ◌∙◌, List, map, sym, ap, subst, l
 use Rattle.std.specs.Prelude.{Option}
 use Rattle.std.proofs.lemmas.List.{take_at, length-map}
 use Rattle.packet_fields.specs.Writing.{rest_of}
-use Rattle.packet_version.specs.Modes.{modes_of}
+use Rattle.action_profile.specs.Modes.{modes_of}
 use Rattle.action_profile.specs.declared.parts.Touch.{Touch}
 use Rattle.packet_version.specs.Parts.{PlainPart, as_map, as_list}
 use Rattle.packet_version.specs.Splitting.{PlainApart, IsWhole, parts_of}

@@ -3,7 +3,7 @@ use Rattle.std.specs.Prelude.{Option}
 use Rattle.std.proofs.lemmas.List.{length-set}
 use Rattle.packet_fields.specs.Fields.{number_of}
 use Rattle.packet_fields.specs.declared.field.Field.TheVariants.{LinkDst}
-use Rattle.packet_version.specs.Modes.{mode_of}
+use Rattle.action_profile.specs.Modes.{mode_of}
 use Rattle.action_profile.specs.declared.parts.Mode.TheVariants.{Shared}
 use Rattle.action_profile.specs.declared.parts.Touch.{Touch}
 use Rattle.packet_version.specs.Parts.{PlainPart, as_map}

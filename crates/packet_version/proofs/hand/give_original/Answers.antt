@@ -1,6 +1,6 @@
 use Rattle.std.proofs.Common.{◌∙◌, ◌+◌, ◌-◌, ℕ, length, get_or, ap, subst}
 use Rattle.std.specs.Prelude.{Some}
-use Rattle.packet_version.specs.Modes.{only_reads}
+use Rattle.action_profile.specs.Modes.{only_reads}
 use borrow.Rule.Slice.PartMut.{put_mid}
 use Rattle.packet_version.specs.Parts.{PlainPart}
 use Rattle.packet_version.specs.Tallies.{RaisesBy, RaisesAtMost}

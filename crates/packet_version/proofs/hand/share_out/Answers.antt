@@ -1,5 +1,5 @@
 use Rattle.std.proofs.Common.{◌∙◌, sym}
-use Rattle.packet_version.specs.Modes.{only_reads}
+use Rattle.action_profile.specs.Modes.{only_reads}
 use Rattle.packet_version.proofs.Firsts.{none-count}
 use Rattle.packet_version.proofs.Originals.{none_lent}
 use Rattle.packet_version.proofs.hand.share_out.Goals as goal

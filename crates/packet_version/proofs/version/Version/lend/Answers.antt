@@ -1,7 +1,7 @@
 use Rattle.std.proofs.Common.{refl}
 use Rattle.packet_version.specs.declared.slot.Slot.TheVariants.{Lent}
 use Rattle.packet_version.specs.Versions.{PlainVersion}
-use Rattle.packet_version.specs.Modes.{only_reads}
+use Rattle.action_profile.specs.Modes.{only_reads}
 use Rattle.std.proofs.Common.{◌≡◌, ◌∙◌, true, ap}
 use Rattle.packet_version.proofs.Slotting.{lent_put, put_had}
 use Rattle.packet_version.proofs.version.Version.lend.Goals as goal
