@@ -2,7 +2,7 @@
 use Rattle.std.specs.Prelude.{ℕ, ◌+◌, List, [], ◌∷◌, if◌then◌else◌}
 use Rattle.packet_fields.specs.Writing.{written, over}
 use Rattle.chain_walk.specs.Shown.{Values}
-use Rattle.chain_walk.specs.Step.{Step, Behaviour, stepped, is_drop}
+use Rattle.chain_walk.specs.Step.{Behaviour, stepped, is_drop}
 use Rattle.chain_walk.specs.Walk.{Walked}
 use Rattle.chain_walk.specs.declared.fixed.Fixed.{Fixed}
 use Rattle.chain_walk.specs.declared.walk.Fate.{Fate}
