@@ -5,6 +5,7 @@ use Rattle.packet_fields.specs.declared.field.Field.TheVariants.{Tag}
 use Rattle.action_profile.specs.declared.parts.Touch.{Touch}
 use Rattle.action_profile.specs.declared.rights.Profile.{Profile}
 use Rattle.chain_walk.specs.Shown.{Values}
+use Rattle.chain_walk.specs.Step.{Behaviour, Step, stepped}
 use Rattle.packet_version.specs.Parts.{PlainPart, Parts, as_list, values_of, rewritten, changed}
 use Rattle.packet_version.specs.Slots.{is_shown, AreSlots}
 use Rattle.packet_version.specs.Versions.{PlainVersion, parts_of, with_part, HoldsNamed}
@@ -35,6 +36,10 @@ pushed tag view = record view { version = with_part Tag (option_map (λ part. re
 -- the view once its function took the first tag away
 abbrev pub popped : PlainView → PlainView
 popped view = record view { version = with_part Tag (option_map (λ part. rewritten (drop 4 part.bytes) view.position part) (seen_parts view Tag)) view.version }
+
+-- what a function does with the packet behind a view
+abbrev pub viewed : {F : Type 0} → Behaviour F → F → PlainView → Step F
+viewed b f view = stepped b view.version.fixed f (seen_values view)
 
 -- a part with its new bytes, where there are some
 abbrev pub rewritten_by : Option (List ℕ) → ℕ → Option PlainPart → Option PlainPart
