@@ -1,0 +1,5 @@
+pub mod Listed
+pub mod Writing
+pub mod Rooming
+pub mod Carried
+pub mod Stepped

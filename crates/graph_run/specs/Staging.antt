@@ -1,24 +1,23 @@
--- What a branch and a stage leave of a packet.
-use Rattle.std.specs.Prelude.{◌≡◌, ◌≤◌, ◌+◌, ℕ, List, [], ◌∷◌, length, true, is_some, IfSome}
+-- What a branch leaves of a version.
+use Rattle.std.specs.Prelude.{◌≡◌, ◌≤◌, ◌<◌, ◌+◌, ℕ, List, [], ◌∷◌, true, Some, IfSome}
 use Rattle.packet_fields.specs.Frames.{is_tag_list}
-use Rattle.packet_fields.specs.declared.field.Field.{Field}
 use Rattle.packet_fields.specs.declared.field.Field.TheVariants.{Tag}
 use Rattle.action_profile.specs.declared.parts.Touch.{Touch}
 use Rattle.action_profile.specs.declared.rights.Profile.{Profile}
+use Rattle.chain_walk.specs.Shown.{Values}
 use Rattle.graph_compile.specs.Parts.{profile_at}
-use Rattle.packet_version.specs.Splitting.{PlainApart, parts_of as parts_in}
+use Rattle.packet_version.specs.Splitting.{PlainApart}
 use Rattle.packet_version.specs.Versions.{PlainVersion, parts_of, HoldsNamed}
 use Rattle.merge_ops.specs.Behind.{IsMadeOf}
 use Rattle.merge_ops.specs.declared.arrival.Arrival.{Arrival as Came}
 use Rattle.merge_ops.specs.declared.arrival.Arrival.TheVariants as came
-use Rattle.chain_walk.specs.Shown.{Values}
 use Rattle.graph_run.specs.Carrying.{wrote_at}
 use Rattle.graph_run.specs.Rooms.{HasRoomFrom}
 
--- A branch with this touch holds what the functions at these positions name, which rise, the first being at least `low`.
-unfoldable pub Holds : List Profile → Touch → ℕ → List ℕ → Type 0
-Holds chain touch low [] = Unit {0}
-Holds chain touch low (q ∷ qs) = (1 ≤ q) × (low ≤ q) × (q ≤ length chain) × IfSome (profile_at chain q) (λ p. HoldsNamed p touch) × Holds chain touch (q + 1) qs
+-- a branch with this touch holds what the functions at these positions name; the positions rise from one bound to another
+unfoldable pub Holds : List Profile → Touch → ℕ → ℕ → List ℕ → Type 0
+Holds chain touch low high [] = low ≤ high
+Holds chain touch low high (q ∷ qs) = (1 ≤ q) × (low ≤ q) × ((p : Profile) × (profile_at chain q ≡ Some p) × HoldsNamed p touch) × Holds chain touch (q + 1) high qs
 
 -- A version that a branch with this touch made of a packet, and that goes on from this position.
 pub record IsCarried (chain : List Profile) (whole : PlainApart) (touch : Touch) (position : ℕ) (version : PlainVersion) : Type 0 where
@@ -27,7 +26,15 @@ pub record IsCarried (chain : List Profile) (whole : PlainApart) (touch : Touch)
   pub tags : IfSome (parts_of version Tag) (λ p. is_tag_list p.bytes ≡ true)
   pub room : HasRoomFrom chain position (parts_of version)
 
--- what comes from a branch: a version that goes on, or a drop
+-- A version is ready for the functions at these positions.
+pub record IsReady (chain : List Profile) (positions : List ℕ) (version : PlainVersion) : Type 0 where
+  pub whole : PlainApart
+  pub low : ℕ
+  pub high : ℕ
+  pub holds : Holds chain version.touch low high positions
+  pub carried : IsCarried chain whole version.touch low version
+
+-- what comes from a branch: a version that goes on from a position, or a drop
 abbrev pub IsCarriedBy : List Profile → PlainApart → Touch → ℕ → Came → Type 0
 IsCarriedBy chain whole touch position (came.Version version) = IsCarried chain whole touch position version
 IsCarriedBy chain whole touch position (came.Nil p) = Unit {0}
