@@ -1,0 +1,4 @@
+pub mod Rights
+pub mod Sides
+pub mod Quiet
+pub mod Near
