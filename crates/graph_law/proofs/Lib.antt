@@ -2,3 +2,5 @@ pub mod Rights
 pub mod Sides
 pub mod Quiet
 pub mod Near
+pub mod Meets
+pub mod Merging
