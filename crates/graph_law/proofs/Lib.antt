@@ -4,3 +4,5 @@ pub mod Quiet
 pub mod Near
 pub mod Meets
 pub mod Merging
+pub mod Walking
+pub mod Staging
