@@ -6,3 +6,6 @@ pub mod Meets
 pub mod Merging
 pub mod Walking
 pub mod Staging
+pub mod Seams
+pub mod Owned
+pub mod Flowing
