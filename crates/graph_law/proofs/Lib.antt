@@ -9,3 +9,6 @@ pub mod Staging
 pub mod Seams
 pub mod Owned
 pub mod Flowing
+pub mod Staying
+pub mod Present
+pub mod Dropping

@@ -16,4 +16,4 @@
 
 mod laws;
 
-pub use laws::graph_is_chain;
+pub use laws::{fields_stay, graph_is_chain, profiles_stay, stage_reached};
