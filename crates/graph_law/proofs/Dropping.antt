@@ -1,7 +1,8 @@
 -- A packet that is gone behind a stage was dropped at a position of the stage.
-use Rattle.std.proofs.Common.{◌≡◌, ◌-◌, ◌∙◌, ℕ, List, ◌∷◌, [], sym, ap, refl, arith, Bool, true, false, Some, None, inl, inr, min, eq-eqb}
-use Rattle.std.specs.Prelude.{Option, ◌⊎◌, ◌==◌, ◌||◌, if◌then◌else◌, slice_get, IsTrue}
+use Rattle.std.proofs.Common.{◌≡◌, ◌-◌, ◌∙◌, ℕ, List, ◌∷◌, [], ap, refl, arith, Bool, true, false, Some, None, inl, inr, min, eq-eqb}
+use Rattle.std.specs.Prelude.{Option, ◌⊎◌, ◌==◌, if◌then◌else◌, slice_get, IsTrue}
 use Rattle.std.specs.List.{list_any}
+use Rattle.std.proofs.lemmas.Bool.{or_right}
 use Rattle.action_profile.specs.declared.parts.Touch.{Touch}
 use Rattle.chain_walk.specs.FieldWalk.{End, End.Out, End.Gone}
 use Rattle.chain_walk.specs.Shown.{Values}
@@ -13,11 +14,7 @@ use Rattle.graph_compile.specs.declared.graph.Branch.{Branch}
 use Rattle.graph_compile.specs.declared.graph.Stage.{Stage}
 use Rattle.graph_law.specs.Branches.{Version, Arrival, Arrival.Live, Arrival.Nil, Ran, dealt, met, in_turn, moved_arrival, written_at}
 use Rattle.graph_law.specs.Flow.{Branched, branched, staged, then_flow, flow}
-use Rattle.graph_law.specs.Merging.{least_nil, lesser, latest, unwritten, gone_or, merged}
-
-or_right : (x y : Bool) → y ≡ true → (x || y) ≡ true
-or_right true y e = refl
-or_right false y e = e
+use Rattle.graph_law.specs.Merging.{least_nil, lesser, gone_or, merged}
 
 nil_same : {p q : ℕ} → Nil p ≡ Nil q → p ≡ q
 nil_same e = cc

@@ -1,8 +1,7 @@
 -- The stages of a lawful graph, one after another, are the walk.
-use Rattle.std.proofs.Common.{◌≡◌, ◌<◌, ◌≤◌, ◌+◌, ◌∙◌, ℕ, zero, suc, List, ◌∷◌, [], ◌++◌, length, take, drop, map, sym, ap, refl, arith, Bool, true, false, Some, if◌then◌else◌, take-append-drop, append_assoc, length-append}
+use Rattle.std.proofs.Common.{◌≡◌, ◌<◌, ◌≤◌, ◌+◌, ◌∙◌, ℕ, suc, List, ◌∷◌, [], ◌++◌, length, take, drop, map, sym, ap, refl, arith, Bool, true, false, Some, take-append-drop, append_assoc, length-append}
 use Rattle.std.specs.Prelude.{slice_get}
-use Rattle.std.proofs.lemmas.Grind.{common_steps}
-use Rattle.std.proofs.lemmas.List.{length-map}
+use Rattle.std.proofs.lemmas.List.{length-map, map-append, length-take-le}
 use Rattle.packet_fields.specs.Writing.{over}
 use Rattle.action_profile.specs.declared.rights.Profile.{Profile}
 use Rattle.chain_walk.specs.FieldWalk.{End, End.Out, End.Gone, Ended, walk_fields, then_ended}
@@ -10,7 +9,7 @@ use Rattle.chain_walk.specs.Laws.{KeepsProfile}
 use Rattle.chain_walk.specs.Shown.{Values}
 use Rattle.chain_walk.specs.Step.{Behaviour, Step, stepped, is_drop}
 use Rattle.chain_walk.specs.declared.fixed.Fixed.{Fixed}
-use Rattle.graph_compile.specs.Facts.{IsLawful, IsFull}
+use Rattle.graph_compile.specs.Facts.{IsFull}
 use Rattle.graph_compile.specs.Lawful.{size, IsLawfulStage, IsStaged}
 use Rattle.graph_compile.specs.Owners.{owner, HasOwners}
 use Rattle.graph_compile.specs.declared.graph.Graph.{Graph}
@@ -37,23 +36,21 @@ led pre w = record { functions = pre ++ w.functions; end = w.end }
 abbrev between : {F : Type 0} → List F → Ended F → List F → Ended F
 between pre w post = record { functions = pre ++ (w.functions ++ post); end = w.end }
 
-map_append : {A B : Type 0} (f : A → B) (xs ys : List A) → map f (xs ++ ys) ≡ map f xs ++ map f ys
-map_append f [] ys = refl
-map_append f (x ∷ xs) ys = ap (λ r. f x ∷ r) (map_append f xs ys)
-
 -- a lawful stage walks its functions
 stage_fits : {F : Type 0} (b : Behaviour F) (fixed : Fixed) (chain : List Profile) (stage : Stage) (p : ℕ) (pre mid post : List F) (values : Values) →
     KeepsProfile b → Independent → HasOwners chain p stage → chain ≡ map b.profile (pre ++ (mid ++ post)) → suc (length pre) ≡ p → length mid ≡ size stage.branches → 0 < length stage.branches →
     staged b fixed stage values (pre ++ (mid ++ post)) ≡ between pre (walk_fields b fixed p mid values) post
 stage_fits {F} b fixed chain stage p pre mid post values law free owners is_chain at_p count some =
-    let parted : chain ≡ map b.profile pre ++ (map b.profile mid ++ map b.profile post) = is_chain ∙ map_append b.profile pre (mid ++ post) ∙ ap (λ r. map b.profile pre ++ r) (map_append b.profile mid post) in
+    let parted : chain ≡ map b.profile pre ++ (map b.profile mid ++ map b.profile post) = is_chain ∙ map-append b.profile pre (mid ++ post) ∙ ap (λ r. map b.profile pre ++ r) (map-append b.profile mid post) in
     let first : suc (length (map b.profile pre)) ≡ p = ap suc (length-map pre b.profile) ∙ at_p in
     let many : length (map b.profile mid) ≡ size stage.branches = length-map mid b.profile ∙ count in
-    let is : branched b fixed stage.branches stage.parts.touches values (pre ++ (mid ++ post)) ≡ record { functions = pre ++ ((sides b fixed (owner stage.branches) 0 p stage.parts.touches values mid).functions ++ post); arrivals = (sides b fixed (owner stage.branches) 0 p stage.parts.touches values mid).arrivals } =
-    branched_is b fixed (owner stage.branches) 0 p (size stage.branches) stage.branches stage.parts.touches values pre mid post at_p count owners.touches
-    (listed_from (owner stage.branches) 0 p (size stage.branches) stage.branches (λ j x e. owners.listed j x e ∙ ap (λ d. places (owner stage.branches) d p (size stage.branches)) (omega arith))) in
-    let fits : ◌≡◌ {A = Ended F} (record { functions = (sides b fixed (owner stage.branches) 0 p stage.parts.touches values mid).functions; end = merged values (sides b fixed (owner stage.branches) 0 p stage.parts.touches values mid).arrivals }) (walk_fields b fixed p mid values) =
-    sides_fit b fixed (owner stage.branches) p stage.parts.touches mid values law
+    let side : ℕ → ℕ = owner stage.branches in
+    let run : Branched F = sides b fixed side 0 p stage.parts.touches values mid in
+    let is : branched b fixed stage.branches stage.parts.touches values (pre ++ (mid ++ post)) ≡ record { functions = pre ++ (run.functions ++ post); arrivals = run.arrivals } =
+    branched_is b fixed side 0 p (size stage.branches) stage.branches stage.parts.touches values pre mid post at_p count owners.touches
+    (listed_from side 0 p (size stage.branches) stage.branches (λ j x e. owners.listed j x e ∙ ap (λ d. places side d p (size stage.branches)) (omega arith))) in
+    let fits : ◌≡◌ {A = Ended F} (record { functions = run.functions; end = merged values run.arrivals }) (walk_fields b fixed p mid values) =
+    sides_fit b fixed side p stage.parts.touches mid values law
     (owned_apart chain p stage (map b.profile pre) (map b.profile mid) (map b.profile post) free owners parted first many)
     (owned_all_touched chain p stage (map b.profile pre) (map b.profile mid) (map b.profile post) owners parted first many)
     (omega arith) (let l = owners.touches in omega arith) (λ q low high. let l = owners.owned q low (omega arith) in let m = owners.touches in omega arith) in
@@ -101,16 +98,15 @@ flow_more {F} b fixed s stages p pre mid post values law at_p is on =
     size_kept = let k = length-append pre w.functions in let n = length_walk b fixed p mid values in omega arith
 
     profiles_kept : map b.profile ((pre ++ w.functions) ++ post) ≡ map b.profile (pre ++ (mid ++ post))
-    profiles_kept = ap (map b.profile) (append_assoc pre w.functions post) ∙ map_append b.profile pre (w.functions ++ post) ∙ ap (λ l. map b.profile pre ++ l) (map_append b.profile w.functions post ∙ ap (λ l. l ++ map b.profile post) (walk_keeps b fixed p mid values law) ∙ sym (map_append b.profile mid post))
-        ∙ sym (map_append b.profile pre (mid ++ post))
+    profiles_kept = ap (map b.profile) (append_assoc pre w.functions post)
+        ∙ map-append b.profile pre (w.functions ++ post)
+        ∙ ap (λ l. map b.profile pre ++ l) (map-append b.profile w.functions post ∙ ap (λ l. l ++ map b.profile post) (walk_keeps b fixed p mid values law) ∙ sym (map-append b.profile mid post))
+        ∙ sym (map-append b.profile pre (mid ++ post))
 
     go : (end : End) → then_flow (pre ++ (w.functions ++ post)) end (flow b fixed stages) ≡ led pre (then_rest w.functions end post (walk_fields b fixed (p + length mid) post))
     go (Gone q) = refl
     go (Out after) = ap (flow b fixed stages after) (sym (append_assoc pre w.functions post)) ∙ on (pre ++ w.functions) after size_kept profiles_kept
         ∙ (λ i. record { functions = append_assoc pre w.functions (walk_fields b fixed (p + length mid) post after).functions i; end = (walk_fields b fixed (p + length mid) post after).end })
-
-length_take_all : {A : Type 0} (n : ℕ) (xs : List A) → n ≤ length xs → length (take n xs) ≡ n
-length_take_all n xs h = grind (arith, common_steps)
 
 -- the stages from the one that begins at position p on, with the functions before it
 flow_fits : {F : Type 0} (b : Behaviour F) (fixed : Fixed) (chain : List Profile) (stages : List Stage) (p : ℕ) (pre rest : List F) (values : Values) →
@@ -143,7 +139,7 @@ flow_fits {F} b fixed chain (s ∷ stages) p pre rest values law lower is at_p s
     long = let l = lower.rises chain (p + size s.branches) stages (suc (length chain)) staged.1 in let n = ap length is in let m = length-map (pre ++ rest) b.profile in let k = length-append pre rest in omega arith
 
     many : length mid ≡ size s.branches
-    many = length_take_all (size s.branches) rest long
+    many = length-take-le (size s.branches) rest long
 
     later : IsStaged chain (p + length mid) stages (suc (length chain))
     later = rw many staged.1

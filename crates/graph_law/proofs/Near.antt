@@ -1,5 +1,5 @@
 -- What a branch's version has in common with the packet of the walk, while both go on.
-use Rattle.std.proofs.Common.{◌≡◌, ◌≢◌, ◌<◌, ◌≤◌, ◌+◌, ◌∙◌, ℕ, List, ◌∷◌, map, sym, ap, refl, arith, Bool, true, false, Some, None, inr}
+use Rattle.std.proofs.Common.{◌≡◌, ◌≢◌, ◌<◌, ◌≤◌, ◌+◌, ◌∙◌, ℕ, List, ◌∷◌, sym, ap, refl, arith, Bool, true, false, Some, None, inr}
 use Rattle.std.specs.Prelude.{Option, is_some, ◌&&◌, if◌then◌else◌}
 use Rattle.std.specs.Option.{option_or}
 use Rattle.packet_fields.specs.Writing.{over}

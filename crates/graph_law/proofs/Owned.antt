@@ -1,9 +1,9 @@
 -- What a lawful stage says of its functions one by one is what the proof goes over.
-use Rattle.std.proofs.Common.{◌≡◌, ◌≢◌, ◌<◌, ◌≤◌, ◌+◌, ◌-◌, ◌∙◌, ℕ, zero, suc, List, ◌∷◌, [], ◌++◌, length, ap, refl, arith, Bool, true, false, Some, inl, inr}
-use Rattle.std.specs.Prelude.{◌⊎◌, ◌||◌, slice_get, IsTrue}
+use Rattle.std.proofs.Common.{◌≡◌, ◌≢◌, ◌<◌, ◌+◌, ◌-◌, ◌∙◌, ℕ, zero, suc, List, ◌∷◌, [], ◌++◌, length, ap, refl, arith, Bool, true, false, Some, inl, inr}
+use Rattle.std.specs.Prelude.{◌||◌, slice_get, IsTrue}
+use Rattle.std.proofs.lemmas.Option.{slice_get_within}
 use Rattle.packet_fields.specs.declared.field.Field.{Field}
 use Rattle.action_profile.specs.FieldSets.{has}
-use Rattle.action_profile.specs.Modes.{has_touch}
 use Rattle.action_profile.specs.Profiles.{reads_of, writes_of}
 use Rattle.action_profile.specs.declared.parts.Touch.{Touch}
 use Rattle.action_profile.specs.declared.rights.Profile.{Profile}
@@ -12,7 +12,7 @@ use Rattle.graph_compile.specs.Lawful.{size}
 use Rattle.graph_compile.specs.Owners.{owner, HasOwners}
 use Rattle.graph_compile.specs.Parts.{profile_at}
 use Rattle.graph_compile.specs.declared.graph.Stage.{Stage}
-use Rattle.graph_law.proofs.Rights.{Reads, Writes, Stateless, Before, Apart, Touched, AllTouched}
+use Rattle.graph_law.proofs.Rights.{Reads, Writes, Stateless, Apart, Touched, AllTouched}
 
 -- what it is worth that two functions may stand side by side
 pub record Independent : Type 0 where
@@ -80,11 +80,6 @@ all_touched side c p fs (t ∷ touches) h = (
     plus_one : (j : ℕ) → c + suc j ≡ c + 1 + j
     plus_one j = omega arith
 
-get_length : {A : Type 0} (xs : List A) (i : ℕ) (x : A) → slice_get xs i ≡ Some x → i < length xs
-get_length [] i x e = absurd cc
-get_length (y ∷ xs) zero x e = omega arith
-get_length (y ∷ xs) (suc i) x e = let l = get_length xs i x e in omega arith
-
 -- the functions of the stage among those of the chain
 get_between : {A : Type 0} (pre mid post : List A) (i j : ℕ) (x : A) → i ≡ length pre + j → slice_get mid j ≡ Some x → slice_get (pre ++ (mid ++ post)) i ≡ Some x
 get_between [] [] post i j x at e = absurd cc
@@ -107,7 +102,7 @@ profile_between chain p stage pre mid post j x o e =
     ap (λ ps. slice_get ps (p + j - 1)) o.parted ∙ get_between pre mid post (p + j - 1) j x (let l = o.first in omega arith) e
 
 within : (chain : List Profile) (p : ℕ) (stage : Stage) (pre mid post : List Profile) (j : ℕ) (x : Profile) → Owned chain p stage pre mid post → slice_get mid j ≡ Some x → p + j < p + size stage.branches
-within chain p stage pre mid post j x o e = let l = get_length mid j x e in let n = o.count in omega arith
+within chain p stage pre mid post j x o e = let l = slice_get_within mid j x e in let n = o.count in omega arith
 
 touch_reads : (r w : Bool) → r ≡ true → (r || w) ≡ true
 touch_reads r w e = rw e refl

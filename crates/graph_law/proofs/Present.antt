@@ -1,6 +1,6 @@
 -- A packet that comes out has the fields that it came in with.
-use Rattle.std.proofs.Common.{◌≡◌, ◌<◌, ◌≤◌, ◌-◌, ◌∙◌, ℕ, List, ◌∷◌, [], sym, ap, refl, arith, Bool, true, false, Some, None, ltb-true}
-use Rattle.std.specs.Prelude.{Option, ◌&&◌, is_some, if◌then◌else◌, slice_get, nat_lt, IsTrue}
+use Rattle.std.proofs.Common.{◌≡◌, ◌<◌, ◌-◌, ◌∙◌, ℕ, List, ◌∷◌, [], sym, ap, refl, arith, Bool, true, false, Some, None, ltb-true}
+use Rattle.std.specs.Prelude.{Option, ◌&&◌, is_some, if◌then◌else◌, slice_get, nat_lt}
 use Rattle.std.specs.Option.{option_or}
 use Rattle.packet_fields.specs.declared.field.Field.{Field}
 use Rattle.action_profile.specs.Modes.{has_touch}
@@ -15,7 +15,7 @@ use Rattle.graph_compile.specs.declared.graph.Branch.{Branch}
 use Rattle.graph_compile.specs.declared.graph.Stage.{Stage}
 use Rattle.graph_law.specs.Branches.{Version, Arrival, Arrival.Live, Arrival.Nil, Ran, dealt, met, in_turn, moved_arrival, writer_by, written_at}
 use Rattle.graph_law.specs.Flow.{branched, staged, then_flow, flow}
-use Rattle.graph_law.specs.Merging.{least_nil, later, latest, unwritten, gone_or, merged}
+use Rattle.graph_law.specs.Merging.{later, latest, unwritten, gone_or, merged}
 
 -- A branch's version of a packet has a field only where the packet has it, and where a function wrote it.
 record Has (x : Field) (old : Option (List ℕ)) (v : Version) : Type 0 where

@@ -1,6 +1,6 @@
 -- What the functions of a stage may do, side by side.
 use Rattle.std.proofs.Common.{◌≡◌, ◌≢◌, ◌+◌, ℕ, List, ◌∷◌, [], true, false}
-use Rattle.std.specs.Prelude.{◌⊎◌, Bool}
+use Rattle.std.specs.Prelude.{◌⊎◌}
 use Rattle.packet_fields.specs.declared.field.Field.{Field}
 use Rattle.action_profile.specs.Modes.{has_touch}
 use Rattle.action_profile.specs.Profiles.{reads_of, writes_of}

@@ -1,5 +1,5 @@
 -- A stage's functions among all functions of the chain: those before them, and those behind.
-use Rattle.std.proofs.Common.{◌≡◌, ◌≢◌, ◌<◌, ◌+◌, ◌-◌, ◌∙◌, ℕ, zero, suc, List, ◌∷◌, [], ◌++◌, length, map, set, sym, ap, refl, arith, Some, inl, inr, eq-eqb, ne_eqb, append_assoc, length-append}
+use Rattle.std.proofs.Common.{◌≡◌, ◌≢◌, ◌+◌, ◌-◌, ◌∙◌, ℕ, suc, List, ◌∷◌, [], ◌++◌, length, set, sym, ap, refl, arith, Some, inl, inr, eq-eqb, ne_eqb, append_assoc, length-append}
 use Rattle.std.specs.Prelude.{◌⊎◌, ◌==◌, slice_get, filter}
 use Rattle.std.specs.List.{range_with_len}
 use Rattle.std.proofs.Math.Seq.{set-append_seam}
@@ -9,7 +9,7 @@ use Rattle.chain_walk.specs.Step.{Behaviour}
 use Rattle.chain_walk.specs.declared.fixed.Fixed.{Fixed}
 use Rattle.graph_compile.specs.declared.graph.Branch.{Branch}
 use Rattle.graph_law.specs.Branches.{Arrival, Ran, dealt, met, in_turn, moved_function, moved_arrival}
-use Rattle.graph_law.specs.Flow.{Branched, then_branched, branched}
+use Rattle.graph_law.specs.Flow.{then_branched, branched}
 use Rattle.graph_law.proofs.Sides.{ran, ran_here, ran_elsewhere, length_ran, sides, is_or_not}
 
 -- the positions on side c, among n from p on

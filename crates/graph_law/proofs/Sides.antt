@@ -2,11 +2,10 @@
 use Rattle.std.proofs.Common.{◌≡◌, ◌≢◌, ◌<◌, ◌≤◌, ◌+◌, ◌∙◌, ℕ, List, ◌∷◌, [], length, sym, ap, refl, arith, eq-eqb, ne_eqb, inl, inr}
 use Rattle.std.specs.Prelude.{◌==◌, ◌⊎◌, if◌then◌else◌}
 use Rattle.action_profile.specs.declared.parts.Touch.{Touch}
-use Rattle.action_profile.specs.declared.rights.Profile.{Profile}
 use Rattle.chain_walk.specs.Shown.{Values}
 use Rattle.chain_walk.specs.Step.{Behaviour}
 use Rattle.chain_walk.specs.declared.fixed.Fixed.{Fixed}
-use Rattle.graph_law.specs.Branches.{Arrival, Arrival.Live, Arrival.Nil, Ran, dealt, moved_function, moved_arrival}
+use Rattle.graph_law.specs.Branches.{Arrival, Arrival.Nil, Ran, dealt, moved_function, moved_arrival}
 use Rattle.graph_law.specs.Flow.{Branched, then_branched}
 
 abbrev pub then_ran : {F : Type 0} → F → Ran F → Ran F

@@ -1,5 +1,5 @@
 -- The branches of a stage, one after another, and their merge.
-use Rattle.std.proofs.Common.{length, ◌≡◌, ◌≢◌, ◌<◌, ◌≤◌, ◌+◌, ◌∙◌, ℕ, List, ◌∷◌, [], map, sym, refl, subst, arith, Bool, None, inl, inr, if◌then◌else◌}
+use Rattle.std.proofs.Common.{length, ◌≡◌, ◌≢◌, ◌<◌, ◌≤◌, ◌+◌, ℕ, List, ◌∷◌, [], map, sym, refl, subst, arith, None, inl, inr, if◌then◌else◌}
 use Rattle.std.specs.Prelude.{◌⊎◌}
 use Rattle.packet_fields.specs.declared.field.Field.{Field}
 use Rattle.action_profile.specs.Modes.{has_touch}

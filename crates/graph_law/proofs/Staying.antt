@@ -1,5 +1,5 @@
 -- Functions keep their profiles and their number, whatever runs.
-use Rattle.std.proofs.Common.{◌≡◌, ◌-◌, ◌∙◌, ℕ, zero, suc, List, ◌∷◌, [], length, map, set, ap, refl, Bool, true, false, Some, None, length-set}
+use Rattle.std.proofs.Common.{◌≡◌, ◌-◌, ◌∙◌, ℕ, zero, suc, List, ◌∷◌, [], length, map, set, ap, refl, Some, None, length-set}
 use Rattle.std.specs.Prelude.{Option, slice_get}
 use Rattle.action_profile.specs.declared.parts.Touch.{Touch}
 use Rattle.chain_walk.specs.FieldWalk.{End, End.Out, End.Gone}
