@@ -1,1 +1,2 @@
+pub mod Fielding
 pub mod Walking

@@ -1,6 +1,7 @@
 -- What every network function keeps to.
 use Rattle.std.specs.Prelude.{◌≡◌, ◌≢◌, ◌≤◌, ◌+◌, true, false, ◌&&◌, if◌then◌else◌, length, None, is_some, IfSome, IsSomeAnd}
 use Rattle.packet_fields.specs.Frames.{is_tag_list}
+use Rattle.packet_fields.specs.Fields.{IsLengthOf}
 use Rattle.packet_fields.specs.declared.field.Field.{Field}
 use Rattle.packet_fields.specs.declared.field.Field.TheVariants.{Tag}
 use Rattle.action_profile.specs.Profiles.{writes_of}
@@ -18,8 +19,9 @@ pub record KeepsProfile {F : Type 0} (b : Behaviour F) : Type 0 where
   pub drops : (fixed : Fixed) (f : F) (v : Values) → (b.profile f).drops ≡ false → is_drop (stepped b fixed f v).verdict ≡ false
   -- only a function with a state changes
   pub state : (fixed : Fixed) (f : F) (v : Values) → (b.profile f).state ≡ false → (stepped b fixed f v).after ≡ f
-  -- a field has its length, but for the tags
-  pub lengths : (fixed : Fixed) (f : F) (v : Values) (x : Field) → x ≢ Tag → IfSome ((stepped b fixed f v).written x) (λ new. IsSomeAnd (v x) (λ old. length new ≡ length old))
+  -- a field keeps its length, but for the tags
+  pub lengths : (fixed : Fixed) (f : F) (v : Values) (x : Field) → x ≢ Tag → IfSome (v x) (λ old. IsLengthOf x (length old)) →
+      IfSome ((stepped b fixed f v).written x) (λ new. IsSomeAnd (v x) (λ old. length new ≡ length old))
   -- the tags are whole, and at most one more where the profile adds
   pub tags : (fixed : Fixed) (f : F) (v : Values) → IfSome (v Tag) (λ old. is_tag_list old ≡ true) →
       IfSome ((stepped b fixed f v).written Tag) (λ new. (is_tag_list new ≡ true) × IsSomeAnd (v Tag) (λ old. length new ≤ length old + (if (b.profile f).adds then 4 else 0)))

@@ -1,9 +1,10 @@
 -- What a network function is shown of a packet.
-use Rattle.std.specs.Prelude.{ℕ, List, Bool, ◌&&◌, if◌then◌else◌, Option, None, is_some}
-use Rattle.packet_fields.specs.Frames.{packet}
+use Rattle.std.specs.Prelude.{◌≡◌, ℕ, List, length, Bool, true, ◌&&◌, if◌then◌else◌, Option, None, is_some, IfSome}
+use Rattle.packet_fields.specs.Frames.{packet, is_tag_list}
 use Rattle.packet_fields.specs.Packets.{total_len, protocol, control_bits}
-use Rattle.packet_fields.specs.Fields.{ether_type}
+use Rattle.packet_fields.specs.Fields.{ether_type, IsLengthOf}
 use Rattle.packet_fields.specs.declared.field.Field.{Field}
+use Rattle.packet_fields.specs.declared.field.Field.TheVariants.{Tag}
 use Rattle.action_profile.specs.Profiles.{reads_of, writes_of}
 use Rattle.action_profile.specs.declared.rights.Profile.{Profile}
 use Rattle.chain_walk.specs.declared.fixed.Fixed.{Fixed}
@@ -11,6 +12,11 @@ use Rattle.chain_walk.specs.declared.fixed.Fixed.{Fixed}
 -- the bytes of each field that a packet has
 abbrev pub Values : Type 0
 Values = Field → Option (List ℕ)
+
+-- Values as the fields of a frame have them: each has its field's length, and the tags are whole.
+pub record AreWellFormed (values : Values) : Type 0 where
+  pub lengths : (f : Field) → IfSome (values f) (λ bytes. IsLengthOf f (length bytes))
+  pub tags : IfSome (values Tag) (λ tags. is_tag_list tags ≡ true)
 
 -- The values of the fields that a function reads, which of the fields that it writes are there, and the values that
 -- no function writes.

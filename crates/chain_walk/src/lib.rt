@@ -14,10 +14,12 @@
 
 mod fixed;
 mod function;
+mod laws;
 mod verdict;
 mod walk;
 
 pub use fixed::Fixed;
 pub use function::FrameFunction;
+pub use laws::{frames_walk_as_fields, values_stay_well_formed};
 pub use verdict::Verdict;
 pub use walk::{Fate, walk_chain};

@@ -5,7 +5,7 @@ use Rattle.packet_fields.specs.declared.field.Field.TheVariants.{Tag}
 use Rattle.action_profile.specs.declared.parts.Touch.{Touch}
 use Rattle.action_profile.specs.declared.rights.Profile.{Profile}
 use Rattle.chain_walk.specs.Shown.{Values}
-use Rattle.chain_walk.specs.Step.{Behaviour, Step, stepped}
+use Rattle.chain_walk.specs.Step.{Step, Behaviour, stepped}
 use Rattle.packet_version.specs.Parts.{PlainPart, Parts, as_list, values_of, rewritten, changed}
 use Rattle.packet_version.specs.Slots.{is_shown, AreSlots}
 use Rattle.packet_version.specs.Versions.{PlainVersion, parts_of, with_part, HoldsNamed}
@@ -37,10 +37,6 @@ pushed tag view = record view { version = with_part Tag (option_map (λ part. re
 abbrev pub popped : PlainView → PlainView
 popped view = record view { version = with_part Tag (option_map (λ part. rewritten (drop 4 part.bytes) view.position part) (seen_parts view Tag)) view.version }
 
--- what a function does with the packet behind a view
-abbrev pub viewed : {F : Type 0} → Behaviour F → F → PlainView → Step F
-viewed b f view = stepped b view.version.fixed f (seen_values view)
-
 -- a part with its new bytes, where there are some
 abbrev pub rewritten_by : Option (List ℕ) → ℕ → Option PlainPart → Option PlainPart
 rewritten_by None position part = part
@@ -49,6 +45,10 @@ rewritten_by (Some bytes) position part = option_map (rewritten bytes position) 
 -- the view once its function wrote these values
 abbrev pub wrote_all : Values → PlainView → PlainView
 wrote_all new view = record view { version = record view.version { parts = as_list (λ f. rewritten_by (new f) view.position (seen_parts view f)) } }
+
+-- what a function does with the packet behind a view
+abbrev pub viewed : {F : Type 0} → Behaviour F → F → PlainView → Step F
+viewed b f view = stepped b view.version.fixed f (seen_values view)
 
 -- a field is present, with bytes of which this holds
 abbrev pub HasBytes : PlainView → Field → (List ℕ → Type 0) → Type 0
