@@ -8,7 +8,8 @@ use Rattle.action_profile.specs.Modes.{has_write}
 use Rattle.action_profile.specs.Profiles.{writes_of}
 use Rattle.action_profile.specs.declared.parts.Touch.{Touch}
 use Rattle.action_profile.specs.declared.rights.Profile.{Profile}
-use Rattle.chain_walk.specs.Shown.{Values}
+use Rattle.packet_fields.specs.Writing.{over}
+use Rattle.chain_walk.specs.Shown.{Values, AreWellFormed}
 use Rattle.chain_walk.specs.Step.{Behaviour, stepped}
 use Rattle.chain_walk.specs.Laws.{KeepsProfile}
 use Rattle.chain_walk.specs.declared.fixed.Fixed.{Fixed}
@@ -22,7 +23,7 @@ use Rattle.merge_ops.specs.Behind.{IsMadeOf}
 use Rattle.graph_run.specs.Carrying.{as_version, wrote_at}
 use Rattle.graph_run.specs.Rooms.{adders_from, HasRoomFrom}
 use Rattle.graph_run.specs.Staging.{IsCarried}
-use Rattle.graph_run.proofs.Writing.{bytes_in, length_in, part_after, there_after, own_after, writes_after, length_after}
+use Rattle.graph_run.proofs.Writing.{bytes_in, length_in, part_after, as_wrote, there_after, own_after, writes_after, length_after}
 use Rattle.graph_run.proofs.Rooming.{adders_at, room_later}
 
 and_false : (a b : Bool) → a ≡ false → (a && b) ≡ false
@@ -47,12 +48,6 @@ only_allowed b fixed f v touch keeps holds x e = keeps.writes fixed f v x (and_f
     by_test false is = is
     by_test true is = absurd (let w = holds.written x is in cc)
 
-tags_after : (w : Option (List ℕ)) (q : ℕ) (o : Option PlainPart) (adds : Bool) → IfSome o (λ p. is_tag_list p.bytes ≡ true) →
-    IfSome w (λ new. (is_tag_list new ≡ true) × IsSomeAnd (bytes_in o) (λ old. length new ≤ length old + (if adds then 4 else 0))) → IfSome (rewritten_by w q o) (λ p. is_tag_list p.bytes ≡ true)
-tags_after None q o adds tags h = tags
-tags_after (Some w) q None adds tags h = tt
-tags_after (Some w) q (Some p) adds tags h = h.0
-
 room_after : (w : Option (List ℕ)) (q : ℕ) (o : Option PlainPart) (adds : Bool) (now later : ℕ) → now ≡ (if adds then 1 else 0) + later →
     IfSome w (λ new. (is_tag_list new ≡ true) × IsSomeAnd (bytes_in o) (λ old. length new ≤ length old + (if adds then 4 else 0))) →
     IfSome o (λ p. length p.bytes + 4 * now ≤ p.room) → IfSome (rewritten_by w q o) (λ p. length p.bytes + 4 * later ≤ p.room)
@@ -62,29 +57,29 @@ room_after (Some w) q None adds now later is h room = tt
 room_after (Some w) q (Some p) true now later is h room = let len = h.1 in omega arith
 room_after (Some w) q (Some p) false now later is h room = let len = h.1 in omega arith
 
-tags_seen : (o : Option PlainPart) → IfSome o (λ p. is_tag_list p.bytes ≡ true) → IfSome (bytes_in o) (λ old. is_tag_list old ≡ true)
-tags_seen None h = tt
-tags_seen (Some p) h = h
+-- a function that keeps to its profile leaves values well formed
+abbrev pub StaysFormed : Type 0 → Type 0
+StaysFormed F = (b : Behaviour F) (fixed : Fixed) (f : F) (values : Values) → KeepsProfile b → AreWellFormed values → AreWellFormed (over (stepped b fixed f values).written values)
 
 pub carried_on : {F : Type 0} (b : Behaviour F) (chain : List Profile) (whole : PlainApart) (touch : Touch) (low q : ℕ) (f : F) (v : PlainVersion) →
-    KeepsProfile b → 1 ≤ q → low ≤ q → profile_at chain q ≡ Some (b.profile f) → HoldsNamed (b.profile f) touch → IsCarried chain whole touch low v →
+    StaysFormed F → KeepsProfile b → 1 ≤ q → low ≤ q → profile_at chain q ≡ Some (b.profile f) → HoldsNamed (b.profile f) touch → IsCarried chain whole touch low v →
     IsCarried chain whole touch (q + 1) (wrote_at q (stepped b v.fixed f (as_version v).values).written v)
-carried_on b chain whole touch low q f v keeps pos le is holds carried =
+carried_on b chain whole touch low q f v stays keeps pos le is holds carried =
     let new : Values = (stepped b v.fixed f (as_version v).values).written in
     let made = carried.made in
     let after = part_after q new v in
     let dealt = dealt_parts touch (parts_in whole) in
-    let tags = keeps.tags v.fixed f (as_version v).values (tags_seen (parts_of v Tag) carried.tags) in
+    let tags = keeps.tags v.fixed f (as_version v).values carried.formed.tags in
     record {
       made = record {
         touched = made.touched;
         there = λ x. ap (λ (o : Option PlainPart). is_some o) (after x) ∙ there_after (new x) q (parts_of v x) ∙ made.there x;
         own = λ x. subst (λ (o : Option PlainPart). writer_in o ≡ 0 → bytes_in o ≡ bytes_in (dealt x)) (sym (after x)) (own_after (new x) q (parts_of v x) (bytes_in (dealt x)) pos (made.own x));
         written = λ x. subst (λ (o : Option PlainPart). writer_in o ≢ 0 → has_write x touch ≡ true) (sym (after x)) (writes_after (new x) q (parts_of v x) (has_write x touch) (only_allowed b v.fixed f (as_version v).values touch keeps holds x) (made.written x));
-        lengths = λ x apart. ap length_in (after x) ∙ length_after (new x) q (parts_of v x) (keeps.lengths v.fixed f (as_version v).values x apart) ∙ made.lengths x apart;
+        lengths = λ x apart. ap length_in (after x) ∙ length_after (new x) q (parts_of v x) (keeps.lengths v.fixed f (as_version v).values x apart (carried.formed.lengths x)) ∙ made.lengths x apart;
       };
       fixed = carried.fixed;
-      tags = subst (λ (o : Option PlainPart). IfSome o (λ p. is_tag_list p.bytes ≡ true)) (sym (after Tag)) (tags_after (new Tag) q (parts_of v Tag) (b.profile f).adds carried.tags tags);
+      formed = subst AreWellFormed (sym (ap (λ w. w.values) (as_wrote q new v (only_there b v.fixed f v keeps)))) (stays b v.fixed f (as_version v).values keeps carried.formed);
       room = subst (λ (o : Option PlainPart). IfSome o (λ p. length p.bytes + 4 * adders_from chain (q + 1) ≤ p.room)) (sym (after Tag))
           (room_after (new Tag) q (parts_of v Tag) (b.profile f).adds (adders_from chain q) (adders_from chain (q + 1)) (adders_at chain q (b.profile f) pos is) tags (room_later chain low q (parts_of v) le carried.room));
     }

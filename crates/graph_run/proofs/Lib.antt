@@ -3,3 +3,4 @@ pub mod Writing
 pub mod Rooming
 pub mod Carried
 pub mod Stepped
+pub mod Turning

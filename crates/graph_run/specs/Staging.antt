@@ -1,10 +1,9 @@
 -- What a branch leaves of a version.
-use Rattle.std.specs.Prelude.{◌≡◌, ◌≤◌, ◌<◌, ◌+◌, ℕ, List, [], ◌∷◌, true, Some, IfSome}
-use Rattle.packet_fields.specs.Frames.{is_tag_list}
-use Rattle.packet_fields.specs.declared.field.Field.TheVariants.{Tag}
+use Rattle.std.specs.Prelude.{◌≡◌, ◌≤◌, ◌<◌, ◌+◌, ℕ, List, [], ◌∷◌, Some}
 use Rattle.action_profile.specs.declared.parts.Touch.{Touch}
 use Rattle.action_profile.specs.declared.rights.Profile.{Profile}
-use Rattle.chain_walk.specs.Shown.{Values}
+use Rattle.chain_walk.specs.Shown.{Values, AreWellFormed}
+use Rattle.packet_version.specs.Parts.{values_of}
 use Rattle.graph_compile.specs.Parts.{profile_at}
 use Rattle.packet_version.specs.Splitting.{PlainApart}
 use Rattle.packet_version.specs.Versions.{PlainVersion, parts_of, HoldsNamed}
@@ -23,7 +22,7 @@ Holds chain touch low high (q ∷ qs) = (1 ≤ q) × (low ≤ q) × ((p : Profil
 pub record IsCarried (chain : List Profile) (whole : PlainApart) (touch : Touch) (position : ℕ) (version : PlainVersion) : Type 0 where
   pub made : IsMadeOf whole touch version
   pub fixed : version.fixed ≡ whole.fixed
-  pub tags : IfSome (parts_of version Tag) (λ p. is_tag_list p.bytes ≡ true)
+  pub formed : AreWellFormed (values_of (parts_of version))
   pub room : HasRoomFrom chain position (parts_of version)
 
 -- A version is ready for the functions at these positions.

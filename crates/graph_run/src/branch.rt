@@ -7,8 +7,9 @@ ghost use Rattle.graph_law.specs.Branches.{Arrival.Live, moved_function, moved_a
 ghost use Rattle.packet_version.specs.Splitting.{PlainApart};
 ghost use Rattle.graph_run.specs.Carrying.{as_version, as_arrival, wrote_at};
 ghost use Rattle.graph_run.specs.Running.{profiles_of};
-ghost use Rattle.graph_run.specs.Staging.{Holds, IsCarried, IsCarriedBy, IsWhatWasWritten};
+ghost use Rattle.graph_run.specs.Staging.{Holds, IsReady, IsCarried, IsCarriedBy, IsWhatWasWritten};
 
+use chain_walk::values_stay_well_formed;
 use merge_ops::Arrival;
 use net_functions::Function;
 use packet_version::{Verdict, Version};
@@ -37,4 +38,31 @@ fn step_on<F: Function, R: Wait>(
         Verdict::Pass => Ok(Arrival::Version(version)),
         Verdict::Drop => Ok(Arrival::Nil(position)),
     }
+}
+
+/// The functions of a branch at these chain positions, one after another on a version of a packet, until one
+/// drops it.
+pub(crate) fn run_branch<F: Function, R: Wait>(
+    rt: &R,
+    functions: &mut [F],
+    positions: &[u32],
+    version: Version,
+) -> Result<Arrival, AllocError>
+    requires ready { IsReady (profiles_of F.behaviour functions.old) positions.now version }
+    ensures functions { OnOk result (functions.new ≡ (in_turn F.behaviour version.fixed positions.now functions.old (Live (as_version version))).functions) }
+    ensures arrival { IfOk result (λ arrival. as_arrival arrival ≡ (in_turn F.behaviour version.fixed positions.now functions.old (Live (as_version version))).arrival) }
+    // What comes may be merged, and has room for the functions that follow.
+    ensures carried { (whole : PlainApart) (low high : ℕ) → Holds (profiles_of F.behaviour functions.old) version.touch low high positions.now → IsCarried (profiles_of F.behaviour functions.old) whole version.touch low version →
+        IfOk result (IsCarriedBy (profiles_of F.behaviour functions.old) whole version.touch high) }
+{
+    values_stay_well_formed::<F>();
+    let mut version = version;
+    for position in positions {
+        let function = &mut functions[*position as usize - 1];
+        match step_on(rt, function, version, *position)? {
+            Arrival::Version(after) => version = after,
+            dropped => return Ok(dropped),
+        }
+    }
+    Ok(Arrival::Version(version))
 }

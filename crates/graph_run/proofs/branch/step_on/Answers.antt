@@ -6,7 +6,7 @@ pub returns-in-Pass-clause-function : goal.returns-in-Pass-clause-function
 returns-in-Pass-clause-function g c = function_moved _ _ _ _ _ _ _ c.view-view.ensures c.in_ok-verdict.ensures.after
 
 pub returns-in-Pass-clause-arrival : goal.returns-in-Pass-clause-arrival
-returns-in-Pass-clause-arrival g c = passes _ _ _ _ _ _ _ _ g.F.Function.keeps c.view-view.ensures (sym c.in-Pass.is ∙ c.in_ok-verdict.ensures.verdict) c.in_ok-verdict.ensures.view c.end-version.ensures
+returns-in-Pass-clause-arrival g c = passes _ _ _ _ _ _ _ _ g.met.F.Function.keeps c.view-view.ensures (sym c.in-Pass.is ∙ c.in_ok-verdict.ensures.verdict) c.in_ok-verdict.ensures.view c.end-version.ensures
 
 pub returns-in-Drop-clause-function : goal.returns-in-Drop-clause-function
 returns-in-Drop-clause-function g c = function_moved _ _ _ _ _ _ _ c.view-view.ensures c.in_ok-verdict.ensures.after
