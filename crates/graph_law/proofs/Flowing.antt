@@ -1,6 +1,5 @@
 -- The stages of a lawful graph, one after another, are the walk.
-use Rattle.std.proofs.Common.{◌≡◌, ◌<◌, ◌≤◌, ◌+◌, ◌∙◌, ℕ, suc, List, ◌∷◌, [], ◌++◌, length, take, drop, map, sym, ap, refl, arith, Bool, true, false, Some, take-append-drop, append_assoc, length-append}
-use Rattle.std.specs.Prelude.{slice_get}
+use Rattle.std.proofs.Common.{◌≡◌, ◌≤◌, ◌+◌, ◌∙◌, ℕ, suc, List, ◌∷◌, [], ◌++◌, length, take, drop, map, sym, ap, refl, arith, Bool, true, false, take-append-drop, append_assoc, length-append}
 use Rattle.std.proofs.lemmas.List.{length-map, map-append, length-take-le}
 use Rattle.packet_fields.specs.Writing.{over}
 use Rattle.action_profile.specs.declared.rights.Profile.{Profile}
@@ -9,7 +8,6 @@ use Rattle.chain_walk.specs.Laws.{KeepsProfile}
 use Rattle.chain_walk.specs.Shown.{Values}
 use Rattle.chain_walk.specs.Step.{Behaviour, Step, stepped, is_drop}
 use Rattle.chain_walk.specs.declared.fixed.Fixed.{Fixed}
-use Rattle.graph_compile.specs.Facts.{IsFull}
 use Rattle.graph_compile.specs.Lawful.{size, IsLawfulStage, IsStaged}
 use Rattle.graph_compile.specs.Owners.{owner, HasOwners}
 use Rattle.graph_compile.specs.declared.graph.Graph.{Graph}
@@ -38,9 +36,9 @@ between pre w post = record { functions = pre ++ (w.functions ++ post); end = w.
 
 -- a lawful stage walks its functions
 stage_fits : {F : Type 0} (b : Behaviour F) (fixed : Fixed) (chain : List Profile) (stage : Stage) (p : ℕ) (pre mid post : List F) (values : Values) →
-    KeepsProfile b → Independent → HasOwners chain p stage → chain ≡ map b.profile (pre ++ (mid ++ post)) → suc (length pre) ≡ p → length mid ≡ size stage.branches → 0 < length stage.branches →
+    KeepsProfile b → Independent → HasOwners chain p stage → chain ≡ map b.profile (pre ++ (mid ++ post)) → suc (length pre) ≡ p → length mid ≡ size stage.branches →
     staged b fixed stage values (pre ++ (mid ++ post)) ≡ between pre (walk_fields b fixed p mid values) post
-stage_fits {F} b fixed chain stage p pre mid post values law free owners is_chain at_p count some =
+stage_fits {F} b fixed chain stage p pre mid post values law free owners is_chain at_p count =
     let parted : chain ≡ map b.profile pre ++ (map b.profile mid ++ map b.profile post) = is_chain ∙ map-append b.profile pre (mid ++ post) ∙ ap (λ r. map b.profile pre ++ r) (map-append b.profile mid post) in
     let first : suc (length (map b.profile pre)) ≡ p = ap suc (length-map pre b.profile) ∙ at_p in
     let many : length (map b.profile mid) ≡ size stage.branches = length-map mid b.profile ∙ count in
@@ -53,7 +51,7 @@ stage_fits {F} b fixed chain stage p pre mid post values law free owners is_chai
     sides_fit b fixed side p stage.parts.touches mid values law
     (owned_apart chain p stage (map b.profile pre) (map b.profile mid) (map b.profile post) free owners parted first many)
     (owned_all_touched chain p stage (map b.profile pre) (map b.profile mid) (map b.profile post) owners parted first many)
-    (omega arith) (let l = owners.touches in omega arith) (λ q low high. let l = owners.owned q low (omega arith) in let m = owners.touches in omega arith) in
+    (omega arith) (λ q low high. let l = owners.owned q low (omega arith) in let m = owners.touches in omega arith) in
     (λ i. record { functions = (is i).functions; end = merged values (is i).arrivals }) ∙ ap (λ w. between pre w post) fits
 
 -- what walks behind some functions that have walked, where the packet is still there
@@ -110,17 +108,17 @@ flow_more {F} b fixed s stages p pre mid post values law at_p is on =
 
 -- the stages from the one that begins at position p on, with the functions before it
 flow_fits : {F : Type 0} (b : Behaviour F) (fixed : Fixed) (chain : List Profile) (stages : List Stage) (p : ℕ) (pre rest : List F) (values : Values) →
-    KeepsProfile b → Lower → chain ≡ map b.profile (pre ++ rest) → suc (length pre) ≡ p → IsStaged chain p stages (suc (length chain)) → ((i : ℕ) (s : Stage) → slice_get stages i ≡ Some s → 0 < length s.branches) →
+    KeepsProfile b → Lower → chain ≡ map b.profile (pre ++ rest) → suc (length pre) ≡ p → IsStaged chain p stages (suc (length chain)) →
     flow b fixed stages values (pre ++ rest) ≡ led pre (walk_fields b fixed p rest values)
 unfolding flow IsStaged walk_fields
-flow_fits b fixed chain [] p pre [] values law lower is at_p staged full = refl
-flow_fits b fixed chain [] p pre (f ∷ rest) values law lower is at_p staged full =
+flow_fits b fixed chain [] p pre [] values law lower is at_p staged = refl
+flow_fits b fixed chain [] p pre (f ∷ rest) values law lower is at_p staged =
     absurd (let n = ap length is in let m = length-map (pre ++ (f ∷ rest)) b.profile in let k = length-append pre (f ∷ rest) in let s = staged in omega arith)
-flow_fits {F} b fixed chain (s ∷ stages) p pre rest values law lower is at_p staged full =
+flow_fits {F} b fixed chain (s ∷ stages) p pre rest values law lower is at_p staged =
     ap (λ l. flow b fixed (s ∷ stages) values (pre ++ l)) (sym parts)
     ∙ flow_more b fixed s stages p pre mid post values law at_p
-    (stage_fits b fixed chain s p pre mid post values law lower.independent (lower.owners chain p s staged.0) is_parted at_p many (full 0 s refl))
-    (λ done after size_kept profiles_kept. flow_fits b fixed chain stages (p + length mid) done post after law lower (is_parted ∙ sym profiles_kept) size_kept later (λ i t e. full (suc i) t e))
+    (stage_fits b fixed chain s p pre mid post values law lower.independent (lower.owners chain p s staged.0) is_parted at_p many)
+    (λ done after size_kept profiles_kept. flow_fits b fixed chain stages (p + length mid) done post after law lower (is_parted ∙ sym profiles_kept) size_kept later)
     ∙ ap (λ l. led pre (walk_fields b fixed p l values)) parts
   where
     mid : List F
@@ -146,6 +144,6 @@ flow_fits {F} b fixed chain (s ∷ stages) p pre rest values law lower is at_p s
 
 -- a lawful graph
 pub graph_fits : {F : Type 0} (b : Behaviour F) (fixed : Fixed) (graph : Graph) (functions : List F) (values : Values) →
-    KeepsProfile b → Lower → IsStaged (map b.profile functions) 1 graph.stages (suc (length (map b.profile functions))) → IsFull graph →
+    KeepsProfile b → Lower → IsStaged (map b.profile functions) 1 graph.stages (suc (length (map b.profile functions))) →
     flow b fixed graph.stages values functions ≡ walk_fields b fixed 1 functions values
-graph_fits b fixed graph functions values law lower staged full = flow_fits b fixed (map b.profile functions) graph.stages 1 [] functions values law lower refl refl staged full.branches
+graph_fits b fixed graph functions values law lower staged = flow_fits b fixed (map b.profile functions) graph.stages 1 [] functions values law lower refl refl staged

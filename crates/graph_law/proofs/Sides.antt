@@ -57,6 +57,11 @@ length_ran b fixed side c p (f ∷ fs) a = go (is_or_not (side p) c) (λ a. leng
     go (inl e) ih = rw (ran_here b fixed side c p f fs a e) (let n = ih (moved_arrival b fixed p f a) in omega arith)
     go (inr ne) ih = rw (ran_elsewhere b fixed side c p f fs a ne) (let n = ih a in omega arith)
 
+pub length_sides : {F : Type 0} (b : Behaviour F) (fixed : Fixed) (side : ℕ → ℕ) (c p : ℕ) (touches : List Touch) (values : Values) (fs : List F) → length (sides b fixed side c p touches values fs).functions ≡ length fs
+unfolding sides
+length_sides b fixed side c p [] values fs = refl
+length_sides b fixed side c p (t ∷ touches) values fs = length_sides b fixed side (c + 1) p touches values (ran b fixed side c p fs (dealt t values)).functions ∙ length_ran b fixed side c p fs (dealt t values)
+
 -- the same functions on side c
 unfoldable pub Agree : {F : Type 0} → (ℕ → ℕ) → ℕ → ℕ → List F → List F → Type 0
 Agree side c p [] [] = Unit {0}
@@ -77,15 +82,15 @@ agree_trans side c p (x ∷ xs) [] zs h k = absurd h
 agree_trans side c p (x ∷ xs) (y ∷ ys) [] h k = absurd k
 agree_trans side c p (x ∷ xs) (y ∷ ys) (z ∷ zs) h k = (λ e. h.0 e ∙ k.0 e, agree_trans side c (p + 1) xs ys zs h.1 k.1)
 
--- lists that agree on each side are one
-pub agree_all : {F : Type 0} (side : ℕ → ℕ) (n p : ℕ) (xs ys : List F) → ((q : ℕ) → p ≤ q → q < p + length xs → side q < n) → ((c : ℕ) → c < n → Agree side c p xs ys) → 0 < n → xs ≡ ys
+-- lists of one length that agree on each side are one
+pub agree_all : {F : Type 0} (side : ℕ → ℕ) (n p : ℕ) (xs ys : List F) → ((q : ℕ) → p ≤ q → q < p + length xs → side q < n) → ((c : ℕ) → c < n → Agree side c p xs ys) → length xs ≡ length ys → xs ≡ ys
 unfolding Agree
-agree_all side n p [] [] inside h some = refl
-agree_all side n p [] (y ∷ ys) inside h some = absurd (h 0 some)
-agree_all side n p (x ∷ xs) [] inside h some = absurd (h (side p) (inside p (omega arith) (omega arith)))
-agree_all side n p (x ∷ xs) (y ∷ ys) inside h some =
+agree_all side n p [] [] inside h long = refl
+agree_all side n p [] (y ∷ ys) inside h long = absurd (omega arith)
+agree_all side n p (x ∷ xs) [] inside h long = absurd (omega arith)
+agree_all side n p (x ∷ xs) (y ∷ ys) inside h long =
     let e : x ≡ y = (h (side p) (inside p (omega arith) (omega arith))).0 refl in
-    let rest : xs ≡ ys = agree_all side n (p + 1) xs ys (λ q low high. inside q (omega arith) (omega arith)) (λ c l. (h c l).1) some in cc
+    let rest : xs ≡ ys = agree_all side n (p + 1) xs ys (λ q low high. inside q (omega arith) (omega arith)) (λ c l. (h c l).1) (omega arith) in cc
 
 -- a branch changes no function of another
 pub ran_others : {F : Type 0} (b : Behaviour F) (fixed : Fixed) (side : ℕ → ℕ) (c d p : ℕ) (fs : List F) (a : Arrival) → c ≢ d → Agree side d p fs (ran b fixed side c p fs a).functions

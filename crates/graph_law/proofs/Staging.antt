@@ -1,5 +1,5 @@
 -- The branches of a stage, one after another, and their merge.
-use Rattle.std.proofs.Common.{length, ◌≡◌, ◌≢◌, ◌<◌, ◌≤◌, ◌+◌, ℕ, List, ◌∷◌, [], map, sym, refl, subst, arith, None, inl, inr, if◌then◌else◌}
+use Rattle.std.proofs.Common.{length, ◌≡◌, ◌≢◌, ◌<◌, ◌≤◌, ◌+◌, ◌∙◌, ℕ, List, ◌∷◌, [], map, sym, refl, subst, arith, None, inl, inr, if◌then◌else◌}
 use Rattle.std.specs.Prelude.{◌⊎◌}
 use Rattle.packet_fields.specs.declared.field.Field.{Field}
 use Rattle.action_profile.specs.Modes.{has_touch}
@@ -17,7 +17,7 @@ use Rattle.graph_law.proofs.Meets.{meets, last_of}
 use Rattle.graph_law.proofs.Merging.{AllMeet, merged_fits}
 use Rattle.graph_law.proofs.Near.{Near}
 use Rattle.graph_law.proofs.Rights.{Apart, Touched, AllTouched}
-use Rattle.graph_law.proofs.Sides.{ran, sides, is_or_not, Agree, agree_refl, agree_trans, agree_all, ran_others}
+use Rattle.graph_law.proofs.Sides.{ran, sides, is_or_not, Agree, agree_refl, agree_trans, agree_all, ran_others, length_sides}
 use Rattle.graph_law.proofs.Walking.{walk_gone, length_walk, last_within, untouched}
 
 -- each branch is dealt what its functions are shown
@@ -59,13 +59,13 @@ all_end {F} b fixed side c p (t ∷ touches) fs gs values law apart touched pos 
 
 -- the branches of a stage, merged, are the walk through its functions
 pub sides_fit : {F : Type 0} (b : Behaviour F) (fixed : Fixed) (side : ℕ → ℕ) (p : ℕ) (touches : List Touch) (fs : List F) (values : Values) →
-    KeepsProfile b → Apart side p (map b.profile fs) → AllTouched side 0 p (map b.profile fs) touches → 0 < p → 0 < length touches → ((q : ℕ) → p ≤ q → q < p + length fs → side q < length touches) →
+    KeepsProfile b → Apart side p (map b.profile fs) → AllTouched side 0 p (map b.profile fs) touches → 0 < p → ((q : ℕ) → p ≤ q → q < p + length fs → side q < length touches) →
     ◌≡◌ {A = Ended F} (record { functions = (sides b fixed side 0 p touches values fs).functions; end = merged values (sides b fixed side 0 p touches values fs).arrivals }) (walk_fields b fixed p fs values)
-sides_fit {F} b fixed side p touches fs values law apart touched pos some inside =
+sides_fit {F} b fixed side p touches fs values law apart touched pos inside =
     let e = all_end b fixed side 0 p touches fs fs values law apart touched pos (λ d l. agree_refl side d p fs) in
     let count : length (sides b fixed side 0 p touches values fs).arrivals ≡ length touches = e.count in
     let size : length (walk_fields b fixed p fs values).functions ≡ length fs = length_walk b fixed p fs values in
-    let same : (walk_fields b fixed p fs values).functions ≡ (sides b fixed side 0 p touches values fs).functions = agree_all side (length touches) p _ _ (λ q l u. inside q l (omega arith)) (λ d l. e.done d (omega arith) (omega arith)) some in
+    let same : (walk_fields b fixed p fs values).functions ≡ (sides b fixed side 0 p touches values fs).functions = agree_all side (length touches) p _ _ (λ q l u. inside q l (omega arith)) (λ d l. e.done d (omega arith) (omega arith)) (size ∙ sym (length_sides b fixed side 0 p touches values fs)) in
     let end : merged values (sides b fixed side 0 p touches values fs).arrivals ≡ (walk_fields b fixed p fs values).end =
     merged_fits side values _ _ _ (λ q is. let g = walk_gone b fixed p fs values q is in let l = inside q g.0 g.1 in omega arith)
     (λ x l. let g = last_within b fixed p p fs values (λ y. 0) x (omega arith) (λ z. absurd (omega arith)) l in let k = inside _ g.0 g.1 in omega arith)

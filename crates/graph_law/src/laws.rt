@@ -19,8 +19,9 @@ ghost use Rattle.graph_law.specs.Flow.{branched, staged, flow};
 use dependency_table::beside_is_independent;
 use graph_compile::{lawful_graph_is_staged, lawful_stage_has_owners, stages_rise};
 
-/// A packet that goes through the stages of a lawful graph ends as one that walks through the functions
-/// of the chain one after another, and the functions are left in the same states.
+/// A packet that goes through the stages of a lawful graph, each with a branch and each branch with a
+/// function, ends as one that walks through the functions of the chain one after another, and the
+/// functions are left in the same states.
 pub fn graph_is_chain<F>()
     ensures { (b : Behaviour F) (fixed : Fixed) (graph : Graph) (functions : List F) (values : Values) →
         KeepsProfile b → IsLawful graph (map b.profile functions) → IsFull graph →
