@@ -7,3 +7,4 @@ pub mod Turning
 pub mod Latest
 pub mod Behind
 pub mod Owning
+pub mod Branching

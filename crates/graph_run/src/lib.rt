@@ -2,4 +2,5 @@
 #![tactic(auto)]
 
 mod branch;
+mod stage;
 
