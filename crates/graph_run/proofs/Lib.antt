@@ -8,3 +8,4 @@ pub mod Latest
 pub mod Behind
 pub mod Owning
 pub mod Branching
+pub mod Staged

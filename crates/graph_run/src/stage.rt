@@ -8,6 +8,7 @@ ghost use Rattle.graph_run.specs.Stages.{IsStageReady, LeavesStage, end_of, stag
 
 use crate::branch::run_branch;
 use graph_compile::{Stage, lawful_stage_has_owners};
+use graph_law::profiles_stay;
 use merge_ops::{
     Merged, last_writer_is_greatest, merge, merged_is_written_last, written_is_made,
 };
@@ -33,6 +34,7 @@ pub(crate) fn run_stage<F: Function, R: Wait>(
     ensures refused { OnErr result (RaisesUpTo (stage_copies stage.now whole) tally.old tally.new) }
 {
     lawful_stage_has_owners();
+    profiles_stay::<F>();
     written_is_made();
     last_writer_is_greatest();
     merged_is_written_last();
