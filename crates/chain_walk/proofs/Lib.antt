@@ -1,2 +1,3 @@
 pub mod Fielding
 pub mod Walking
+pub mod Rowing
