@@ -16,3 +16,4 @@ pub mod Placing
 pub mod Rows
 pub mod Lawful
 pub mod Shaping
+pub mod Forming
