@@ -49,7 +49,7 @@ fn first_met<'a>(rules: &'a [Rule], seen: &Seen) -> Option<&'a Rule>
 }
 
 impl Firewall {
-    ghost use Rattle.std.specs.Prelude.{◌≡◌, IfOk, OnOk, OnErr};
+    ghost use Rattle.std.specs.Prelude.{◌≡◌, Ok, true, is_ok};
     ghost use Rattle.chain_walk.specs.Shown.{AreWellFormed};
     ghost use Rattle.packet_version.specs.Views.{viewed, seen_values, WroteAll};
     ghost use Rattle.nf_filter.specs.Firewalls.{firewall_behaviour};
@@ -59,18 +59,17 @@ impl Firewall {
     pub fn step(&mut self, view: &mut View) -> Result<Verdict, AllocError>
         requires profile { view.old.profile ≡ firewall_behaviour.profile self.old }
         requires well_formed { AreWellFormed (seen_values view.old) }
-        ensures after { OnOk result (self.new ≡ (viewed firewall_behaviour self.old view.old).after) }
-        ensures verdict { IfOk result (λ verdict. verdict ≡ (viewed firewall_behaviour self.old view.old).verdict) }
-        ensures view { OnOk result (WroteAll (viewed firewall_behaviour self.old view.old).written view.old view.new) }
-        ensures function_stays { OnErr result (self.new ≡ self.old) }
-        ensures view_stays { OnErr result (view.new ≡ view.old) }
+        ensures after { self.new ≡ (viewed firewall_behaviour self.old view.old).after }
+        ensures verdict { result ≡ Ok (viewed firewall_behaviour self.old view.old).verdict }
+        ensures view { WroteAll (viewed firewall_behaviour self.old view.old).written view.old view.new }
     {
         Ok(verdict(self.judge(&seen_in(view))))
     }
 
     /// Appends the lines of its state, of which a firewall has none.
     pub fn state_lines(&self, _out: &mut Vec<u8>) -> Result<(), AllocError>
-        ensures { _out.new ≡ _out.old }
+        ensures none { _out.new ≡ _out.old }
+        ensures never_fails { is_ok result ≡ true }
     {
         Ok(())
     }

@@ -1,9 +1,9 @@
 //! A frame in its parts: how it comes apart, and how it goes together again.
 
+use chain_walk::Fixed;
 use crate::part::Part;
 use crate::rest::Rest;
 use action_profile::all_fields;
-use chain_walk::Fixed;
 use packet_fields::{Field, Frame};
 use std::alloc::{AllocError, Global};
 use std::marker::Model;

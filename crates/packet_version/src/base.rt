@@ -1,9 +1,9 @@
 //! What stays of a packet behind the branches of a stage.
 
+use chain_walk::Fixed;
 use crate::gathered::Gathered;
 use crate::part::Part;
 use crate::rest::Rest;
-use chain_walk::Fixed;
 use part_lease::Owner;
 use std::marker::Model;
 use std::mem;

@@ -12,12 +12,12 @@ ghost use Rattle.packet_version.specs.Handing.{touches_in, kept_in, without_fiel
 
 use crate::apart::Apart;
 use crate::base::{Base, Kept};
+use chain_walk::Fixed;
 use crate::hand::deal_field;
 use crate::part::Part;
 use crate::tally::Tally;
 use crate::version::Version;
 use action_profile::{Mode, StageParts, Touch, all_fields};
-use chain_walk::Fixed;
 use std::alloc::{AllocError, Global};
 use std::mem;
 

@@ -1,10 +1,10 @@
 //! What a branch of a stage has of a packet.
 
+use chain_walk::Fixed;
 use crate::part::Part;
 use crate::slot::Slot;
 use crate::view::View;
 use action_profile::{Profile, Touch, all_fields};
-use chain_walk::Fixed;
 use packet_fields::Field;
 use part_lease::Reader;
 use std::alloc::{AllocError, Global};

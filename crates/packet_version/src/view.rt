@@ -1,10 +1,10 @@
 //! What a function sees of its branch's version.
 
+use chain_walk::Fixed;
 use crate::part::Part;
 use crate::slot::Slot;
 use crate::version::{Version, released};
 use action_profile::{Profile, Touch};
-use chain_walk::Fixed;
 use packet_fields::Field;
 use std::marker::Model;
 use std::mem;
