@@ -1,0 +1,14 @@
+pub mod Rights
+pub mod Sides
+pub mod Quiet
+pub mod Near
+pub mod Meets
+pub mod Merging
+pub mod Walking
+pub mod Staging
+pub mod Seams
+pub mod Owned
+pub mod Flowing
+pub mod Staying
+pub mod Present
+pub mod Dropping

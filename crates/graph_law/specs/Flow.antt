@@ -1,5 +1,5 @@
 -- A packet goes through the stages of a graph: in each, every branch has a version of it, and the versions are merged.
-use Rattle.std.specs.Prelude.{ℕ, List, [], ◌∷◌}
+use Rattle.std.specs.Prelude.{List, [], ◌∷◌}
 use Rattle.action_profile.specs.declared.parts.Touch.{Touch}
 use Rattle.chain_walk.specs.Shown.{Values}
 use Rattle.chain_walk.specs.Step.{Behaviour}
@@ -7,7 +7,7 @@ use Rattle.chain_walk.specs.FieldWalk.{End, End.Out, End.Gone, Ended}
 use Rattle.chain_walk.specs.declared.fixed.Fixed.{Fixed}
 use Rattle.graph_compile.specs.declared.graph.Branch.{Branch}
 use Rattle.graph_compile.specs.declared.graph.Stage.{Stage}
-use Rattle.graph_law.specs.Branches.{Arrival, Ran, in_turn, dealt}
+use Rattle.graph_law.specs.Branches.{Arrival, in_turn, dealt}
 use Rattle.graph_law.specs.Merging.{merged}
 
 -- The functions of a chain as the branches of a stage leave them, and what comes from each branch.
@@ -22,7 +22,7 @@ then_branched a rest = record { functions = rest.functions; arrivals = a ∷ res
 unfoldable pub branched : {F : Type 0} → Behaviour F → Fixed → List Branch → List Touch → Values → List F → Branched F
 branched b fixed (x ∷ branches) (t ∷ touches) values fs =
     then_branched (in_turn b fixed x.positions fs (dealt t values)).arrival
-        (branched b fixed branches touches values (in_turn b fixed x.positions fs (dealt t values)).functions)
+    (branched b fixed branches touches values (in_turn b fixed x.positions fs (dealt t values)).functions)
 branched b fixed [] touches values fs = record { functions = fs; arrivals = [] }
 branched b fixed (x ∷ branches) [] values fs = record { functions = fs; arrivals = [] }
 

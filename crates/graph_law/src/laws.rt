@@ -1,19 +1,76 @@
-//! The law of graphs.
-ghost use Rattle.std.specs.Prelude.{◌≡◌, List, map};
+//! The law of graphs, and what else stays of functions and packets on the way.
+ghost use Rattle.std.specs.Prelude.{◌≡◌, ℕ, List, length, map, is_some, IsTrue};
+ghost use Rattle.std.specs.List.{list_any};
+ghost use Rattle.packet_fields.specs.declared.field.Field.{Field};
+ghost use Rattle.action_profile.specs.declared.parts.Touch.{Touch};
 ghost use Rattle.action_profile.specs.declared.rights.Profile.{Profile};
 ghost use Rattle.chain_walk.specs.Shown.{Values};
 ghost use Rattle.chain_walk.specs.Step.{Behaviour};
 ghost use Rattle.chain_walk.specs.Laws.{KeepsProfile};
-ghost use Rattle.chain_walk.specs.FieldWalk.{Ended, walk_fields};
+ghost use Rattle.chain_walk.specs.FieldWalk.{End.Out, End.Gone, Ended, walk_fields};
 ghost use Rattle.chain_walk.specs.declared.fixed.Fixed.{Fixed};
-ghost use Rattle.graph_compile.specs.Facts.{IsLawful, IsFull};
+ghost use Rattle.graph_compile.specs.Facts.{IsLawful, IsFull, stands};
+ghost use Rattle.graph_compile.specs.declared.graph.Branch.{Branch};
 ghost use Rattle.graph_compile.specs.declared.graph.Graph.{Graph};
-ghost use Rattle.graph_law.specs.Flow.{flow};
+ghost use Rattle.graph_compile.specs.declared.graph.Stage.{Stage};
+ghost use Rattle.graph_law.specs.Branches.{Arrival, in_turn};
+ghost use Rattle.graph_law.specs.Flow.{branched, staged, flow};
 
-/// A packet that goes through the stages of a lawful graph ends as one that walks through the functions
-/// of the chain one after another, and the functions are left in the same states.
+use dependency_table::beside_is_independent;
+use graph_compile::{lawful_graph_is_staged, lawful_stage_has_owners, stages_rise};
+
+/// A packet that goes through the stages of a lawful graph, each with a branch and each branch with a
+/// function, ends as one that walks through the functions of the chain one after another, and the
+/// functions are left in the same states.
 pub fn graph_is_chain<F>()
     ensures { (b : Behaviour F) (fixed : Fixed) (graph : Graph) (functions : List F) (values : Values) →
         KeepsProfile b → IsLawful graph (map b.profile functions) → IsFull graph →
         ◌≡◌ {A = Ended F} (flow b fixed graph.stages values functions) (walk_fields b fixed 1 functions values) }
+{
+    lawful_graph_is_staged();
+    lawful_stage_has_owners();
+    stages_rise();
+    beside_is_independent();
+}
+
+/// Functions keep their profiles, and none is lost or new, whatever the positions, branches and stages
+/// that a packet goes through: the next packet finds functions for which the same graph is lawful.
+pub fn profiles_stay<F>()
+    // the functions of one branch, whatever comes to it
+    ensures branch { (b : Behaviour F) (fixed : Fixed) (positions : List ℕ) (functions : List F) (arrival : Arrival) →
+        KeepsProfile b → map b.profile (in_turn b fixed positions functions arrival).functions ≡ map b.profile functions }
+    ensures branch_length { (b : Behaviour F) (fixed : Fixed) (positions : List ℕ) (functions : List F) (arrival : Arrival) →
+        length (in_turn b fixed positions functions arrival).functions ≡ length functions }
+    // the branches of a stage
+    ensures stage { (b : Behaviour F) (fixed : Fixed) (branches : List Branch) (touches : List Touch) (functions : List F) (values : Values) →
+        KeepsProfile b → map b.profile (branched b fixed branches touches values functions).functions ≡ map b.profile functions }
+    ensures stage_length { (b : Behaviour F) (fixed : Fixed) (branches : List Branch) (touches : List Touch) (functions : List F) (values : Values) →
+        length (branched b fixed branches touches values functions).functions ≡ length functions }
+    // all stages
+    ensures graph { (b : Behaviour F) (fixed : Fixed) (stages : List Stage) (functions : List F) (values : Values) →
+        KeepsProfile b → map b.profile (flow b fixed stages values functions).functions ≡ map b.profile functions }
+    ensures graph_length { (b : Behaviour F) (fixed : Fixed) (stages : List Stage) (functions : List F) (values : Values) →
+        length (flow b fixed stages values functions).functions ≡ length functions }
+{}
+
+/// A packet that comes out has the fields that it came in with, and no others: their values may be new.
+pub fn fields_stay<F>()
+    // through the chain
+    ensures chain { (b : Behaviour F) (fixed : Fixed) (position : ℕ) (functions : List F) (values after : Values) (f : Field) →
+        KeepsProfile b → (walk_fields b fixed position functions values).end ≡ Out after → is_some (after f) ≡ is_some (values f) }
+    // through a stage, lawful or not
+    ensures stage { (b : Behaviour F) (fixed : Fixed) (stage : Stage) (functions : List F) (values after : Values) (f : Field) →
+        KeepsProfile b → (staged b fixed stage values functions).end ≡ Out after → is_some (after f) ≡ is_some (values f) }
+    // through all stages
+    ensures graph { (b : Behaviour F) (fixed : Fixed) (stages : List Stage) (functions : List F) (values after : Values) (f : Field) →
+        KeepsProfile b → (flow b fixed stages values functions).end ≡ Out after → is_some (after f) ≡ is_some (values f) }
+{}
+
+/// A packet that is gone behind a stage was dropped there: the position that it is gone at stands in the
+/// stage.
+pub fn stage_reached<F>()
+    ensures stage { (b : Behaviour F) (fixed : Fixed) (stage : Stage) (functions : List F) (values : Values) (position : ℕ) →
+        (staged b fixed stage values functions).end ≡ Gone position → IsTrue (stands position stage) }
+    ensures graph { (b : Behaviour F) (fixed : Fixed) (stages : List Stage) (functions : List F) (values : Values) (position : ℕ) →
+        (flow b fixed stages values functions).end ≡ Gone position → IsTrue (list_any (stands position) stages) }
 {}

@@ -11,9 +11,14 @@
 //! the same state. It rests on what profiles say, on the law that every function keeps to its profile, and
 //! on lawfulness alone; what one kind of function does never enters.
 //!
+//! Beside it stands what whoever runs a graph needs between two steps, for any branches and stages,
+//! lawful or not: functions keep their profiles and their number ([`profiles_stay`]), a packet keeps the
+//! fields that it has ([`fields_stay`]), and one that is gone was dropped in the stage that it is gone
+//! behind ([`stage_reached`]).
+//!
 //! There is no code here: what runs a graph is a crate above.
 #![tactic(auto)]
 
 mod laws;
 
-pub use laws::graph_is_chain;
+pub use laws::{fields_stay, graph_is_chain, profiles_stay, stage_reached};

@@ -1,1 +1,6 @@
+//! Network functions of all kinds behind one contract.
 #![tactic(auto)]
+
+mod function;
+
+pub use function::Function;

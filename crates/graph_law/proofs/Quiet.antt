@@ -1,0 +1,32 @@
+-- A branch of functions without state leaves them as they are, whatever it is shown.
+use Rattle.std.proofs.Common.{◌≡◌, ◌≢◌, ◌≤◌, ◌+◌, ℕ, List, ◌∷◌, [], map, sym, refl, arith, Bool, true, false, inl, inr}
+use Rattle.std.specs.Prelude.{◌⊎◌}
+use Rattle.chain_walk.specs.Laws.{KeepsProfile}
+use Rattle.chain_walk.specs.Step.{Behaviour, stepped, is_drop}
+use Rattle.chain_walk.specs.declared.fixed.Fixed.{Fixed}
+use Rattle.graph_law.specs.Branches.{Version, Arrival, Arrival.Live, Arrival.Nil, Ran, moved_function, moved_arrival, written_at}
+use Rattle.graph_law.proofs.Rights.{Stateless}
+use Rattle.graph_law.proofs.Sides.{ran, ran_here, ran_elsewhere, ran_nil, is_or_not, Agree, agree_refl}
+
+-- no drop before position p
+pub data Late (p : ℕ) : Arrival → Type 0 where
+  live : (v : Version) → Late p (Live v)
+  late : (q : ℕ) → p ≤ q → Late p (Nil q)
+
+late_more : {p : ℕ} {a : Arrival} → Late (p + 1) a → Late p a
+late_more (live v) = live v
+late_more {p} (late q h) = late q (omega arith)
+
+pub record Quiet {F : Type 0} (side : ℕ → ℕ) (c p : ℕ) (fs : List F) (r : Ran F) : Type 0 where
+  pub functions : Agree side c p fs r.functions
+  pub arrival : Late p r.arrival
+
+pub ran_quiet : {F : Type 0} (b : Behaviour F) (fixed : Fixed) (side : ℕ → ℕ) (c p : ℕ) (fs : List F) (v : Version) → KeepsProfile b → Stateless side c p (map b.profile fs) → Quiet side c p fs (ran b fixed side c p fs (Live v))
+unfolding ran Agree Stateless moved_function moved_arrival
+ran_quiet b fixed side c p [] v law h = record { functions = tt; arrival = live v }
+ran_quiet b fixed side c p (f ∷ fs) v law h = go (is_or_not (side p) c) (is_drop (stepped b fixed f v.values).verdict) refl (λ v. ran_quiet b fixed side c (p + 1) fs v law h.1)
+  where
+    go : (side p ≡ c) ⊎ (side p ≢ c) → (d : Bool) → is_drop (stepped b fixed f v.values).verdict ≡ d → ((v : Version) → Quiet side c (p + 1) fs (ran b fixed side c (p + 1) fs (Live v))) → Quiet side c p (f ∷ fs) (ran b fixed side c p (f ∷ fs) (Live v))
+    go (inr ne) d is ih = rw (ran_elsewhere b fixed side c p f fs (Live v) ne) (record { functions = (λ _. refl, (ih v).functions); arrival = late_more (ih v).arrival })
+    go (inl e) true is ih = rw (ran_here b fixed side c p f fs (Live v) e, is, ran_nil b fixed side c (p + 1) p fs) (record { functions = (λ _. sym (law.state fixed f v.values (h.0 e)), agree_refl side c (p + 1) fs); arrival = late p (omega arith) })
+    go (inl e) false is ih = rw (ran_here b fixed side c p f fs (Live v) e, is) (let w = ih (written_at p (stepped b fixed f v.values).written v) in record { functions = (λ _. sym (law.state fixed f v.values (h.0 e)), w.functions); arrival = late_more w.arrival })

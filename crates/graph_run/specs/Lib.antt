@@ -1,0 +1,6 @@
+pub mod Packets
+pub mod Running
+pub mod Carrying
+pub mod Rooms
+pub mod Counting
+pub mod Staging

@@ -1,0 +1,5 @@
+//! Runs bursts of packets through the graph of a chain.
+#![tactic(auto)]
+
+mod branch;
+

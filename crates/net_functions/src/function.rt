@@ -1,0 +1,41 @@
+//! A network function that sees a packet through a view.
+ghost use Rattle.std.specs.Prelude.{◌≡◌, ◌++◌, ℕ, List, true, IfOk, OnOk, OnErr, IsSome};
+ghost use Rattle.packet_fields.specs.declared.field.Field.{Field};
+ghost use Rattle.chain_walk.specs.Step.{Behaviour};
+ghost use Rattle.chain_walk.specs.Laws.{KeepsProfile};
+ghost use Rattle.packet_version.specs.Views.{seen_parts, viewed, wrote_all, HasTagRoom};
+
+use action_profile::Profile;
+use packet_version::{Verdict, View};
+use std::alloc::AllocError;
+
+/// A network function of any kind.
+pub trait Function {
+    /// What each function may do, and what it does by what it is shown.
+    ghost behaviour: { Behaviour Self };
+
+    /// The lines that show its state.
+    ghost lines: { Self → List ℕ };
+
+    /// What it may do.
+    fn profile(&self) -> Profile
+        ensures { result ≡ behaviour.profile self.now };
+
+    /// Acts on one packet, which it sees through a view of its own profile.
+    fn step(&mut self, view: &mut View) -> Result<Verdict, AllocError>
+        requires profile { view.old.profile ≡ behaviour.profile self.old }
+        requires room { (behaviour.profile self.old).adds ≡ true → IsSome (seen_parts view.old Field.Tag) → HasTagRoom view.old }
+        ensures after { OnOk result (self.new ≡ (viewed behaviour self.old view.old).after) }
+        ensures verdict { IfOk result (λ verdict. verdict ≡ (viewed behaviour self.old view.old).verdict) }
+        ensures view { OnOk result (view.new ≡ wrote_all (viewed behaviour self.old view.old).written view.old) }
+        // Where memory runs out, nothing has changed.
+        ensures function_stays { OnErr result (self.new ≡ self.old) }
+        ensures view_stays { OnErr result (view.new ≡ view.old) };
+
+    /// Appends the lines that show its state.
+    fn state_lines(&self, out: &mut Vec<u8>) -> Result<(), AllocError>
+        ensures lines { OnOk result (out.new.items ≡ out.old.items ++ lines self.now) }
+        ensures stays { OnErr result (out.new.items ≡ out.old.items) };
+
+    ghost keeps: { KeepsProfile behaviour };
+}
