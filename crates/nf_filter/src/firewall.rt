@@ -7,7 +7,7 @@ use chain_walk::{FrameFunction, Verdict};
 use frame_seen::{seen, seen_address, seen_port, seen_tags};
 use item_list::Items;
 use packet_fields::{Field, Frame};
-use packet_version::View;
+use packet_version::{View, unwritten_stays};
 use policy_text::{Match, Seen, fits};
 use std::alloc::AllocError;
 
@@ -51,7 +51,7 @@ fn first_met<'a>(rules: &'a [Rule], seen: &Seen) -> Option<&'a Rule>
 impl Firewall {
     ghost use Rattle.std.specs.Prelude.{◌≡◌, Ok, true, is_ok};
     ghost use Rattle.chain_walk.specs.Shown.{AreWellFormed};
-    ghost use Rattle.packet_version.specs.Views.{viewed, seen_values, WroteAll};
+    ghost use Rattle.packet_version.specs.Views.{viewed, seen_values, wrote_all};
     ghost use Rattle.nf_filter.specs.Firewalls.{firewall_behaviour};
 
     /// Judges one packet through a view of a firewall's profile, whose values have the form of a frame's.
@@ -61,8 +61,9 @@ impl Firewall {
         requires well_formed { AreWellFormed (seen_values view.old) }
         ensures after { self.new ≡ (viewed firewall_behaviour self.old view.old).after }
         ensures verdict { result ≡ Ok (viewed firewall_behaviour self.old view.old).verdict }
-        ensures view { WroteAll (viewed firewall_behaviour self.old view.old).written view.old view.new }
+        ensures view { view.new ≡ wrote_all (viewed firewall_behaviour self.old view.old).written view.old }
     {
+        unwritten_stays(view);
         Ok(verdict(self.judge(&seen_in(view))))
     }
 

@@ -17,3 +17,4 @@ pub mod Rows
 pub mod Lawful
 pub mod Shaping
 pub mod Forming
+pub mod Keeping

@@ -46,15 +46,6 @@ rewritten_by (Some bytes) position part = option_map (rewritten bytes position) 
 abbrev pub wrote_all : Values → PlainView → PlainView
 wrote_all new view = record view { version = record view.version { parts = as_list (λ f. rewritten_by (new f) view.position (seen_parts view f)) } }
 
--- A function wrote these values into a view: each field that is there and has a new value has it by this function, every
--- other field is as it was, and so is all else.
-pub record WroteAll (new : Values) (before after : PlainView) : Type 0 where
-  pub parts : (f : Field) → seen_parts after f ≡ rewritten_by (new f) before.position (seen_parts before f)
-  pub touch : after.version.touch ≡ before.version.touch
-  pub fixed : after.version.fixed ≡ before.version.fixed
-  pub profile : after.profile ≡ before.profile
-  pub position : after.position ≡ before.position
-
 -- what a function does with the packet behind a view
 abbrev pub viewed : {F : Type 0} → Behaviour F → F → PlainView → Step F
 viewed b f view = stepped b view.version.fixed f (seen_values view)
