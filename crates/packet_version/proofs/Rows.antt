@@ -12,7 +12,8 @@ use Rattle.action_profile.specs.declared.kind.Kind.TheVariants.{Balancer}
 use Rattle.action_profile.specs.declared.parts.Mode.TheVariants.{Shared, Moved, Copied}
 use Rattle.action_profile.specs.declared.parts.Touch.{Touch}
 use Rattle.packet_version.specs.Parts.{as_list, as_map, values_of}
-use Rattle.packet_version.specs.Splitting.{PlainApart, split_parts, fixed_of, joined, parts_of}
+use Rattle.chain_walk.specs.Shown.{fixed_of}
+use Rattle.packet_version.specs.Splitting.{PlainApart, split_parts, joined, parts_of}
 use Rattle.packet_version.specs.Versions.{HoldsNamed, names}
 use Rattle.packet_version.specs.Dealing.{dealt, based, copies_due}
 

@@ -32,7 +32,8 @@ impl Model for Apart {
 
 ghost use Rattle.std.specs.Prelude.{◌≡◌, IfOk, map};
 ghost use Rattle.packet_fields.specs.Writing.{rest_of, all_fields as every_field};
-ghost use Rattle.packet_version.specs.Splitting.{parts_of, split_parts as split_parts_of, fixed_of, joined, spare_room as spare_room_of, IsWhole};
+ghost use Rattle.chain_walk.specs.Shown.{fixed_of};
+ghost use Rattle.packet_version.specs.Splitting.{parts_of, split_parts as split_parts_of, joined, spare_room as spare_room_of, IsWhole};
 
 /// Takes a frame of any bytes apart. The parts are written by nobody, and the list of tags has room for
 /// `taggers` tags more. `time` is when the packet was captured, in nanoseconds.
