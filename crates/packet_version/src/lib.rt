@@ -30,11 +30,12 @@ mod base;
 mod dealing;
 mod gathered;
 mod hand;
+mod held;
 mod laws;
 mod lease;
 mod part;
+mod place;
 mod rest;
-mod slot;
 mod tally;
 #[cfg(test)]
 mod tests;
