@@ -1,7 +1,7 @@
 -- What a branch has of a packet, of which one part of its own is changed.
-use Rattle.std.proofs.Common.{rules, ◌≡◌, ◌≢◌, ◌∙◌, ◌<◌, ℕ, Bool, true, false, List, [], ◌∷◌, map, sym, ap, refl, subst, get_or, length, set, arith}
+use Rattle.std.proofs.Common.{rules, ◌≡◌, ◌∙◌, ◌<◌, ℕ, Bool, true, false, List, [], map, sym, ap, refl, subst, get_or, length, set, arith}
 use mathlib.Core.Path.{fun_ext}
-use Rattle.std.specs.Prelude.{Option, Some, None, if◌then◌else◌, ◌==◌, ◌||◌, ◌&&◌, not, option_map}
+use Rattle.std.specs.Prelude.{Option, Some, None, if◌then◌else◌, ◌==◌, ◌||◌, ◌&&◌, not}
 use Rattle.std.specs.Int.{bit_at}
 use Rattle.std.proofs.lemmas.Bool.{false≢true}
 use Rattle.std.proofs.lemmas.List.{length-set, get_or_read_under}
@@ -15,11 +15,11 @@ use Rattle.action_profile.specs.Modes.{has_write, has_touch, only_reads}
 use Rattle.action_profile.specs.declared.parts.Touch.{Touch}
 use Rattle.action_profile.specs.declared.rights.Profile.{Profile}
 use Rattle.chain_walk.specs.declared.fixed.Fixed.{Fixed}
-use Rattle.packet_version.specs.Parts.{PlainPart, PlainHeld, Parts, as_map, as_list, changed, is_field, writer_in, AreTags}
+use Rattle.packet_version.specs.Parts.{PlainPart, PlainHeld, Parts, as_map, as_list, changed, writer_in, AreTags}
 use Rattle.packet_version.specs.Versions.{PlainVersion, parts_of, with_part, nothing, lent_parts, had_by, IsHad}
 use Rattle.packet_version.specs.Handing.{with_loan}
-use Rattle.packet_version.specs.Views.{IsView, PlainView}
-use Rattle.packet_version.proofs.Maps.{as_map-listed, as_list-again, listed_at}
+use Rattle.packet_version.specs.Views.{PlainView}
+use Rattle.packet_version.proofs.Maps.{as_map-listed, listed_at}
 use Rattle.packet_version.proofs.Placing.{map_put}
 use Rattle.packet_version.proofs.Stepping.{by_field}
 

@@ -1,20 +1,21 @@
 -- What is held of a packet, of which one place is changed.
-use Rattle.std.proofs.Common.{◌≡◌, ◌≢◌, ◌∙◌, ◌<◌, ◌+◌, ℕ, Bool, true, false, List, map, sym, ap, refl, subst, get_or, length, set, arith}
+use Rattle.std.proofs.Common.{◌≡◌, ◌≢◌, ◌∙◌, ◌<◌, ◌+◌, ℕ, Bool, true, false, List, sym, ap, refl, subst, get_or, length, set, arith}
 use mathlib.Core.Path.{fun_ext}
-use Rattle.std.specs.Prelude.{Option, Some, None, IfSome, if◌then◌else◌, ◌==◌, option_map, is_some}
-use Rattle.std.proofs.lemmas.List.{length-set, get_or_read_under}
+use Rattle.std.specs.Prelude.{Option, Some, None, IfSome, if◌then◌else◌, ◌==◌, option_map}
+use Rattle.std.proofs.lemmas.List.{get_or_read_under}
 use Rattle.packet_fields.specs.Fields.{number_of, value}
+use Rattle.packet_fields.specs.Writing.{rest_of, written}
 use Rattle.packet_fields.specs.declared.field.Field.{Field}
 use Rattle.packet_version.specs.Parts.{PlainPart, PlainHeld, Parts, as_map, as_list, changed, unwritten, values_of}
 use Rattle.packet_version.specs.Places.{place_of, part_in, parts_in, beside, inside_all, unwritten_place}
-use Rattle.packet_version.specs.Splitting.{split_parts, fresh, spare_room}
+use Rattle.packet_version.specs.Splitting.{split_parts, fresh, spare_room, IsWhole}
 use Rattle.packet_version.specs.Handing.{with_place}
 use Rattle.packet_version.specs.declared.place.Place.{Place}
 use Rattle.packet_version.specs.declared.place.Place.TheVariants.{Inside, Gone, Outside}
 use Rattle.packet_version.proofs.Maps.{as_map-listed, listed_at}
 use Rattle.packet_version.proofs.Placing.{read_set}
 use Rattle.packet_version.proofs.Stepping.{by_field}
-use Rattle.packet_version.proofs.Joining.{fresh_value}
+use Rattle.packet_version.proofs.Joining.{fresh_value, split_whole, joined_again}
 
 -- what is held, by its places
 abbrev pub held_of : ℕ → List ℕ → List Place → PlainHeld
@@ -88,3 +89,16 @@ pub not_beside : (p : Place) → ((part : PlainPart) → p ≢ Outside part) →
 not_beside Inside other = refl
 not_beside Gone other = refl
 not_beside (Outside part) other = absurd (other part refl)
+
+-- a frame with every part in it is whole
+pub inside_parts : (taggers : ℕ) (frame : List ℕ) (held : PlainHeld) → held ≡ record { parts = as_list (split_parts taggers frame); frame = frame } → as_map held.parts ≡ split_parts taggers frame
+inside_parts taggers frame held is = ap (λ (h : PlainHeld). as_map h.parts) is ∙ as_map-listed (split_parts taggers frame)
+
+pub inside_whole : (taggers : ℕ) (frame : List ℕ) (held : PlainHeld) → held ≡ record { parts = as_list (split_parts taggers frame); frame = frame } → IsWhole (as_map held.parts) held.frame
+inside_whole taggers frame held is =
+    subst (λ (xs : List ℕ). IsWhole (as_map held.parts) xs) (sym (ap (λ (h : PlainHeld). h.frame) is)) (subst (λ (m : Parts). IsWhole m frame) (sym (inside_parts taggers frame held is)) (split_whole taggers frame))
+
+pub inside_again : (taggers : ℕ) (frame : List ℕ) (held : PlainHeld) → held ≡ record { parts = as_list (split_parts taggers frame); frame = frame } → written (values_of (as_map held.parts)) (rest_of held.frame) ≡ frame
+inside_again taggers frame held is =
+    ap (λ (xs : List ℕ). written (values_of (as_map held.parts)) (rest_of xs)) (ap (λ (h : PlainHeld). h.frame) is)
+    ∙ (ap (λ (m : Parts). written (values_of m) (rest_of frame)) (inside_parts taggers frame held is) ∙ joined_again taggers frame)

@@ -1,9 +1,8 @@
 -- The parts of a packet are dealt field by field.
-use Rattle.std.proofs.Common.{◌≡◌, ◌≢◌, ◌∙◌, ◌<◌, ◌≤◌, ◌+◌, ℕ, zero, suc, Bool, true, false, List, [], ◌∷◌, ◌++◌, map, take, sym, ap, refl, get_or, length, set, arith}
+use Rattle.std.proofs.Common.{◌≡◌, ◌≢◌, ◌∙◌, ◌<◌, ◌≤◌, ◌+◌, ℕ, zero, suc, Bool, true, false, List, [], ◌∷◌, map, sym, ap, refl, get_or, length, arith}
 use mathlib.Core.Path.{fun_ext}
 use Rattle.std.specs.Prelude.{if◌then◌else◌, Option, Some, None, option_map, nat_lt, IfSome}
 use Rattle.std.proofs.lemmas.Bool.Decides.{Decides-eqb, nat_tests}
-use Rattle.std.proofs.lemmas.List.{get_or-set_other, get_or_read_under, map-append}
 use Rattle.packet_fields.specs.Fields.{number_of}
 use Rattle.packet_fields.specs.Writing.{all_fields}
 use Rattle.packet_fields.specs.declared.field.Field.{Field}
@@ -11,15 +10,15 @@ use Rattle.packet_fields.specs.declared.field.Field.TheVariants.{LinkDst, LinkSr
 use Rattle.action_profile.specs.Modes.{has_write, mode_of, modes_of}
 use Rattle.action_profile.specs.declared.parts.Mode.{Mode}
 use Rattle.action_profile.specs.declared.parts.Touch.{Touch}
-use Rattle.packet_version.specs.Parts.{PlainPart, PlainHeld, Parts, as_map, as_list, changed, is_field, unwritten, AreTags}
+use Rattle.packet_version.specs.Parts.{PlainPart, Parts, as_list, changed, is_field, unwritten, AreTags}
 use Rattle.packet_version.specs.Tallies.{count_of, raised, RaisesBy, RaisesAtMost}
 use Rattle.packet_version.specs.Versions.{PlainVersion, with_part, nothing}
 use Rattle.packet_fields.specs.Writing.{Fits}
 use Rattle.packet_version.specs.Splitting.{IsWhole}
 use Rattle.chain_walk.specs.declared.fixed.Fixed.{Fixed}
 use Rattle.packet_version.specs.Dealing.{kept_part, kept_parts}
-use Rattle.packet_version.specs.Handing.{touches_in, copied_some, copied_to, own_parts, with_own, with_place, without_fields}
-use Rattle.packet_version.proofs.Maps.{as_map-listed, listed_at, mapped_more, mapped_over}
+use Rattle.packet_version.specs.Handing.{touches_in, copied_some, copied_to, own_parts, with_own, without_fields}
+use Rattle.packet_version.proofs.Maps.{as_map-listed, listed_at}
 use Rattle.packet_version.proofs.Counting.{raised_twice, raised_up, raised_more, raised_none}
 
 -- the field at an index has it as its number

@@ -1,5 +1,5 @@
 -- What a branch of a stage has of a packet.
-use Rattle.std.specs.Prelude.{◌≡◌, ℕ, List, length, Option, Some, None, Bool, true, ◌||◌, if◌then◌else◌}
+use Rattle.std.specs.Prelude.{◌≡◌, List, length, Option, Some, None, Bool, true, ◌||◌, if◌then◌else◌}
 use Rattle.packet_fields.specs.declared.field.Field.{Field}
 use Rattle.action_profile.specs.Modes.{has_touch, has_write, only_reads}
 use Rattle.action_profile.specs.Profiles.{reads_of, writes_of}

@@ -1,8 +1,8 @@
 //! A frame in its parts: how it comes apart, and how it goes together again.
 
-use chain_walk::Fixed;
 use crate::held::Held;
 use crate::rest::Rest;
+use chain_walk::Fixed;
 use packet_fields::Frame;
 use std::alloc::{AllocError, Global};
 use std::marker::Model;

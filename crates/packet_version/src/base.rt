@@ -1,8 +1,8 @@
 //! What stays of a packet behind the branches of a stage.
 
-use chain_walk::Fixed;
 use crate::gathered::Gathered;
 use crate::held::Held;
+use chain_walk::Fixed;
 use part_lease::Owner;
 use std::marker::Model;
 use std::sync::Wait;

@@ -11,12 +11,12 @@ ghost use Rattle.packet_version.specs.Handing.{touches_in, with_own, without_fie
 
 use crate::apart::Apart;
 use crate::base::Base;
-use chain_walk::Fixed;
 use crate::hand::{deal_field, share_out};
 use crate::held::Held;
 use crate::tally::Tally;
 use crate::version::Version;
 use action_profile::{Mode, StageParts, Touch, all_fields};
+use chain_walk::Fixed;
 use std::alloc::{AllocError, Global};
 
 /// Makes the versions of a stage's branches, in branch order, and the base beside them.

@@ -1,9 +1,9 @@
 //! The parts of a packet that are gathered behind a stage.
 
 use crate::apart::Apart;
-use chain_walk::Fixed;
 use crate::held::Held;
 use crate::part::Part;
+use chain_walk::Fixed;
 use packet_fields::Field;
 use std::marker::Model;
 

@@ -1,10 +1,10 @@
 //! What a branch of a stage has of a packet.
 
-use chain_walk::Fixed;
 use crate::held::Held;
 use crate::part::Part;
 use crate::view::View;
 use action_profile::{FieldSet, Profile, Touch, all_fields};
+use chain_walk::Fixed;
 use packet_fields::Field;
 use part_lease::{Reader, Shown};
 use std::alloc::{AllocError, Global};

@@ -1,10 +1,10 @@
 //! What a function sees of its branch's version.
 
-use chain_walk::Fixed;
 use crate::held::Held;
 use crate::part::{Part, edit_part};
 use crate::version::{Version, released};
 use action_profile::{Profile, Touch};
+use chain_walk::Fixed;
 use packet_fields::Field;
 use part_lease::Shown;
 use std::marker::Model;

@@ -1,12 +1,10 @@
-use Rattle.std.proofs.Common.{◌≡◌, ◌∙◌, ℕ, List, map, sym, ap, subst, length, arith}
-use Rattle.std.specs.Prelude.{Option}
+use Rattle.std.proofs.Common.{◌≡◌, ◌∙◌, List, map, sym, ap, subst, length, arith}
 use Rattle.std.proofs.lemmas.List.{take_at}
 use Rattle.packet_fields.specs.Writing.{rest_of}
-use Rattle.packet_fields.specs.declared.field.Field.{Field}
 use Rattle.packet_fields.specs.declared.field.Field.TheVariants.{Tag}
 use Rattle.action_profile.specs.Modes.{modes_of}
 use Rattle.action_profile.specs.declared.parts.Touch.{Touch}
-use Rattle.packet_version.specs.Parts.{PlainPart, PlainHeld, Parts, as_map, as_list, writer_in, AreTags}
+use Rattle.packet_version.specs.Parts.{PlainHeld, Parts, as_map, as_list, writer_in, AreTags}
 use Rattle.packet_version.specs.Splitting.{PlainApart, IsWhole, parts_of}
 use Rattle.packet_version.specs.Versions.{PlainVersion, nothing}
 use Rattle.packet_version.specs.Dealing.{dealt, based, kept_parts, copies_due, RaisesByDue, RaisesWithinDue}

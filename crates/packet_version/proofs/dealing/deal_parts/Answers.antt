@@ -1,4 +1,4 @@
-use Rattle.std.proofs.Common.{◌≡◌, ◌∙◌, ◌+◌, ℕ, List, sym, ap, subst, get_or, length, arith}
+use Rattle.std.proofs.Common.{◌≡◌, ◌∙◌, ℕ, List, sym, ap, subst, get_or, length, arith}
 use Rattle.std.specs.Prelude.{Option}
 use Rattle.packet_fields.specs.Fields.{number_of}
 use Rattle.packet_fields.specs.declared.field.Field.{Field}
@@ -6,7 +6,7 @@ use Rattle.packet_fields.specs.declared.field.Field.TheVariants.{LinkDst}
 use Rattle.action_profile.specs.Modes.{mode_of}
 use Rattle.action_profile.specs.declared.parts.Mode.TheVariants.{Shared}
 use Rattle.action_profile.specs.declared.parts.Touch.{Touch}
-use Rattle.packet_version.specs.Parts.{PlainPart, PlainHeld, Parts, as_map, as_list, changed, AreTags}
+use Rattle.packet_version.specs.Parts.{PlainPart, PlainHeld, as_map, as_list, changed, AreTags}
 use Rattle.packet_version.specs.Dealing.{kept_part, kept_parts, copies_due}
 use Rattle.packet_version.specs.Handing.{touches_in}
 use Rattle.packet_version.proofs.Handing.{on_err}

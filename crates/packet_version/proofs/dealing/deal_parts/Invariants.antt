@@ -1,4 +1,4 @@
-use Rattle.std.proofs.Common.{◌≡◌, List, ℕ, map, length}
+use Rattle.std.proofs.Common.{◌≡◌, map, length}
 use Rattle.packet_fields.specs.Writing.{all_fields}
 use Rattle.packet_version.specs.Parts.{as_map}
 use Rattle.packet_version.specs.Dealing.{copies_due}

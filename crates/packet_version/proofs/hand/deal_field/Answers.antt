@@ -3,7 +3,7 @@ use Rattle.std.specs.Prelude.{OnOk, OnErr, Option}
 use Rattle.action_profile.specs.declared.parts.Mode.TheVariants.{Copied}
 use Rattle.packet_version.specs.Parts.{as_map}
 use Rattle.packet_version.specs.Tallies.{RaisesBy, RaisesAtMost}
-use Rattle.packet_version.proofs.Dealt.{shared_alone, shared_due, moved_first, moved_due, copied_first, copied_due, lent_due}
+use Rattle.packet_version.proofs.Dealt.{shared_alone, moved_first, moved_due, copied_first, copied_due, lent_due}
 use Rattle.packet_version.proofs.hand.deal_field.Goals as goal
 
 pub move_out-requires-clause-first : goal.move_out-requires-clause-first

@@ -1,5 +1,5 @@
 use Rattle.std.proofs.Common.{◌∙◌, ap, set}
-use Rattle.std.specs.Prelude.{List, Option, None}
+use Rattle.std.specs.Prelude.{Option, None}
 use Rattle.packet_version.specs.Parts.{PlainPart}
 use Rattle.packet_version.proofs.Having.{writes_is, own_inside, put_had, version_of}
 use Rattle.packet_version.proofs.version.Version.take.Goals as goal
