@@ -12,7 +12,7 @@ use Rattle.action_profile.specs.declared.parts.Mode.TheVariants.{Shared}
 use Rattle.action_profile.specs.declared.parts.Touch.{Touch}
 use Rattle.action_profile.specs.Modes.{has_write, mode_of, written_mode}
 use Rattle.packet_version.specs.Parts.{PlainPart, Parts, unwritten, values_of, writers_of, writer_in}
-use Rattle.packet_version.specs.Slots.{AreTags}
+use Rattle.packet_version.specs.Parts.{AreTags}
 use Rattle.packet_version.specs.Splitting.{PlainApart, IsWhole, parts_of}
 use Rattle.packet_version.specs.Versions.{PlainVersion, parts_of as parts_in}
 use Rattle.packet_version.specs.Dealing.{dealt_parts, kept_part, kept_parts, based, is_given}

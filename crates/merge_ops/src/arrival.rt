@@ -2,7 +2,7 @@
 
 ghost use Rattle.std.specs.Prelude.{◌≡◌, true};
 ghost use Rattle.packet_fields.specs.declared.field.Field.{Field};
-ghost use Rattle.packet_version.specs.Slots.{AreTags};
+ghost use Rattle.packet_version.specs.Parts.{AreTags};
 ghost use Rattle.merge_ops.specs.Merging.{is_short, nil_of, writer_of, part_of};
 ghost use Rattle.merge_ops.specs.Taking.{writes_in, without};
 

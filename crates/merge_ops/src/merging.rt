@@ -4,7 +4,7 @@ ghost use Rattle.std.specs.Prelude.{◌≡◌, ◌≢◌, ◌<◌, ◌^◌, [], 
 ghost use Rattle.packet_fields.specs.declared.field.Field.{Field};
 ghost use Rattle.action_profile.specs.FieldSets.{all_fields as every_field};
 ghost use Rattle.packet_version.specs.Parts.{as_list, changed};
-ghost use Rattle.packet_version.specs.Slots.{AreTags};
+ghost use Rattle.packet_version.specs.Parts.{AreTags};
 ghost use Rattle.packet_version.specs.Splitting.{parts_of};
 ghost use Rattle.merge_ops.specs.Merging.{op_of, last_writer};
 ghost use Rattle.merge_ops.specs.Taking.{branch_of, source as source_of, part_behind, merged_parts, with_parts, writes_in, merged, IsWriting, SameIn};
