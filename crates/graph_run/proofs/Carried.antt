@@ -23,11 +23,8 @@ use Rattle.merge_ops.specs.Behind.{IsMadeOf}
 use Rattle.graph_run.specs.Carrying.{as_version, wrote_at}
 use Rattle.graph_run.specs.Rooms.{adders_from, HasRoomFrom}
 use Rattle.graph_run.specs.Staging.{IsCarried}
-use Rattle.graph_run.proofs.Writing.{bytes_in, length_in, part_after, as_wrote, there_after, own_after, writes_after, length_after}
+use Rattle.graph_run.proofs.Writing.{bytes_in, length_in, part_after, as_wrote, there_after, own_after, length_after}
 use Rattle.graph_run.proofs.Rooming.{adders_at, room_later}
-
-and_false : (a b : Bool) → a ≡ false → (a && b) ≡ false
-and_false a b e = ap (λ (t : Bool). t && b) e
 
 false_and : (a b : Bool) → b ≡ false → (a && b) ≡ false
 false_and true b e = e
@@ -40,13 +37,6 @@ only_there b fixed f v keeps x e = keeps.writes fixed f (values_of (parts_of v))
     none_there : (o : Option PlainPart) → is_some o ≡ false → is_some (bytes_in o) ≡ false
     none_there None e = refl
     none_there (Some p) e = absurd cc
-
-only_allowed : {F : Type 0} (b : Behaviour F) (fixed : Fixed) (f : F) (v : Values) (touch : Touch) → KeepsProfile b → HoldsNamed (b.profile f) touch → (x : Field) → has_write x touch ≡ false → (stepped b fixed f v).written x ≡ None
-only_allowed b fixed f v touch keeps holds x e = keeps.writes fixed f v x (and_false _ (is_some (v x)) (by_test _ refl))
-  where
-    by_test : (t : Bool) → writes_of (b.profile f) x ≡ t → writes_of (b.profile f) x ≡ false
-    by_test false is = is
-    by_test true is = absurd (let w = holds.written x is in cc)
 
 room_after : (w : Option (List ℕ)) (q : ℕ) (o : Option PlainPart) (adds : Bool) (now later : ℕ) → now ≡ (if adds then 1 else 0) + later →
     IfSome w (λ new. (is_tag_list new ≡ true) × IsSomeAnd (bytes_in o) (λ old. length new ≤ length old + (if adds then 4 else 0))) →
@@ -75,7 +65,6 @@ carried_on b chain whole touch low q f v stays keeps pos le is holds carried =
         touched = made.touched;
         there = λ x. ap (λ (o : Option PlainPart). is_some o) (after x) ∙ there_after (new x) q (parts_of v x) ∙ made.there x;
         own = λ x. subst (λ (o : Option PlainPart). writer_in o ≡ 0 → bytes_in o ≡ bytes_in (dealt x)) (sym (after x)) (own_after (new x) q (parts_of v x) (bytes_in (dealt x)) pos (made.own x));
-        written = λ x. subst (λ (o : Option PlainPart). writer_in o ≢ 0 → has_write x touch ≡ true) (sym (after x)) (writes_after (new x) q (parts_of v x) (has_write x touch) (only_allowed b v.fixed f (as_version v).values touch keeps holds x) (made.written x));
         lengths = λ x apart. ap length_in (after x) ∙ length_after (new x) q (parts_of v x) (keeps.lengths v.fixed f (as_version v).values x apart (carried.formed.lengths x)) ∙ made.lengths x apart;
       };
       fixed = carried.fixed;

@@ -9,3 +9,6 @@ pub mod Behind
 pub mod Owning
 pub mod Branching
 pub mod Staged
+pub mod Reaching
+pub mod Flowing
+pub mod Onward

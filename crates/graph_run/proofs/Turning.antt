@@ -17,7 +17,7 @@ use Rattle.packet_version.specs.Splitting.{PlainApart}
 use Rattle.packet_version.specs.Versions.{PlainVersion, parts_of, HoldsNamed}
 use Rattle.merge_ops.specs.declared.arrival.Arrival.{Arrival as Came}
 use Rattle.merge_ops.specs.declared.arrival.Arrival.TheVariants as cames
-use Rattle.chain_walk.specs.Shown.{Values}
+use Rattle.chain_walk.specs.Shown.{Values, AreWellFormed}
 use Rattle.graph_run.specs.Carrying.{as_version, as_arrival, wrote_at}
 use Rattle.graph_run.specs.Rooms.{adders_from, HasRoomFrom}
 use Rattle.graph_run.specs.Staging.{Holds, IsReady, IsCarried, IsCarriedBy, IsWhatWasWritten}
@@ -54,6 +54,7 @@ pub record HasTurn {F : Type 0} (b : Behaviour F) (now : List F) (q : ℕ) (v : 
   pub position : 1 ≤ q
   pub is : slice_get now (q - 1) ≡ Some function
   pub holds : HoldsNamed (b.profile function) v.touch
+  pub formed : AreWellFormed (as_version v).values
   pub room : (b.profile function).adds ≡ true → IfSome (parts_of v Tag) (λ tags. length tags.bytes + 4 ≤ tags.room)
 
 -- the function at a position, by its profile
@@ -101,6 +102,7 @@ has_turn b positions first now v0 v i turn ready inside =
         touched = λ x e. rw turn.touch (next.named.touched x (rw (← found.2) e));
         written = λ x e. rw turn.touch (next.named.written x (rw (← found.2) e));
       };
+      formed = goes.carried.formed;
       room = λ adds. four_more (parts_of v Tag) (b.profile found.0).adds (adders_from chain (get_or positions i 0)) (adders_from chain (get_or positions i 0 + 1))
           (adders_at chain (get_or positions i 0) (b.profile found.0) next.position (next.is ∙ ap (λ (p : Profile). Some p) (sym found.2))) adds
           (room_later chain goes.at (get_or positions i 0) (parts_of v) next.rises goes.carried.room);

@@ -50,11 +50,6 @@ own_after None q o x pos h z = h z
 own_after (Some w) q None x pos h z = h refl
 own_after (Some w) q (Some p) x pos h z = absurd (omega arith)
 
-pub writes_after : (w : Option (List ℕ)) (q : ℕ) (o : Option PlainPart) (b : Bool) → (b ≡ false → w ≡ None) → (writer_in o ≢ 0 → b ≡ true) → writer_in (rewritten_by w q o) ≢ 0 → b ≡ true
-writes_after None q o b allowed h wrote = h wrote
-writes_after (Some w) q o true allowed h wrote = refl
-writes_after (Some w) q o false allowed h wrote = absurd (none-some w (sym (allowed refl)))
-
 pub length_after : (w : Option (List ℕ)) (q : ℕ) (o : Option PlainPart) → IfSome w (λ new. IsSomeAnd (bytes_in o) (λ old. length new ≡ length old)) → length_in (rewritten_by w q o) ≡ length_in o
 length_after None q o h = refl
 length_after (Some w) q None h = refl

@@ -22,13 +22,13 @@ reached (s ∷ later) (Gone p) = s ∷ (if stands p s then [] else reached later
 abbrev pub copies_in : List Stage → Field → ℕ
 copies_in stages f = sum_by (λ s. copies s.parts f) stages
 
--- the copies of a field that are made of a packet that ends so
-abbrev pub copies_of : List Stage → Field → Packet → Fate → ℕ
-copies_of stages f packet fate = if is_some (value f packet.frame) then copies_in (reached stages fate) f else 0
+-- the copies of a field that are made of a packet with this frame that ends so
+abbrev pub copies_of : List Stage → List ℕ → Fate → Field → ℕ
+copies_of stages frame fate f = if is_some (value f frame) then copies_in (reached stages fate) f else 0
 
 -- the copies of a field that are made of these packets
 unfoldable pub copies_made : List Stage → List Packet → List Fate → Field → ℕ
-copies_made stages packets fates f = sum_by (λ x. copies_of stages f x.0 x.1) (zip packets fates)
+copies_made stages packets fates f = sum_by (λ x. copies_of stages x.0.frame x.1 f) (zip packets fates)
 
 -- each count rises by these
 abbrev pub RaisesAll : (Field → ℕ) → List ℕ → List ℕ → Type 0

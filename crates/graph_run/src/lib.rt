@@ -2,6 +2,7 @@
 #![tactic(auto)]
 
 mod branch;
+mod packet;
 mod running;
 mod stage;
 

@@ -1,0 +1,54 @@
+//! One packet through the stages of a graph.
+ghost use Rattle.std.specs.Prelude.{◌≡◌, IfOk, OnOk, OnErr};
+ghost use Rattle.chain_walk.specs.Walk.{walk};
+ghost use Rattle.graph_run.specs.Counting.{RaisesAll, RaisesUpTo, copies_of};
+ghost use Rattle.graph_run.specs.Rooms.{adders_from};
+ghost use Rattle.graph_run.specs.Running.{IsRunning, profiles_of};
+
+use crate::stage::run_stage;
+use chain_walk::{Fate, frames_are_built_again, frames_walk_as_fields, values_stay_well_formed};
+use graph_compile::{Graph, lawful_graph_is_staged};
+use graph_law::{fields_stay, graph_is_chain, profiles_stay, stage_reached};
+use merge_ops::Merged;
+use net_functions::Function;
+use packet_version::{Tally, join, split};
+use std::alloc::{AllocError, Global};
+use std::sync::Wait;
+
+/// Leads a packet, captured at `time` in nanoseconds, through the stages of a graph, one after another, until
+/// it is dropped or goes out. So many of the functions add a tag.
+pub(crate) fn run_packet<F: Function, R: Wait>(
+    rt: &R,
+    alloc: Global,
+    functions: &mut [F],
+    graph: &Graph,
+    taggers: u32,
+    time: u64,
+    frame: &[u8],
+    tally: &mut Tally,
+) -> Result<Fate, AllocError>
+    requires running { IsRunning F.behaviour functions.old graph.now }
+    requires taggers { taggers ≡ adders_from (profiles_of F.behaviour functions.old) 1 }
+    ensures functions { OnOk result (functions.new ≡ (walk F.behaviour time 1 functions.old frame.now).functions) }
+    ensures fate { IfOk result (λ fate. fate ≡ (walk F.behaviour time 1 functions.old frame.now).fate) }
+    ensures counted { OnOk result (RaisesAll (copies_of graph.now.stages frame.now (walk F.behaviour time 1 functions.old frame.now).fate) tally.old tally.new) }
+    ensures refused { OnErr result (RaisesUpTo (copies_of graph.now.stages frame.now (walk F.behaviour time 1 functions.old frame.now).fate) tally.old tally.new) }
+{
+    lawful_graph_is_staged();
+    graph_is_chain::<F>();
+    profiles_stay::<F>();
+    fields_stay::<F>();
+    stage_reached::<F>();
+    values_stay_well_formed::<F>();
+    frames_walk_as_fields::<F>();
+    frames_are_built_again::<F>();
+    let mut whole = split(alloc, frame, time, taggers)?;
+    for stage in graph.stages.as_slice() {
+        match run_stage(rt, alloc, functions, stage, whole, tally)? {
+            Merged::Whole(next) => whole = next,
+            Merged::Gone(position) => return Ok(Fate::Gone(position)),
+            Merged::Short => return Err(AllocError),
+        }
+    }
+    Ok(Fate::Out(join(alloc, whole)?))
+}
