@@ -12,3 +12,4 @@ pub mod Staged
 pub mod Reaching
 pub mod Flowing
 pub mod Onward
+pub mod Passing

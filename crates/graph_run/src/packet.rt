@@ -7,7 +7,7 @@ ghost use Rattle.graph_run.specs.Running.{IsRunning, profiles_of};
 
 use crate::stage::run_stage;
 use chain_walk::{Fate, frames_are_built_again, frames_walk_as_fields, values_stay_well_formed};
-use graph_compile::{Graph, lawful_graph_is_staged};
+use graph_compile::{Graph, lawful_graph_is_staged, stages_rise};
 use graph_law::{fields_stay, graph_is_chain, profiles_stay, stage_reached};
 use merge_ops::Merged;
 use net_functions::Function;
@@ -35,6 +35,7 @@ pub(crate) fn run_packet<F: Function, R: Wait>(
     ensures refused { OnErr result (RaisesUpTo (copies_of graph.now.stages frame.now (walk F.behaviour time 1 functions.old frame.now).fate) tally.old tally.new) }
 {
     lawful_graph_is_staged();
+    stages_rise();
     graph_is_chain::<F>();
     profiles_stay::<F>();
     fields_stay::<F>();
