@@ -13,3 +13,4 @@ pub mod Reaching
 pub mod Flowing
 pub mod Onward
 pub mod Passing
+pub mod Bursting

@@ -3,7 +3,9 @@
 
 mod branch;
 mod packet;
+mod plain;
 mod running;
 mod stage;
 
+pub use plain::run_plain;
 pub use running::Running;

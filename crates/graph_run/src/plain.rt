@@ -1,0 +1,117 @@
+//! A burst of packets through a graph, on one thread.
+ghost use Rattle.std.specs.Prelude.{◌≡◌, ◌≤◌, ◌++◌, [], ◌∷◌, All, length, IfOk, OnOk, OnErr, if◌then◌else◌};
+ghost use Rattle.chain_walk.specs.Packets.{fates, functions_after};
+ghost use Rattle.chain_walk.specs.Walk.{EndsWithin};
+ghost use Rattle.graph_run.specs.Counting.{RaisesAll, RaisesUpTo, copies_made};
+ghost use Rattle.graph_run.specs.Packets.{packets_of};
+ghost use Rattle.graph_run.specs.Rooms.{adders_from};
+ghost use Rattle.graph_run.specs.Running.{IsRunning, profiles_of};
+
+use crate::packet::run_packet;
+use crate::running::Running;
+use chain_walk::{Fate, packets_walk_in_a_row};
+use classifier::{Burst, Item};
+use graph_compile::Graph;
+use net_functions::Function;
+use packet_version::Tally;
+use pcap_io::Unit;
+use std::alloc::{AllocError, Global};
+use std::sync::Wait;
+
+/// Leads the packets of a burst that are of the chain with this number through the graph, one after
+/// another, and gives the fate of each, in their order. Frames that go out are not sealed yet.
+///
+/// Every packet ends as if it walked through the functions of the chain one after another, each as the
+/// packet before left it, and so do the functions' states. The tally rises by the copies that were made.
+/// The one refusal is want of memory: the functions are gone then, and the tally may have risen by copies
+/// that were made.
+pub fn run_plain<F: Function + Drop, R: Wait>(
+    rt: &R,
+    alloc: Global,
+    run: Running<F>,
+    burst: &Burst,
+    unit: Unit,
+    chain: u32,
+    tally: &mut Tally,
+) -> Result<(Running<F>, Vec<Fate>), AllocError>
+    requires few { length burst.now.items ≤ 65536 }
+    ensures fates { IfOk result (λ ran. ran.1.items ≡ fates F.behaviour run.functions (packets_of unit chain burst.now.items)) }
+    ensures functions { IfOk result (λ ran. ran.0.functions ≡ functions_after F.behaviour run.functions (packets_of unit chain burst.now.items)) }
+    ensures graph { IfOk result (λ ran. ran.0.graph ≡ run.graph) }
+    // A function that is named as one that dropped a packet stands in the chain.
+    ensures within { IfOk result (λ ran. All (EndsWithin (length run.functions)) ran.1.items) }
+    ensures counted { OnOk result (RaisesAll (copies_made run.graph.stages (packets_of unit chain burst.now.items) (fates F.behaviour run.functions (packets_of unit chain burst.now.items))) tally.old tally.new) }
+    ensures refused { OnErr result (RaisesUpTo (copies_made run.graph.stages (packets_of unit chain burst.now.items) (fates F.behaviour run.functions (packets_of unit chain burst.now.items))) tally.old tally.new) }
+{
+    packets_walk_in_a_row::<F>();
+    let Running {
+        mut functions,
+        graph,
+    } = run;
+    let taggers = count_adders(&functions);
+    let mut fates = Vec::new(alloc);
+    for item in burst.items.as_slice() {
+        run_item(
+            rt,
+            alloc,
+            &mut functions,
+            &graph,
+            taggers,
+            unit,
+            chain,
+            item,
+            &mut fates,
+            tally,
+        )?;
+    }
+    Ok((Running { functions, graph }, fates))
+}
+
+/// Leads a packet through the graph where it is of the chain, and adds its fate to those that ended before.
+fn run_item<F: Function, R: Wait>(
+    rt: &R,
+    alloc: Global,
+    functions: &mut [F],
+    graph: &Graph,
+    taggers: u32,
+    unit: Unit,
+    chain: u32,
+    item: &Item,
+    ended: &mut Vec<Fate>,
+    tally: &mut Tally,
+) -> Result<(), AllocError>
+    requires running { IsRunning F.behaviour functions.old graph.now }
+    requires taggers { taggers ≡ adders_from (profiles_of F.behaviour functions.old) 1 }
+    ensures functions { OnOk result (functions.new ≡ functions_after F.behaviour functions.old (packets_of unit chain (item.now ∷ []))) }
+    ensures fates { OnOk result (ended.new.items ≡ ended.old.items ++ fates F.behaviour functions.old (packets_of unit chain (item.now ∷ []))) }
+    ensures counted { OnOk result (RaisesAll (copies_made graph.now.stages (packets_of unit chain (item.now ∷ [])) (fates F.behaviour functions.old (packets_of unit chain (item.now ∷ [])))) tally.old tally.new) }
+    ensures refused { OnErr result (RaisesUpTo (copies_made graph.now.stages (packets_of unit chain (item.now ∷ [])) (fates F.behaviour functions.old (packets_of unit chain (item.now ∷ [])))) tally.old tally.new) }
+{
+    if item.class != Some(chain) {
+        return Ok(());
+    }
+    let time = item.packet.time(unit);
+    let frame = item.packet.frame.bytes();
+    let fate = run_packet(rt, alloc, functions, graph, taggers, time, frame, tally)?;
+    ended.push(fate)?;
+    Ok(())
+}
+
+/// How many of the functions add a tag.
+fn count_adders<F: Function>(functions: &[F]) -> u32
+    requires few { length functions.now ≤ 64 }
+    ensures { result ≡ adders_from (profiles_of F.behaviour functions.now) 1 }
+{
+    let mut adders = 0;
+    for function in functions {
+        adders += adds_one(function);
+    }
+    adders
+}
+
+/// 1 for a function that adds a tag, else 0.
+fn adds_one<F: Function>(function: &F) -> u32
+    ensures { result ≡ (if (F.behaviour.profile function.now).adds then 1 else 0) }
+{
+    u32::from(function.profile().adds)
+}
