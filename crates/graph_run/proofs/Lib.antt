@@ -14,3 +14,4 @@ pub mod Flowing
 pub mod Onward
 pub mod Passing
 pub mod Bursting
+pub mod Single

@@ -3,7 +3,7 @@ ghost use Rattle.std.specs.Prelude.{◌≡◌, ◌≤◌, ◌++◌, [], ◌∷�
 ghost use Rattle.chain_walk.specs.Packets.{fates, functions_after};
 ghost use Rattle.chain_walk.specs.Walk.{EndsWithin};
 ghost use Rattle.graph_run.specs.Counting.{RaisesAll, RaisesUpTo, copies_made};
-ghost use Rattle.graph_run.specs.Packets.{packets_of};
+ghost use Rattle.graph_run.specs.Packets.{is_of, packets_of};
 ghost use Rattle.graph_run.specs.Rooms.{adders_from};
 ghost use Rattle.graph_run.specs.Running.{IsRunning, profiles_of};
 
@@ -87,7 +87,7 @@ fn run_item<F: Function, R: Wait>(
     ensures counted { OnOk result (RaisesAll (copies_made graph.now.stages (packets_of unit chain (item.now ∷ [])) (fates F.behaviour functions.old (packets_of unit chain (item.now ∷ [])))) tally.old tally.new) }
     ensures refused { OnErr result (RaisesUpTo (copies_made graph.now.stages (packets_of unit chain (item.now ∷ [])) (fates F.behaviour functions.old (packets_of unit chain (item.now ∷ [])))) tally.old tally.new) }
 {
-    if item.class != Some(chain) {
+    if !is_of(item, chain) {
         return Ok(());
     }
     let time = item.packet.time(unit);
@@ -95,6 +95,16 @@ fn run_item<F: Function, R: Wait>(
     let fate = run_packet(rt, alloc, functions, graph, taggers, time, frame, tally)?;
     ended.push(fate)?;
     Ok(())
+}
+
+/// Is the packet of the chain with this number?
+fn is_of(item: &Item, chain: u32) -> bool
+    ensures { result ≡ is_of chain item.now }
+{
+    match item.class {
+        Some(class) => class == chain,
+        None => false,
+    }
 }
 
 /// How many of the functions add a tag.
