@@ -125,10 +125,10 @@ room_behind : (chain : List Profile) (whole base : PlainApart) (high : ℕ) (tou
 unfolding merged_parts
 room_behind chain whole base high touches arrivals all is room =
     let own : Rooms chain high (parts_in base Tag) =
-      subst (Rooms chain high) (sym (ap (λ (w : PlainApart). parts_in w Tag) is ∙ ap (λ (m : Parts). m Tag) (map_of_list (kept_parts touches (parts_in whole))))) (room_kept chain high (is_given (mode_of touches Tag)) (parts_in whole Tag) room) in
+    subst (Rooms chain high) (sym (ap (λ (w : PlainApart). parts_in w Tag) is ∙ ap (λ (m : Parts). m Tag) (map_of_list (kept_parts touches (parts_in whole))))) (room_kept chain high (is_given (mode_of touches Tag)) (parts_in whole Tag) room) in
     subst (Rooms chain high) (sym (ap (λ (m : Parts). m Tag) (map_of_list (merged_parts base arrivals))))
-        (room_either chain high (part_from Tag arrivals (source Tag arrivals (last_writer arrivals Tag) (parts_in base Tag))) (parts_in base Tag)
-            (room_from chain whole high touches arrivals all (source Tag arrivals (last_writer arrivals Tag) (parts_in base Tag))) own)
+    (room_either chain high (part_from Tag arrivals (source Tag arrivals (last_writer arrivals Tag) (parts_in base Tag))) (parts_in base Tag)
+    (room_from chain whole high touches arrivals all (source Tag arrivals (last_writer arrivals Tag) (parts_in base Tag))) own)
 
 either_formed : (P : Option (List ℕ) → Type 0) (t : Bool) (x y : Option (List ℕ)) → P x → P y → P (if t then x else y)
 either_formed P true x y h k = h
@@ -168,23 +168,23 @@ behind chain whole base low high touches arrivals unwritten_law values_law all f
 
     by_least : (o : Option ℕ) → least_nil arrivals ≡ o → Behind chain whole base high arrivals
     by_least (Some p) is =
-      let gone : decision_of arrivals ≡ decisions.Gone p = decided ∙ ap (decided_by arrivals) is in
-      record {
-        end = ap (λ d. as_end (merged_by base arrivals d)) gone ∙ sym (by_law (Some p) is);
-        leaves = subst (λ d. LeavesStage chain high whole (merged_by base arrivals d)) (sym gone) tt;
-      }
+        let gone : decision_of arrivals ≡ decisions.Gone p = decided ∙ ap (decided_by arrivals) is in
+        record {
+          end = ap (λ d. as_end (merged_by base arrivals d)) gone ∙ sym (by_law (Some p) is);
+          leaves = subst (λ d. LeavesStage chain high whole (merged_by base arrivals d)) (sym gone) tt;
+        }
     by_least None is =
-      let takes = decided ∙ ap (decided_by arrivals) is in
-      let values : values_in (merged_packet base arrivals) ≡ last =
+        let takes = decided ∙ ap (decided_by arrivals) is in
+        let values : values_in (merged_packet base arrivals) ≡ last =
         fun_ext (λ f. values_law whole touches base arrivals _ f from takes ∙ values_behind whole arrivals unwritten_law (all_versions chain whole high touches arrivals all is) f) in
-      record {
-        end = ap (λ d. as_end (merged_by base arrivals d)) takes ∙ (ap (λ v. Out v) values ∙ sym (by_law None is));
-        leaves = subst (λ d. LeavesStage chain high whole (merged_by base arrivals d)) (sym takes) (record {
-          rest = ap (λ w. w.rest) from.behind;
-          fixed = ap (λ w. w.fixed) from.behind;
-          goes = record {
-            formed = subst AreWellFormed (sym values) (latest_formed chain whole high touches arrivals (unwritten (values_in whole)) all goes.formed);
-            room = room_behind chain whole base high touches arrivals all from.behind (room_later chain low high (parts_in whole) le goes.room);
-          };
-        });
-      }
+        record {
+          end = ap (λ d. as_end (merged_by base arrivals d)) takes ∙ (ap (λ v. Out v) values ∙ sym (by_law None is));
+          leaves = subst (λ d. LeavesStage chain high whole (merged_by base arrivals d)) (sym takes) (record {
+            rest = ap (λ w. w.rest) from.behind;
+            fixed = ap (λ w. w.fixed) from.behind;
+            goes = record {
+              formed = subst AreWellFormed (sym values) (latest_formed chain whole high touches arrivals (unwritten (values_in whole)) all goes.formed);
+              room = room_behind chain whole base high touches arrivals all from.behind (room_later chain low high (parts_in whole) le goes.room);
+            };
+          });
+        }

@@ -158,13 +158,13 @@ branch_ready b stage whole first now j done was rest version d owned made run ta
     let owners = owned chain ready.0 stage ready.1.lawful in
     let inside = branch_inside b stage whole first now j done was rest version owned run takes ready in
     subst (λ (v : PlainVersion). IsReady (map b.profile now) (get_or stage.branches j d).positions v) (sym next.dealt_so)
-        (subst (λ (ps : List Profile). IsReady ps (get_or stage.branches j d).positions (dealt whole next.touch)) (sym run.profiles) (record {
-          whole = whole;
-          low = ready.0;
-          high = end_of ready.0 stage;
-          holds = branch_holds chain ready.0 stage j (get_or stage.branches j d) next.touch owners (got_at stage.branches j d inside) next.is ready.1.position ready.1.within;
-          carried = dealt_carried chain whole next.touch ready.0 made ready.1.goes;
-        }))
+    (subst (λ (ps : List Profile). IsReady ps (get_or stage.branches j d).positions (dealt whole next.touch)) (sym run.profiles) (record {
+      whole = whole;
+      low = ready.0;
+      high = end_of ready.0 stage;
+      holds = branch_holds chain ready.0 stage j (get_or stage.branches j d) next.touch owners (got_at stage.branches j d inside) next.is ready.1.position ready.1.within;
+      carried = dealt_carried chain whole next.touch ready.0 made ready.1.goes;
+    }))
 
 all_more : (chain : List Profile) (whole : PlainApart) (high : ℕ) (touches : List Touch) (done : List Came) (t : Touch) (a : Came) → AllCarried chain whole high touches done → IsCarriedBy chain whole t high a → AllCarried chain whole high (touches ++ t ∷ []) (done ++ a ∷ [])
 unfolding AllCarried
@@ -198,7 +198,7 @@ branch_more {F} b stage whole first now after j done more was rest version a d o
     let x : Branch = get_or stage.branches j d in
     let r : Ran F = in_turn b whole.fixed x.positions now (dealt_by_law next.touch (values_in whole)) in
     let ran : ◌≡◌ {A = Ran F} (in_turn b version.fixed x.positions now (Live (as_version version))) r =
-      ap (λ (v : PlainVersion). in_turn b v.fixed x.positions now (Live (as_version v))) next.dealt_so ∙ ap (in_turn b whole.fixed x.positions now) (dealt_is whole next.touch) in
+    ap (λ (v : PlainVersion). in_turn b v.fixed x.positions now (Live (as_version v))) next.dealt_so ∙ ap (in_turn b whole.fixed x.positions now) (dealt_is whole next.touch) in
     let later : List F → Branched F = branched b whole.fixed (drop (j + 1) stage.branches) (drop (j + 1) stage.parts.touches) (values_in whole) in
     record {
       same = ap (λ (l : List Came). before (map as_arrival l) (later after)) push
@@ -210,14 +210,14 @@ branch_more {F} b stage whole first now after j done more was rest version a d o
       left = next.others;
       profiles = ap (map b.profile) fs ∙ stays b version.fixed x.positions now (Live (as_version version)) keeps ∙ run.profiles;
       came = λ at is_ready.
-        let holds = branch_holds chain at stage j x next.touch (owned chain at stage is_ready.lawful) (got_at stage.branches j d inside) next.is is_ready.position is_ready.within in
-        let here : IsCarriedBy chain whole next.touch (end_of at stage) a =
+          let holds = branch_holds chain at stage j x next.touch (owned chain at stage is_ready.lawful) (got_at stage.branches j d inside) next.is is_ready.position is_ready.within in
+          let here : IsCarriedBy chain whole next.touch (end_of at stage) a =
           subst (λ (ps : List Profile). IsCarriedBy ps whole next.touch (end_of at stage) a) run.profiles
-              (subst (λ (v : PlainVersion). (whole : PlainApart) (low high : ℕ) → Holds (map b.profile now) v.touch low high x.positions → IsCarried (map b.profile now) whole v.touch low v → IsCarriedBy (map b.profile now) whole v.touch high a) next.dealt_so carried
-                  whole at (end_of at stage)
-                  (subst (λ (ps : List Profile). Holds ps next.touch at (end_of at stage) x.positions) (sym run.profiles) holds)
-                  (subst (λ (ps : List Profile). IsCarried ps whole next.touch at (dealt whole next.touch)) (sym run.profiles) (dealt_carried chain whole next.touch at made is_ready.goes))) in
-        subst (λ (ts : List Touch). AllCarried chain whole (end_of at stage) ts more) (sym next.front) (subst (λ (l : List Came). AllCarried chain whole (end_of at stage) (take j stage.parts.touches ++ next.touch ∷ []) l) (sym push) (all_more chain whole (end_of at stage) (take j stage.parts.touches) done next.touch a (run.came at is_ready) here));
+          (subst (λ (v : PlainVersion). (whole : PlainApart) (low high : ℕ) → Holds (map b.profile now) v.touch low high x.positions → IsCarried (map b.profile now) whole v.touch low v → IsCarriedBy (map b.profile now) whole v.touch high a) next.dealt_so carried
+          whole at (end_of at stage)
+          (subst (λ (ps : List Profile). Holds ps next.touch at (end_of at stage) x.positions) (sym run.profiles) holds)
+          (subst (λ (ps : List Profile). IsCarried ps whole next.touch at (dealt whole next.touch)) (sym run.profiles) (dealt_carried chain whole next.touch at made is_ready.goes))) in
+          subst (λ (ts : List Touch). AllCarried chain whole (end_of at stage) ts more) (sym next.front) (subst (λ (l : List Came). AllCarried chain whole (end_of at stage) (take j stage.parts.touches ++ next.touch ∷ []) l) (sym push) (all_more chain whole (end_of at stage) (take j stage.parts.touches) done next.touch a (run.came at is_ready) here));
     }
 
 -- the same, where the branch's positions are known by an equation
@@ -229,10 +229,10 @@ pub branch_taken : {F : Type 0} (b : Behaviour F) (stage : Stage) (whole : Plain
     more ≡ done ++ a ∷ [] → HasRun b stage whole first after (j + 1) more rest
 branch_taken b stage whole first now after j done more was rest version a d positions owned made stays keeps run takes ready at fs came carried push =
     branch_more b stage whole first now after j done more was rest version a d owned made stays keeps run takes ready
-        (fs ∙ ap (λ l. (in_turn b version.fixed l now (Live (as_version version))).functions) at)
-        (came ∙ ap (λ l. (in_turn b version.fixed l now (Live (as_version version))).arrival) at)
-        (subst (λ l. (whole : PlainApart) (low high : ℕ) → Holds (map b.profile now) version.touch low high l → IsCarried (map b.profile now) whole version.touch low version → IsCarriedBy (map b.profile now) whole version.touch high a) at carried)
-        push
+    (fs ∙ ap (λ l. (in_turn b version.fixed l now (Live (as_version version))).functions) at)
+    (came ∙ ap (λ l. (in_turn b version.fixed l now (Live (as_version version))).arrival) at)
+    (subst (λ l. (whole : PlainApart) (low high : ℕ) → Holds (map b.profile now) version.touch low high l → IsCarried (map b.profile now) whole version.touch low version → IsCarriedBy (map b.profile now) whole version.touch high a) at carried)
+    push
 
 pub branch_ready_at : {F : Type 0} (b : Behaviour F) (stage : Stage) (whole : PlainApart) (first now : List F) (j : ℕ) (done : List Came) (was rest : List PlainVersion) (version : PlainVersion) (d : Branch) (positions : List ℕ) → Owned → DealtIsMade →
     HasRun b stage whole first now j done was → was ≡ version ∷ rest → ReadySomewhere b first stage whole → positions ≡ (get_or stage.branches j d).positions → IsReady (map b.profile now) positions version

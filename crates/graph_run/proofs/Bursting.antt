@@ -119,16 +119,16 @@ item_fails {F} b graph unit chain items first now i done old new newer d rows fu
     let here : List Packet = packets_of unit chain (get_or items i d ∷ []) in
     let later : List Packet = packets_of unit chain (drop (i + 1) items) in
     let row : packets_of unit chain items ≡ before ++ (here ++ later) =
-      ap (packets_of unit chain) (sym (take-append-drop i items) ∙ ap (λ l. take i items ++ l) (drop_more items i d inside))
-      ∙ packets_append unit chain (take i items) (get_or items i d ∷ drop (i + 1) items)
-      ∙ ap (λ l. before ++ l) (packets_append unit chain (get_or items i d ∷ []) (drop (i + 1) items)) in
+    ap (packets_of unit chain) (sym (take-append-drop i items) ∙ ap (λ l. take i items ++ l) (drop_more items i d inside))
+    ∙ packets_append unit chain (take i items) (get_or items i d ∷ drop (i + 1) items)
+    ∙ ap (λ l. before ++ l) (packets_append unit chain (get_or items i d ∷ []) (drop (i + 1) items)) in
     let all : walked_copies b graph.stages first (packets_of unit chain items) f ≡ walked_copies b graph.stages first before f + (walked_copies b graph.stages now here f + walked_copies b graph.stages (functions_after b now here) later f) =
-      ap (λ (l : List Packet). walked_copies b graph.stages first l f) row
-      ∙ copies_in_a_row b graph.stages first before (here ++ later) f rows many
-      ∙ ap (λ (l : List F). walked_copies b graph.stages first before f + walked_copies b graph.stages l (here ++ later) f) (sym run.functions)
-      ∙ ap (λ n. walked_copies b graph.stages first before f + n) (copies_in_a_row b graph.stages now here later f rows many) in
+    ap (λ (l : List Packet). walked_copies b graph.stages first l f) row
+    ∙ copies_in_a_row b graph.stages first before (here ++ later) f rows many
+    ∙ ap (λ (l : List F). walked_copies b graph.stages first before f + walked_copies b graph.stages l (here ++ later) f) (sym run.functions)
+    ∙ ap (λ n. walked_copies b graph.stages first before f + n) (copies_in_a_row b graph.stages now here later f rows many) in
     bounded (count_of old f) (walked_copies b graph.stages first before f) (walked_copies b graph.stages now here f) (walked_copies b graph.stages (functions_after b now here) later f) (walked_copies b graph.stages first (packets_of unit chain items) f)
-        (count_of new f) (count_of newer f) (run.counted f) (within f).0 (within f).1 all
+    (count_of new f) (count_of newer f) (run.counted f) (within f).0 (within f).1 all
 
 -- a walk leaves as many functions, each with its profile
 pub walk_profiles : {F : Type 0} (b : Behaviour F) (time position : ℕ) (fs : List F) (frame : List ℕ) → KeepsProfile b → map b.profile (walk b time position fs frame).functions ≡ map b.profile fs

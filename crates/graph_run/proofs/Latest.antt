@@ -115,15 +115,15 @@ value_is whole arrivals f law = by_test (greatest_writer arrivals f == 0) refl
     by_place : (o : Option ℕ) → position test arrivals ≡ o → g ≢ 0 → (o ≡ None → g ≡ 0) → value_by whole arrivals f o ≡ pick (values_in whole f) 0 g arrivals f
     by_place None is some none = absurd (some (none refl))
     by_place (Some b) is some none =
-      let found = position-Some test arrivals b cames.Short is in
-      ap bytes_in (sym (first_at g b arrivals f found.0 found.1 found.2)) ∙ sym (picked (values_in whole f) 0 g arrivals f (omega arith))
+        let found = position-Some test arrivals b cames.Short is in
+        ap bytes_in (sym (first_at g b arrivals f found.0 found.1 found.2)) ∙ sym (picked (values_in whole f) 0 g arrivals f (omega arith))
 
     by_test : (t : Bool) → (g == 0) ≡ t → value_by whole arrivals f (if g == 0 then None else position test arrivals) ≡ pick (values_in whole f) 0 g arrivals f
     by_test true is = ap (λ (t : Bool). value_by whole arrivals f (if t then None else position test arrivals)) is
         ∙ sym (stayed (values_in whole f) 0 g arrivals f (let zero : g ≡ 0 = (Decides-eqb g 0).0 is in omega arith))
     by_test false is = ap (λ (t : Bool). value_by whole arrivals f (if t then None else position test arrivals)) is
         ∙ by_place (position test arrivals) refl (λ zero. absurd (let t : (g == 0) ≡ true = (Decides-eqb g 0).1 zero in cc))
-            (λ none. nobody_wrote arrivals f (λ k. law arrivals f k (ap (λ (t : Bool). if t then None else position test arrivals) is ∙ none)))
+        (λ none. nobody_wrote arrivals f (λ k. law arrivals f k (ap (λ (t : Bool). if t then None else position test arrivals) is ∙ none)))
 
 -- the value of each field behind a stage is the one that was written last
 pub values_behind : (whole : PlainApart) (arrivals : List Came) → Unwritten → AreVersions arrivals → (f : Field) → value_behind whole arrivals f ≡ (latest (unwritten (values_in whole)) (map as_arrival arrivals)).values f

@@ -72,7 +72,7 @@ counted_more : (graph : Graph) (frame : List ℕ) (i : ℕ) (whole : PlainApart)
     RaisesAll (made_in graph.stages i frame) old now → RaisesAll (stage_copies (get_or graph.stages i d) whole) now new → RaisesAll (made_in graph.stages (i + 1) frame) old new
 counted_more graph frame i whole old now new d inside there before here = λ f.
     raised_on (is_some (value f frame)) (count_of old f) (copies_in (take i graph.stages) f) (copies (get_or graph.stages i d).parts f) (copies_in (take (i + 1) graph.stages) f) (count_of now f) (count_of new f)
-        (before f) (here f ∙ ap (λ (t : Bool). raised (count_of now f) (if t then copies (get_or graph.stages i d).parts f else 0)) (sym (part_there (parts_of whole f)) ∙ there f)) (one_more graph.stages i d f inside)
+    (before f) (here f ∙ ap (λ (t : Bool). raised (count_of now f) (if t then copies (get_or graph.stages i d).parts f else 0)) (sym (part_there (parts_of whole f)) ∙ there f)) (one_more graph.stages i d f inside)
 
 -- one stage more, behind which the packet goes on
 pub stage_passed : {F : Type 0} (b : Behaviour F) (graph : Graph) (time : ℕ) (frame : List ℕ) (first now after : List F) (i : ℕ) (whole next : PlainApart) (old new newer : List ℕ) (d : Stage) → Rising → StageKeepsFields F → StageKeepsProfiles F → KeepsProfile b →
@@ -85,7 +85,7 @@ stage_passed b graph time frame first now after i whole next old new newer d ris
     let s : Stage = get_or graph.stages i d in
     let ready = stage_ready b graph time frame first now i whole old new d rising running way inside in
     let behind : IsBehind chain (end_of way.way.at s) whole next =
-      subst (λ (ps : List Profile). IsBehind ps (end_of way.way.at s) whole next) way.profiles (leaves way.way.at (subst (λ (ps : List Profile). IsStageReady ps way.way.at s whole) (sym way.profiles) ready)) in
+    subst (λ (ps : List Profile). IsBehind ps (end_of way.way.at s) whole next) way.profiles (leaves way.way.at (subst (λ (ps : List Profile). IsStageReady ps way.way.at s whole) (sym way.profiles) ready)) in
     let head = staged_head chain way.way.at s (drop (i + 1) graph.stages) (suc (length chain)) (subst (λ (l : List Stage). IsStaged chain way.way.at l (suc (length chain))) (drop_more graph.stages i d inside) way.way.staged_on) in
     let position = way.way.position in
     record {
@@ -130,14 +130,14 @@ pub stage_drops : {F : Type 0} (b : Behaviour F) (graph : Graph) (time : ℕ) (f
 stage_drops {F} b graph time frame first now after i p whole old new newer d gone here running way walks inside fs ends counted =
     let s : Stage = get_or graph.stages i d in
     let all : ◌≡◌ {A = Ended F} (record { functions = after; end = Gone p }) (flow b (fixed_of time frame) graph.stages (fields_of frame) first) =
-      sym (then_gone after p (flow b (fixed_of time frame) (drop (i + 1) graph.stages))) ∙ way_on b graph time frame first now after i whole old new d (Gone p) way inside fs ends in
+    sym (then_gone after p (flow b (fixed_of time frame) (drop (i + 1) graph.stages))) ∙ way_on b graph time frame first now after i whole old new d (Gone p) way inside fs ends in
     let walked : ◌≡◌ {A = Walked F} (record { functions = after; fate = fates.Gone p }) (walk b time 1 first frame) = ap (walked_by frame) all ∙ sym walks in
     let drops : stands p s ≡ true = here b whole.fixed s now (values_in whole) p (sym ends) in
     let cut : reached graph.stages (walk b time 1 first frame).fate ≡ take (i + 1) graph.stages =
-      cut_here b graph time frame first now i whole old new gone running way walks
-      ∙ ap (λ w. take i graph.stages ++ reached (drop i graph.stages) w.fate) (sym walked)
-      ∙ ap (λ l. take i graph.stages ++ l) (ap (λ (l : List Stage). reached l (fates.Gone p)) (drop_more graph.stages i d inside) ∙ last_reached s (drop (i + 1) graph.stages) p drops)
-      ∙ sym (take_more graph.stages i d inside) in
+    cut_here b graph time frame first now i whole old new gone running way walks
+    ∙ ap (λ w. take i graph.stages ++ reached (drop i graph.stages) w.fate) (sym walked)
+    ∙ ap (λ l. take i graph.stages ++ l) (ap (λ (l : List Stage). reached l (fates.Gone p)) (drop_more graph.stages i d inside) ∙ last_reached s (drop (i + 1) graph.stages) p drops)
+    ∙ sym (take_more graph.stages i d inside) in
     record {
       functions = ap (λ w. w.functions) walked;
       fate = ap (λ w. w.fate) walked;
@@ -155,14 +155,14 @@ pub way_over : {F : Type 0} (b : Behaviour F) (graph : Graph) (time : ℕ) (fram
     IsRunning b first graph → IsFlowing b graph time frame first now i whole old new → IsWalk b graph time frame first → length graph.stages ≤ i → out ≡ joined whole → Ends b graph time frame first now (fates.Out out) old new
 way_over {F} b graph time frame first now i whole old new out gone again chain running way walks past is =
     let all : ◌≡◌ {A = Ended F} (record { functions = now; end = Out (values_in whole) }) (flow b (fixed_of time frame) graph.stages (fields_of frame) first) =
-      sym (flow_over b (fixed_of time frame) (values_in whole) now) ∙ ap (λ (l : List Stage). flow b (fixed_of time frame) l (values_in whole) now) (sym (drop_all i graph.stages past)) ∙ way.same in
+    sym (flow_over b (fixed_of time frame) (values_in whole) now) ∙ ap (λ (l : List Stage). flow b (fixed_of time frame) l (values_in whole) now) (sym (drop_all i graph.stages past)) ∙ way.same in
     let built : out ≡ written (values_in whole) frame =
-      is ∙ ap (written (values_in whole)) way.rest ∙ again (values_in whole) (ap (λ e. e.end) (sym chain ∙ sym all)) in
+    is ∙ ap (written (values_in whole)) way.rest ∙ again (values_in whole) (ap (λ e. e.end) (sym chain ∙ sym all)) in
     let walked : ◌≡◌ {A = Walked F} (record { functions = now; fate = fates.Out (written (values_in whole) frame) }) (walk b time 1 first frame) = ap (walked_by frame) all ∙ sym walks in
     let cut : reached graph.stages (walk b time 1 first frame).fate ≡ take i graph.stages =
-      cut_here b graph time frame first now i whole old new gone running way walks
-      ∙ ap (λ (l : List Stage). take i graph.stages ++ reached l (walk b time 1 first frame).fate) (drop_all i graph.stages past)
-      ∙ append-nil (take i graph.stages) in
+    cut_here b graph time frame first now i whole old new gone running way walks
+    ∙ ap (λ (l : List Stage). take i graph.stages ++ reached l (walk b time 1 first frame).fate) (drop_all i graph.stages past)
+    ∙ append-nil (take i graph.stages) in
     record {
       functions = ap (λ w. w.functions) walked;
       fate = ap fates.Out built ∙ ap (λ w. w.fate) walked;
@@ -180,13 +180,13 @@ stage_fails b graph time frame first now i whole old new newer d gone running wa
     let s : Stage = get_or graph.stages i d in
     let fate : Fate = (walk b time 1 first frame).fate in
     let all : copies_in (reached graph.stages fate) f ≡ copies_in (take i graph.stages) f + copies_in (reached (s ∷ drop (i + 1) graph.stages) fate) f =
-      ap (λ l. copies_in l f) (cut_here b graph time frame first now i whole old new gone running way walks)
-      ∙ copies_append (take i graph.stages) (reached (drop i graph.stages) fate) f
-      ∙ ap (λ (l : List Stage). copies_in (take i graph.stages) f + copies_in (reached l fate) f) (drop_more graph.stages i d inside) in
+    ap (λ l. copies_in l f) (cut_here b graph time frame first now i whole old new gone running way walks)
+    ∙ copies_append (take i graph.stages) (reached (drop i graph.stages) fate) f
+    ∙ ap (λ (l : List Stage). copies_in (take i graph.stages) f + copies_in (reached l fate) f) (drop_more graph.stages i d inside) in
     up_to (is_some (value f frame)) (count_of old f) (copies_in (take i graph.stages) f) (copies s.parts f) (copies_in (reached (s ∷ drop (i + 1) graph.stages) fate) f) (count_of new f) (count_of newer f) (copies_in (reached graph.stages fate) f)
-        (way.counted f) (within f).0
-        (subst (λ (t : Bool). count_of newer f ≤ raised (count_of new f) (if t then copies s.parts f else 0)) (sym (part_there (parts_of whole f)) ∙ way.there f) (within f).1)
-        all (first_reached s (drop (i + 1) graph.stages) fate f)
+    (way.counted f) (within f).0
+    (subst (λ (t : Bool). count_of newer f ≤ raised (count_of new f) (if t then copies s.parts f else 0)) (sym (part_there (parts_of whole f)) ∙ way.there f) (within f).1)
+    all (first_reached s (drop (i + 1) graph.stages) fate f)
 
 pub nothing_made : (by : Field → ℕ) (tally : List ℕ) → RaisesUpTo by tally tally
 nothing_made by tally = λ f. (omega arith, omega arith)

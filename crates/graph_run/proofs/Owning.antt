@@ -61,9 +61,9 @@ owned_from chain first stage j touch low (suc n) owners is pos within le ends =
 
     by_owner : (t : Bool) → (owner stage.branches low == j) ≡ t → Holds chain touch (low + 1) (end_of first stage) rest → Holds chain touch low (end_of first stage) (if owner stage.branches low == j then low ∷ rest else rest)
     by_owner true own h =
-      let there = profile_there chain low (omega arith) (omega arith) in
-      subst (λ (t : Bool). Holds chain touch low (end_of first stage) (if t then low ∷ rest else rest)) (sym own)
-          (omega arith, omega arith, (there.0, there.1, owned_named chain first stage j low there.0 touch owners is le (omega arith) (eqb-true _ _ own) there.1), h)
+        let there = profile_there chain low (omega arith) (omega arith) in
+        subst (λ (t : Bool). Holds chain touch low (end_of first stage) (if t then low ∷ rest else rest)) (sym own)
+        (omega arith, omega arith, (there.0, there.1, owned_named chain first stage j low there.0 touch owners is le (omega arith) (eqb-true _ _ own) there.1), h)
     by_owner false own h = subst (λ (t : Bool). Holds chain touch low (end_of first stage) (if t then low ∷ rest else rest)) (sym own) (weaker chain touch low (low + 1) (end_of first stage) rest (omega arith) h)
 
 -- a branch holds what its functions name

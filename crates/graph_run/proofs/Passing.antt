@@ -33,9 +33,11 @@ pub record Gave {F : Type 0} (b : Behaviour F) (stage : Stage) (whole : PlainApa
 -- the stage that is next is ready
 pub next_ready : {F : Type 0} (b : Behaviour F) (graph : Graph) (time : ℕ) (frame : List ℕ) (first now : List F) (i : ℕ) (whole : PlainApart) (old new : List ℕ) (s : Stage) → Rising → IsRunning b first graph →
     IsFlowing b graph time frame first now i whole old new → i < length graph.stages → s ≡ get_or graph.stages i s → (at : ℕ) × IsStageReady (map b.profile now) at s whole
-next_ready b graph time frame first now i whole old new s rising running way inside is =
-    (way.way.at, subst (λ ps. IsStageReady ps way.way.at s whole) (sym way.profiles)
-    (subst (λ (x : Stage). IsStageReady (map b.profile first) way.way.at x whole) (sym is) (stage_ready b graph time frame first now i whole old new s rising running way inside)))
+next_ready b graph time frame first now i whole old new s rising running way inside is = (
+  way.way.at,
+  subst (λ ps. IsStageReady ps way.way.at s whole) (sym way.profiles)
+      (subst (λ (x : Stage). IsStageReady (map b.profile first) way.way.at x whole) (sym is) (stage_ready b graph time frame first now i whole old new s rising running way inside)),
+)
 
 pub passed : {F : Type 0} (b : Behaviour F) (graph : Graph) (time : ℕ) (frame : List ℕ) (first now after : List F) (i : ℕ) (whole next : PlainApart) (old new newer : List ℕ) (s : Stage) (merged : Merged) → Rising → StageKeepsFields F → StageKeepsProfiles F → KeepsProfile b →
     IsRunning b first graph → IsFlowing b graph time frame first now i whole old new → i < length graph.stages → s ≡ get_or graph.stages i s → Gave b s whole now after merged new newer → merged ≡ ends.Whole next →
@@ -43,7 +45,7 @@ pub passed : {F : Type 0} (b : Behaviour F) (graph : Graph) (time : ℕ) (frame 
 passed b graph time frame first now after i whole next old new newer s merged rising fields profiles keeps running way inside is gave goes =
     let here = subst (λ (x : Stage). Gave b x whole now after merged new newer) is gave in
     stage_passed b graph time frame first now after i whole next old new newer s rising fields profiles keeps running way inside here.functions (ap as_end (sym goes) ∙ here.end)
-        (λ at ready. subst (LeavesStage (map b.profile now) (end_of at (get_or graph.stages i s)) whole) goes (here.leaves at ready)) here.counted
+    (λ at ready. subst (LeavesStage (map b.profile now) (end_of at (get_or graph.stages i s)) whole) goes (here.leaves at ready)) here.counted
 
 pub dropped : {F : Type 0} (b : Behaviour F) (graph : Graph) (time : ℕ) (frame : List ℕ) (first now after : List F) (i p : ℕ) (whole : PlainApart) (old new newer : List ℕ) (s : Stage) (merged : Merged) → GoneLater F →
     ((b : Behaviour F) (fixed : Fixed) (stage : Stage) (functions : List F) (values : Values) (position : ℕ) → (staged b fixed stage values functions).end ≡ Gone position → stands position stage ≡ true) →

@@ -56,7 +56,7 @@ not_in graph chain i p lawful some = λ k s less at. by_test k s less at (some_a
     by_test : (k : ℕ) (s : Stage) → k < i → slice_get graph.stages k ≡ Some s → ((j : ℕ) × (t : Stage) × (slice_get (drop i graph.stages) j ≡ Some t) × (stands p t ≡ true)) → (b : Bool) → stands p s ≡ b → stands p s ≡ false
     by_test k s less at later false is = is
     by_test k s less at later true is =
-      absurd (let l : p < p = lawful.below k (i + later.0) s later.1 (omega arith) at (sym (get_drop graph.stages i later.0) ∙ later.2) p p is later.3 in omega arith)
+        absurd (let l : p < p = lawful.below k (i + later.0) s later.1 (omega arith) at (sym (get_drop graph.stages i later.0) ∙ later.2) p p is later.3 in omega arith)
 
 -- so the stages that it reaches are those before, and those from there on that it reaches
 pub reached_cut : (graph : Graph) (chain : List Profile) (i : ℕ) (frame : List ℕ) (end : End) → IsLawful graph chain → ((p : ℕ) → end ≡ Gone p → list_any (stands p) (drop i graph.stages) ≡ true) →

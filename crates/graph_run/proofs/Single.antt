@@ -71,15 +71,15 @@ pub walks : {F : Type 0} (b : Behaviour F) (stages : List Stage) (fs after : Lis
     after ≡ (walk b time 1 fs frame).functions → fate ≡ (walk b time 1 fs frame).fate → more ≡ done ++ fate ∷ [] → RaisesAll (copies_of stages frame (walk b time 1 fs frame).fate) old new → Walks b stages fs after done more (packets_of unit chain (item ∷ [])) old new
 walks b stages fs after done more fate unit chain item time frame old new is at framed functions came push counted =
     subst (λ (l : List Packet). Walks b stages fs after done more l old new) (sym (one_of unit chain item is))
-        (walks_one b stages fs after done more fate (packet_of unit item) old new
-            (functions ∙ (λ i. (walk b (at i) 1 fs (framed i)).functions)) (came ∙ (λ i. (walk b (at i) 1 fs (framed i)).fate)) push
-            (subst (λ (t : ℕ). RaisesAll (copies_of stages item.packet.frame (walk b t 1 fs item.packet.frame).fate) old new) at (subst (λ (l : List ℕ). RaisesAll (copies_of stages l (walk b time 1 fs l).fate) old new) framed counted)))
+    (walks_one b stages fs after done more fate (packet_of unit item) old new
+    (functions ∙ (λ i. (walk b (at i) 1 fs (framed i)).functions)) (came ∙ (λ i. (walk b (at i) 1 fs (framed i)).fate)) push
+    (subst (λ (t : ℕ). RaisesAll (copies_of stages item.packet.frame (walk b t 1 fs item.packet.frame).fate) old new) at (subst (λ (l : List ℕ). RaisesAll (copies_of stages l (walk b time 1 fs l).fate) old new) framed counted)))
 
 pub walks_up_to : {F : Type 0} (b : Behaviour F) (stages : List Stage) (fs : List F) (unit : TimeUnit) (chain : ℕ) (item : Item) (time : ℕ) (frame : List ℕ) (old new : List ℕ) → is_of chain item ≡ true → time ≡ (packet_of unit item).time → frame ≡ item.packet.frame →
     RaisesUpTo (copies_of stages frame (walk b time 1 fs frame).fate) old new → RaisesUpTo (walked_copies b stages fs (packets_of unit chain (item ∷ []))) old new
 walks_up_to b stages fs unit chain item time frame old new is at framed within = λ f.
     let same : walked_copies b stages fs (packets_of unit chain (item ∷ [])) f ≡ copies_of stages frame (walk b time 1 fs frame).fate f =
-      ap (λ (l : List Packet). walked_copies b stages fs l f) (one_of unit chain item is) ∙ one_copies b stages fs (packet_of unit item) f ∙ sym (λ i. copies_of stages (framed i) (walk b (at i) 1 fs (framed i)).fate f) in
+    ap (λ (l : List Packet). walked_copies b stages fs l f) (one_of unit chain item is) ∙ one_copies b stages fs (packet_of unit item) f ∙ sym (λ i. copies_of stages (framed i) (walk b (at i) 1 fs (framed i)).fate f) in
     ((within f).0, subst (λ n. count_of new f ≤ raised (count_of old f) n) (sym same) (within f).1)
 
 -- what was written back of a list is that list
@@ -99,13 +99,13 @@ item_taken {F} b graph unit chain items first now lent after back i done more ol
     let row : packets_of unit chain (item ∷ []) ≡ packets_of unit chain (get_or items i item ∷ []) = ap (λ (x : Item). packets_of unit chain (x ∷ [])) is in
     let functions : back ≡ functions_after b now (packets_of unit chain (get_or items i item ∷ [])) = writes ∙ fs ∙ (λ j. functions_after b (lends j) (row j)) in
     item_more b graph unit chain items first now back i done more old new newer item rows functions_rows many run inside
-        (ap (map b.profile) functions ∙ after_profiles b now (packets_of unit chain (get_or items i item ∷ [])) keeps) functions
-        (came ∙ (λ j. done ++ fates b (lends j) (row j)))
-        (λ f. counted f ∙ (λ j. raised (count_of new f) (walked_copies b graph.stages (lends j) (row j) f)))
+    (ap (map b.profile) functions ∙ after_profiles b now (packets_of unit chain (get_or items i item ∷ [])) keeps) functions
+    (came ∙ (λ j. done ++ fates b (lends j) (row j)))
+    (λ f. counted f ∙ (λ j. raised (count_of new f) (walked_copies b graph.stages (lends j) (row j) f)))
 
 pub item_refused : {F : Type 0} (b : Behaviour F) (graph : Graph) (unit : TimeUnit) (chain : ℕ) (items : List Item) (first now lent : List F) (i : ℕ) (done : List Fate) (old new newer : List ℕ) (item : Item) → FatesInARow F → FunctionsInARow F → AsManyFates F →
     HasRunItems b graph unit chain items first now i done old new → i < length items → item ≡ get_or items i item → lent ≡ now →
     RaisesUpTo (walked_copies b graph.stages lent (packets_of unit chain (item ∷ []))) new newer → RaisesUpTo (walked_copies b graph.stages first (packets_of unit chain items)) old newer
 item_refused b graph unit chain items first now lent i done old new newer item rows functions_rows many run inside is lends within =
     item_fails b graph unit chain items first now i done old new newer item rows functions_rows many run inside
-        (λ f. ((within f).0, subst (λ n. count_of newer f ≤ raised (count_of new f) n) (λ j. walked_copies b graph.stages (lends j) (packets_of unit chain (is j ∷ [])) f) (within f).1))
+    (λ f. ((within f).0, subst (λ n. count_of newer f ≤ raised (count_of new f) n) (λ j. walked_copies b graph.stages (lends j) (packets_of unit chain (is j ∷ [])) f) (within f).1))

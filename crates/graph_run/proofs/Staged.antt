@@ -98,7 +98,7 @@ pub stage_leaves : {F : Type 0} (b : Behaviour F) (stage : Stage) (whole base : 
     IsWhole (parts_in whole) whole.rest → result ≡ merged base done → (at : ℕ) → IsStageReady (map b.profile first) at stage whole → LeavesStage (map b.profile first) (end_of at stage) whole result
 stage_leaves b stage whole base first now done result unwritten last ran is fits merges at ready =
     subst (LeavesStage (map b.profile first) (end_of at stage) whole) (sym merges)
-        (behind (map b.profile first) whole base at (end_of at stage) stage.parts.touches done unwritten last (ran.came at ready) (came_from b stage whole base first now done ran is fits (at, ready)) ready.goes (omega arith)).leaves
+    (behind (map b.profile first) whole base at (end_of at stage) stage.parts.touches done unwritten last (ran.came at ready) (came_from b stage whole base first now done ran is fits (at, ready)) ready.goes (omega arith)).leaves
 
 -- the modes of a lawful stage are those of its touches
 pub stage_modes : (chain : List Profile) (first : ℕ) (stage : Stage) → IsLawfulStage chain first stage → stage.parts.modes ≡ modes_of stage.parts.touches

@@ -172,16 +172,16 @@ turn_taken {F} b positions first now v0 v after i f d stays keeps turn ready ins
       fixed = ap (λ x. x.fixed) wrote ∙ turn.fixed;
       touch = ap (λ x. x.touch) wrote ∙ turn.touch;
       goes = λ whole low high holds carried.
-        let goes = turn.goes whole low high holds carried in
-        let next = next_in (map b.profile first) v0.touch goes.at high positions i inside goes.holds in
-        let profile : profile_at (map b.profile first) q ≡ Some (b.profile was) = ap (λ (l : List Profile). profile_at l q) (sym turn.profiles) ∙ slice_get-map b.profile now (q - 1) ∙ ap (λ (o : Option F). option_map b.profile o) is in
-        let named : HoldsNamed (b.profile was) v0.touch = subst (λ p. HoldsNamed p v0.touch) (same_Some next.profile (b.profile was) (sym next.is ∙ profile)) next.named in
-        record {
-          at = q + 1;
-          holds = next.later;
-          carried = subst (IsCarried (map b.profile first) whole v0.touch (q + 1)) (sym wrote)
-              (carried_on b (map b.profile first) whole v0.touch goes.at q was v stays keeps next.position next.rises profile named goes.carried);
-        };
+          let goes = turn.goes whole low high holds carried in
+          let next = next_in (map b.profile first) v0.touch goes.at high positions i inside goes.holds in
+          let profile : profile_at (map b.profile first) q ≡ Some (b.profile was) = ap (λ (l : List Profile). profile_at l q) (sym turn.profiles) ∙ slice_get-map b.profile now (q - 1) ∙ ap (λ (o : Option F). option_map b.profile o) is in
+          let named : HoldsNamed (b.profile was) v0.touch = subst (λ p. HoldsNamed p v0.touch) (same_Some next.profile (b.profile was) (sym next.is ∙ profile)) next.named in
+          record {
+            at = q + 1;
+            holds = next.later;
+            carried = subst (IsCarried (map b.profile first) whole v0.touch (q + 1)) (sym wrote)
+                (carried_on b (map b.profile first) whole v0.touch goes.at q was v stays keeps next.position next.rises profile named goes.carried);
+          };
     }
 
 -- the same, of what comes from the function's step
@@ -193,7 +193,7 @@ pub turn_passed : {F : Type 0} (b : Behaviour F) (positions : List ℕ) (first n
     InTurn b positions first (set now (get_or positions i 0 - 1) f) v0 after (i + 1)
 turn_passed b positions first now v0 v after i f d came stays keeps turn ready inside moved goes_on wrote is =
     turn_taken b positions first now v0 v after i f d stays keeps turn ready inside moved (ap as_arrival (sym is) ∙ goes_on)
-        (subst (IsWhatWasWritten (get_or positions i 0) (stepped b v.fixed (get_or now (get_or positions i 0 - 1) d) (as_version v).values).written v) is wrote)
+    (subst (IsWhatWasWritten (get_or positions i 0) (stepped b v.fixed (get_or now (get_or positions i 0 - 1) d) (as_version v).values).written v) is wrote)
 
 pub turns_over : {F : Type 0} (b : Behaviour F) (positions : List ℕ) (first now : List F) (v0 v : PlainVersion) (i : ℕ) → InTurn b positions first now v0 v i → length positions ≤ i →
     record { functions = now; arrival = Live (as_version v) } ≡ in_turn b v0.fixed positions first (Live (as_version v0))
@@ -230,10 +230,10 @@ turn_dropped {F} b positions first now v0 v i f d (cames.Nil p) turn ready insid
     let was : F = get_or now (q - 1) d in
     let is : slice_get now (q - 1) ≡ Some was = has.is ∙ ap (λ x. Some x) (sym (turn_is b now q v d has)) in
     let all : ◌≡◌ {A = Ran F} (record { functions = set now (q - 1) f; arrival = Nil p }) (in_turn b v0.fixed positions first (Live (as_version v0))) =
-      sym (in_turn_gone b v0.fixed (drop (i + 1) positions) (set now (q - 1) f) p)
-      ∙ (λ j. in_turn b v0.fixed (drop (i + 1) positions) (set now (q - 1) (moved j)) (gone j))
-      ∙ ap (λ x. in_turn b v0.fixed (drop (i + 1) positions) (set now (q - 1) (moved_function b x was (Live (as_version v)))) (moved_arrival b x q was (Live (as_version v)))) turn.fixed
-      ∙ sym (in_turn_more b v0.fixed q (drop (i + 1) positions) now was (Live (as_version v)) is)
-      ∙ ap (λ l. in_turn b v0.fixed l now (Live (as_version v))) (sym (drop_more positions i 0 inside))
-      ∙ turn.same in
+    sym (in_turn_gone b v0.fixed (drop (i + 1) positions) (set now (q - 1) f) p)
+    ∙ (λ j. in_turn b v0.fixed (drop (i + 1) positions) (set now (q - 1) (moved j)) (gone j))
+    ∙ ap (λ x. in_turn b v0.fixed (drop (i + 1) positions) (set now (q - 1) (moved_function b x was (Live (as_version v)))) (moved_arrival b x q was (Live (as_version v)))) turn.fixed
+    ∙ sym (in_turn_more b v0.fixed q (drop (i + 1) positions) now was (Live (as_version v)) is)
+    ∙ ap (λ l. in_turn b v0.fixed l now (Live (as_version v))) (sym (drop_more positions i 0 inside))
+    ∙ turn.same in
     record { functions = ap (λ r. r.functions) all; arrival = ap (λ r. r.arrival) all; carried = λ whole low high holds carried. tt }

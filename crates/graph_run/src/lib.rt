@@ -1,4 +1,25 @@
 //! Runs bursts of packets through the graph of a chain.
+//!
+//! A [`Running`] has the functions of a chain, in the states in which the last packet left them, and a
+//! graph that is lawful for their profiles. [`run_plain`] leads the packets of a burst through it on one
+//! thread: each is split into its parts and dealt, stage by stage, to the branches, which act on versions
+//! of it one after another; what comes from them is merged behind each stage, and what goes out is joined
+//! to a frame again.
+//!
+//! What is promised, for every lawful graph, every kind of function and all opening states: the fates of
+//! the packets are those of packets that walk through the functions of the chain one after another
+//! (`fates` of `chain_walk`), and so are the states of the functions (`functions_after`); the graph stays;
+//! the tally rises by exactly the copies that `copies_made` of `specs/Counting.antt` counts, which are
+//! those of the stages that each packet reaches, and stops at its type's end. Want of memory is the one
+//! refusal.
+//!
+//! Why this is so is told in three steps. A function sees the same through a view of a version as in the
+//! whole packet (`packet_version`); a stage of branches that are not forbidden beside each other gives what
+//! its functions give one after another (`graph_law`); and a whole frame walks as its fields do
+//! (`chain_walk`). Here the code is tied to these laws: a branch (`run_branch`), a stage, a packet, a
+//! burst.
+//!
+//! Checksums are left out (frames that go out are not sealed), and so are threads.
 #![tactic(auto)]
 
 mod branch;
@@ -6,6 +27,9 @@ mod packet;
 mod plain;
 mod running;
 mod stage;
+#[cfg(test)]
+mod tests;
 
+pub use chain_walk::Fate;
 pub use plain::run_plain;
 pub use running::Running;

@@ -9,9 +9,7 @@ ghost use Rattle.graph_run.specs.Stages.{IsStageReady, LeavesStage, end_of, stag
 use crate::branch::run_branch;
 use graph_compile::{Stage, lawful_stage_has_owners};
 use graph_law::profiles_stay;
-use merge_ops::{
-    Merged, last_writer_is_greatest, merge, merged_is_written_last, written_is_made,
-};
+use merge_ops::{Merged, last_writer_is_greatest, merge, merged_is_written_last, written_is_made};
 use net_functions::Function;
 use packet_version::{Apart, Tally, deal};
 use std::alloc::{AllocError, Global};

@@ -34,9 +34,13 @@ pub returns-in_err-push-clause-refused : goal.returns-in_err-push-clause-refused
 returns-in_err-push-clause-refused g c = let up = stage_counted_up c.args.stage.now c.args.whole _ _ (stage_modes _ _ c.args.stage.now c.requires.ready.1.lawful) c.in_ok-base.ensures.counted in search rules
 
 pub loop-version-preserved : goal.loop-version-preserved
-loop-version-preserved g c = (tt, tt, branch_taken g.F.Function.behaviour c.args.stage.now c.args.whole c.args.functions.now c.loop-version.functions _ _ _ _ _ _ c.in-Some.version c.in_ok-arrival.arrival c.index-branches-index.result _
-    c.lawful_stage_has_owners.ensures c.written_is_made.ensures.dealt c.profiles_stay.ensures.branch g.met.F.Function.keeps c.loop-version.invariant.2 c.in-Some.ensures.steps.0 c.requires.ready (c.as_slice-positions.ensures ∙ ap (λ (l : List Branch). (get_or l c.loop-version.index c.index-branches-index.result).positions) c.as_slice-branches.ensures)
-    c.in_ok-arrival.ensures.functions c.in_ok-arrival.ensures.arrival c.in_ok-arrival.ensures.carried c.in_ok-push.ensures.items)
+loop-version-preserved g c = (
+  tt,
+  tt,
+  branch_taken g.F.Function.behaviour c.args.stage.now c.args.whole c.args.functions.now c.loop-version.functions _ _ _ _ _ _ c.in-Some.version c.in_ok-arrival.arrival c.index-branches-index.result _
+      c.lawful_stage_has_owners.ensures c.written_is_made.ensures.dealt c.profiles_stay.ensures.branch g.met.F.Function.keeps c.loop-version.invariant.2 c.in-Some.ensures.steps.0 c.requires.ready (c.as_slice-positions.ensures ∙ ap (λ (l : List Branch). (get_or l c.loop-version.index c.index-branches-index.result).positions) c.as_slice-branches.ensures)
+      c.in_ok-arrival.ensures.functions c.in_ok-arrival.ensures.arrival c.in_ok-arrival.ensures.carried c.in_ok-push.ensures.items,
+)
 
 pub merge-requires-clause-few : goal.merge-requires-clause-few
 merge-requires-clause-few g c = few_arrivals g.F.Function.behaviour c.args.stage.now c.args.whole c.args.functions.now c.loop-version.functions _ c.lawful_stage_has_owners.ensures
