@@ -54,6 +54,7 @@ impl Function for Painter {
     }
 
     fn step(&mut self, view: &mut View) -> Result<Verdict, AllocError> {
+        // What holds of the view where nothing is written.
         unwritten_stays(view);
         if self.count >= 2 {
             self.count = 0;
