@@ -1,19 +1,19 @@
 -- A whole frame walks as its fields do.
-use Rattle.std.proofs.Common.{◌≡◌, ◌≤◌, ◌∙◌, ℕ, ◌+◌, List, [], ◌∷◌, length, Bool, true, false, refl, sym, ap}
-use Rattle.std.specs.Prelude.{Option, Some, None, IfSome, IsSomeAnd, if◌then◌else◌}
+use Rattle.std.proofs.Common.{◌≡◌, ◌≤◌, ◌∙◌, ℕ, ◌+◌, List, [], ◌∷◌, length, Bool, true, false, refl, sym, ap, subst}
+use Rattle.std.specs.Prelude.{Option, Some, None, IfSome, IsSomeAnd, if◌then◌else◌, option_map}
 use Rattle.std.specs.Option.{option_or}
 use Rattle.packet_fields.specs.Frames.{is_tag_list}
 use Rattle.packet_fields.specs.Fields.{value}
-use Rattle.packet_fields.specs.Writing.{written, Fits, AllFit, fields_of, over}
+use Rattle.packet_fields.specs.Writing.{written, Fits, AllFit, fields_of, over, blank, rest_of}
 use Rattle.packet_fields.specs.declared.field.Field.{Field}
 use Rattle.packet_fields.specs.declared.field.Field.TheVariants.{LinkDst, LinkSrc, Tag, Tos, Ttl, SrcIp, DstIp, SrcPort, DstPort, Payload}
-use Rattle.packet_fields.proofs.Walk.{value-written, written-written, written-own, fields_fit}
+use Rattle.packet_fields.proofs.Walk.{value-written, written-written, written-own, fields_fit, blanks, blanks_fit}
 use Rattle.packet_fields.proofs.Fixed.{SameFixed, fixed-written}
 use Rattle.chain_walk.specs.Shown.{Values, fixed_of}
 use Rattle.chain_walk.specs.Step.{Behaviour, stepped, is_drop}
 use Rattle.chain_walk.specs.Laws.{KeepsProfile}
 use Rattle.chain_walk.specs.Walk.{Walked, walk, dropped_at, then_walked}
-use Rattle.chain_walk.specs.FieldWalk.{End.Gone, Ended, walk_fields, walked_by, then_ended}
+use Rattle.chain_walk.specs.FieldWalk.{End.Out, End.Gone, Ended, walk_fields, walked_by, then_ended}
 use Rattle.chain_walk.specs.declared.fixed.Fixed.{Fixed}
 use Rattle.chain_walk.proofs.Forming.{old_tags, old_length}
 
@@ -114,3 +114,30 @@ pub walks_as_fields : {F : Type 0} (b : Behaviour F) (time position : ℕ) (func
     walk b time position functions frame ≡ walked_by frame (walk_fields b (fixed_of time frame) position functions (fields_of frame))
 walks_as_fields b time position functions frame keeps =
     ap (walk b time position functions) (sym (written-own frame)) ∙ walks_filled b time position functions (fields_of frame) frame keeps (own_filled frame)
+
+if_out : {F : Type 0} (drops : Bool) (f : F) (later : List F) (position : ℕ) (e : Ended F) (after : Values) → (if drops then record { functions = f ∷ later; end = Gone position } else then_ended f e).end ≡ Out after → e.end ≡ Out after
+if_out true f later position e after is = absurd cc
+if_out false f later position e after is = is
+
+-- the values that come out of a walk fill the frame
+pub ends_filled : {F : Type 0} (b : Behaviour F) (fixed : Fixed) (position : ℕ) (functions : List F) (values after : Values) (frame : List ℕ) → KeepsProfile b → IsFilled values frame →
+    (walk_fields b fixed position functions values).end ≡ Out after → IsFilled after frame
+unfolding walk_fields
+ends_filled b fixed position [] values after frame keeps filled is = subst (λ (v : Values). IsFilled v frame) (same_out values after is) filled
+  where
+    same_out : (v w : Values) → Out v ≡ Out w → v ≡ w
+    same_out v w e = cc
+ends_filled b fixed position (f ∷ later) values after frame keeps filled is =
+    ends_filled b fixed (position + 1) later (over (stepped b fixed f values).written values) after frame keeps (step_fills b fixed f values frame keeps filled)
+    (if_out (is_drop (stepped b fixed f values).verdict) (stepped b fixed f values).after later position (walk_fields b fixed (position + 1) later (over (stepped b fixed f values).written values)) after is)
+
+-- values that fill a frame fill what is left of it
+over_blank : (f : Field) (new own : Option (List ℕ)) → option_or new own ≡ new → option_or new (option_map (blank f) own) ≡ new
+over_blank f None None h = refl
+over_blank f None (Some w) h = absurd cc
+over_blank f (Some n) own h = refl
+
+pub built_again : (values : Values) (frame : List ℕ) → IsFilled values frame → written values (rest_of frame) ≡ written values frame
+built_again values frame filled =
+    written-written values (blanks frame) frame filled.fits (blanks_fit frame)
+    ∙ ap (λ (v : Values). written v frame) (same_values (over values (blanks frame)) values (λ f. over_blank f (values f) (value f frame) (filled.whole f)))

@@ -1,3 +1,4 @@
 pub mod Forming
 pub mod Fielding
 pub mod Walking
+pub mod Rowing

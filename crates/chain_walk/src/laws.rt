@@ -1,11 +1,12 @@
 //! What the walk of whole frames is worth.
-ghost use Rattle.std.specs.Prelude.{◌≡◌, ℕ, List};
-ghost use Rattle.packet_fields.specs.Writing.{AllFit, fields_of, over};
+ghost use Rattle.std.specs.Prelude.{◌≡◌, ℕ, List, ◌++◌, length};
+ghost use Rattle.packet_fields.specs.Writing.{AllFit, fields_of, over, rest_of, written};
 ghost use Rattle.chain_walk.specs.Shown.{Values, AreWellFormed, fixed_of};
 ghost use Rattle.chain_walk.specs.Step.{Behaviour, stepped};
 ghost use Rattle.chain_walk.specs.Laws.{KeepsProfile};
-ghost use Rattle.chain_walk.specs.Walk.{walk, Walked};
-ghost use Rattle.chain_walk.specs.FieldWalk.{walk_fields, walked_by};
+ghost use Rattle.chain_walk.specs.Walk.{walk, Walked, EndsWithin};
+ghost use Rattle.chain_walk.specs.Packets.{Packet, fates, functions_after};
+ghost use Rattle.chain_walk.specs.FieldWalk.{End.Out, walk_fields, walked_by};
 ghost use Rattle.chain_walk.specs.declared.fixed.Fixed.{Fixed};
 
 /// A whole frame walks as its fields do: the fields that come out, put into the frame, are the frame that
@@ -22,4 +23,20 @@ pub fn values_stay_well_formed<F>()
     ensures fit { (values : Values) (frame : List ℕ) → AllFit values frame → AreWellFormed values }
     ensures step { (b : Behaviour F) (fixed : Fixed) (f : F) (values : Values) → KeepsProfile b → AreWellFormed values →
         AreWellFormed (over (stepped b fixed f values).written values) }
+{}
+
+/// The fields that come out of a walk may as well be put into what is left of the frame without its fields:
+/// it is the same frame.
+pub fn frames_are_built_again<F>()
+    ensures { (b : Behaviour F) (time position : ℕ) (functions : List F) (frame : List ℕ) (after : Values) → KeepsProfile b →
+        (walk_fields b (fixed_of time frame) position functions (fields_of frame)).end ≡ Out after → written after (rest_of frame) ≡ written after frame }
+{}
+
+/// Packets that walk in two lots end as in one, each as the packet before left the functions, and each has
+/// one fate. A packet that is gone was dropped by a function that stands in the chain.
+pub fn packets_walk_in_a_row<F>()
+    ensures fates { (b : Behaviour F) (functions : List F) (first later : List Packet) → fates b functions (first ++ later) ≡ fates b functions first ++ fates b (functions_after b functions first) later }
+    ensures functions { (b : Behaviour F) (functions : List F) (first later : List Packet) → functions_after b functions (first ++ later) ≡ functions_after b (functions_after b functions first) later }
+    ensures count { (b : Behaviour F) (functions : List F) (packets : List Packet) → length (fates b functions packets) ≡ length packets }
+    ensures within { (b : Behaviour F) (time : ℕ) (functions : List F) (frame : List ℕ) → EndsWithin (length functions) (walk b time 1 functions frame).fate }
 {}

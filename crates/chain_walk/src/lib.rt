@@ -21,6 +21,8 @@ mod walk;
 
 pub use fixed::Fixed;
 pub use function::FrameFunction;
-pub use laws::{frames_walk_as_fields, values_stay_well_formed};
+pub use laws::{
+    frames_are_built_again, frames_walk_as_fields, packets_walk_in_a_row, values_stay_well_formed,
+};
 pub use verdict::Verdict;
 pub use walk::{Fate, walk_chain};

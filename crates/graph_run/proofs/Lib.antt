@@ -4,3 +4,8 @@ pub mod Rooming
 pub mod Carried
 pub mod Stepped
 pub mod Turning
+pub mod Latest
+pub mod Behind
+pub mod Owning
+pub mod Branching
+pub mod Staged

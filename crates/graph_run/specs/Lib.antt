@@ -4,3 +4,4 @@ pub mod Carrying
 pub mod Rooms
 pub mod Counting
 pub mod Staging
+pub mod Stages

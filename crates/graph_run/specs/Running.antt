@@ -1,5 +1,5 @@
 -- The functions of a chain and their graph, ready to run.
-use Rattle.std.specs.Prelude.{ℕ, ◌≤◌, List, length, map}
+use Rattle.std.specs.Prelude.{◌≤◌, List, length, map}
 use Rattle.action_profile.specs.declared.rights.Profile.{Profile}
 use Rattle.chain_walk.specs.Step.{Behaviour}
 use Rattle.graph_compile.specs.Facts.{IsLawful, IsFull}

@@ -2,4 +2,7 @@
 #![tactic(auto)]
 
 mod branch;
+mod running;
+mod stage;
 
+pub use running::Running;

@@ -12,16 +12,17 @@ use Rattle.std.proofs.lemmas.List.Recursion.{is_position_or_len}
 use Rattle.packet_fields.specs.Fields.{number_of}
 use Rattle.packet_fields.specs.declared.field.Field.{Field}
 use Rattle.packet_fields.specs.declared.field.Field.TheVariants.{LinkDst, LinkSrc, Tag, Tos, Ttl, SrcIp, DstIp, SrcPort, DstPort, Payload}
-use Rattle.packet_version.specs.Parts.{PlainPart, Parts, changed, is_field}
+use Rattle.packet_version.specs.Parts.{PlainPart, Parts, changed, is_field, writer_in}
 use Rattle.packet_version.specs.Splitting.{PlainApart, parts_of as parts_in}
 use Rattle.packet_version.specs.Versions.{parts_of}
 use Rattle.packet_version.proofs.Maps.{as_map-listed}
 use Rattle.packet_version.proofs.Stepping.{same_field}
-use Rattle.merge_ops.specs.Merging.{part_of, last_writer, op_from, op_of}
-use Rattle.merge_ops.specs.Taking.{writes_in, without, arrival_at, branch_of, source, part_from, part_behind, merged_parts, with_parts, IsWriting, SameIn}
+use Rattle.merge_ops.specs.Merging.{part_of, writer_of, last_writer, op_from, op_of}
+use Rattle.merge_ops.specs.Taking.{writes_in, without, arrival_at, branch_of, source, part_from, part_behind, merged_parts, with_parts, IsWritten, SameIn}
 use Rattle.merge_ops.specs.declared.arrival.Arrival.{Arrival}
 use Rattle.merge_ops.specs.declared.arrival.Arrival.TheVariants.{Version, Nil, Short}
 use Rattle.merge_ops.specs.declared.decision.MergeOp.{MergeOp}
+use Rattle.merge_ops.proofs.Latest.{last_there}
 
 -- two fields have two numbers
 other_field : (f g : Field) → f ≢ g → is_field g f ≡ false
@@ -69,9 +70,6 @@ position-map p xs =
 same_at : (f : Field) (old new : List Arrival) (b : ℕ) → SameIn f old new → part_of f (arrival_at new b) ≡ part_of f (arrival_at old b)
 same_at f old new b s = sym (get_or-map (part_of f) new b Short) ∙ (ap (λ (ps : List (Option PlainPart)). get_or ps b None) s.parts ∙ get_or-map (part_of f) old b Short)
 
-same_writing : (f : Field) (old new : List Arrival) (b : ℕ) → SameIn f old new → writes_in f (arrival_at new b) ≡ writes_in f (arrival_at old b)
-same_writing f old new b s = sym (get_or-map (writes_in f) new b Short) ∙ (ap (λ (ps : List Bool). get_or ps b false) s.writes ∙ get_or-map (writes_in f) old b Short)
-
 same_length : (f : Field) (old new : List Arrival) → SameIn f old new → length new ≡ length old
 same_length f old new s = sym (length-map new (writes_in f)) ∙ (ap (λ (ps : List Bool). length ps) s.writes ∙ length-map old (writes_in f))
 
@@ -90,9 +88,14 @@ same_behind f old new last own s =
     ap (λ (b : Option ℕ). option_or (part_from f new b) own) (same_source f old new last own s)
     ∙ ap (λ (p : Option PlainPart). option_or p own) (same_from f old new (source f old last own) s)
 
-still_writing : (f : Field) (old new : List Arrival) (branch : Option ℕ) → SameIn f old new → IsWriting f old branch → IsWriting f new branch
-still_writing f old new None s w = tt
-still_writing f old new (Some b) s w = (let len = same_length f old new s in let inside : b < length old = w.0 in omega arith, same_writing f old new b s ∙ w.1)
+still_written : (f : Field) (old new : List Arrival) (branch : Option ℕ) → SameIn f old new → IsWritten f old branch → IsWritten f new branch
+still_written f old new None s w = tt
+still_written f old new (Some b) s w =
+    let len = same_length f old new s in
+    let inside : b < length old = w.0 in
+    let wrote : 0 < writer_of f (arrival_at old b) = w.1 in
+    let same : writer_of f (arrival_at new b) ≡ writer_of f (arrival_at old b) = ap writer_in (same_at f old new b s) in
+    (omega arith, omega arith)
 
 -- an operation names the branch that it was made for
 op_branch : (f : Field) (o : Option ℕ) → branch_of (op_from f o) ≡ o
@@ -108,8 +111,13 @@ op_branch SrcPort (Some b) = refl
 op_branch DstPort (Some b) = refl
 op_branch Payload (Some b) = refl
 
-pub writing_op : (f : Field) (op : MergeOp) (old new : List Arrival) → op ≡ op_of old f → SameIn f old new → IsWriting f old (last_writer old f) → IsWriting f new (branch_of op)
-writing_op f op old new is s w = subst (λ (b : Option ℕ). IsWriting f new b) (sym (ap branch_of is ∙ op_branch f (last_writer old f))) (still_writing f old new (last_writer old f) s w)
+-- the branch that wrote a field last wrote it
+last_written : (f : Field) (arrivals : List Arrival) (o : Option ℕ) → last_writer arrivals f ≡ o → IsWritten f arrivals o
+last_written f arrivals None e = tt
+last_written f arrivals (Some b) e = last_there arrivals f b e
+
+pub written_op : (f : Field) (op : MergeOp) (old new : List Arrival) → op ≡ op_of old f → SameIn f old new → IsWritten f new (branch_of op)
+written_op f op old new is s = subst (λ (b : Option ℕ). IsWritten f new b) (sym (ap branch_of is ∙ op_branch f (last_writer old f))) (still_written f old new (last_writer old f) s (last_written f old (last_writer old f) refl))
 
 -- the parts behind the stage for the fields before an index, and those that were there for the others
 abbrev pub way : ℕ → Parts → Parts → Parts

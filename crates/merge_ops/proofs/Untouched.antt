@@ -46,7 +46,6 @@ dealt_made whole touch =
       touched = refl;
       there = λ f. ap (λ (m : Parts). is_some (m f)) read;
       own = λ f zero. ap (λ (m : Parts). values_of m f) read;
-      written = λ f wrote. absurd (wrote (dealt_writer whole touch f));
       lengths = λ f apart. ap (λ (m : Parts). lengths_of m f) read;
     }
 

@@ -10,9 +10,9 @@ use Rattle.packet_fields.specs.declared.field.Field.TheVariants.{Tag}
 use Rattle.action_profile.specs.FieldSets.{has}
 use Rattle.action_profile.specs.declared.parts.Mode.TheVariants.{Shared}
 use Rattle.action_profile.specs.declared.parts.Touch.{Touch}
-use Rattle.action_profile.specs.Modes.{has_write, mode_of, written_mode}
+use Rattle.action_profile.specs.Modes.{has_write, has_touch, mode_of, written_mode}
 use Rattle.packet_version.specs.Parts.{PlainPart, Parts, unwritten, values_of, writers_of, writer_in}
-use Rattle.packet_version.specs.Slots.{AreTags}
+use Rattle.packet_version.specs.Parts.{AreTags}
 use Rattle.packet_version.specs.Splitting.{PlainApart, IsWhole, parts_of}
 use Rattle.packet_version.specs.Versions.{PlainVersion, parts_of as parts_in}
 use Rattle.packet_version.specs.Dealing.{dealt_parts, kept_part, kept_parts, based, is_given}
@@ -20,7 +20,7 @@ use Rattle.packet_version.proofs.Firsts.{none-position, any-none}
 use Rattle.packet_version.proofs.Maps.{as_map-listed}
 use Rattle.packet_version.proofs.Shaping.{shaped_whole}
 use Rattle.merge_ops.specs.Merging.{part_of, writer_of, last_writer, decision_of}
-use Rattle.merge_ops.specs.Taking.{writes_in, arrival_at, part_behind, part_from, merged_parts, with_parts, IsWriting}
+use Rattle.merge_ops.specs.Taking.{writes_in, arrival_at, part_behind, part_from, merged_parts, with_parts}
 use Rattle.merge_ops.specs.Behind.{no_touch, IsMadeOf, IsFrom, AreFrom, value_by, value_behind}
 use Rattle.merge_ops.specs.declared.arrival.Arrival.{Arrival}
 use Rattle.merge_ops.specs.declared.arrival.Arrival.TheVariants.{Version, Nil, Short}
@@ -59,25 +59,36 @@ touch_write false w e = e
 dealt_write : (touch : Touch) (parts : Parts) (f : Field) → has_write f touch ≡ true → dealt_parts touch parts f ≡ option_map unwritten (parts f)
 dealt_write touch parts f w = ap (λ (b : Bool). if b then option_map unwritten (parts f) else None) (touch_write (has touch.reads f) (has touch.writes f) w)
 
-made_alike : (whole : PlainApart) (touch : Touch) (v : PlainVersion) (f : Field) → IsMadeOf whole touch v → has_write f touch ≡ true → Alike f (parts_in v f) (parts_of whole f)
-made_alike whole touch v f m w =
-    let d = dealt_write touch (parts_of whole) f w in
-    record {
-      there = m.there f ∙ (ap (λ (o : Option PlainPart). is_some o) d ∙ unwritten_there (parts_of whole f));
-      lengths = λ apart. m.lengths f apart ∙ (ap length_in d ∙ unwritten_length (parts_of whole f));
-    }
+made_alike : (whole : PlainApart) (touch : Touch) (v : PlainVersion) (f : Field) → IsMadeOf whole touch v → dealt_parts touch (parts_of whole) f ≡ option_map unwritten (parts_of whole f) → Alike f (parts_in v f) (parts_of whole f)
+made_alike whole touch v f m d = record {
+  there = m.there f ∙ (ap (λ (o : Option PlainPart). is_some o) d ∙ unwritten_there (parts_of whole f));
+  lengths = λ apart. m.lengths f apart ∙ (ap length_in d ∙ unwritten_length (parts_of whole f));
+}
+
+-- a branch that is dealt a field has the packet's part
+dealt_there : (touch : Touch) (parts : Parts) (f : Field) → is_some (dealt_parts touch parts f) ≡ true → dealt_parts touch parts f ≡ option_map unwritten (parts f)
+dealt_there touch parts f there = by_test (has_touch f touch) there
+  where
+    by_test : (b : Bool) → is_some (if b then option_map unwritten (parts f) else None) ≡ true → (if b then option_map unwritten (parts f) else None) ≡ option_map unwritten (parts f)
+    by_test true e = refl
+    by_test false e = absurd (cc)
+
+there_written : (part : Option PlainPart) → writer_in part ≢ 0 → is_some part ≡ true
+there_written None w = absurd (w refl)
+there_written (Some p) w = refl
 
 made_own : (whole : PlainApart) (touch : Touch) (v : PlainVersion) (f : Field) → IsMadeOf whole touch v → has_write f touch ≡ true → writers_of (parts_in v) f ≡ 0 → bytes_in (parts_in v f) ≡ bytes_in (parts_of whole f)
 made_own whole touch v f m w zero = m.own f zero ∙ (ap bytes_in (dealt_write touch (parts_of whole) f w) ∙ unwritten_bytes (parts_of whole f))
 
--- an arrival in which a field was written, or of a branch that writes it
-wrote_writes : (whole : PlainApart) (touch : Touch) (a : Arrival) (f : Field) → IsFrom whole touch a → writer_of f a ≢ 0 → writes_in f a ≡ true
-wrote_writes whole touch (Version v) f m w = ap (λ (t : Touch). has_write f t) m.touched ∙ m.written f w
-wrote_writes whole touch (Nil p) f m w = absurd (w refl)
-wrote_writes whole touch Short f m w = absurd (w refl)
+-- an arrival in which a field was written
+wrote_alike : (whole : PlainApart) (touch : Touch) (a : Arrival) (f : Field) → IsFrom whole touch a → writer_of f a ≢ 0 → Alike f (part_of f a) (parts_of whole f)
+wrote_alike whole touch (Version v) f m w = made_alike whole touch v f m (dealt_there touch (parts_of whole) f (sym (m.there f) ∙ there_written (parts_in v f) w))
+wrote_alike whole touch (Nil p) f m w = absurd (w refl)
+wrote_alike whole touch Short f m w = absurd (w refl)
 
+-- an arrival of a branch that writes it
 from_alike : (whole : PlainApart) (touch : Touch) (a : Arrival) (f : Field) → IsFrom whole touch a → writes_in f a ≡ true → Alike f (part_of f a) (parts_of whole f)
-from_alike whole touch (Version v) f m w = made_alike whole touch v f m (sym (ap (λ (t : Touch). has_write f t) m.touched) ∙ w)
+from_alike whole touch (Version v) f m w = made_alike whole touch v f m (dealt_write touch (parts_of whole) f (sym (ap (λ (t : Touch). has_write f t) m.touched) ∙ w))
 from_alike whole touch (Nil p) f m w = absurd (cc)
 from_alike whole touch Short f m w = absurd (cc)
 
@@ -90,10 +101,6 @@ version_writes : (whole : PlainApart) (touch : Touch) (a : Arrival) (f : Field) 
 version_writes whole touch (Version v) f m is w = ap (λ (t : Touch). has_write f t) m.touched ∙ w
 version_writes whole touch (Nil p) f m is w = absurd (cc)
 version_writes whole touch Short f m is w = absurd (cc)
-
-there_written : (part : Option PlainPart) → writer_in part ≢ 0 → is_some part ≡ true
-there_written None w = absurd (w refl)
-there_written (Some p) w = refl
 
 or_there : (part own : Option PlainPart) → is_some part ≡ true → option_or part own ≡ part
 or_there None own e = absurd (cc)
@@ -166,7 +173,7 @@ behind whole touches base arrivals ops f from on (Some b) e own is =
     let made = from.each b below in
     let part = part_of f (arrival_at arrivals b) in
     subst (λ (p : Option PlainPart). IsBehind whole arrivals f (Some b) p) (sym (or_there part own (there_written part last.wrote))) (record {
-      alike = from_alike whole (get_or touches b no_touch) (arrival_at arrivals b) f made (wrote_writes whole (get_or touches b no_touch) (arrival_at arrivals b) f made last.wrote);
+      alike = wrote_alike whole (get_or touches b no_touch) (arrival_at arrivals b) f made last.wrote;
       value = refl;
     })
 behind whole touches base arrivals ops f from on None e (Some p) is =
@@ -187,17 +194,6 @@ merged_behind whole touches base arrivals ops f from on = behind whole touches b
 -- each field has the value that was written last
 pub merged_value : (whole : PlainApart) (touches : List Touch) (base : PlainApart) (arrivals : List Arrival) (ops : List MergeOp) (f : Field) → AreFrom whole touches base arrivals → decision_of arrivals ≡ Take ops → values_of (merged_parts base arrivals) f ≡ value_behind whole arrivals f
 merged_value whole touches base arrivals ops f from on = (merged_behind whole touches base arrivals ops f from (goes_on arrivals ops (sym on))).value
-
--- the branch that wrote a field last may write it
-writing_by : (whole : PlainApart) (touches : List Touch) (base : PlainApart) (arrivals : List Arrival) (f : Field) → AreFrom whole touches base arrivals → (o : Option ℕ) → last_writer arrivals f ≡ o → IsWriting f arrivals o
-writing_by whole touches base arrivals f from None e = tt
-writing_by whole touches base arrivals f from (Some b) e =
-    let last = last_is arrivals f b e in
-    let below : b < length touches = (let inside : b < length arrivals = last.below in let count = from.count in omega arith) in
-    (last.below, wrote_writes whole (get_or touches b no_touch) (arrival_at arrivals b) f (from.each b below) last.wrote)
-
-pub writing_last : (whole : PlainApart) (touches : List Touch) (base : PlainApart) (arrivals : List Arrival) (f : Field) → AreFrom whole touches base arrivals → IsWriting f arrivals (last_writer arrivals f)
-writing_last whole touches base arrivals f from = writing_by whole touches base arrivals f from (last_writer arrivals f) refl
 
 tags_by : (b : Bool) (o : Option PlainPart) (frame : List ℕ) → IfSome (bytes_in o) (λ bytes. Fits Tag bytes frame) → AreTags (if b then None else option_map unwritten o)
 tags_by true o frame fits = tt

@@ -1,6 +1,6 @@
 -- A write leaves a version one that its branch may have made.
 use Rattle.std.proofs.Common.{◌≡◌, ◌≢◌, ◌∙◌, ◌≤◌, ℕ, Bool, true, false, length, sym, ap, refl, subst, arith}
-use Rattle.std.specs.Prelude.{if◌then◌else◌, Option, Some, is_some, option_map}
+use Rattle.std.specs.Prelude.{if◌then◌else◌, Option, Some, None, is_some, option_map}
 use Rattle.std.proofs.lemmas.Bool.Decides.{Decides-eqb}
 use Rattle.packet_fields.specs.Fields.{number_of}
 use Rattle.packet_fields.specs.declared.field.Field.{Field}
@@ -33,6 +33,16 @@ made_on whole touch v f old new m w is by len =
       touched = m.touched;
       there = λ g. changed_cases f g (Some new) v (λ o. is_some o ≡ is_some (dealt g)) (λ e. sym (ap (λ (o : Option PlainPart). is_some o) is) ∙ (m.there f ∙ ap (λ (h : Field). is_some (dealt h)) e)) (m.there g);
       own = λ g. changed_cases f g (Some new) v (λ o. writer_in o ≡ 0 → option_map (λ p. p.bytes) o ≡ option_map (λ p. p.bytes) (dealt g)) (λ e zero. absurd (omega arith)) (m.own g);
-      written = λ g. changed_cases f g (Some new) v (λ o. writer_in o ≢ 0 → has_write g touch ≡ true) (λ e wrote. sym (ap (λ (h : Field). has_write h touch) e) ∙ w) (m.written g);
       lengths = λ g. changed_cases f g (Some new) v (λ o. g ≢ Tag → length_in o ≡ length_in (dealt g)) (λ e apart. ap (λ (n : ℕ). Some n) (len (λ t. apart (sym e ∙ t))) ∙ (sym (ap length_in is) ∙ (m.lengths f (λ t. apart (sym e ∙ t)) ∙ ap (λ (h : Field). length_in (dealt h)) e))) (m.lengths g);
+    }
+
+-- a field that the packet lacks stays so
+pub made_absent : (whole : PlainApart) (touch : Touch) (v : PlainVersion) (f : Field) → IsMadeOf whole touch v → parts_in v f ≡ None → IsMadeOf whole touch (with_part f None v)
+made_absent whole touch v f m is =
+    let dealt = dealt_parts touch (parts_of whole) in
+    record {
+      touched = m.touched;
+      there = λ g. changed_cases f g None v (λ o. is_some o ≡ is_some (dealt g)) (λ e. sym (ap (λ (o : Option PlainPart). is_some o) is) ∙ (m.there f ∙ ap (λ (h : Field). is_some (dealt h)) e)) (m.there g);
+      own = λ g. changed_cases f g None v (λ o. writer_in o ≡ 0 → option_map (λ p. p.bytes) o ≡ option_map (λ p. p.bytes) (dealt g)) (λ e zero. sym (ap (λ (o : Option PlainPart). option_map (λ p. p.bytes) o) is) ∙ (m.own f (ap writer_in is) ∙ ap (λ (h : Field). option_map (λ p. p.bytes) (dealt h)) e)) (m.own g);
+      lengths = λ g. changed_cases f g None v (λ o. g ≢ Tag → length_in o ≡ length_in (dealt g)) (λ e apart. sym (ap length_in is) ∙ (m.lengths f (λ t. apart (sym e ∙ t)) ∙ ap (λ (h : Field). length_in (dealt h)) e)) (m.lengths g);
     }

@@ -1,9 +1,8 @@
 -- The arrivals of a base: what the branches of its stage made of the versions that they were dealt.
-use Rattle.std.specs.Prelude.{◌≡◌, ◌≢◌, ◌<◌, ℕ, true, List, length, Option, Some, None, is_some, option_map, map, slice_index_or}
+use Rattle.std.specs.Prelude.{◌≡◌, ◌≢◌, ◌<◌, ℕ, List, length, Option, Some, None, is_some, option_map, map, slice_index_or}
 use Rattle.packet_fields.specs.declared.field.Field.{Field}
 use Rattle.packet_fields.specs.declared.field.Field.TheVariants.{Tag}
 use Rattle.action_profile.specs.declared.parts.Touch.{Touch}
-use Rattle.action_profile.specs.Modes.{has_write}
 use Rattle.packet_version.specs.Parts.{Parts, values_of, writers_of}
 use Rattle.packet_version.specs.Splitting.{PlainApart, IsWhole, parts_of}
 use Rattle.packet_version.specs.Versions.{PlainVersion, parts_of as parts_in}
@@ -21,12 +20,11 @@ abbrev pub lengths_of : Parts → Field → Option ℕ
 lengths_of parts f = option_map (λ p. length p.bytes) (parts f)
 
 -- What a branch with this touch may have made of the version that it was dealt: it has the same fields, the
--- packet's own value where nobody wrote, it wrote only what it may write, and each field but the tags has its length.
+-- packet's own value where nobody wrote, and each field but the tags has its length.
 pub record IsMadeOf (whole : PlainApart) (touch : Touch) (version : PlainVersion) : Type 0 where
   pub touched : version.touch ≡ touch
   pub there : (f : Field) → is_some (parts_in version f) ≡ is_some (dealt_parts touch (parts_of whole) f)
   pub own : (f : Field) → writers_of (parts_in version) f ≡ 0 → values_of (parts_in version) f ≡ values_of (dealt_parts touch (parts_of whole)) f
-  pub written : (f : Field) → writers_of (parts_in version) f ≢ 0 → has_write f touch ≡ true
   pub lengths : (f : Field) → f ≢ Tag → lengths_of (parts_in version) f ≡ lengths_of (dealt_parts touch (parts_of whole)) f
 
 -- an arrival from a branch with this touch

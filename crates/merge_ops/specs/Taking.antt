@@ -6,7 +6,7 @@ use Rattle.action_profile.specs.Modes.{has_write}
 use Rattle.packet_version.specs.Parts.{PlainPart, Parts, as_list}
 use Rattle.packet_version.specs.Splitting.{PlainApart, parts_of}
 use Rattle.packet_version.specs.Versions.{with_part}
-use Rattle.merge_ops.specs.Merging.{part_of, last_writer, decision_of}
+use Rattle.merge_ops.specs.Merging.{part_of, writer_of, last_writer, decision_of}
 use Rattle.merge_ops.specs.declared.arrival.Arrival.{Arrival}
 use Rattle.merge_ops.specs.declared.arrival.Arrival.TheVariants.{Version, Nil, Short}
 use Rattle.merge_ops.specs.declared.decision.MergeOp.{MergeOp}
@@ -73,6 +73,10 @@ merged base arrivals = merged_by base arrivals (decision_of arrivals)
 -- this branch, where there is one, writes the field
 abbrev pub IsWriting : Field → List Arrival → Option ℕ → Type 0
 IsWriting f arrivals branch = IfSome branch (λ b. (b < length arrivals) × (writes_in f (arrival_at arrivals b) ≡ true))
+
+-- this branch, where there is one, wrote the field
+abbrev pub IsWritten : Field → List Arrival → Option ℕ → Type 0
+IsWritten f arrivals branch = IfSome branch (λ b. (b < length arrivals) × (0 < writer_of f (arrival_at arrivals b)))
 
 -- two lists of arrivals that have the same of a field
 pub record SameIn (f : Field) (old new : List Arrival) : Type 0 where

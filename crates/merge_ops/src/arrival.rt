@@ -1,13 +1,13 @@
 //! What a branch of a stage gives of a packet.
 
-ghost use Rattle.std.specs.Prelude.{◌≡◌, true};
+ghost use Rattle.std.specs.Prelude.{◌≡◌, ◌<◌, true};
 ghost use Rattle.packet_fields.specs.declared.field.Field.{Field};
-ghost use Rattle.packet_version.specs.Slots.{AreTags};
+ghost use Rattle.packet_version.specs.Parts.{AreTags};
 ghost use Rattle.merge_ops.specs.Merging.{is_short, nil_of, writer_of, part_of};
 ghost use Rattle.merge_ops.specs.Taking.{writes_in, without};
 
 use packet_fields::Field;
-use packet_version::Part;
+use packet_version::{Part, written_is_own};
 
 /// What comes from a branch: its version of the packet, the chain position of the function that dropped
 /// it, or nothing, where a worker found no memory for it or for an earlier packet.
@@ -56,6 +56,15 @@ impl Arrival {
         match self {
             Arrival::Version(version) => version.writes(field),
             _ => false,
+        }
+    }
+
+    /// Says that whoever wrote a field did so in a branch that writes it.
+    pub(crate) fn wrote_its_own(&self)
+        ensures { (f : Field) → 0 < writer_of f self.now → writes_in f self.now ≡ true }
+    {
+        if let Arrival::Version(version) = self {
+            written_is_own(version);
         }
     }
 

@@ -38,10 +38,12 @@ pub fn dealt_are_arrivals()
 {}
 
 /// The version that a branch is dealt it may have made, and so may it one in which it wrote a field that
-/// is there: by any function, as long as before unless it is the list of tags.
+/// is there: by any function, as long as before unless it is the list of tags. A field that the packet
+/// lacks stays so.
 pub fn written_is_made()
     ensures dealt { (whole : PlainApart) (touch : Touch) → IsMadeOf whole touch (dealt whole touch) }
     ensures written { (whole : PlainApart) (touch : Touch) (version : PlainVersion) (f : Field) (old new : PlainPart) → IsMadeOf whole touch version → has_write f touch ≡ true → parts_in version f ≡ Some old → 1 ≤ new.writer → (f ≢ Field.Tag → length new.bytes ≡ length old.bytes) → IsMadeOf whole touch (with_part f (Some new) version) }
+    ensures absent { (whole : PlainApart) (touch : Touch) (version : PlainVersion) (f : Field) → IsMadeOf whole touch version → parts_in version f ≡ None → IsMadeOf whole touch (with_part f None version) }
 {}
 
 /// A packet that was dealt and that nobody wrote goes on as the same frame.

@@ -1,13 +1,13 @@
 //! How a packet is put together behind a stage.
 
-ghost use Rattle.std.specs.Prelude.{◌≡◌, ◌≢◌, ◌<◌, ◌^◌, [], length, map, position};
+ghost use Rattle.std.specs.Prelude.{◌≡◌, ◌≢◌, ◌<◌, ◌^◌, [], length, map, position, true};
 ghost use Rattle.packet_fields.specs.declared.field.Field.{Field};
 ghost use Rattle.action_profile.specs.FieldSets.{all_fields as every_field};
 ghost use Rattle.packet_version.specs.Parts.{as_list, changed};
-ghost use Rattle.packet_version.specs.Slots.{AreTags};
+ghost use Rattle.packet_version.specs.Parts.{AreTags};
 ghost use Rattle.packet_version.specs.Splitting.{parts_of};
-ghost use Rattle.merge_ops.specs.Merging.{op_of, last_writer};
-ghost use Rattle.merge_ops.specs.Taking.{branch_of, source as source_of, part_behind, merged_parts, with_parts, writes_in, merged, IsWriting, SameIn};
+ghost use Rattle.merge_ops.specs.Merging.{op_of, writer_of};
+ghost use Rattle.merge_ops.specs.Taking.{branch_of, source as source_of, part_behind, merged_parts, with_parts, writes_in, arrival_at, merged, IsWriting, IsWritten, SameIn};
 ghost use Rattle.merge_ops.specs.Behind.{AreArrivals};
 
 use crate::arrival::Arrival;
@@ -56,7 +56,6 @@ pub fn merge<R: Wait>(rt: &R, base: Base, arrivals: &mut Vec<Arrival>) -> Merged
 fn put_parts(gathered: &mut Gathered, arrivals: &mut [Arrival], ops: &[MergeOp; 10])
     requires listed { gathered.old.parts ≡ as_list (parts_of gathered.old) }
     requires ops { ops.now ≡ map (op_of arrivals.old) every_field }
-    requires writing { (f : Field) → IsWriting f arrivals.old (last_writer arrivals.old f) }
     ensures parts { gathered.new ≡ with_parts gathered.old (merged_parts gathered.old arrivals.old) }
     ensures tags { AreTags (parts_of gathered.old Field.Tag) → AreTags (parts_of gathered.new Field.Tag) }
 {
@@ -68,7 +67,7 @@ fn put_parts(gathered: &mut Gathered, arrivals: &mut [Arrival], ops: &[MergeOp; 
 /// Puts the part of a field in, where a branch has it.
 fn put_part(gathered: &mut Gathered, arrivals: &mut [Arrival], field: Field, op: MergeOp)
     requires listed { gathered.old.parts ≡ as_list (parts_of gathered.old) }
-    requires writing { IsWriting field arrivals.old (branch_of op) }
+    requires written { IsWritten field arrivals.old (branch_of op) }
     ensures part { gathered.new ≡ with_parts gathered.old (changed field (part_behind field arrivals.old (branch_of op) (parts_of gathered.old field)) (parts_of gathered.old)) }
     ensures tags { AreTags (parts_of gathered.old Field.Tag) → AreTags (parts_of gathered.new Field.Tag) }
     ensures others { (f : Field) → f ≢ field → SameIn f arrivals.old arrivals.new }
@@ -83,13 +82,13 @@ fn put_part(gathered: &mut Gathered, arrivals: &mut [Arrival], field: Field, op:
 
 /// The branch that the part of a field is taken from.
 fn source(gathered: &Gathered, arrivals: &[Arrival], field: Field, op: MergeOp) -> Option<usize>
-    requires writing { IsWriting field arrivals.now (branch_of op) }
+    requires written { IsWritten field arrivals.now (branch_of op) }
     ensures branch { result ≡ source_of field arrivals.now (branch_of op) (parts_of gathered.now field) }
     ensures writing { IsWriting field arrivals.now result }
 {
     match op {
-        MergeOp::Modify(branch) => Some(branch as usize),
-        MergeOp::SetTags(branch) => Some(branch as usize),
+        MergeOp::Modify(branch) => Some(writing(arrivals, field, branch)),
+        MergeOp::SetTags(branch) => Some(writing(arrivals, field, branch)),
         MergeOp::Keep => {
             if gathered.has(field) {
                 return None;
@@ -97,6 +96,18 @@ fn source(gathered: &Gathered, arrivals: &[Arrival], field: Field, op: MergeOp) 
             first_writing(arrivals, field)
         }
     }
+}
+
+/// The branch, which wrote the field, as one that writes it.
+fn writing(arrivals: &[Arrival], field: Field, branch: u32) -> usize
+    requires within { branch < length arrivals.now }
+    requires wrote { 0 < writer_of field (arrival_at arrivals.now branch) }
+    ensures branch { result ≡ branch }
+    ensures writes { writes_in field (arrival_at arrivals.now branch) ≡ true }
+{
+    let branch = branch as usize;
+    arrivals[branch].wrote_its_own();
+    branch
 }
 
 /// The first branch that writes the field.

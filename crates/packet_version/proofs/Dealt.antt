@@ -1,66 +1,68 @@
 -- A part that is dealt by the mode of its field.
-use Rattle.std.proofs.Common.{◌≡◌, ◌∙◌, ◌-◌, ℕ, Bool, true, false, List, [], ◌∷◌, map, sym, ap, refl, arith}
-use Rattle.std.specs.Prelude.{if◌then◌else◌, count_by, position, Option, Some, None, OnOk, Result, Ok, Err, ◌||◌}
+use Rattle.std.proofs.Common.{rules, ◌≡◌, ◌∙◌, ◌-◌, ℕ, Bool, true, false, List, [], ◌∷◌, map, sym, ap, refl, subst, arith}
+use mathlib.Core.Path.{fun_ext}
+use Rattle.std.specs.Prelude.{if◌then◌else◌, count_by, position, Option, Some, None, option_map, OnOk, Result, Ok, Err, ◌||◌, ◌&&◌, not, ◌==◌}
 use Rattle.std.specs.List.{list_any}
+use Rattle.std.specs.Int.{bit_at}
+use Rattle.std.proofs.lemmas.Bool.{false≢true}
+use Rattle.packet_fields.specs.Fields.{number_of}
 use Rattle.packet_fields.specs.declared.field.Field.{Field}
-use Rattle.action_profile.specs.FieldSets.{has}
+use Rattle.packet_fields.specs.declared.field.Field.TheVariants.{Tag}
+use Rattle.action_profile.specs.FieldSets.{has, joined}
+use Rattle.action_profile.proofs.Bits.{has_joined}
 use Rattle.action_profile.specs.Modes.{has_write, has_touch, only_reads, mode_of, copies_by_mode}
 use Rattle.action_profile.specs.declared.parts.Mode.{Mode}
 use Rattle.action_profile.specs.declared.parts.Mode.TheVariants.{Shared, Moved, Copied}
-use Rattle.packet_version.specs.Parts.{PlainPart}
-use Rattle.packet_version.specs.Versions.{PlainVersion}
-use Rattle.packet_version.specs.Dealing.{copies_due}
-use Rattle.packet_version.specs.Handing.{touches_in, lent_to, dealt_to, dealt_some, writers_in}
-use Rattle.packet_version.proofs.Firsts.{count-map, count-weaker, any-none, none-map}
+use Rattle.action_profile.specs.declared.parts.Touch.{Touch}
+use Rattle.chain_walk.specs.declared.fixed.Fixed.{Fixed}
+use Rattle.packet_version.specs.Parts.{PlainPart, Parts, as_list, unwritten, writer_in, AreTags}
+use Rattle.packet_version.specs.Versions.{PlainVersion, nothing, had_by}
+use Rattle.packet_version.specs.Dealing.{dealt_version, is_given, kept_parts, copies_due}
+use Rattle.packet_version.specs.Handing.{touches_in, copied_some, copies_of, own_parts, with_own, with_loan, lent_to, reads_more, writers_in}
+use Rattle.packet_version.proofs.Firsts.{NoneOf, count-map, count-weaker, any-none, none-map}
+use Rattle.packet_version.proofs.Maps.{as_map-listed}
 use Rattle.packet_version.proofs.Modal.{shared_unwritten, moved_given, copied_given, copied_lent}
-use Rattle.packet_version.proofs.Originals.{all_lent}
+use Rattle.packet_version.proofs.Originals.{none_copied}
 
 -- what follows on an Ok follows from what holds there
 pub on_ok : {T E : Type 0} (r : Result T E) (P Q : Type 0) → (P → Q) → OnOk r P → OnOk r Q
 on_ok (Ok x) P Q follows p = follows p
 on_ok (Err e) P Q follows p = tt
 
--- an absent field changes no version
-pub none_dealt : (f : Field) (part : Option PlainPart) (vs : List PlainVersion) → part ≡ None → vs ≡ map (dealt_some f part) vs
-none_dealt f part vs is = sym (ap (λ (o : Option PlainPart). map (dealt_some f o) vs) is ∙ same vs)
+due_by : (f : Field) (o : Option PlainPart) (vs : List PlainVersion) (m : Mode) (n : ℕ) → m ≡ mode_of (touches_in vs) f → n ≡ copies_by_mode m (touches_in vs) f → copies_of o n ≡ copies_due (touches_in vs) f o
+due_by f None vs m n mode is = refl
+due_by f (Some p) vs m n mode is = is ∙ ap (λ (k : Mode). copies_by_mode k (touches_in vs) f) mode
+
+-- where no branch writes the field no copy is due
+pub shared_due : (f : Field) (o : Option PlainPart) (vs : List PlainVersion) (m : Mode) → m ≡ Shared → m ≡ mode_of (touches_in vs) f → 0 ≡ copies_due (touches_in vs) f o
+shared_due f o vs m shared mode = sym (none_of o) ∙ due_by f o vs m 0 mode (sym (ap (λ (k : Mode). copies_by_mode k (touches_in vs) f) shared))
   where
-    same : (ws : List PlainVersion) → map (dealt_some f None) ws ≡ ws
-    same [] = refl
-    same (w ∷ ws) = ap (λ (xs : List PlainVersion). w ∷ xs) (same ws)
-
--- a part that is there is dealt as such
-pub some_dealt : (f : Field) (part : Option PlainPart) (p : PlainPart) (vs now : List PlainVersion) → part ≡ Some p → now ≡ map (dealt_to f p) vs → now ≡ map (dealt_some f part) vs
-some_dealt f part p vs now is dealt = dealt ∙ sym (ap (λ (o : Option PlainPart). map (dealt_some f o) vs) is)
-
-due_by : (f : Field) (part : Option PlainPart) (p : PlainPart) (vs : List PlainVersion) (m : Mode) → part ≡ Some p → m ≡ mode_of (touches_in vs) f → copies_due (touches_in vs) f part ≡ copies_by_mode m (touches_in vs) f
-due_by f part p vs m is mode = ap (λ (o : Option PlainPart). copies_due (touches_in vs) f o) is ∙ ap (λ (k : Mode). copies_by_mode k (touches_in vs) f) (sym mode)
+    none_of : (p : Option PlainPart) → copies_of p 0 ≡ 0
+    none_of None = refl
+    none_of (Some q) = refl
 
 writers_are : (f : Field) (vs : List PlainVersion) → count_by (has_write f) (touches_in vs) ≡ writers_in f vs
 writers_are f vs = count-map (has_write f) (λ v. v.touch) vs
 
 -- a shared field
-pub shared_dealt : (f : Field) (part : Option PlainPart) (p : PlainPart) (vs now : List PlainVersion) (m : Mode) → part ≡ Some p → m ≡ Shared → m ≡ mode_of (touches_in vs) f → now ≡ map (lent_to f p) vs → now ≡ map (dealt_some f part) vs
-shared_dealt f part p vs now m is shared mode lent =
-    some_dealt f part p vs now is (lent ∙ all_lent f p vs (none-map (has_write f) (λ v. v.touch) vs (shared_unwritten (touches_in vs) f (sym shared ∙ mode))))
+pub shared_alone : (f : Field) (o : Option PlainPart) (vs : List PlainVersion) (m : Mode) → m ≡ Shared → m ≡ mode_of (touches_in vs) f → vs ≡ map (copied_some f o) vs
+shared_alone f o vs m shared mode = none_copied f o vs (none-map (has_write f) (λ v. v.touch) vs (shared_unwritten (touches_in vs) f (sym shared ∙ mode)))
 
 -- a moved field
 pub moved_first : (f : Field) (vs : List PlainVersion) (m : Mode) (first : ℕ) → m ≡ Moved first → m ≡ mode_of (touches_in vs) f → position (has_write f) (touches_in vs) ≡ Some first
 moved_first f vs m first moved mode = (moved_given (touches_in vs) f first (sym moved ∙ mode)).0.place
 
-pub moved_alone : (f : Field) (vs : List PlainVersion) (m : Mode) (first : ℕ) → m ≡ Moved first → m ≡ mode_of (touches_in vs) f → list_any (only_reads f) (touches_in vs) ≡ false
-moved_alone f vs m first moved mode = any-none (only_reads f) (touches_in vs) (moved_given (touches_in vs) f first (sym moved ∙ mode)).0.alone
-
 touched : (r w : Bool) → w ≡ true → (r || w) ≡ true
 touched true w e = refl
 touched false w e = e
 
-pub moved_due : (f : Field) (part : Option PlainPart) (p : PlainPart) (vs : List PlainVersion) (m : Mode) (first : ℕ) → part ≡ Some p → m ≡ Moved first → m ≡ mode_of (touches_in vs) f → writers_in f vs - 1 ≡ copies_due (touches_in vs) f part
-moved_due f part p vs m first is moved mode =
-    let due : copies_due (touches_in vs) f part ≡ 0 = due_by f part p vs m is mode ∙ ap (λ (k : Mode). copies_by_mode k (touches_in vs) f) moved in
+pub moved_due : (f : Field) (o : Option PlainPart) (vs : List PlainVersion) (m : Mode) (first : ℕ) → m ≡ Moved first → m ≡ mode_of (touches_in vs) f → copies_of o (writers_in f vs - 1) ≡ copies_due (touches_in vs) f o
+moved_due f o vs m first moved mode =
+    let due : copies_by_mode m (touches_in vs) f ≡ 0 = ap (λ (k : Mode). copies_by_mode k (touches_in vs) f) moved in
     let one = (moved_given (touches_in vs) f first (sym moved ∙ mode)).1 in
     let few = count-weaker (has_write f) (has_touch f) (λ t. touched (has t.reads f) (has t.writes f)) (touches_in vs) in
     let are = writers_are f vs in
-    omega arith
+    due_by f o vs m (writers_in f vs - 1) mode (omega arith)
 
 -- a field of which every branch that touches it writes it
 pub copied_first : (f : Field) (vs : List PlainVersion) (m : Mode) (first : ℕ) → m ≡ Copied (Some first) → m ≡ mode_of (touches_in vs) f → position (has_write f) (touches_in vs) ≡ Some first
@@ -69,17 +71,115 @@ copied_first f vs m first copied mode = (copied_given (touches_in vs) f first (s
 pub copied_alone : (f : Field) (vs : List PlainVersion) (m : Mode) (first : ℕ) → m ≡ Copied (Some first) → m ≡ mode_of (touches_in vs) f → list_any (only_reads f) (touches_in vs) ≡ false
 copied_alone f vs m first copied mode = (copied_given (touches_in vs) f first (sym copied ∙ mode)).1
 
-pub copied_due : (f : Field) (part : Option PlainPart) (p : PlainPart) (vs : List PlainVersion) (m : Mode) (first : ℕ) → part ≡ Some p → m ≡ Copied (Some first) → m ≡ mode_of (touches_in vs) f → writers_in f vs - 1 ≡ copies_due (touches_in vs) f part
-copied_due f part p vs m first is copied mode =
+pub copied_due : (f : Field) (o : Option PlainPart) (vs : List PlainVersion) (m : Mode) (first : ℕ) → m ≡ Copied (Some first) → m ≡ mode_of (touches_in vs) f → copies_of o (writers_in f vs - 1) ≡ copies_due (touches_in vs) f o
+copied_due f o vs m first copied mode =
     let n = count_by (has_write f) (touches_in vs) in
-    sym (due_by f part p vs m is mode
-    ∙ (ap (λ (k : Mode). copies_by_mode k (touches_in vs) f) copied
+    due_by f o vs m (writers_in f vs - 1) mode (sym (ap (λ (k : Mode). copies_by_mode k (touches_in vs) f) copied
     ∙ (ap (λ (b : Bool). if b then n else n - 1) (copied_alone f vs m first copied mode) ∙ ap (λ (k : ℕ). k - 1) (writers_are f vs))))
 
 -- a field of which some branch has a copy beside a loan
-pub lent_due : (f : Field) (part : Option PlainPart) (p : PlainPart) (vs : List PlainVersion) (m : Mode) → part ≡ Some p → m ≡ Copied None → m ≡ mode_of (touches_in vs) f → writers_in f vs ≡ copies_due (touches_in vs) f part
-lent_due f part p vs m is copied mode =
+pub lent_due : (f : Field) (o : Option PlainPart) (vs : List PlainVersion) (m : Mode) → m ≡ Copied None → m ≡ mode_of (touches_in vs) f → copies_of o (writers_in f vs) ≡ copies_due (touches_in vs) f o
+lent_due f o vs m copied mode =
     let n = count_by (has_write f) (touches_in vs) in
-    sym (due_by f part p vs m is mode
-    ∙ (ap (λ (k : Mode). copies_by_mode k (touches_in vs) f) copied
+    due_by f o vs m (writers_in f vs) mode (sym (ap (λ (k : Mode). copies_by_mode k (touches_in vs) f) copied
     ∙ (ap (λ (b : Bool). if b then n else n - 1) (copied_lent (touches_in vs) f (sym copied ∙ mode)) ∙ writers_are f vs)))
+
+-- no branch only reads a field whose original goes to a branch
+given_alone : (m : Mode) (ts : List Touch) (f : Field) → m ≡ mode_of ts f → is_given m ≡ true → NoneOf (only_reads f) ts
+given_alone Shared ts f mode given = absurd (cc)
+given_alone (Moved first) ts f mode given = (moved_given ts f first mode).0.alone
+given_alone (Copied None) ts f mode given = absurd (cc)
+given_alone (Copied (Some first)) ts f mode given = (copied_given ts f first mode).0.alone
+
+-- so what is kept is there for those that only read it
+abbrev AreKept : List Touch → Parts → Parts → Type 0
+AreKept ts parts kept = (f : Field) → list_any (only_reads f) ts ≡ true → kept f ≡ option_map unwritten (parts f)
+
+are_kept : (ts : List Touch) (parts : Parts) → AreKept ts parts (kept_parts ts parts)
+are_kept ts parts f some = by_test (is_given (mode_of ts f)) refl
+  where
+    by_test : (b : Bool) → is_given (mode_of ts f) ≡ b → (if is_given (mode_of ts f) then None else option_map unwritten (parts f)) ≡ option_map unwritten (parts f)
+    by_test true e = absurd (false≢true (sym (any-none (only_reads f) ts (given_alone (mode_of ts f) ts f refl e)) ∙ some))
+    by_test false e = ap (λ (b : Bool). if b then None else option_map unwritten (parts f)) e
+
+first_any : (f : Field) (t : Touch) (ts : List Touch) → only_reads f t ≡ true → list_any (only_reads f) (t ∷ ts) ≡ true
+first_any f t ts e = ap (λ (b : Bool). b || list_any (only_reads f) ts) e
+
+later_any : (f : Field) (t : Touch) (ts : List Touch) → list_any (only_reads f) ts ≡ true → list_any (only_reads f) (t ∷ ts) ≡ true
+later_any f t ts e = by_test (only_reads f t)
+  where
+    by_test : (b : Bool) → (b || list_any (only_reads f) ts) ≡ true
+    by_test true = refl
+    by_test false = e
+
+-- what a branch is dealt, by what it reads and writes
+dealt_by : (r w : Bool) (o k : Option PlainPart) → ((r && not w) ≡ true → k ≡ o) → (if w then (if w then o else None) else (if r && not w then k else None)) ≡ (if r || w then o else None)
+dealt_by true true o k kept = refl
+dealt_by true false o k kept = kept refl
+dealt_by false true o k kept = refl
+dealt_by false false o k kept = refl
+
+loan_dealt : (parts kept : Parts) (v : PlainVersion) → ((f : Field) → only_reads f v.touch ≡ true → kept f ≡ option_map unwritten (parts f)) → with_loan kept (with_own parts v) ≡ dealt_version parts v.fixed v.touch
+loan_dealt parts kept v are =
+    ap (λ (m : Parts). let x : PlainVersion = record { parts = as_list (had_by v.touch m kept); touch = v.touch; fixed = v.fixed } in x) (as_map-listed (own_parts v.touch parts))
+    ∙ ap (λ (m : Parts). let x : PlainVersion = record { parts = as_list m; touch = v.touch; fixed = v.fixed } in x)
+    (fun_ext (λ f. dealt_by (has v.touch.reads f) (has v.touch.writes f) (option_map unwritten (parts f)) (kept f) (are f)))
+
+not_more : (a b : ℕ) → not (a == b) ≡ false → a ≡ b
+not_more a b e = search rules
+
+-- a branch that reads no more than it writes
+no_more : (touch : Touch) (f : Field) → reads_more touch ≡ false → has_touch f touch ≡ has_write f touch
+unfolding reads_more
+no_more touch f e =
+    sym (has_joined touch.reads touch.writes f) ∙ ap (λ (n : ℕ). bit_at n (number_of f) == 1) (not_more (joined touch.reads touch.writes).0 touch.writes.0 e)
+
+lent_dealt : (parts kept : Parts) (v : PlainVersion) → ((f : Field) → only_reads f v.touch ≡ true → kept f ≡ option_map unwritten (parts f)) → lent_to kept (with_own parts v) ≡ dealt_version parts v.fixed v.touch
+lent_dealt parts kept v are = by_test (reads_more v.touch) refl
+  where
+    by_test : (b : Bool) → reads_more v.touch ≡ b → (if b then with_loan kept (with_own parts v) else with_own parts v) ≡ dealt_version parts v.fixed v.touch
+    by_test true e = loan_dealt parts kept v are
+    by_test false e =
+        ap (λ (m : Parts). let x : PlainVersion = record { parts = as_list m; touch = v.touch; fixed = v.fixed } in x)
+        (fun_ext (λ f. ap (λ (b : Bool). if b then option_map unwritten (parts f) else None) (sym (no_more v.touch f e))))
+
+-- versions with parts of their own and a loan are those that are dealt
+pub all_dealt : (parts kept : Parts) (vs : List PlainVersion) → AreKept (touches_in vs) parts kept → map (lent_to kept) (map (with_own parts) vs) ≡ map (λ v. dealt_version parts v.fixed v.touch) vs
+all_dealt parts kept [] are = refl
+all_dealt parts kept (v ∷ vs) are =
+    ap (λ (x : PlainVersion). x ∷ map (lent_to kept) (map (with_own parts) vs)) (lent_dealt parts kept v (λ f e. are f (first_any f v.touch (touches_in vs) e)))
+    ∙ ap (λ (xs : List PlainVersion). dealt_version parts v.fixed v.touch ∷ xs) (all_dealt parts kept vs (λ f e. are f (later_any f v.touch (touches_in vs) e)))
+
+empty_dealt : (ts : List Touch) (parts : Parts) (fixed : Fixed) → map (λ v. dealt_version parts v.fixed v.touch) (map (λ t. nothing t fixed) ts) ≡ map (dealt_version parts fixed) ts
+empty_dealt [] parts fixed = refl
+empty_dealt (t ∷ ts) parts fixed = ap (λ (xs : List PlainVersion). dealt_version parts fixed t ∷ xs) (empty_dealt ts parts fixed)
+
+touches_empty : (ts : List Touch) (fixed : Fixed) → touches_in (map (λ t. nothing t fixed) ts) ≡ ts
+touches_empty [] fixed = refl
+touches_empty (t ∷ ts) fixed = ap (λ (us : List Touch). t ∷ us) (touches_empty ts fixed)
+
+-- and so are those of a stage
+pub stage_dealt : (ts : List Touch) (parts : Parts) (fixed : Fixed) (vs owned lent : List PlainVersion) → vs ≡ map (λ t. nothing t fixed) ts → owned ≡ map (with_own parts) vs → lent ≡ map (lent_to (kept_parts ts parts)) owned → lent ≡ map (dealt_version parts fixed) ts
+stage_dealt ts parts fixed vs owned lent empty own loan =
+    let touches : touches_in vs ≡ ts = ap touches_in empty ∙ touches_empty ts fixed in
+    loan
+    ∙ (ap (λ (xs : List PlainVersion). map (lent_to (kept_parts ts parts)) xs) own
+    ∙ (all_dealt parts (kept_parts ts parts) vs (subst (λ (us : List Touch). AreKept us parts (kept_parts ts parts)) (sym touches) (are_kept ts parts))
+    ∙ (ap (λ (xs : List PlainVersion). map (λ v. dealt_version parts v.fixed v.touch) xs) empty ∙ empty_dealt ts parts fixed)))
+
+-- nobody is the writer of what is kept, and its tags are whole
+pub kept_unwritten : (ts : List Touch) (parts : Parts) (f : Field) → writer_in (kept_parts ts parts f) ≡ 0
+kept_unwritten ts parts f = by_test (is_given (mode_of ts f)) (parts f)
+  where
+    by_test : (b : Bool) (o : Option PlainPart) → writer_in (if b then None else option_map unwritten o) ≡ 0
+    by_test true o = refl
+    by_test false None = refl
+    by_test false (Some p) = refl
+
+pub kept_tags : (ts : List Touch) (parts : Parts) → AreTags (parts Tag) → AreTags (kept_parts ts parts Tag)
+kept_tags ts parts tags = by_test (is_given (mode_of ts Tag)) (parts Tag) tags
+  where
+    by_test : (b : Bool) (o : Option PlainPart) → AreTags o → AreTags (if b then None else option_map unwritten o)
+    by_test true o whole = tt
+    by_test false None whole = tt
+    by_test false (Some p) whole = whole

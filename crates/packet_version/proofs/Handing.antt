@@ -2,10 +2,10 @@
 use Rattle.std.proofs.Common.{◌≡◌, ◌∙◌, ◌<◌, ◌+◌, ◌-◌, ℕ, Bool, true, false, List, take, drop, sym, ap, subst, get_or, length, arith}
 use Rattle.std.specs.Prelude.{if◌then◌else◌, OnErr, Result, Ok, Err}
 use Rattle.packet_fields.specs.declared.field.Field.{Field}
-use Rattle.action_profile.specs.Modes.{has_write, only_reads}
+use Rattle.action_profile.specs.Modes.{has_write}
 use Rattle.packet_version.specs.Tallies.{RaisesBy, RaisesAtMost}
 use Rattle.packet_version.specs.Versions.{PlainVersion}
-use Rattle.packet_version.specs.Handing.{writers_in, readers_in}
+use Rattle.packet_version.specs.Handing.{writers_in, readers_in, reads_more}
 use Rattle.packet_version.proofs.Mapping.{count_next, count_some, count_left}
 use Rattle.packet_version.proofs.Counting.{raises_twice, raises_within}
 
@@ -30,8 +30,8 @@ minus_plus true left more is = omega arith
 minus_plus false left more is = omega arith
 
 -- the readers that are left, one branch further
-pub readers_next : (f : Field) (versions : List PlainVersion) (k : ℕ) (version d : PlainVersion) (left next : ℕ) → k < length versions → version ≡ get_or versions k d → left ≡ readers_in f (drop k versions) → next ≡ left - (if only_reads f version.touch then 1 else 0) → next ≡ readers_in f (drop (k + 1) versions)
-readers_next f versions k version d left next below read before is =
+pub readers_next : (versions : List PlainVersion) (k : ℕ) (version d : PlainVersion) (left next : ℕ) → k < length versions → version ≡ get_or versions k d → left ≡ readers_in (drop k versions) → next ≡ left - (if reads_more version.touch then 1 else 0) → next ≡ readers_in (drop (k + 1) versions)
+readers_next versions k version d left next below read before is =
     is
-    ∙ minus_plus (only_reads f version.touch) left (readers_in f (drop (k + 1) versions))
-    (before ∙ (count_left (λ v. only_reads f v.touch) versions k d below ∙ ap (λ (v : PlainVersion). (if only_reads f v.touch then 1 else 0) + readers_in f (drop (k + 1) versions)) (sym read)))
+    ∙ minus_plus (reads_more version.touch) left (readers_in (drop (k + 1) versions))
+    (before ∙ (count_left (λ v. reads_more v.touch) versions k d below ∙ ap (λ (v : PlainVersion). (if reads_more v.touch then 1 else 0) + readers_in (drop (k + 1) versions)) (sym read)))

@@ -1,5 +1,5 @@
 -- A frame that goes together again, field by field.
-use Rattle.std.proofs.Common.{◌≡◌, ◌∙◌, ◌<◌, ◌≤◌, ◌+◌, ℕ, List, [], ◌∷◌, map, sym, ap, refl, subst, get_or, length, drop}
+use Rattle.std.proofs.Common.{false, ◌≡◌, ◌∙◌, ◌<◌, ◌≤◌, ◌+◌, ℕ, List, [], ◌∷◌, sym, ap, refl, subst, get_or, length, drop}
 use mathlib.Core.Path.{fun_ext}
 use Rattle.std.specs.Prelude.{Option, Some, None, IfSome, is_some, option_map}
 use Rattle.std.proofs.lemmas.Option.{same_Some}
@@ -7,10 +7,13 @@ use Rattle.std.specs.Option.{option_or}
 use Rattle.packet_fields.specs.Fields.{value}
 use Rattle.packet_fields.specs.Writing.{put, put_some, Fits, written_in, written, all_fields, AllFit, fields_of, blank, rest_of}
 use Rattle.packet_fields.specs.declared.field.Field.{Field}
-use Rattle.packet_fields.proofs.Walk.{all_fit_after, written-written, written-rest, blanks, blanks_fit, fields_fit}
-use Rattle.packet_version.specs.Parts.{PlainPart, Parts, as_map, values_of}
+use Rattle.packet_fields.proofs.Walk.{all_fit_after, written-written, written-own, written-rest, blanks, blanks_fit, fields_fit}
+use Rattle.packet_version.specs.Parts.{PlainPart, Parts, values_of, writer_in}
 use Rattle.packet_version.specs.Splitting.{IsWhole, split_parts, fresh, spare_room}
-use Rattle.packet_version.proofs.Maps.{as_map-listed, left_at}
+use Rattle.packet_version.specs.Places.{place_of, part_in, parts_in, beside, parts_beside}
+use Rattle.packet_version.specs.declared.place.Place.{Place}
+use Rattle.packet_version.specs.declared.place.Place.TheVariants.{Inside, Gone, Outside}
+use Rattle.packet_version.proofs.Maps.{left_at}
 use Rattle.packet_fields.specs.declared.field.Field.TheVariants.{LinkDst}
 use Rattle.std.proofs.Math.ListN.{drop_of_length-le}
 
@@ -60,7 +63,7 @@ written-whole parts frame w =
     written-written (values_of parts) (blanks frame) frame w.fits (blanks_fit frame)
     ∙ ap (λ (v : Field → Option (List ℕ)). written v frame) (fun_ext (λ f. covers (blank f) (values_of parts f) (value f frame) (some_value (parts f) ∙ w.there f)))
 
-fresh_value : (spare : ℕ) (o : Option (List ℕ)) → option_map (λ p. p.bytes) (option_map (fresh spare) o) ≡ o
+pub fresh_value : (spare : ℕ) (o : Option (List ℕ)) → option_map (λ p. p.bytes) (option_map (fresh spare) o) ≡ o
 fresh_value spare None = refl
 fresh_value spare (Some v) = refl
 
@@ -82,6 +85,14 @@ split_whole taggers frame = record {
 pub joined_again : (taggers : ℕ) (frame : List ℕ) → written (values_of (split_parts taggers frame)) (rest_of frame) ≡ frame
 joined_again taggers frame = ap (λ (v : Field → Option (List ℕ)). written v (rest_of frame)) (values-split taggers frame) ∙ written-rest frame
 
+fresh_writer : (spare : ℕ) (o : Option (List ℕ)) → writer_in (option_map (fresh spare) o) ≡ 0
+fresh_writer spare None = refl
+fresh_writer spare (Some v) = refl
+
+-- nobody wrote the parts of a frame
+pub split_unwritten : (taggers : ℕ) (frame : List ℕ) (f : Field) → writer_in (split_parts taggers frame f) ≡ 0
+split_unwritten taggers frame f = fresh_writer (spare_room taggers f) (value f frame)
+
 -- one turn at a field whose part is there
 pub turn_some : (parts : Parts) (fields : List Field) (i : ℕ) (bytes next whole new : List ℕ) (p : PlainPart) → i < length fields → parts (get_or fields i LinkDst) ≡ Some p → new ≡ p.bytes → next ≡ put (get_or fields i LinkDst) new bytes → IsJoining (values_of parts) (drop i fields) bytes whole → IsJoining (values_of parts) (drop (i + 1) fields) next whole
 turn_some parts fields i bytes next whole new p below is new_is put_is j =
@@ -101,18 +112,32 @@ pub turns_over : (parts : Parts) (fields : List Field) (i : ℕ) (bytes whole : 
 turns_over parts fields i bytes whole past j =
     joining_over (values_of parts) bytes whole (subst (λ (fs : List Field). IsJoining (values_of parts) fs bytes whole) (drop_of_length-le fields past) j)
 
--- parts that were made of a frame, field by field
-pub made_parts : (taggers : ℕ) (frame raw : List ℕ) (items : List (Option PlainPart)) → raw ≡ frame → items ≡ map (split_parts taggers raw) all_fields → as_map items ≡ split_parts taggers frame
-made_parts taggers frame raw items same made = ap as_map made ∙ as_map-listed (split_parts taggers raw) ∙ ap (λ (xs : List ℕ). split_parts taggers xs) same
-
-pub made_whole : (taggers : ℕ) (raw : List ℕ) (items : List (Option PlainPart)) → items ≡ map (split_parts taggers raw) all_fields → (length items ≡ 10) × IsWhole (as_map items) raw
-made_whole taggers raw items made =
-    (ap (λ (xs : List (Option PlainPart)). length xs) made, subst (λ (m : Parts). IsWhole m raw) (sym (made_parts taggers raw raw items refl made)) (split_whole taggers raw))
-
-pub made_again : (taggers : ℕ) (frame raw : List ℕ) (items : List (Option PlainPart)) → raw ≡ frame → items ≡ map (split_parts taggers raw) all_fields → written (values_of (as_map items)) (rest_of raw) ≡ frame
-made_again taggers frame raw items same made =
-    ap (λ (m : Parts). written (values_of m) (rest_of raw)) (made_parts taggers raw raw items refl made) ∙ (joined_again taggers raw ∙ same)
-
 -- before the first turn
-pub turns_begin : (parts : Parts) (fields : List Field) (bytes : List ℕ) → fields ≡ all_fields → IsWhole parts bytes → IsJoining (values_of parts) fields bytes (written (values_of parts) bytes)
-turns_begin parts fields bytes is w = record { due = ap (λ (fs : List Field). written_in fs (values_of parts) bytes) is; fits = w.fits }
+pub turns_begin : (parts : Parts) (fields : List Field) (bytes : List ℕ) → fields ≡ all_fields → AllFit (values_of parts) bytes → IsJoining (values_of parts) fields bytes (written (values_of parts) bytes)
+turns_begin parts fields bytes is fits = record { due = ap (λ (fs : List Field). written_in fs (values_of parts) bytes) is; fits = fits }
+
+-- what a part beside the frame has is what the packet has
+beside_value : (taggers : ℕ) (frame : List ℕ) (f : Field) (p : Place) → is_some (part_in taggers frame f p) ≡ is_some (value f frame) → option_map (λ q. q.bytes) (part_in taggers frame f p) ≡ option_or (option_map (λ q. q.bytes) (beside p)) (value f frame)
+beside_value taggers frame f Inside there = fresh_value (spare_room taggers f) (value f frame)
+beside_value taggers frame f Gone there = none_there (value f frame) there
+  where
+    none_there : (o : Option (List ℕ)) → false ≡ is_some o → None ≡ o
+    none_there None e = refl
+    none_there (Some v) e = absurd (cc)
+beside_value taggers frame f (Outside part) there = refl
+
+beside_fits : (taggers : ℕ) (frame : List ℕ) (f : Field) (p : Place) → IfSome (option_map (λ q. q.bytes) (part_in taggers frame f p)) (λ v. Fits f v frame) → IfSome (option_map (λ q. q.bytes) (beside p)) (λ v. Fits f v frame)
+beside_fits taggers frame f Inside fits = tt
+beside_fits taggers frame f Gone fits = tt
+beside_fits taggers frame f (Outside part) fits = fits
+
+pub besides_fit : (taggers : ℕ) (frame : List ℕ) (places : List Place) → AllFit (values_of (parts_in taggers frame places)) frame → AllFit (values_of (parts_beside places)) frame
+besides_fit taggers frame places fits f = beside_fits taggers frame f (place_of places f) (fits f)
+
+-- it is enough to write what stands beside the frame
+pub joined_beside : (taggers : ℕ) (frame : List ℕ) (places : List Place) → IsWhole (parts_in taggers frame places) frame → written (values_of (parts_beside places)) frame ≡ written (values_of (parts_in taggers frame places)) (rest_of frame)
+joined_beside taggers frame places w =
+    sym (written-whole (parts_in taggers frame places) frame w
+    ∙ (ap (λ (v : Field → Option (List ℕ)). written v frame) (fun_ext (λ f. beside_value taggers frame f (place_of places f) (w.there f)))
+    ∙ (sym (written-written (values_of (parts_beside places)) (fields_of frame) frame (besides_fit taggers frame places w.fits) (fields_fit frame))
+    ∙ ap (λ (xs : List ℕ). written (values_of (parts_beside places)) xs) (written-own frame))))

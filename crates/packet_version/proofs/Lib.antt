@@ -1,7 +1,8 @@
 pub mod Maps
 pub mod Joining
-pub mod Slotting
-pub mod Editing
+pub mod Having
+pub mod Viewing
+pub mod Keeping
 pub mod Tagging
 pub mod Mapping
 pub mod Counting
@@ -16,5 +17,3 @@ pub mod Placing
 pub mod Rows
 pub mod Lawful
 pub mod Shaping
-pub mod Forming
-pub mod Keeping

@@ -1,17 +1,13 @@
 -- Parts that are put into the places of a list.
-use Rattle.std.proofs.Common.{◌≡◌, ◌≢◌, ◌∙◌, ◌<◌, ◌≤◌, ◌+◌, ℕ, Bool, true, false, List, map, sym, ap, get_or, length, set, arith, refl, lit<}
+use Rattle.std.proofs.Common.{◌≡◌, ◌≢◌, ◌∙◌, ◌<◌, ℕ, Bool, true, false, List, sym, ap, get_or, length, set, arith, refl, lit<}
 use mathlib.Core.Path.{fun_ext}
 use Rattle.std.specs.Prelude.{Option, None, if◌then◌else◌, ◌==◌}
 use Rattle.std.proofs.lemmas.Bool.Decides.{Decides-eqb}
-use Rattle.std.proofs.lemmas.List.{get_or-set_same, get_or-set_other, length-set, length-map}
-use Rattle.std.proofs.Math.ListN.{get_or-map}
+use Rattle.std.proofs.lemmas.List.{get_or-set_same, get_or-set_other, length-set}
 use Rattle.packet_fields.specs.Fields.{number_of}
 use Rattle.packet_fields.specs.declared.field.Field.{Field}
 use Rattle.packet_fields.specs.declared.field.Field.TheVariants.{LinkDst, LinkSrc, Tag, Tos, Ttl, SrcIp, DstIp, SrcPort, DstPort, Payload}
 use Rattle.packet_version.specs.Parts.{PlainPart, as_map, as_list, changed}
-use Rattle.packet_version.specs.Handing.{kept_in}
-use Rattle.packet_version.specs.declared.base.Kept.{Kept}
-use Rattle.packet_version.specs.declared.base.Kept.TheVariants.{Absent}
 use Rattle.packet_version.proofs.Maps.{as_list-again}
 
 -- what is read of a list once an item was put into a place
@@ -30,7 +26,8 @@ list_put parts n f o is below ten =
     sym (as_list-again (set parts n o) (length-set parts n o ∙ ten))
     ∙ ap as_list (fun_ext (λ g. read_set parts n (number_of g) o None (omega arith) ∙ ap (λ (k : ℕ). if k == number_of g then o else get_or parts (number_of g) None) is))
 
-number_below : (f : Field) → number_of f < 10
+-- a field has its number below ten
+pub number_below : (f : Field) → number_of f < 10
 number_below LinkDst = lit< tt
 number_below LinkSrc = lit< tt
 number_below Tag = lit< tt
@@ -42,31 +39,6 @@ number_below SrcPort = lit< tt
 number_below DstPort = lit< tt
 number_below Payload = lit< tt
 
--- the places before an index have what was kept
-abbrev pub Filled : ℕ → List Kept → List (Option PlainPart) → Type 0
-Filled i kept places = (k : ℕ) → k < i → get_or places k None ≡ kept_in (get_or kept k Absent)
-
--- what is kept from an index on is as it was
-abbrev pub KeptFrom : ℕ → List Kept → List Kept → Type 0
-KeptFrom i old now = (k : ℕ) → i ≤ k → get_or now k Absent ≡ get_or old k Absent
-
-pub kept_on : (i : ℕ) (old now : List Kept) (one : Kept) → KeptFrom i old now → KeptFrom (i + 1) old (set now i one)
-kept_on i old now one same k le =
-    let apart : k ≢ i = λ e. absurd (omega arith) in
-    get_or-set_other now i k one Absent apart ∙ same k (omega arith)
-
-pub filled_on : (i : ℕ) (kept : List Kept) (places : List (Option PlainPart)) (o : Option PlainPart) → i < length places → o ≡ kept_in (get_or kept i Absent) → Filled i kept places → Filled (i + 1) kept (set places i o)
-filled_on i kept places o inside is filled k below = read_set places i k o None inside ∙ by_test (i == k) refl
-  where
-    by_test : (b : Bool) → (i == k) ≡ b → (if b then o else get_or places k None) ≡ kept_in (get_or kept k Absent)
-    by_test true e = is ∙ ap (λ (j : ℕ). kept_in (get_or kept j Absent)) ((Decides-eqb i k).0 e)
-    by_test false e =
-        let apart : k ≢ i = λ same. (let t : (i == k) ≡ true = (Decides-eqb i k).1 (sym same) in cc) in
-        filled k (omega arith)
-
--- all places are filled
-pub filled_all : (i : ℕ) (kept : List Kept) (places : List (Option PlainPart)) → 10 ≤ i → length kept ≡ 10 → length places ≡ 10 → Filled i kept places → places ≡ map kept_in kept
-filled_all i kept places past ten_kept ten filled =
-    sym (as_list-again places ten)
-    ∙ (ap as_list (fun_ext (λ f. let below = number_below f in filled (number_of f) (omega arith) ∙ sym (get_or-map kept_in kept (number_of f) Absent)))
-    ∙ as_list-again (map kept_in kept) (length-map kept kept_in ∙ ten_kept))
+-- the map of a list of ten once a part was put into a field's place
+pub map_put : (parts : List (Option PlainPart)) (n : ℕ) (f : Field) (o : Option PlainPart) → n ≡ number_of f → n < length parts → as_map (set parts n o) ≡ changed f o (as_map parts)
+map_put parts n f o is below = fun_ext (λ g. read_set parts n (number_of g) o None below ∙ ap (λ (k : ℕ). if k == number_of g then o else get_or parts (number_of g) None) is)

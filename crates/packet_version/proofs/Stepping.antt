@@ -1,27 +1,24 @@
 -- The parts of a packet are dealt field by field.
-use Rattle.std.proofs.Common.{◌≡◌, ◌≢◌, ◌∙◌, ◌<◌, ◌≤◌, ◌+◌, ℕ, zero, suc, Bool, true, false, List, [], ◌∷◌, ◌++◌, map, take, sym, ap, refl, get_or, length, set, arith}
+use Rattle.std.proofs.Common.{◌≡◌, ◌≢◌, ◌∙◌, ◌<◌, ◌≤◌, ◌+◌, ℕ, zero, suc, Bool, true, false, List, [], ◌∷◌, map, sym, ap, refl, get_or, length, arith}
 use mathlib.Core.Path.{fun_ext}
 use Rattle.std.specs.Prelude.{if◌then◌else◌, Option, Some, None, option_map, nat_lt, IfSome}
 use Rattle.std.proofs.lemmas.Bool.Decides.{Decides-eqb, nat_tests}
-use Rattle.std.proofs.lemmas.List.{get_or-set_other, get_or_read_under, map-append}
 use Rattle.packet_fields.specs.Fields.{number_of}
 use Rattle.packet_fields.specs.Writing.{all_fields}
 use Rattle.packet_fields.specs.declared.field.Field.{Field}
 use Rattle.packet_fields.specs.declared.field.Field.TheVariants.{LinkDst, LinkSrc, Tag, Tos, Ttl, SrcIp, DstIp, SrcPort, DstPort, Payload}
-use Rattle.action_profile.specs.Modes.{has_touch, mode_of, modes_of}
+use Rattle.action_profile.specs.Modes.{has_write, mode_of, modes_of}
 use Rattle.action_profile.specs.declared.parts.Mode.{Mode}
 use Rattle.action_profile.specs.declared.parts.Touch.{Touch}
-use Rattle.packet_version.specs.Parts.{PlainPart, Parts, as_map, as_list, changed, is_field, unwritten}
+use Rattle.packet_version.specs.Parts.{PlainPart, Parts, as_list, changed, is_field, unwritten, AreTags}
 use Rattle.packet_version.specs.Tallies.{count_of, raised, RaisesBy, RaisesAtMost}
 use Rattle.packet_version.specs.Versions.{PlainVersion, with_part, nothing}
 use Rattle.packet_fields.specs.Writing.{Fits}
-use Rattle.packet_version.specs.Slots.{AreTags}
 use Rattle.packet_version.specs.Splitting.{IsWhole}
 use Rattle.chain_walk.specs.declared.fixed.Fixed.{Fixed}
-use Rattle.packet_version.specs.Dealing.{dealt_parts, dealt_version, kept_part, kept_parts}
-use Rattle.packet_version.specs.Handing.{touches_in, dealt_some, dealt_to, without_fields, kept_in}
-use Rattle.packet_version.specs.declared.base.Kept.{Kept}
-use Rattle.packet_version.proofs.Maps.{as_map-listed, listed_at, mapped_more, mapped_over}
+use Rattle.packet_version.specs.Dealing.{kept_part, kept_parts}
+use Rattle.packet_version.specs.Handing.{touches_in, copied_some, copied_to, own_parts, with_own, without_fields}
+use Rattle.packet_version.proofs.Maps.{as_map-listed, listed_at}
 use Rattle.packet_version.proofs.Counting.{raised_twice, raised_up, raised_more, raised_none}
 
 -- the field at an index has it as its number
@@ -70,7 +67,7 @@ other_next : {A : Type 0} (none : A) (i : ℕ) (values : Field → A) (g : Field
 other_next none i values g apart = ap (λ (b : Bool). if b then values g else none) (lt_other (number_of g) i apart)
 
 -- cases by whether two fields are one
-by_field : (f g : Field) (P : Type 0) → (f ≡ g → is_field f g ≡ true → P) → (number_of g ≢ number_of f → is_field f g ≡ false → P) → P
+pub by_field : (f g : Field) (P : Type 0) → (f ≡ g → is_field f g ≡ true → P) → (number_of g ≢ number_of f → is_field f g ≡ false → P) → P
 by_field f g P same other = by_test (is_field f g) refl
   where
     by_test : (b : Bool) → is_field f g ≡ b → P
@@ -120,84 +117,84 @@ before_all none values DstPort = refl
 before_all none values Payload = refl
 
 -- a version with the fields before an index
-abbrev pub first_dealt : ℕ → Parts → PlainVersion → PlainVersion
-first_dealt i parts v = record v { parts = as_list (before None i (dealt_parts v.touch parts)) }
+abbrev pub first_own : ℕ → Parts → PlainVersion → PlainVersion
+first_own i parts v = record v { parts = as_list (before None i (own_parts v.touch parts)) }
 
 none_both : (b : Bool) (o : Option PlainPart) → (if b then o else o) ≡ o
 none_both true o = refl
 none_both false o = refl
 
-dealt_none : (touch : Touch) (parts : Parts) (f : Field) → parts f ≡ None → dealt_parts touch parts f ≡ None
-dealt_none touch parts f none = ap (λ (o : Option PlainPart). if has_touch f touch then option_map unwritten o else None) none ∙ none_both (has_touch f touch) None
+own_none : (touch : Touch) (parts : Parts) (f : Field) → parts f ≡ None → own_parts touch parts f ≡ None
+own_none touch parts f none = ap (λ (o : Option PlainPart). if has_write f touch then option_map unwritten o else None) none ∙ none_both (has_write f touch) None
 
-dealt_by : (touch : Touch) (parts : Parts) (f : Field) (p : PlainPart) (b : Bool) → parts f ≡ Some p → has_touch f touch ≡ b → dealt_parts touch parts f ≡ (if b then Some (unwritten p) else None)
-dealt_by touch parts f p b is e = ap (λ (o : Option PlainPart). if has_touch f touch then option_map unwritten o else None) is ∙ ap (λ (c : Bool). if c then Some (unwritten p) else None) e
+own_by : (touch : Touch) (parts : Parts) (f : Field) (p : PlainPart) (b : Bool) → parts f ≡ Some p → has_write f touch ≡ b → own_parts touch parts f ≡ (if b then Some (unwritten p) else None)
+own_by touch parts f p b is e = ap (λ (o : Option PlainPart). if has_write f touch then option_map unwritten o else None) is ∙ ap (λ (c : Bool). if c then Some (unwritten p) else None) e
 
 abbrev with_parts : PlainVersion → Parts → PlainVersion
 with_parts v parts = record v { parts = as_list parts }
 
-stays_dealt : (f : Field) (i : ℕ) (parts : Parts) (v : PlainVersion) → number_of f ≡ i → dealt_parts v.touch parts f ≡ None → first_dealt i parts v ≡ first_dealt (i + 1) parts v
-stays_dealt f i parts v is none = ap (λ (ps : Parts). with_parts v ps) (fun_ext (λ g. before_same f i (dealt_parts v.touch parts) g is none))
+stays_own : (f : Field) (i : ℕ) (parts : Parts) (v : PlainVersion) → number_of f ≡ i → own_parts v.touch parts f ≡ None → first_own i parts v ≡ first_own (i + 1) parts v
+stays_own f i parts v is none = ap (λ (ps : Parts). with_parts v ps) (fun_ext (λ g. before_same f i (own_parts v.touch parts) g is none))
 
-gets_dealt : (f : Field) (i : ℕ) (parts : Parts) (v : PlainVersion) (o : Option PlainPart) → number_of f ≡ i → dealt_parts v.touch parts f ≡ o → with_part f o (first_dealt i parts v) ≡ first_dealt (i + 1) parts v
-gets_dealt f i parts v o is own =
-    ap (λ (ps : Parts). with_parts v (changed f o ps)) (as_map-listed (before None i (dealt_parts v.touch parts)))
-    ∙ (ap (λ (p : Option PlainPart). with_parts v (changed f p (before None i (dealt_parts v.touch parts)))) (sym own)
-    ∙ ap (λ (ps : Parts). with_parts v ps) (fun_ext (λ g. before_changed f i (dealt_parts v.touch parts) g is)))
+gets_own : (f : Field) (i : ℕ) (parts : Parts) (v : PlainVersion) (o : Option PlainPart) → number_of f ≡ i → own_parts v.touch parts f ≡ o → with_part f o (first_own i parts v) ≡ first_own (i + 1) parts v
+gets_own f i parts v o is own =
+    ap (λ (ps : Parts). with_parts v (changed f o ps)) (as_map-listed (before None i (own_parts v.touch parts)))
+    ∙ (ap (λ (p : Option PlainPart). with_parts v (changed f p (before None i (own_parts v.touch parts)))) (sym own)
+    ∙ ap (λ (ps : Parts). with_parts v ps) (fun_ext (λ g. before_changed f i (own_parts v.touch parts) g is)))
 
-dealt_step : (f : Field) (i : ℕ) (parts : Parts) (v : PlainVersion) → number_of f ≡ i → dealt_some f (parts f) (first_dealt i parts v) ≡ first_dealt (i + 1) parts v
-dealt_step f i parts v is = by_part (parts f) refl
+own_step : (f : Field) (i : ℕ) (parts : Parts) (v : PlainVersion) → number_of f ≡ i → copied_some f (parts f) (first_own i parts v) ≡ first_own (i + 1) parts v
+own_step f i parts v is = by_part (parts f) refl
   where
-    by_touch : (p : PlainPart) (b : Bool) → parts f ≡ Some p → has_touch f v.touch ≡ b → dealt_to f p (first_dealt i parts v) ≡ first_dealt (i + 1) parts v
-    by_touch p true own e =
-        ap (λ (c : Bool). if c then with_part f (Some (unwritten p)) (first_dealt i parts v) else first_dealt i parts v) e
-        ∙ gets_dealt f i parts v (Some (unwritten p)) is (dealt_by v.touch parts f p true own e)
-    by_touch p false own e =
-        ap (λ (c : Bool). if c then with_part f (Some (unwritten p)) (first_dealt i parts v) else first_dealt i parts v) e
-        ∙ stays_dealt f i parts v is (dealt_by v.touch parts f p false own e)
+    by_write : (p : PlainPart) (b : Bool) → parts f ≡ Some p → has_write f v.touch ≡ b → copied_to f p (first_own i parts v) ≡ first_own (i + 1) parts v
+    by_write p true own e =
+        ap (λ (c : Bool). if c then with_part f (Some (unwritten p)) (first_own i parts v) else first_own i parts v) e
+        ∙ gets_own f i parts v (Some (unwritten p)) is (own_by v.touch parts f p true own e)
+    by_write p false own e =
+        ap (λ (c : Bool). if c then with_part f (Some (unwritten p)) (first_own i parts v) else first_own i parts v) e
+        ∙ stays_own f i parts v is (own_by v.touch parts f p false own e)
 
-    by_part : (o : Option PlainPart) → parts f ≡ o → dealt_some f (parts f) (first_dealt i parts v) ≡ first_dealt (i + 1) parts v
-    by_part None own = ap (λ (o : Option PlainPart). dealt_some f o (first_dealt i parts v)) own ∙ stays_dealt f i parts v is (dealt_none v.touch parts f own)
-    by_part (Some p) own = ap (λ (o : Option PlainPart). dealt_some f o (first_dealt i parts v)) own ∙ by_touch p (has_touch f v.touch) own refl
+    by_part : (o : Option PlainPart) → parts f ≡ o → copied_some f (parts f) (first_own i parts v) ≡ first_own (i + 1) parts v
+    by_part None own = ap (λ (o : Option PlainPart). copied_some f o (first_own i parts v)) own ∙ stays_own f i parts v is (own_none v.touch parts f own)
+    by_part (Some p) own = ap (λ (o : Option PlainPart). copied_some f o (first_own i parts v)) own ∙ by_write p (has_write f v.touch) own refl
 
-all_step : (f : Field) (i : ℕ) (parts : Parts) (vs : List PlainVersion) → number_of f ≡ i → map (dealt_some f (parts f)) (map (first_dealt i parts) vs) ≡ map (first_dealt (i + 1) parts) vs
+all_step : (f : Field) (i : ℕ) (parts : Parts) (vs : List PlainVersion) → number_of f ≡ i → map (copied_some f (parts f)) (map (first_own i parts) vs) ≡ map (first_own (i + 1) parts) vs
 all_step f i parts [] is = refl
 all_step f i parts (v ∷ vs) is =
-    ap (λ (x : PlainVersion). x ∷ map (dealt_some f (parts f)) (map (first_dealt i parts) vs)) (dealt_step f i parts v is)
-    ∙ ap (λ (xs : List PlainVersion). first_dealt (i + 1) parts v ∷ xs) (all_step f i parts vs is)
+    ap (λ (x : PlainVersion). x ∷ map (copied_some f (parts f)) (map (first_own i parts) vs)) (own_step f i parts v is)
+    ∙ ap (λ (xs : List PlainVersion). first_own (i + 1) parts v ∷ xs) (all_step f i parts vs is)
 
 -- the versions once one field more was dealt
-pub versions_next : (f : Field) (i : ℕ) (parts : Parts) (part : Option PlainPart) (vs now new : List PlainVersion) → number_of f ≡ i → part ≡ parts f → now ≡ map (first_dealt i parts) vs → new ≡ map (dealt_some f part) now → new ≡ map (first_dealt (i + 1) parts) vs
+pub versions_next : (f : Field) (i : ℕ) (parts : Parts) (part : Option PlainPart) (vs now new : List PlainVersion) → number_of f ≡ i → part ≡ parts f → now ≡ map (first_own i parts) vs → new ≡ map (copied_some f part) now → new ≡ map (first_own (i + 1) parts) vs
 versions_next f i parts part vs now new is own was made =
-    made ∙ (ap (λ (xs : List PlainVersion). map (dealt_some f part) xs) was ∙ (ap (λ (o : Option PlainPart). map (dealt_some f o) (map (first_dealt i parts) vs)) own ∙ all_step f i parts vs is))
+    made ∙ (ap (λ (xs : List PlainVersion). map (copied_some f part) xs) was ∙ (ap (λ (o : Option PlainPart). map (copied_some f o) (map (first_own i parts) vs)) own ∙ all_step f i parts vs is))
 
 -- before the first field
-pub versions_begin : (parts : Parts) (vs : List PlainVersion) → vs ≡ map without_fields vs → vs ≡ map (first_dealt 0 parts) vs
+pub versions_begin : (parts : Parts) (vs : List PlainVersion) → vs ≡ map without_fields vs → vs ≡ map (first_own 0 parts) vs
 versions_begin parts vs empty = empty ∙ same vs
   where
-    one : (v : PlainVersion) → without_fields v ≡ first_dealt 0 parts v
-    one v = ap (λ (ps : Parts). with_parts v ps) (fun_ext (λ g. sym (before_none (dealt_parts v.touch parts) g)))
+    one : (v : PlainVersion) → without_fields v ≡ first_own 0 parts v
+    one v = ap (λ (ps : Parts). with_parts v ps) (fun_ext (λ g. sym (before_none (own_parts v.touch parts) g)))
 
-    same : (ws : List PlainVersion) → map without_fields ws ≡ map (first_dealt 0 parts) ws
+    same : (ws : List PlainVersion) → map without_fields ws ≡ map (first_own 0 parts) ws
     same [] = refl
-    same (w ∷ ws) = ap (λ (x : PlainVersion). x ∷ map without_fields ws) (one w) ∙ ap (λ (xs : List PlainVersion). first_dealt 0 parts w ∷ xs) (same ws)
+    same (w ∷ ws) = ap (λ (x : PlainVersion). x ∷ map without_fields ws) (one w) ∙ ap (λ (xs : List PlainVersion). first_own 0 parts w ∷ xs) (same ws)
 
 -- behind the last field
-pub versions_over : (i : ℕ) (parts : Parts) (vs now : List PlainVersion) → i ≡ 10 → now ≡ map (first_dealt i parts) vs → now ≡ map (λ v. dealt_version parts v.fixed v.touch) vs
-versions_over i parts vs now over was = was ∙ (ap (λ (n : ℕ). map (first_dealt n parts) vs) over ∙ same vs)
+pub versions_over : (i : ℕ) (parts : Parts) (vs now : List PlainVersion) → i ≡ 10 → now ≡ map (first_own i parts) vs → now ≡ map (with_own parts) vs
+versions_over i parts vs now over was = was ∙ (ap (λ (n : ℕ). map (first_own n parts) vs) over ∙ same vs)
   where
-    one : (v : PlainVersion) → first_dealt 10 parts v ≡ dealt_version parts v.fixed v.touch
-    one v = ap (λ (ps : Parts). with_parts v ps) (fun_ext (λ g. before_all None (dealt_parts v.touch parts) g))
+    one : (v : PlainVersion) → first_own 10 parts v ≡ with_own parts v
+    one v = ap (λ (ps : Parts). with_parts v ps) (fun_ext (λ g. before_all None (own_parts v.touch parts) g))
 
-    same : (ws : List PlainVersion) → map (first_dealt 10 parts) ws ≡ map (λ v. dealt_version parts v.fixed v.touch) ws
+    same : (ws : List PlainVersion) → map (first_own 10 parts) ws ≡ map (with_own parts) ws
     same [] = refl
-    same (w ∷ ws) = ap (λ (x : PlainVersion). x ∷ map (first_dealt 10 parts) ws) (one w) ∙ ap (λ (xs : List PlainVersion). dealt_version parts w.fixed w.touch ∷ xs) (same ws)
+    same (w ∷ ws) = ap (λ (x : PlainVersion). x ∷ map (first_own 10 parts) ws) (one w) ∙ ap (λ (xs : List PlainVersion). with_own parts w ∷ xs) (same ws)
 
 -- what the branches touch stays
-pub touches_stay : (i : ℕ) (parts : Parts) (vs now : List PlainVersion) → now ≡ map (first_dealt i parts) vs → touches_in now ≡ touches_in vs
+pub touches_stay : (i : ℕ) (parts : Parts) (vs now : List PlainVersion) → now ≡ map (first_own i parts) vs → touches_in now ≡ touches_in vs
 touches_stay i parts vs now was = ap touches_in was ∙ same vs
   where
-    same : (ws : List PlainVersion) → touches_in (map (first_dealt i parts) ws) ≡ touches_in ws
+    same : (ws : List PlainVersion) → touches_in (map (first_own i parts) ws) ≡ touches_in ws
     same [] = refl
     same (w ∷ ws) = ap (λ (ts : List Touch). w.touch ∷ ts) (same ws)
 
@@ -261,6 +258,13 @@ counted_within due i t u was g =
     let more = raised_more (count_of t g) (before 0 i due g) (due g) (before_less due i g) in
     (omega arith, omega arith)
 
+-- counts that rose by all that are due rose within them
+pub raised_within : (due : Field → ℕ) (t u : List ℕ) → ((g : Field) → count_of u g ≡ raised (count_of t g) (due g)) → (g : Field) → (count_of t g ≤ count_of u g) × (count_of u g ≤ raised (count_of t g) (due g))
+raised_within due t u was g =
+    let e = was g in
+    let up = raised_up (count_of t g) (due g) in
+    (omega arith, omega arith)
+
 -- and where memory ran out at a field
 pub counted_refused : (due : Field → ℕ) (f : Field) (i most : ℕ) (t u v : List ℕ) → number_of f ≡ i → most ≡ due f → RaisesBefore due i t u → RaisesAtMost most f u v → (g : Field) → (count_of t g ≤ count_of v g) × (count_of v g ≤ raised (count_of t g) (due g))
 counted_refused due f i most t u v is all was more g =
@@ -274,32 +278,60 @@ counted_refused due f i most t u v is all was more g =
     let most_due = raised_more (count_of t g) (before 0 (i + 1) due g) (due g) (before_less due (i + 1) g) in
     (omega arith, omega arith)
 
--- the parts that are still held are as they were
-abbrev pub HeldFrom : ℕ → List (Option PlainPart) → List (Option PlainPart) → Type 0
-HeldFrom i old now = (k : ℕ) → i ≤ k → get_or now k None ≡ get_or old k None
+-- what is kept of the fields before an index, and the parts of the others
+abbrev pub first_kept : ℕ → List Touch → Parts → Parts
+first_kept i ts parts g = if nat_lt (number_of g) i then kept_parts ts parts g else parts g
 
-pub held_next : (i n : ℕ) (old now : List (Option PlainPart)) (o : Option PlainPart) → n ≡ i → HeldFrom i old now → HeldFrom (i + 1) old (set now n o)
-held_next i n old now o is same k le =
-    let apart : k ≢ n = λ e. absurd (omega arith) in
-    get_or-set_other now n k o None apart ∙ same k (omega arith)
+-- no field was dealt yet
+pub kept_begin : (ts : List Touch) (parts : Parts) → parts ≡ first_kept 0 ts parts
+kept_begin ts parts = fun_ext (λ g. none g)
+  where
+    none : (h : Field) → parts h ≡ first_kept 0 ts parts h
+    none LinkDst = refl
+    none LinkSrc = refl
+    none Tag = refl
+    none Tos = refl
+    none Ttl = refl
+    none SrcIp = refl
+    none DstIp = refl
+    none SrcPort = refl
+    none DstPort = refl
+    none Payload = refl
 
--- the part that is taken is the packet's
-pub held_part : (i n : ℕ) (f : Field) (old now : List (Option PlainPart)) (o : Option PlainPart) → o ≡ get_or now n o → n ≡ number_of f → n ≡ i → n < 10 → length now ≡ 10 → HeldFrom i old now → o ≡ as_map old f
-held_part i n f old now o read is at below ten same =
-    get_or_read_under now n 10 o None read below (sym ten) ∙ (same n (omega arith) ∙ ap (λ (k : ℕ). get_or old k None) is)
+-- the part of the next field is the packet's
+pub part_next : (f : Field) (i : ℕ) (ts : List Touch) (parts now : Parts) → number_of f ≡ i → now ≡ first_kept i ts parts → now f ≡ parts f
+part_next f i ts parts now is was = ap (λ (m : Parts). m f) was ∙ ap (λ (b : Bool). if b then kept_parts ts parts f else parts f) (ap (λ (n : ℕ). nat_lt n i) is ∙ lt_self i)
 
 -- what is kept of one field more
-pub kept_next : (ts : List Touch) (parts : Parts) (fields : List Field) (i : ℕ) (before after : List Kept) (one : Kept) (mode : Mode) (part : Option PlainPart) → i < length fields → after ≡ before ++ one ∷ [] → kept_in one ≡ kept_part mode part → mode ≡ mode_of ts (get_or fields i LinkDst) → part ≡ parts (get_or fields i LinkDst) → map kept_in before ≡ map (kept_parts ts parts) (take i fields) → map kept_in after ≡ map (kept_parts ts parts) (take (i + 1) fields)
-kept_next ts parts fields i before after one mode part below made is mode_is own was =
-    let kept : kept_in one ≡ kept_parts ts parts (get_or fields i LinkDst) = is ∙ (ap (λ (m : Mode). kept_part m part) mode_is ∙ ap (λ (o : Option PlainPart). kept_part (mode_of ts (get_or fields i LinkDst)) o) own) in
-    ap (λ (xs : List Kept). map kept_in xs) made
-    ∙ (map-append kept_in before (one ∷ [])
-    ∙ (ap (λ (xs : List (Option PlainPart)). xs ++ kept_in one ∷ []) was
-    ∙ (ap (λ (o : Option PlainPart). map (kept_parts ts parts) (take i fields) ++ o ∷ []) kept ∙ sym (mapped_more (kept_parts ts parts) fields i below))))
+pub kept_next : (f : Field) (i : ℕ) (ts : List Touch) (mode : Mode) (parts now new : Parts) → number_of f ≡ i → mode ≡ mode_of ts f → now ≡ first_kept i ts parts → new ≡ changed f (kept_part mode (now f)) now → new ≡ first_kept (i + 1) ts parts
+kept_next f i ts mode parts now new is mode_is was made =
+    made
+    ∙ (ap (λ (o : Option PlainPart). changed f o now) (ap (λ (k : Mode). kept_part k (now f)) mode_is ∙ ap (λ (o : Option PlainPart). kept_part (mode_of ts f) o) (part_next f i ts parts now is was))
+    ∙ (ap (λ (m : Parts). changed f (kept_parts ts parts f) m) was
+    ∙ fun_ext (λ g. by_field f g (changed f (kept_parts ts parts f) (first_kept i ts parts) g ≡ first_kept (i + 1) ts parts g)
+    (λ same e.
+    ap (λ (b : Bool). if b then kept_parts ts parts f else first_kept i ts parts g) e
+    ∙ (ap (λ (h : Field). kept_parts ts parts h) same
+    ∙ sym (ap (λ (b : Bool). if b then kept_parts ts parts g else parts g) (ap (λ (n : ℕ). nat_lt n (i + 1)) (sym (ap number_of same) ∙ is) ∙ lt_next i))))
+    (λ apart e.
+    ap (λ (b : Bool). if b then kept_parts ts parts f else first_kept i ts parts g) e
+    ∙ sym (ap (λ (b : Bool). if b then kept_parts ts parts g else parts g) (lt_other (number_of g) i (λ s. apart (s ∙ sym is))))))))
 
 -- and of all
-pub kept_over : (ts : List Touch) (parts : Parts) (fields : List Field) (i : ℕ) (kept : List Kept) → fields ≡ all_fields → length fields ≤ i → map kept_in kept ≡ map (kept_parts ts parts) (take i fields) → map kept_in kept ≡ as_list (kept_parts ts parts)
-kept_over ts parts fields i kept is past was = mapped_over (kept_parts ts parts) fields i (map kept_in kept) is past was
+pub kept_over : (i : ℕ) (ts : List Touch) (parts now : Parts) → i ≡ 10 → now ≡ first_kept i ts parts → now ≡ kept_parts ts parts
+kept_over i ts parts now over was = was ∙ (ap (λ (n : ℕ). first_kept n ts parts) over ∙ fun_ext (λ g. all g))
+  where
+    all : (h : Field) → first_kept 10 ts parts h ≡ kept_parts ts parts h
+    all LinkDst = refl
+    all LinkSrc = refl
+    all Tag = refl
+    all Tos = refl
+    all Ttl = refl
+    all SrcIp = refl
+    all DstIp = refl
+    all SrcPort = refl
+    all DstPort = refl
+    all Payload = refl
 
 -- versions that have no field
 pub touches_begin : (ts : List Touch) (fixed : Fixed) (vs : List PlainVersion) → vs ≡ map (λ t. nothing t fixed) ts → touches_in vs ≡ ts
@@ -315,13 +347,6 @@ empty_begin ts fixed vs is = is ∙ (sym (same ts) ∙ ap (λ (xs : List PlainVe
     same : (us : List Touch) → map without_fields (map (λ t. nothing t fixed) us) ≡ map (λ t. nothing t fixed) us
     same [] = refl
     same (u ∷ us) = ap (λ (xs : List PlainVersion). nothing u fixed ∷ xs) (same us)
-
-pub dealt_begin : (ts : List Touch) (parts : Parts) (fixed : Fixed) (vs : List PlainVersion) → vs ≡ map (λ t. nothing t fixed) ts → map (λ v. dealt_version parts v.fixed v.touch) vs ≡ map (dealt_version parts fixed) ts
-dealt_begin ts parts fixed vs is = ap (λ (xs : List PlainVersion). map (λ v. dealt_version parts v.fixed v.touch) xs) is ∙ same ts
-  where
-    same : (us : List Touch) → map (λ v. dealt_version parts v.fixed v.touch) (map (λ t. nothing t fixed) us) ≡ map (dealt_version parts fixed) us
-    same [] = refl
-    same (u ∷ us) = ap (λ (xs : List PlainVersion). dealt_version parts fixed u ∷ xs) (same us)
 
 -- the tags of a packet are whole
 pub tags_whole : (parts : Parts) (frame : List ℕ) → IsWhole parts frame → AreTags (parts Tag)

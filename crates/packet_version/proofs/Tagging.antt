@@ -3,8 +3,7 @@ use Rattle.std.proofs.Common.{◌≡◌, ◌<◌, ◌≤◌, ◌+◌, ◌*◌, �
 use Rattle.std.specs.Prelude.{Option, Some, IsSomeAnd}
 use Rattle.std.proofs.lemmas.Bool.{and_from, and_parts, false≢true}
 use Rattle.packet_fields.specs.Frames.{is_tpid, is_tag_list, word}
-use Rattle.packet_version.specs.Parts.{PlainPart, rewritten}
-use Rattle.packet_version.specs.Slots.{AreTags}
+use Rattle.packet_version.specs.Parts.{PlainPart, rewritten, AreTags}
 
 pub tags_pushed : (tag bytes : List ℕ) → length tag ≡ 4 → is_tpid (word tag 0) ≡ true → is_tag_list bytes ≡ true → is_tag_list (tag ++ bytes) ≡ true
 unfolding is_tag_list

@@ -1,45 +1,68 @@
--- One part that is handed to the versions of a stage's branches.
-use Rattle.std.specs.Prelude.{ℕ, List, Option, Some, None, if◌then◌else◌, map, count_by}
+-- The parts of a packet on their way to the versions of a stage's branches.
+use Rattle.std.specs.Prelude.{ℕ, Bool, not, ◌==◌, List, Option, Some, None, if◌then◌else◌, map, option_map, count_by}
 use Rattle.packet_fields.specs.declared.field.Field.{Field}
-use Rattle.action_profile.specs.Modes.{has_touch, has_write, only_reads}
+use Rattle.action_profile.specs.FieldSets.{joined}
+use Rattle.action_profile.specs.Modes.{has_write}
 use Rattle.action_profile.specs.declared.parts.Touch.{Touch}
-use Rattle.packet_version.specs.Parts.{PlainPart, as_list, unwritten}
-use Rattle.packet_version.specs.Versions.{PlainVersion, with_part}
+use Rattle.packet_version.specs.Parts.{PlainPart, PlainHeld, Parts, as_map, as_list, changed, unwritten}
+use Rattle.packet_version.specs.Versions.{PlainVersion, parts_of, with_part, had_by}
 use Rattle.packet_version.specs.declared.base.Kept.{Kept}
-use Rattle.packet_version.specs.declared.base.Kept.TheVariants.{Absent, Own, Lent}
+use Rattle.packet_version.specs.declared.base.Kept.TheVariants.{Own, Lent}
 
 -- what the branches of some versions touch
 abbrev pub touches_in : List PlainVersion → List Touch
 touches_in versions = map (λ v. v.touch) versions
 
--- a version with the part, where its branch writes the field, only reads it, or touches it
+-- a version with the part, where its branch writes the field
 abbrev pub copied_to : Field → PlainPart → PlainVersion → PlainVersion
 copied_to f part version = if has_write f version.touch then with_part f (Some (unwritten part)) version else version
 
-abbrev pub lent_to : Field → PlainPart → PlainVersion → PlainVersion
-lent_to f part version = if only_reads f version.touch then with_part f (Some (unwritten part)) version else version
-
-abbrev pub dealt_to : Field → PlainPart → PlainVersion → PlainVersion
-dealt_to f part version = if has_touch f version.touch then with_part f (Some (unwritten part)) version else version
-
 -- the same, where there is a part
-abbrev pub dealt_some : Field → Option PlainPart → PlainVersion → PlainVersion
-dealt_some f None version = version
-dealt_some f (Some part) version = dealt_to f part version
+abbrev pub copied_some : Field → Option PlainPart → PlainVersion → PlainVersion
+copied_some f None version = version
+copied_some f (Some part) version = copied_to f part version
 
--- how many of the branches write the field, and how many only read it
+-- how many of the branches write the field
 abbrev pub writers_in : Field → List PlainVersion → ℕ
 writers_in f versions = count_by (λ v. has_write f v.touch) versions
 
-abbrev pub readers_in : Field → List PlainVersion → ℕ
-readers_in f versions = count_by (λ v. only_reads f v.touch) versions
+-- the parts of a branch's own, written by nobody: those of the fields that it writes
+abbrev pub own_parts : Touch → Parts → Parts
+own_parts touch parts f = if has_write f touch then option_map unwritten (parts f) else None
 
--- the part that is kept of a field
-abbrev pub kept_in : Kept → Option PlainPart
-kept_in Absent = None
-kept_in (Own part) = Some part
-kept_in (Lent part) = Some part
+abbrev pub with_own : Parts → PlainVersion → PlainVersion
+with_own parts version = record version { parts = as_list (own_parts version.touch parts) }
+
+-- the branch reads a field that it doesn't write
+unfoldable pub reads_more : Touch → Bool
+reads_more touch = not ((joined touch.reads touch.writes).0 == touch.writes.0)
+
+-- how many branches do
+abbrev pub readers_in : List PlainVersion → ℕ
+readers_in versions = count_by (λ v. reads_more v.touch) versions
+
+-- a version with a loan of these parts
+abbrev pub with_loan : Parts → PlainVersion → PlainVersion
+with_loan parts version = record version { parts = as_list (had_by version.touch (parts_of version) parts) }
+
+-- the same, where its branch reads of it
+abbrev pub lent_to : Parts → PlainVersion → PlainVersion
+lent_to parts version = if reads_more version.touch then with_loan parts version else version
+
+-- what is kept of a packet
+abbrev pub kept_in : Kept → PlainHeld
+kept_in (Own held) = held
+kept_in (Lent held) = held
+
+-- a packet with another part of a field, or none
+abbrev pub with_place : Field → Option PlainPart → PlainHeld → PlainHeld
+with_place f part held = record held { parts = as_list (changed f part (as_map held.parts)) }
 
 -- a version that has no field
 abbrev pub without_fields : PlainVersion → PlainVersion
 without_fields version = record version { parts = as_list (λ f. None) }
+
+-- so many copies of a part that is there
+abbrev pub copies_of : Option PlainPart → ℕ → ℕ
+copies_of None count = 0
+copies_of (Some part) count = count

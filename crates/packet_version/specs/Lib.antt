@@ -1,11 +1,10 @@
 pub mod Parts
 pub mod Splitting
 pub mod Tallies
-pub mod Slots
+pub mod Places
 pub mod Versions
 pub mod Views
 pub mod Lending
-pub mod SlotLending
 pub mod ViewLending
 pub mod Dealing
 pub mod Handing

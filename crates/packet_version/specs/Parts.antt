@@ -1,5 +1,6 @@
 -- A packet in parts: for each field that it has its bytes, who wrote them last, and how many fit.
-use Rattle.std.specs.Prelude.{ℕ, List, Option, Some, None, Bool, if◌then◌else◌, ◌==◌, option_map, slice_index_or, map}
+use Rattle.std.specs.Prelude.{◌≡◌, ℕ, List, Option, Some, None, Bool, true, if◌then◌else◌, ◌==◌, option_map, slice_index_or, map, IfSome}
+use Rattle.packet_fields.specs.Frames.{is_tag_list}
 use Rattle.packet_fields.specs.Fields.{number_of}
 use Rattle.packet_fields.specs.Writing.{all_fields}
 use Rattle.packet_fields.specs.declared.field.Field.{Field}
@@ -51,7 +52,16 @@ unwritten p = record p { writer = 0 }
 abbrev pub rewritten : List ℕ → ℕ → PlainPart → PlainPart
 rewritten bytes writer p = record p { bytes = bytes; writer = writer }
 
--- A part that is lent, and how many readers are still to get it.
+-- the bytes of a part, where it is there, are whole tags
+abbrev pub AreTags : Option PlainPart → Type 0
+AreTags part = IfSome part (λ p. is_tag_list p.bytes ≡ true)
+
+-- The parts of a packet in the fields' order, and its frame, whose own fields are of no account.
+pub record PlainHeld : Type 0 where
+  pub parts : List (Option PlainPart)
+  pub frame : List ℕ
+
+-- A packet that is lent, and how many readers are still to get it.
 pub record PlainLease : Type 0 where
-  pub part : PlainPart
+  pub held : PlainHeld
   pub left : ℕ

@@ -1,11 +1,12 @@
 -- What a branch of a stage has of a packet.
-use Rattle.std.specs.Prelude.{◌≡◌, List, Option, None, Bool, true, ◌||◌}
+use Rattle.std.specs.Prelude.{◌≡◌, List, length, Option, Some, None, Bool, true, ◌||◌, if◌then◌else◌}
 use Rattle.packet_fields.specs.declared.field.Field.{Field}
-use Rattle.action_profile.specs.Modes.{has_touch, has_write}
+use Rattle.action_profile.specs.Modes.{has_touch, has_write, only_reads}
 use Rattle.action_profile.specs.Profiles.{reads_of, writes_of}
 use Rattle.action_profile.specs.declared.parts.Touch.{Touch}
 use Rattle.action_profile.specs.declared.rights.Profile.{Profile}
-use Rattle.packet_version.specs.Parts.{PlainPart, Parts, as_map, as_list, changed}
+use Rattle.packet_fields.specs.declared.field.Field.TheVariants.{Tag}
+use Rattle.packet_version.specs.Parts.{PlainPart, PlainHeld, Parts, as_map, as_list, changed, writer_in, AreTags}
 use Rattle.chain_walk.specs.declared.fixed.Fixed.{Fixed}
 
 -- The parts of a branch in the fields' order, what the branch touches, and the packet's fixed values.
@@ -34,3 +35,18 @@ names profile f = reads_of profile f || writes_of profile f
 pub record HoldsNamed (profile : Profile) (touch : Touch) : Type 0 where
   pub touched : (f : Field) → names profile f ≡ true → has_touch f touch ≡ true
   pub written : (f : Field) → writes_of profile f ≡ true → has_write f touch ≡ true
+
+-- the parts that are lent, where there are some
+abbrev pub lent_parts : Option PlainHeld → Parts
+lent_parts None f = None
+lent_parts (Some held) f = as_map held.parts f
+
+-- what a branch has of a packet: its own part of each field that it writes, and the lent one of each that it only reads
+abbrev pub had_by : Touch → Parts → Parts → Parts
+had_by touch own lent f = if has_write f touch then own f else (if only_reads f touch then lent f else None)
+
+-- There is a place for each part of a branch's own, what is lent was written by nobody, and the tags are whole.
+pub record IsHad (touch : Touch) (own : List (Option PlainPart)) (lent : Option PlainHeld) : Type 0 where
+  pub there : (f : Field) → has_write f touch ≡ true → length own ≡ 10
+  pub unwritten : (f : Field) → writer_in (lent_parts lent f) ≡ 0
+  pub tags : AreTags (had_by touch (as_map own) (lent_parts lent) Tag)

@@ -1,15 +1,13 @@
 -- What a function sees of its branch's version, and how it writes there.
-use Rattle.std.specs.Prelude.{◌≡◌, ◌≢◌, ℕ, ◌≤◌, ◌+◌, List, ◌++◌, length, drop, Option, true, option_map, Some, None, IsSomeAnd, All}
+use Rattle.std.specs.Prelude.{◌≡◌, ◌≢◌, ℕ, ◌≤◌, ◌+◌, List, ◌++◌, length, drop, Option, option_map, Some, None, IsSomeAnd, if◌then◌else◌}
 use Rattle.packet_fields.specs.declared.field.Field.{Field}
 use Rattle.packet_fields.specs.declared.field.Field.TheVariants.{Tag}
 use Rattle.action_profile.specs.declared.parts.Touch.{Touch}
 use Rattle.action_profile.specs.declared.rights.Profile.{Profile}
 use Rattle.chain_walk.specs.Shown.{Values}
-use Rattle.chain_walk.specs.Step.{Step, Behaviour, stepped}
-use Rattle.packet_version.specs.Parts.{PlainPart, Parts, as_list, values_of, rewritten, changed}
-use Rattle.packet_version.specs.Slots.{is_shown, AreSlots}
-use Rattle.packet_version.specs.Versions.{PlainVersion, parts_of, with_part, HoldsNamed}
-use Rattle.packet_version.specs.declared.slot.Slot.{Slot}
+use Rattle.chain_walk.specs.Step.{Behaviour, Step, stepped}
+use Rattle.packet_version.specs.Parts.{PlainPart, PlainHeld, Parts, as_list, values_of, rewritten, changed, is_field}
+use Rattle.packet_version.specs.Versions.{PlainVersion, parts_of, with_part, HoldsNamed, IsHad}
 
 -- The version, the profile of the function that sees it, and the function's position in its chain.
 pub record PlainView : Type 0 where
@@ -58,12 +56,14 @@ HasBytes view f P = IsSomeAnd (seen_values view f) P
 abbrev pub HasTagRoom : PlainView → Type 0
 HasTagRoom view = IsSomeAnd (seen_parts view Tag) (λ part. length part.bytes + 4 ≤ part.room)
 
--- what a view keeps of its slots: the version holds what the profile names, and there is a claim on each part
--- that is lent
-pub record IsView (profile : Profile) (touch : Touch) (slots : List Slot) : Type 0 where
-  pub slots_are : AreSlots touch slots
+-- a new value for this field alone, or none
+abbrev pub alone : Field → Option (List ℕ) → Values
+alone f new g = if is_field f g then new else None
+
+-- what a view keeps: the version holds what the profile names
+pub record IsView (profile : Profile) (touch : Touch) (own : List (Option PlainPart)) (lent : Option PlainHeld) : Type 0 where
+  pub had : IsHad touch own lent
   pub holds : HoldsNamed profile touch
-  pub shown : All (λ s. is_shown s ≡ true) slots
 
 -- One field of a view became this part. Every other field is as it was, and so is all else: what the branch touches, the
 -- fixed values, the profile and the position.

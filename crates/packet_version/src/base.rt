@@ -1,61 +1,50 @@
 //! What stays of a packet behind the branches of a stage.
 
-use chain_walk::Fixed;
 use crate::gathered::Gathered;
-use crate::part::Part;
-use crate::rest::Rest;
+use crate::held::Held;
+use chain_walk::Fixed;
 use part_lease::Owner;
 use std::marker::Model;
-use std::mem;
 use std::sync::Wait;
 
-/// What stays of a field.
+/// What stays of a packet, but for its fixed values.
 #[derive(Drop)]
 pub(crate) enum Kept {
-    /// The packet hasn't the field, or a branch has the original.
-    Absent,
-    /// No branch touches the field.
-    Own(Part),
-    /// The part is lent to the branches that read it.
-    Lent(Owner<Part>),
+    /// No branch reads of it.
+    Own(Held),
+    /// It is lent to the branches that read fields which they don't write.
+    Lent(Owner<Held>),
 }
 
-/// What no branch of a stage has of a packet: the rest of its frame, its fixed values, the right to have
-/// the lent parts back, and the parts that no branch touches.
+/// What no branch of a stage has of a packet: its frame with the parts that no branch got, or the right
+/// to have them back, and its fixed values.
 #[derive(Drop)]
 pub struct Base {
-    pub(crate) kept: Vec<Kept>,
-    // Where the parts come to lie again, so that a merge takes no memory.
-    pub(crate) places: Vec<Option<Part>>,
-    pub(crate) rest: Rest,
+    pub(crate) kept: Kept,
     pub(crate) fixed: Fixed,
 }
 
 impl Model for Base {
-    ghost use Rattle.std.specs.Prelude.{◌≡◌, length, map};
     ghost use Rattle.packet_fields.specs.Writing.{rest_of};
     ghost use Rattle.packet_version.specs.Splitting.{PlainApart};
     ghost use Rattle.packet_version.specs.Handing.{kept_in};
 
     ghost Value = { PlainApart };
 
-    ghost view = { λ b. record { parts = map kept_in b.kept.items; rest = rest_of b.rest; fixed = b.fixed } };
-
-    ghost invariant = { λ b. (length b.kept.items ≡ 10) × (length b.places.items ≡ 10) };
+    ghost view = { λ b. record { parts = (kept_in b.kept).parts; rest = rest_of (kept_in b.kept).frame; fixed = b.fixed } };
 }
 
 ghost use Rattle.std.specs.Prelude.{◌≡◌};
 ghost use Rattle.packet_version.specs.Handing.{kept_in};
 
 impl Kept {
-    /// The part, once no branch has a claim on it.
-    fn taken<R: Wait>(self, rt: &R) -> Option<Part>
+    /// The packet, once no branch has a claim on it.
+    fn taken<R: Wait>(self, rt: &R) -> Held
         ensures { result ≡ kept_in self }
     {
         match self {
-            Kept::Absent => None,
-            Kept::Own(part) => Some(part),
-            Kept::Lent(owner) => Some(owner.take(rt)),
+            Kept::Own(held) => held,
+            Kept::Lent(owner) => owner.take(rt),
         }
     }
 }
@@ -67,19 +56,9 @@ impl Base {
     pub fn gather<R: Wait>(self, rt: &R) -> Gathered
         ensures { result ≡ self }
     {
-        let Base {
-            mut kept,
-            mut places,
-            rest,
-            fixed,
-        } = self;
-        for number in 0..10usize {
-            let one = mem::replace(&mut kept[number], Kept::Absent);
-            places[number] = one.taken(rt);
-        }
+        let Base { kept, fixed } = self;
         Gathered {
-            parts: places,
-            rest,
+            held: kept.taken(rt),
             fixed,
         }
     }

@@ -3,23 +3,21 @@
 ghost use Rattle.std.specs.Prelude.{◌≡◌, ◌≤◌, map, length, OnOk, OnErr, IfOk};
 ghost use Rattle.packet_fields.specs.declared.field.Field.{Field};
 ghost use Rattle.action_profile.specs.Modes.{modes_of};
-ghost use Rattle.packet_version.specs.Parts.{as_map, as_list};
-ghost use Rattle.packet_version.specs.Slots.{AreTags};
+ghost use Rattle.packet_version.specs.Parts.{as_map, as_list, AreTags};
 ghost use Rattle.packet_version.specs.Splitting.{parts_of, IsWhole};
 ghost use Rattle.packet_version.specs.Versions.{nothing};
-ghost use Rattle.packet_version.specs.Dealing.{dealt, dealt_version, based, kept_parts, RaisesByDue, RaisesWithinDue};
-ghost use Rattle.packet_version.specs.Handing.{touches_in, kept_in, without_fields};
+ghost use Rattle.packet_version.specs.Dealing.{dealt, based, kept_parts, RaisesByDue, RaisesWithinDue};
+ghost use Rattle.packet_version.specs.Handing.{touches_in, with_own, without_fields};
 
 use crate::apart::Apart;
-use crate::base::{Base, Kept};
-use chain_walk::Fixed;
-use crate::hand::deal_field;
-use crate::part::Part;
+use crate::base::Base;
+use crate::hand::{deal_field, share_out};
+use crate::held::Held;
 use crate::tally::Tally;
 use crate::version::Version;
 use action_profile::{Mode, StageParts, Touch, all_fields};
+use chain_walk::Fixed;
 use std::alloc::{AllocError, Global};
-use std::mem;
 
 /// Makes the versions of a stage's branches, in branch order, and the base beside them.
 ///
@@ -28,6 +26,10 @@ use std::mem;
 /// branch that writes it has a part of its own: a copy, or the original, which the first has where none
 /// only reads the field. Nobody wrote the parts yet. Copies alone raise the tally. Where memory runs out
 /// the packet is gone, and the tally may have risen by copies that were made.
+///
+/// Memory is taken for the list of versions, for the parts of each branch that writes some field, for
+/// each of them that is longer than 12 bytes, and for one loan where a branch reads a field that it
+/// doesn't write.
 pub fn deal(
     alloc: Global,
     whole: Apart,
@@ -45,20 +47,11 @@ pub fn deal(
     // The packet's parts are those of its frame, in number and length.
     ensures fits { IsWhole (parts_of whole) whole.rest }
 {
-    let Apart {
-        parts: mut held,
-        rest,
-        fixed,
-    } = whole;
+    let Apart { mut held, fixed } = whole;
     let mut versions = empty_versions(alloc, parts.touches.as_slice(), fixed)?;
-    let kept = deal_parts(alloc, &mut held, &parts.modes, &mut versions, tally)?;
-    let base = Base {
-        kept,
-        places: held,
-        rest,
-        fixed,
-    };
-    Ok((base, versions))
+    deal_parts(alloc, &mut held, &parts.modes, &mut versions, tally)?;
+    let kept = share_out(alloc, held, &mut versions)?;
+    Ok((Base { kept, fixed }, versions))
 }
 
 /// Versions without any field.
@@ -76,32 +69,27 @@ fn empty_versions(
     Ok(versions)
 }
 
-/// Hands each part to the versions, which have no field yet, and gives what is kept of each.
+/// Gives the versions, which have no field yet, the parts of the fields that they write, and leaves here
+/// what is kept.
 fn deal_parts(
     alloc: Global,
-    held: &mut Vec<Option<Part>>,
+    held: &mut Held,
     modes: &[Mode; 10],
     versions: &mut [Version],
     tally: &mut Tally,
-) -> Result<Vec<Kept>, AllocError>
-    requires ten { length held.old.items ≡ 10 }
-    requires few { length versions.old ≤ 64 }
+) -> Result<(), AllocError>
+    requires ten { length held.old.parts ≡ 10 }
     requires modes { modes.now ≡ modes_of (touches_in versions.old) }
-    requires tags { AreTags (as_map held.old.items Field.Tag) }
+    requires tags { AreTags (as_map held.old.parts Field.Tag) }
     requires empty { versions.old ≡ map without_fields versions.old }
-    ensures ten { OnOk result (length held.new.items ≡ 10) }
-    ensures dealt { OnOk result (versions.new ≡ map (λ v. dealt_version (as_map held.old.items) v.fixed v.touch) versions.old) }
-    ensures kept { IfOk result (λ kept. map kept_in kept.items ≡ as_list (kept_parts (touches_in versions.old) (as_map held.old.items))) }
-    ensures counted { OnOk result (RaisesByDue (touches_in versions.old) (as_map held.old.items) tally.old tally.new) }
-    ensures refused { OnErr result (RaisesWithinDue (touches_in versions.old) (as_map held.old.items) tally.old tally.new) }
+    ensures given { OnOk result (versions.new ≡ map (with_own (as_map held.old.parts)) versions.old) }
+    ensures kept { OnOk result (held.new ≡ record held.old { parts = as_list (kept_parts (touches_in versions.old) (as_map held.old.parts)) }) }
+    ensures counted { OnOk result (RaisesByDue (touches_in versions.old) (as_map held.old.parts) tally.old tally.new) }
+    ensures refused { OnErr result (RaisesWithinDue (touches_in versions.old) (as_map held.old.parts) tally.old tally.new) }
 {
     let fields = all_fields();
-    let mut kept = Vec::with_capacity(alloc, fields.len())?;
     for field in fields {
-        let number = field.number();
-        let part = mem::replace(&mut held[number], None);
-        let left = deal_field(alloc, *field, part, modes[number], versions, tally)?;
-        kept.push(left)?;
+        deal_field(alloc, *field, held, modes[field.number()], versions, tally)?;
     }
-    Ok(kept)
+    Ok(())
 }

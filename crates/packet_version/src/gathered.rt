@@ -1,30 +1,26 @@
 //! The parts of a packet that are gathered behind a stage.
 
 use crate::apart::Apart;
-use chain_walk::Fixed;
+use crate::held::Held;
 use crate::part::Part;
-use crate::rest::Rest;
+use chain_walk::Fixed;
 use packet_fields::Field;
 use std::marker::Model;
 
 /// A packet behind a stage: the parts that came back so far, the rest of its frame and its fixed values.
 #[derive(Drop)]
 pub struct Gathered {
-    pub(crate) parts: Vec<Option<Part>>,
-    pub(crate) rest: Rest,
+    pub(crate) held: Held,
     pub(crate) fixed: Fixed,
 }
 
 impl Model for Gathered {
-    ghost use Rattle.std.specs.Prelude.{◌≡◌, length};
     ghost use Rattle.packet_fields.specs.Writing.{rest_of};
     ghost use Rattle.packet_version.specs.Splitting.{PlainApart};
 
     ghost Value = { PlainApart };
 
-    ghost view = { λ g. record { parts = g.parts.items; rest = rest_of g.rest; fixed = g.fixed } };
-
-    ghost invariant = { λ g. length g.parts.items ≡ 10 };
+    ghost view = { λ g. record { parts = g.held.parts; rest = rest_of g.held.frame; fixed = g.fixed } };
 }
 
 impl Gathered {
@@ -36,14 +32,14 @@ impl Gathered {
     pub fn has(&self, field: Field) -> bool
         ensures { result ≡ is_some (parts_of self.now field) }
     {
-        self.parts[field.number()].is_some()
+        self.held.bytes(field).is_some()
     }
 
     /// Puts a part into the place of its field. A part that lay there is let go.
     pub fn put(&mut self, field: Field, part: Part)
         ensures { self.new ≡ record self.old { parts = as_list (changed field (Some part) (parts_of self.old)) } }
     {
-        self.parts[field.number()] = Some(part);
+        self.held.put(field, part);
     }
 
     /// The packet, for the next stage or to be joined. The part of each field is there, with the field's
@@ -52,7 +48,7 @@ impl Gathered {
         requires { IsWhole (parts_of self) self.rest }
         ensures { result ≡ self }
     {
-        let Gathered { parts, rest, fixed } = self;
-        Apart { parts, rest, fixed }
+        let Gathered { held, fixed } = self;
+        Apart { held, fixed }
     }
 }

@@ -1,19 +1,19 @@
-//! Handing one part to the versions of a stage's branches.
+//! Handing the parts of a packet to the versions of a stage's branches.
 
-ghost use Rattle.std.specs.Prelude.{◌≡◌, ◌≤◌, ◌<◌, ◌-◌, ◌&&◌, map, length, true, false, OnOk, OnErr, IfOk, position, if◌then◌else◌, is_ok};
-ghost use Rattle.std.specs.List.{list_any};
+ghost use Rattle.std.specs.Prelude.{◌≡◌, ◌≤◌, ◌<◌, ◌-◌, ◌&&◌, Some, None, option_map, map, length, true, OnOk, OnErr, IfOk, position, if◌then◌else◌, is_ok};
 ghost use Rattle.packet_fields.specs.Frames.{is_tag_list};
 ghost use Rattle.packet_fields.specs.declared.field.Field.{Field};
-ghost use Rattle.action_profile.specs.Modes.{has_write, only_reads, mode_of};
-ghost use Rattle.packet_version.specs.Parts.{unwritten};
-ghost use Rattle.packet_version.specs.Slots.{AreTags};
+ghost use Rattle.action_profile.specs.Modes.{has_write, mode_of};
+ghost use Rattle.packet_version.specs.Parts.{as_map, writer_in, unwritten, AreTags};
+ghost use Rattle.packet_version.specs.Splitting.{fresh};
 ghost use Rattle.packet_version.specs.Tallies.{RaisesBy, RaisesAtMost};
 ghost use Rattle.packet_version.specs.Dealing.{kept_part, copies_due};
-ghost use Rattle.packet_version.specs.Handing.{touches_in, copied_to, lent_to, dealt_to, dealt_some, writers_in, readers_in, kept_in};
+ghost use Rattle.packet_version.specs.Handing.{touches_in, copies_of, copied_to, copied_some, lent_to, reads_more, writers_in, readers_in, kept_in, with_place};
 
 use crate::base::Kept;
+use crate::held::Held;
 use crate::lease::Lease;
-use crate::part::{Part, copy};
+use crate::part::{Part, copy_bytes};
 use crate::tally::Tally;
 use crate::version::Version;
 use action_profile::Mode;
@@ -25,16 +25,17 @@ use std::alloc::{AllocError, Global};
 fn give_copy(
     alloc: Global,
     field: Field,
-    part: &Part,
+    bytes: &[u8],
+    spare: usize,
     version: &mut Version,
     tally: &mut Tally,
 ) -> Result<(), AllocError>
-    requires { field ≡ Field.Tag → is_tag_list part.now.bytes ≡ true }
-    ensures given { OnOk result (version.new ≡ copied_to field part.now version.old) }
+    requires { field ≡ Field.Tag → is_tag_list bytes.now ≡ true }
+    ensures given { OnOk result (version.new ≡ copied_to field (fresh spare bytes.now) version.old) }
     ensures counted { RaisesBy (if is_ok result && has_write field version.old.touch then 1 else 0) field tally.old tally.new }
 {
     if version.writes(field) {
-        let made = copy(alloc, part, field, tally)?;
+        let made = copy_bytes(alloc, bytes, spare, field, tally)?;
         version.give(field, made);
     }
     Ok(())
@@ -44,96 +45,24 @@ fn give_copy(
 fn give_copies(
     alloc: Global,
     field: Field,
-    part: &Part,
+    bytes: &[u8],
+    spare: usize,
     versions: &mut [Version],
     tally: &mut Tally,
 ) -> Result<(), AllocError>
-    requires { field ≡ Field.Tag → is_tag_list part.now.bytes ≡ true }
-    ensures given { OnOk result (versions.new ≡ map (copied_to field part.now) versions.old) }
+    requires { field ≡ Field.Tag → is_tag_list bytes.now ≡ true }
+    ensures given { OnOk result (versions.new ≡ map (copied_to field (fresh spare bytes.now)) versions.old) }
     ensures counted { OnOk result (RaisesBy (writers_in field versions.old) field tally.old tally.new) }
     ensures refused { OnErr result (RaisesAtMost (writers_in field versions.old) field tally.old tally.new) }
 {
     for version in versions.iter_mut() {
-        give_copy(alloc, field, part, version, tally)?;
+        give_copy(alloc, field, bytes, spare, version, tally)?;
     }
     Ok(())
 }
 
-/// Lends the part to a branch that only reads the field.
-fn lend_one(field: Field, lease: &mut Lease, version: &mut Version)
-    requires enough { only_reads field version.old.touch ≡ true → 0 < lease.old.left }
-    requires tags { field ≡ Field.Tag → is_tag_list lease.old.part.bytes ≡ true }
-    ensures lent { version.new ≡ lent_to field lease.old.part version.old }
-    ensures lease { lease.new ≡ record lease.old { left = lease.old.left - (if only_reads field version.old.touch then 1 else 0) } }
-{
-    if version.only_reads(field) {
-        version.lend(field, lease.next());
-    }
-}
-
-/// Lends the part to each branch that only reads the field.
-fn lend_out(field: Field, mut lease: Lease, versions: &mut [Version]) -> Owner<Part>
-    requires enough { lease.left ≡ readers_in field versions.old }
-    requires tags { field ≡ Field.Tag → is_tag_list lease.part.bytes ≡ true }
-    ensures lent { versions.new ≡ map (lent_to field lease.part) versions.old }
-    ensures owner { result ≡ unwritten lease.part }
-{
-    for version in versions.iter_mut() {
-        lend_one(field, &mut lease, version);
-    }
-    lease.into_owner()
-}
-
-/// Lends the part to the branches that only read the field, or keeps it where none does.
-fn share_out(
-    alloc: Global,
-    field: Field,
-    part: Part,
-    versions: &mut [Version],
-) -> Result<Kept, AllocError>
-    requires few { length versions.old ≤ 64 }
-    requires tags { field ≡ Field.Tag → is_tag_list part.bytes ≡ true }
-    ensures lent { OnOk result (versions.new ≡ map (lent_to field part) versions.old) }
-    ensures kept { IfOk result (λ kept. kept_in kept ≡ Some (unwritten part)) }
-{
-    let readers = readers_among(field, versions);
-    if readers == 0 {
-        return Ok(Kept::Own(part.unwritten()));
-    }
-    let lease = Lease::new(alloc, part, readers)?;
-    Ok(Kept::Lent(lend_out(field, lease, versions)))
-}
-
-/// Gives each branch that writes the field a copy, and lends the part to those that only read it.
-fn copy_and_share(
-    alloc: Global,
-    field: Field,
-    part: Part,
-    versions: &mut [Version],
-    tally: &mut Tally,
-) -> Result<Kept, AllocError>
-    requires few { length versions.old ≤ 64 }
-    requires tags { field ≡ Field.Tag → is_tag_list part.bytes ≡ true }
-    ensures dealt { OnOk result (versions.new ≡ map (dealt_to field part) versions.old) }
-    ensures kept { IfOk result (λ kept. kept_in kept ≡ Some (unwritten part)) }
-    ensures counted { OnOk result (RaisesBy (writers_in field versions.old) field tally.old tally.new) }
-    ensures refused { OnErr result (RaisesAtMost (writers_in field versions.old) field tally.old tally.new) }
-{
-    give_copies(alloc, field, &part, versions, tally)?;
-    share_out(alloc, field, part, versions)
-}
-
-/// How many branches only read the field.
-fn readers_among(field: Field, versions: &[Version]) -> u32
-    requires { length versions.now ≤ 64 }
-    ensures count { result ≡ readers_in field versions.now }
-    ensures few { result ≤ 64 }
-{
-    versions.iter().filter(|v| v.only_reads(field)).count() as u32
-}
-
 /// Moves the original to the first branch that writes the field, and gives each later one that does a
-/// copy. No branch only reads the field.
+/// copy.
 fn give_original(
     alloc: Global,
     field: Field,
@@ -143,49 +72,155 @@ fn give_original(
     tally: &mut Tally,
 ) -> Result<(), AllocError>
     requires first { position (has_write field) (touches_in versions.old) ≡ Some first }
-    requires alone { list_any (only_reads field) (touches_in versions.old) ≡ false }
     requires tags { field ≡ Field.Tag → is_tag_list part.bytes ≡ true }
-    ensures given { OnOk result (versions.new ≡ map (dealt_to field part) versions.old) }
+    ensures given { OnOk result (versions.new ≡ map (copied_to field part) versions.old) }
     ensures counted { OnOk result (RaisesBy (writers_in field versions.old - 1) field tally.old tally.new) }
     ensures refused { OnErr result (RaisesAtMost (writers_in field versions.old - 1) field tally.old tally.new) }
 {
-    give_copies(alloc, field, &part, &mut versions[first + 1..], tally)?;
+    let spare = part.spare();
+    give_copies(
+        alloc,
+        field,
+        part.bytes(),
+        spare,
+        &mut versions[first + 1..],
+        tally,
+    )?;
     versions[first].give(field, part.unwritten());
     Ok(())
 }
 
-/// Hands a part to the branches that touch its field, as its mode says, and tells what is kept of it.
+/// Takes the part of a field out and moves it to the first branch that writes the field.
+fn move_out(
+    alloc: Global,
+    field: Field,
+    held: &mut Held,
+    first: usize,
+    versions: &mut [Version],
+    tally: &mut Tally,
+) -> Result<(), AllocError>
+    requires first { position (has_write field) (touches_in versions.old) ≡ Some first }
+    requires tags { field ≡ Field.Tag → AreTags (as_map held.old.parts field) }
+    ensures given { OnOk result (versions.new ≡ map (copied_some field (as_map held.old.parts field)) versions.old) }
+    ensures left { OnOk result (held.new ≡ with_place field None held.old) }
+    ensures counted { OnOk result (RaisesBy (copies_of (as_map held.old.parts field) (writers_in field versions.old - 1)) field tally.old tally.new) }
+    ensures refused { OnErr result (RaisesAtMost (copies_of (as_map held.old.parts field) (writers_in field versions.old - 1)) field tally.old tally.new) }
+{
+    match held.take(alloc, field)? {
+        Some(part) => give_original(alloc, field, part, first, versions, tally),
+        None => Ok(()),
+    }
+}
+
+/// Gives each branch that writes the field a copy, and keeps the part.
+fn copy_out(
+    alloc: Global,
+    field: Field,
+    held: &mut Held,
+    versions: &mut [Version],
+    tally: &mut Tally,
+) -> Result<(), AllocError>
+    requires tags { field ≡ Field.Tag → AreTags (as_map held.old.parts field) }
+    ensures given { OnOk result (versions.new ≡ map (copied_some field (as_map held.old.parts field)) versions.old) }
+    ensures left { OnOk result (held.new ≡ with_place field (option_map unwritten (as_map held.old.parts field)) held.old) }
+    ensures counted { OnOk result (RaisesBy (copies_of (as_map held.old.parts field) (writers_in field versions.old)) field tally.old tally.new) }
+    ensures refused { OnErr result (RaisesAtMost (copies_of (as_map held.old.parts field) (writers_in field versions.old)) field tally.old tally.new) }
+{
+    let spare = held.spare(field);
+    if let Some(bytes) = held.bytes(field) {
+        give_copies(alloc, field, bytes, spare, versions, tally)?;
+    }
+    held.keep(field);
+    Ok(())
+}
+
+/// Hands the part of a field to the branches that write it, as its mode says, and leaves here what is
+/// kept of it.
 pub(crate) fn deal_field(
     alloc: Global,
     field: Field,
-    part: Option<Part>,
+    held: &mut Held,
     mode: Mode,
     versions: &mut [Version],
     tally: &mut Tally,
-) -> Result<Kept, AllocError>
-    requires few { length versions.old ≤ 64 }
+) -> Result<(), AllocError>
     requires mode { mode ≡ mode_of (touches_in versions.old) field }
-    requires tags { field ≡ Field.Tag → AreTags part }
-    ensures dealt { OnOk result (versions.new ≡ map (dealt_some field part) versions.old) }
-    ensures kept { IfOk result (λ kept. kept_in kept ≡ kept_part mode part) }
-    ensures counted { OnOk result (RaisesBy (copies_due (touches_in versions.old) field part) field tally.old tally.new) }
-    ensures refused { OnErr result (RaisesAtMost (copies_due (touches_in versions.old) field part) field tally.old tally.new) }
+    requires tags { field ≡ Field.Tag → AreTags (as_map held.old.parts field) }
+    ensures given { OnOk result (versions.new ≡ map (copied_some field (as_map held.old.parts field)) versions.old) }
+    ensures left { OnOk result (held.new ≡ with_place field (kept_part mode (as_map held.old.parts field)) held.old) }
+    ensures counted { OnOk result (RaisesBy (copies_due (touches_in versions.old) field (as_map held.old.parts field)) field tally.old tally.new) }
+    ensures refused { OnErr result (RaisesAtMost (copies_due (touches_in versions.old) field (as_map held.old.parts field)) field tally.old tally.new) }
 {
-    let Some(part) = part else {
-        return Ok(Kept::Absent);
-    };
     match mode {
-        Mode::Shared => share_out(alloc, field, part, versions),
-        Mode::Moved(first) => {
-            give_original(alloc, field, part, first as usize, versions, tally)?;
-            Ok(Kept::Absent)
+        Mode::Shared => {
+            held.keep(field);
+            Ok(())
         }
+        Mode::Moved(first) => move_out(alloc, field, held, first as usize, versions, tally),
         Mode::Copied { original } => match original {
-            Some(first) => {
-                give_original(alloc, field, part, first as usize, versions, tally)?;
-                Ok(Kept::Absent)
-            }
-            None => copy_and_share(alloc, field, part, versions, tally),
+            Some(first) => move_out(alloc, field, held, first as usize, versions, tally),
+            None => copy_out(alloc, field, held, versions, tally),
         },
     }
+}
+
+/// Lends the packet to a branch that reads fields which it doesn't write.
+fn lend_one(lease: &mut Lease, version: &mut Version)
+    requires enough { reads_more version.old.touch ≡ true → 0 < lease.old.left }
+    requires unwritten { (f : Field) → writer_in (as_map lease.old.held.parts f) ≡ 0 }
+    requires tags { AreTags (as_map lease.old.held.parts Field.Tag) }
+    ensures lent { version.new ≡ lent_to (as_map lease.old.held.parts) version.old }
+    ensures lease { lease.new ≡ record lease.old { left = lease.old.left - (if reads_more version.old.touch then 1 else 0) } }
+{
+    if version.reads_more() {
+        version.lend(lease.next());
+    }
+}
+
+/// Lends the packet to each branch that reads fields which it doesn't write.
+fn lend_out(mut lease: Lease, versions: &mut [Version]) -> Owner<Held>
+    requires enough { lease.left ≡ readers_in versions.old }
+    requires unwritten { (f : Field) → writer_in (as_map lease.held.parts f) ≡ 0 }
+    requires tags { AreTags (as_map lease.held.parts Field.Tag) }
+    ensures lent { versions.new ≡ map (lent_to (as_map lease.held.parts)) versions.old }
+    ensures owner { result ≡ lease.held }
+{
+    for version in versions.iter_mut() {
+        lend_one(&mut lease, version);
+    }
+    lease.into_owner()
+}
+
+/// Lends the packet to the branches that read fields which they don't write, all of it at once, or keeps
+/// it where there is none.
+pub(crate) fn share_out(
+    alloc: Global,
+    held: Held,
+    versions: &mut [Version],
+) -> Result<Kept, AllocError>
+    requires few { length versions.old ≤ 64 }
+    requires unwritten { (f : Field) → writer_in (as_map held.parts f) ≡ 0 }
+    requires tags { AreTags (as_map held.parts Field.Tag) }
+    ensures lent { OnOk result (versions.new ≡ map (lent_to (as_map held.parts)) versions.old) }
+    ensures kept { IfOk result (λ kept. kept_in kept ≡ held) }
+{
+    let readers = readers_among(versions);
+    if readers == 0 {
+        return Ok(Kept::Own(held));
+    }
+    let lease = Lease::new(alloc, held, readers)?;
+    Ok(Kept::Lent(lend_out(lease, versions)))
+}
+
+/// How many branches read a field that they don't write.
+fn readers_among(versions: &[Version]) -> u32
+    requires { length versions.now ≤ 64 }
+    ensures count { result ≡ readers_in versions.now }
+    ensures few { result ≤ 64 }
+{
+    let mut readers = 0;
+    for version in versions {
+        readers += u32::from(version.reads_more());
+    }
+    readers
 }

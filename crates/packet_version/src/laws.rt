@@ -1,17 +1,19 @@
 //! Laws of versions and views, for what stands on them.
-ghost use Rattle.std.specs.Prelude.{◌≡◌, ◌≢◌, ℕ, List, length, true, None, option_map};
+ghost use Rattle.std.specs.Prelude.{◌≡◌, ◌≢◌, ◌++◌, ℕ, List, Some, length, drop, true, false, option_map};
 ghost use Rattle.packet_fields.specs.declared.field.Field.{Field};
 ghost use Rattle.action_profile.specs.declared.parts.Touch.{Touch};
-ghost use Rattle.packet_version.specs.Parts.{Parts, rewritten, values_of};
+ghost use Rattle.action_profile.specs.Modes.{has_write};
+ghost use Rattle.chain_walk.specs.Step.{nothing};
+ghost use Rattle.packet_version.specs.Parts.{Parts, rewritten, writers_of};
 ghost use Rattle.packet_version.specs.Splitting.{PlainApart, IsWhole, IsShapedAs, parts_of};
 ghost use Rattle.packet_version.specs.Versions.{parts_of as parts_in};
 ghost use Rattle.packet_version.specs.Dealing.{dealt, dealt_parts, based, kept_parts};
-ghost use Rattle.packet_version.specs.Views.{PlainView, seen_parts, wrote, wrote_all, HasBytes, WroteAlone};
-ghost use Rattle.packet_version.specs.Lending.{edited};
+ghost use Rattle.packet_version.specs.Views.{PlainView, seen_parts, seen_values, wrote, pushed, popped, wrote_all, alone, HasBytes, WroteAlone};
+ghost use Rattle.packet_version.specs.Lending.{edited, over};
 ghost use Rattle.packet_version.specs.ViewLending.{left};
 ghost use Rattle.action_profile.specs.Profiles.{writes_of};
-ghost use Rattle.chain_walk.specs.Shown.{Values, AreWellFormed};
 
+use crate::version::Version;
 use crate::view::View;
 use packet_fields::Field;
 
@@ -25,6 +27,31 @@ pub fn written_is_read()
 pub fn left_is_read()
     ensures { (view : PlainView) (f : Field) (bytes : List ℕ) → WroteAlone f (option_map (edited bytes view.position) (seen_parts view f)) view (left f bytes view) }
 {}
+
+/// A view in which nothing was written is as it was.
+pub fn unwritten_stays(view: &View)
+    ensures { wrote_all nothing view.now ≡ view.now }
+{
+    let _ = &view.position;
+}
+
+/// Each way of writing in a view is to write one field: new bytes, bytes that were lent and left, one tag
+/// more before the others, and one less.
+pub fn written_is_one_value()
+    ensures set { (view : PlainView) (f : Field) (bytes : List ℕ) → wrote f bytes view ≡ wrote_all (alone f (Some bytes)) view }
+    ensures edited { (view : PlainView) (f : Field) (bytes : List ℕ) → left f bytes view ≡ wrote_all (alone f (option_map (over bytes) (seen_values view f))) view }
+    ensures pushed { (view : PlainView) (tag : List ℕ) → pushed tag view ≡ wrote_all (alone Field.Tag (option_map (λ tags. tag ++ tags) (seen_values view Field.Tag))) view }
+    ensures popped { (view : PlainView) → popped view ≡ wrote_all (alone Field.Tag (option_map (λ tags. drop 4 tags) (seen_values view Field.Tag))) view }
+{}
+
+/// Whoever wrote a field of a version did so in a branch that writes the field: what a branch only reads
+/// was written by nobody. A version has a place for each field.
+pub fn written_is_own(version: &Version)
+    ensures unwritten { (f : Field) → has_write f version.now.touch ≡ false → writers_of (parts_in version.now) f ≡ 0 }
+    ensures ten { length version.now.parts ≡ 10 }
+{
+    let _ = &version.touch;
+}
 
 /// What one branch writes no other branch's version shows.
 pub fn write_apart(mine: &mut View, other: &mut View, field: Field, value: &[u8])
@@ -47,15 +74,3 @@ pub fn dealt_is_read()
 pub fn shape_fits()
     ensures { (old new : Parts) (rest : List ℕ) → IsWhole old rest → IsShapedAs old new → IsWhole new rest }
 {}
-
-/// What is dealt of a packet is well formed.
-pub fn dealt_is_well_formed()
-    ensures { (whole : PlainApart) (touch : Touch) → IsWhole (parts_of whole) whole.rest → AreWellFormed (values_of (parts_in (dealt whole touch))) }
-{}
-
-/// A view into which nothing was written is as it was.
-pub fn unwritten_stays(view: &View)
-    ensures { (new : Values) → ((f : Field) → new f ≡ None) → wrote_all new view.now ≡ view.now }
-{
-    let _slots = &view.slots;
-}

@@ -10,6 +10,10 @@
 //! behind the stage it gathers the lent parts ([`Base::gather`]), takes those that the branches wrote
 //! ([`Version::take`], [`Gathered::put`]), and is a packet again ([`Gathered::finish`]).
 //!
+//! A part stays in its frame until a branch writes its field: then it is taken out, and [`join`] writes
+//! it back. So a field that nobody writes is never copied, and all that a stage's branches only read is
+//! lent at once, with the frame.
+//!
 //! What is promised: a frame that was split and joined is the same frame, whatever its bytes; each branch
 //! is dealt exactly the fields that it touches and the packet has, written by nobody; the tally rises by
 //! exactly the copies that are due; a view shows the bytes of the version, a write changes that one
@@ -30,11 +34,12 @@ mod base;
 mod dealing;
 mod gathered;
 mod hand;
+mod held;
 mod laws;
 mod lease;
 mod part;
+mod place;
 mod rest;
-mod slot;
 mod tally;
 #[cfg(test)]
 mod tests;
@@ -47,8 +52,8 @@ pub use chain_walk::{Fixed, Verdict};
 pub use dealing::deal;
 pub use gathered::Gathered;
 pub use laws::{
-    dealt_is_read, dealt_is_well_formed, left_is_read, shape_fits, unwritten_stays, write_apart,
-    written_is_read,
+    dealt_is_read, left_is_read, shape_fits, unwritten_stays, write_apart, written_is_one_value,
+    written_is_own, written_is_read,
 };
 pub use part::{Part, copy};
 pub use tally::Tally;

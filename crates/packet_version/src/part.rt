@@ -75,6 +75,20 @@ impl Part {
         self
     }
 
+    /// Leaves the part as written by nobody.
+    pub(crate) fn forget_writer(&mut self)
+        ensures { self.new ≡ unwritten self.old }
+    {
+        self.writer = 0;
+    }
+
+    /// How many bytes of room there are beyond those of the field.
+    pub(crate) fn spare(&self) -> usize
+        ensures { self.now.room ≡ length self.now.bytes + result }
+    {
+        self.room - self.bytes.len()
+    }
+
     /// Writes the bytes, as many as there are.
     pub(crate) fn set(&mut self, writer: u32, bytes: &[u8])
         requires { length bytes.now ≡ length self.old.bytes }
@@ -123,9 +137,24 @@ impl Part {
     }
 }
 
-ghost use Rattle.std.specs.Prelude.{◌≡◌, IfOk, if◌then◌else◌, is_ok};
+ghost use Rattle.std.specs.Prelude.{◌≡◌, IfOk, if◌then◌else◌, is_ok, IsSome, IfSome};
+ghost use Rattle.std.specs.Borrow.{sem};
 ghost use Rattle.packet_version.specs.Parts.{unwritten};
+ghost use Rattle.packet_version.specs.Lending.{LendsPart};
+ghost use Rattle.packet_version.specs.Splitting.{fresh};
 ghost use Rattle.packet_version.specs.Tallies.{RaisesBy};
+
+/// Sets the writer of a part that is there, and lends its bytes.
+pub(crate) fn edit_part(part: &mut Option<Part>, writer: u32) -> &mut [u8]
+    requires { IsSome part.old }
+    ensures* writes_back { sem 𝓛 (LendsPart part.entry writer result) }
+    ensures bytes { IfSome part.old (λ p. result.now ≡ p.bytes) }
+{
+    match part {
+        Some(part) => part.edit(writer),
+        None => unreachable!(),
+    }
+}
 
 /// A second part with the same bytes and the same room, which nobody wrote in this stage.
 ///
@@ -134,7 +163,23 @@ pub fn copy(alloc: Global, part: &Part, field: Field, tally: &mut Tally) -> Resu
     ensures same { IfOk result (λ made. made ≡ unwritten part.now) }
     ensures counted { RaisesBy (if is_ok result then 1 else 0) field tally.old tally.new }
 {
-    let made = Part::new(alloc, part.bytes(), part.room() - part.bytes().len())?;
+    copy_bytes(alloc, part.bytes(), part.spare(), field, tally)
+}
+
+/// A part of bytes of which there is another, with room for `spare` bytes more, which nobody wrote.
+///
+/// The tally of the field rises by one exactly where the copy is made.
+pub(crate) fn copy_bytes(
+    alloc: Global,
+    bytes: &[u8],
+    spare: usize,
+    field: Field,
+    tally: &mut Tally,
+) -> Result<Part, AllocError>
+    ensures same { IfOk result (λ made. made ≡ fresh spare bytes.now) }
+    ensures counted { RaisesBy (if is_ok result then 1 else 0) field tally.old tally.new }
+{
+    let made = Part::new(alloc, bytes, spare)?;
     tally.count(field);
     Ok(made)
 }

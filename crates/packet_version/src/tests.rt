@@ -1,8 +1,12 @@
 ghost use Rattle.std.specs.Prelude.{◌≡◌, length, IfOk};
+ghost use Rattle.packet_fields.specs.declared.field.Field.{Field};
 ghost use Rattle.action_profile.specs.Modes.{modes_of};
+ghost use Rattle.packet_version.specs.Parts.{as_map, writer_in, AreTags};
 
+use crate::held::Held;
 use crate::lease::Lease;
 use crate::part::Part;
+use crate::rest::Rest;
 use crate::version::Version;
 use crate::{Fixed, Tally, copy, deal, join, split};
 use action_profile::{FieldSet, Kind, Mode, StageParts, Touch, all_fields, profile};
@@ -52,17 +56,26 @@ const BALANCES: Touch = Touch {
     writes: FieldSet::DST_IP,
 };
 
+/// A loan of the packet to one branch.
+fn loan(alloc: Global) -> Result<Lease, AllocError>
+    ensures one { IfOk result (λ lease. lease.left ≡ 1) }
+    ensures unwritten { IfOk result (λ lease. (f : Field) → writer_in (as_map lease.held.parts f) ≡ 0) }
+    ensures tags { IfOk result (λ lease. AreTags (as_map lease.held.parts Field.Tag)) }
+{
+    let rest = Rest::new(Vec::from_slice(alloc, PACKET)?);
+    Lease::new(alloc, Held::new(alloc, rest, 0)?, 1)
+}
+
 #[test]
 fn reads_a_lent_part_and_writes_its_own(rt: HostRuntime) -> Result<(), Fail> {
-    let source = Part::new(rt.alloc(), b"\x0a\0\0\x01", 0)?;
-    let mut lease = Lease::new(rt.alloc(), source, 1)?;
+    let mut lease = loan(rt.alloc())?;
     let mut version = Version::empty(rt.alloc(), BALANCES, FIXED)?;
-    version.lend(Field::SrcIp, lease.next());
+    version.lend(lease.next());
     version.give(Field::DstIp, Part::new(rt.alloc(), b"\x0a\0\0\x02", 0)?);
 
     let mut view = version.view(&rt, &profile(Kind::Balancer), 3);
     assert!(rt; view.get(Field::SrcIp) == Some(b"\x0a\0\0\x01".as_slice()));
-    assert!(rt; !view.has(Field::SrcPort) && view.time() == 7);
+    assert!(rt; view.has(Field::SrcPort) && view.time() == 7);
     view.set(Field::DstIp, b"\x0a\x09\0\x01");
     assert!(rt; view.get(Field::DstIp) == Some(b"\x0a\x09\0\x01".as_slice()));
     view.edit(Field::DstIp)[3] = 2;
@@ -71,7 +84,8 @@ fn reads_a_lent_part_and_writes_its_own(rt: HostRuntime) -> Result<(), Fail> {
     assert!(rt; version.writer(Field::DstIp) == 3 && version.writer(Field::SrcIp) == 0);
     let written = version.take(Field::DstIp);
     assert!(rt; written.is_some_and(|part| part.bytes() == b"\x0a\x09\0\x02".as_slice()));
-    assert!(rt; lease.into_owner().take(&rt).bytes() == b"\x0a\0\0\x01".as_slice());
+    let held = lease.into_owner().take(&rt);
+    assert!(rt; held.bytes(Field::DstIp) == Some(b"\x0a\0\0\x02".as_slice()));
     Ok(())
 }
 

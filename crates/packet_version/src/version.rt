@@ -1,56 +1,60 @@
 //! What a branch of a stage has of a packet.
 
-use chain_walk::Fixed;
+use crate::held::Held;
 use crate::part::Part;
-use crate::slot::Slot;
 use crate::view::View;
-use action_profile::{Profile, Touch, all_fields};
+use action_profile::{FieldSet, Profile, Touch, all_fields};
+use chain_walk::Fixed;
 use packet_fields::Field;
-use part_lease::Reader;
+use part_lease::{Reader, Shown};
 use std::alloc::{AllocError, Global};
 use std::marker::Model;
 use std::mem;
 use std::sync::Wait;
 
 /// A branch's version of a packet: the parts of the fields that the branch touches, and the packet's
-/// fixed values.
+/// fixed values. Those that it writes are its own, and those that it only reads are lent to it.
 #[derive(Drop)]
 pub struct Version {
-    pub(crate) slots: Vec<Slot>,
+    // A place for each field, or none where the branch writes nothing.
+    pub(crate) own: Vec<Option<Part>>,
+    // One loan has all that the branch only reads.
+    pub(crate) lent: Option<Reader<Held>>,
     pub(crate) touch: Touch,
     pub(crate) fixed: Fixed,
 }
 
 impl Model for Version {
-    ghost use Rattle.std.specs.Prelude.{map};
-    ghost use Rattle.packet_version.specs.Slots.{part_in, AreSlots};
-    ghost use Rattle.packet_version.specs.Versions.{PlainVersion};
+    ghost use Rattle.packet_version.specs.Parts.{as_map, as_list};
+    ghost use Rattle.packet_version.specs.Versions.{PlainVersion, had_by, lent_parts, IsHad};
 
     ghost Value = { PlainVersion };
 
-    ghost view = { λ v. record { parts = map part_in v.slots.items; touch = v.touch; fixed = v.fixed } };
+    ghost view = { λ v. record { parts = as_list (had_by v.touch (as_map v.own.items) (lent_parts v.lent)); touch = v.touch; fixed = v.fixed } };
 
-    ghost invariant = { λ v. AreSlots v.touch v.slots.items };
+    ghost invariant = { λ v. IsHad v.touch v.own.items v.lent };
 }
 
 impl Version {
     ghost use Rattle.std.specs.Prelude.{◌≡◌, ◌≤◌};
     ghost use Rattle.packet_version.specs.Versions.{HoldsNamed};
 
-    /// The version as the function with this profile at this chain position sees it. It waits for
-    /// claims on the parts that are lent.
+    /// The version as the function with this profile at this chain position sees it. It waits for a
+    /// claim on the parts that are lent.
     pub fn view<R: Wait>(self, rt: &R, profile: &Profile, position: u32) -> View
         requires holds { HoldsNamed profile.now self.touch }
         requires position { 1 ≤ position }
         ensures { result ≡ record { version = self; profile = profile.now; position = position } }
     {
         let Version {
-            slots,
+            own,
+            lent,
             touch,
             fixed,
         } = self;
         View {
-            slots: claimed(rt, slots),
+            own,
+            lent: claimed(rt, lent),
             touch,
             fixed,
             profile: *profile,
@@ -60,25 +64,21 @@ impl Version {
 }
 
 impl Version {
-    ghost use Rattle.std.specs.Prelude.{◌≡◌, Some, None, true, IfOk};
+    ghost use Rattle.std.specs.Prelude.{◌≡◌, Some, None, true, false, IfOk};
     ghost use Rattle.packet_fields.specs.Frames.{is_tag_list};
     ghost use Rattle.packet_fields.specs.declared.field.Field.{Field};
-    ghost use Rattle.action_profile.specs.Modes.{has_write, only_reads};
-    ghost use Rattle.packet_version.specs.Parts.{writers_of};
-    ghost use Rattle.packet_version.specs.Slots.{AreTags};
+    ghost use Rattle.action_profile.specs.Modes.{has_write};
+    ghost use Rattle.packet_version.specs.Parts.{as_map, writer_in, writers_of, AreTags};
     ghost use Rattle.packet_version.specs.Versions.{parts_of, with_part, nothing};
+    ghost use Rattle.packet_version.specs.Handing.{reads_more, with_loan};
 
     /// A branch's version in which there is no field yet.
     pub(crate) fn empty(alloc: Global, touch: Touch, fixed: Fixed) -> Result<Version, AllocError>
         ensures { IfOk result (λ version. version ≡ nothing touch fixed) }
     {
-        let fields = all_fields();
-        let mut slots = Vec::with_capacity(alloc, fields.len())?;
-        for _field in fields {
-            slots.push(Slot::Absent)?;
-        }
         Ok(Version {
-            slots,
+            own: own_places(alloc, touch.writes)?,
+            lent: None,
             touch,
             fixed,
         })
@@ -91,36 +91,45 @@ impl Version {
         self.touch.writes.has(field)
     }
 
-    /// Does the branch read the field and not write it?
-    pub(crate) fn only_reads(&self, field: Field) -> bool
-        ensures { result ≡ only_reads field self.now.touch }
+    /// Does the branch read a field that it doesn't write?
+    #[tactic(auto, unfolding(crate::specs::Handing::reads_more))]
+    pub(crate) fn reads_more(&self) -> bool
+        ensures { result ≡ reads_more self.now.touch }
     {
-        self.touch.reads.has(field) && !self.touch.writes.has(field)
+        self.touch.reads.with(self.touch.writes) != self.touch.writes
     }
 
     /// The chain position of the function that wrote the field last in this stage, 0 for none.
     pub fn writer(&self, field: Field) -> u32
-        ensures { result ≡ writers_of (parts_of self.now) field }
+        ensures writer { result ≡ writers_of (parts_of self.now) field }
+        // Only a field that the branch writes has a writer.
+        ensures unwritten { has_write field self.now.touch ≡ false → result ≡ 0 }
     {
-        self.slots[field.number()].writer()
+        if !self.touch.writes.has(field) {
+            return 0;
+        }
+        match &self.own[field.number()] {
+            Some(part) => part.writer(),
+            None => 0,
+        }
     }
 
-    /// Gives the branch a part of its own.
+    /// Gives the branch a part of its own of a field that it writes.
     pub(crate) fn give(&mut self, field: Field, part: Part)
-        requires { field ≡ Field.Tag → is_tag_list part.bytes ≡ true }
+        requires written { has_write field self.old.touch ≡ true }
+        requires tags { field ≡ Field.Tag → is_tag_list part.bytes ≡ true }
         ensures { self.new ≡ with_part field (Some part) self.old }
     {
-        self.slots[field.number()] = Slot::Own(part);
+        self.own[field.number()] = Some(part);
     }
 
-    /// Lends the branch, which only reads the field, a part that nobody wrote.
-    pub(crate) fn lend(&mut self, field: Field, reader: Reader<Part>)
-        requires reads { only_reads field self.old.touch ≡ true }
-        requires unwritten { reader.writer ≡ 0 }
-        requires tags { field ≡ Field.Tag → is_tag_list reader.bytes ≡ true }
-        ensures { self.new ≡ with_part field (Some reader) self.old }
+    /// Lends the branch a packet that nobody wrote, of which it sees what it only reads.
+    pub(crate) fn lend(&mut self, reader: Reader<Held>)
+        requires unwritten { (f : Field) → writer_in (as_map reader.parts f) ≡ 0 }
+        requires tags { AreTags (as_map reader.parts Field.Tag) }
+        ensures { self.new ≡ with_loan (as_map reader.parts) self.old }
     {
-        self.slots[field.number()] = Slot::Lent(reader);
+        self.lent = Some(reader);
     }
 
     /// Takes the branch's own part of a field away.
@@ -131,35 +140,51 @@ impl Version {
         // The tags of a version are whole.
         ensures tags { field ≡ Field.Tag → AreTags result }
     {
-        let slot = mem::replace(&mut self.slots[field.number()], Slot::Absent);
-        slot.into_own()
+        mem::replace(&mut self.own[field.number()], None)
     }
 }
 
-ghost use Rattle.std.specs.Prelude.{◌≡◌, map, true, All};
-ghost use Rattle.packet_version.specs.Slots.{part_in, is_own, is_shown};
+ghost use Rattle.std.specs.Prelude.{◌≡◌, None, IfOk, [], map, if◌then◌else◌};
+ghost use Rattle.packet_fields.specs.Writing.{all_fields as every_field};
+ghost use Rattle.action_profile.specs.FieldSets.{is_none};
 
-/// The slots with a claim on each part that is lent.
-fn claimed<R: Wait>(rt: &R, mut slots: Vec<Slot>) -> Vec<Slot>
-    ensures parts { map part_in result.items ≡ map part_in slots.items }
-    ensures own { map is_own result.items ≡ map is_own slots.items }
-    ensures shown { All (λ s. is_shown s ≡ true) result.items }
+/// A place for each part of a branch that writes these fields, none where it writes nothing.
+fn own_places(alloc: Global, writes: FieldSet) -> Result<Vec<Option<Part>>, AllocError>
+    ensures { IfOk result (λ own. own.items ≡ (if is_none writes then [] else map (λ f. None) every_field)) }
 {
-    for slot in slots.iter_mut() {
-        let held = mem::replace(slot, Slot::Absent);
-        *slot = held.claimed(rt);
+    if writes == FieldSet::NONE {
+        return Ok(Vec::new(alloc));
     }
-    slots
+    empty_places(alloc)
 }
 
-/// The slots with every claim given back.
-pub(crate) fn released(mut slots: Vec<Slot>) -> Vec<Slot>
-    ensures parts { map part_in result.items ≡ map part_in slots.items }
-    ensures own { map is_own result.items ≡ map is_own slots.items }
+fn empty_places(alloc: Global) -> Result<Vec<Option<Part>>, AllocError>
+    ensures { IfOk result (λ own. own.items ≡ map (λ f. None) every_field) }
 {
-    for slot in slots.iter_mut() {
-        let held = mem::replace(slot, Slot::Absent);
-        *slot = held.released();
+    let fields = all_fields();
+    let mut own = Vec::with_capacity(alloc, fields.len())?;
+    for _field in fields {
+        own.push(None)?;
     }
-    slots
+    Ok(own)
+}
+
+/// A claim on what is lent.
+fn claimed<R: Wait>(rt: &R, lent: Option<Reader<Held>>) -> Option<Shown<Held>>
+    ensures { result ≡ lent }
+{
+    match lent {
+        Some(reader) => Some(reader.read(rt)),
+        None => None,
+    }
+}
+
+/// The right to read again, with the claim given back.
+pub(crate) fn released(shown: Option<Shown<Held>>) -> Option<Reader<Held>>
+    ensures { result ≡ shown }
+{
+    match shown {
+        Some(shown) => Some(shown.done()),
+        None => None,
+    }
 }

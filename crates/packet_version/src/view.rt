@@ -1,18 +1,20 @@
 //! What a function sees of its branch's version.
 
-use chain_walk::Fixed;
-use crate::part::Part;
-use crate::slot::Slot;
+use crate::held::Held;
+use crate::part::{Part, edit_part};
 use crate::version::{Version, released};
 use action_profile::{Profile, Touch};
+use chain_walk::Fixed;
 use packet_fields::Field;
+use part_lease::Shown;
 use std::marker::Model;
 use std::mem;
 
 /// A version as one function sees it: what its profile names, and nothing else. A view can't be
 /// dropped: [`View::end`] gives the version back.
 pub struct View {
-    pub(crate) slots: Vec<Slot>,
+    pub(crate) own: Vec<Option<Part>>,
+    pub(crate) lent: Option<Shown<Held>>,
     pub(crate) touch: Touch,
     pub(crate) fixed: Fixed,
     pub(crate) profile: Profile,
@@ -20,15 +22,15 @@ pub struct View {
 }
 
 impl Model for View {
-    ghost use Rattle.std.specs.Prelude.{map};
-    ghost use Rattle.packet_version.specs.Slots.{part_in};
+    ghost use Rattle.packet_version.specs.Parts.{as_map, as_list};
+    ghost use Rattle.packet_version.specs.Versions.{had_by, lent_parts};
     ghost use Rattle.packet_version.specs.Views.{PlainView, IsView};
 
     ghost Value = { PlainView };
 
-    ghost view = { λ v. record { version = record { parts = map part_in v.slots.items; touch = v.touch; fixed = v.fixed }; profile = v.profile; position = v.position } };
+    ghost view = { λ v. record { version = record { parts = as_list (had_by v.touch (as_map v.own.items) (lent_parts v.lent)); touch = v.touch; fixed = v.fixed }; profile = v.profile; position = v.position } };
 
-    ghost invariant = { λ v. IsView v.profile v.touch v.slots.items };
+    ghost invariant = { λ v. IsView v.profile v.touch v.own.items v.lent };
 }
 
 impl View {
@@ -37,7 +39,7 @@ impl View {
     ghost use Rattle.packet_fields.specs.Frames.{is_tpid, word};
     ghost use Rattle.packet_fields.specs.declared.field.Field.{Field};
     ghost use Rattle.action_profile.specs.Profiles.{reads_of, writes_of};
-    ghost use Rattle.packet_version.specs.Slots.{AreTags};
+    ghost use Rattle.packet_version.specs.Parts.{AreTags};
     ghost use Rattle.packet_version.specs.Versions.{names, with_part};
     ghost use Rattle.packet_version.specs.Views.{seen_parts, seen_values, wrote, pushed, popped, HasBytes, HasTagRoom};
     ghost use Rattle.packet_version.specs.ViewLending.{LendsField};
@@ -48,7 +50,7 @@ impl View {
         requires read { reads_of self.now.profile field ≡ true }
         ensures { option_copied result ≡ seen_values self.now field }
     {
-        Some(self.slots[field.number()].part()?.bytes())
+        self.bytes(field)
     }
 
     /// Does the packet have this field, which the profile reads or writes?
@@ -56,7 +58,21 @@ impl View {
         requires named { names self.now.profile field ≡ true }
         ensures { result ≡ is_some (seen_parts self.now field) }
     {
-        self.slots[field.number()].is_there()
+        self.bytes(field).is_some()
+    }
+
+    /// The bytes of a field that the profile names, where the packet has it.
+    fn bytes(&self, field: Field) -> Option<&[u8]>
+        requires named { names self.now.profile field ≡ true }
+        ensures { option_copied result ≡ seen_values self.now field }
+    {
+        if self.touch.writes.has(field) {
+            return own_bytes(&self.own[field.number()]);
+        }
+        match &self.lent {
+            Some(shown) => shown.part().bytes(field),
+            None => None,
+        }
     }
 
     /// Writes a field that is present and that the profile writes, other than the tags. The value has as
@@ -82,8 +98,8 @@ impl View {
         ensures* writes_back { sem 𝓛 (LendsField self.entry field result) }
         ensures bytes { seen_values self.old field ≡ Some result.now }
     {
-        let slot = &mut self.slots[field.number()];
-        slot.edit(self.position)
+        let part = &mut self.own[field.number()];
+        edit_part(part, self.position)
     }
 
     /// Puts a tag before the others, for which there is room. It begins with the identifier of a tag
@@ -117,16 +133,16 @@ impl View {
         ensures left { self.new ≡ record self.old { version = with_part field None self.old.version } }
         ensures tags { field ≡ Field.Tag → AreTags result }
     {
-        let slot = mem::replace(&mut self.slots[field.number()], Slot::Absent);
-        slot.into_own()
+        mem::replace(&mut self.own[field.number()], None)
     }
 
     /// Puts a part, or none, into the place of a field.
     fn put(&mut self, field: Field, part: Option<Part>)
-        requires { field ≡ Field.Tag → AreTags part }
+        requires written { writes_of self.old.profile field ≡ true }
+        requires tags { field ≡ Field.Tag → AreTags part }
         ensures { self.new ≡ record self.old { version = with_part field part self.old.version } }
     {
-        self.slots[field.number()] = Slot::of(part);
+        self.own[field.number()] = part;
     }
 
     /// When the packet was captured, in nanoseconds.
@@ -164,19 +180,21 @@ impl View {
         self.fixed.tcp_flags
     }
 
-    /// Gives the claims back, and the version with what was written.
+    /// Gives the claim back, and the version with what was written.
     pub fn end(self) -> Version
         ensures { result ≡ self.version }
     {
         let View {
-            slots,
+            own,
+            lent,
             touch,
             fixed,
             profile: _,
             position: _,
         } = self;
         Version {
-            slots: released(slots),
+            own,
+            lent: released(lent),
             touch,
             fixed,
         }
@@ -185,8 +203,18 @@ impl View {
 
 ghost use Rattle.std.specs.Prelude.{◌≡◌, ◌≤◌, ◌<◌, ◌+◌, ◌++◌, true, drop, length, option_map, IsSomeAnd};
 ghost use Rattle.packet_fields.specs.Frames.{is_tpid, word};
-ghost use Rattle.packet_version.specs.Slots.{AreTags};
-ghost use Rattle.packet_version.specs.Parts.{rewritten as rewritten_part};
+ghost use Rattle.std.specs.Option.{option_copied};
+ghost use Rattle.packet_version.specs.Parts.{AreTags, rewritten as rewritten_part};
+
+/// The bytes of a part that is there.
+fn own_bytes(part: &Option<Part>) -> Option<&[u8]>
+    ensures { option_copied result ≡ option_map (λ p. p.bytes) part.now }
+{
+    match part {
+        Some(part) => Some(part.bytes()),
+        None => None,
+    }
+}
 
 /// A part that is there, with other bytes by this writer.
 fn rewritten(part: Option<Part>, writer: u32, bytes: &[u8]) -> Option<Part>

@@ -6,16 +6,16 @@ use Rattle.packet_version.proofs.Stepping.{number_at}
 use Rattle.merge_ops.specs.Merging.{op_of}
 use Rattle.merge_ops.specs.declared.decision.MergeOp.{MergeOp}
 use Rattle.merge_ops.specs.declared.decision.MergeOp.TheVariants.{Keep}
-use Rattle.merge_ops.proofs.Same.{writing_op, put_next, same_on}
+use Rattle.merge_ops.proofs.Same.{written_op, put_next, same_on}
 use Rattle.merge_ops.proofs.merging.put_parts.Goals as goal
 
-pub put_part-requires-clause-writing : goal.put_part-requires-clause-writing
-put_part-requires-clause-writing c =
+pub put_part-requires-clause-written : goal.put_part-requires-clause-written
+put_part-requires-clause-written c =
     let f = get_or c.all_fields-field-items.result.now c.loop-field.field-index LinkDst in
     let at : number_of f ≡ c.loop-field.field-index = number_at c.all_fields-field-items.result.now c.loop-field.field-index c.loop-field.invariant.fields c.loop-field-test.true in
     let op : get_or c.args.ops.now c.number.result Keep ≡ op_of c.args.arrivals.now f =
     ap (λ (n : ℕ). get_or c.args.ops.now n Keep) c.number.ensures.number ∙ (ap (λ (ops : List MergeOp). get_or ops (number_of f) Keep) c.requires.ops ∙ listed_at (op_of c.args.arrivals.now) Keep f) in
-    writing_op f (get_or c.args.ops.now c.number.result Keep) c.args.arrivals.now c.loop-field.arrivals op (c.loop-field.invariant.left f (omega arith)) (c.requires.writing f)
+    written_op f (get_or c.args.ops.now c.number.result Keep) c.args.arrivals.now c.loop-field.arrivals op (c.loop-field.invariant.left f (omega arith))
 
 pub loop-field-preserved : goal.loop-field-preserved
 loop-field-preserved c =

@@ -3,7 +3,7 @@ use Rattle.action_profile.specs.FieldSets.{all_fields}
 use Rattle.packet_fields.specs.Fields.{number_of}
 use Rattle.packet_fields.specs.declared.field.Field.{Field}
 use Rattle.packet_fields.specs.declared.field.Field.TheVariants.{Tag}
-use Rattle.packet_version.specs.Slots.{AreTags}
+use Rattle.packet_version.specs.Parts.{AreTags}
 use Rattle.packet_version.specs.Splitting.{parts_of}
 use Rattle.merge_ops.specs.Taking.{SameIn}
 use Rattle.merge_ops.proofs.Same.{on_way}

@@ -1,5 +1,6 @@
 use Rattle.std.proofs.Common.{arith, get_or}
 use Rattle.packet_version.specs.Handing.{copied_to}
+use Rattle.packet_version.specs.Splitting.{fresh}
 use Rattle.packet_version.proofs.Mapping.{read_next, changed_next}
 use Rattle.packet_version.proofs.Counting.{raises_none}
 use Rattle.packet_version.proofs.Handing.{copies_next, copies_refused, on_err}
@@ -11,7 +12,7 @@ loop-version-init c = record { given = refl; counted = raises_none c.args.field 
 
 pub loop-version-preserved : goal.loop-version-preserved
 loop-version-preserved c =
-    let g = copied_to c.args.field c.args.part.now in
+    let g = copied_to c.args.field (fresh c.args.spare c.args.bytes.now) in
     let item = get_or c.loop-version.versions c.loop-version.version-index c.version-item.result in
     record {
       given = changed_next g c.args.versions.now c.loop-version.versions c.loop-version.version-index c.give_copy.new.version c.version-item.result (omega (arith, c.loop-version.auto.versions)) c.loop-version.invariant.given c.in_ok-give_copy.ensures.given;

@@ -5,4 +5,4 @@ use Rattle.packet_version.proofs.Resting.{whole_from}
 use Rattle.packet_version.proofs.gathered.Gathered.finish.Goals as goal
 
 pub invariant_of-result : goal.invariant_of-result
-invariant_of-result c = (c.self.invariant, whole_from (as_map c.self.inside.parts.items) c.self.inside.rest (subst (λ (w : PlainApart). IsWhole (parts_of w) w.rest) (sym c.self.view_is) c.requires))
+invariant_of-result c = whole_from (as_map c.self.inside.held.parts) c.self.inside.held.frame (subst (λ (w : PlainApart). IsWhole (parts_of w) w.rest) (sym c.self.view_is) c.requires)

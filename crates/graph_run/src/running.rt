@@ -1,0 +1,44 @@
+//! The functions of a chain and the graph that they run in.
+
+use graph_compile::Graph;
+use net_functions::Function;
+use std::marker::Model;
+
+/// Functions in chain order, in the states in which the last packet left them, and a graph that is lawful
+/// for them.
+#[derive(Drop)]
+pub struct Running<F: Function> {
+    pub(crate) functions: Vec<F>,
+    pub(crate) graph: Graph,
+}
+
+impl<F: Function> Model for Running<F> {
+    ghost use Rattle.graph_run.specs.Running.{PlainRunning, IsRunning};
+
+    ghost Value = { PlainRunning F };
+
+    ghost view = { λ r. record { functions = r.functions.items; graph = r.graph } };
+
+    ghost invariant = { λ r. IsRunning F.behaviour r.functions.items r.graph };
+}
+
+impl<F: Function> Running<F> {
+    ghost use Rattle.std.specs.Prelude.{◌≡◌};
+    ghost use Rattle.graph_run.specs.Running.{IsRunning};
+
+    /// At most 64 functions in chain order, in their opening states, and a graph that is lawful for their
+    /// profiles, in which each stage has a branch and each branch a function. Takes no memory.
+    pub fn new(functions: Vec<F>, graph: Graph) -> Running<F>
+        requires { IsRunning F.behaviour functions.items graph }
+        ensures { result ≡ record { functions = functions.items; graph = graph } }
+    {
+        Running { functions, graph }
+    }
+
+    /// The functions in chain order, in the states in which the last packet left them.
+    pub fn functions(&self) -> &[F]
+        ensures { result.now ≡ self.now.functions }
+    {
+        self.functions.as_slice()
+    }
+}

@@ -1,0 +1,52 @@
+//! A stage of a graph: a packet is dealt to its branches, each runs, and what comes is merged.
+ghost use Rattle.std.specs.Prelude.{◌≡◌, ℕ, IfOk, OnOk, OnErr};
+ghost use Rattle.graph_law.specs.Flow.{staged};
+ghost use Rattle.graph_run.specs.Carrying.{values_in, as_end};
+ghost use Rattle.graph_run.specs.Counting.{RaisesAll, RaisesUpTo};
+ghost use Rattle.graph_run.specs.Running.{profiles_of};
+ghost use Rattle.graph_run.specs.Stages.{IsStageReady, LeavesStage, end_of, stage_copies};
+
+use crate::branch::run_branch;
+use graph_compile::{Stage, lawful_stage_has_owners};
+use graph_law::profiles_stay;
+use merge_ops::{
+    Merged, last_writer_is_greatest, merge, merged_is_written_last, written_is_made,
+};
+use net_functions::Function;
+use packet_version::{Apart, Tally, deal};
+use std::alloc::{AllocError, Global};
+use std::sync::Wait;
+
+/// Leads a packet through the branches of a stage, one branch after another.
+pub(crate) fn run_stage<F: Function, R: Wait>(
+    rt: &R,
+    alloc: Global,
+    functions: &mut [F],
+    stage: &Stage,
+    whole: Apart,
+    tally: &mut Tally,
+) -> Result<Merged, AllocError>
+    requires ready { (first : ℕ) × IsStageReady (profiles_of F.behaviour functions.old) first stage.now whole }
+    ensures functions { OnOk result (functions.new ≡ (staged F.behaviour whole.fixed stage.now (values_in whole) functions.old).functions) }
+    ensures end { IfOk result (λ merged. as_end merged ≡ (staged F.behaviour whole.fixed stage.now (values_in whole) functions.old).end) }
+    ensures leaves { (first : ℕ) → IsStageReady (profiles_of F.behaviour functions.old) first stage.now whole → IfOk result (LeavesStage (profiles_of F.behaviour functions.old) (end_of first stage.now) whole) }
+    ensures counted { OnOk result (RaisesAll (stage_copies stage.now whole) tally.old tally.new) }
+    ensures refused { OnErr result (RaisesUpTo (stage_copies stage.now whole) tally.old tally.new) }
+{
+    lawful_stage_has_owners();
+    profiles_stay::<F>();
+    written_is_made();
+    last_writer_is_greatest();
+    merged_is_written_last();
+    let (base, versions) = deal(alloc, whole, &stage.parts, tally)?;
+    let branches = stage.branches.as_slice();
+    let mut arrivals = Vec::with_capacity(alloc, branches.len())?;
+    let mut index = 0;
+    for version in versions {
+        let positions = branches[index].positions.as_slice();
+        let arrival = run_branch(rt, functions, positions, version)?;
+        arrivals.push(arrival)?;
+        index += 1;
+    }
+    Ok(merge(rt, base, &mut arrivals))
+}

@@ -1,0 +1,14 @@
+use Rattle.std.proofs.Common.{◌∙◌, ◌++◌, ◌∷◌, [], List, ap, sym, arith}
+use Rattle.packet_version.specs.declared.place.Place.{Place}
+use Rattle.packet_version.specs.declared.place.Place.TheVariants.{Inside}
+use Rattle.packet_version.proofs.Maps.{mapped_more, mapped_over}
+use Rattle.packet_version.proofs.held.places_inside.Goals as goal
+
+pub loop-field-preserved : goal.loop-field-preserved
+loop-field-preserved c = (
+  c.loop-field.invariant.0,
+  c.in_ok-push.ensures.items ∙ (ap (λ (xs : List Place). xs ++ Inside ∷ []) c.loop-field.invariant.1 ∙ sym (mapped_more (λ f. Inside) c.all_fields-fields.result.now c.loop-field._field-index c.loop-field-test.true)),
+)
+
+pub returns : goal.returns
+returns c = mapped_over (λ f. Inside) c.all_fields-fields.result.now c.loop-field._field-index c.loop-field.places.items c.loop-field.invariant.0 (omega arith) c.loop-field.invariant.1

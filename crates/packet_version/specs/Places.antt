@@ -1,0 +1,42 @@
+-- Where the parts of a packet are.
+use Rattle.std.specs.Prelude.{ℕ, List, Option, Some, None, Bool, true, false, map, slice_index_or}
+use Rattle.packet_fields.specs.Fields.{number_of}
+use Rattle.packet_fields.specs.Writing.{all_fields}
+use Rattle.packet_fields.specs.declared.field.Field.{Field}
+use Rattle.packet_version.specs.Parts.{PlainPart, Parts, unwritten}
+use Rattle.packet_version.specs.Splitting.{split_parts}
+use Rattle.packet_version.specs.declared.place.Place.{Place}
+use Rattle.packet_version.specs.declared.place.Place.TheVariants.{Inside, Gone, Outside}
+
+abbrev pub place_of : List Place → Field → Place
+place_of places f = slice_index_or places (number_of f) Gone
+
+-- the part of a field, by its place
+abbrev pub part_in : ℕ → List ℕ → Field → Place → Option PlainPart
+part_in taggers frame f Inside = split_parts taggers frame f
+part_in taggers frame f Gone = None
+part_in taggers frame f (Outside part) = Some part
+
+abbrev pub parts_in : ℕ → List ℕ → List Place → Parts
+parts_in taggers frame places f = part_in taggers frame f (place_of places f)
+
+-- the part that stands beside the frame, where there is one
+abbrev pub beside : Place → Option PlainPart
+beside (Outside part) = Some part
+beside place = None
+
+abbrev pub parts_beside : List Place → Parts
+parts_beside places f = beside (place_of places f)
+
+abbrev pub is_outside : Place → Bool
+is_outside (Outside part) = true
+is_outside place = false
+
+-- every part is in the frame
+abbrev pub inside_all : List Place
+inside_all = map (λ f. Inside) all_fields
+
+-- the same place, of whose part nobody is the writer
+abbrev pub unwritten_place : Place → Place
+unwritten_place (Outside part) = Outside (unwritten part)
+unwritten_place place = place
