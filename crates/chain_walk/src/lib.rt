@@ -8,8 +8,9 @@
 //! What a function does is told once, by a `Behaviour` of `specs/Step.antt`: its profile, and its step by what it is
 //! shown of a packet, which is the values of the fields that it reads, which of the fields that it writes are there, and
 //! the packet's [`Fixed`] values. That a function is shown a whole frame or a version of it are two readings of this one
-//! definition. `KeepsProfile` of `specs/Laws.antt` is what every function keeps to; from it alone,
-//! [`frames_walk_as_fields`] says that a frame walks as its fields do.
+//! definition. `KeepsProfile` of `specs/Laws.antt` is what every function keeps to. From it alone,
+//! [`frames_walk_as_fields`] says that a frame walks as its fields do, and [`values_stay_well_formed`] that
+//! a function leaves values in the form that those of a frame have.
 #![tactic(auto)]
 
 mod fixed;

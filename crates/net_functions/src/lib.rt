@@ -7,8 +7,8 @@
 //! declares, or names the least line of the declaration that is refused. As a
 //! [`chain_walk::FrameFunction`] it takes whole frames, with the same behaviour.
 //!
-//! Today the kind [`Kind::Firewall`] is built. How functions are put into stages, and which of them see
-//! a packet, is left out.
+//! Today firewalls are built ([`is_built`]). How functions are put into stages, and which of them see a
+//! packet, is left out.
 #![tactic(auto)]
 
 mod function;
@@ -17,7 +17,6 @@ mod net_function;
 #[cfg(test)]
 mod tests;
 
-pub use action_profile::Kind;
 pub use function::Function;
 pub use making::{build, is_built};
 pub use net_function::NetFunction;

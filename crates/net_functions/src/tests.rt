@@ -12,10 +12,12 @@ ghost use Rattle.net_functions.specs.NetFunctions.{net_behaviour};
 use crate::function::Function;
 use crate::{NetFunction, build, is_built};
 use action_profile::{FieldSet, Kind, Mode, Profile, StageParts, Touch, profile};
-use chain_walk::{Fate, walk_chain};
+use chain_walk::{Fate, values_stay_well_formed, walk_chain};
 use item_list::Items;
 use packet_fields::{Field, Frame};
-use packet_version::{Part, Tally, Verdict, Version, View, deal, split, unwritten_stays};
+use packet_version::{
+    Part, Tally, Verdict, Version, View, deal, dealt_is_read, split, unwritten_stays,
+};
 use policy_text::{BuildFault, Policy, parse};
 use std::alloc::{AllocError, Global};
 use std::process::Abort;
@@ -54,6 +56,7 @@ impl Function for Painter {
     }
 
     fn step(&mut self, view: &mut View) -> Result<Verdict, AllocError> {
+        // What holds of the view where nothing is written.
         unwritten_stays(view);
         if self.count >= 2 {
             self.count = 0;
@@ -115,6 +118,9 @@ fn dealt(
     ensures touch { IfOk result (λ version. version.touch ≡ touch) }
     ensures well_formed { IfOk result (λ version. AreWellFormed (values_of (parts_of version))) }
 {
+    // What is dealt of a packet is formed as the fields of a frame.
+    values_stay_well_formed::<NetFunction>();
+    dealt_is_read();
     let stage = StageParts {
         modes,
         touches: Items::new(Vec::from_array(alloc, [touch])?),

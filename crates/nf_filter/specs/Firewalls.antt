@@ -49,6 +49,7 @@ firewall_of decl = fold (λ f s. with_line f (line_of s.words)) open_firewall de
 unfoldable pub passes : Firewall → Seen → Bool
 passes f seen = option_map_or (λ rule. rule.allow) (find (λ rule. is_fitting rule.fit seen) f.rules) f.default
 
+-- a packet that doesn't pass is dropped
 abbrev pub verdict_by : Bool → Verdict
 verdict_by true = Pass
 verdict_by false = Drop

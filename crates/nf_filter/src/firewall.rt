@@ -63,6 +63,7 @@ impl Firewall {
         ensures verdict { result ≡ Ok (viewed firewall_behaviour self.old view.old).verdict }
         ensures view { view.new ≡ wrote_all (viewed firewall_behaviour self.old view.old).written view.old }
     {
+        // Nothing is written, so the view is as it was.
         unwritten_stays(view);
         Ok(verdict(self.judge(&seen_in(view))))
     }

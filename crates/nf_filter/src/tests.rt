@@ -8,10 +8,10 @@ ghost use Rattle.packet_version.specs.Views.{seen_values};
 
 use crate::firewall::Firewall;
 use action_profile::{Kind, Mode, StageParts, Touch, profile};
-use chain_walk::{Fate, Verdict, walk_chain};
+use chain_walk::{Fate, Verdict, values_stay_well_formed, walk_chain};
 use item_list::Items;
 use packet_fields::Frame;
-use packet_version::{Tally, View, deal, split};
+use packet_version::{Tally, View, deal, dealt_is_read, split};
 use policy_text::{BuildFault, Policy, Seen, TagSeen, parse};
 use std::alloc::{AllocError, Global};
 use std::process::Abort;
@@ -129,6 +129,9 @@ fn view<R: Abort + Wait>(rt: &R, alloc: Global, frame: &[u8]) -> Result<View, Al
     ensures profile { IfOk result (λ view. view.profile ≡ profile_of Kind.Firewall) }
     ensures well_formed { IfOk result (λ view. AreWellFormed (seen_values view)) }
 {
+    // What is dealt of a packet is formed as the fields of a frame.
+    values_stay_well_formed::<Firewall>();
+    dealt_is_read();
     let stage = stage(alloc)?;
     let whole = split(alloc, frame, 7, 0)?;
     let (_base, mut versions) = deal(alloc, whole, &stage, &mut Tally::new())?;

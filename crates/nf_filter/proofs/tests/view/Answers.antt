@@ -1,14 +1,18 @@
-use Rattle.std.proofs.Common.{◌≡◌, ◌∙◌, List, [], ◌∷◌, ◌++◌, map, sym, ap, subst}
+use Rattle.std.proofs.Common.{◌≡◌, ◌∙◌, ℕ, Bool, true, false, List, [], ◌∷◌, ◌++◌, map, sym, ap, subst}
+use Rattle.std.specs.Prelude.{Option, Some, None, IfSome, option_map, if◌then◌else◌}
 use Rattle.std.specs.Option.{option_to_list}
+use Rattle.packet_fields.specs.Writing.{Fits}
+use Rattle.packet_fields.specs.declared.field.Field.{Field}
+use Rattle.action_profile.specs.Modes.{has_touch}
 use Rattle.action_profile.specs.Profiles.{profile_of}
 use Rattle.action_profile.specs.declared.kind.Kind.TheVariants.{Firewall}
 use Rattle.action_profile.specs.declared.parts.Touch.{Touch}
 use Rattle.chain_walk.specs.Shown.{AreWellFormed}
-use Rattle.packet_version.specs.Parts.{values_of}
+use Rattle.packet_version.specs.Parts.{PlainPart, Parts, values_of, unwritten}
+use Rattle.packet_version.specs.Splitting.{parts_of as parts_in}
 use Rattle.packet_version.specs.Versions.{PlainVersion, parts_of}
 use Rattle.packet_version.specs.Views.{PlainView, seen_values}
-use Rattle.packet_version.specs.Dealing.{dealt}
-use Rattle.packet_version.proofs.Forming.{dealt_formed}
+use Rattle.packet_version.specs.Dealing.{dealt, dealt_parts}
 use Rattle.nf_filter.proofs.tests.view.Goals as goal
 
 firewall_touch : Touch
@@ -20,6 +24,12 @@ last_is [] t v e = cc
 last_is (o ∷ []) t v e = absurd cc
 last_is (o ∷ p ∷ others) t v e = absurd cc
 
+dealt_fits : (touched : Bool) (f : Field) (part : Option PlainPart) (frame : List ℕ) → IfSome (option_map (λ p. p.bytes) part) (λ bytes. Fits f bytes frame) →
+    IfSome (option_map (λ p. p.bytes) (if touched then option_map unwritten part else None)) (λ bytes. Fits f bytes frame)
+dealt_fits false f part frame fits = tt
+dealt_fits true f None frame fits = tt
+dealt_fits true f (Some part) frame fits = fits
+
 pub returns-clause-well_formed : goal.returns-clause-well_formed
 unfolding firewall_touch
 returns-clause-well_formed g c =
@@ -27,5 +37,9 @@ returns-clause-well_formed g c =
     let one : dealt whole firewall_touch ∷ [] ≡ c.pop.new.self.items ++ c.expect-version.result ∷ [] =
     sym (c.in_ok-_base.ensures.versions ∙ ap (map (dealt whole)) c.in_ok-stage.ensures.touches) ∙ c.pop.ensures.items ∙ ap (λ o. c.pop.new.self.items ++ option_to_list o) c.expect-version.ensures in
     let is = last_is c.pop.new.self.items (dealt whole firewall_touch) c.expect-version.result one in
-    let formed = subst (λ (v : PlainVersion). AreWellFormed (values_of (parts_of v))) is (dealt_formed whole firewall_touch c.in_ok-_base.ensures.fits) in
+    let read = c.dealt_is_read.ensures.version whole firewall_touch in
+    let formed_whole : AreWellFormed (values_of (parts_of (dealt whole firewall_touch))) =
+    subst (λ (parts : Parts). AreWellFormed (values_of parts)) (sym read)
+    (c.values_stay_well_formed.ensures.fit (values_of (dealt_parts firewall_touch (parts_in whole))) whole.rest (λ f. dealt_fits (has_touch f firewall_touch) f (parts_in whole f) whole.rest (c.in_ok-_base.ensures.fits.fits f))) in
+    let formed = subst (λ (v : PlainVersion). AreWellFormed (values_of (parts_of v))) is formed_whole in
     subst (λ (v : PlainView). AreWellFormed (seen_values v)) (sym c.view.ensures) formed

@@ -1,5 +1,4 @@
-use Rattle.std.proofs.Common.{refl, sym}
-use Rattle.chain_walk.specs.Step.{nothing}
+use Rattle.std.proofs.Common.{sym}
 use Rattle.nf_filter.proofs.firewall.Firewall.step.Goals as goal
 
 pub returns-clause-view : goal.returns-clause-view
