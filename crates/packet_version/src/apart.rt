@@ -46,7 +46,7 @@ pub fn split(alloc: Global, frame: &[u8], time: u64, taggers: u32) -> Result<Apa
     // Put together again it is the same frame.
     ensures whole { IfOk result (λ whole. joined whole ≡ frame.now) }
 {
-    let rest = Rest::new(Vec::from_slice(alloc, frame)?);
+    let rest = Rest::new(alloc, Vec::from_slice(alloc, frame)?)?;
     let plan = rest.plan();
     let fixed = Fixed {
         time,
