@@ -2,15 +2,14 @@
 //! between, over and over, or only copies it: what `bench/versions` measures.
 #![tactic(auto)]
 
-ghost use Rattle.std.specs.Prelude.{◌≡◌, length, map, IfOk};
+ghost use Rattle.std.specs.Prelude.{◌≡◌, [], length, IfOk, OnOk};
 ghost use Rattle.action_profile.specs.Modes.{modes_of};
 ghost use Rattle.merge_ops.specs.Behind.{AreArrivals};
-ghost use Rattle.merge_ops.specs.declared.arrival.Arrival.TheVariants.{Version as of_version};
 
 use action_profile::{FieldSet, Mode, StageParts, Touch};
 use item_list::Items;
 use merge_ops::{Arrival, Merged, merge};
-use packet_version::{Apart, Base, Tally, Version, deal, join, split};
+use packet_version::{Apart, Base, Tally, deal, join, split};
 use std::alloc::{AllocError, Global};
 use std::sync::Wait;
 use std::{env, io};
@@ -97,30 +96,31 @@ fn joined(alloc: Global, frame: &[u8]) -> Result<u64, AllocError> {
     Ok(sum)
 }
 
-fn arrivals_of(alloc: Global, versions: Vec<Version>) -> Result<Vec<Arrival>, AllocError>
-    ensures { IfOk result (λ arrivals. arrivals.items ≡ map (λ v. of_version v) versions.items) }
-{
-    versions
-        .into_iter()
-        .map(|version| Arrival::Version(version))
-        .collect(alloc)
-}
-
-/// The base of a packet, and what comes from branches without a function.
+/// The base of a packet. What comes from branches without a function is added to the arrivals, of which
+/// there are none yet.
 fn dealt(
     alloc: Global,
     whole: Apart,
     parts: &StageParts,
     tally: &mut Tally,
-) -> Result<(Base, Vec<Arrival>), AllocError>
+    arrivals: &mut Vec<Arrival>,
+) -> Result<Base, AllocError>
     requires two { length parts.now.touches ≡ 2 }
     requires modes { parts.now.modes ≡ modes_of parts.now.touches }
-    ensures arrivals { IfOk result (λ d. AreArrivals d.0 d.1.items) }
-    ensures two { IfOk result (λ d. length d.1.items ≡ 2) }
+    requires none { arrivals.old.items ≡ [] }
+    ensures arrivals { IfOk result (λ base. AreArrivals base arrivals.new.items) }
+    ensures two { OnOk result (length arrivals.new.items ≡ 2) }
 {
-    let (base, versions) = deal(alloc, whole, parts, tally)?;
-    let arrivals = arrivals_of(alloc, versions)?;
-    Ok((base, arrivals))
+    let (base, mut versions) = deal(alloc, whole, parts, tally)?;
+    let Some(second) = versions.pop() else {
+        return Err(AllocError);
+    };
+    let Some(first) = versions.pop() else {
+        return Err(AllocError);
+    };
+    arrivals.push(Arrival::Version(first))?;
+    arrivals.push(Arrival::Version(second))?;
+    Ok(base)
 }
 
 /// One frame through a stage.
@@ -130,13 +130,16 @@ fn passed<R: Wait>(
     frame: &[u8],
     parts: &StageParts,
     tally: &mut Tally,
+    arrivals: &mut Vec<Arrival>,
 ) -> Result<u64, AllocError>
     requires two { length parts.now.touches ≡ 2 }
     requires modes { parts.now.modes ≡ modes_of parts.now.touches }
+    requires none { arrivals.old.items ≡ [] }
+    ensures none { OnOk result (arrivals.new.items ≡ []) }
 {
     let whole = split(alloc, frame, 0, 0)?;
-    let (base, mut arrivals) = dealt(alloc, whole, parts, tally)?;
-    match merge(rt, base, &mut arrivals) {
+    let base = dealt(alloc, whole, parts, tally, arrivals)?;
+    match merge(rt, base, arrivals) {
         Merged::Whole(back) => Ok(last_of(join(alloc, back)?.bytes())),
         _ => Ok(0),
     }
@@ -152,9 +155,10 @@ fn all_passed<R: Wait>(
     requires modes { parts.now.modes ≡ modes_of parts.now.touches }
 {
     let mut tally = Tally::new();
+    let mut arrivals = Vec::with_capacity(alloc, 2)?;
     let mut sum = 0u64;
     for _round in 0..ROUNDS {
-        sum = sum.wrapping_add(passed(rt, alloc, frame, parts, &mut tally)?);
+        sum = sum.wrapping_add(passed(rt, alloc, frame, parts, &mut tally, &mut arrivals)?);
     }
     Ok(sum)
 }
