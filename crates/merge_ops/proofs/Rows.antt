@@ -3,6 +3,9 @@ use Rattle.std.proofs.Common.{◌≡◌, ℕ, List, [], ◌∷◌, refl, Some, N
 use Rattle.std.specs.Prelude.{if◌then◌else◌}
 use Rattle.packet_fields.specs.declared.field.Field.{Field}
 use Rattle.packet_fields.specs.declared.field.Field.TheVariants.{Tag, Tos}
+use Rattle.action_profile.specs.Modes.{mode_of, modes_of}
+use Rattle.action_profile.specs.declared.parts.Mode.TheVariants.{Shared, Copied}
+use Rattle.action_profile.specs.declared.parts.Touch.{Touch}
 use Rattle.packet_version.specs.Splitting.{PlainApart}
 use Rattle.merge_ops.specs.Taking.{merged_parts}
 use Rattle.packet_version.specs.Parts.{values_of, as_list, is_field}
@@ -95,3 +98,11 @@ given_value = refl
 absent_value : values_of (merged_parts bare_base (branch_with Tos (16 ∷ []) 2 ∷ [])) Tag ≡ None
 unfolding merged_parts last_writer
 absent_value = refl
+
+-- two branches that write the type of service
+abbrev pub marking : List Touch
+marking = record { reads = record { 0 = 8 }; writes = record { 0 = 8 } } ∷ record { reads = record { 0 = 8 }; writes = record { 0 = 8 } } ∷ []
+
+pub marking_modes : modes_of marking ≡ Shared ∷ Shared ∷ Shared ∷ Copied (Some 0) ∷ Shared ∷ Shared ∷ Shared ∷ Shared ∷ Shared ∷ Shared ∷ []
+unfolding mode_of
+marking_modes = refl

@@ -27,9 +27,12 @@ use std::alloc::{AllocError, Global};
 /// only reads the field. Nobody wrote the parts yet. Copies alone raise the tally. Where memory runs out
 /// the packet is gone, and the tally may have risen by copies that were made.
 ///
+/// An original that still lies in the frame is taken out of it where it goes to a branch. That belongs to
+/// taking the packet apart, and is no copy: the frame's bytes in its place are of no account from then on.
+///
 /// Memory is taken for the list of versions, for the parts of each branch that writes some field, for
-/// each of them that is longer than 12 bytes, and for one loan where a branch reads a field that it
-/// doesn't write.
+/// each of them that has room for more than 12 bytes, and for one loan where a branch reads a field that
+/// it doesn't write.
 pub fn deal(
     alloc: Global,
     whole: Apart,

@@ -28,9 +28,10 @@ pub fn left_is_read()
     ensures { (view : PlainView) (f : Field) (bytes : List ℕ) → WroteAlone f (option_map (edited bytes view.position) (seen_parts view f)) view (left f bytes view) }
 {}
 
-/// A view in which nothing was written is as it was.
+/// A view in which nothing was written is as it was: it has a place for each field, and no other.
 pub fn unwritten_stays(view: &View)
-    ensures { wrote_all nothing view.now ≡ view.now }
+    ensures same { wrote_all nothing view.now ≡ view.now }
+    ensures ten { length view.now.version.parts ≡ 10 }
 {
     let _ = &view.position;
 }

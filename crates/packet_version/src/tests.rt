@@ -62,7 +62,7 @@ fn loan(alloc: Global) -> Result<Lease, AllocError>
     ensures unwritten { IfOk result (λ lease. (f : Field) → writer_in (as_map lease.held.parts f) ≡ 0) }
     ensures tags { IfOk result (λ lease. AreTags (as_map lease.held.parts Field.Tag)) }
 {
-    let rest = Rest::new(Vec::from_slice(alloc, PACKET)?);
+    let rest = Rest::new(alloc, Vec::from_slice(alloc, PACKET)?)?;
     Lease::new(alloc, Held::new(alloc, rest, 0)?, 1)
 }
 

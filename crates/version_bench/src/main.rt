@@ -1,14 +1,17 @@
-//! Takes a frame of 1,500 bytes apart, and deals it to a stage or joins it again, over and over, or only copies it: what
-//! `bench/versions` measures.
+//! Takes a frame of 1,500 bytes apart and joins it again, with or without a stage of two branches in
+//! between, over and over, or only copies it: what `bench/versions` measures.
 #![tactic(auto)]
 
-ghost use Rattle.std.specs.Prelude.{◌≡◌, length, IfOk};
+ghost use Rattle.std.specs.Prelude.{◌≡◌, [], length, IfOk, OnOk};
 ghost use Rattle.action_profile.specs.Modes.{modes_of};
+ghost use Rattle.merge_ops.specs.Behind.{AreArrivals};
 
 use action_profile::{FieldSet, Mode, StageParts, Touch};
 use item_list::Items;
-use packet_version::{Tally, deal, join, split};
+use merge_ops::{Arrival, Merged, merge};
+use packet_version::{Apart, Base, Tally, deal, join, split};
 use std::alloc::{AllocError, Global};
+use std::sync::Wait;
 use std::{env, io};
 
 const ROUNDS: u32 = 200_000;
@@ -27,32 +30,39 @@ const WATCHES: Touch = Touch {
     writes: FieldSet::NONE,
 };
 
-/// A balancer beside it.
-const BALANCES: Touch = Touch {
-    reads: FieldSet::ENDPOINTS,
-    writes: FieldSet::DST_IP,
+/// What blots out parts of the data.
+const REDACTS: Touch = Touch {
+    reads: FieldSet::PAYLOAD,
+    writes: FieldSet::PAYLOAD,
 };
 
-const MODES: [Mode; 10] = [
-    Mode::Shared,
-    Mode::Shared,
-    Mode::Shared,
-    Mode::Shared,
-    Mode::Shared,
-    Mode::Shared,
-    Mode::Copied { original: None },
-    Mode::Shared,
-    Mode::Shared,
-    Mode::Shared,
-];
+const SHARED: Mode = Mode::Shared;
 
-fn stage(alloc: Global) -> Result<StageParts, AllocError>
+/// Two monitors: no field is written.
+fn readers(alloc: Global) -> Result<StageParts, AllocError>
     ensures modes { IfOk result (λ parts. parts.modes ≡ modes_of parts.touches) }
     ensures count { IfOk result (λ parts. length parts.touches ≡ 2) }
 {
-    let touches = Vec::from_array(alloc, [WATCHES, BALANCES])?;
+    let touches = Vec::from_array(alloc, [WATCHES, WATCHES])?;
     Ok(StageParts {
-        modes: MODES,
+        modes: [
+            SHARED, SHARED, SHARED, SHARED, SHARED, SHARED, SHARED, SHARED, SHARED, SHARED,
+        ],
+        touches: Items::new(touches),
+    })
+}
+
+/// Two branches that write the data: the first has the original, and the second a copy.
+fn writers(alloc: Global) -> Result<StageParts, AllocError>
+    ensures modes { IfOk result (λ parts. parts.modes ≡ modes_of parts.touches) }
+    ensures count { IfOk result (λ parts. length parts.touches ≡ 2) }
+{
+    let touches = Vec::from_array(alloc, [REDACTS, REDACTS])?;
+    let copied = Mode::Copied { original: Some(0) };
+    Ok(StageParts {
+        modes: [
+            SHARED, SHARED, SHARED, SHARED, SHARED, SHARED, SHARED, SHARED, SHARED, copied,
+        ],
         touches: Items::new(touches),
     })
 }
@@ -86,31 +96,87 @@ fn joined(alloc: Global, frame: &[u8]) -> Result<u64, AllocError> {
     Ok(sum)
 }
 
-fn dealt(alloc: Global, frame: &[u8]) -> Result<u64, AllocError> {
-    let parts = stage(alloc)?;
+/// The base of a packet. What comes from branches without a function is added to the arrivals, of which
+/// there are none yet.
+fn dealt(
+    alloc: Global,
+    whole: Apart,
+    parts: &StageParts,
+    tally: &mut Tally,
+    arrivals: &mut Vec<Arrival>,
+) -> Result<Base, AllocError>
+    requires two { length parts.now.touches ≡ 2 }
+    requires modes { parts.now.modes ≡ modes_of parts.now.touches }
+    requires none { arrivals.old.items ≡ [] }
+    ensures arrivals { IfOk result (λ base. AreArrivals base arrivals.new.items) }
+    ensures two { OnOk result (length arrivals.new.items ≡ 2) }
+{
+    let (base, mut versions) = deal(alloc, whole, parts, tally)?;
+    let Some(second) = versions.pop() else {
+        return Err(AllocError);
+    };
+    let Some(first) = versions.pop() else {
+        return Err(AllocError);
+    };
+    arrivals.push(Arrival::Version(first))?;
+    arrivals.push(Arrival::Version(second))?;
+    Ok(base)
+}
+
+/// One frame through a stage.
+fn passed<R: Wait>(
+    rt: &R,
+    alloc: Global,
+    frame: &[u8],
+    parts: &StageParts,
+    tally: &mut Tally,
+    arrivals: &mut Vec<Arrival>,
+) -> Result<u64, AllocError>
+    requires two { length parts.now.touches ≡ 2 }
+    requires modes { parts.now.modes ≡ modes_of parts.now.touches }
+    requires none { arrivals.old.items ≡ [] }
+    ensures none { OnOk result (arrivals.new.items ≡ []) }
+{
+    let whole = split(alloc, frame, 0, 0)?;
+    let base = dealt(alloc, whole, parts, tally, arrivals)?;
+    match merge(rt, base, arrivals) {
+        Merged::Whole(back) => Ok(last_of(join(alloc, back)?.bytes())),
+        _ => Ok(0),
+    }
+}
+
+fn all_passed<R: Wait>(
+    rt: &R,
+    alloc: Global,
+    frame: &[u8],
+    parts: &StageParts,
+) -> Result<u64, AllocError>
+    requires two { length parts.now.touches ≡ 2 }
+    requires modes { parts.now.modes ≡ modes_of parts.now.touches }
+{
     let mut tally = Tally::new();
+    let mut arrivals = Vec::with_capacity(alloc, 2)?;
     let mut sum = 0u64;
     for _round in 0..ROUNDS {
-        let whole = split(alloc, frame, 0, 0)?;
-        let (_base, versions) = deal(alloc, whole, &parts, &mut tally)?;
-        sum = sum.wrapping_add(versions.len() as u64);
+        sum = sum.wrapping_add(passed(rt, alloc, frame, parts, &mut tally, &mut arrivals)?);
     }
     Ok(sum)
 }
 
-fn run_one(alloc: Global, mode: &str) -> Result<u64, AllocError> {
+fn run_one<R: Wait>(rt: &R, alloc: Global, work: &str) -> Result<u64, AllocError> {
     let bytes = frame(alloc)?;
-    match mode {
+    match work {
         "copy" => copied(alloc, &bytes),
         "join" => joined(alloc, &bytes),
-        "deal" => dealt(alloc, &bytes),
+        "read" => all_passed(rt, alloc, &bytes, &readers(alloc)?),
+        "write" => all_passed(rt, alloc, &bytes, &writers(alloc)?),
         _ => Ok(0),
     }
 }
 
 fn main(rt: HostRuntime) -> io::Result<()> {
-    for mode in env::args(&rt)?.skip(1) {
-        match run_one(rt.alloc(), mode.as_str()) {
+    for work in env::args(&rt)?.skip(1) {
+        match run_one(&rt, rt.alloc(), work.as_str()) {
             Ok(sum) => println!(rt; "{sum}")?,
             Err(_) => println!(rt; "no memory")?,
         }

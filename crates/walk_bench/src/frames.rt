@@ -1,6 +1,4 @@
 //! The burst that is led through a chain.
-ghost use Rattle.std.specs.Prelude.{◌≤◌, length, IfOk};
-
 use classifier::{Burst, Item};
 use item_list::Items;
 use packet_fields::Frame;
@@ -12,16 +10,14 @@ pub const BURST: u32 = 1_024;
 
 /// Addresses, and the headers of a UDP datagram from 10.0.0.1:1000 to 10.0.0.2:53; its lengths are put in.
 const HEADERS: [u8; 42] = [
-    2, 0, 0, 0, 0, 2, 2, 0, 0, 0, 0, 1, 8, 0, 0x45, 0, 0, 28, 0, 0, 0, 0, 64, 17, 0x66, 0xcf, 10, 0,
-    0, 1, 10, 0, 0, 2, 0x03, 0xe8, 0, 53, 0, 8, 0, 0,
+    2, 0, 0, 0, 0, 2, 2, 0, 0, 0, 0, 1, 8, 0, 0x45, 0, 0, 28, 0, 0, 0, 0, 64, 17, 0x66, 0xcf, 10,
+    0, 0, 1, 10, 0, 0, 2, 0x03, 0xe8, 0, 53, 0, 8, 0, 0,
 ];
 
 /// Packets of so many bytes, at least 42 and below 65,536 each, from the sources 10.0.0.0 to 10.0.0.255 in turn.
-pub fn burst_of(alloc: Global, size: u16) -> Result<Burst, AllocError>
-    ensures { IfOk result (λ burst. length burst.items ≤ 65536) }
-{
+pub fn burst_of(alloc: Global, size: u16) -> Result<Burst, AllocError> {
     let mut items = Vec::new(alloc);
-    'items: for number in 0..BURST {
+    for number in 0..BURST {
         items.push(item(alloc, number, size)?)?;
     }
     Ok(Burst {

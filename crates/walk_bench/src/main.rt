@@ -11,7 +11,7 @@ ghost use Rattle.net_functions.specs.NetFunctions.{net_behaviour};
 use action_profile::{Profile, all_fields};
 use chain_walk::{Fate, walk_chain};
 use classifier::Burst;
-use frames::{BURST, burst_of};
+use frames::burst_of;
 use graph_compile::compile;
 use graph_run::{Running, run_plain};
 use net_functions::{Function, NetFunction, build, is_built};
@@ -59,7 +59,10 @@ fn push_function(
 fn profiles_of(alloc: Global, functions: &[NetFunction]) -> Result<Vec<Profile>, AllocError>
     ensures { IfOk result (λ profiles. profiles.items ≡ map net_behaviour.profile functions.now) }
 {
-    functions.iter().map(|function| function.profile()).collect(alloc)
+    functions
+        .iter()
+        .map(|function| function.profile())
+        .collect(alloc)
 }
 
 fn running(alloc: Global, functions: Vec<NetFunction>) -> Result<Running<NetFunction>, AllocError>
@@ -71,7 +74,10 @@ fn running(alloc: Global, functions: Vec<NetFunction>) -> Result<Running<NetFunc
 }
 
 fn outs(fates: &[Fate]) -> u64 {
-    fates.iter().filter(|fate| matches!(fate, Fate::Out(_))).count() as u64
+    fates
+        .iter()
+        .filter(|fate| matches!(fate, Fate::Out(_)))
+        .count() as u64
 }
 
 fn through_graph(
@@ -108,17 +114,13 @@ fn by_walk(
     requires { length functions.old ≤ 64 }
 {
     let mut out = 0u64;
-    'rounds: for _round in 0..rounds {
+    for _round in 0..rounds {
         out = out.wrapping_add(walk_all(alloc, functions, burst)?);
     }
     Ok(out)
 }
 
-fn walk_all(
-    alloc: Global,
-    functions: &mut [NetFunction],
-    burst: &Burst,
-) -> Result<u64, AllocError>
+fn walk_all(alloc: Global, functions: &mut [NetFunction], burst: &Burst) -> Result<u64, AllocError>
     requires { length functions.old ≤ 64 }
 {
     let mut out = 0u64;
@@ -145,8 +147,8 @@ fn lead(
         Ok(functions) => functions,
         Err(fault) => return println!(rt; "fault {fault:?}"),
     };
-    if functions.len() > 64 {
-        return println!(rt; "too many functions");
+    if functions.len() > 64 || burst.items.as_slice().len() > 65_536 {
+        return println!(rt; "too many");
     }
     match mode {
         "graph" => {
@@ -166,7 +168,10 @@ fn main(rt: HostRuntime) -> io::Result<()> {
     let mut words = env::args(&rt)?.skip(1);
     let mode = words.next();
     let rounds = words.next().and_then(|word| word.parse().ok()).unwrap_or(1);
-    let size = words.next().and_then(|word| word.parse().ok()).unwrap_or(42);
+    let size = words
+        .next()
+        .and_then(|word| word.parse().ok())
+        .unwrap_or(42);
     let (Some(mode), Some(path)) = (mode, words.next()) else {
         return println!(rt; "no policy");
     };
