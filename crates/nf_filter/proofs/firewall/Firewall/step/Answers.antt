@@ -2,4 +2,4 @@ use Rattle.std.proofs.Common.{sym}
 use Rattle.nf_filter.proofs.firewall.Firewall.step.Goals as goal
 
 pub returns-clause-view : goal.returns-clause-view
-returns-clause-view c = sym (c.unwritten_stays.ensures)
+returns-clause-view c = sym c.unwritten_stays.ensures.same
