@@ -3,7 +3,6 @@ ghost use Rattle.packet_fields.specs.declared.field.Field.{Field};
 ghost use Rattle.action_profile.specs.declared.parts.Touch.{Touch};
 ghost use Rattle.action_profile.specs.Modes.{has_write};
 ghost use Rattle.packet_version.specs.Splitting.{PlainApart};
-ghost use Rattle.packet_version.specs.Versions.{HoldsNamed};
 ghost use Rattle.packet_version.specs.Views.{HasBytes};
 ghost use Rattle.action_profile.specs.Modes.{modes_of};
 ghost use Rattle.merge_ops.specs.Behind.{AreArrivals, IsMadeOf};

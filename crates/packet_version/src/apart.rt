@@ -16,7 +16,6 @@ pub struct Apart {
 }
 
 impl Model for Apart {
-    ghost use Rattle.std.specs.Prelude.{◌≡◌, length};
     ghost use Rattle.packet_fields.specs.Writing.{rest_of};
     ghost use Rattle.packet_version.specs.Parts.{as_map};
     ghost use Rattle.packet_version.specs.Splitting.{PlainApart, IsWhole};

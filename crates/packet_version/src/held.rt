@@ -33,9 +33,9 @@ impl Model for Held {
     ghost invariant = { λ h. length h.places.items ≡ 10 };
 }
 
-ghost use Rattle.std.specs.Prelude.{◌≡◌, ◌+◌, Some, None, IfOk, IfSome, length, map, option_map, is_some};
+ghost use Rattle.std.specs.Prelude.{◌≡◌, ◌+◌, Some, None, IfOk, IfSome, length, option_map};
 ghost use Rattle.std.specs.Option.{option_copied};
-ghost use Rattle.packet_fields.specs.Writing.{rest_of, written, all_fields as every_field};
+ghost use Rattle.packet_fields.specs.Writing.{rest_of, written};
 ghost use Rattle.packet_version.specs.Parts.{PlainHeld, as_list, as_map, changed, unwritten, values_of};
 ghost use Rattle.packet_version.specs.Places.{inside_all};
 ghost use Rattle.packet_version.specs.Splitting.{split_parts, spare_room as spare_room_of, IsWhole};

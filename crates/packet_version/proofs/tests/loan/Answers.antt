@@ -14,10 +14,10 @@ known (Err e) x P is p = tt
 
 pub returns-clause-unwritten : goal.returns-clause-unwritten
 returns-clause-unwritten c =
-    let is = inside_parts 0 c.new-rest.result c.in_ok-new.field-0 c.in_ok-new.ensures in
-    known c.new-2.result _ _ c.new-2.ensures (λ f. ap (λ (m : Parts). writer_in (m f)) is ∙ split_unwritten 0 c.new-rest.result f)
+    let is = inside_parts 0 c.in_ok-rest.rest c.in_ok-new.field-0 c.in_ok-new.ensures in
+    known c.new-3.result _ _ c.new-3.ensures (λ f. ap (λ (m : Parts). writer_in (m f)) is ∙ split_unwritten 0 c.in_ok-rest.rest f)
 
 pub returns-clause-tags : goal.returns-clause-tags
 returns-clause-tags c =
-    let is = inside_parts 0 c.new-rest.result c.in_ok-new.field-0 c.in_ok-new.ensures in
-    known c.new-2.result _ _ c.new-2.ensures (subst (λ (m : Parts). AreTags (m Tag)) (sym is) (tags_whole _ c.new-rest.result (split_whole 0 c.new-rest.result)))
+    let is = inside_parts 0 c.in_ok-rest.rest c.in_ok-new.field-0 c.in_ok-new.ensures in
+    known c.new-3.result _ _ c.new-3.ensures (subst (λ (m : Parts). AreTags (m Tag)) (sym is) (tags_whole _ c.in_ok-rest.rest (split_whole 0 c.in_ok-rest.rest)))
