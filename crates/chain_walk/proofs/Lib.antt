@@ -1,2 +1,3 @@
+pub mod Forming
 pub mod Fielding
 pub mod Walking

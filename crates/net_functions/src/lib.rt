@@ -1,6 +1,23 @@
-//! Network functions of all kinds behind one contract.
+//! Network functions of every kind behind one trait.
+//!
+//! A [`Function`] acts on one packet after another through a [`packet_version::View`] of its own profile. What
+//! it does is its `behaviour` (of `chain_walk`), a function of what it is shown alone: whoever runs it
+//! sees the same step whether the packet is whole or in parts. `keeps` says that it keeps to its profile.
+//! [`NetFunction`] is a function of any kind that is built, and [`build`] makes the one that a policy
+//! declares, or names the least line of the declaration that is refused. As a
+//! [`chain_walk::FrameFunction`] it takes whole frames, with the same behaviour.
+//!
+//! Today the kind [`Kind::Firewall`] is built. How functions are put into stages, and which of them see
+//! a packet, is left out.
 #![tactic(auto)]
 
 mod function;
+mod making;
+mod net_function;
+#[cfg(test)]
+mod tests;
 
+pub use action_profile::Kind;
 pub use function::Function;
+pub use making::{build, is_built};
+pub use net_function::NetFunction;

@@ -1,12 +1,17 @@
--- A firewall: how it is declared, and what it decides.
-use Rattle.std.specs.Prelude.{ℕ, List, [], ◌∷◌, ◌++◌, Bool, true, if◌then◌else◌, ◌||◌, is_none, Option, Some, None, find, fold}
+-- A firewall: how it is declared, what it decides, and what it does as a function of a chain.
+use Rattle.std.specs.Prelude.{ℕ, List, [], ◌∷◌, ◌++◌, Bool, true, false, if◌then◌else◌, ◌||◌, is_none, Option, Some, None, find, fold}
 use Rattle.std.specs.Option.{option_map_or}
 use Rattle.policy_text.specs.declared.policy.FunctionDecl.{FunctionDecl}
 use Rattle.policy_text.specs.declared.policy.Setting.{Setting}
 use Rattle.policy_text.specs.declared.seen.Seen.{Seen}
 use Rattle.policy_text.specs.Meeting.{is_fitting}
-use Rattle.frame_seen.specs.Seeing.{seen_of}
-use Rattle.chain_walk.specs.Step.{Step}
+use Rattle.frame_seen.specs.Seeing.{seen_by}
+use Rattle.action_profile.specs.Profiles.{profile_of}
+use Rattle.action_profile.specs.declared.kind.Kind.TheVariants as kinds
+use Rattle.chain_walk.specs.Shown.{Shown}
+use Rattle.chain_walk.specs.Step.{Step, Behaviour, nothing}
+use Rattle.chain_walk.specs.declared.verdict.Verdict.{Verdict}
+use Rattle.chain_walk.specs.declared.verdict.Verdict.TheVariants.{Pass, Drop}
 use Rattle.nf_filter.specs.declared.firewall.Firewall.{Firewall}
 use Rattle.nf_filter.specs.declared.lines.FirewallLine.{FirewallLine}
 use Rattle.nf_filter.specs.declared.lines.FirewallLine.TheVariants as lines
@@ -44,6 +49,14 @@ firewall_of decl = fold (λ f s. with_line f (line_of s.words)) open_firewall de
 unfoldable pub passes : Firewall → Seen → Bool
 passes f seen = option_map_or (λ rule. rule.allow) (find (λ rule. is_fitting rule.fit seen) f.rules) f.default
 
--- a packet that passes goes on as it is, and the firewall stays as it is
-abbrev pub firewall_step : Firewall → ℕ → List ℕ → Step Firewall
-firewall_step f time frame = record { after = f; passed = if passes f (seen_of frame) then Some frame else None }
+abbrev pub verdict_by : Bool → Verdict
+verdict_by true = Pass
+verdict_by false = Drop
+
+-- a firewall judges by what it is shown, writes nothing, and stays as it is
+abbrev pub firewall_step : Firewall → Shown → Step Firewall
+firewall_step f shown = record { after = f; verdict = verdict_by (passes f (seen_by shown.values shown.fixed.proto)); written = nothing }
+
+-- how firewalls behave
+abbrev pub firewall_behaviour : Behaviour Firewall
+firewall_behaviour = record { profile = λ f. profile_of kinds.Firewall; step = firewall_step }

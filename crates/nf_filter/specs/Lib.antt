@@ -1,4 +1,5 @@
 pub mod Builds
 pub mod Firewalls
+pub mod FirewallLaws
 pub mod Lines
 pub mod Settings

@@ -3,10 +3,11 @@ ghost use Rattle.std.specs.Prelude.{◌≡◌, find};
 ghost use Rattle.std.specs.Option.{option_copied};
 ghost use Rattle.policy_text.specs.Meeting.{is_fitting};
 
-use chain_walk::{Function, Verdict};
-use frame_seen::seen;
+use chain_walk::{FrameFunction, Verdict};
+use frame_seen::{seen, seen_address, seen_port, seen_tags};
 use item_list::Items;
-use packet_fields::Frame;
+use packet_fields::{Field, Frame};
+use packet_version::{View, unwritten_stays};
 use policy_text::{Match, Seen, fits};
 use std::alloc::AllocError;
 
@@ -47,16 +48,70 @@ fn first_met<'a>(rules: &'a [Rule], seen: &Seen) -> Option<&'a Rule>
     rules.iter().find(|rule| fits(&rule.fit, seen))
 }
 
-impl Function for Firewall {
-    ghost use Rattle.nf_filter.specs.Firewalls.{firewall_step};
+impl Firewall {
+    ghost use Rattle.std.specs.Prelude.{◌≡◌, Ok, true, is_ok};
+    ghost use Rattle.chain_walk.specs.Shown.{AreWellFormed};
+    ghost use Rattle.packet_version.specs.Views.{viewed, seen_values, wrote_all};
+    ghost use Rattle.nf_filter.specs.Firewalls.{firewall_behaviour};
 
-    ghost step_gives = { firewall_step };
+    /// Judges one packet through a view of a firewall's profile, whose values have the form of a frame's.
+    /// It writes nothing and takes no memory.
+    pub fn step(&mut self, view: &mut View) -> Result<Verdict, AllocError>
+        requires profile { view.old.profile ≡ firewall_behaviour.profile self.old }
+        requires well_formed { AreWellFormed (seen_values view.old) }
+        ensures after { self.new ≡ (viewed firewall_behaviour self.old view.old).after }
+        ensures verdict { result ≡ Ok (viewed firewall_behaviour self.old view.old).verdict }
+        ensures view { view.new ≡ wrote_all (viewed firewall_behaviour self.old view.old).written view.old }
+    {
+        unwritten_stays(view);
+        Ok(verdict(self.judge(&seen_in(view))))
+    }
 
+    /// Appends the lines of its state, of which a firewall has none.
+    pub fn state_lines(&self, _out: &mut Vec<u8>) -> Result<(), AllocError>
+        ensures none { _out.new ≡ _out.old }
+        ensures never_fails { is_ok result ≡ true }
+    {
+        Ok(())
+    }
+}
+
+ghost use Rattle.action_profile.specs.Profiles.{profile_of};
+ghost use Rattle.action_profile.specs.declared.kind.Kind.{Kind};
+ghost use Rattle.chain_walk.specs.Shown.{AreWellFormed};
+ghost use Rattle.frame_seen.specs.Seeing.{seen_by};
+ghost use Rattle.packet_version.specs.Views.{seen_values};
+ghost use Rattle.nf_filter.specs.Firewalls.{verdict_by};
+
+fn verdict(passes: bool) -> Verdict
+    ensures { result ≡ verdict_by passes }
+{
+    if passes { Verdict::Pass } else { Verdict::Drop }
+}
+
+/// What clauses see of the packet behind a view.
+fn seen_in(view: &View) -> Seen
+    requires profile { view.now.profile ≡ profile_of Kind.Firewall }
+    requires well_formed { AreWellFormed (seen_values view.now) }
+    ensures { result ≡ seen_by (seen_values view.now) view.now.version.fixed.proto }
+{
+    Seen {
+        tag: seen_tags(view.get(Field::Tag)),
+        src: seen_address(view.get(Field::SrcIp)),
+        dst: seen_address(view.get(Field::DstIp)),
+        sport: seen_port(view.get(Field::SrcPort)),
+        dport: seen_port(view.get(Field::DstPort)),
+        proto: view.proto(),
+    }
+}
+
+impl FrameFunction for Firewall {
+    ghost use Rattle.nf_filter.specs.Firewalls.{firewall_behaviour};
+
+    ghost behaviour = { firewall_behaviour };
+
+    #[tactic(auto, unfolding(packet_fields::specs::Writing::written_in))]
     fn step(&mut self, _time: u64, frame: &mut Frame) -> Result<Verdict, AllocError> {
-        if self.judge(&seen(frame.bytes())) {
-            Ok(Verdict::Pass)
-        } else {
-            Ok(Verdict::Drop)
-        }
+        Ok(verdict(self.judge(&seen(frame.bytes()))))
     }
 }

@@ -1,10 +1,21 @@
-//! Firewalls are made of an operator's lines, and judge, also one after another.
+//! Firewalls are made of an operator's lines, and judge, also one after another, and what a view shows.
+ghost use Rattle.std.specs.Prelude.{◌≡◌, List, [], ◌∷◌, IfOk};
+ghost use Rattle.action_profile.specs.Modes.{modes_of};
+ghost use Rattle.action_profile.specs.Profiles.{profile_of};
+ghost use Rattle.action_profile.specs.declared.kind.Kind.{Kind};
+ghost use Rattle.chain_walk.specs.Shown.{AreWellFormed};
+ghost use Rattle.packet_version.specs.Views.{seen_values};
+
 use crate::firewall::Firewall;
-use chain_walk::{Fate, walk_chain};
+use action_profile::{Kind, Mode, StageParts, Touch, profile};
+use chain_walk::{Fate, Verdict, walk_chain};
+use item_list::Items;
 use packet_fields::Frame;
+use packet_version::{Tally, View, deal, split};
 use policy_text::{BuildFault, Policy, Seen, TagSeen, parse};
-use std::alloc::Global;
+use std::alloc::{AllocError, Global};
 use std::process::Abort;
+use std::sync::Wait;
 
 // A UDP packet from 10.0.0.9, port 1000, to 10.0.0.2, port 53.
 const FRAME: [u8; 42] = [
@@ -95,4 +106,52 @@ fn the_second_firewall_drops(rt: HostRuntime) {
         Ok(Fate::Gone(position)) => assert_eq!(rt; position, 2),
         _ => rt.abort(),
     }
+}
+
+/// A stage of one firewall, which alone touches what it reads.
+fn stage(alloc: Global) -> Result<StageParts, AllocError>
+    ensures modes { IfOk result (λ parts. parts.modes ≡ modes_of parts.touches) }
+    ensures touches { IfOk result (λ parts. parts.touches ≡ record { reads = (profile_of Kind.Firewall).reads; writes = (profile_of Kind.Firewall).writes } ∷ []) }
+{
+    let profile = profile(Kind::Firewall);
+    let touch = Touch {
+        reads: profile.reads,
+        writes: profile.writes,
+    };
+    Ok(StageParts {
+        modes: [Mode::Shared; 10],
+        touches: Items::new(Vec::from_array(alloc, [touch])?),
+    })
+}
+
+/// The frame as the firewall of that stage sees it.
+fn view<R: Abort + Wait>(rt: &R, alloc: Global, frame: &[u8]) -> Result<View, AllocError>
+    ensures profile { IfOk result (λ view. view.profile ≡ profile_of Kind.Firewall) }
+    ensures well_formed { IfOk result (λ view. AreWellFormed (seen_values view)) }
+{
+    let stage = stage(alloc)?;
+    let whole = split(alloc, frame, 7, 0)?;
+    let (_base, mut versions) = deal(alloc, whole, &stage, &mut Tally::new())?;
+    let version = versions.pop().expect(rt, "one branch");
+    Ok(version.view(rt, &profile(Kind::Firewall), 1))
+}
+
+#[test]
+fn judges_what_a_view_shows(rt: HostRuntime) {
+    let alloc = rt.alloc();
+    let mut firewall = firewall(
+        &rt,
+        alloc,
+        "nfp 1\nchain main\nfn fw firewall\nrule deny dport 53\n",
+    );
+    for (port, verdict) in [(53, Verdict::Drop), (54, Verdict::Pass)] {
+        let mut frame = FRAME;
+        frame[37] = port;
+        let mut view = view(&rt, alloc, &frame).expect(&rt, "memory");
+        let judged = firewall.step(&mut view);
+        drop(view.end());
+        assert!(rt; judged == Ok(verdict));
+    }
+    let mut lines = Vec::new(alloc);
+    assert!(rt; firewall.state_lines(&mut lines).is_ok() && lines.is_empty());
 }

@@ -16,3 +16,5 @@ pub mod Placing
 pub mod Rows
 pub mod Lawful
 pub mod Shaping
+pub mod Forming
+pub mod Keeping

@@ -1,8 +1,7 @@
 -- A frame that comes apart into its fields and its rest, and goes together again.
 use Rattle.std.specs.Prelude.{◌≡◌, ◌≢◌, ℕ, ◌+◌, ◌*◌, List, length, true, Option, IfSome, option_map, is_some, if◌then◌else◌}
-use Rattle.packet_fields.specs.Frames.{packet, is_tag_list}
-use Rattle.packet_fields.specs.Packets.{total_len, protocol, control_bits}
-use Rattle.packet_fields.specs.Fields.{value, ether_type}
+use Rattle.packet_fields.specs.Frames.{is_tag_list}
+use Rattle.packet_fields.specs.Fields.{value}
 use Rattle.packet_fields.specs.Writing.{written, AllFit}
 use Rattle.packet_fields.specs.declared.field.Field.{Field}
 use Rattle.packet_fields.specs.declared.field.Field.TheVariants.{Tag}

@@ -1,15 +1,16 @@
 //! Laws of versions and views, for what stands on them.
-ghost use Rattle.std.specs.Prelude.{◌≡◌, ◌≢◌, ℕ, List, length, true, option_map};
+ghost use Rattle.std.specs.Prelude.{◌≡◌, ◌≢◌, ℕ, List, length, true, None, option_map};
 ghost use Rattle.packet_fields.specs.declared.field.Field.{Field};
 ghost use Rattle.action_profile.specs.declared.parts.Touch.{Touch};
-ghost use Rattle.packet_version.specs.Parts.{Parts, rewritten};
+ghost use Rattle.packet_version.specs.Parts.{Parts, rewritten, values_of};
 ghost use Rattle.packet_version.specs.Splitting.{PlainApart, IsWhole, IsShapedAs, parts_of};
 ghost use Rattle.packet_version.specs.Versions.{parts_of as parts_in};
 ghost use Rattle.packet_version.specs.Dealing.{dealt, dealt_parts, based, kept_parts};
-ghost use Rattle.packet_version.specs.Views.{PlainView, seen_parts, wrote, HasBytes, WroteAlone};
+ghost use Rattle.packet_version.specs.Views.{PlainView, seen_parts, wrote, wrote_all, HasBytes, WroteAlone};
 ghost use Rattle.packet_version.specs.Lending.{edited};
 ghost use Rattle.packet_version.specs.ViewLending.{left};
 ghost use Rattle.action_profile.specs.Profiles.{writes_of};
+ghost use Rattle.chain_walk.specs.Shown.{Values, AreWellFormed};
 
 use crate::view::View;
 use packet_fields::Field;
@@ -46,3 +47,15 @@ pub fn dealt_is_read()
 pub fn shape_fits()
     ensures { (old new : Parts) (rest : List ℕ) → IsWhole old rest → IsShapedAs old new → IsWhole new rest }
 {}
+
+/// What is dealt of a packet is well formed.
+pub fn dealt_is_well_formed()
+    ensures { (whole : PlainApart) (touch : Touch) → IsWhole (parts_of whole) whole.rest → AreWellFormed (values_of (parts_in (dealt whole touch))) }
+{}
+
+/// A view into which nothing was written is as it was.
+pub fn unwritten_stays(view: &View)
+    ensures { (new : Values) → ((f : Field) → new f ≡ None) → wrote_all new view.now ≡ view.now }
+{
+    let _slots = &view.slots;
+}

@@ -46,7 +46,10 @@ pub use base::Base;
 pub use chain_walk::{Fixed, Verdict};
 pub use dealing::deal;
 pub use gathered::Gathered;
-pub use laws::{dealt_is_read, left_is_read, shape_fits, write_apart, written_is_read};
+pub use laws::{
+    dealt_is_read, dealt_is_well_formed, left_is_read, shape_fits, unwritten_stays, write_apart,
+    written_is_read,
+};
 pub use part::{Part, copy};
 pub use tally::Tally;
 pub use version::Version;

@@ -1,0 +1,67 @@
+-- Functions of every kind do what their profiles say, and no more.
+use Rattle.std.specs.Prelude.{◌≡◌, ◌≢◌, ◌≤◌, ◌+◌, ℕ, List, false, true, ◌&&◌, if◌then◌else◌, length, Option, None, is_some, IfSome, IsSomeAnd, refl}
+use Rattle.std.proofs.Common.{◌∙◌, ap, sym, subst}
+use Rattle.packet_fields.specs.Frames.{is_tag_list}
+use Rattle.packet_fields.specs.Fields.{IsLengthOf}
+use Rattle.packet_fields.specs.declared.field.Field.{Field}
+use Rattle.packet_fields.specs.declared.field.Field.TheVariants.{Tag}
+use Rattle.action_profile.specs.Profiles.{writes_of}
+use Rattle.action_profile.specs.declared.rights.Profile.{Profile}
+use Rattle.chain_walk.specs.Shown.{Values, Shown, shown_by}
+use Rattle.chain_walk.specs.Step.{Behaviour, stepped, is_drop}
+use Rattle.chain_walk.specs.Laws.{KeepsProfile}
+use Rattle.chain_walk.specs.declared.fixed.Fixed.{Fixed}
+use Rattle.nf_filter.specs.Firewalls.{firewall_behaviour}
+use Rattle.nf_filter.specs.FirewallLaws.{firewall_keeps}
+use Rattle.net_functions.specs.NetFunctions.{as_any, net_behaviour}
+use Rattle.net_functions.specs.declared.net_function.NetFunction.{NetFunction}
+use Rattle.net_functions.specs.declared.net_function.NetFunction.TheVariants.{Firewall}
+
+-- the functions of one kind behave among all as they do by themselves
+record IsKind {F : Type 0} (b : Behaviour F) (make : F → NetFunction) : Type 0 where
+  profile : (f : F) → net_behaviour.profile (make f) ≡ b.profile f
+  step : (f : F) (shown : Shown) → net_behaviour.step (make f) shown ≡ as_any make (b.step f shown)
+
+-- one function keeps to its profile
+record Keeps (f : NetFunction) : Type 0 where
+  stays : (fixed : Fixed) (v : Values) → net_behaviour.profile (stepped net_behaviour fixed f v).after ≡ net_behaviour.profile f
+  writes : (fixed : Fixed) (v : Values) (x : Field) → (writes_of (net_behaviour.profile f) x && is_some (v x)) ≡ false → (stepped net_behaviour fixed f v).written x ≡ None
+  drops : (fixed : Fixed) (v : Values) → (net_behaviour.profile f).drops ≡ false → is_drop (stepped net_behaviour fixed f v).verdict ≡ false
+  state : (fixed : Fixed) (v : Values) → (net_behaviour.profile f).state ≡ false → (stepped net_behaviour fixed f v).after ≡ f
+  lengths : (fixed : Fixed) (v : Values) (x : Field) → x ≢ Tag → IfSome (v x) (λ old. IsLengthOf x (length old)) →
+      IfSome ((stepped net_behaviour fixed f v).written x) (λ new. IsSomeAnd (v x) (λ old. length new ≡ length old))
+  tags : (fixed : Fixed) (v : Values) → IfSome (v Tag) (λ old. is_tag_list old ≡ true) →
+      IfSome ((stepped net_behaviour fixed f v).written Tag) (λ new. (is_tag_list new ≡ true) × IsSomeAnd (v Tag) (λ old. length new ≤ length old + (if (net_behaviour.profile f).adds then 4 else 0)))
+
+same_step : {F : Type 0} (b : Behaviour F) (make : F → NetFunction) → IsKind b make → (fixed : Fixed) (f : F) (v : Values) → stepped net_behaviour fixed (make f) v ≡ as_any make (stepped b fixed f v)
+same_step b make is fixed f v = ap (λ p. net_behaviour.step (make f) (shown_by p fixed v)) (is.profile f) ∙ is.step f (shown_by (b.profile f) fixed v)
+
+kind_keeps : {F : Type 0} (b : Behaviour F) (make : F → NetFunction) → IsKind b make → KeepsProfile b → (f : F) → Keeps (make f)
+kind_keeps {F = F} b make is keeps f = record {
+  stays = λ fixed v. ap (λ t. net_behaviour.profile t.after) (same fixed v) ∙ is.profile (stepped b fixed f v).after ∙ keeps.stays fixed f v ∙ sym (is.profile f);
+  writes = λ fixed v x h. ap (λ t. t.written x) (same fixed v) ∙ keeps.writes fixed f v x (subst (λ (p : Profile). (writes_of p x && is_some (v x)) ≡ false) (is.profile f) h);
+  drops = λ fixed v h. ap (λ t. is_drop t.verdict) (same fixed v) ∙ keeps.drops fixed f v (subst (λ (p : Profile). p.drops ≡ false) (is.profile f) h);
+  state = λ fixed v h. ap (λ t. t.after) (same fixed v) ∙ ap make (keeps.state fixed f v (subst (λ (p : Profile). p.state ≡ false) (is.profile f) h));
+  lengths = λ fixed v x other formed.
+      subst (λ (w : Option (List ℕ)). IfSome w (λ new. IsSomeAnd (v x) (λ old. length new ≡ length old))) (sym (ap (λ t. t.written x) (same fixed v))) (keeps.lengths fixed f v x other formed);
+  tags = λ fixed v whole.
+      subst (λ (p : Profile). IfSome ((stepped net_behaviour fixed (make f) v).written Tag) (λ new. (is_tag_list new ≡ true) × IsSomeAnd (v Tag) (λ old. length new ≤ length old + (if p.adds then 4 else 0)))) (sym (is.profile f))
+      (subst (λ (w : Option (List ℕ)). IfSome w (λ new. (is_tag_list new ≡ true) × IsSomeAnd (v Tag) (λ old. length new ≤ length old + (if (b.profile f).adds then 4 else 0)))) (sym (ap (λ t. t.written Tag) (same fixed v))) (keeps.tags fixed f v whole));
+}
+  where
+    same : (fixed : Fixed) (v : Values) → stepped net_behaviour fixed (make f) v ≡ as_any make (stepped b fixed f v)
+    same fixed v = same_step b make is fixed f v
+
+-- kind by kind
+each_keeps : (f : NetFunction) → Keeps f
+each_keeps (Firewall f) = kind_keeps firewall_behaviour Firewall (record { profile = λ g. refl; step = λ g shown. refl }) firewall_keeps f
+
+pub net_keeps : KeepsProfile net_behaviour
+net_keeps = record {
+  stays = λ fixed f v. (each_keeps f).stays fixed v;
+  writes = λ fixed f v x h. (each_keeps f).writes fixed v x h;
+  drops = λ fixed f v h. (each_keeps f).drops fixed v h;
+  state = λ fixed f v h. (each_keeps f).state fixed v h;
+  lengths = λ fixed f v x other formed. (each_keeps f).lengths fixed v x other formed;
+  tags = λ fixed f v whole. (each_keeps f).tags fixed v whole;
+}

@@ -1,0 +1,14 @@
+-- A firewall does what its profile says, and no more.
+use Rattle.std.specs.Prelude.{refl}
+use Rattle.chain_walk.specs.Laws.{KeepsProfile}
+use Rattle.nf_filter.specs.Firewalls.{firewall_behaviour}
+
+pub firewall_keeps : KeepsProfile firewall_behaviour
+firewall_keeps = record {
+  stays = λ fixed f v. refl;
+  writes = λ fixed f v x h. refl;
+  drops = λ fixed f v h. absurd cc;
+  state = λ fixed f v h. refl;
+  lengths = λ fixed f v x other old. tt;
+  tags = λ fixed f v old. tt;
+}
