@@ -81,32 +81,3 @@ served o policy service told is = if_told o _ _ (λ bytes e. ap service_of e ∙
 
 pub unbuilt : (o : Option (List ℕ)) (policy : Judged) → IfSome o (λ bytes. judged bytes ≡ Ok policy) → service_among policy.policy.chains policy.orders ≡ None → IfSome o (λ bytes. IsUnbuilt (judged bytes))
 unbuilt o policy told is = if_told o _ _ (λ bytes e. subst IsUnbuilt (sym e) is) told
-
-one_at_most : (declared : List FunctionDecl) (place : ℕ) → length (function_at declared place) ≤ 1
-one_at_most declared place = go (slice_get declared place)
-  where
-    go : (o : Option FunctionDecl) → length (option_map_or (λ decl. named decl ∷ []) o []) ≤ 1
-    go None = omega arith
-    go (Some decl) = omega arith
-
-few_at : (declared : List FunctionDecl) (places : List ℕ) → length (functions_at declared places) ≤ length places
-few_at declared [] = omega arith
-few_at declared (place ∷ places) = omega (arith, length-append (function_at declared place) (functions_at declared places), one_at_most declared place, few_at declared places)
-
-few_in : (chain : ChainPolicy) (order : Order) (service : ChainPolicy × List NamedFunction) → IsOrdered chain order → service_in chain order ≡ Some service → length service.1 ≤ 64
-few_in chain order service ordered is = go (is_plain chain) is
-  where
-    go : (b : Bool) → (if b then Some (chain, functions_at chain.functions order.positions) else None) ≡ Some service → length service.1 ≤ 64
-    go false e = absurd cc
-    go true e =
-        let functions : functions_at chain.functions order.positions ≡ service.1 = cc in
-        let all = length_permutation (range_with_len 0 (length chain.functions)) order.positions ordered.each_once in
-        let few = ordered.few in
-        rw (← functions) (omega (arith, few_at chain.functions order.positions, all, few, length-range_with_len 0 (length chain.functions)))
-
-pub few_functions : (chains : List ChainPolicy) (orders : List Order) (service : ChainPolicy × List NamedFunction) → AllZip IsOrdered chains orders → service_among chains orders ≡ Some service → length service.1 ≤ 64
-few_functions (chain ∷ []) (order ∷ []) service ordered is = few_in chain order service ordered.0 is
-few_functions [] orders service ordered is = absurd cc
-few_functions (chain ∷ []) [] service ordered is = absurd cc
-few_functions (chain ∷ []) (order ∷ order2 ∷ orders) service ordered is = absurd cc
-few_functions (chain ∷ chain2 ∷ chains) orders service ordered is = absurd cc
