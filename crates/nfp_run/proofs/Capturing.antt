@@ -82,12 +82,6 @@ writes_all chain fs head body old mid now new ended first ran last = record {
       (subst (λ t. Puts [] t now new) (counted chain fs head b ended counts) last)) ran.counts ran.puts;
 }
 
--- what a `?` hands on
-pub handed_on : {T : Type 0} (r : Result T Outcome) (x : Outcome) (P : Outcome → Type 0) → IsErrAnd r (λ e. e ≡ x) → P x → IfErr r P
-handed_on (Ok y) x P h p = tt
-handed_on (Err e) x P h p = subst P (sym h) p
-
--- the same for what is known of the writer's order and of the capture's slot
 pub ran_here : (chain : ChainPolicy) (fs : List NamedFunction) (head : CaptureHead) (order : Endian) (body body' : Option Body) (mid now : Slot → SlotView) (ended : Ended) → order ≡ head.order → body' ≡ body →
     RunsAll chain fs head.unit order body' mid now ended → RunsAll chain fs head.unit head.order body mid now ended
 ran_here chain fs head order body body' mid now ended p q ran = subst (λ b. RunsAll chain fs head.unit head.order b mid now ended) q (subst (λ o. RunsAll chain fs head.unit o body' mid now ended) p ran)

@@ -66,6 +66,12 @@ gone_within [] = omega arith
 gone_within (Out frame ∷ fates) = let h = gone_within fates in omega arith
 gone_within (Gone position ∷ fates) = let h = gone_within fates in omega arith
 
+has_copies : (p after : Passage) (all : List PcapRecord) (old new : Slot → SlotView) (ended : Ended) → IsFresh p → Passes all p after old new →
+    ended ≡ record { declared = after.declared; totals = after.totals; copies = after.copies; fault = ended.fault } → HasCopies p all ended
+unfolding copies_due
+has_copies p after all old new ended fresh passes told f =
+    ap (λ e. count_of e.copies f) told ∙ passes.advances.copied f ∙ (λ i. raised (fresh.copies f i) (copies_made (fresh.compiled i) (packets_of p.unit all) (fates_next p all) f))
+
 -- all the records of the body passed
 pub runs_all : (p after : Passage) (start left : Option Body) (all : List PcapRecord) (old new : Slot → SlotView) (ended : Ended) →
     IsFresh p → Passes all p after old new → start ≡ option_map (with_records all) left → IfSome left (λ b. b ≡ record { records = []; fault = ended.fault }) → IfSome ended.fault IsBodyFault →
@@ -87,12 +93,6 @@ runs_all p after start left all old new ended fresh passes whole empty kind told
       copied = if_some start _ _ (λ b is. subst (λ (x : Body). HasCopies p x.records ended) (sym is) (has_copies p after all old new ended fresh passes told)) body;
       puts = if_some start _ _ (λ b is. subst (λ (x : Body). Puts (out_next p x.records) (lines_next p x.records) old new) (sym is) passes.puts) body;
     }
-  where
-    has_copies : (p after : Passage) (all : List PcapRecord) (old new : Slot → SlotView) (ended : Ended) → IsFresh p → Passes all p after old new →
-        ended ≡ record { declared = after.declared; totals = after.totals; copies = after.copies; fault = ended.fault } → HasCopies p all ended
-    unfolding copies_due
-    has_copies p after all old new ended fresh passes told f =
-        ap (λ e. count_of e.copies f) told ∙ passes.advances.copied f ∙ (λ i. raised (fresh.copies f i) (copies_made (fresh.compiled i) (packets_of p.unit all) (fates_next p all) f))
 
 -- what is broken off among these records is so among more
 pub longer : (xs ys : List PcapRecord) (p : Passage) (old new : Slot → SlotView) (e : Outcome) → PassBreaks xs p old new e → PassBreaks (xs ++ ys) p old new e
