@@ -1,5 +1,5 @@
 -- A capture that passed whole, or was broken off, as its body has it.
-use Rattle.std.proofs.Common.{◌≡◌, ◌≤◌, ◌+◌, ◌∙◌, ℕ, List, [], ◌∷◌, ◌++◌, length, refl, ap, sym, subst, append_assoc, arith}
+use Rattle.std.proofs.Common.{◌≡◌, ◌≤◌, ◌+◌, ◌∙◌, ℕ, suc, List, [], ◌∷◌, ◌++◌, length, refl, ap, sym, subst, append_assoc, arith}
 use Rattle.std.specs.Prelude.{count_by, Option, Some, None, IfSome}
 use Rattle.std.specs.Option.{option_map}
 use Rattle.std.proofs.lemmas.List.{append-nil}
@@ -63,8 +63,8 @@ settled start (Some left) done fault whole empty = subst (λ o. IfSome o (λ b. 
 -- no more are dropped than there are
 pub gone_within : (fates : List Fate) → count_by is_gone fates ≤ length fates
 gone_within [] = omega arith
-gone_within (Out frame ∷ fates) = let h = gone_within fates in omega arith
-gone_within (Gone position ∷ fates) = let h = gone_within fates in omega arith
+gone_within (Out frame ∷ fates) = let h = gone_within fates in let e : count_by is_gone (Out frame ∷ fates) ≡ 0 + count_by is_gone fates = refl in let n : length (Out frame ∷ fates) ≡ suc (length fates) = refl in omega arith
+gone_within (Gone position ∷ fates) = let h = gone_within fates in let e : count_by is_gone (Gone position ∷ fates) ≡ 1 + count_by is_gone fates = refl in let n : length (Gone position ∷ fates) ≡ suc (length fates) = refl in omega arith
 
 has_copies : (p after : Passage) (all : List PcapRecord) (old new : Slot → SlotView) (ended : Ended) → IsFresh p → Passes all p after old new →
     ended ≡ record { declared = after.declared; totals = after.totals; copies = after.copies; fault = ended.fault } → HasCopies p all ended
@@ -81,8 +81,12 @@ runs_all p after start left all old new ended fresh passes whole empty kind told
     let many = length-fates_of p.running.functions p.unit all in
     let none = fresh.records in
     let none_gone = fresh.dropped in
-    let records : ended.totals.records ≡ length all = ap (λ e. e.totals.records) told ∙ passes.advances.read ∙ ap (λ n. n + length all) none in
-    let gone : ended.totals.dropped ≡ count_by is_gone (fates_next p all) = ap (λ e. e.totals.dropped) told ∙ passes.advances.dropped ∙ ap (λ n. n + count_by is_gone (fates_next p all)) none_gone in
+    let read = passes.advances.read in
+    let lost = passes.advances.dropped in
+    let all_read : ended.totals.records ≡ after.totals.records = ap (λ e. e.totals.records) told in
+    let all_lost : ended.totals.dropped ≡ after.totals.dropped = ap (λ e. e.totals.dropped) told in
+    let records : ended.totals.records ≡ length all = omega arith in
+    let gone : ended.totals.dropped ≡ count_by is_gone (fates_next p all) = omega arith in
     let bound = gone_within (fates_next p all) in
     record {
       goes = goes_by _ _ old new passes.puts;
