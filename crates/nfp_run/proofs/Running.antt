@@ -3,6 +3,7 @@ use Rattle.std.proofs.Common.{◌≡◌, ◌≤◌, ◌+◌, ◌∙◌, ℕ, suc
 use Rattle.std.specs.Prelude.{count_by, Option, Some, None, IfSome}
 use Rattle.std.specs.Option.{option_map}
 use Rattle.std.proofs.lemmas.List.{append-nil}
+use Rattle.std.proofs.lemmas.List.Sums.{count_by-le-length}
 use Rattle.nfp_outside.specs.declared.slot.Slot.{Slot}
 use Rattle.nfp_outside.specs.Outside.{SlotView}
 use Rattle.packet_fields.specs.declared.field.Field.{Field}
@@ -60,12 +61,6 @@ settled start None done fault whole empty = subst (λ o. IfSome o (λ b. b ≡ r
 settled start (Some left) done fault whole empty = subst (λ o. IfSome o (λ b. b ≡ record { records = done; fault = fault })) (sym whole)
     (ap (with_records done) empty ∙ ap (λ l. record { records = l; fault = fault }) (append-nil done))
 
--- no more are dropped than there are
-pub gone_within : (fates : List Fate) → count_by is_gone fates ≤ length fates
-gone_within [] = omega arith
-gone_within (Out frame ∷ fates) = let h = gone_within fates in let e : count_by is_gone (Out frame ∷ fates) ≡ 0 + count_by is_gone fates = refl in let n : length (Out frame ∷ fates) ≡ suc (length fates) = refl in omega arith
-gone_within (Gone position ∷ fates) = let h = gone_within fates in let e : count_by is_gone (Gone position ∷ fates) ≡ 1 + count_by is_gone fates = refl in let n : length (Gone position ∷ fates) ≡ suc (length fates) = refl in omega arith
-
 has_copies : (p after : Passage) (all : List PcapRecord) (old new : Slot → SlotView) (ended : Ended) → IsFresh p → Passes all p after old new →
     ended ≡ record { declared = after.declared; totals = after.totals; copies = after.copies; fault = ended.fault } → HasCopies p all ended
 unfolding copies_due
@@ -87,7 +82,7 @@ runs_all p after start left all old new ended fresh passes whole empty kind told
     let all_lost : ended.totals.dropped ≡ after.totals.dropped = ap (λ e. e.totals.dropped) told in
     let records : ended.totals.records ≡ length all = omega arith in
     let gone : ended.totals.dropped ≡ count_by is_gone (fates_next p all) = omega arith in
-    let bound = gone_within (fates_next p all) in
+    let bound = count_by-le-length is_gone (fates_next p all) in
     record {
       goes = goes_by _ _ old new passes.puts;
       within = omega arith;

@@ -1,20 +1,22 @@
 -- One turn of the loop over a capture: what ran so far, which packets are held, where the reader stands, and what stays.
-use Rattle.std.proofs.Common.{◌≡◌, ◌≢◌, ◌≤◌, ◌+◌, ◌∙◌, ℕ, List, [], ◌∷◌, ◌++◌, length, refl, ap, sym, subst, append_assoc, length-append, arith}
-use Rattle.std.specs.Prelude.{All, count_by, Option, Some, None, IfSome, IfOk, IfErr}
+use Rattle.std.proofs.Common.{◌≡◌, ◌≢◌, ◌≤◌, ◌+◌, ◌∙◌, ℕ, List, [], ◌∷◌, ◌++◌, length, Bool, true, false, refl, ap, sym, subst, append_assoc, length-append, arith, rules}
+use Rattle.std.specs.Prelude.{All, IsTrue, count_by, if◌then◌else◌, Option, Some, None, IfSome, IfOk, IfErr}
 use Rattle.std.specs.Option.{option_map}
+use Rattle.std.proofs.lemmas.Bool.{false≢true}
 use Rattle.std.proofs.lemmas.List.{append-nil, map-append, length-map}
-use Rattle.std.proofs.lemmas.List.Elements.{All-nil}
+use Rattle.std.proofs.lemmas.List.Sums.{count_by-le-length}
+use Rattle.std.proofs.lemmas.List.Elements.{All-nil, All-cons, All-append}
 use Rattle.nfp_outside.specs.declared.slot.Slot.{Slot}
 use Rattle.nfp_outside.specs.declared.slot.Slot.TheVariants as slots
 use Rattle.nfp_outside.specs.Outside.{SlotView, IsRisen}
-use Rattle.pcap_io.specs.Capture.{Body, with_record}
+use Rattle.pcap_io.specs.Capture.{Body, with_record, IsShort}
 use Rattle.pcap_io.specs.Reader.{ReaderState, reader_at, body_left, ReadsRecord, IsAtEnd, IsRecordFault, RefusesRecord}
 use Rattle.pcap_io.specs.declared.capture.CaptureFault.{CaptureFault}
 use Rattle.pcap_io.specs.declared.capture.CaptureFault.TheVariants.{BadMagic, BadVersion, BadLink, CutHead, CutRecord, FrameTooLong, TooManyRecords}
 use Rattle.pcap_io.specs.declared.capture.PcapRecord.{PcapRecord}
 use Rattle.pcap_io.specs.declared.fault.PcapFault.{PcapFault}
 use Rattle.pcap_io.specs.declared.fault.PcapFault.TheVariants as refusals
-use Rattle.classifier.specs.Cutting.{Cutting}
+use Rattle.classifier.specs.Cutting.{Cutting, with_packet, closes, after}
 use Rattle.classifier.specs.declared.burst.Item.{Item}
 use Rattle.nfp_run.specs.Answers.{IsBodyFault}
 use Rattle.nfp_run.specs.Passing.{IsTaken, IsFresh, fates_next, Passes, PassBreaks, Takes, TakeBreaks, Ends, EndBreaks, StopEnds, StopBreaks, records_of}
@@ -27,7 +29,7 @@ use Rattle.nfp_run.specs.declared.passage.Passage.{Passage}
 use Rattle.nfp_run.specs.declared.stream.Ended.{Ended}
 use Rattle.nfp_run.proofs.Passing.{passes_none, passes_more, breaks_next, out_more, lines_more}
 use Rattle.nfp_run.proofs.Putting.{puts_read, puts_more, puts_is, breaks_none, capture_is_not_out, capture_is_not_report}
-use Rattle.nfp_run.proofs.Running.{with_records, with_more, with_none, gone_within, runs_all, breaks_run}
+use Rattle.nfp_run.proofs.Running.{with_records, with_more, with_none, runs_all, breaks_run}
 use Rattle.nfp_run.proofs.Walking.{length-fates_of}
 
 -- reading puts nothing
@@ -42,9 +44,55 @@ pub still_within : (xs : List PcapRecord) (a b : Passage) (old new : Slot → Sl
 still_within xs a b old new passes within =
     let read = passes.advances.read in
     let gone = passes.advances.dropped in
-    let bound = gone_within (fates_next a xs) in
+    let bound = count_by-le-length is_gone (fates_next a xs) in
     let many = length-fates_of a.running.functions a.unit xs in
     omega arith
+
+-- one more packet is taken
+pub more_taken : (cut : Cutting) (packet : PcapRecord) (items : List Item) → All IsTaken cut.held → IsShort packet → items ≡ with_packet cut packet (Some 0) → All IsTaken items
+more_taken cut packet items taken short is =
+    subst (All IsTaken) (sym is) (All-append IsTaken cut.held (record { number = cut.added + 1; class = Some 0; packet = packet } ∷ []) taken (All-cons IsTaken _ [] (record { class = refl; short = short }) (All-nil IsTaken)))
+
+more_records : (cut : Cutting) (packet : PcapRecord) → records_of cut.held ++ packet ∷ [] ≡ records_of (with_packet cut packet (Some 0))
+more_records cut packet = sym (map-append (λ i. i.packet) cut.held (record { number = cut.added + 1; class = Some 0; packet = packet } ∷ []))
+
+-- the burst stays open
+pub takes_open : (cut cut' : Cutting) (packet : PcapRecord) (p : Passage) (old : Slot → SlotView) → All IsTaken cut.held → IsShort packet → ¬ IsTrue (closes cut packet (Some 0)) → cut' ≡ after cut packet (Some 0) → Takes cut cut' packet p p old old
+takes_open cut cut' packet p old taken short stays is = go (closes cut packet (Some 0)) refl
+  where
+    go : (b : Bool) → closes cut packet (Some 0) ≡ b → Takes cut cut' packet p p old old
+    go true e = absurd (stays (subst IsTrue (sym e) (search rules)))
+    go false e =
+        let now : cut' ≡ record { limit = cut.limit; added = cut.added + 1; held = with_packet cut packet (Some 0) } =
+        is ∙ ap (λ b. if b then record { limit = cut.limit; added = cut.added + 1; held = [] } else record { limit = cut.limit; added = cut.added + 1; held = with_packet cut packet (Some 0) }) e in
+        record {
+          ran = [];
+          passes = passes_none p old;
+          row = more_records cut packet ∙ ap (λ c. records_of c.held) (sym now);
+          taken = more_taken cut packet cut'.held taken short (ap (λ c. c.held) now);
+          added = ap (λ c. c.added) now;
+        }
+
+-- the burst is closed, and ran
+pub takes_closed : (cut cut' : Cutting) (packet : PcapRecord) (items : List Item) (p p' : Passage) (old new : Slot → SlotView) → IsTrue (closes cut packet (Some 0)) → cut' ≡ after cut packet (Some 0) → items ≡ with_packet cut packet (Some 0) →
+    Passes (records_of items) p p' old new → Takes cut cut' packet p p' old new
+takes_closed cut cut' packet items p p' old new closed is are passes = go (closes cut packet (Some 0)) refl
+  where
+    go : (b : Bool) → closes cut packet (Some 0) ≡ b → Takes cut cut' packet p p' old new
+    go false e = absurd (false≢true (subst IsTrue e closed))
+    go true e =
+        let now : cut' ≡ record { limit = cut.limit; added = cut.added + 1; held = [] } =
+        is ∙ ap (λ b. if b then record { limit = cut.limit; added = cut.added + 1; held = [] } else record { limit = cut.limit; added = cut.added + 1; held = with_packet cut packet (Some 0) }) e in
+        record {
+          ran = records_of items;
+          passes = passes;
+          row = more_records cut packet ∙ ap records_of (sym are) ∙ sym (append-nil (records_of items)) ∙ ap (λ c. records_of items ++ records_of c.held) (sym now);
+          taken = subst (λ c. All IsTaken c.held) (sym now) (All-nil IsTaken);
+          added = ap (λ c. c.added) now;
+        }
+
+pub takes_broken : (cut : Cutting) (packet : PcapRecord) (items : List Item) (p : Passage) (old new : Slot → SlotView) (e : Outcome) → items ≡ with_packet cut packet (Some 0) → PassBreaks (records_of items) p old new e → TakeBreaks cut packet p old new e
+takes_broken cut packet items p old new e are broken = subst (λ l. PassBreaks l p old new e) (ap records_of are ∙ sym (more_records cut packet)) broken
 
 -- what a turn knows of the passage, the cutter, the reader and the slots
 pub record IsAt (first p : Passage) (cut : Cutting) (start reader : ReaderState) (old now : Slot → SlotView) : Type 0 where

@@ -51,13 +51,13 @@ unfoldable pub copies_due : List NamedFunction → List Packet → List Fate →
 copies_due functions packets fates f = raised 0 (copies_made (stages_of functions) packets fates f)
 
 -- `copies CHAIN FIELD COUNT`
-unfoldable pub copies_text : List ℕ → Field → ℕ → List ℕ
-copies_text chain f count = joined (codes "copies " ∷ chain ∷ codes " " ∷ name_of f ∷ codes " " ∷ decimal count ∷ codes "\n" ∷ [])
+unfoldable pub copies_text : List ℕ → List ℕ → ℕ → List ℕ
+copies_text chain field count = joined (codes "copies " ∷ chain ∷ codes " " ∷ field ∷ codes " " ∷ decimal count ∷ codes "\n" ∷ [])
 
 -- a field of which no copies were made has no line
 abbrev pub copies_line : List ℕ → Field → ℕ → List ℕ
 copies_line chain f zero = []
-copies_line chain f (suc n) = copies_text chain f (suc n)
+copies_line chain f (suc n) = copies_text chain (name_of f) (suc n)
 
 -- the lines of the copies, in the order of the fields
 unfoldable pub copies_lines : List ℕ → (Field → ℕ) → List ℕ

@@ -125,7 +125,7 @@ fn push_copies_line(
     if count == 0 {
         return Ok(());
     }
-    let line = copies_text(alloc, chain, field, count)?;
+    let line = copies_text(alloc, chain, field.name().as_bytes(), count)?;
     text.extend_from_slice(&line)
 }
 
@@ -133,12 +133,11 @@ fn push_copies_line(
 fn copies_text(
     alloc: Global,
     chain: &[u8],
-    field: Field,
+    field: &[u8],
     count: u64,
 ) -> Result<Vec<u8>, AllocError>
-    ensures { IfOk result (λ v. v.items ≡ copies_text chain.now field count) }
+    ensures { IfOk result (λ v. v.items ≡ copies_text chain.now field.now count) }
 {
-    let name = field.name();
     let count = count.to_string(alloc)?;
     join(
         alloc,
@@ -146,7 +145,7 @@ fn copies_text(
             b"copies ",
             chain,
             b" ",
-            name.as_bytes(),
+            field,
             b" ",
             count.as_bytes(),
             b"\n",

@@ -1,39 +1,36 @@
-use Rattle.std.proofs.Common.{rules, ◌≡◌, ◌≢◌, ◌≤◌, ◌<◌, ◌+◌, ◌-◌, ◌^◌, [], All, IfOk, IfErr, OnOk, IsSome, length, ℕ, ◌*◌, ◌/◌, ◌%◌, Bool, true, false, nat_eq, nat_lt, List, ◌∷◌, ◌++◌, slice_index_or, slice_set, bit_and, bit_or, Fits, w8, w32, w64, Bor, MutBor}
-use Rattle.nfp_outside.specs.declared.slot.Slot.{Slot}
-use Rattle.pcap_io.specs.Capture.{IsShort}
-use Rattle.pcap_io.specs.Reader.{reader_at, body_left}
-use Rattle.packet_version.specs.Tallies.{count_of}
-use Rattle.nfp_run.specs.Passing.{IsTaken, IsFresh, Takes, TakeBreaks, Ends, EndBreaks, StopEnds, StopBreaks}
-use Rattle.nfp_run.specs.Report.{summary}
-use Rattle.nfp_run.specs.Running.{RunsAll, RunBreaks, WritesAll, WriteBreaks}
-use Rattle.nfp_run.specs.Services.{stages_of}
-use Rattle.nfp_run.specs.Slots.{Puts, Breaks}
+use Rattle.std.proofs.Common.{ap, sym, subst, Err}
+use Rattle.std.specs.Prelude.{IfOk, IfErr}
+use Rattle.std.proofs.lemmas.Result.{IfOk-weaker, IfErr-weaker}
+use Rattle.nfp_run.proofs.Turns.{at_begins, at_goes_on, at_end, at_stop, at_end_break, at_stop_break, at_take_break}
 use Rattle.nfp_run.proofs.stream.write_records.Goals as goal
 
--- src/stream.rt:118:5
 pub records-init : goal.records-init
-records-init g c = ?
+records-init g c = at_begins _ _ 1024 _ _ c.requires.new c.in_ok-cutter.ensures c.requires.fresh
 
--- src/stream.rt:123:37
-pub returns-in-Err-take-clause-err : goal.returns-in-Err-take-clause-err
-returns-in-Err-take-clause-err g c = ?
-
--- src/stream.rt:118:5
 pub records-preserved : goal.records-preserved
-records-preserved g c = ?
+records-preserved g c = at_goes_on _ _ _ _ _ _ _ _ c.in-Ok-Some.packet _ (g.D.Desk.slots c.records.desk) (g.D.Desk.slots c.next.new.desk) _ c.records.invariant
+    (rw c.in-Ok-Some.field-0-is at c.in-Ok-Some.ensures.record) c.next.ensures.cause.later c.next.ensures.taken.same_name c.next.ensures.others c.in-Ok.ensures.ok c.take.ensures.others
 
--- src/stream.rt:126:25
+pub returns-in-Err-take-clause-err : goal.returns-in-Err-take-clause-err
+returns-in-Err-take-clause-err g c = at_take_break _ _ _ _ _ _ c.in-Ok-Some.packet _ _ (g.D.Desk.slots c.records.desk) (g.D.Desk.slots c.next.new.desk) _ c.records.invariant
+    (rw c.in-Ok-Some.field-0-is at c.in-Ok-Some.ensures.record) c.next.ensures.cause.later c.next.ensures.others c.in-Err-take.ensures.err
+
 pub returns-in-Ok-None-clause-ok : goal.returns-in-Ok-None-clause-ok
-returns-in-Ok-None-clause-ok g c = ?
+returns-in-Ok-None-clause-ok g c = IfOk-weaker c.end.result _ _
+    (λ ended ends. at_end _ _ _ _ _ c.next.new.self ended _ (g.D.Desk.slots c.records.desk) (g.D.Desk.slots c.next.new.desk) _ c.requires.new c.records.invariant (rw c.in-Ok-None.field-0-is at c.in-Ok-None.ensures.end) c.next.ensures.cause.later c.next.ensures.others ends)
+    c.end.ensures.ok
 
--- src/stream.rt:126:25
 pub returns-in-Ok-None-clause-err : goal.returns-in-Ok-None-clause-err
-returns-in-Ok-None-clause-err g c = ?
+returns-in-Ok-None-clause-err g c = IfErr-weaker c.end.result _ _
+    (λ outcome broken. at_end_break _ _ _ _ _ outcome _ (g.D.Desk.slots c.records.desk) (g.D.Desk.slots c.next.new.desk) _ c.records.invariant c.next.ensures.cause.later c.next.ensures.others broken)
+    c.end.ensures.err
 
--- src/stream.rt:127:29
 pub returns-in-Err-clause-ok : goal.returns-in-Err-clause-ok
-returns-in-Err-clause-ok g c = ?
+returns-in-Err-clause-ok g c = IfOk-weaker c.stop.result _ _
+    (λ ended ends. at_stop _ _ _ _ _ c.in-Err.refusal ended _ (g.D.Desk.slots c.records.desk) (g.D.Desk.slots c.next.new.desk) _ c.requires.new c.records.invariant (λ fault is. c.in-Err.ensures.refused fault (ap Err is)) c.next.ensures.cause.later c.next.ensures.others ends)
+    c.stop.ensures.ok
 
--- src/stream.rt:127:29
 pub returns-in-Err-clause-err : goal.returns-in-Err-clause-err
-returns-in-Err-clause-err g c = ?
+returns-in-Err-clause-err g c = IfErr-weaker c.stop.result _ _
+    (λ outcome broken. at_stop_break _ _ _ _ _ c.in-Err.refusal outcome _ (g.D.Desk.slots c.records.desk) (g.D.Desk.slots c.next.new.desk) _ c.records.invariant (λ slot is. (c.in-Err.ensures.cause.read_fault slot (ap Err is)).1) c.next.ensures.cause.later c.next.ensures.others broken)
+    c.stop.ensures.err
