@@ -1,5 +1,5 @@
 -- A whole capture is written: the head, the report's first line, the records, and what stands behind the lines.
-use Rattle.std.proofs.Common.{◌≡◌, ◌+◌, ◌∙◌, ℕ, List, [], ◌++◌, length, ap, sym, subst, arith}
+use Rattle.std.proofs.Common.{◌≡◌, ◌+◌, ◌∙◌, ℕ, List, [], ◌++◌, length, refl, ap, sym, subst, arith}
 use Rattle.std.specs.Prelude.{count_by, Option, Some, None, IfSome}
 use Rattle.nfp_outside.specs.declared.slot.Slot.{Slot}
 use Rattle.nfp_outside.specs.Outside.{SlotView}
@@ -9,8 +9,10 @@ use Rattle.pcap_io.specs.Reader.{ReaderState, body_left}
 use Rattle.pcap_io.specs.Written.{head_bytes}
 use Rattle.pcap_io.specs.declared.capture.CaptureHead.{CaptureHead}
 use Rattle.pcap_io.specs.declared.capture.CaptureFault.{CaptureFault}
+use Rattle.pcap_io.specs.declared.capture.Endian.{Endian}
 use Rattle.pcap_io.specs.declared.capture.PcapRecord.{PcapRecord}
 use Rattle.packet_version.specs.Tallies.{count_of}
+use Rattle.graph_run.specs.Running.{PlainRunning}
 use Rattle.chain_walk.specs.declared.walk.Fate.{Fate}
 use Rattle.policy_text.specs.declared.policy.ChainPolicy.{ChainPolicy}
 use Rattle.nfp_run.specs.declared.outcome.Outcome.{Outcome}
@@ -41,6 +43,13 @@ pub record Begins (chain : ChainPolicy) (fs : List NamedFunction) (head : Captur
   pub same_unit : p.unit ≡ head.unit
   pub same_order : p.writer ≡ head.order
   pub none_read : p.totals.records ≡ 0
+
+-- a passage before its first packet
+abbrev pub started : ChainPolicy → PlainRunning NamedFunction → CaptureHead → Endian → List ℕ → Passage
+started chain running head order copies = record { declared = chain; unit = head.unit; writer = order; running = running; totals = record { records = 0; dropped = 0 }; copies = copies }
+
+pub begins_so : (chain : ChainPolicy) (running : PlainRunning NamedFunction) (head : CaptureHead) (order : Endian) (copies : List ℕ) → order ≡ head.order → Begins chain running.functions head (started chain running head order copies)
+begins_so chain running head order copies same = record { same_chain = refl; same_functions = refl; same_unit = refl; same_order = same; none_read = refl }
 
 first_fates : (chain : ChainPolicy) (fs : List NamedFunction) (head : CaptureHead) (p : Passage) (records : List PcapRecord) → Begins chain fs head p → fates_next p records ≡ fates_of fs head.unit records
 first_fates chain fs head p records begins = λ i. fates_of (begins.same_functions i) (begins.same_unit i) records

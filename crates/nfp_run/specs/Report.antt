@@ -64,8 +64,12 @@ unfoldable pub copies_lines : List ℕ → (Field → ℕ) → List ℕ
 copies_lines chain copies = flat_map (λ f. copies_line chain f (copies f)) all_fields
 
 -- `function CHAIN NAME KIND`
-unfoldable pub function_line : List ℕ → FunctionDecl → List ℕ
-function_line chain f = joined (codes "function " ∷ chain ∷ codes " " ∷ f.name ∷ codes " " ∷ kind_name f.kind ∷ codes "\n" ∷ [])
+unfoldable pub function_text : List ℕ → List ℕ → List ℕ → List ℕ
+function_text chain name kind = joined (codes "function " ∷ chain ∷ codes " " ∷ name ∷ codes " " ∷ kind ∷ codes "\n" ∷ [])
+
+-- the line of a function that is declared
+abbrev pub function_line : List ℕ → FunctionDecl → List ℕ
+function_line chain f = function_text chain f.name (kind_name f.kind)
 
 -- the last line: the end, or the fault that the capture ends with
 unfoldable pub last_line : Option CaptureFault → List ℕ

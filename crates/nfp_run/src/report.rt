@@ -2,7 +2,7 @@
 ghost use Rattle.std.specs.Prelude.{◌≡◌, ◌≤◌, ◌++◌, IfOk, OnOk};
 ghost use Rattle.std.specs.List.{flat_map};
 ghost use Rattle.packet_version.specs.Tallies.{count_of};
-ghost use Rattle.nfp_run.specs.Report.{drop_text, total_line, copies_text, copies_line, copies_lines, function_line, last_line, summary};
+ghost use Rattle.nfp_run.specs.Report.{drop_text, total_line, copies_text, copies_line, copies_lines, function_text, function_line, last_line, summary};
 
 use crate::note::capture_text;
 use action_profile::all_fields;
@@ -157,31 +157,28 @@ fn push_function_lines(text: &mut Vec<u8>, chain: &ChainPolicy) -> Result<(), Al
     ensures { OnOk result (text.new.items ≡ text.old.items ++ flat_map (function_line chain.now.name) chain.now.functions) }
 {
     'functions: for function in chain.functions.as_slice() {
-        push_function_line(text, chain.name.bytes(), function)?;
+        push_function_line(
+            text,
+            chain.name.bytes(),
+            function.name.bytes(),
+            function.kind.name().as_bytes(),
+        )?;
     }
     Ok(())
 }
 
-#[tactic(auto, unfolding(crate::specs::Report::function_line))]
+#[tactic(auto, unfolding(crate::specs::Report::function_text))]
 fn push_function_line<'a>(
     text: &mut Vec<u8>,
     chain: &'a [u8],
-    function: &'a FunctionDecl,
+    name: &'a [u8],
+    kind: &'a [u8],
 ) -> Result<(), AllocError>
-    ensures { OnOk result (text.new.items ≡ text.old.items ++ function_line chain.now function.now) }
+    ensures { OnOk result (text.new.items ≡ text.old.items ++ function_text chain.now name.now kind.now) }
 {
-    let kind = function.kind.name();
     push_all(
         text,
-        &[
-            b"function ",
-            chain,
-            b" ",
-            function.name.bytes(),
-            b" ",
-            kind.as_bytes(),
-            b"\n",
-        ],
+        &[b"function ", chain, b" ", name, b" ", kind, b"\n"],
     )
 }
 
