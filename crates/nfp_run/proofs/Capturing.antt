@@ -1,19 +1,16 @@
 -- A whole capture is written: the head, the report's first line, the records, and what stands behind the lines.
-use Rattle.std.proofs.Common.{◌≡◌, ◌+◌, ◌∙◌, ℕ, List, [], ◌++◌, length, refl, ap, sym, subst, arith}
+use Rattle.std.proofs.Common.{◌≡◌, ◌+◌, ◌∙◌, ℕ, List, [], ◌++◌, length, refl, ap, subst, arith}
 use Rattle.std.specs.Prelude.{count_by, Option, Some, None, IfSome}
 use Rattle.nfp_outside.specs.declared.slot.Slot.{Slot}
 use Rattle.nfp_outside.specs.Outside.{SlotView}
-use Rattle.packet_fields.specs.declared.field.Field.{Field}
 use Rattle.pcap_io.specs.Capture.{Body}
 use Rattle.pcap_io.specs.Reader.{ReaderState, body_left}
 use Rattle.pcap_io.specs.Written.{head_bytes}
 use Rattle.pcap_io.specs.declared.capture.CaptureHead.{CaptureHead}
-use Rattle.pcap_io.specs.declared.capture.CaptureFault.{CaptureFault}
 use Rattle.pcap_io.specs.declared.capture.Endian.{Endian}
 use Rattle.pcap_io.specs.declared.capture.PcapRecord.{PcapRecord}
 use Rattle.packet_version.specs.Tallies.{count_of}
 use Rattle.graph_run.specs.Running.{PlainRunning}
-use Rattle.chain_walk.specs.declared.walk.Fate.{Fate}
 use Rattle.policy_text.specs.declared.policy.ChainPolicy.{ChainPolicy}
 use Rattle.nfp_run.specs.declared.outcome.Outcome.{Outcome}
 use Rattle.nfp_run.specs.declared.passage.Passage.{Passage}

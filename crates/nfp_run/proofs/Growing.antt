@@ -1,11 +1,11 @@
 -- A frame that goes out of a chain has grown by four bytes of tags for each function, at most.
-use Rattle.std.proofs.Common.{◌≡◌, ◌≢◌, ◌≤◌, ◌<◌, ◌∙◌, ℕ, ◌+◌, ◌*◌, List, [], ◌∷◌, ◌++◌, length, take, Bool, true, false, refl, ap, sym, subst, arith, length-append}
+use Rattle.std.proofs.Common.{◌≡◌, ◌≢◌, ◌≤◌, ◌∙◌, ℕ, ◌+◌, ◌*◌, List, [], ◌∷◌, ◌++◌, length, take, Bool, true, false, refl, ap, sym, subst, arith, length-append}
 use Rattle.std.specs.Prelude.{Option, Some, None, IfSome, IsSomeAnd, All, if◌then◌else◌}
 use Rattle.std.specs.Option.{option_or, option_map_or}
 use Rattle.std.proofs.lemmas.List.Elements.{All-nil, All-cons, All-head, All-tail}
 use Rattle.packet_fields.specs.Frames.{is_tag_list, tags_of, packet}
 use Rattle.packet_fields.specs.Fields.{value}
-use Rattle.packet_fields.specs.Writing.{put, put_some, with_tags, written_in, written, all_fields, Fits, AllFit, fields_of, over}
+use Rattle.packet_fields.specs.Writing.{put, put_some, written_in, all_fields, Fits, AllFit, fields_of}
 use Rattle.packet_fields.specs.declared.field.Field.{Field}
 use Rattle.packet_fields.specs.declared.field.Field.TheVariants.{LinkDst, LinkSrc, Tag, Tos, Ttl, SrcIp, DstIp, SrcPort, DstPort, Payload}
 use Rattle.packet_fields.proofs.Framing.{framed}

@@ -1,22 +1,13 @@
 -- How a call ends at its policy.
-use Rattle.std.proofs.Common.{◌≡◌, ◌<◌, ◌≤◌, ◌∙◌, inl, inr, ℕ, List, [], ◌∷◌, length, Bool, false, refl, ap, sym, subst, true, Err, arith}
+use Rattle.std.proofs.Common.{◌≡◌, ◌<◌, ◌∙◌, inl, inr, ℕ, List, length, refl, ap, sym, subst, true, Err, arith}
 use Rattle.std.specs.Prelude.{Option, Some, None, IfSome, nat_lt, if◌then◌else◌, Ok}
-use Rattle.std.specs.Prelude.{slice_get}
-use Rattle.std.specs.Option.{option_map_or}
-use Rattle.std.specs.List.{AllZip, range_with_len}
 use Rattle.std.proofs.lemmas.Bool.Decides.{nat_tests}
-use Rattle.std.proofs.lemmas.List.{length-append}
-use Rattle.std.proofs.lemmas.List.FromFn.{length-range_with_len}
-use Rattle.std.proofs.lemmas.List.Sorted.{length_permutation}
 use Rattle.policy_text.specs.declared.policy.ChainPolicy.{ChainPolicy}
-use Rattle.policy_text.specs.declared.policy.FunctionDecl.{FunctionDecl}
-use Rattle.policy_check.specs.declared.fault.Order.{Order}
 use Rattle.policy_judge.specs.declared.judged.Judged.{Judged}
-use Rattle.policy_judge.specs.Orders.{IsOrdered}
 use Rattle.nfp_run.specs.declared.service.NamedFunction.{NamedFunction}
 use Rattle.nfp_run.specs.Answers.{IsUnbuilt}
 use Rattle.nfp_run.specs.Plan.{plan_text}
-use Rattle.nfp_run.specs.Services.{named, function_at, functions_at, is_plain, service_in, service_among, service_of}
+use Rattle.nfp_run.specs.Services.{service_among, service_of}
 use Rattle.nfp_outside.specs.Outside.{SlotView}
 use Rattle.policy_text.specs.Grammar.{policy_of}
 use Rattle.policy_judge.specs.declared.fault.JudgeFault.{JudgeFault}

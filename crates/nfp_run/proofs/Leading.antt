@@ -1,6 +1,6 @@
 -- The one chain takes every packet of a burst.
-use Rattle.std.proofs.Common.{◌≡◌, ◌∙◌, ℕ, List, [], ◌∷◌, length, map, Bool, true, false, refl, ap, sym, subst}
-use Rattle.std.specs.Prelude.{All, filter, Some, ◌==◌, if◌then◌else◌, IfOk, Result, Ok, Err}
+use Rattle.std.proofs.Common.{◌≡◌, ◌∙◌, List, [], ◌∷◌, map, true, false, refl, ap}
+use Rattle.std.specs.Prelude.{All, filter, ◌==◌, if◌then◌else◌, IfOk, Result, Ok, Err}
 use Rattle.std.specs.Option.{option_map_or}
 use Rattle.std.proofs.lemmas.List.Elements.{All-nil, All-cons, All-head, All-tail}
 use Rattle.pcap_io.specs.Capture.{IsShort}

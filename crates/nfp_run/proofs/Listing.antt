@@ -1,5 +1,5 @@
 -- What is put of records in a row is what is put of each part.
-use Rattle.std.proofs.Common.{◌≡◌, ◌+◌, ◌∙◌, ℕ, List, [], ◌∷◌, ◌++◌, length, refl, ap, sym, arith}
+use Rattle.std.proofs.Common.{◌≡◌, ◌+◌, ◌∙◌, ℕ, List, [], ◌∷◌, ◌++◌, length, refl, ap, arith}
 use Rattle.std.specs.Prelude.{count_by, cond}
 use Rattle.std.specs.List.{flat_map, sum_by, zip, enumerate_from}
 use Rattle.std.proofs.lemmas.Grind.{flat_map-append}

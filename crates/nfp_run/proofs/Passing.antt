@@ -1,12 +1,11 @@
 -- Bursts in a row pass as their packets in a row.
-use Rattle.std.proofs.Common.{◌≡◌, ◌≤◌, ◌<◌, ◌+◌, ◌∙◌, ℕ, suc, List, [], ◌∷◌, ◌++◌, length, map, max, min, Bool, true, false, refl, ap, sym, subst, append_assoc, length-append, arith}
-use Rattle.std.specs.Prelude.{All, count_by, Option, Some, None, IfSome, Result, Ok, Err}
+use Rattle.std.proofs.Common.{◌≡◌, ◌+◌, ◌∙◌, ℕ, List, [], ◌++◌, length, max, min, refl, ap, sym, length-append, arith}
+use Rattle.std.specs.Prelude.{count_by}
 use Rattle.std.proofs.lemmas.List.{append-nil, map-append, length-map}
 use Rattle.nfp_outside.specs.declared.slot.Slot.{Slot}
 use Rattle.nfp_outside.specs.Outside.{SlotView}
 use Rattle.packet_fields.specs.declared.field.Field.{Field}
 use Rattle.pcap_io.specs.declared.capture.PcapRecord.{PcapRecord}
-use Rattle.pcap_io.specs.declared.capture.Unit.{Unit as TimeUnit}
 use Rattle.chain_walk.specs.declared.walk.Fate.{Fate}
 use Rattle.classifier.specs.declared.burst.Item.{Item}
 use Rattle.packet_version.specs.Tallies.{count_of, raised}

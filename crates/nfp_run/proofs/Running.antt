@@ -1,17 +1,14 @@
 -- A capture that passed whole, or was broken off, as its body has it.
-use Rattle.std.proofs.Common.{◌≡◌, ◌≤◌, ◌+◌, ◌∙◌, ℕ, suc, List, [], ◌∷◌, ◌++◌, length, refl, ap, sym, subst, append_assoc, arith}
+use Rattle.std.proofs.Common.{◌≡◌, ◌+◌, ◌∙◌, ℕ, List, [], ◌∷◌, ◌++◌, length, refl, ap, sym, subst, append_assoc, arith}
 use Rattle.std.specs.Prelude.{count_by, Option, Some, None, IfSome}
 use Rattle.std.specs.Option.{option_map}
 use Rattle.std.proofs.lemmas.List.{append-nil}
 use Rattle.std.proofs.lemmas.List.Sums.{count_by-le-length}
 use Rattle.nfp_outside.specs.declared.slot.Slot.{Slot}
 use Rattle.nfp_outside.specs.Outside.{SlotView}
-use Rattle.packet_fields.specs.declared.field.Field.{Field}
 use Rattle.pcap_io.specs.Capture.{Body, with_record}
 use Rattle.pcap_io.specs.declared.capture.PcapRecord.{PcapRecord}
 use Rattle.pcap_io.specs.declared.capture.CaptureFault.{CaptureFault}
-use Rattle.chain_walk.specs.declared.walk.Fate.{Fate}
-use Rattle.chain_walk.specs.declared.walk.Fate.TheVariants.{Out, Gone}
 use Rattle.packet_version.specs.Tallies.{count_of, raised}
 use Rattle.graph_run.specs.Counting.{copies_made}
 use Rattle.nfp_run.specs.declared.outcome.Outcome.{Outcome}
@@ -21,7 +18,7 @@ use Rattle.nfp_run.specs.declared.stream.Ended.{Ended}
 use Rattle.nfp_run.specs.Answers.{IsBodyFault}
 use Rattle.nfp_run.specs.Emitted.{packets_of, fates_of, functions_behind, emitted_all}
 use Rattle.nfp_run.specs.NamedFunctions.{names_of}
-use Rattle.nfp_run.specs.Passing.{fates_next, copies_next, out_next, lines_next, IsFresh, Passes, PassBreaks}
+use Rattle.nfp_run.specs.Passing.{fates_next, out_next, lines_next, IsFresh, Passes, PassBreaks}
 use Rattle.nfp_run.specs.Report.{drop_lines, copies_due, is_gone}
 use Rattle.nfp_run.specs.Running.{Goes, Counts, HasCopies, RunsAll, RunBreaks}
 use Rattle.nfp_run.specs.Slots.{Puts, PutsPrefixes, Breaks}

@@ -53,7 +53,7 @@ none_more declared place fs none =
 one_named : (decl : FunctionDecl) → length (named decl) ≤ 1
 one_named decl = go (function_of decl)
   where
-    go : (o : Option NetFunction) → length (option_map_or {B = List NamedFunction} (λ function. record { name = decl.name; function = function } ∷ []) o []) ≤ 1
+    go : (o : Option NetFunction) → length {A = NamedFunction} (option_map_or (λ function. record { name = decl.name; function = function } ∷ []) o []) ≤ 1
     go None = omega arith
     go (Some function) = omega arith
 

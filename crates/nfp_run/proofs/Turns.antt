@@ -1,6 +1,6 @@
 -- One turn of the loop over a capture: what ran so far, which packets are held, where the reader stands, and what stays.
 use Rattle.std.proofs.Common.{◌≡◌, ◌≢◌, ◌≤◌, ◌+◌, ◌∙◌, ℕ, List, [], ◌∷◌, ◌++◌, length, Bool, true, false, refl, ap, sym, subst, append_assoc, length-append, arith, rules}
-use Rattle.std.specs.Prelude.{All, IsTrue, count_by, if◌then◌else◌, Option, Some, None, IfSome, IfOk, IfErr}
+use Rattle.std.specs.Prelude.{All, IsTrue, if◌then◌else◌, Option, Some, None, IfSome}
 use Rattle.std.specs.Option.{option_map}
 use Rattle.std.proofs.lemmas.Bool.{false≢true}
 use Rattle.std.proofs.lemmas.List.{append-nil, map-append, length-map}
@@ -9,7 +9,7 @@ use Rattle.std.proofs.lemmas.List.Elements.{All-nil, All-cons, All-append}
 use Rattle.nfp_outside.specs.declared.slot.Slot.{Slot}
 use Rattle.nfp_outside.specs.declared.slot.Slot.TheVariants as slots
 use Rattle.nfp_outside.specs.Outside.{SlotView, IsRisen}
-use Rattle.pcap_io.specs.Capture.{Body, with_record, IsShort}
+use Rattle.pcap_io.specs.Capture.{with_record, IsShort}
 use Rattle.pcap_io.specs.Reader.{ReaderState, reader_at, body_left, ReadsRecord, IsAtEnd, IsRecordFault, RefusesRecord}
 use Rattle.pcap_io.specs.declared.capture.CaptureFault.{CaptureFault}
 use Rattle.pcap_io.specs.declared.capture.CaptureFault.TheVariants.{BadMagic, BadVersion, BadLink, CutHead, CutRecord, FrameTooLong, TooManyRecords}
@@ -22,12 +22,12 @@ use Rattle.nfp_run.specs.Answers.{IsBodyFault}
 use Rattle.nfp_run.specs.Passing.{IsTaken, IsFresh, fates_next, Passes, PassBreaks, Takes, TakeBreaks, Ends, EndBreaks, StopEnds, StopBreaks, records_of}
 use Rattle.nfp_run.specs.Report.{is_gone}
 use Rattle.nfp_run.specs.Running.{RunsAll, RunBreaks}
-use Rattle.nfp_run.specs.Slots.{Puts, IsBroken}
+use Rattle.nfp_run.specs.Slots.{Puts}
 use Rattle.nfp_run.specs.declared.outcome.Outcome.{Outcome}
 use Rattle.nfp_run.specs.declared.outcome.Outcome.TheVariants as outcomes
 use Rattle.nfp_run.specs.declared.passage.Passage.{Passage}
 use Rattle.nfp_run.specs.declared.stream.Ended.{Ended}
-use Rattle.nfp_run.proofs.Passing.{passes_none, passes_more, breaks_next, out_more, lines_more}
+use Rattle.nfp_run.proofs.Passing.{passes_none, passes_more, breaks_next}
 use Rattle.nfp_run.proofs.Putting.{puts_read, puts_more, puts_is, breaks_none, capture_is_not_out, capture_is_not_report}
 use Rattle.nfp_run.proofs.Running.{with_records, with_more, with_none, runs_all, breaks_run}
 use Rattle.nfp_run.proofs.Walking.{length-fates_of}

@@ -1,5 +1,5 @@
 -- Packets in a row walk through functions that keep their names.
-use Rattle.std.proofs.Common.{◌≡◌, ◌∙◌, ℕ, ◌+◌, suc, List, [], ◌∷◌, ◌++◌, length, map, Bool, true, false, refl, ap, sym}
+use Rattle.std.proofs.Common.{◌≡◌, ◌∙◌, ℕ, ◌+◌, suc, List, [], ◌∷◌, ◌++◌, length, Bool, true, false, refl, ap, sym}
 use Rattle.std.proofs.lemmas.List.{map-append, length-map}
 use Rattle.pcap_io.specs.declared.capture.Unit.{Unit as TimeUnit}
 use Rattle.pcap_io.specs.declared.capture.PcapRecord.{PcapRecord}

@@ -3,7 +3,7 @@ use Rattle.std.specs.Prelude.{ℕ, List, map}
 use Rattle.std.proofs.Common.{ap}
 use Rattle.chain_walk.specs.Laws.{KeepsProfile}
 use Rattle.chain_walk.specs.Shown.{Shown}
-use Rattle.chain_walk.specs.Step.{Step, Behaviour, stepped}
+use Rattle.chain_walk.specs.Step.{Step, Behaviour}
 use Rattle.net_functions.specs.NetFunctions.{net_behaviour, lines_of}
 use Rattle.net_functions.specs.NetFunctionLaws.{net_keeps}
 use Rattle.nfp_run.specs.declared.service.NamedFunction.{NamedFunction}

@@ -1,5 +1,5 @@
 -- What a policy runs: the functions of its one chain, in the order in which a packet walks through them.
-use Rattle.std.specs.Prelude.{◌≡◌, ℕ, List, [], ◌∷◌, length, map, Bool, true, if◌then◌else◌, ◌==◌, ◌&&◌, slice_get, Option, Some, None, Result, Ok, Err}
+use Rattle.std.specs.Prelude.{◌≡◌, ℕ, List, [], ◌∷◌, length, Bool, true, if◌then◌else◌, ◌==◌, ◌&&◌, slice_get, Option, Some, None, Result, Ok, Err}
 use Rattle.std.specs.List.{flat_map, list_all}
 use Rattle.std.specs.Option.{option_map_or}
 use Rattle.policy_text.specs.declared.policy.ChainPolicy.{ChainPolicy}

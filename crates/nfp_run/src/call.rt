@@ -81,12 +81,7 @@ pub fn nfp<R: Threads + Wait, D: Desk, G: Gate + Sync>(
 }
 
 #[tactic(auto, using(crate::proofs::Planning::plan_ran, crate::proofs::Planning::usage_ran))]
-fn run_words<R: Wait, D: Desk>(
-    rt: &R,
-    alloc: Global,
-    words: &[String],
-    desk: &mut D,
-) -> Ending
+fn run_words<R: Wait, D: Desk>(rt: &R, alloc: Global, words: &[String], desk: &mut D) -> Ending
     requires { (s : Slot) → (D.slots desk.old s).name ≡ None }
     ensures ran { Ran (command_of (map string_bytes words.now)) (D.slots desk.old) (D.slots desk.new) result }
 {

@@ -130,12 +130,7 @@ fn push_copies_line(
 }
 
 #[tactic(auto, unfolding(crate::specs::Report::copies_text))]
-fn copies_text(
-    alloc: Global,
-    chain: &[u8],
-    field: &[u8],
-    count: u64,
-) -> Result<Vec<u8>, AllocError>
+fn copies_text(alloc: Global, chain: &[u8], field: &[u8], count: u64) -> Result<Vec<u8>, AllocError>
     ensures { IfOk result (λ v. v.items ≡ copies_text chain.now field.now count) }
 {
     let count = count.to_string(alloc)?;
@@ -176,10 +171,7 @@ fn push_function_line<'a>(
 ) -> Result<(), AllocError>
     ensures { OnOk result (text.new.items ≡ text.old.items ++ function_text chain.now name.now kind.now) }
 {
-    push_all(
-        text,
-        &[b"function ", chain, b" ", name, b" ", kind, b"\n"],
-    )
+    push_all(text, &[b"function ", chain, b" ", name, b" ", kind, b"\n"])
 }
 
 /// Pieces of a text in a row.

@@ -26,12 +26,7 @@ use std::alloc::Global;
 use std::sync::Wait;
 
 /// Runs the chain of the policy over the capture. The words are accepted, and nothing is put into Note.
-pub fn run<R: Wait, D: Desk>(
-    rt: &R,
-    alloc: Global,
-    names: &FileNames<'_>,
-    desk: &mut D,
-) -> Ending
+pub fn run<R: Wait, D: Desk>(rt: &R, alloc: Global, names: &FileNames<'_>, desk: &mut D) -> Ending
     requires { (s : Slot) → (D.slots desk.old s).name ≡ None }
     ensures due { IsFinal (outcome_seen result) → WhereTold (D.slots desk.old) (λ p c.
         EndsDue (due_of_command (Ok (Run (names_seen names.now))) p c) (D.slots desk.old) (D.slots desk.new) result) }

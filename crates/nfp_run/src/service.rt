@@ -76,7 +76,7 @@ pub fn make_service(alloc: Global, judged: Judged) -> Result<Option<Service>, Al
     }
 }
 
-#[tactic(auto, using(crate::proofs::Serving::all_ready))]
+#[tactic(auto, using(crate::proofs::Serving::all_ready, crate::proofs::Serving::few_functions))]
 fn service_in(
     alloc: Global,
     chain: ChainPolicy,

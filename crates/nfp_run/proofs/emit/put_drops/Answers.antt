@@ -1,4 +1,4 @@
-use Rattle.std.proofs.Common.{rules, ap, sym, subst, arith}
+use Rattle.std.proofs.Common.{sym, subst, arith}
 use Rattle.std.specs.Prelude.{IsSome}
 use Rattle.nfp_run.proofs.Emitting.{dropping_begins, dropping_goes_on, dropping_breaks}
 use Rattle.nfp_run.proofs.emit.put_drops.Goals as goal

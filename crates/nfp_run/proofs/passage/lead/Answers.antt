@@ -1,11 +1,11 @@
-use Rattle.std.proofs.Common.{◌≡◌, ◌∙◌, List, length, ap, sym, subst, rules}
+use Rattle.std.proofs.Common.{◌≡◌, ◌∙◌, ap, sym, subst, rules}
 use Rattle.std.specs.Prelude.{All, IfOk, OnOk}
 use Rattle.packet_fields.specs.declared.field.Field.{Field}
 use Rattle.chain_walk.specs.Packets.{fates, functions_after}
 use Rattle.chain_walk.specs.Walk.{EndsWithin}
 use Rattle.packet_version.specs.Tallies.{count_of, raised}
 use Rattle.graph_run.specs.Counting.{copies_made}
-use Rattle.nfp_run.specs.Emitted.{fates_of, functions_behind, packets_of}
+use Rattle.nfp_run.specs.Emitted.{fates_of, functions_behind}
 use Rattle.nfp_run.specs.NamedFunctions.{named_behaviour, names_of}
 use Rattle.nfp_run.specs.Passing.{IsWritable, records_of}
 use Rattle.nfp_run.proofs.Growing.{all_writable}
@@ -24,7 +24,7 @@ returns-clause-functions g c = subst (λ ps. IfOk c.run_plain.result (λ led. le
 pub returns-clause-within : goal.returns-clause-within
 returns-clause-within g c = if_both_ok c.run_plain.result _ _ _
     (λ led functions within. subst (λ n. All (EndsWithin n) led.1.items)
-        (sym (as_many_named led.0.functions c.args.running.functions (ap names_of functions ∙ names_behind c.args.running.functions c.args.unit (records_of c.args.burst.now.items)))) within)
+    (sym (as_many_named led.0.functions c.args.running.functions (ap names_of functions ∙ names_behind c.args.running.functions c.args.unit (records_of c.args.burst.now.items)))) within)
     (returns-clause-functions g c) c.run_plain.ensures.within
 
 pub returns-clause-writable : goal.returns-clause-writable

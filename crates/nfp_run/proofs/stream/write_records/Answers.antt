@@ -1,5 +1,4 @@
-use Rattle.std.proofs.Common.{ap, sym, subst, Err}
-use Rattle.std.specs.Prelude.{IfOk, IfErr}
+use Rattle.std.proofs.Common.{ap, Err}
 use Rattle.std.proofs.lemmas.Result.{IfOk-weaker, IfErr-weaker}
 use Rattle.nfp_run.proofs.Turns.{at_begins, at_goes_on, at_end, at_stop, at_end_break, at_stop_break, at_take_break}
 use Rattle.nfp_run.proofs.stream.write_records.Goals as goal
