@@ -1,5 +1,5 @@
 //! The cutter of packets into bursts.
-ghost use Rattle.std.specs.Prelude.{◌≡◌, ◌↔◌, ◌<◌, ◌≤◌, ◌-◌, ◌^◌, [], IsTrue, IfOk, IfSome, IsSome, OnErr, OnOk};
+ghost use Rattle.std.specs.Prelude.{◌≡◌, ◌↔◌, ◌<◌, ◌≤◌, ◌-◌, ◌^◌, [], IsTrue, IfOk, IfSome, IsSome, OnErr, OnOk, length};
 ghost use Rattle.classifier.specs.Cutting.{after, closes, with_packet};
 
 use crate::burst::{Burst, Item};
@@ -63,6 +63,8 @@ impl Cutter {
         requires { self.old.added < 2 ^ 32 - 1 }
         ensures closed { IfOk result (λ b. IsSome b ↔ IsTrue (closes self.old packet class)) }
         ensures burst { IfOk result (λ b. IfSome b (λ b. b.items ≡ with_packet self.old packet class)) }
+        // A burst has no more packets than a cutter's limit may be.
+        ensures few { IfOk result (λ b. IfSome b (λ b. length b.items ≤ 65536)) }
         ensures added { OnOk result (self.new ≡ after self.old packet class) }
         ensures err { OnErr result (self.new ≡ self.old) }
     {
@@ -91,7 +93,8 @@ impl Cutter {
 
     /// The open burst, which may be empty.
     pub fn rest(self) -> Burst
-        ensures { result.items ≡ self.held }
+        ensures items { result.items ≡ self.held }
+        ensures few { length result.items ≤ 65536 }
     {
         Burst { items: self.held }
     }

@@ -1,22 +1,13 @@
 -- How a call ends at its policy.
-use Rattle.std.proofs.Common.{◌≡◌, ◌<◌, ◌≤◌, ◌∙◌, inl, inr, ℕ, List, [], ◌∷◌, length, Bool, false, refl, ap, sym, subst, true, Err, arith}
+use Rattle.std.proofs.Common.{◌≡◌, ◌<◌, ◌∙◌, inl, inr, ℕ, List, length, refl, ap, sym, subst, true, Err, arith}
 use Rattle.std.specs.Prelude.{Option, Some, None, IfSome, nat_lt, if◌then◌else◌, Ok}
-use Rattle.std.specs.Prelude.{slice_get}
-use Rattle.std.specs.Option.{option_map_or}
-use Rattle.std.specs.List.{AllZip, range_with_len}
 use Rattle.std.proofs.lemmas.Bool.Decides.{nat_tests}
-use Rattle.std.proofs.lemmas.List.{length-append}
-use Rattle.std.proofs.lemmas.List.FromFn.{length-range_with_len}
-use Rattle.std.proofs.lemmas.List.Sorted.{length_permutation}
 use Rattle.policy_text.specs.declared.policy.ChainPolicy.{ChainPolicy}
-use Rattle.policy_text.specs.declared.policy.FunctionDecl.{FunctionDecl}
-use Rattle.policy_check.specs.declared.fault.Order.{Order}
 use Rattle.policy_judge.specs.declared.judged.Judged.{Judged}
-use Rattle.policy_judge.specs.Orders.{IsOrdered}
 use Rattle.nfp_run.specs.declared.service.NamedFunction.{NamedFunction}
 use Rattle.nfp_run.specs.Answers.{IsUnbuilt}
 use Rattle.nfp_run.specs.Plan.{plan_text}
-use Rattle.nfp_run.specs.Services.{named, function_at, functions_at, is_plain, service_in, service_among, service_of}
+use Rattle.nfp_run.specs.Services.{service_among, service_of}
 use Rattle.nfp_outside.specs.Outside.{SlotView}
 use Rattle.policy_text.specs.Grammar.{policy_of}
 use Rattle.policy_judge.specs.declared.fault.JudgeFault.{JudgeFault}
@@ -81,32 +72,3 @@ served o policy service told is = if_told o _ _ (λ bytes e. ap service_of e ∙
 
 pub unbuilt : (o : Option (List ℕ)) (policy : Judged) → IfSome o (λ bytes. judged bytes ≡ Ok policy) → service_among policy.policy.chains policy.orders ≡ None → IfSome o (λ bytes. IsUnbuilt (judged bytes))
 unbuilt o policy told is = if_told o _ _ (λ bytes e. subst IsUnbuilt (sym e) is) told
-
-one_at_most : (declared : List FunctionDecl) (place : ℕ) → length (function_at declared place) ≤ 1
-one_at_most declared place = go (slice_get declared place)
-  where
-    go : (o : Option FunctionDecl) → length (option_map_or (λ decl. named decl ∷ []) o []) ≤ 1
-    go None = omega arith
-    go (Some decl) = omega arith
-
-few_at : (declared : List FunctionDecl) (places : List ℕ) → length (functions_at declared places) ≤ length places
-few_at declared [] = omega arith
-few_at declared (place ∷ places) = omega (arith, length-append (function_at declared place) (functions_at declared places), one_at_most declared place, few_at declared places)
-
-few_in : (chain : ChainPolicy) (order : Order) (service : ChainPolicy × List NamedFunction) → IsOrdered chain order → service_in chain order ≡ Some service → length service.1 ≤ 64
-few_in chain order service ordered is = go (is_plain chain) is
-  where
-    go : (b : Bool) → (if b then Some (chain, functions_at chain.functions order.positions) else None) ≡ Some service → length service.1 ≤ 64
-    go false e = absurd cc
-    go true e =
-        let functions : functions_at chain.functions order.positions ≡ service.1 = cc in
-        let all = length_permutation (range_with_len 0 (length chain.functions)) order.positions ordered.each_once in
-        let few = ordered.few in
-        rw (← functions) (omega (arith, few_at chain.functions order.positions, all, few, length-range_with_len 0 (length chain.functions)))
-
-pub few_functions : (chains : List ChainPolicy) (orders : List Order) (service : ChainPolicy × List NamedFunction) → AllZip IsOrdered chains orders → service_among chains orders ≡ Some service → length service.1 ≤ 64
-few_functions (chain ∷ []) (order ∷ []) service ordered is = few_in chain order service ordered.0 is
-few_functions [] orders service ordered is = absurd cc
-few_functions (chain ∷ []) [] service ordered is = absurd cc
-few_functions (chain ∷ []) (order ∷ order2 ∷ orders) service ordered is = absurd cc
-few_functions (chain ∷ chain2 ∷ chains) orders service ordered is = absurd cc

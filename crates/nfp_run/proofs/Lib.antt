@@ -4,13 +4,19 @@ pub mod Capturing
 pub mod Closing
 pub mod Completing
 pub mod Holding
+pub mod Emitting
+pub mod Growing
 pub mod Judged
+pub mod Leading
+pub mod Listing
 pub mod Naming
+pub mod Passing
 pub mod Planning
 pub mod Putting
 pub mod Running
 pub mod Serving
 pub mod Telling
 pub mod Turns
+pub mod Walking
 pub mod Whole
 mod Rows

@@ -1,6 +1,6 @@
 -- How what is put into Out and Report adds up.
 use Rattle.std.proofs.Common.{◌≡◌, ◌≢◌, ◌≤◌, inl, inr, ℕ, List, [], ◌++◌, ap, sym, subst, arith}
-use Rattle.std.specs.Prelude.{Result, Err}
+use Rattle.std.specs.Prelude.{Result, Ok, Err, IfErr, IsErrAnd}
 use Rattle.nfp_outside.specs.declared.slot.Slot.{Slot}
 use Rattle.nfp_outside.specs.declared.slot.Slot.TheVariants.{Policy, Capture, Out, Report, Note}
 use Rattle.nfp_outside.specs.declared.slot.OutsideFault.{OutsideFault}
@@ -175,3 +175,10 @@ puts_is a a' b b' old new p q h = subst (λ x. Puts a' x old new) q (subst (λ x
 
 pub breaks_is : (a a' b b' : List ℕ) (old new : Slot → SlotView) (e : Outcome) → a ≡ a' → b ≡ b' → Breaks a b old new e → Breaks a' b' old new e
 breaks_is a a' b b' old new e p q h = subst (λ x. Breaks a' x old new e) q (subst (λ x. Breaks x b old new e) p h)
+
+-- what a `?` hands on
+pub handed_on : {T : Type 0} (r : Result T Outcome) (x : Outcome) (P : Outcome → Type 0) → IsErrAnd r (λ e. e ≡ x) → P x → IfErr r P
+handed_on (Ok y) x P h p = tt
+handed_on (Err e) x P h p = subst P (sym h) p
+
+-- the same for what is known of the writer's order and of the capture's slot

@@ -1,5 +1,5 @@
 -- Worked rows, computed by the definitions.
-use Rattle.std.specs.Prelude.{◌≡◌, ℕ, List, [], ◌∷◌, ◌++◌, refl, take, Some, Result, Ok, Err, codes}
+use Rattle.std.specs.Prelude.{◌≡◌, ℕ, List, [], ◌∷◌, ◌++◌, refl, take, slice_index, Some, Result, Ok, Err, codes}
 use Rattle.std.specs.Fmt.{digits}
 use Rattle.nfp_outside.specs.declared.slot.Slot.TheVariants.{Policy as PolicySlot}
 use Rattle.pcap_io.specs.declared.capture.CaptureFault.TheVariants.{CutRecord, CutHead}
@@ -36,7 +36,13 @@ use Rattle.nfp_run.specs.Due.{due_of_policy, nothing_but}
 use Rattle.nfp_run.specs.Emitted.{fates_of, emitted_all, out_bytes}
 use Rattle.nfp_run.specs.Notes.{done_text, capture_text}
 use Rattle.nfp_run.specs.Plan.{plan_text}
-use Rattle.nfp_run.specs.Report.{report_bytes, drop_text, drop_lines, total_line, function_line, last_line, summary}
+use Rattle.packet_fields.specs.Writing.{written_in}
+use Rattle.packet_fields.specs.Fields.{number_of}
+use Rattle.action_profile.specs.Modes.{mode_of, copies}
+use Rattle.graph_compile.specs.Parts.{branch_reads, branch_writes, touch_of, parts_of}
+use Rattle.graph_compile.specs.Stages.{is_forbidden, holds_back, placed, graph_of}
+use Rattle.graph_run.specs.Counting.{copies_made}
+use Rattle.nfp_run.specs.Report.{report_bytes, drop_text, drop_lines, total_line, copies_due, copies_text, copies_lines, function_text, last_line, summary}
 
 -- version 2.4, snaplen 65535, Ethernet
 head : List ℕ
@@ -72,7 +78,7 @@ deny_written : due_of_policy run_command (worth deny) capture ≡ record {
   });
   note = codes "done records 3 emitted 2 dropped 1\n";
 }
-unfolding run_command worth deny policy_of_utf8 after_line orders_from answer_of edges_of taken stuck named_cycle from_earliest cycle_back first_refusal head first ninth capture body_of head_bytes record_head tags_len is_ipv4 walk fates fates_of emitted_all out_bytes report_bytes drop_text drop_lines total_line function_line last_line summary done_text digits words is_changed change_sum has_same_places has_transport passes line_of
+unfolding run_command worth deny policy_of_utf8 after_line orders_from answer_of edges_of taken stuck named_cycle from_earliest cycle_back first_refusal head first ninth capture body_of head_bytes record_head tags_len is_ipv4 walk fates fates_of emitted_all out_bytes report_bytes drop_text drop_lines total_line last_line summary done_text digits words is_changed change_sum has_same_places has_transport passes line_of function_text copies_due copies_lines copies_made written_in graph_of placed holds_back is_forbidden branch_reads branch_writes touch_of parts_of mode_of copies pair_of first_forbidden pairs actions all_actions is_copied copied
 deny_written = refl
 
 -- b stands before a, and denies what no rule of its own allows: only the second packet passes it, and a drops that
@@ -87,7 +93,7 @@ two_written : due_of_policy run_command (worth two) capture ≡ record {
   });
   note = codes "done records 3 emitted 0 dropped 3\n";
 }
-unfolding run_command worth two policy_of_utf8 after_line orders_from answer_of edges_of taken stuck named_cycle from_earliest cycle_back first_refusal head first ninth capture body_of head_bytes record_head tags_len is_ipv4 walk fates fates_of emitted_all out_bytes report_bytes drop_text drop_lines total_line function_line last_line summary done_text digits words is_changed change_sum has_same_places has_transport passes line_of
+unfolding run_command worth two policy_of_utf8 after_line orders_from answer_of edges_of taken stuck named_cycle from_earliest cycle_back first_refusal head first ninth capture body_of head_bytes record_head tags_len is_ipv4 walk fates fates_of emitted_all out_bytes report_bytes drop_text drop_lines total_line last_line summary done_text digits words is_changed change_sum has_same_places has_transport passes line_of function_text copies_due copies_lines copies_made written_in graph_of placed holds_back is_forbidden branch_reads branch_writes touch_of parts_of mode_of copies pair_of first_forbidden pairs actions all_actions is_copied copied
 two_written = refl
 
 -- cut inside the third record: the two before it are done, and the report ends with the fault
@@ -99,8 +105,28 @@ cut_written : due_of_policy run_command (worth deny) (head ++ (first ++ (ninth +
   });
   note = codes "capture: cut record 3\n";
 }
-unfolding run_command worth deny capture_text policy_of_utf8 after_line orders_from answer_of edges_of taken stuck named_cycle from_earliest cycle_back first_refusal head first ninth capture body_of head_bytes record_head tags_len is_ipv4 walk fates fates_of emitted_all out_bytes report_bytes drop_text drop_lines total_line function_line last_line summary done_text digits words is_changed change_sum has_same_places has_transport passes line_of
+unfolding run_command worth deny capture_text policy_of_utf8 after_line orders_from answer_of edges_of taken stuck named_cycle from_earliest cycle_back first_refusal head first ninth capture body_of head_bytes record_head tags_len is_ipv4 walk fates fates_of emitted_all out_bytes report_bytes drop_text drop_lines total_line last_line summary done_text digits words is_changed change_sum has_same_places has_transport passes line_of function_text copies_due copies_lines copies_made written_in graph_of placed holds_back is_forbidden branch_reads branch_writes touch_of parts_of mode_of copies pair_of first_forbidden pairs actions all_actions is_copied copied
 cut_written = refl
+
+-- the second packet is dropped by the first function, which stands beside the other, and the others by that
+beside : List ℕ
+beside = codes "nfp 1\nchain main\nfn f1 firewall\nrule deny src 10.0.0.9\nfn f2 firewall\nrule deny src 10.0.0.0/8\n"
+
+beside_written : due_of_policy run_command (worth beside) capture ≡ record {
+  outcome = Done;
+  written = Some (record {
+    out = head;
+    report = codes "nfp report 1\ndrop 1 main f2\ndrop 2 main f1\ndrop 3 main f2\nrecords 3 emitted 0 dropped 3\nfunction main f1 firewall\nfunction main f2 firewall\nend\n";
+  });
+  note = codes "done records 3 emitted 0 dropped 3\n";
+}
+unfolding run_command worth beside policy_of_utf8 after_line orders_from answer_of edges_of taken stuck named_cycle from_earliest cycle_back first_refusal head first ninth capture body_of head_bytes record_head tags_len is_ipv4 walk fates fates_of emitted_all out_bytes report_bytes drop_text drop_lines total_line last_line summary done_text digits words is_changed change_sum has_same_places has_transport passes line_of function_text copies_due copies_lines copies_made written_in graph_of placed holds_back is_forbidden branch_reads branch_writes touch_of parts_of mode_of copies pair_of first_forbidden pairs actions all_actions is_copied copied
+beside_written = refl
+
+-- a field has a line where copies of it were made, in the order of the fields
+copies_told : copies_lines (codes "main") (λ f. slice_index (0 ∷ 0 ∷ 3 ∷ 0 ∷ 0 ∷ 12 ∷ 0 ∷ 0 ∷ 0 ∷ 18446744073709551615 ∷ []) (number_of f)) ≡ codes "copies main tag 3\ncopies main src 12\ncopies main payload 18446744073709551615\n"
+unfolding copies_lines copies_text digits
+copies_told = refl
 
 -- a capture of no bytes has no head, and nothing is written
 no_head : due_of_policy run_command (worth deny) [] ≡ nothing_but (Capture CutHead) (codes "capture: cut head\n")

@@ -15,7 +15,7 @@ use Rattle.nfp_run.specs.declared.outcome.UsageFault.{UsageFault}
 use Rattle.nfp_run.specs.declared.service.NamedFunction.{NamedFunction}
 use Rattle.nfp_run.specs.Words.{Command, Run, Plan, command_of}
 use Rattle.nfp_run.specs.Notes.{usage_text, not_built_text, capture_text, done_text}
-use Rattle.nfp_run.specs.Emitted.{fates_of, out_bytes}
+use Rattle.nfp_run.specs.Emitted.{packets_of, fates_of, out_bytes}
 use Rattle.nfp_run.specs.Plan.{plan_text}
 use Rattle.nfp_run.specs.Report.{report_bytes, is_gone}
 use Rattle.nfp_run.specs.Services.{service_among}
@@ -37,7 +37,7 @@ nothing_but outcome note = record { outcome = outcome; written = None; note = no
 
 -- what a chain with these functions writes of a capture, by the fates of its packets
 abbrev pub written_by : ChainPolicy → List NamedFunction → CaptureHead → Body → List Fate → Written
-written_by chain functions head body fates = record { out = out_bytes head body.records fates; report = report_bytes chain functions fates body.fault }
+written_by chain functions head body fates = record { out = out_bytes head body.records fates; report = report_bytes chain functions (packets_of head.unit body.records) fates body.fault }
 
 -- the same by the walk
 abbrev pub written_of : ChainPolicy → List NamedFunction → CaptureHead → Body → Written

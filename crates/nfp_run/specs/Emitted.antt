@@ -8,24 +8,27 @@ use Rattle.pcap_io.specs.declared.capture.Endian.{Endian}
 use Rattle.pcap_io.specs.declared.capture.Unit.{Unit as TimeUnit}
 use Rattle.pcap_io.specs.declared.capture.PcapRecord.{PcapRecord}
 use Rattle.pcap_io.specs.declared.capture.CaptureHead.{CaptureHead}
-use Rattle.chain_walk.specs.Packets.{Packet, fates}
-use Rattle.chain_walk.specs.Walk.{walk}
+use Rattle.chain_walk.specs.Packets.{Packet, fates, functions_after}
 use Rattle.chain_walk.specs.declared.walk.Fate.{Fate}
 use Rattle.chain_walk.specs.declared.walk.Fate.TheVariants.{Out, Gone}
-use Rattle.nfp_run.specs.Services.{named_step}
+use Rattle.nfp_run.specs.NamedFunctions.{named_behaviour}
 use Rattle.nfp_run.specs.declared.service.NamedFunction.{NamedFunction}
 
 -- the packet of a record
 abbrev pub packet_of : TimeUnit → PcapRecord → Packet
 packet_of unit r = record { time = time_of unit r; frame = r.frame }
 
--- where the packet of a record ends that walks through these functions
-abbrev pub fate_of : List NamedFunction → TimeUnit → PcapRecord → Fate
-fate_of functions unit r = (walk named_step (time_of unit r) 1 functions r.frame).fate
+-- the packets of records, in their order
+abbrev pub packets_of : TimeUnit → List PcapRecord → List Packet
+packets_of unit records = map (packet_of unit) records
 
 -- where the packets of a capture end, each walking through the functions as the one before left them
 unfoldable pub fates_of : List NamedFunction → TimeUnit → List PcapRecord → List Fate
-fates_of functions unit records = fates named_step functions (map (packet_of unit) records)
+fates_of functions unit records = fates named_behaviour functions (packets_of unit records)
+
+-- the functions as the last of these packets left them
+unfoldable pub functions_behind : List NamedFunction → TimeUnit → List PcapRecord → List NamedFunction
+functions_behind functions unit records = functions_after named_behaviour functions (packets_of unit records)
 
 -- a record as it goes out, its checksums following what the chain changed, and nothing of one that was dropped
 abbrev pub emitted : Endian → PcapRecord → Fate → List ℕ

@@ -3,7 +3,9 @@ pub mod Closing
 pub mod Due
 pub mod Emitted
 pub mod Named
+pub mod NamedFunctions
 pub mod Notes
+pub mod Passing
 pub mod Plan
 pub mod Ran
 pub mod Reading

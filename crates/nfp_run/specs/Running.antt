@@ -1,23 +1,22 @@
 -- How a capture runs through a chain, where the desk tells it and where it doesn't.
-use Rattle.std.specs.Prelude.{◌≡◌, ◌≤◌, List, length, count_by, Option, Some, IfSome, Result, Ok, Err}
+use Rattle.std.specs.Prelude.{◌≡◌, ◌≤◌, List, length, count_by, Option, IfSome}
 use Rattle.nfp_outside.specs.declared.slot.Slot.{Slot}
-use Rattle.nfp_outside.specs.declared.slot.Slot.TheVariants.{Capture, Out, Report}
+use Rattle.nfp_outside.specs.declared.slot.Slot.TheVariants.{Out, Report}
 use Rattle.nfp_outside.specs.Outside.{SlotView}
 use Rattle.pcap_io.specs.Capture.{Body}
-use Rattle.pcap_io.specs.declared.capture.Endian.{Endian}
-use Rattle.pcap_io.specs.declared.capture.Unit.{Unit as TimeUnit}
 use Rattle.pcap_io.specs.declared.capture.CaptureHead.{CaptureHead}
 use Rattle.chain_walk.specs.declared.walk.Fate.{Fate}
 use Rattle.policy_text.specs.declared.policy.ChainPolicy.{ChainPolicy}
 use Rattle.nfp_run.specs.declared.service.NamedFunction.{NamedFunction}
 use Rattle.nfp_run.specs.declared.outcome.Outcome.{Outcome}
-use Rattle.nfp_run.specs.declared.outcome.Outcome.TheVariants as outcomes
-use Rattle.pcap_io.specs.declared.fault.PcapFault.{PcapFault}
-use Rattle.pcap_io.specs.declared.fault.PcapFault.TheVariants as refusals
-use Rattle.nfp_run.specs.declared.report.Totals.{Totals}
 use Rattle.nfp_run.specs.declared.stream.Ended.{Ended}
-use Rattle.nfp_run.specs.Emitted.{fates_of, emitted_all}
-use Rattle.nfp_run.specs.Report.{drop_lines, is_gone}
+use Rattle.packet_fields.specs.declared.field.Field.{Field}
+use Rattle.pcap_io.specs.declared.capture.PcapRecord.{PcapRecord}
+use Rattle.packet_version.specs.Tallies.{count_of}
+use Rattle.nfp_run.specs.Emitted.{packets_of, fates_of}
+use Rattle.nfp_run.specs.Passing.{fates_next, out_next, lines_next}
+use Rattle.nfp_run.specs.Report.{copies_due, is_gone}
+use Rattle.nfp_run.specs.declared.passage.Passage.{Passage}
 use Rattle.nfp_run.specs.Answers.{IsBodyFault}
 use Rattle.nfp_run.specs.Due.{written_of}
 use Rattle.nfp_run.specs.Slots.{IsLater, Puts, PutsPrefixes, IsBroken}
@@ -34,19 +33,25 @@ pub record Counts (body : Body) (fates : List Fate) (ended : Ended) : Type 0 whe
   pub dropped : ended.totals.dropped ≡ count_by is_gone fates
   pub fault : ended.fault ≡ body.fault
 
+-- the copies were counted that are due
+abbrev pub HasCopies : Passage → List PcapRecord → Ended → Type 0
+HasCopies p records ended = (f : Field) → count_of ended.copies f ≡ copies_due p.running.functions (packets_of p.unit records) (fates_next p records) f
+
 -- All the records of a body that is told ran, and their lines and records were put.
-pub record RunsAll (chain : ChainPolicy) (functions : List NamedFunction) (unit : TimeUnit) (order : Endian) (body : Option Body) (old new : Slot → SlotView) (ended : Ended) : Type 0 where
+pub record RunsAll (p : Passage) (body : Option Body) (old new : Slot → SlotView) (ended : Ended) : Type 0 where
   pub goes : Goes old new
   pub within : ended.totals.dropped ≤ ended.totals.records
   pub kind : IfSome ended.fault IsBodyFault
-  pub counts : IfSome body (λ b. Counts b (fates_of functions unit b.records) ended)
-  pub puts : IfSome body (λ b. Puts (emitted_all order b.records (fates_of functions unit b.records)) (drop_lines chain functions 1 (fates_of functions unit b.records)) old new)
+  pub same_chain : ended.declared ≡ p.declared
+  pub counts : IfSome body (λ b. Counts b (fates_next p b.records) ended)
+  pub copied : IfSome body (λ b. HasCopies p b.records ended)
+  pub puts : IfSome body (λ b. Puts (out_next p b.records) (lines_next p b.records) old new)
 
 -- The run was broken off, and a front part was put.
-pub record RunBreaks (chain : ChainPolicy) (functions : List NamedFunction) (unit : TimeUnit) (order : Endian) (body : Option Body) (old new : Slot → SlotView) (outcome : Outcome) : Type 0 where
+pub record RunBreaks (p : Passage) (body : Option Body) (old new : Slot → SlotView) (outcome : Outcome) : Type 0 where
   pub goes : Goes old new
   pub cause : IsBroken old new outcome
-  pub prefixes : IfSome body (λ b. PutsPrefixes (emitted_all order b.records (fates_of functions unit b.records)) (drop_lines chain functions 1 (fates_of functions unit b.records)) old new)
+  pub prefixes : IfSome body (λ b. PutsPrefixes (out_next p b.records) (lines_next p b.records) old new)
 
 -- The same with the head, the report's first line and what stands behind the lines.
 pub record WritesAll (chain : ChainPolicy) (functions : List NamedFunction) (head : CaptureHead) (body : Option Body) (old new : Slot → SlotView) (ended : Ended) : Type 0 where
@@ -60,9 +65,3 @@ pub record WriteBreaks (chain : ChainPolicy) (functions : List NamedFunction) (h
   pub goes : Goes old new
   pub cause : IsBroken old new outcome
   pub prefixes : IfSome body (λ b. PutsPrefixes (written_of chain functions head b).out (written_of chain functions head b).report old new)
-
--- how a run ends where the next record couldn't be read
-abbrev pub stop_of : Totals → PcapFault → Result Ended Outcome
-stop_of totals (refusals.Capture fault) = Ok (record { totals = totals; fault = Some fault })
-stop_of totals (refusals.ReadFault slot) = Err (outcomes.ReadFault Capture)
-stop_of totals refusals.OutOfMemory = Err outcomes.OutOfMemory

@@ -1,48 +1,35 @@
 -- What a policy runs: the functions of its one chain, in the order in which a packet walks through them.
-use Rattle.std.specs.Prelude.{◌≡◌, ℕ, List, [], ◌∷◌, length, Bool, true, false, if◌then◌else◌, ◌==◌, ◌&&◌, slice_get, Option, Some, None, Result, Ok, Err}
+use Rattle.std.specs.Prelude.{◌≡◌, ℕ, List, [], ◌∷◌, length, Bool, true, if◌then◌else◌, ◌==◌, ◌&&◌, slice_get, Option, Some, None, Result, Ok, Err}
 use Rattle.std.specs.List.{flat_map, list_all}
 use Rattle.std.specs.Option.{option_map_or}
-use Rattle.action_profile.specs.declared.kind.Kind.{Kind}
-use Rattle.action_profile.specs.declared.kind.Kind.TheVariants.{Firewall}
 use Rattle.policy_text.specs.declared.policy.ChainPolicy.{ChainPolicy}
 use Rattle.policy_text.specs.declared.policy.FunctionDecl.{FunctionDecl}
 use Rattle.policy_check.specs.declared.fault.Order.{Order}
 use Rattle.policy_judge.specs.declared.fault.Refusal.{Refusal}
 use Rattle.policy_judge.specs.declared.judged.Judged.{Judged}
-use Rattle.chain_walk.specs.Step.{Step}
-use Rattle.chain_walk.specs.declared.walk.Fate.{Fate}
-use Rattle.chain_walk.specs.declared.walk.Fate.TheVariants.{Out, Gone}
-use Rattle.nf_filter.specs.Firewalls.{refused_line, firewall_of, firewall_step}
+use Rattle.graph_compile.specs.Stages.{graph_of}
+use Rattle.graph_compile.specs.declared.graph.Stage.{Stage}
+use Rattle.graph_run.specs.Running.{profiles_of}
+use Rattle.net_functions.specs.Builds.{is_built, function_of, refused_line}
+use Rattle.nfp_run.specs.NamedFunctions.{named_behaviour}
 use Rattle.nfp_run.specs.declared.service.NamedFunction.{NamedFunction}
 
--- it does what its firewall does, and keeps its name
-abbrev pub named_step : NamedFunction → ℕ → List ℕ → Step NamedFunction
-named_step f time frame = record {
-  after = record f { firewall = (firewall_step f.firewall time frame).after };
-  passed = (firewall_step f.firewall time frame).passed;
-}
-
--- the function that is declared
-abbrev pub named : FunctionDecl → NamedFunction
-named decl = record { name = decl.name; firewall = firewall_of decl }
+-- a function with the name that is declared for it, none where its kind isn't built
+abbrev pub named : FunctionDecl → List NamedFunction
+named decl = option_map_or (λ function. record { name = decl.name; function = function } ∷ []) (function_of decl) []
 
 -- the function that is declared at a place, counted from 0; none past the last
 abbrev pub function_at : List FunctionDecl → ℕ → List NamedFunction
-function_at declared place = option_map_or (λ decl. named decl ∷ []) (slice_get declared place) []
+function_at declared place = option_map_or named (slice_get declared place) []
 
 -- the functions that are declared at these places, in this order
 abbrev pub functions_at : List FunctionDecl → List ℕ → List NamedFunction
 functions_at declared places = flat_map (function_at declared) places
 
--- a function of a chain that runs is a firewall whose lines all stand
+-- a function of a chain that runs is of a kind that is built, and its lines all stand
 pub record IsReady (decl : FunctionDecl) : Type 0 where
-  pub kind : decl.kind ≡ Firewall
+  pub kind : is_built decl.kind ≡ true
   pub settled : refused_line decl ≡ None
-
--- a kind that runs today
-abbrev pub is_built : Kind → Bool
-is_built Firewall = true
-is_built kind = false
 
 -- a chain that runs today: it takes every packet, and each of its functions is of a kind that is built
 abbrev pub is_plain : ChainPolicy → Bool
@@ -61,7 +48,6 @@ abbrev pub service_of : Result Judged Refusal → Option (ChainPolicy × List Na
 service_of (Ok judged) = service_among judged.policy.chains judged.orders
 service_of (Err refusal) = None
 
--- a packet that goes out has this frame
-abbrev pub HasFrame : List ℕ → Fate → Type 0
-HasFrame frame (Out out) = out ≡ frame
-HasFrame frame (Gone position) = Unit {0}
+-- the stages of the graph in which these functions run
+abbrev pub stages_of : List NamedFunction → List Stage
+stages_of functions = (graph_of (profiles_of named_behaviour functions)).stages

@@ -26,10 +26,10 @@ use std::thread::Threads;
 ///
 /// The policy is checked whole before anything else is touched. `run` puts the capture of the packets that passed the chain
 /// into Out, and into Report the line of each that was dropped, the totals, the functions, and the capture's fault where it
-/// has one; the capture is read record by record, and each is written before the next is read. Last, one line goes into
-/// Note, or the plan. The gate is passed by nothing yet, since a whole packet walks the chain in one go.
+/// has one. The capture is read record by record, and written where a burst of 1,024 packets is read or the capture ends.
+/// Last, one line goes into Note, or the plan. The gate is passed by nothing yet, since a burst runs on one thread.
 pub fn nfp<R: Threads + Wait, D: Desk, G: Gate + Sync>(
-    _rt: &R,
+    rt: &R,
     alloc: Global,
     words: &[String],
     desk: &mut D,
@@ -76,17 +76,17 @@ pub fn nfp<R: Threads + Wait, D: Desk, G: Gate + Sync>(
     ensures read_faults { (s : Slot) → result ≡ Outcome.ReadFault s → ReadFaultCause (command_of (map string_bytes words.now)) (D.slots desk.old) (D.slots desk.new) s }
     ensures write_faults { (s : Slot) → result ≡ Outcome.WriteFault s → WriteFaultCause (command_of (map string_bytes words.now)) (D.slots desk.old) (D.slots desk.new) s }
 {
-    let ending = run_words(alloc, words, desk);
+    let ending = run_words(rt, alloc, words, desk);
     put_note(alloc, desk, ending)
 }
 
 #[tactic(auto, using(crate::proofs::Planning::plan_ran, crate::proofs::Planning::usage_ran))]
-fn run_words<D: Desk>(alloc: Global, words: &[String], desk: &mut D) -> Ending
+fn run_words<R: Wait, D: Desk>(rt: &R, alloc: Global, words: &[String], desk: &mut D) -> Ending
     requires { (s : Slot) → (D.slots desk.old s).name ≡ None }
     ensures ran { Ran (command_of (map string_bytes words.now)) (D.slots desk.old) (D.slots desk.new) result }
 {
     match read_command(words) {
-        Ok(Command::Run(names)) => run(alloc, &names, desk),
+        Ok(Command::Run(names)) => run(rt, alloc, &names, desk),
         Ok(Command::Plan(name)) => plan(alloc, name, desk),
         Err(fault) => Ending::Stopped(Outcome::Usage(fault)),
     }

@@ -1,71 +1,84 @@
-//! Leads one packet through the chain, and writes its record or the line of its drop.
-ghost use Rattle.std.specs.Prelude.{◌≡◌, ◌≢◌, ◌≤◌, ◌<◌, ◌+◌, ◌^◌, [], IfErr, OnOk, IsSome, length, vec_len, if◌then◌else◌};
+//! Writes what came of the packets of a burst.
+ghost use Rattle.std.specs.Prelude.{◌≡◌, ◌≢◌, ◌≤◌, ◌<◌, ◌+◌, ◌^◌, [], All, IfErr, OnOk, IsSome, count_by, length};
 ghost use Rattle.nfp_outside.specs.declared.slot.Slot.{Slot};
-ghost use Rattle.pcap_io.specs.Capture.{IsShort};
 ghost use Rattle.packet_fields.specs.Checksums.{sealed};
-ghost use Rattle.pcap_io.specs.Written.{record_bytes};
-ghost use Rattle.nfp_run.specs.Emitted.{emitted, fate_of};
-ghost use Rattle.nfp_run.specs.Report.{drop_line, is_gone};
+ghost use Rattle.chain_walk.specs.Walk.{EndsWithin};
+ghost use Rattle.nfp_run.specs.Emitted.{emitted, emitted_all};
+ghost use Rattle.nfp_run.specs.NamedFunctions.{names_of};
+ghost use Rattle.nfp_run.specs.Passing.{IsWritable, records_of};
+ghost use Rattle.nfp_run.specs.Report.{drop_line, drop_lines, is_gone};
 ghost use Rattle.nfp_run.specs.Slots.{Puts, Breaks};
 
 use crate::outcome::Outcome;
-use crate::report::{Totals, drop_text};
-use crate::service::Service;
+use crate::report::drop_text;
+use crate::service::NamedFunction;
 use crate::write::{put_record, put_text};
 use chain_walk::Fate;
+use classifier::Item;
 use nfp_outside::Desk;
 use packet_fields::{Frame, seal};
-use pcap_io::{PcapRecord, Unit, Writer};
+use pcap_io::{PcapRecord, Writer};
+use policy_text::ChainPolicy;
 use std::alloc::Global;
 
-/// Leads one packet through the chain, and puts its record into Out or the line of its drop into Report.
-pub fn write_record<D: Desk>(
-    alloc: Global,
+/// Puts the records of the packets that passed into Out, in their order, each with the frame that the chain left, sealed.
+pub fn put_emitted<D: Desk>(
     desk: &mut D,
     writer: &mut Writer,
-    service: &mut Service,
-    unit: Unit,
-    totals: &mut Totals,
-    packet: PcapRecord,
+    items: &[Item],
+    fates: Vec<Fate>,
 ) -> Result<(), Outcome>
     requires out { IsSome (D.slots desk.old Slot.Out).name }
-    requires report { IsSome (D.slots desk.old Slot.Report).name }
-    requires few { vec_len service.old.functions < 2 ^ 32 }
-    requires short { IsShort packet }
-    requires room { totals.old.records + 1 < 2 ^ 64 }
-    requires within { totals.old.dropped ≤ totals.old.records }
-    ensures ok { OnOk result (let fate = fate_of service.old.functions.items unit packet in Puts (emitted writer.old packet fate) (drop_line service.old.declared service.old.functions.items (totals.old.records + 1) fate) (D.slots desk.old) (D.slots desk.new)) }
-    ensures err { IfErr result (let fate = fate_of service.old.functions.items unit packet in Breaks (emitted writer.old packet fate) (drop_line service.old.declared service.old.functions.items (totals.old.records + 1) fate) (D.slots desk.old) (D.slots desk.new)) }
-    ensures read { OnOk result (totals.new.records ≡ totals.old.records + 1) }
-    ensures dropped { OnOk result (totals.new.dropped ≡ totals.old.dropped + (if is_gone (fate_of service.old.functions.items unit packet) then 1 else 0)) }
-    ensures functions { OnOk result (service.new.functions.items ≡ service.old.functions.items) }
-    ensures declared { OnOk result (service.new.declared ≡ service.old.declared) }
+    requires as_many { length fates.items ≡ length items.now }
+    requires writable { All IsWritable fates.items }
+    ensures ok { OnOk result (Puts (emitted_all writer.old (records_of items.now) fates.items) [] (D.slots desk.old) (D.slots desk.new)) }
+    ensures err { IfErr result (Breaks (emitted_all writer.old (records_of items.now) fates.items) [] (D.slots desk.old) (D.slots desk.new)) }
     ensures order { writer.new ≡ writer.old }
-    ensures others { (s : Slot) → s ≢ Slot.Out → s ≢ Slot.Report → D.slots desk.new s ≡ D.slots desk.old s }
+    ensures others { (s : Slot) → s ≢ Slot.Out → D.slots desk.new s ≡ D.slots desk.old s }
 {
-    totals.records += 1;
-    let time = packet.time(unit);
-    let PcapRecord {
-        seconds,
-        fraction,
-        wire,
-        frame,
-    } = packet;
-    let before = frame.bytes().to_vec(alloc)?;
-    match service.walk(time, frame)? {
+    let mut index = 0;
+    'fates: for fate in fates {
+        match put_fate(desk, writer, &items[index].packet, fate) {
+            Ok(()) => index += 1,
+            Err(outcome) => return Err(outcome),
+        }
+    }
+    Ok(())
+}
+
+// Puts the record of a packet that passed; one that was dropped has none.
+fn put_fate<D: Desk>(
+    desk: &mut D,
+    writer: &mut Writer,
+    packet: &PcapRecord,
+    fate: Fate,
+) -> Result<(), Outcome>
+    requires out { IsSome (D.slots desk.old Slot.Out).name }
+    requires writable { IsWritable fate }
+    ensures ok { OnOk result (Puts (emitted writer.old packet.now fate) [] (D.slots desk.old) (D.slots desk.new)) }
+    ensures err { IfErr result (Breaks (emitted writer.old packet.now fate) [] (D.slots desk.old) (D.slots desk.new)) }
+    ensures order { writer.new ≡ writer.old }
+    ensures others { (s : Slot) → s ≢ Slot.Out → D.slots desk.new s ≡ D.slots desk.old s }
+{
+    match fate {
         Fate::Out(frame) => {
-            let packet = PcapRecord {
-                seconds,
-                fraction,
-                wire,
-                frame: seal_frame(&before, frame),
-            };
-            put_record(desk, writer, &packet)
+            let emitted = emitted_record(packet, frame);
+            put_record(desk, writer, &emitted)
         }
-        Fate::Gone(position) => {
-            totals.dropped += 1;
-            put_drop(alloc, desk, service, totals.records, position)
-        }
+        Fate::Gone(_) => Ok(()),
+    }
+}
+
+// The record as it goes out, with this frame, whose checksums are adjusted to what changed.
+fn emitted_record(packet: &PcapRecord, frame: Frame) -> PcapRecord
+    ensures record { result ≡ record packet.now { frame = sealed packet.now.frame frame } }
+    ensures length { length result.frame ≡ length frame }
+{
+    PcapRecord {
+        seconds: packet.seconds,
+        fraction: packet.fraction,
+        wire: packet.wire,
+        frame: seal_frame(packet.frame.bytes(), frame),
     }
 }
 
@@ -79,27 +92,66 @@ fn seal_frame(before: &[u8], frame: Frame) -> Frame
     Frame::new(bytes)
 }
 
-// Puts the line of a record that the function at this position dropped into Report.
+/// Puts the line of each packet that was dropped into Report, where the first packet has this number.
+pub fn put_drops<D: Desk>(
+    alloc: Global,
+    desk: &mut D,
+    chain: &ChainPolicy,
+    functions: &[NamedFunction],
+    first: u64,
+    fates: &[Fate],
+) -> Result<(), Outcome>
+    requires report { IsSome (D.slots desk.old Slot.Report).name }
+    requires room { first + length fates.now < 2 ^ 64 }
+    requires within { All (EndsWithin (length functions.now)) fates.now }
+    ensures ok { OnOk result (Puts [] (drop_lines chain.now (names_of functions.now) first fates.now) (D.slots desk.old) (D.slots desk.new)) }
+    ensures err { IfErr result (Breaks [] (drop_lines chain.now (names_of functions.now) first fates.now) (D.slots desk.old) (D.slots desk.new)) }
+    ensures others { (s : Slot) → s ≢ Slot.Report → D.slots desk.new s ≡ D.slots desk.old s }
+{
+    let mut number = first;
+    'fates: for fate in fates {
+        match put_drop(alloc, desk, chain, functions, number, fate) {
+            Ok(()) => number += 1,
+            Err(outcome) => return Err(outcome),
+        }
+    }
+    Ok(())
+}
+
+// Puts the line of a packet that was dropped; one that passed has none.
 fn put_drop<D: Desk>(
     alloc: Global,
     desk: &mut D,
-    service: &Service,
+    chain: &ChainPolicy,
+    functions: &[NamedFunction],
     number: u64,
-    position: u32,
+    fate: &Fate,
 ) -> Result<(), Outcome>
     requires report { IsSome (D.slots desk.old Slot.Report).name }
-    requires first { 1 ≤ position }
-    requires last { position ≤ vec_len service.now.functions }
-    ensures ok { OnOk result (Puts [] (drop_line service.now.declared service.now.functions.items number (Fate.Gone position)) (D.slots desk.old) (D.slots desk.new)) }
-    ensures err { IfErr result (Breaks [] (drop_line service.now.declared service.now.functions.items number (Fate.Gone position)) (D.slots desk.old) (D.slots desk.new)) }
+    requires within { EndsWithin (length functions.now) fate.now }
+    ensures ok { OnOk result (Puts [] (drop_line chain.now (names_of functions.now) number fate.now) (D.slots desk.old) (D.slots desk.new)) }
+    ensures err { IfErr result (Breaks [] (drop_line chain.now (names_of functions.now) number fate.now) (D.slots desk.old) (D.slots desk.new)) }
     ensures others { (s : Slot) → s ≢ Slot.Report → D.slots desk.new s ≡ D.slots desk.old s }
 {
-    let function = &service.functions[position as usize - 1];
-    let line = drop_text(
-        alloc,
-        service.declared.name.bytes(),
-        number,
-        function.name.bytes(),
-    )?;
-    put_text(desk, &line)
+    match fate {
+        Fate::Out(_) => Ok(()),
+        Fate::Gone(position) => {
+            let function = &functions[*position as usize - 1];
+            let line = drop_text(alloc, chain.name.bytes(), number, function.name.bytes())?;
+            put_text(desk, &line)
+        }
+    }
+}
+
+/// How many of these packets were dropped.
+pub fn count_gone(fates: &[Fate]) -> u64
+    ensures { result ≡ count_by is_gone fates.now }
+{
+    fates.iter().filter(|fate| is_gone(fate)).count() as u64
+}
+
+fn is_gone(fate: &Fate) -> bool
+    ensures { result ≡ is_gone fate.now }
+{
+    matches!(fate, Fate::Gone(_))
 }

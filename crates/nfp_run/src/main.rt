@@ -11,6 +11,7 @@ mod ending;
 mod laws;
 mod note;
 mod outcome;
+mod passage;
 mod plan;
 mod read;
 mod report;

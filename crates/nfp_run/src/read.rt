@@ -1,12 +1,12 @@
 //! Reads the policy and the head of the capture, and says why where that is refused.
-ghost use Rattle.std.specs.Prelude.{◌≡◌, ◌≢◌, ◌≤◌, ◌⊎◌, length, All, IfOk, IfErr, IfSome, MatchResult, Ok, Some, None, vec_len};
+ghost use Rattle.std.specs.Prelude.{◌≡◌, ◌≢◌, ◌≤◌, ◌⊎◌, length, All, IfOk, IfErr, IfSome, MatchResult, Ok, Some, None};
 ghost use Rattle.std.specs.List.{AllZip};
 ghost use Rattle.nfp_outside.specs.declared.slot.Slot.{Slot};
 ghost use Rattle.policy_judge.specs.Judging.{judged};
 ghost use Rattle.policy_judge.specs.Orders.{IsOrdered};
 ghost use Rattle.policy_judge.specs.Settings.{IsSettled};
 ghost use Rattle.nfp_run.specs.Reading.{IsUnread, UnreadEnds, refused_by, EndsAtPolicy, EndsBeforeCapture, Opens, RefusedOpening};
-ghost use Rattle.nfp_run.specs.Services.{service_of};
+ghost use Rattle.nfp_run.specs.Services.{service_of, stages_of};
 
 use crate::ending::Ending;
 use crate::outcome::Outcome;
@@ -53,9 +53,9 @@ pub fn read_policy<D: Desk>(alloc: Global, desk: &mut D, name: &str) -> Result<J
 pub fn read_service<D: Desk>(alloc: Global, desk: &mut D, name: &str) -> Result<Service, Ending>
     requires { (D.slots desk.old Slot.Policy).name ≡ None }
     ensures read { MatchResult result
-        (λ s. IfSome (D.slots desk.old Slot.Policy).bytes (λ bytes. service_of (judged bytes) ≡ Some (s.declared, s.functions.items)))
+        (λ s. IfSome (D.slots desk.old Slot.Policy).bytes (λ bytes. service_of (judged bytes) ≡ Some (s.declared, s.running.functions)))
         (EndsBeforeCapture (D.slots desk.old Slot.Policy) (D.slots desk.new Slot.Policy)) }
-    ensures few { IfOk result (λ s. vec_len s.functions ≤ 64) }
+    ensures compiled { IfOk result (λ s. s.running.graph.stages ≡ stages_of s.running.functions) }
     ensures name { ((D.slots desk.new Slot.Policy).name ≡ None) ⊎ ((D.slots desk.new Slot.Policy).name ≡ Some name.now) }
     ensures others { (s : Slot) → s ≢ Slot.Policy → D.slots desk.new s ≡ D.slots desk.old s }
 {

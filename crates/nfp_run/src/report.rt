@@ -1,10 +1,13 @@
 //! The texts of the report.
 ghost use Rattle.std.specs.Prelude.{◌≡◌, ◌≤◌, ◌++◌, IfOk, OnOk};
 ghost use Rattle.std.specs.List.{flat_map};
-ghost use Rattle.nfp_run.specs.Report.{drop_text, total_line, kind_word, function_line, last_line, summary};
+ghost use Rattle.packet_version.specs.Tallies.{count_of};
+ghost use Rattle.nfp_run.specs.Report.{drop_text, total_line, copies_text, copies_line, copies_lines, function_text, function_line, last_line, summary};
 
 use crate::note::capture_text;
-use action_profile::Kind;
+use action_profile::all_fields;
+use packet_fields::Field;
+use packet_version::Tally;
 use pcap_io::CaptureFault;
 use policy_text::{ChainPolicy, FunctionDecl};
 use std::alloc::{AllocError, Global};
@@ -36,18 +39,20 @@ pub fn drop_text(
     )
 }
 
-/// What stands behind the lines of the dropped records: the totals, the functions, and the end or the capture's fault.
+/// What stands behind the lines of the dropped records: the totals, the copies, the functions, and the end or the capture's fault.
 #[tactic(auto, unfolding(crate::specs::Report::summary))]
 pub fn summary(
     alloc: Global,
     chain: &ChainPolicy,
     totals: Totals,
+    copies: &Tally,
     fault: Option<CaptureFault>,
 ) -> Result<Vec<u8>, AllocError>
     requires { totals.dropped ≤ totals.records }
-    ensures { IfOk result (λ v. v.items ≡ summary chain.now totals.records totals.dropped fault) }
+    ensures { IfOk result (λ v. v.items ≡ summary chain.now totals.records totals.dropped (count_of copies.now) fault) }
 {
     let mut text = total_line(alloc, totals)?;
+    push_copies_lines(alloc, &mut text, chain.name.bytes(), copies)?;
     push_function_lines(&mut text, chain)?;
     push_last_line(alloc, &mut text, fault)?;
     Ok(text)
@@ -92,55 +97,81 @@ fn total_line(alloc: Global, totals: Totals) -> Result<Vec<u8>, AllocError>
     )
 }
 
-fn push_function_lines(text: &mut Vec<u8>, chain: &ChainPolicy) -> Result<(), AllocError>
-    ensures { OnOk result (text.new.items ≡ text.old.items ++ flat_map (function_line chain.now.name) chain.now.functions) }
+// The line of each field of which copies were made.
+#[tactic(auto, unfolding(crate::specs::Report::copies_lines))]
+fn push_copies_lines(
+    alloc: Global,
+    text: &mut Vec<u8>,
+    chain: &[u8],
+    copies: &Tally,
+) -> Result<(), AllocError>
+    ensures { OnOk result (text.new.items ≡ text.old.items ++ copies_lines chain.now (count_of copies.now)) }
 {
-    'functions: for function in chain.functions.as_slice() {
-        push_function_line(text, chain.name.bytes(), function)?;
+    'fields: for field in all_fields() {
+        push_copies_line(alloc, text, chain, *field, copies.of(*field))?;
     }
     Ok(())
 }
 
-#[tactic(auto, unfolding(crate::specs::Report::function_line))]
-fn push_function_line<'a>(
+fn push_copies_line(
+    alloc: Global,
     text: &mut Vec<u8>,
-    chain: &'a [u8],
-    function: &'a FunctionDecl,
+    chain: &[u8],
+    field: Field,
+    count: u64,
 ) -> Result<(), AllocError>
-    ensures { OnOk result (text.new.items ≡ text.old.items ++ function_line chain.now function.now) }
+    ensures { OnOk result (text.new.items ≡ text.old.items ++ copies_line chain.now field count) }
 {
-    let kind = kind_word(function.kind);
-    push_all(
-        text,
+    if count == 0 {
+        return Ok(());
+    }
+    let line = copies_text(alloc, chain, field.name().as_bytes(), count)?;
+    text.extend_from_slice(&line)
+}
+
+#[tactic(auto, unfolding(crate::specs::Report::copies_text))]
+fn copies_text(alloc: Global, chain: &[u8], field: &[u8], count: u64) -> Result<Vec<u8>, AllocError>
+    ensures { IfOk result (λ v. v.items ≡ copies_text chain.now field.now count) }
+{
+    let count = count.to_string(alloc)?;
+    join(
+        alloc,
         &[
-            b"function ",
+            b"copies ",
             chain,
             b" ",
-            function.name.bytes(),
+            field,
             b" ",
-            kind,
+            count.as_bytes(),
             b"\n",
         ],
     )
 }
 
-fn kind_word<'a>(kind: Kind) -> &'a [u8]
-    ensures { result.now ≡ kind_word kind }
+fn push_function_lines(text: &mut Vec<u8>, chain: &ChainPolicy) -> Result<(), AllocError>
+    ensures { OnOk result (text.new.items ≡ text.old.items ++ flat_map (function_line chain.now.name) chain.now.functions) }
 {
-    match kind {
-        Kind::Firewall => b"firewall",
-        Kind::Signature => b"signature",
-        Kind::Nat => b"nat",
-        Kind::Balancer => b"balancer",
-        Kind::Monitor => b"monitor",
-        Kind::Limiter => b"limiter",
-        Kind::Marker => b"marker",
-        Kind::Nexthop => b"nexthop",
-        Kind::Hop => b"hop",
-        Kind::Redactor => b"redactor",
-        Kind::Tagger => b"tagger",
-        Kind::Untagger => b"untagger",
+    'functions: for function in chain.functions.as_slice() {
+        push_function_line(
+            text,
+            chain.name.bytes(),
+            function.name.bytes(),
+            function.kind.name().as_bytes(),
+        )?;
     }
+    Ok(())
+}
+
+#[tactic(auto, unfolding(crate::specs::Report::function_text))]
+fn push_function_line<'a>(
+    text: &mut Vec<u8>,
+    chain: &'a [u8],
+    name: &'a [u8],
+    kind: &'a [u8],
+) -> Result<(), AllocError>
+    ensures { OnOk result (text.new.items ≡ text.old.items ++ function_text chain.now name.now kind.now) }
+{
+    push_all(text, &[b"function ", chain, b" ", name, b" ", kind, b"\n"])
 }
 
 /// Pieces of a text in a row.

@@ -1,5 +1,5 @@
 //! Runs the chain of a policy over a capture, or shows the plan of a policy, up to the line in Note.
-ghost use Rattle.std.specs.Prelude.{◌≡◌, ◌≢◌, ◌≤◌, ◌<◌, ◌^◌, ◌⊎◌, IfErr, IfOk, IfSome, IsSome, Ok, Some, None, vec_len};
+ghost use Rattle.std.specs.Prelude.{◌≡◌, ◌≢◌, ◌≤◌, ◌<◌, ◌^◌, ◌⊎◌, IfErr, IfOk, IfSome, IsSome, Ok, Some, None};
 ghost use Rattle.nfp_outside.specs.declared.slot.Slot.{Slot};
 ghost use Rattle.pcap_io.specs.Reader.{reader_at, body_left};
 ghost use Rattle.policy_judge.specs.declared.fault.PolicyFault.{PolicyFault};
@@ -10,6 +10,7 @@ ghost use Rattle.nfp_run.specs.Closing.{outcome_seen, ending_of, close_of, Left,
 ghost use Rattle.nfp_run.specs.Due.{due_of_command, written_of};
 ghost use Rattle.nfp_run.specs.Emitted.{fates_of};
 ghost use Rattle.nfp_run.specs.Named.{names_seen};
+ghost use Rattle.nfp_run.specs.Services.{stages_of};
 
 use crate::ending::Ending;
 use crate::outcome::Outcome;
@@ -22,9 +23,10 @@ use crate::write::attach_sink;
 use nfp_outside::{Desk, Slot};
 use pcap_io::{CaptureHead, Reader};
 use std::alloc::Global;
+use std::sync::Wait;
 
 /// Runs the chain of the policy over the capture. The words are accepted, and nothing is put into Note.
-pub fn run<D: Desk>(alloc: Global, names: &FileNames<'_>, desk: &mut D) -> Ending
+pub fn run<R: Wait, D: Desk>(rt: &R, alloc: Global, names: &FileNames<'_>, desk: &mut D) -> Ending
     requires { (s : Slot) → (D.slots desk.old s).name ≡ None }
     ensures due { IsFinal (outcome_seen result) → WhereTold (D.slots desk.old) (λ p c.
         EndsDue (due_of_command (Ok (Run (names_seen names.now))) p c) (D.slots desk.old) (D.slots desk.new) result) }
@@ -50,7 +52,7 @@ pub fn run<D: Desk>(alloc: Global, names: &FileNames<'_>, desk: &mut D) -> Endin
         Ok(opened) => opened,
         Err(outcome) => return Ending::Stopped(outcome),
     };
-    ending_of(write(alloc, desk, names, service, &head, reader))
+    ending_of(write(rt, alloc, desk, names, service, &head, reader))
 }
 
 // How the work of a call ended that ran a capture.
@@ -65,7 +67,8 @@ fn ending_of(written: Result<Totals, Outcome>) -> Ending
 
 // Attaches Out and Report, and writes both.
 #[tactic(auto, using(crate::proofs::Attaching::attached_at_end, crate::proofs::Attaching::attached_at_break, crate::proofs::Attaching::attached_no_out, crate::proofs::Attaching::attached_no_report))]
-fn write<D: Desk>(
+fn write<R: Wait, D: Desk>(
+    rt: &R,
     alloc: Global,
     desk: &mut D,
     names: &FileNames<'_>,
@@ -76,10 +79,10 @@ fn write<D: Desk>(
     requires capture { IsSome (D.slots desk.old Slot.Capture).name }
     requires out_free { (D.slots desk.old Slot.Out).name ≡ None }
     requires report_free { (D.slots desk.old Slot.Report).name ≡ None }
-    requires few { vec_len service.functions < 2 ^ 32 }
+    requires compiled { service.running.graph.stages ≡ stages_of service.running.functions }
     requires fresh { reader ≡ reader_at head.now.order 0 }
     ensures left { IfSome (body_left reader (D.slots desk.old Slot.Capture)) (λ body.
-        Left (written_of service.declared service.functions.items head.now body) body (fates_of service.functions.items head.now.unit body.records) (D.slots desk.old) (D.slots desk.new) result) }
+        Left (written_of service.declared service.running.functions head.now body) body (fates_of service.running.functions head.now.unit body.records) (D.slots desk.old) (D.slots desk.new) result) }
     ensures cause { IfErr result (EndCause (D.slots desk.old) (D.slots desk.new)) }
     ensures attached { WriteAttaches result (D.slots desk.new) }
     ensures within { IfOk result (λ totals. totals.dropped ≤ totals.records) }
@@ -88,7 +91,6 @@ fn write<D: Desk>(
     ensures capture_name { (D.slots desk.new Slot.Capture).name ≡ (D.slots desk.old Slot.Capture).name }
     ensures others { (s : Slot) → s ≢ Slot.Out → s ≢ Slot.Report → s ≢ Slot.Capture → D.slots desk.new s ≡ D.slots desk.old s }
 {
-    let mut service = service;
     match attach_sink(desk, Slot::Out, names.out) {
         Ok(()) => {}
         Err(outcome) => return Err(outcome),
@@ -97,7 +99,7 @@ fn write<D: Desk>(
         Ok(()) => {}
         Err(outcome) => return Err(outcome),
     }
-    match write_capture(alloc, desk, &mut service, head, reader) {
+    match write_capture(rt, alloc, desk, service, head, reader) {
         Ok(ended) => close(&ended),
         Err(outcome) => Err(outcome),
     }

@@ -1,71 +1,68 @@
 //! What a policy runs: the functions of its one chain.
-ghost use Rattle.std.specs.Prelude.{◌≡◌, ◌++◌, All, IfOk, OnOk};
-ghost use Rattle.std.specs.List.{list_all};
+ghost use Rattle.std.specs.Prelude.{◌≡◌, ◌≤◌, ◌++◌, ◌∷◌, [], All, IfOk, IfSome, OnOk, length, map};
+ghost use Rattle.std.specs.List.{AllZip, list_all};
 ghost use Rattle.std.specs.Option.{option_map};
+ghost use Rattle.policy_judge.specs.Orders.{IsOrdered};
 ghost use Rattle.policy_judge.specs.Settings.{IsSettled};
-ghost use Rattle.nfp_run.specs.Services.{IsReady, is_built, is_plain, named, function_at, functions_at, service_in, service_among};
+ghost use Rattle.graph_run.specs.Running.{profiles_of};
+ghost use Rattle.net_functions.specs.Builds.{is_built};
+ghost use Rattle.nfp_run.specs.NamedFunctions.{named_behaviour};
+ghost use Rattle.nfp_run.specs.Services.{IsReady, is_plain, named, function_at, functions_at, service_in, service_among, stages_of};
 
-use action_profile::Kind;
-use chain_walk::{Fate, Function, Verdict, walk_chain};
-use nf_filter::Firewall;
-use packet_fields::Frame;
+use action_profile::Profile;
+use graph_compile::compile;
+use graph_run::Running;
+use net_functions::{Function, NetFunction, build, is_built};
+use packet_version::{Verdict, View};
 use policy_check::Order;
 use policy_judge::Judged;
 use policy_text::{BuildFault, ChainPolicy, FunctionDecl, Name};
 use std::alloc::{AllocError, Global};
 
-/// A firewall with its name.
+/// A function with its name.
 #[derive(Debug, Drop)]
 pub struct NamedFunction {
     pub name: Name,
-    pub firewall: Firewall,
+    pub function: NetFunction,
 }
 
 impl Function for NamedFunction {
-    ghost use Rattle.nfp_run.specs.Services.{named_step};
+    ghost use Rattle.nfp_run.specs.NamedFunctions.{named_behaviour, named_lines, named_keeps};
 
-    ghost step_gives = { named_step };
+    ghost behaviour = { named_behaviour };
 
-    fn step(&mut self, time: u64, frame: &mut Frame) -> Result<Verdict, AllocError> {
-        self.firewall.step(time, frame)
+    ghost lines = { named_lines };
+
+    fn profile(&self) -> Profile {
+        self.function.profile()
     }
+
+    fn step(&mut self, view: &mut View) -> Result<Verdict, AllocError> {
+        self.function.step(view)
+    }
+
+    fn state_lines(&self, out: &mut Vec<u8>) -> Result<(), AllocError> {
+        self.function.state_lines(out)
+    }
+
+    ghost keeps = { named_keeps };
 }
 
 /// A chain that runs: as it is declared, and its functions in the order in which a packet walks through
-/// them.
-#[derive(Debug, Drop)]
+/// them, with the graph that is compiled for them.
+#[derive(Drop)]
 pub struct Service {
     pub declared: ChainPolicy,
-    pub functions: Vec<NamedFunction>,
-}
-
-impl Service {
-    ghost use Rattle.std.specs.Prelude.{◌≡◌, ◌<◌, ◌^◌, vec_len, IfOk, OnOk};
-    ghost use Rattle.chain_walk.specs.Walk.{walk, EndsWithin};
-    ghost use Rattle.nfp_run.specs.Services.{named_step, HasFrame};
-
-    /// Leads one packet, captured at `time` in nanoseconds, through the functions.
-    ///
-    /// A firewall changes neither itself nor the frame, so the functions stay as they are, and a packet
-    /// that goes out has the frame that it came with.
-    #[tactic(auto, using(crate::proofs::Serving::chain_stays, crate::proofs::Serving::frame_stays))]
-    pub fn walk(&mut self, time: u64, frame: Frame) -> Result<Fate, AllocError>
-        requires { vec_len self.old.functions < 2 ^ 32 }
-        ensures fate { IfOk result (λ fate. fate ≡ (walk named_step time 1 self.old.functions.items frame).fate) }
-        ensures within { IfOk result (EndsWithin (vec_len self.old.functions)) }
-        ensures frame { IfOk result (HasFrame frame) }
-        ensures functions { OnOk result (self.new.functions.items ≡ self.old.functions.items) }
-        ensures declared { self.new.declared ≡ self.old.declared }
-    {
-        walk_chain(&mut self.functions, time, frame)
-    }
+    pub running: Running<NamedFunction>,
 }
 
 /// What a policy without fault runs, or `None` where it doesn't run yet: it has to have one chain, which
 /// takes every packet, and functions of kinds that are built.
 pub fn make_service(alloc: Global, judged: Judged) -> Result<Option<Service>, AllocError>
-    requires { All IsSettled judged.policy.chains }
-    ensures runs { IfOk result (λ o. option_map (λ s. (s.declared, s.functions.items)) o ≡ service_among judged.policy.chains judged.orders) }
+    requires settled { All IsSettled judged.policy.chains }
+    requires ordered { AllZip IsOrdered judged.policy.chains judged.orders }
+    ensures runs { IfOk result (λ o. option_map (λ s. (s.declared, s.running.functions)) o ≡ service_among judged.policy.chains judged.orders) }
+    ensures compiled { IfOk result (λ o. IfSome o (λ s. s.running.graph.stages ≡ stages_of s.running.functions)) }
 {
     let Judged { policy, orders } = judged;
     let mut chains = policy.chains.into_vec();
@@ -79,14 +76,16 @@ pub fn make_service(alloc: Global, judged: Judged) -> Result<Option<Service>, Al
     }
 }
 
-#[tactic(auto, using(crate::proofs::Serving::all_ready))]
+#[tactic(auto, using(crate::proofs::Serving::all_ready, crate::proofs::Serving::few_functions))]
 fn service_in(
     alloc: Global,
     chain: ChainPolicy,
     order: &Order,
 ) -> Result<Option<Service>, AllocError>
-    requires { IsSettled chain }
-    ensures { IfOk result (λ o. option_map (λ s. (s.declared, s.functions.items)) o ≡ service_in chain order.now) }
+    requires settled { IsSettled chain }
+    requires ordered { IsOrdered chain order.now }
+    ensures runs { IfOk result (λ o. option_map (λ s. (s.declared, s.running.functions)) o ≡ service_in chain order.now) }
+    ensures compiled { IfOk result (λ o. IfSome o (λ s. s.running.graph.stages ≡ stages_of s.running.functions)) }
 {
     if !is_plain(&chain) {
         return Ok(None);
@@ -98,8 +97,32 @@ fn service_in(
     )?;
     Ok(Some(Service {
         declared: chain,
-        functions,
+        running: running(alloc, functions)?,
     }))
+}
+
+// Functions in the graph that is compiled for them.
+fn running(
+    alloc: Global,
+    functions: Vec<NamedFunction>,
+) -> Result<Running<NamedFunction>, AllocError>
+    requires { length functions.items ≤ 64 }
+    ensures functions { IfOk result (λ running. running.functions ≡ functions.items) }
+    ensures compiled { IfOk result (λ running. running.graph.stages ≡ stages_of functions.items) }
+{
+    let profiles = profiles(alloc, &functions)?;
+    let graph = compile(alloc, &profiles)?;
+    Ok(Running::new(functions, graph))
+}
+
+fn profiles(alloc: Global, functions: &[NamedFunction]) -> Result<Vec<Profile>, AllocError>
+    ensures { IfOk result (λ profiles. profiles.items ≡ profiles_of named_behaviour functions.now) }
+{
+    let mut profiles = Vec::new(alloc);
+    'functions: for function in functions {
+        profiles.push(function.profile())?;
+    }
+    Ok(profiles)
 }
 
 fn is_plain(chain: &ChainPolicy) -> bool
@@ -112,12 +135,6 @@ fn are_built(functions: &[FunctionDecl]) -> bool
     ensures { result ≡ list_all (λ f. is_built f.kind) functions.now }
 {
     functions.iter().all(|function| is_built(function.kind))
-}
-
-fn is_built(kind: Kind) -> bool
-    ensures { result ≡ is_built kind }
-{
-    matches!(kind, Kind::Firewall)
 }
 
 // The functions that are declared at these places.
@@ -155,11 +172,11 @@ fn push_function(
 // Makes the function that is declared. Its lines were checked before, so none is refused.
 fn named(alloc: Global, decl: &FunctionDecl) -> Result<NamedFunction, AllocError>
     requires { IsReady decl.now }
-    ensures { IfOk result (λ function. function ≡ named decl.now) }
+    ensures { IfOk result (λ function. named decl.now ≡ function ∷ []) }
 {
     let name = Name::new(decl.name.bytes().to_vec(alloc)?);
-    match Firewall::build(alloc, decl) {
-        Ok(firewall) => Ok(NamedFunction { name, firewall }),
+    match build(alloc, decl) {
+        Ok(function) => Ok(NamedFunction { name, function }),
         Err(BuildFault::OutOfMemory) => Err(AllocError),
         Err(BuildFault::BadSetting(_)) => unreachable!(),
     }

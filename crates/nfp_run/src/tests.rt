@@ -22,11 +22,18 @@ const BIG_HEAD: [u8; 24] = [
     0xa1, 0xb2, 0x3c, 0x4d, 0, 2, 0, 4, 0, 0, 0, 0, 0, 0, 0, 0, 0, 0, 0xff, 0xff, 0, 0, 0, 1,
 ];
 
+// Either function drops what the other doesn't.
+const BESIDE: &[u8] =
+    b"nfp 1\nchain main\nfn f1 firewall\nrule deny src 10.0.0.9\nfn f2 firewall\nrule deny src 10.0.0.0/8\n";
+
 const REPORT: &[u8] =
     b"nfp report 1\ndrop 2 main fw\nrecords 3 emitted 2 dropped 1\nfunction main fw firewall\nend\n";
 
 const TWO_REPORT: &[u8] =
     b"nfp report 1\ndrop 1 main a\ndrop 2 main b\ndrop 3 main a\nrecords 3 emitted 0 dropped 3\nfunction main a firewall\nfunction main b firewall\nend\n";
+
+const BESIDE_REPORT: &[u8] =
+    b"nfp report 1\ndrop 1 main f2\ndrop 2 main f1\ndrop 3 main f2\nrecords 3 emitted 0 dropped 3\nfunction main f1 firewall\nfunction main f2 firewall\nend\n";
 
 const CUT_REPORT: &[u8] =
     b"nfp report 1\ndrop 2 main fw\nrecords 2 emitted 1 dropped 1\nfunction main fw firewall\nfault capture: cut record 3\n";
@@ -63,7 +70,11 @@ fn words(alloc: Global, texts: &[&str]) -> Result<Vec<String>, AllocError> {
 fn a_capture_goes_through_the_functions_in_chain_order(rt: HostRuntime) -> Result<(), Fail> {
     let alloc = rt.alloc();
     let words = words(alloc, &["run", "p", "c", "o", "r"])?;
-    for (policy, out, report) in [(POLICY, 140, REPORT), (TWO, 24, TWO_REPORT)] {
+    for (policy, out, report) in [
+        (POLICY, 140, REPORT),
+        (TWO, 24, TWO_REPORT),
+        (BESIDE, 24, BESIDE_REPORT),
+    ] {
         let mut desk = FixedDesk::new(alloc, policy.to_vec(alloc)?, capture(alloc)?, 7);
         let outcome = nfp(&rt, alloc, &words, &mut desk, &OpenGate);
         assert!(rt; matches!(outcome, Outcome::Done));

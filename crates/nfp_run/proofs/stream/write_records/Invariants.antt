@@ -3,7 +3,7 @@ use Rattle.nfp_run.proofs.Turns.{IsAt}
 use Rattle.nfp_run.proofs.stream.write_records.Given as goal
 
 abbrev pub invariant-records : goal.invariant-records
-invariant-records g l = IsAt l.fn.service.declared l.service.declared l.fn.service.functions.items l.service.functions.items l.unit l.fn.writer l.writer l.fn.reader l.reader l.totals.records l.totals.dropped (g.D.Desk.slots l.fn.desk) (g.D.Desk.slots l.desk)
+invariant-records g l = IsAt l.fn.passage l.passage l.cutter l.fn.reader l.reader (g.D.Desk.slots l.fn.desk) (g.D.Desk.slots l.desk)
 
 abbrev pub decreases-records : goal.decreases-records
-decreases-records g l = 4294967296 - l.totals.records
+decreases-records g l = 4294967296 - l.cutter.added
