@@ -1,5 +1,5 @@
 -- What came of the packets of a burst is put, one after another.
-use Rattle.std.proofs.Common.{◌≡◌, ◌≢◌, ◌≤◌, ◌<◌, ◌+◌, ◌∙◌, ℕ, zero, suc, List, [], ◌∷◌, ◌++◌, length, take, drop, refl, ap, sym, subst, append_assoc, length-append, add-one, arith}
+use Rattle.std.proofs.Common.{◌≡◌, ◌≢◌, ◌<◌, ◌+◌, ◌∙◌, ℕ, zero, suc, List, [], ◌∷◌, ◌++◌, length, take, drop, refl, ap, sym, subst, append_assoc, length-append, add-one, arith}
 use Rattle.std.specs.Prelude.{slice_index_or, All}
 use Rattle.std.proofs.Math.Seq.{take-suc}
 use Rattle.std.proofs.lemmas.List.Elements.{All-head, All-tail}
@@ -17,7 +17,7 @@ use Rattle.nfp_run.specs.Passing.{records_of}
 use Rattle.nfp_run.specs.Report.{drop_line, drop_lines}
 use Rattle.nfp_run.specs.Slots.{Puts, Breaks}
 use Rattle.nfp_run.specs.declared.outcome.Outcome.{Outcome}
-use Rattle.nfp_run.proofs.Listing.{emitted-append, lines-append, none_emitted, no_lines}
+use Rattle.nfp_run.proofs.Listing.{emitted-append, lines-append, none_emitted}
 use Rattle.nfp_run.proofs.Putting.{puts_none, puts_more, puts_is, breaks_more, breaks_longer, breaks_is}
 
 one_line : (chain : ChainPolicy) (names : List (List ℕ)) (first : ℕ) (fate : Fate) → drop_lines chain names first (fate ∷ []) ≡ drop_line chain names first fate
@@ -28,50 +28,14 @@ one_emitted : (order : Endian) (r : PcapRecord) (fate : Fate) → emitted_all or
 unfolding emitted_all
 one_emitted order r fate = append-nil (emitted order r fate)
 
--- The lines of so many packets were put.
-pub record IsDropping (chain : ChainPolicy) (names : List (List ℕ)) (first : ℕ) (fates : List Fate) (index number : ℕ) (old now : Slot → SlotView) : Type 0 where
-  pub puts : Puts [] (drop_lines chain names first (take index fates)) old now
-  pub count : number ≡ first + index
-  pub others : (s : Slot) → s ≢ slots.Report → now s ≡ old s
-
-pub dropping_begins : (chain : ChainPolicy) (names : List (List ℕ)) (first : ℕ) (fates : List Fate) (old : Slot → SlotView) → IsDropping chain names first fates 0 first old old
-dropping_begins chain names first fates old = record {
-  puts = puts_is [] [] [] _ old old refl (sym (no_lines chain names first)) (puts_none old);
-  count = omega arith;
-  others = λ s r. refl;
-}
-
 -- the lines up to a packet and its own
-up_to : (chain : ChainPolicy) (names : List (List ℕ)) (first : ℕ) (fates : List Fate) (index number : ℕ) (fate : Fate) → index < length fates → fate ≡ slice_index_or fates index fate → number ≡ first + index →
+pub lines_up_to : (chain : ChainPolicy) (names : List (List ℕ)) (first : ℕ) (fates : List Fate) (index number : ℕ) (fate : Fate) → index < length fates → fate ≡ slice_index_or fates index fate → number ≡ first + index →
     drop_lines chain names first (take (index + 1) fates) ≡ drop_lines chain names first (take index fates) ++ drop_line chain names number fate
-up_to chain names first fates index number fate inside is count =
+lines_up_to chain names first fates index number fate inside is count =
     let taken : take (index + 1) fates ≡ take index fates ++ fate ∷ [] = ap (λ n. take n fates) (add-one index) ∙ take-suc fates index fate inside ∙ ap (λ f. take index fates ++ f ∷ []) (sym is) in
     let many : length (take index fates) ≡ index = length-take-le index fates (omega arith) in
     ap (drop_lines chain names first) taken ∙ lines-append chain names first (take index fates) (fate ∷ [])
     ∙ ap (λ l. drop_lines chain names first (take index fates) ++ l) (ap (λ n. drop_lines chain names n (fate ∷ [])) (ap (λ n. first + n) many ∙ sym count) ∙ one_line chain names number fate)
-
-pub dropping_goes_on : (chain : ChainPolicy) (names : List (List ℕ)) (first : ℕ) (fates : List Fate) (index number : ℕ) (fate : Fate) (old mid new : Slot → SlotView) → IsDropping chain names first fates index number old mid →
-    index < length fates → fate ≡ slice_index_or fates index fate → Puts [] (drop_line chain names number fate) mid new → ((s : Slot) → s ≢ slots.Report → new s ≡ mid s) →
-    IsDropping chain names first fates (index + 1) (number + 1) old new
-dropping_goes_on chain names first fates index number fate old mid new at inside is put beside = record {
-  puts = puts_is [] [] _ _ old new refl (sym (up_to chain names first fates index number fate inside is at.count)) (puts_more [] _ [] _ old mid new at.puts put);
-  count = let c = at.count in omega arith;
-  others = λ s r. beside s r ∙ at.others s r;
-}
-
-pub dropping_ends : (chain : ChainPolicy) (names : List (List ℕ)) (first : ℕ) (fates : List Fate) (index number : ℕ) (old now : Slot → SlotView) → IsDropping chain names first fates index number old now →
-    length fates ≤ index → Puts [] (drop_lines chain names first fates) old now
-dropping_ends chain names first fates index number old now at all = subst (λ l. Puts [] (drop_lines chain names first l) old now) (take_all index fates all) at.puts
-
-pub dropping_breaks : (chain : ChainPolicy) (names : List (List ℕ)) (first : ℕ) (fates : List Fate) (index number : ℕ) (fate : Fate) (old mid new : Slot → SlotView) (e : Outcome) → IsDropping chain names first fates index number old mid →
-    index < length fates → fate ≡ slice_index_or fates index fate → Breaks [] (drop_line chain names number fate) mid new e → Breaks [] (drop_lines chain names first fates) old new e
-dropping_breaks chain names first fates index number fate old mid new e at inside is broken =
-    let upto = take (index + 1) fates in
-    let later = drop (index + 1) fates in
-    breaks_is [] [] (drop_lines chain names first upto ++ drop_lines chain names (first + length upto) later) _ old new e refl
-    (sym (lines-append chain names first upto later) ∙ ap (drop_lines chain names first) (take-append-drop (index + 1) fates))
-    (breaks_longer [] (drop_lines chain names first upto) [] (drop_lines chain names (first + length upto) later) old new e
-    (breaks_is [] [] _ _ old new e refl (sym (up_to chain names first fates index number fate inside is at.count)) (breaks_more [] _ [] _ old mid new e at.puts broken)))
 
 -- The records of some packets were put, and these fates are left.
 pub record IsEmitting (order order' : Endian) (items : List Item) (fates left : List Fate) (index : ℕ) (old now : Slot → SlotView) : Type 0 where

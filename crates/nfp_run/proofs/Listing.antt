@@ -10,7 +10,7 @@ use Rattle.pcap_io.specs.declared.capture.PcapRecord.{PcapRecord}
 use Rattle.chain_walk.specs.Packets.{Packet}
 use Rattle.chain_walk.specs.declared.walk.Fate.{Fate}
 use Rattle.graph_compile.specs.declared.graph.Stage.{Stage}
-use Rattle.graph_run.specs.Counting.{copies_of, copies_made}
+use Rattle.graph_run.specs.Counting.{copies_made}
 use Rattle.policy_text.specs.declared.policy.ChainPolicy.{ChainPolicy}
 use Rattle.nfp_run.specs.Emitted.{emitted, emitted_all}
 use Rattle.nfp_run.specs.Report.{drop_line, drop_lines, is_gone}
@@ -36,10 +36,12 @@ lines-append chain names first fs gs = ap (flat_map (λ x. drop_line chain names
 pub gone-append : (fs gs : List Fate) → count_by is_gone (fs ++ gs) ≡ count_by is_gone fs + count_by is_gone gs
 gone-append fs gs = sum_by-append (λ x. cond (is_gone x) 1 0) fs gs
 
+sums-append : (g : Packet × Fate → ℕ) (ps qs : List Packet) (fs gs : List Fate) → length fs ≡ length ps → sum_by g (zip (ps ++ qs) (fs ++ gs)) ≡ sum_by g (zip ps fs) + sum_by g (zip qs gs)
+sums-append g ps qs fs gs many = ap (sum_by g) (zip-append ps qs fs gs many) ∙ sum_by-append g (zip ps fs) (zip qs gs)
+
 pub copies-append : (stages : List Stage) (ps qs : List Packet) (fs gs : List Fate) (f : Field) → length fs ≡ length ps → copies_made stages (ps ++ qs) (fs ++ gs) f ≡ copies_made stages ps fs f + copies_made stages qs gs f
 unfolding copies_made
-copies-append stages ps qs fs gs f many =
-    ap (sum_by (λ x. copies_of stages f x.0 x.1)) (zip-append ps qs fs gs many) ∙ sum_by-append (λ x. copies_of stages f x.0 x.1) (zip ps fs) (zip qs gs)
+copies-append stages ps qs fs gs f many = sums-append _ ps qs fs gs many
 
 -- nothing is put of no records
 pub none_emitted : (order : Endian) → emitted_all order [] [] ≡ []

@@ -104,31 +104,22 @@ pub breaks_next : (xs ys : List PcapRecord) (a b : Passage) (old mid new : Slot 
 breaks_next xs ys a b old mid new e first broken =
     breaks_is _ _ _ _ old new e (sym (out_more xs ys a b first.advances)) (sym (lines_more xs ys a b first.advances)) (breaks_more _ _ _ _ old mid new e first.puts broken)
 
--- the lines of a burst are put before its records
-pub drops_refused : (out lines : List ℕ) (old new : Slot → SlotView) (e : Outcome) → Breaks [] lines old new e → Breaks out lines old new e
-drops_refused out lines old new e broken = breaks_is out out (lines ++ []) lines old new e refl (append-nil lines) (breaks_longer [] lines out [] old new e broken)
+-- the records of a burst are put before its lines
+pub records_refused : (out lines : List ℕ) (old new : Slot → SlotView) (e : Outcome) → Breaks out [] old new e → Breaks out lines old new e
+records_refused out lines old new e broken = breaks_is (out ++ []) out lines lines old new e (append-nil out) refl (breaks_longer out [] [] lines old new e broken)
 
-pub records_refused : (out lines : List ℕ) (old mid new : Slot → SlotView) (e : Outcome) → Puts [] lines old mid → Breaks out [] mid new e → Breaks out lines old new e
-records_refused out lines old mid new e first broken = breaks_is out out (lines ++ []) lines old new e refl (append-nil lines) (breaks_more [] lines out [] old mid new e first broken)
+pub lines_refused : (out lines : List ℕ) (old mid new : Slot → SlotView) (e : Outcome) → Puts out [] old mid → Breaks [] lines mid new e → Breaks out lines old new e
+lines_refused out lines old mid new e first broken = breaks_is (out ++ []) out lines lines old new e (append-nil out) refl (breaks_more out [] [] lines old mid new e first broken)
 
-pub burst_put : (out lines : List ℕ) (old mid new : Slot → SlotView) → Puts [] lines old mid → Puts out [] mid new → Puts out lines old new
-burst_put out lines old mid new first second = puts_is out out (lines ++ []) lines old new refl (append-nil lines) (puts_more [] lines out [] old mid new first second)
+pub burst_put : (out lines : List ℕ) (old mid new : Slot → SlotView) → Puts out [] old mid → Puts [] lines mid new → Puts out lines old new
+burst_put out lines old mid new first second = puts_is (out ++ []) out lines lines old new (append-nil out) refl (puts_more out [] [] lines old mid new first second)
 
--- the lines that were put are those that come next
-drops_next : (records : List PcapRecord) (p : Passage) (functions functions' : List NamedFunction) (fates fates' : List Fate) → functions ≡ functions_behind p.running.functions p.unit records → functions' ≡ functions →
-    fates ≡ fates_next p records → fates' ≡ fates → drop_lines p.declared (names_of functions') (p.totals.records + 1) fates' ≡ lines_next p records
-drops_next records p functions functions' fates fates' behind same are same_fates =
+-- the lines that are made are those that come next
+pub made_lines : (records : List PcapRecord) (p : Passage) (functions functions' : List NamedFunction) (fates fates' : List Fate) (text text' : List ℕ) → functions ≡ functions_behind p.running.functions p.unit records → functions' ≡ functions →
+    fates ≡ fates_next p records → fates' ≡ fates → text ≡ drop_lines p.declared (names_of functions') (p.totals.records + 1) fates' → text' ≡ text → text' ≡ lines_next p records
+made_lines records p functions functions' fates fates' text text' behind same are same_fates made same_text =
     let names : names_of functions' ≡ names_of p.running.functions = ap names_of (same ∙ behind) ∙ names_behind p.running.functions p.unit records in
-    λ i. drop_lines p.declared (names i) (p.totals.records + 1) ((same_fates ∙ are) i)
-
-pub puts_drops : (records : List PcapRecord) (p : Passage) (functions functions' : List NamedFunction) (fates fates' : List Fate) (old new : Slot → SlotView) → functions ≡ functions_behind p.running.functions p.unit records → functions' ≡ functions →
-    fates ≡ fates_next p records → fates' ≡ fates → Puts [] (drop_lines p.declared (names_of functions') (p.totals.records + 1) fates') old new → Puts [] (lines_next p records) old new
-puts_drops records p functions functions' fates fates' old new behind same are same_fates puts = puts_is [] [] _ _ old new refl (drops_next records p functions functions' fates fates' behind same are same_fates) puts
-
-pub breaks_drops : (records : List PcapRecord) (p : Passage) (functions functions' : List NamedFunction) (fates fates' : List Fate) (old new : Slot → SlotView) (e : Outcome) → functions ≡ functions_behind p.running.functions p.unit records → functions' ≡ functions →
-    fates ≡ fates_next p records → fates' ≡ fates → Breaks [] (drop_lines p.declared (names_of functions') (p.totals.records + 1) fates') old new e → PassBreaks records p old new e
-breaks_drops records p functions functions' fates fates' old new e behind same are same_fates broken =
-    drops_refused (out_next p records) (lines_next p records) old new e (breaks_is [] [] _ _ old new e refl (drops_next records p functions functions' fates fates' behind same are same_fates) broken)
+    same_text ∙ made ∙ (λ i. drop_lines p.declared (names i) (p.totals.records + 1) ((same_fates ∙ are) i))
 
 -- the records that were put are those that come next
 pub puts_records : (items items' : List Item) (p : Passage) (fates : List Fate) (old new : Slot → SlotView) → items' ≡ items → fates ≡ fates_next p (records_of items) → Puts (emitted_all p.writer (records_of items') fates) [] old new →
@@ -136,8 +127,9 @@ pub puts_records : (items items' : List Item) (p : Passage) (fates : List Fate) 
 puts_records items items' p fates old new same are puts = puts_is _ _ [] [] old new (λ i. emitted_all p.writer (records_of (same i)) (are i)) refl puts
 
 pub breaks_records : (items items' : List Item) (p : Passage) (fates : List Fate) (old new : Slot → SlotView) (e : Outcome) → items' ≡ items → fates ≡ fates_next p (records_of items) → Breaks (emitted_all p.writer (records_of items') fates) [] old new e →
-    Breaks (out_next p (records_of items)) [] old new e
-breaks_records items items' p fates old new e same are broken = breaks_is _ _ [] [] old new e (λ i. emitted_all p.writer (records_of (same i)) (are i)) refl broken
+    PassBreaks (records_of items) p old new e
+breaks_records items items' p fates old new e same are broken =
+    records_refused (out_next p (records_of items)) (lines_next p (records_of items)) old new e (breaks_is _ _ [] [] old new e (λ i. emitted_all p.writer (records_of (same i)) (are i)) refl broken)
 
 pub items_many : (items items' : List Item) (p : Passage) (fates : List Fate) → items' ≡ items → fates ≡ fates_next p (records_of items) → length fates ≡ length items'
 items_many items items' p fates same are = ap length are ∙ length-fates_of p.running.functions p.unit (records_of items) ∙ length-map items (λ i. i.packet) ∙ sym (ap length same)

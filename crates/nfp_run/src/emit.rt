@@ -1,25 +1,19 @@
-//! Writes what came of the packets of a burst.
-ghost use Rattle.std.specs.Prelude.{◌≡◌, ◌≢◌, ◌≤◌, ◌<◌, ◌+◌, ◌^◌, [], All, IfErr, OnOk, IsSome, count_by, length};
+//! Writes the packets of a burst that passed.
+ghost use Rattle.std.specs.Prelude.{◌≡◌, ◌≢◌, [], All, IfErr, OnOk, IsSome, count_by, length};
 ghost use Rattle.nfp_outside.specs.declared.slot.Slot.{Slot};
 ghost use Rattle.packet_fields.specs.Checksums.{sealed};
-ghost use Rattle.chain_walk.specs.Walk.{EndsWithin};
 ghost use Rattle.nfp_run.specs.Emitted.{emitted, emitted_all};
-ghost use Rattle.nfp_run.specs.NamedFunctions.{names_of};
 ghost use Rattle.nfp_run.specs.Passing.{IsWritable, records_of};
-ghost use Rattle.nfp_run.specs.Report.{drop_line, drop_lines, is_gone};
+ghost use Rattle.nfp_run.specs.Report.{is_gone};
 ghost use Rattle.nfp_run.specs.Slots.{Puts, Breaks};
 
 use crate::outcome::Outcome;
-use crate::report::drop_text;
-use crate::service::NamedFunction;
-use crate::write::{put_record, put_text};
+use crate::write::put_record;
 use chain_walk::Fate;
 use classifier::Item;
 use nfp_outside::Desk;
 use packet_fields::{Frame, seal};
 use pcap_io::{PcapRecord, Writer};
-use policy_text::ChainPolicy;
-use std::alloc::Global;
 
 /// Puts the records of the packets that passed into Out, in their order, each with the frame that the chain left, sealed.
 pub fn put_emitted<D: Desk>(
@@ -90,57 +84,6 @@ fn seal_frame(before: &[u8], frame: Frame) -> Frame
     let mut bytes = frame.into_bytes();
     seal(before, &mut bytes);
     Frame::new(bytes)
-}
-
-/// Puts the line of each packet that was dropped into Report, where the first packet has this number.
-pub fn put_drops<D: Desk>(
-    alloc: Global,
-    desk: &mut D,
-    chain: &ChainPolicy,
-    functions: &[NamedFunction],
-    first: u64,
-    fates: &[Fate],
-) -> Result<(), Outcome>
-    requires report { IsSome (D.slots desk.old Slot.Report).name }
-    requires room { first + length fates.now < 2 ^ 64 }
-    requires within { All (EndsWithin (length functions.now)) fates.now }
-    ensures ok { OnOk result (Puts [] (drop_lines chain.now (names_of functions.now) first fates.now) (D.slots desk.old) (D.slots desk.new)) }
-    ensures err { IfErr result (Breaks [] (drop_lines chain.now (names_of functions.now) first fates.now) (D.slots desk.old) (D.slots desk.new)) }
-    ensures others { (s : Slot) → s ≢ Slot.Report → D.slots desk.new s ≡ D.slots desk.old s }
-{
-    let mut number = first;
-    'fates: for fate in fates {
-        match put_drop(alloc, desk, chain, functions, number, fate) {
-            Ok(()) => number += 1,
-            Err(outcome) => return Err(outcome),
-        }
-    }
-    Ok(())
-}
-
-// Puts the line of a packet that was dropped; one that passed has none.
-fn put_drop<D: Desk>(
-    alloc: Global,
-    desk: &mut D,
-    chain: &ChainPolicy,
-    functions: &[NamedFunction],
-    number: u64,
-    fate: &Fate,
-) -> Result<(), Outcome>
-    requires report { IsSome (D.slots desk.old Slot.Report).name }
-    requires within { EndsWithin (length functions.now) fate.now }
-    ensures ok { OnOk result (Puts [] (drop_line chain.now (names_of functions.now) number fate.now) (D.slots desk.old) (D.slots desk.new)) }
-    ensures err { IfErr result (Breaks [] (drop_line chain.now (names_of functions.now) number fate.now) (D.slots desk.old) (D.slots desk.new)) }
-    ensures others { (s : Slot) → s ≢ Slot.Report → D.slots desk.new s ≡ D.slots desk.old s }
-{
-    match fate {
-        Fate::Out(_) => Ok(()),
-        Fate::Gone(position) => {
-            let function = &functions[*position as usize - 1];
-            let line = drop_text(alloc, chain.name.bytes(), number, function.name.bytes())?;
-            put_text(desk, &line)
-        }
-    }
 }
 
 /// How many of these packets were dropped.

@@ -9,10 +9,11 @@ ghost use Rattle.nfp_run.specs.Emitted.{fates_of, functions_behind, packets_of};
 ghost use Rattle.nfp_run.specs.Passing.{IsTaken, IsWritable, Passes, records_of, out_next, lines_next, copies_next};
 ghost use Rattle.nfp_run.specs.Slots.{Breaks};
 
-use crate::emit::{count_gone, put_drops, put_emitted};
+use crate::emit::{count_gone, put_emitted};
 use crate::outcome::Outcome;
-use crate::report::Totals;
+use crate::report::{Totals, drop_lines};
 use crate::service::NamedFunction;
+use crate::write::put_text;
 use chain_walk::Fate;
 use classifier::Burst;
 use graph_run::{Running, run_plain};
@@ -36,8 +37,8 @@ pub struct Passage {
 }
 
 impl Passage {
-    /// Leads the packets of a burst through the chain, and puts the line of each that is dropped into Report and the record of
-    /// each that passes into Out.
+    /// Leads the packets of a burst through the chain, and puts the record of each that passes into Out, and then the line of
+    /// each that is dropped into Report.
     pub fn run<R: Wait, D: Desk>(
         self,
         rt: &R,
@@ -64,9 +65,8 @@ impl Passage {
             mut copies,
         } = self;
         let (running, fates) = lead(rt, alloc, running, &burst, unit, &mut copies)?;
-        put_drops(
+        let lines = drop_lines(
             alloc,
-            desk,
             &declared,
             running.functions(),
             totals.records + 1,
@@ -75,6 +75,7 @@ impl Passage {
         totals.records += fates.len() as u64;
         totals.dropped += count_gone(&fates);
         put_emitted(desk, &mut writer, burst.items.as_slice(), fates)?;
+        put_text(desk, &lines)?;
         Ok(Passage {
             declared,
             unit,

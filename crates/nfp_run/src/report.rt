@@ -1,15 +1,19 @@
 //! The texts of the report.
-ghost use Rattle.std.specs.Prelude.{◌≡◌, ◌≤◌, ◌++◌, IfOk, OnOk};
+ghost use Rattle.std.specs.Prelude.{◌≡◌, ◌≤◌, ◌<◌, ◌+◌, ◌^◌, ◌++◌, All, IfOk, OnOk, length};
 ghost use Rattle.std.specs.List.{flat_map};
+ghost use Rattle.chain_walk.specs.Walk.{EndsWithin};
 ghost use Rattle.packet_version.specs.Tallies.{count_of};
-ghost use Rattle.nfp_run.specs.Report.{drop_text, total_line, copies_text, copies_line, copies_lines, function_text, function_line, last_line, summary};
+ghost use Rattle.nfp_run.specs.NamedFunctions.{names_of};
+ghost use Rattle.nfp_run.specs.Report.{drop_text, drop_line, drop_lines, total_line, copies_text, copies_line, copies_lines, function_text, function_line, last_line, summary};
 
 use crate::note::capture_text;
+use crate::service::NamedFunction;
 use action_profile::all_fields;
+use chain_walk::Fate;
 use packet_fields::Field;
 use packet_version::Tally;
 use pcap_io::CaptureFault;
-use policy_text::{ChainPolicy, FunctionDecl};
+use policy_text::ChainPolicy;
 use std::alloc::{AllocError, Global};
 
 /// The report's first line.
@@ -22,14 +26,52 @@ pub struct Totals {
     pub dropped: u64,
 }
 
-/// The line of a dropped record.
-#[tactic(auto, unfolding(crate::specs::Report::drop_text))]
-pub fn drop_text(
+/// The lines of the packets that were dropped, where the first packet has this number.
+#[tactic(auto, using(crate::proofs::Emitting::lines_up_to, crate::proofs::Listing::no_lines))]
+pub fn drop_lines(
     alloc: Global,
-    chain: &[u8],
-    number: u64,
-    name: &[u8],
+    chain: &ChainPolicy,
+    functions: &[NamedFunction],
+    first: u64,
+    fates: &[Fate],
 ) -> Result<Vec<u8>, AllocError>
+    requires room { first + length fates.now < 2 ^ 64 }
+    requires within { All (EndsWithin (length functions.now)) fates.now }
+    ensures { IfOk result (λ v. v.items ≡ drop_lines chain.now (names_of functions.now) first fates.now) }
+{
+    let mut text = Vec::new(alloc);
+    let mut number = first;
+    'fates: for fate in fates {
+        push_drop_line(alloc, &mut text, chain, functions, number, fate)?;
+        number += 1;
+    }
+    Ok(text)
+}
+
+// Adds the line of a packet that was dropped; one that passed has none.
+fn push_drop_line(
+    alloc: Global,
+    text: &mut Vec<u8>,
+    chain: &ChainPolicy,
+    functions: &[NamedFunction],
+    number: u64,
+    fate: &Fate,
+) -> Result<(), AllocError>
+    requires { EndsWithin (length functions.now) fate.now }
+    ensures { OnOk result (text.new.items ≡ text.old.items ++ drop_line chain.now (names_of functions.now) number fate.now) }
+{
+    match fate {
+        Fate::Out(_) => Ok(()),
+        Fate::Gone(position) => {
+            let function = &functions[*position as usize - 1];
+            let line = drop_text(alloc, chain.name.bytes(), number, function.name.bytes())?;
+            text.extend_from_slice(&line)
+        }
+    }
+}
+
+#[tactic(auto, unfolding(crate::specs::Report::drop_text))]
+fn drop_text(alloc: Global, chain: &[u8], number: u64, name: &[u8]) -> Result<Vec<u8>, AllocError>
     ensures { IfOk result (λ v. v.items ≡ drop_text chain.now number name.now) }
 {
     let number = number.to_string(alloc)?;
