@@ -26,8 +26,8 @@ use std::thread::Threads;
 ///
 /// The policy is checked whole before anything else is touched. `run` puts the capture of the packets that passed the chain
 /// into Out, and into Report the line of each that was dropped, the totals, the functions, and the capture's fault where it
-/// has one. The capture is read record by record, and written where a burst of 1,024 packets is read or the capture ends.
-/// Last, one line goes into Note, or the plan. The gate is passed by nothing yet, since a burst runs on one thread.
+/// has one. The capture is read record by record, and written burst by burst, each of at most 1,024 packets. Last, one line
+/// goes into Note, or the plan. The gate is passed by nothing yet, since a burst runs on one thread.
 pub fn nfp<R: Threads + Wait, D: Desk, G: Gate + Sync>(
     rt: &R,
     alloc: Global,

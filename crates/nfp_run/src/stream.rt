@@ -37,8 +37,8 @@ pub struct Ended {
 
 /// Leads each packet of the capture through the chain, and puts those that pass into Out and the report into Report.
 ///
-/// The head was read, and the reader stands behind it. A want of memory or a fault of a slot leaves the packets unwritten that
-/// were read since the last burst of 1,024 packets.
+/// The head was read, and the reader stands behind it. Packets are held until their burst is full or the capture ends, so a
+/// want of memory or a fault of a slot leaves those unwritten that were read since the last burst.
 pub fn write_capture<R: Wait, D: Desk>(
     rt: &R,
     alloc: Global,
