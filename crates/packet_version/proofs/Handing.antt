@@ -5,8 +5,8 @@ use Rattle.packet_fields.specs.declared.field.Field.{Field}
 use Rattle.action_profile.specs.Modes.{has_write}
 use Rattle.packet_version.specs.Tallies.{RaisesBy, RaisesAtMost}
 use Rattle.packet_version.specs.Versions.{PlainVersion}
-use Rattle.packet_version.specs.Handing.{writers_in, readers_in, reads_more}
-use Rattle.packet_version.proofs.Mapping.{count_next, count_some, count_left}
+use Rattle.packet_version.specs.Handing.{writers_in}
+use Rattle.packet_version.proofs.Mapping.{count_next, count_some}
 use Rattle.packet_version.proofs.Counting.{raises_twice, raises_within}
 
 -- the copies that were made, one branch more
@@ -24,14 +24,3 @@ copies_refused f versions k t u v before none =
 pub on_err : {T E : Type 0} (r : Result T E) (P : Type 0) → P → OnErr r P
 on_err (Ok x) P p = tt
 on_err (Err e) P p = p
-
-minus_plus : (b : Bool) (left more : ℕ) → left ≡ (if b then 1 else 0) + more → left - (if b then 1 else 0) ≡ more
-minus_plus true left more is = omega arith
-minus_plus false left more is = omega arith
-
--- the readers that are left, one branch further
-pub readers_next : (versions : List PlainVersion) (k : ℕ) (version d : PlainVersion) (left next : ℕ) → k < length versions → version ≡ get_or versions k d → left ≡ readers_in (drop k versions) → next ≡ left - (if reads_more version.touch then 1 else 0) → next ≡ readers_in (drop (k + 1) versions)
-readers_next versions k version d left next below read before is =
-    is
-    ∙ minus_plus (reads_more version.touch) left (readers_in (drop (k + 1) versions))
-    (before ∙ (count_left (λ v. reads_more v.touch) versions k d below ∙ ap (λ (v : PlainVersion). (if reads_more v.touch then 1 else 0) + readers_in (drop (k + 1) versions)) (sym read)))

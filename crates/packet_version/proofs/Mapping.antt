@@ -3,7 +3,7 @@ use Rattle.std.proofs.Common.{◌≡◌, ◌∙◌, ◌<◌, ◌≤◌, ◌+◌,
 use Rattle.std.specs.Prelude.{if◌then◌else◌, count_by}
 use Rattle.std.proofs.lemmas.List.{take_all}
 use Rattle.std.proofs.Math.ListN.{drop_of_length-le}
-use Rattle.std.proofs.lemmas.List.Sums.{count_by_more_yes, count_by_more_no, sum_by-take-le, sum_by-drop_more}
+use Rattle.std.proofs.lemmas.List.Sums.{count_by_more_yes, count_by_more_no, sum_by-take-le}
 
 -- the first items changed, the others as they were
 abbrev pub changed_first : {A : Type 0} → (A → A) → ℕ → List A → List A
@@ -55,7 +55,3 @@ count_next p xs k d false below is = let e = count_by_more_no p xs k d below is 
 -- the first items count no more than all
 pub count_some : {A : Type 0} (p : A → Bool) (xs : List A) (k : ℕ) → count_by p (take k xs) ≤ count_by p xs
 count_some p xs k = sum_by-take-le (λ x. if p x then 1 else 0) xs k
-
--- what is left to count
-pub count_left : {A : Type 0} (p : A → Bool) (xs : List A) (k : ℕ) (d : A) → k < length xs → count_by p (drop k xs) ≡ (if p (get_or xs k d) then 1 else 0) + count_by p (drop (k + 1) xs)
-count_left p xs k d below = sum_by-drop_more (λ x. if p x then 1 else 0) xs k d below

@@ -37,10 +37,6 @@ with_own parts version = record version { parts = as_list (own_parts version.tou
 unfoldable pub reads_more : Touch → Bool
 reads_more touch = not ((joined touch.reads touch.writes).0 == touch.writes.0)
 
--- how many branches do
-abbrev pub readers_in : List PlainVersion → ℕ
-readers_in versions = count_by (λ v. reads_more v.touch) versions
-
 -- a version with a loan of these parts
 abbrev pub with_loan : Parts → PlainVersion → PlainVersion
 with_loan parts version = record version { parts = as_list (had_by version.touch (parts_of version) parts) }

@@ -60,8 +60,3 @@ AreTags part = IfSome part (λ p. is_tag_list p.bytes ≡ true)
 pub record PlainHeld : Type 0 where
   pub parts : List (Option PlainPart)
   pub frame : List ℕ
-
--- A packet that is lent, and how many readers are still to get it.
-pub record PlainLease : Type 0 where
-  pub held : PlainHeld
-  pub left : ℕ

@@ -1,6 +1,7 @@
 //! Handing the parts of a packet to the versions of a stage's branches.
 
-ghost use Rattle.std.specs.Prelude.{◌≡◌, ◌≤◌, ◌<◌, ◌-◌, ◌&&◌, Some, None, option_map, map, length, true, OnOk, OnErr, IfOk, position, if◌then◌else◌, is_ok};
+ghost use Rattle.std.specs.Prelude.{◌≡◌, ◌-◌, ◌&&◌, Some, None, option_map, map, true, OnOk, OnErr, IfOk, position, if◌then◌else◌, is_ok};
+ghost use Rattle.std.specs.List.{list_any};
 ghost use Rattle.packet_fields.specs.Frames.{is_tag_list};
 ghost use Rattle.packet_fields.specs.declared.field.Field.{Field};
 ghost use Rattle.action_profile.specs.Modes.{has_write, mode_of};
@@ -8,17 +9,16 @@ ghost use Rattle.packet_version.specs.Parts.{as_map, writer_in, unwritten, AreTa
 ghost use Rattle.packet_version.specs.Splitting.{fresh};
 ghost use Rattle.packet_version.specs.Tallies.{RaisesBy, RaisesAtMost};
 ghost use Rattle.packet_version.specs.Dealing.{kept_part, copies_due};
-ghost use Rattle.packet_version.specs.Handing.{touches_in, copies_of, copied_to, copied_some, lent_to, reads_more, writers_in, readers_in, kept_in, with_place};
+ghost use Rattle.packet_version.specs.Handing.{touches_in, copies_of, copied_to, copied_some, lent_to, reads_more, writers_in, kept_in, with_place};
 
 use crate::base::Kept;
 use crate::held::Held;
-use crate::lease::Lease;
 use crate::part::{Part, copy_bytes};
 use crate::tally::Tally;
 use crate::version::Version;
 use action_profile::Mode;
 use packet_fields::Field;
-use part_lease::Owner;
+use part_lease::{Owner, lend};
 use std::alloc::{AllocError, Global};
 
 /// A copy for a branch that writes the field.
@@ -165,30 +165,27 @@ pub(crate) fn deal_field(
 }
 
 /// Lends the packet to a branch that reads fields which it doesn't write.
-fn lend_one(lease: &mut Lease, version: &mut Version)
-    requires enough { reads_more version.old.touch ≡ true → 0 < lease.old.left }
-    requires unwritten { (f : Field) → writer_in (as_map lease.old.held.parts f) ≡ 0 }
-    requires tags { AreTags (as_map lease.old.held.parts Field.Tag) }
-    ensures lent { version.new ≡ lent_to (as_map lease.old.held.parts) version.old }
-    ensures lease { lease.new ≡ record lease.old { left = lease.old.left - (if reads_more version.old.touch then 1 else 0) } }
+fn lend_one(owner: &Owner<Held>, version: &mut Version) -> Result<(), AllocError>
+    requires unwritten { (f : Field) → writer_in (as_map owner.now.parts f) ≡ 0 }
+    requires tags { AreTags (as_map owner.now.parts Field.Tag) }
+    ensures { OnOk result (version.new ≡ lent_to (as_map owner.now.parts) version.old) }
 {
     if version.reads_more() {
-        version.lend(lease.next());
+        version.lend(owner.reader()?);
     }
+    Ok(())
 }
 
 /// Lends the packet to each branch that reads fields which it doesn't write.
-fn lend_out(mut lease: Lease, versions: &mut [Version]) -> Owner<Held>
-    requires enough { lease.left ≡ readers_in versions.old }
-    requires unwritten { (f : Field) → writer_in (as_map lease.held.parts f) ≡ 0 }
-    requires tags { AreTags (as_map lease.held.parts Field.Tag) }
-    ensures lent { versions.new ≡ map (lent_to (as_map lease.held.parts)) versions.old }
-    ensures owner { result ≡ lease.held }
+fn lend_out(owner: &Owner<Held>, versions: &mut [Version]) -> Result<(), AllocError>
+    requires unwritten { (f : Field) → writer_in (as_map owner.now.parts f) ≡ 0 }
+    requires tags { AreTags (as_map owner.now.parts Field.Tag) }
+    ensures { OnOk result (versions.new ≡ map (lent_to (as_map owner.now.parts)) versions.old) }
 {
     for version in versions.iter_mut() {
-        lend_one(&mut lease, version);
+        lend_one(owner, version)?;
     }
-    lease.into_owner()
+    Ok(())
 }
 
 /// Lends the packet to the branches that read fields which they don't write, all of it at once, or keeps
@@ -198,29 +195,22 @@ pub(crate) fn share_out(
     held: Held,
     versions: &mut [Version],
 ) -> Result<Kept, AllocError>
-    requires few { length versions.old ≤ 64 }
     requires unwritten { (f : Field) → writer_in (as_map held.parts f) ≡ 0 }
     requires tags { AreTags (as_map held.parts Field.Tag) }
     ensures lent { OnOk result (versions.new ≡ map (lent_to (as_map held.parts)) versions.old) }
     ensures kept { IfOk result (λ kept. kept_in kept ≡ held) }
 {
-    let readers = readers_among(versions);
-    if readers == 0 {
+    if !some_reads_more(versions) {
         return Ok(Kept::Own(held));
     }
-    let lease = Lease::new(alloc, held, readers)?;
-    Ok(Kept::Lent(lend_out(lease, versions)))
+    let owner = lend(alloc, held)?;
+    lend_out(&owner, versions)?;
+    Ok(Kept::Lent(owner))
 }
 
-/// How many branches read a field that they don't write.
-fn readers_among(versions: &[Version]) -> u32
-    requires { length versions.now ≤ 64 }
-    ensures count { result ≡ readers_in versions.now }
-    ensures few { result ≤ 64 }
+/// Does some branch read a field that it doesn't write?
+fn some_reads_more(versions: &[Version]) -> bool
+    ensures { result ≡ list_any (λ v. reads_more v.touch) versions.now }
 {
-    let mut readers = 0;
-    for version in versions {
-        readers += u32::from(version.reads_more());
-    }
-    readers
+    versions.iter().any(|version| version.reads_more())
 }

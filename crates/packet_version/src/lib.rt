@@ -36,7 +36,6 @@ mod gathered;
 mod hand;
 mod held;
 mod laws;
-mod lease;
 mod part;
 mod place;
 mod rest;

@@ -4,7 +4,6 @@ ghost use Rattle.action_profile.specs.Modes.{modes_of};
 ghost use Rattle.packet_version.specs.Parts.{as_map, writer_in, AreTags};
 
 use crate::held::Held;
-use crate::lease::Lease;
 use crate::part::Part;
 use crate::rest::Rest;
 use crate::version::Version;
@@ -12,6 +11,7 @@ use crate::{Fixed, Tally, copy, deal, join, split};
 use action_profile::{FieldSet, Kind, Mode, StageParts, Touch, all_fields, profile};
 use item_list::Items;
 use packet_fields::Field;
+use part_lease::{Owner, lend};
 use std::alloc::{AllocError, Global};
 use std::test::Fail;
 use std::thread;
@@ -57,20 +57,19 @@ const BALANCES: Touch = Touch {
 };
 
 /// A loan of the packet to one branch.
-fn loan(alloc: Global) -> Result<Lease, AllocError>
-    ensures one { IfOk result (λ lease. lease.left ≡ 1) }
-    ensures unwritten { IfOk result (λ lease. (f : Field) → writer_in (as_map lease.held.parts f) ≡ 0) }
-    ensures tags { IfOk result (λ lease. AreTags (as_map lease.held.parts Field.Tag)) }
+fn loan(alloc: Global) -> Result<Owner<Held>, AllocError>
+    ensures unwritten { IfOk result (λ owner. (f : Field) → writer_in (as_map owner.parts f) ≡ 0) }
+    ensures tags { IfOk result (λ owner. AreTags (as_map owner.parts Field.Tag)) }
 {
     let rest = Rest::new(alloc, Vec::from_slice(alloc, PACKET)?)?;
-    Lease::new(alloc, Held::new(alloc, rest, 0)?, 1)
+    Ok(lend(alloc, Held::new(alloc, rest, 0)?)?)
 }
 
 #[test]
 fn reads_a_lent_part_and_writes_its_own(rt: HostRuntime) -> Result<(), Fail> {
-    let mut lease = loan(rt.alloc())?;
+    let owner = loan(rt.alloc())?;
     let mut version = Version::empty(rt.alloc(), BALANCES, FIXED)?;
-    version.lend(lease.next());
+    version.lend(owner.reader()?);
     version.give(Field::DstIp, Part::new(rt.alloc(), b"\x0a\0\0\x02", 0)?);
 
     let mut view = version.view(&rt, &profile(Kind::Balancer), 3);
@@ -84,7 +83,7 @@ fn reads_a_lent_part_and_writes_its_own(rt: HostRuntime) -> Result<(), Fail> {
     assert!(rt; version.writer(Field::DstIp) == 3 && version.writer(Field::SrcIp) == 0);
     let written = version.take(Field::DstIp);
     assert!(rt; written.is_some_and(|part| part.bytes() == b"\x0a\x09\0\x02".as_slice()));
-    let held = lease.into_owner().take(&rt);
+    let held = owner.take(&rt);
     assert!(rt; held.bytes(Field::DstIp) == Some(b"\x0a\0\0\x02".as_slice()));
     Ok(())
 }

@@ -84,10 +84,38 @@ pub fn share<T: Drop>(
     let Ok(made) = make_readers(alloc, &slot, readers) else {
         return Err(ShareFault { value });
     };
+    match filled(alloc, slot, value) {
+        Ok(owner) => Ok((owner, made)),
+        Err(fault) => Err(fault),
+    }
+}
+
+/// Shares a value to no reader yet: [`Owner::reader`] gives the rights to read it, one by one. What its
+/// owner sees is this value. A refusal is want of memory, and hands the value back.
+pub fn lend<T: Drop>(alloc: Global, value: T) -> Result<Owner<T>, ShareFault<T>>
+    ensures owner { IfOk result (λ owner. owner ≡ value) }
+    ensures refused { IfErr result (λ e. e.value ≡ value) }
+{
+    match vacant_slot(alloc, &value) {
+        Ok(slot) => filled(alloc, slot, value),
+        Err(_) => Err(ShareFault { value }),
+    }
+}
+
+/// Puts the value into the place that was made for it.
+fn filled<T: Drop>(
+    alloc: Global,
+    slot: Arc<Slot<T>>,
+    value: T,
+) -> Result<Owner<T>, ShareFault<T>>
+    requires { (arc_value slot).value ≡ value }
+    ensures owner { IfOk result (λ owner. owner ≡ value) }
+    ensures refused { IfErr result (λ e. e.value ≡ value) }
+{
     match Arc::new(alloc, value) {
         Ok(part) => {
             come_home(&slot, part);
-            Ok((Owner { slot }, made))
+            Ok(Owner { slot })
         }
         Err(failed) => Err(ShareFault {
             value: failed.value,
@@ -141,6 +169,16 @@ impl<T: Drop> Shown<T> {
 }
 
 impl<T: Drop> Owner<T> {
+    /// One more right to read the value. It takes no memory, and is refused only where so many rights
+    /// are out that they can't be counted any more.
+    pub fn reader(&self) -> Result<Reader<T>, AllocError>
+        ensures { IfOk result (λ reader. reader ≡ self.now) }
+    {
+        Ok(Reader {
+            slot: Arc::try_clone(&self.slot)?,
+        })
+    }
+
     /// Waits until no claim lives, and gives the value that was shared. It takes no memory.
     pub fn take<R: Wait>(self, rt: &R) -> T
         ensures { result ≡ self }
