@@ -73,10 +73,13 @@ same_at f old new b s = sym (get_or-map (part_of f) new b Short) ∙ (ap (λ (ps
 same_length : (f : Field) (old new : List Arrival) → SameIn f old new → length new ≡ length old
 same_length f old new s = sym (length-map new (writes_in f)) ∙ (ap (λ (ps : List Bool). length ps) s.writes ∙ length-map old (writes_in f))
 
+-- the first branch that writes the field is the same
+pub same_first : (f : Field) (old new : List Arrival) → SameIn f old new → position (writes_in f) new ≡ position (writes_in f) old
+same_first f old new s = sym (position-map (writes_in f) new) ∙ (ap (λ (ps : List Bool). position (λ b. b) ps) s.writes ∙ position-map (writes_in f) old)
+
 same_source : (f : Field) (old new : List Arrival) (last : Option ℕ) (own : Option PlainPart) → SameIn f old new → source f new last own ≡ source f old last own
 same_source f old new (Some b) own s = refl
-same_source f old new None own s =
-    ap (λ (o : Option ℕ). if is_some own then None else o) (sym (position-map (writes_in f) new) ∙ (ap (λ (ps : List Bool). position (λ b. b) ps) s.writes ∙ position-map (writes_in f) old))
+same_source f old new None own s = ap (λ (o : Option ℕ). if is_some own then None else o) (same_first f old new s)
 
 same_from : (f : Field) (old new : List Arrival) (branch : Option ℕ) → SameIn f old new → part_from f new branch ≡ part_from f old branch
 same_from f old new None s = refl

@@ -2,10 +2,12 @@
 
 ghost use Rattle.std.specs.Prelude.{◌≡◌, ◌<◌, true};
 ghost use Rattle.packet_fields.specs.declared.field.Field.{Field};
+ghost use Rattle.action_profile.specs.FieldSets.{has};
 ghost use Rattle.packet_version.specs.Parts.{AreTags};
 ghost use Rattle.merge_ops.specs.Merging.{is_short, nil_of, writer_of, part_of};
 ghost use Rattle.merge_ops.specs.Taking.{writes_in, without};
 
+use action_profile::FieldSet;
 use packet_fields::Field;
 use packet_version::{Part, written_is_own};
 
@@ -56,6 +58,16 @@ impl Arrival {
         match self {
             Arrival::Version(version) => version.writes(field),
             _ => false,
+        }
+    }
+
+    /// The fields that the branch writes.
+    pub(crate) fn writable(&self) -> FieldSet
+        ensures { (f : Field) → has result f ≡ writes_in f self.now }
+    {
+        match self {
+            Arrival::Version(version) => version.writable(),
+            _ => FieldSet::NONE,
         }
     }
 

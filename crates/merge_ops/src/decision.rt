@@ -5,6 +5,7 @@ ghost use Rattle.std.specs.List.{list_any};
 ghost use Rattle.merge_ops.specs.Merging.{is_short, least_nil as least_nil_of, greatest_writer as greatest_writer_of, last_writer as last_writer_of, op_of as op_for, decision_of};
 
 use crate::arrival::Arrival;
+use action_profile::FieldSet;
 use packet_fields::Field;
 
 /// What to do with a field: keep the packet's own part, or take that of a branch. Branches are counted
@@ -81,32 +82,52 @@ fn lesser(first: Option<u32>, second: Option<u32>) -> Option<u32>
     }
 }
 
-ghost use Rattle.std.specs.Prelude.{map};
-ghost use Rattle.action_profile.specs.FieldSets.{all_fields};
+ghost use Rattle.std.specs.Prelude.{map, false};
+ghost use Rattle.packet_fields.specs.declared.field.Field.{Field};
+ghost use Rattle.action_profile.specs.FieldSets.{all_fields, has};
+ghost use Rattle.merge_ops.specs.Taking.{writes_in};
 
 fn ops_of(arrivals: &[Arrival]) -> [MergeOp; 10]
     requires { length arrivals.now < 2 ^ 32 }
     ensures { result ≡ map (op_for arrivals.now) all_fields }
 {
+    let writable = writable_in(arrivals);
     [
-        op_of(arrivals, Field::LinkDst),
-        op_of(arrivals, Field::LinkSrc),
-        op_of(arrivals, Field::Tag),
-        op_of(arrivals, Field::Tos),
-        op_of(arrivals, Field::Ttl),
-        op_of(arrivals, Field::SrcIp),
-        op_of(arrivals, Field::DstIp),
-        op_of(arrivals, Field::SrcPort),
-        op_of(arrivals, Field::DstPort),
-        op_of(arrivals, Field::Payload),
+        op_of(arrivals, writable, Field::LinkDst),
+        op_of(arrivals, writable, Field::LinkSrc),
+        op_of(arrivals, writable, Field::Tag),
+        op_of(arrivals, writable, Field::Tos),
+        op_of(arrivals, writable, Field::Ttl),
+        op_of(arrivals, writable, Field::SrcIp),
+        op_of(arrivals, writable, Field::DstIp),
+        op_of(arrivals, writable, Field::SrcPort),
+        op_of(arrivals, writable, Field::DstPort),
+        op_of(arrivals, writable, Field::Payload),
     ]
 }
 
-/// What to do with a field.
-fn op_of(arrivals: &[Arrival], field: Field) -> MergeOp
-    requires { length arrivals.now < 2 ^ 32 }
+/// The fields that some branch writes. Nobody wrote another.
+pub(crate) fn writable_in(arrivals: &[Arrival]) -> FieldSet
+    ensures fields { (f : Field) → has result f ≡ list_any (writes_in f) arrivals.now }
+    ensures unwritten { (f : Field) → has result f ≡ false → greatest_writer_of arrivals.now f ≡ 0 }
+{
+    let mut fields = FieldSet::NONE;
+    for arrival in arrivals {
+        arrival.wrote_its_own();
+        fields = fields.with(arrival.writable());
+    }
+    fields
+}
+
+/// What to do with a field, which nobody wrote where it isn't writable.
+fn op_of(arrivals: &[Arrival], writable: FieldSet, field: Field) -> MergeOp
+    requires few { length arrivals.now < 2 ^ 32 }
+    requires unwritten { has writable field ≡ false → greatest_writer_of arrivals.now field ≡ 0 }
     ensures { result ≡ op_for arrivals.now field }
 {
+    if !writable.has(field) {
+        return MergeOp::Keep;
+    }
     match last_writer(arrivals, field) {
         None => MergeOp::Keep,
         Some(branch) => match field {

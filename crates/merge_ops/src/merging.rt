@@ -1,8 +1,8 @@
 //! How a packet is put together behind a stage.
 
-ghost use Rattle.std.specs.Prelude.{◌≡◌, ◌≢◌, ◌<◌, ◌^◌, [], length, map, position, true};
+ghost use Rattle.std.specs.Prelude.{◌≡◌, ◌≢◌, ◌<◌, ◌^◌, None, [], length, map, position, true, false};
 ghost use Rattle.packet_fields.specs.declared.field.Field.{Field};
-ghost use Rattle.action_profile.specs.FieldSets.{all_fields as every_field};
+ghost use Rattle.action_profile.specs.FieldSets.{all_fields as every_field, has};
 ghost use Rattle.packet_version.specs.Parts.{as_list, changed};
 ghost use Rattle.packet_version.specs.Parts.{AreTags};
 ghost use Rattle.packet_version.specs.Splitting.{parts_of};
@@ -11,8 +11,8 @@ ghost use Rattle.merge_ops.specs.Taking.{branch_of, source as source_of, part_be
 ghost use Rattle.merge_ops.specs.Behind.{AreArrivals};
 
 use crate::arrival::Arrival;
-use crate::decision::{Decision, MergeOp, decide};
-use action_profile::all_fields;
+use crate::decision::{Decision, MergeOp, decide, writable_in};
+use action_profile::{FieldSet, all_fields};
 use packet_fields::Field;
 use packet_version::{Apart, Base, Gathered};
 use std::sync::Wait;
@@ -59,20 +59,28 @@ fn put_parts(gathered: &mut Gathered, arrivals: &mut [Arrival], ops: &[MergeOp; 
     ensures parts { gathered.new ≡ with_parts gathered.old (merged_parts gathered.old arrivals.old) }
     ensures tags { AreTags (parts_of gathered.old Field.Tag) → AreTags (parts_of gathered.new Field.Tag) }
 {
+    let writable = writable_in(arrivals);
     for field in all_fields() {
-        put_part(gathered, arrivals, *field, ops[field.number()]);
+        put_part(gathered, arrivals, writable, *field, ops[field.number()]);
     }
 }
 
-/// Puts the part of a field in, where a branch has it.
-fn put_part(gathered: &mut Gathered, arrivals: &mut [Arrival], field: Field, op: MergeOp)
+/// Puts the part of a field in, where a branch has it, which none has where it isn't writable.
+fn put_part(
+    gathered: &mut Gathered,
+    arrivals: &mut [Arrival],
+    writable: FieldSet,
+    field: Field,
+    op: MergeOp,
+)
+    requires unwritten { has writable field ≡ false → position (writes_in field) arrivals.old ≡ None }
     requires listed { gathered.old.parts ≡ as_list (parts_of gathered.old) }
     requires written { IsWritten field arrivals.old (branch_of op) }
     ensures part { gathered.new ≡ with_parts gathered.old (changed field (part_behind field arrivals.old (branch_of op) (parts_of gathered.old field)) (parts_of gathered.old)) }
     ensures tags { AreTags (parts_of gathered.old Field.Tag) → AreTags (parts_of gathered.new Field.Tag) }
     ensures others { (f : Field) → f ≢ field → SameIn f arrivals.old arrivals.new }
 {
-    let Some(branch) = source(gathered, arrivals, field, op) else {
+    let Some(branch) = source(gathered, arrivals, writable, field, op) else {
         return;
     };
     if let Some(part) = arrivals[branch].take(field) {
@@ -81,7 +89,14 @@ fn put_part(gathered: &mut Gathered, arrivals: &mut [Arrival], field: Field, op:
 }
 
 /// The branch that the part of a field is taken from.
-fn source(gathered: &Gathered, arrivals: &[Arrival], field: Field, op: MergeOp) -> Option<usize>
+fn source(
+    gathered: &Gathered,
+    arrivals: &[Arrival],
+    writable: FieldSet,
+    field: Field,
+    op: MergeOp,
+) -> Option<usize>
+    requires unwritten { has writable field ≡ false → position (writes_in field) arrivals.now ≡ None }
     requires written { IsWritten field arrivals.now (branch_of op) }
     ensures branch { result ≡ source_of field arrivals.now (branch_of op) (parts_of gathered.now field) }
     ensures writing { IsWriting field arrivals.now result }
@@ -90,7 +105,7 @@ fn source(gathered: &Gathered, arrivals: &[Arrival], field: Field, op: MergeOp) 
         MergeOp::Modify(branch) => Some(writing(arrivals, field, branch)),
         MergeOp::SetTags(branch) => Some(writing(arrivals, field, branch)),
         MergeOp::Keep => {
-            if gathered.has(field) {
+            if !writable.has(field) || gathered.has(field) {
                 return None;
             }
             first_writing(arrivals, field)

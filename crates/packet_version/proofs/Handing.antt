@@ -1,5 +1,5 @@
 -- Handing one part to the versions of a stage.
-use Rattle.std.proofs.Common.{◌≡◌, ◌∙◌, ◌<◌, ◌+◌, ◌-◌, ℕ, Bool, true, false, List, take, drop, sym, ap, subst, get_or, length, arith}
+use Rattle.std.proofs.Common.{◌≡◌, ◌<◌, ◌+◌, ℕ, List, take, sym, ap, subst, get_or, length, arith}
 use Rattle.std.specs.Prelude.{if◌then◌else◌, OnErr, Result, Ok, Err}
 use Rattle.packet_fields.specs.declared.field.Field.{Field}
 use Rattle.action_profile.specs.Modes.{has_write}

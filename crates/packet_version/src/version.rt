@@ -91,6 +91,13 @@ impl Version {
         self.touch.writes.has(field)
     }
 
+    /// The fields that the branch writes.
+    pub fn writable(&self) -> FieldSet
+        ensures { result ≡ self.now.touch.writes }
+    {
+        self.touch.writes
+    }
+
     /// Does the branch read a field that it doesn't write?
     #[tactic(auto, unfolding(crate::specs::Handing::reads_more))]
     pub(crate) fn reads_more(&self) -> bool

@@ -103,11 +103,7 @@ pub fn lend<T: Drop>(alloc: Global, value: T) -> Result<Owner<T>, ShareFault<T>>
 }
 
 /// Puts the value into the place that was made for it.
-fn filled<T: Drop>(
-    alloc: Global,
-    slot: Arc<Slot<T>>,
-    value: T,
-) -> Result<Owner<T>, ShareFault<T>>
+fn filled<T: Drop>(alloc: Global, slot: Arc<Slot<T>>, value: T) -> Result<Owner<T>, ShareFault<T>>
     requires { (arc_value slot).value ≡ value }
     ensures owner { IfOk result (λ owner. owner ≡ value) }
     ensures refused { IfErr result (λ e. e.value ≡ value) }

@@ -1,4 +1,4 @@
-use Rattle.std.proofs.Common.{◌≡◌, ◌∙◌, ℕ, List, get_or, ap, arith}
+use Rattle.std.proofs.Common.{◌≡◌, ◌∙◌, ℕ, List, get_or, ap, sym, arith}
 use Rattle.packet_fields.specs.Fields.{number_of}
 use Rattle.packet_fields.specs.declared.field.Field.TheVariants.{LinkDst}
 use Rattle.packet_version.proofs.Maps.{listed_at}
@@ -6,7 +6,8 @@ use Rattle.packet_version.proofs.Stepping.{number_at}
 use Rattle.merge_ops.specs.Merging.{op_of}
 use Rattle.merge_ops.specs.declared.decision.MergeOp.{MergeOp}
 use Rattle.merge_ops.specs.declared.decision.MergeOp.TheVariants.{Keep}
-use Rattle.merge_ops.proofs.Same.{written_op, put_next, same_on}
+use Rattle.merge_ops.proofs.Same.{written_op, put_next, same_on, same_first}
+use Rattle.merge_ops.proofs.Writable.{none_first}
 use Rattle.merge_ops.proofs.merging.put_parts.Goals as goal
 
 pub put_part-requires-clause-written : goal.put_part-requires-clause-written
@@ -29,3 +30,9 @@ loop-field-preserved c =
       done = put_next f c.loop-field.field-index (get_or c.args.ops.now c.number.result Keep) c.args.gathered.now c.loop-field.gathered c.put_part.new.gathered c.args.arrivals.now c.loop-field.arrivals at op (c.loop-field.invariant.left f (omega arith)) c.loop-field.invariant.done c.put_part.ensures.part;
       tags = λ t. c.put_part.ensures.tags (c.loop-field.invariant.tags t);
     }
+
+pub put_part-requires-clause-unwritten : goal.put_part-requires-clause-unwritten
+put_part-requires-clause-unwritten c = λ none.
+    (let f = get_or c.all_fields-field-items.result.now c.loop-field.field-index LinkDst in
+    let at : number_of f ≡ c.loop-field.field-index = number_at c.all_fields-field-items.result.now c.loop-field.field-index c.loop-field.invariant.fields c.loop-field-test.true in
+    same_first f c.args.arrivals.now c.loop-field.arrivals (c.loop-field.invariant.left f (omega arith)) ∙ none_first c.args.arrivals.now f (sym (c.writable_in-writable.ensures.fields f) ∙ none))

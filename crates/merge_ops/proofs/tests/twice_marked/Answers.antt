@@ -4,7 +4,7 @@ use Rattle.packet_version.specs.Splitting.{PlainApart}
 use Rattle.packet_version.specs.Versions.{PlainVersion}
 use Rattle.packet_version.specs.Dealing.{dealt, based}
 use Rattle.merge_ops.specs.Taking.{arrival_at}
-use Rattle.merge_ops.specs.Behind.{no_touch, IsMadeOf, IsFrom, AreFrom}
+use Rattle.merge_ops.specs.Behind.{no_touch, IsMadeOf, IsFrom}
 use Rattle.merge_ops.specs.declared.arrival.Arrival.{Arrival}
 use Rattle.merge_ops.specs.declared.arrival.Arrival.TheVariants.{Version}
 use Rattle.merge_ops.proofs.Rows.{marking}
