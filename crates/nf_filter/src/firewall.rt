@@ -32,7 +32,7 @@ impl Firewall {
 
     /// Does a packet of which this is seen pass?
     #[tactic(auto, unfolding(crate::specs::Firewalls::passes))]
-    pub fn judge(&self, seen: &Seen) -> bool
+    pub(crate) fn judge(&self, seen: &Seen) -> bool
         ensures { result ≡ passes self.now seen.now }
     {
         match first_met(self.rules.as_slice(), seen) {

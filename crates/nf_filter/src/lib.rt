@@ -4,7 +4,7 @@
 //! outermost VLAN id (RFC 791, RFC 793, RFC 768, IEEE 802.1Q). The first rule whose clauses are all
 //! met decides, and where none is the default does, which allows unless it is set otherwise.
 //! [`Firewall::build`] makes it of the lines that an operator wrote, or names the least line that is
-//! refused; what it decides is [`Firewall::judge`].
+//! refused.
 //!
 //! As a function of a chain a firewall has one meaning, `firewall_behaviour` of
 //! `specs/Firewalls.antt`: it judges by what it is shown, writes nothing, and stays as it is. It sees a

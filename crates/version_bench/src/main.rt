@@ -1,5 +1,6 @@
-//! Takes a frame of 1,500 bytes apart and joins it again, with or without a stage of two branches in
-//! between, over and over, or only copies it: what `bench/versions` measures.
+//! Takes a frame apart and joins it again, with or without a stage of two branches in between, over and
+//! over, or only copies it: what `bench/versions` measures. Each word is `copy`, `join`, `read` or `write`, or
+//! the length of the frame in bytes for the words behind it.
 #![tactic(auto)]
 
 ghost use Rattle.std.specs.Prelude.{◌≡◌, [], length, IfOk, OnOk};
@@ -15,8 +16,6 @@ use std::sync::Wait;
 use std::{env, io};
 
 const ROUNDS: u32 = 200_000;
-
-const LENGTH: usize = 1_500;
 
 /// Addresses, and the headers of a UDP datagram of 1,486 bytes from 10.0.0.1:1000 to 10.0.0.2:53.
 const HEADERS: [u8; 42] = [
@@ -67,9 +66,10 @@ fn writers(alloc: Global) -> Result<StageParts, AllocError>
     })
 }
 
-fn frame(alloc: Global) -> Result<Vec<u8>, AllocError> {
+/// A frame of so many bytes, at least those of its headers.
+fn frame(alloc: Global, length: usize) -> Result<Vec<u8>, AllocError> {
     let mut bytes = Vec::from_slice(alloc, &HEADERS)?;
-    bytes.resize(LENGTH, 7)?;
+    bytes.resize(length.max(HEADERS.len()), 7)?;
     Ok(bytes)
 }
 
@@ -163,8 +163,8 @@ fn all_passed<R: Wait>(
     Ok(sum)
 }
 
-fn run_one<R: Wait>(rt: &R, alloc: Global, work: &str) -> Result<u64, AllocError> {
-    let bytes = frame(alloc)?;
+fn run_one<R: Wait>(rt: &R, alloc: Global, work: &str, length: usize) -> Result<u64, AllocError> {
+    let bytes = frame(alloc, length)?;
     match work {
         "copy" => copied(alloc, &bytes),
         "join" => joined(alloc, &bytes),
@@ -175,8 +175,13 @@ fn run_one<R: Wait>(rt: &R, alloc: Global, work: &str) -> Result<u64, AllocError
 }
 
 fn main(rt: HostRuntime) -> io::Result<()> {
-    for work in env::args(&rt)?.skip(1) {
-        match run_one(&rt, rt.alloc(), work.as_str()) {
+    let mut length = HEADERS.len();
+    for word in env::args(&rt)?.skip(1) {
+        if let Ok(number) = word.parse() {
+            length = number;
+            continue;
+        }
+        match run_one(&rt, rt.alloc(), word.as_str(), length) {
             Ok(sum) => println!(rt; "{sum}")?,
             Err(_) => println!(rt; "no memory")?,
         }

@@ -27,7 +27,7 @@ use std::{env, fs, io};
 /// The longest policy, in bytes.
 const LONGEST: usize = 1_048_576;
 
-/// How many packets went out, and how many bytes deal copied.
+/// How many packets went out, and how many copies were made of parts.
 #[derive(Drop)]
 struct Counts {
     out: u64,
