@@ -7,39 +7,21 @@ use Rattle.std.proofs.lemmas.List.{append-nil, length-append}
 use Rattle.std.proofs.lemmas.List.Elements.{All-nil, All-cons, All-head, All-tail}
 use Rattle.std.proofs.lemmas.List.FromFn.{length-range_with_len}
 use Rattle.std.proofs.lemmas.List.Sorted.{length_permutation}
-use Rattle.action_profile.specs.declared.kind.Kind.{Kind}
-use Rattle.action_profile.specs.declared.kind.Kind.TheVariants.{Firewall, Signature, Nat, Balancer, Monitor, Limiter, Marker, Nexthop, Hop, Redactor, Tagger, Untagger}
 use Rattle.policy_check.specs.declared.fault.Order.{Order}
 use Rattle.policy_text.specs.declared.policy.ChainPolicy.{ChainPolicy}
 use Rattle.policy_text.specs.declared.policy.FunctionDecl.{FunctionDecl}
 use Rattle.policy_judge.specs.Orders.{IsOrdered}
-use Rattle.policy_judge.specs.Settings.{refused_by as refused_in_judging}
-use Rattle.net_functions.specs.Builds.{is_built, refused_by, function_of}
+use Rattle.net_functions.specs.Builds.{is_built, refused_line, function_of}
 use Rattle.net_functions.specs.declared.net_function.NetFunction.{NetFunction}
 use Rattle.nfp_run.specs.Services.{IsReady, named, function_at, functions_at}
 use Rattle.nfp_run.specs.declared.service.NamedFunction.{NamedFunction}
 
--- the line that is judged is the line that is refused where the function is made
-same_line : (kind : Kind) (decl : FunctionDecl) → refused_by kind decl ≡ refused_in_judging kind decl
-same_line Firewall decl = refl
-same_line Signature decl = refl
-same_line Nat decl = refl
-same_line Balancer decl = refl
-same_line Monitor decl = refl
-same_line Limiter decl = refl
-same_line Marker decl = refl
-same_line Nexthop decl = refl
-same_line Hop decl = refl
-same_line Redactor decl = refl
-same_line Tagger decl = refl
-same_line Untagger decl = refl
-
-pub all_ready : (fs : List FunctionDecl) → list_all (λ f. is_built f.kind) fs ≡ true → All (λ f. refused_in_judging f.kind f ≡ None) fs → All IsReady fs
+pub all_ready : (fs : List FunctionDecl) → list_all (λ f. is_built f.kind) fs ≡ true → All (λ f. refused_line f ≡ None) fs → All IsReady fs
 all_ready [] built settled = All-nil IsReady
 all_ready (f ∷ fs) built settled =
     let both = and_both (is_built f.kind) (list_all (λ g. is_built g.kind) fs) built in
-    All-cons IsReady f fs (record { kind = both.0; settled = same_line f.kind f ∙ All-head (λ g. refused_in_judging g.kind g ≡ None) f fs settled })
-    (all_ready fs both.1 (All-tail (λ g. refused_in_judging g.kind g ≡ None) f fs settled))
+    All-cons IsReady f fs (record { kind = both.0; settled = All-head (λ g. refused_line g ≡ None) f fs settled })
+    (all_ready fs both.1 (All-tail (λ g. refused_line g ≡ None) f fs settled))
   where
     and_both : (a b : Bool) → (a && b) ≡ true → (a ≡ true) × (b ≡ true)
     and_both true b e = (refl, e)

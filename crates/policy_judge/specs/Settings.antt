@@ -1,15 +1,8 @@
 -- The least line of a policy that a function refuses.
 use Rattle.std.specs.Prelude.{◌≡◌, ℕ, min, List, All, Option, Some, None, fold}
-use Rattle.action_profile.specs.declared.kind.Kind.{Kind}
-use Rattle.action_profile.specs.declared.kind.Kind.TheVariants.{Firewall}
 use Rattle.policy_text.specs.declared.policy.ChainPolicy.{ChainPolicy}
 use Rattle.policy_text.specs.declared.policy.FunctionDecl.{FunctionDecl}
-use Rattle.nf_filter.specs.Firewalls.{refused_line}
-
--- the least line that a declaration of this kind refuses; of a kind that isn't built, no line is
-abbrev pub refused_by : Kind → FunctionDecl → Option ℕ
-refused_by Firewall decl = refused_line decl
-refused_by kind decl = None
+use Rattle.net_functions.specs.Builds.{refused_line}
 
 -- the lesser of two lines, where there are two
 abbrev pub lesser_of : Option ℕ → Option ℕ → Option ℕ
@@ -19,7 +12,7 @@ lesser_of (Some least) (Some line) = Some (min least line)
 
 -- the least of a line and those that these functions refuse
 abbrev pub least_among : Option ℕ → List FunctionDecl → Option ℕ
-least_among least functions = fold (λ line f. lesser_of line (refused_by f.kind f)) least functions
+least_among least functions = fold (λ line f. lesser_of line (refused_line f)) least functions
 
 -- the least line that a function refuses, over all functions of these chains
 abbrev pub least_refused : List ChainPolicy → Option ℕ
@@ -27,4 +20,4 @@ least_refused chains = fold (λ line c. least_among line c.functions) None chain
 
 -- no function of the chain refuses a line
 abbrev pub IsSettled : ChainPolicy → Type 0
-IsSettled chain = All (λ f. refused_by f.kind f ≡ None) chain.functions
+IsSettled chain = All (λ f. refused_line f ≡ None) chain.functions

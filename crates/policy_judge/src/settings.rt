@@ -1,9 +1,9 @@
 //! The least line of a policy that a function refuses.
 ghost use Rattle.std.specs.Prelude.{◌≡◌, IfOk};
-ghost use Rattle.policy_judge.specs.Settings.{refused_by, lesser_of, least_among, least_refused};
+ghost use Rattle.net_functions.specs.Builds.{refused_line};
+ghost use Rattle.policy_judge.specs.Settings.{lesser_of, least_among, least_refused};
 
-use action_profile::Kind;
-use nf_filter::Firewall;
+use net_functions::{build, is_built};
 use policy_text::{BuildFault, ChainPolicy, FunctionDecl};
 use std::alloc::{AllocError, Global};
 
@@ -28,22 +28,23 @@ fn least_among(
 {
     let mut least = least;
     'functions: for function in functions {
-        least = lesser_of(least, refused_by(alloc, function)?);
+        least = lesser_of(least, refused_line(alloc, function)?);
     }
     Ok(least)
 }
 
 // The least line that a function refuses; what a kind that isn't built refuses isn't known.
-fn refused_by(alloc: Global, decl: &FunctionDecl) -> Result<Option<u32>, AllocError>
-    ensures { IfOk result (λ line. line ≡ refused_by decl.now.kind decl.now) }
+#[tactic(auto, using(crate::proofs::Settling::unbuilt))]
+fn refused_line(alloc: Global, decl: &FunctionDecl) -> Result<Option<u32>, AllocError>
+    ensures { IfOk result (λ line. line ≡ refused_line decl.now) }
 {
-    match decl.kind {
-        Kind::Firewall => match Firewall::build(alloc, decl) {
-            Ok(_) => Ok(None),
-            Err(BuildFault::BadSetting(line)) => Ok(Some(line)),
-            Err(BuildFault::OutOfMemory) => Err(AllocError),
-        },
-        _ => Ok(None),
+    if !is_built(decl.kind) {
+        return Ok(None);
+    }
+    match build(alloc, decl) {
+        Ok(_) => Ok(None),
+        Err(BuildFault::BadSetting(line)) => Ok(Some(line)),
+        Err(BuildFault::OutOfMemory) => Err(AllocError),
     }
 }
 
