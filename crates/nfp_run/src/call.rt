@@ -25,8 +25,8 @@ use std::thread::Threads;
 /// policy, as the words `plan POLICY` say.
 ///
 /// The policy is checked whole before anything else is touched. `run` puts the capture of the packets that passed the chain
-/// into Out, and into Report the line of each that was dropped, the totals, the functions, and the capture's fault where it
-/// has one. The capture is read record by record, and written burst by burst, each of at most 1,024 packets. Last, one line
+/// into Out, and into Report the line of each that was dropped, the totals, the copies that the graph made of each field, the
+/// functions, and the capture's fault where it has one. The capture is read record by record, and written burst by burst, each of at most 1,024 packets. Last, one line
 /// goes into Note, or the plan. The gate is passed by nothing yet, since a burst runs on one thread.
 pub fn nfp<R: Threads + Wait, D: Desk, G: Gate + Sync>(
     rt: &R,

@@ -118,11 +118,10 @@ fn running(
 fn profiles(alloc: Global, functions: &[NamedFunction]) -> Result<Vec<Profile>, AllocError>
     ensures { IfOk result (λ profiles. profiles.items ≡ profiles_of named_behaviour functions.now) }
 {
-    let mut profiles = Vec::new(alloc);
-    'functions: for function in functions {
-        profiles.push(function.profile())?;
-    }
-    Ok(profiles)
+    functions
+        .iter()
+        .map(|function| function.profile())
+        .collect(alloc)
 }
 
 fn is_plain(chain: &ChainPolicy) -> bool
