@@ -5,9 +5,6 @@
 //! and gives it back, and neither takes memory.
 #![tactic(auto)]
 
-#[cfg(test)]
-mod tests;
-
 use std::alloc::AllocFailed;
 use std::marker::Model;
 

@@ -15,9 +15,6 @@ use std::io;
 use std::io::{BufReader, Write};
 use std::rt::Files;
 
-#[cfg(test)]
-mod tests;
-
 // How much of a file is read ahead; a read of as much or more goes straight to the file.
 const READ_AHEAD: usize = 65536;
 

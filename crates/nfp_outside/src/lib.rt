@@ -27,8 +27,6 @@ mod memory;
 mod port;
 mod slot;
 mod tally;
-#[cfg(test)]
-mod tests;
 mod whole;
 
 pub use desk::Desk;

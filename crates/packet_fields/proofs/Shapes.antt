@@ -4,7 +4,7 @@ use Rattle.std.specs.Prelude.{Option, Some, None, IfSome, ⊤, if◌then◌else�
 use Rattle.std.proofs.lemmas.Bool.{and_parts, leb-true, eqb-true, false≢true}
 use Rattle.std.proofs.lemmas.Option.{MatchOption-at_some}
 use Rattle.packet_fields.specs.Frames.{word}
-use Rattle.packet_fields.specs.Packets.{is_ipv4, header_len, total_len, protocol, is_tcp, is_udp, has_transport, segment_at, datagram_end, data_offset, data_at, has_data, data_span, control_bits, header_sum_at, segment_sum_at}
+use Rattle.packet_fields.specs.Packets.{is_ipv4, header_len, total_len, protocol, is_tcp, is_udp, has_transport, segment_at, in_segment, datagram_end, data_offset, data_at, has_data, data_span, control_bits, header_sum_at, segment_sum_at}
 use Rattle.packet_fields.specs.Fields.{packet_span, bytes_at}
 use Rattle.packet_fields.specs.Writing.{overwritten}
 use Rattle.packet_fields.specs.declared.field.Field.{Field}
@@ -151,7 +151,7 @@ bounds Tos p = if_some (is_ipv4 p && nat_le (3 + 1) (length p)) (record { at = 3
 bounds Ttl p = if_some (is_ipv4 p && nat_le (10 + 1) (length p)) (record { at = 10; len = 1 }) (λ (s : Span). InBounds Ttl p s) (λ e. (refl, refl))
 bounds SrcIp p = if_some (is_ipv4 p && nat_le (14 + 4) (length p)) (record { at = 14; len = 4 }) (λ (s : Span). InBounds SrcIp p s) (λ e. (refl, refl))
 bounds DstIp p = if_some (is_ipv4 p && nat_le (18 + 4) (length p)) (record { at = 18; len = 4 }) (λ (s : Span). InBounds DstIp p s) (λ e. (refl, refl))
-bounds SrcPort p = if_some (has_transport p && nat_le (segment_at p + 2) (datagram_end p)) (record { at = segment_at p; len = 2 }) (λ (s : Span). InBounds SrcPort p s) (λ e. (refl, refl, segment_at-transport p (and_parts (has_transport p) (nat_le (segment_at p + 2) (datagram_end p)) e).0))
+bounds SrcPort p = if_some (has_transport p && nat_le (in_segment p 0 + 2) (datagram_end p)) (record { at = in_segment p 0; len = 2 }) (λ (s : Span). InBounds SrcPort p s) (λ e. (omega arith, refl, segment_at-transport p (and_parts (has_transport p) (nat_le (in_segment p 0 + 2) (datagram_end p)) e).0))
 bounds DstPort p = if_some (has_transport p && nat_le (segment_at p + 2 + 2) (datagram_end p)) (record { at = segment_at p + 2; len = 2 }) (λ (s : Span). InBounds DstPort p s) (λ e. (refl, refl, segment_at-transport p (and_parts (has_transport p) (nat_le (segment_at p + 2 + 2) (datagram_end p)) e).0))
 bounds Payload p = if_some (has_data p && nat_le (data_at p) (datagram_end p)) (record { at = data_at p; len = datagram_end p - data_at p }) (λ (s : Span). InBounds Payload p s)
     (λ e. let there = (and_parts (has_data p) (nat_le (data_at p) (datagram_end p)) e).0 in let b = data_at-bound p there in (b.0, b.1, segment_at-transport p (and_parts (has_transport p) (is_udp p || (nat_lt (segment_at p + 12) (datagram_end p) && nat_le 5 (data_offset p))) there).0))

@@ -6,7 +6,7 @@ use Rattle.std.proofs.Common.{length-drop}
 use Rattle.packet_fields.specs.Frames.{packet_at, packet, tags_len}
 use Rattle.packet_fields.proofs.TagWalk.{packet_at-long, packet_at-inside, has_type, tags_len-whole}
 use Rattle.std.proofs.lemmas.Option.{IfSome_then, MatchOption-at_some}
-use Rattle.packet_fields.specs.Packets.{span_within, is_ipv4, has_transport, segment_at, datagram_end, data_span, has_data, data_at, place_within, header_sum_at, segment_sum_at}
+use Rattle.packet_fields.specs.Packets.{span_within, is_ipv4, has_transport, segment_at, in_segment, datagram_end, data_span, has_data, data_at, place_within, header_sum_at, segment_sum_at}
 use Rattle.packet_fields.specs.Fields.{packet_span, moved, in_frame, span, tag_span, layout_of, number_of, IsLengthOf}
 use Rattle.packet_fields.specs.declared.field.Field.{Field}
 use Rattle.packet_fields.specs.declared.field.Field.TheVariants.{LinkDst, LinkSrc, Tag, Tos, Ttl, SrcIp, DstIp, SrcPort, DstPort, Payload}
@@ -33,7 +33,7 @@ packet_span-inside Tos p = span_within-inside (is_ipv4 p) (length p) 3 1 (length
 packet_span-inside Ttl p = span_within-inside (is_ipv4 p) (length p) 10 1 (length p) (omega arith)
 packet_span-inside SrcIp p = span_within-inside (is_ipv4 p) (length p) 14 4 (length p) (omega arith)
 packet_span-inside DstIp p = span_within-inside (is_ipv4 p) (length p) 18 4 (length p) (omega arith)
-packet_span-inside SrcPort p = span_within-inside (has_transport p) (datagram_end p) (segment_at p) 2 (length p) (omega arith)
+packet_span-inside SrcPort p = span_within-inside (has_transport p) (datagram_end p) (in_segment p 0) 2 (length p) (omega arith)
 packet_span-inside DstPort p = span_within-inside (has_transport p) (datagram_end p) (segment_at p + 2) 2 (length p) (omega arith)
 packet_span-inside Payload p = data_span-inside p
 
@@ -93,7 +93,7 @@ span-len Tos frame = some_moved (packet_span Tos (packet frame)) (packet_at fram
 span-len Ttl frame = some_moved (packet_span Ttl (packet frame)) (packet_at frame) _ (span_within-len (is_ipv4 (packet frame)) (length (packet frame)) 10 1)
 span-len SrcIp frame = some_moved (packet_span SrcIp (packet frame)) (packet_at frame) _ (span_within-len (is_ipv4 (packet frame)) (length (packet frame)) 14 4)
 span-len DstIp frame = some_moved (packet_span DstIp (packet frame)) (packet_at frame) _ (span_within-len (is_ipv4 (packet frame)) (length (packet frame)) 18 4)
-span-len SrcPort frame = some_moved (packet_span SrcPort (packet frame)) (packet_at frame) _ (span_within-len (has_transport (packet frame)) (datagram_end (packet frame)) (segment_at (packet frame)) 2)
+span-len SrcPort frame = some_moved (packet_span SrcPort (packet frame)) (packet_at frame) _ (span_within-len (has_transport (packet frame)) (datagram_end (packet frame)) (in_segment (packet frame) 0) 2)
 span-len DstPort frame = some_moved (packet_span DstPort (packet frame)) (packet_at frame) _ (span_within-len (has_transport (packet frame)) (datagram_end (packet frame)) (segment_at (packet frame) + 2) 2)
 span-len Payload frame = always (span Payload frame)
 

@@ -1,5 +1,6 @@
--- What the bytes under a checksum change in it.
+-- For proofs: what the bytes under a checksum change in it.
 use Rattle.std.specs.Prelude.{◌≡◌, ◌<◌, ℕ, ◌+◌, ◌-◌, ◌^◌, List, ◌++◌, take, drop, Bool, if◌then◌else◌, ◌==◌, Option}
+use Rattle.packet_fields.specs.Packets.{in_header}
 use Rattle.packet_fields.specs.Checksums.{words, is_changed, change_sum, folded, data_of}
 use Rattle.packet_fields.specs.declared.plan.Span.{Span}
 use Rattle.packet_fields.specs.declared.sums.Change.{Change}
@@ -12,11 +13,11 @@ pub record IsChange (old new : List ℕ) (change : Change) : Type 0 where
 
 -- the bytes under the checksum of an IPv4 header that ends at a place
 abbrev pub header_bytes : ℕ → List ℕ → List ℕ
-header_bytes end p = take 10 (drop 2 p) ++ take (end - 14) (drop 14 p)
+header_bytes end p = take 10 (drop (in_header 0) p) ++ take (end - in_header 12) (drop (in_header 12) p)
 
 -- the bytes under the checksum of a transport header that begins at a place
 abbrev pub segment_bytes : ℕ → Option Span → List ℕ → List ℕ
-segment_bytes start payload p = take 8 (drop 14 p) ++ (take 4 (drop start p) ++ data_of p payload)
+segment_bytes start payload p = take 8 (drop (in_header 12) p) ++ (take 4 (drop start p) ++ data_of p payload)
 
 -- a checksum after a change
 abbrev pub applied : ℕ → Change → ℕ

@@ -1,8 +1,8 @@
--- The checksums of IPv4, TCP and UDP, and how they follow a change (RFC 1071, RFC 1624).
+-- Believed: the checksums of IPv4, TCP and UDP, and how they follow a change (RFC 1071, RFC 1624).
 use Rattle.std.specs.Prelude.{◌≡◌, ◌⊎◌, ◌<◌, ℕ, ◌+◌, ◌-◌, ◌*◌, ◌/◌, ◌%◌, List, [], ◌∷◌, ◌++◌, length, take, drop, sum, Bool, true, false, not, if◌then◌else◌, ◌==◌, ◌&&◌, ◌||◌, Option, Some, None, IsSome, slice_index}
 use Rattle.std.specs.Option.{option_eq}
 use Rattle.packet_fields.specs.Frames.{word, packet_at, packet}
-use Rattle.packet_fields.specs.Packets.{is_ipv4, header_len, is_udp, segment_at, datagram_end, data_span, header_sum_at, checksum_at, segment_sum_at}
+use Rattle.packet_fields.specs.Packets.{in_header, header_byte, header_word, is_ipv4, header_len, is_udp, segment_at, datagram_end, data_span, header_sum_at, checksum_at, segment_sum_at}
 use Rattle.packet_fields.specs.Plans.{header_plan_of, segment_plan_of}
 use Rattle.packet_fields.specs.Fields.{bytes_at}
 use Rattle.packet_fields.specs.Writing.{overwritten}
@@ -42,7 +42,7 @@ adjusted checksum old new = if is_changed old new then 0xffff - folded ((0xffff 
 
 -- the words under the header checksum: the header's other than its own (RFC 791, 3.1)
 abbrev pub header_words : List ℕ → List ℕ
-header_words p = words (take 10 (drop 2 p) ++ take (header_len p - 12) (drop 14 p))
+header_words p = words (take 10 (drop (in_header 0) p) ++ take (header_len p - 12) (drop (in_header 12) p))
 
 -- the data behind the transport header
 abbrev pub data_of : List ℕ → Option Span → List ℕ
@@ -52,7 +52,7 @@ data_of p (Some s) = bytes_at p s
 -- the words under the TCP or UDP checksum that a network function can write: both addresses, both ports,
 -- and the data (RFC 793, 3.1; RFC 768)
 abbrev pub segment_words : List ℕ → List ℕ
-segment_words p = words (take 8 (drop 14 p) ++ (take 4 (drop (segment_at p) p) ++ data_of p (data_span p)))
+segment_words p = words (take 8 (drop (in_header 12) p) ++ (take 4 (drop (segment_at p) p) ++ data_of p (data_span p)))
 
 -- in UDP a checksum of 0 says that there is none, and a computed 0 is sent as 0xffff (RFC 768)
 abbrev pub udp_adjusted : ℕ → List ℕ → List ℕ → ℕ
@@ -64,7 +64,7 @@ word_put None n p = p
 word_put (Some at) n p = overwritten at (word_bytes n) p
 
 abbrev pub header_sealed : List ℕ → List ℕ → List ℕ
-header_sealed old new = word_put (header_sum_at old) (adjusted (word old 12) (header_words old) (header_words new)) new
+header_sealed old new = word_put (header_sum_at old) (adjusted (header_word old 10) (header_words old) (header_words new)) new
 
 abbrev pub segment_checksum : List ℕ → List ℕ → ℕ
 segment_checksum old new =
@@ -103,7 +103,7 @@ IsRight ws = folded (sum ws) ≡ 0xffff
 
 -- the IPv4 header, as far as it is captured
 abbrev pub header_of : List ℕ → List ℕ
-header_of p = take (header_len p) (drop 2 p)
+header_of p = take (header_len p) (drop (in_header 0) p)
 
 -- the TCP segment or UDP datagram, as far as it is captured
 abbrev pub segment_of : List ℕ → List ℕ
@@ -111,7 +111,7 @@ segment_of p = take (datagram_end p - segment_at p) (drop (segment_at p) p)
 
 -- the words before it in its sum: both addresses, the protocol, and its length (RFC 793, 3.1; RFC 768)
 abbrev pub pseudo_header : List ℕ → List ℕ
-pseudo_header p = slice_index p 11 ∷ (word p 4 - header_len p) ∷ words (take 8 (drop 14 p))
+pseudo_header p = header_byte p 9 ∷ (header_word p 2 - header_len p) ∷ words (take 8 (drop (in_header 12) p))
 
 -- the checksums of a frame that are there are right by that sum, where UDP may have none
 pub record HasRightSums (frame : List ℕ) : Type 0 where

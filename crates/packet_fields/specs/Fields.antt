@@ -1,7 +1,7 @@
--- The ten fields of a frame: where each lies, and its bytes.
+-- Believed: the ten fields of a frame: where each lies, and its bytes.
 use Rattle.std.specs.Prelude.{codes, ◌≡◌, ℕ, ◌+◌, ◌-◌, ◌%◌, ⊤, List, [], ◌∷◌, length, take, drop, true, Option, None, option_map}
 use Rattle.packet_fields.specs.Frames.{word, type_at, packet_at, packet}
-use Rattle.packet_fields.specs.Packets.{span_within, is_ipv4, has_transport, segment_at, datagram_end, data_span, total_len, protocol, control_bits, header_sum_at, segment_sum_at}
+use Rattle.packet_fields.specs.Packets.{span_within, header_span, segment_span, data_span, total_len, protocol, control_bits, header_sum_at, segment_sum_at}
 use Rattle.packet_fields.specs.declared.field.Field.{Field}
 use Rattle.packet_fields.specs.declared.field.Field.TheVariants.{LinkDst, LinkSrc, Tag, Tos, Ttl, SrcIp, DstIp, SrcPort, DstPort, Payload}
 use Rattle.packet_fields.specs.declared.plan.Span.{Span}
@@ -19,14 +19,14 @@ in_frame frame s = option_map (moved (packet_at frame)) s
 abbrev pub tag_span : List ℕ → Option Span
 tag_span frame = option_map (λ t. record { at = 12; len = t - 12 }) (type_at frame)
 
--- where a field lies, counted from the EtherType for the fields of the packet
+-- where a field of a header lies in the packet: its place in the header (RFC 791, 3.1; RFC 793, 3.1; RFC 768), and its length
 abbrev pub packet_span : Field → List ℕ → Option Span
-packet_span Tos p = span_within (is_ipv4 p) (length p) 3 1
-packet_span Ttl p = span_within (is_ipv4 p) (length p) 10 1
-packet_span SrcIp p = span_within (is_ipv4 p) (length p) 14 4
-packet_span DstIp p = span_within (is_ipv4 p) (length p) 18 4
-packet_span SrcPort p = span_within (has_transport p) (datagram_end p) (segment_at p) 2
-packet_span DstPort p = span_within (has_transport p) (datagram_end p) (segment_at p + 2) 2
+packet_span Tos p = header_span p 1 1
+packet_span Ttl p = header_span p 8 1
+packet_span SrcIp p = header_span p 12 4
+packet_span DstIp p = header_span p 16 4
+packet_span SrcPort p = segment_span p 0 2
+packet_span DstPort p = segment_span p 2 2
 packet_span Payload p = data_span p
 packet_span f p = None
 

@@ -33,8 +33,6 @@ mod plan;
 mod sealing;
 mod sums;
 mod tagging;
-#[cfg(test)]
-mod tests;
 
 pub use access::{get, put};
 pub use field::Field;

@@ -1,4 +1,5 @@
 use packet_fields::Frame;
+use thiserror::Error;
 
 /// The order of the bytes in all numbers of a capture.
 #[derive(Clone, Copy, Debug, PartialEq, Eq)]
@@ -34,21 +35,28 @@ pub struct CaptureHead {
 }
 
 /// Why a capture isn't read further. Records count from 1.
-#[derive(Clone, Copy, Debug, PartialEq, Eq)]
+#[derive(Clone, Copy, Debug, PartialEq, Eq, Error)]
 pub enum CaptureFault {
     /// The first four bytes are no magic number, in neither order.
+    #[error("no magic number")]
     BadMagic,
     /// The version isn't 2.4.
+    #[error("the version isn't 2.4")]
     BadVersion,
     /// The link type isn't Ethernet, but this.
+    #[error("the link type is {0}, and not Ethernet")]
     BadLink(u32),
     /// There are fewer than the 24 bytes of a head.
+    #[error("the head is cut")]
     CutHead,
     /// The capture ends inside this record.
+    #[error("record {0} is cut")]
     CutRecord(u32),
     /// This record claims a captured length above 262,144, namely the second number.
+    #[error("the frame of record {0} has {1} bytes")]
     FrameTooLong(u32, u32),
     /// More follows behind 4,294,967,295 records.
+    #[error("too many records")]
     TooManyRecords,
 }
 

@@ -30,6 +30,3 @@ pub use fault::PcapFault;
 pub use laws::{body_is_relation, read_is_written, written_is_read};
 pub use reader::Reader;
 pub use writer::Writer;
-
-#[cfg(test)]
-mod tests;
