@@ -1,4 +1,4 @@
-//! The headers of a packet, which begins with its EtherType; places count from there.
+//! The headers of a packet, which begins with its EtherType.
 ghost use Rattle.std.specs.Prelude.{◌≡◌, ◌≤◌, ◌+◌, ◌^◌, ◌<◌, ◌&&◌, ◌||◌, ◌*◌, ◌%◌, length, slice_index, IsTrue, IfSome, true};
 ghost use Rattle.packet_fields.specs.Frames.{word as word_of};
 ghost use Rattle.packet_fields.specs.Packets.{span_within, byte_within, place_within, is_ipv4 as is_ipv4_of, has_transport as has_transport_of, header_len as header_len_of, segment_at as segment_at_of, datagram_end as datagram_end_of, data_span as data_span_of, is_tcp, is_udp};
@@ -8,6 +8,41 @@ use crate::plan::Span;
 use byteorder::{BigEndian, ByteOrder};
 
 const IPV4: u16 = 0x0800;
+
+/// Where the IPv4 header begins: behind the EtherType.
+pub const HEADER: usize = 2;
+
+// The places of its fields, which RFC 791, 3.1, counts from the header's first byte.
+const TOS: usize = HEADER + 1;
+
+const TOTAL_LEN: usize = HEADER + 2;
+
+const FRAGMENT: usize = HEADER + 6;
+
+const TTL: usize = HEADER + 8;
+
+pub const PROTOCOL: usize = HEADER + 9;
+
+pub const HEADER_SUM: usize = HEADER + 10;
+
+pub const SRC_IP: usize = HEADER + 12;
+
+const DST_IP: usize = HEADER + 16;
+
+// The places of fields of TCP and UDP, from the first byte of their header (RFC 793, 3.1; RFC 768).
+const SRC_PORT: usize = 0;
+
+const DST_PORT: usize = 2;
+
+const TCP_OFFSET: usize = 12;
+
+const TCP_CONTROL: usize = 13;
+
+const TCP_SUM: usize = 16;
+
+const UDP_SUM: usize = 6;
+
+const UDP_HEADER_LEN: usize = 8;
 
 const TCP: u8 = 6;
 
@@ -88,7 +123,10 @@ pub fn is_ipv4(packet: &[u8]) -> bool
     ensures there { result ≡ is_ipv4_of packet.now }
     ensures room { IsTrue result → 3 ≤ length packet.now }
 {
-    packet.len() > 2 && word(packet, 0) == IPV4 && packet[2] / 16 == 4 && packet[2] % 16 >= 5
+    packet.len() > HEADER
+        && word(packet, 0) == IPV4
+        && packet[HEADER] / 16 == 4
+        && packet[HEADER] % 16 >= 5
 }
 
 /// Does a TCP or UDP header begin behind the IPv4 header?
@@ -99,10 +137,10 @@ pub fn has_transport(packet: &[u8]) -> bool
     ensures kind { IsTrue result → (is_tcp packet.now || is_udp packet.now) ≡ true }
 {
     is_ipv4(packet)
-        && packet.len() > 11
-        && (packet[11] == TCP || packet[11] == UDP)
-        && word(packet, 8) % 8192 == 0
-        && 4 * u16::from(packet[2] % 16) <= word(packet, 4)
+        && packet.len() > PROTOCOL
+        && (packet[PROTOCOL] == TCP || packet[PROTOCOL] == UDP)
+        && word(packet, FRAGMENT) % 8192 == 0
+        && 4 * u16::from(packet[HEADER] % 16) <= word(packet, TOTAL_LEN)
 }
 
 /// The places of the IPv4 header.
@@ -116,19 +154,19 @@ pub fn header_plan(packet: &[u8]) -> HeaderPlan
 {
     let there = is_ipv4(packet);
     let end = packet.len();
-    let total_len = if there && end >= 6 {
-        Some(word(packet, 4))
+    let total_len = if there && end >= TOTAL_LEN + 2 {
+        Some(word(packet, TOTAL_LEN))
     } else {
         None
     };
     HeaderPlan {
-        tos: within(there, end, 3, 1),
-        ttl: within(there, end, 10, 1),
-        src_ip: within(there, end, 14, 4),
-        dst_ip: within(there, end, 18, 4),
-        proto: byte(there, end, packet, 11),
+        tos: within(there, end, TOS, 1),
+        ttl: within(there, end, TTL, 1),
+        src_ip: within(there, end, SRC_IP, 4),
+        dst_ip: within(there, end, DST_IP, 4),
+        proto: byte(there, end, packet, PROTOCOL),
         total_len,
-        sum_at: place(there, end, 12, 2),
+        sum_at: place(there, end, HEADER_SUM, 2),
     }
 }
 
@@ -139,7 +177,7 @@ pub fn header_len(packet: &[u8]) -> usize
     ensures bound { result ≤ 60 }
     ensures least { is_ipv4_of packet.now ≡ true → 20 ≤ result }
 {
-    4 * usize::from(packet[2] % 16)
+    4 * usize::from(packet[HEADER] % 16)
 }
 
 /// Where the transport header begins.
@@ -148,7 +186,7 @@ pub fn segment_at(packet: &[u8]) -> usize
     ensures at { result ≡ segment_at_of packet.now }
     ensures bound { result ≤ 62 }
 {
-    header_len(packet) + 2
+    header_len(packet) + HEADER
 }
 
 /// Where the captured bytes of the datagram end.
@@ -158,7 +196,9 @@ fn datagram_end(packet: &[u8]) -> usize
     ensures inside { result ≤ length packet.now }
     ensures short { result ≤ 65537 }
 {
-    packet.len().min(usize::from(word(packet, 4)) + 2)
+    packet
+        .len()
+        .min(usize::from(word(packet, TOTAL_LEN)) + HEADER)
 }
 
 /// Where the data behind a transport header that begins at `start` lies, below `end`.
@@ -170,10 +210,10 @@ fn data_span(packet: &[u8], start: usize, end: usize) -> Option<Span>
     ensures span { result ≡ data_span_of packet.now }
     ensures inside { IfSome result (λ s. s.at + s.len ≤ end) }
 {
-    let at = if packet[11] == UDP {
-        start + 8
-    } else if start + 12 < end && packet[start + 12] / 16 >= 5 {
-        4 * usize::from(packet[start + 12] / 16) + start
+    let at = if packet[PROTOCOL] == UDP {
+        start + UDP_HEADER_LEN
+    } else if start + TCP_OFFSET < end && packet[start + TCP_OFFSET] / 16 >= 5 {
+        4 * usize::from(packet[start + TCP_OFFSET] / 16) + start
     } else {
         return None;
     };
@@ -204,12 +244,13 @@ pub fn segment_plan(packet: &[u8]) -> SegmentPlan
     }
     let start = segment_at(packet);
     let end = datagram_end(packet);
-    let is_udp = packet[11] == UDP;
+    let is_udp = packet[PROTOCOL] == UDP;
+    let sum = if is_udp { UDP_SUM } else { TCP_SUM };
     SegmentPlan {
-        src_port: within(true, end, start, 2),
-        dst_port: within(true, end, start + 2, 2),
+        src_port: within(true, end, start + SRC_PORT, 2),
+        dst_port: within(true, end, start + DST_PORT, 2),
         payload: data_span(packet, start, end),
-        control_bits: byte(!is_udp, end, packet, start + 13),
-        sum_at: place(true, end, if is_udp { start + 6 } else { start + 16 }, 2),
+        control_bits: byte(!is_udp, end, packet, start + TCP_CONTROL),
+        sum_at: place(true, end, start + sum, 2),
     }
 }

@@ -9,7 +9,10 @@ ghost use Rattle.packet_fields.specs.Checksums.{has_same_places as has_same_plac
 ghost use Rattle.packet_fields.specs.Changes.{IsChange, header_bytes, segment_bytes, checksum_after};
 
 use crate::access::part;
-use crate::packet::{UDP, header_len, header_plan, is_ipv4, segment_at, segment_plan, word};
+use crate::packet::{
+    HEADER, HEADER_SUM, PROTOCOL, SRC_IP, UDP, header_len, header_plan, is_ipv4, segment_at,
+    segment_plan, word,
+};
 use crate::places::{packet_from, packet_place};
 use crate::plan::Span;
 use crate::sums::Change;
@@ -85,12 +88,12 @@ fn seal_header(old: &[u8], new: &mut [u8])
     requires same_header { header_len_of old.now ≡ header_len_of new.old }
     ensures { new.new ≡ header_sealed old.now new.old }
 {
-    if old.len() < 14 {
+    if old.len() < HEADER_SUM + 2 {
         return;
     }
-    let end = (header_len(old) + 2).min(old.len());
-    let checksum = header_change(old, new, end).applied(word(old, 12));
-    write_word(new, 12, checksum);
+    let end = (header_len(old) + HEADER).min(old.len());
+    let checksum = header_change(old, new, end).applied(word(old, HEADER_SUM));
+    write_word(new, HEADER_SUM, checksum);
 }
 
 /// What changed under the checksum of a header that ends at `end`.
@@ -102,8 +105,8 @@ fn header_change(old: &[u8], new: &[u8], end: usize) -> Change
     ensures { IsChange (header_bytes end old.now) (header_bytes end new.now) result }
 {
     Change::none()
-        .with_bytes(&old[2..12], &new[2..12])
-        .with_bytes(&old[14..end], &new[14..end])
+        .with_bytes(&old[HEADER..HEADER_SUM], &new[HEADER..HEADER_SUM])
+        .with_bytes(&old[SRC_IP..end], &new[SRC_IP..end])
 }
 
 /// Adjusts the TCP or UDP checksum of a packet of the same lengths and places.
@@ -116,7 +119,7 @@ fn seal_segment(old: &[u8], new: &mut [u8])
     let plan = segment_plan(old);
     if let Some(at) = plan.sum_at {
         let change = segment_change(old, new, segment_at(old), plan.payload);
-        let checksum = segment_checksum(old[11] == UDP, word(old, at), change);
+        let checksum = segment_checksum(old[PROTOCOL] == UDP, word(old, at), change);
         write_word(new, at, checksum);
     }
 }
@@ -131,7 +134,7 @@ fn segment_change(old: &[u8], new: &[u8], start: usize, payload: Option<Span>) -
     ensures { IsChange (segment_bytes start payload old.now) (segment_bytes start payload new.now) result }
 {
     let change = Change::none()
-        .with_bytes(&old[14..22], &new[14..22])
+        .with_bytes(&old[SRC_IP..SRC_IP + 8], &new[SRC_IP..SRC_IP + 8])
         .with_bytes(&old[start..start + 4], &new[start..start + 4]);
     match payload {
         Some(span) => change.with_bytes(part(old, span), part(new, span)),
