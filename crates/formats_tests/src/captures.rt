@@ -4,7 +4,7 @@ ghost use Rattle.nfp_outside.specs.declared.slot.Slot.{Slot};
 
 use nfp_outside::{Desk, FixedDesk, MemDesk, Slot};
 use pcap_io::{CaptureFault, PcapFault, Reader, Writer};
-use std::alloc::Global;
+use std::alloc::{AllocError, Global};
 use std::test::Fail;
 
 // Little-endian, in microseconds.
@@ -68,13 +68,18 @@ fn first_length<D: Desk>(alloc: Global, desk: &mut D) -> Result<Option<usize>, P
     Ok(Some(packet.frame.bytes().len()))
 }
 
-// What is read of a capture whose one record claims a frame of so many bytes, and has 262,144.
-fn claimed(alloc: Global, length: u32) -> Result<Result<Option<usize>, PcapFault>, Fail> {
+// A capture whose one record claims a frame of so many bytes, and has 262,144.
+fn claiming(alloc: Global, length: u32) -> Result<Vec<u8>, AllocError> {
     let mut bytes = HEAD.to_vec(alloc)?;
     bytes.extend_from_slice(&[0; 8])?;
     bytes.extend_from_slice(&length.to_le_bytes())?;
     bytes.extend_from_slice(&length.to_le_bytes())?;
     bytes.resize(24 + 16 + 262_144, 0)?;
+    Ok(bytes)
+}
+
+fn claimed(alloc: Global, length: u32) -> Result<Result<Option<usize>, PcapFault>, Fail> {
+    let bytes = claiming(alloc, length)?;
     let mut desk = FixedDesk::new(alloc, Vec::new(alloc), bytes, 65536);
     Ok(first_length(alloc, &mut desk))
 }

@@ -2,34 +2,35 @@
 use packet_fields::{seal, with_tags};
 use std::test::Fail;
 
-// UDP from 10.0.0.1, port 1000, with this checksum is translated to 192.0.2.1, port 40000: the
-// checksum of the IPv4 header and that of UDP after it.
-fn translated(udp_sum: u16) -> (u16, u16) {
-    let [high, low] = udp_sum.to_be_bytes();
+// The frame that `fixtures::udp(1, 1000)` is, from 192.0.2.1, port 40000, its checksums as they were.
+const TRANSLATED: [u8; 42] = [
+    2, 0, 0, 0, 0, 2, 2, 0, 0, 0, 0, 1, 8, 0, 0x45, 0, 0, 28, 0, 0, 0, 0, 64, 17, 0x66, 0xcf, 192,
+    0, 2, 1, 10, 0, 0, 2, 0x9c, 0x40, 0, 53, 0, 8, 0, 0,
+];
+
+// The checksum of IPv4 and that of UDP behind the translation, where that of UDP was this before.
+fn sums(high: u8, low: u8) -> [u8; 4] {
     let mut before = fixtures::udp(1, 1000);
     before[40] = high;
     before[41] = low;
-    let mut after = before;
-    after[26..30].copy_from_slice(&[192, 0, 2, 1]);
-    after[34..36].copy_from_slice(&[0x9c, 0x40]);
+    let mut after = TRANSLATED;
+    after[40] = high;
+    after[41] = low;
     seal(&before, &mut after);
-    (
-        u16::from_be_bytes([after[24], after[25]]),
-        u16::from_be_bytes([after[40], after[41]]),
-    )
+    [after[24], after[25], after[40], after[41]]
 }
 
 #[test]
 fn checksums_follow_a_translation(rt: HostRuntime) {
-    assert_eq!(rt; translated(0), (0xaece, 0), "none stays none");
+    assert_eq!(rt; sums(0, 0), [0xae, 0xce, 0, 0], "none stays none");
     assert_eq!(rt;
-        translated(0xe7be),
-        (0xaece, 0x9765),
+        sums(0xe7, 0xbe),
+        [0xae, 0xce, 0x97, 0x65],
         "a right one stays right"
     );
     assert_eq!(rt;
-        translated(0xe7bf),
-        (0xaece, 0x9766),
+        sums(0xe7, 0xbf),
+        [0xae, 0xce, 0x97, 0x66],
         "a wrong one stays as wrong"
     );
 }

@@ -1,4 +1,4 @@
--- What the desks in memory show: the bytes of each slot, the step, and the calls.
+-- For proofs: what the desks in memory show: the bytes of each slot, the step, and the calls.
 use Rattle.std.specs.Prelude.{◌≡◌, ◌≢◌, ◌↔◌, ℕ, List, drop, length, min, Contains, Option, Some, Result, IsErrOf}
 use Rattle.std.specs.Option.{option_map}
 use Rattle.std.specs.String.{string_bytes}

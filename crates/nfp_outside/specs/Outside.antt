@@ -1,4 +1,4 @@
--- What a desk shows of each of its slots, and what its calls do to that.
+-- Believed: what a desk shows of each of its slots, and what its calls do to that.
 use Rattle.std.specs.Prelude.{◌≡◌, ◌<◌, ◌≤◌, ◌+◌, ◌^◌, ◌-◌, ◌⊎◌, ℕ, List, [], ◌++◌, length, take, drop, Bool, true, false, if◌then◌else◌, Option, Some, None, MatchOption, Result, Ok, Err, IsErrOf, min}
 use Rattle.std.specs.Option.{option_map}
 use Rattle.nfp_outside.specs.declared.slot.Slot.{Slot}

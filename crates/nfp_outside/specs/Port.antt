@@ -1,4 +1,4 @@
--- What a slot over a file shows: its name and its count of faults, and no bytes.
+-- For proofs: what a slot over a file shows: its name and its count of faults, and no bytes.
 use Rattle.std.specs.Prelude.{ℕ, None}
 use Rattle.std.specs.Option.{option_map}
 use Rattle.std.specs.String.{string_bytes}

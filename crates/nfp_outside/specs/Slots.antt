@@ -1,4 +1,4 @@
--- What each of the five slots has.
+-- For proofs: what each of the five slots has.
 use Rattle.nfp_outside.specs.declared.slot.Slot.{Slot}
 use Rattle.nfp_outside.specs.declared.slot.Slot.TheVariants.{Policy, Capture, Out, Report, Note}
 

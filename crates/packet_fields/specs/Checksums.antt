@@ -4,8 +4,7 @@ use Rattle.std.specs.Option.{option_eq}
 use Rattle.packet_fields.specs.Frames.{word, packet_at, packet}
 use Rattle.packet_fields.specs.Packets.{in_header, header_byte, header_word, is_ipv4, header_len, is_udp, segment_at, datagram_end, data_span, header_sum_at, checksum_at, segment_sum_at}
 use Rattle.packet_fields.specs.Plans.{header_plan_of, segment_plan_of}
-use Rattle.packet_fields.specs.Fields.{bytes_at}
-use Rattle.packet_fields.specs.Writing.{overwritten}
+use Rattle.packet_fields.specs.Fields.{bytes_at, overwritten}
 use Rattle.packet_fields.specs.declared.plan.Span.{Span}
 use Rattle.packet_fields.specs.declared.packet.HeaderPlan.{HeaderPlan}
 use Rattle.packet_fields.specs.declared.packet.SegmentPlan.{SegmentPlan}

@@ -1,5 +1,5 @@
 -- Believed: the ten fields of a frame: where each lies, and its bytes.
-use Rattle.std.specs.Prelude.{codes, ◌≡◌, ℕ, ◌+◌, ◌-◌, ◌%◌, ⊤, List, [], ◌∷◌, length, take, drop, true, Option, None, option_map}
+use Rattle.std.specs.Prelude.{codes, ◌≡◌, ℕ, ◌+◌, ◌-◌, ◌%◌, ⊤, List, [], ◌∷◌, ◌++◌, length, take, drop, true, Option, None, option_map}
 use Rattle.packet_fields.specs.Frames.{word, type_at, packet_at, packet}
 use Rattle.packet_fields.specs.Packets.{span_within, header_span, segment_span, data_span, total_len, protocol, control_bits, header_sum_at, segment_sum_at}
 use Rattle.packet_fields.specs.declared.field.Field.{Field}
@@ -40,6 +40,10 @@ span f frame = in_frame frame (packet_span f (packet frame))
 -- the bytes of a span
 abbrev pub bytes_at : List ℕ → Span → List ℕ
 bytes_at bytes s = take s.len (drop s.at bytes)
+
+-- these bytes in place of as many, from a place on
+abbrev pub overwritten : ℕ → List ℕ → List ℕ → List ℕ
+overwritten at new bytes = take at bytes ++ (new ++ drop (length new) (drop at bytes))
 
 -- the bytes of a field, where it is present
 abbrev pub value : Field → List ℕ → Option (List ℕ)

@@ -1,4 +1,4 @@
--- The Ethernet frame: two addresses of six bytes, tags of four bytes each, and a packet, which begins
+-- Believed: the Ethernet frame: two addresses of six bytes, tags of four bytes each, and a packet, which begins
 -- with its EtherType (IEEE 802.3, 3.1.1; IEEE 802.1Q, 9.3).
 use Rattle.std.specs.Prelude.{◌≡◌, ◌≤◌, ℕ, ◌+◌, ◌*◌, List, [], ◌∷◌, ◌++◌, length, take, drop, Bool, true, false, if◌then◌else◌, ◌==◌, ◌&&◌, ◌||◌, nat_le, Option, Some, None, slice_index}
 

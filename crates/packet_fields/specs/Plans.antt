@@ -1,4 +1,4 @@
--- For proofs: the places of a packet's fields, header by header.
+-- Believed: the places of a packet's fields, header by header.
 use Rattle.std.specs.Prelude.{ℕ, List}
 use Rattle.packet_fields.specs.Packets.{total_len, protocol, control_bits, header_sum_at, segment_sum_at}
 use Rattle.packet_fields.specs.Fields.{packet_span}

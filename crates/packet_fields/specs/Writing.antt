@@ -1,15 +1,12 @@
--- Frames in which a field is written.
+-- For proofs: frames in which a field is written.
 use Rattle.std.specs.Prelude.{◌≡◌, ℕ, List, [], ◌∷◌, ◌++◌, length, take, drop, replicate, true, Option, Some, None, option_map, IsSome, IsSomeAnd, IfSome}
 use Rattle.std.specs.Option.{option_or}
 use Rattle.packet_fields.specs.Frames.{packet, is_tag_list}
 use Rattle.packet_fields.specs.Fields.{span, value}
+pub use Rattle.packet_fields.specs.Fields.{overwritten}
 use Rattle.packet_fields.specs.declared.field.Field.{Field}
 use Rattle.packet_fields.specs.declared.field.Field.TheVariants.{LinkDst, LinkSrc, Tag, Tos, Ttl, SrcIp, DstIp, SrcPort, DstPort, Payload}
 use Rattle.packet_fields.specs.declared.plan.Span.{Span}
-
--- these bytes in place of as many, from a place on
-abbrev pub overwritten : ℕ → List ℕ → List ℕ → List ℕ
-overwritten at new bytes = take at bytes ++ (new ++ drop (length new) (drop at bytes))
 
 -- the frame with these tags in place of its own
 abbrev pub with_tags : List ℕ → List ℕ → List ℕ

@@ -1,4 +1,4 @@
--- The classic pcap file format: a head of 24 bytes, and then records, each a head of 16 bytes and its frame.
+-- Believed: the classic pcap file format: a head of 24 bytes, and then records, each a head of 16 bytes and its frame.
 use Rattle.std.specs.Prelude.{◌≡◌, ◌≤◌, ◌+◌, ◌*◌, ℕ, zero, suc, List, [], ◌∷◌, length, take, drop, if◌then◌else◌, ◌==◌, nat_lt, ◌&&◌, Option, Some, None, Result, Ok, Err, IsErr}
 use Rattle.byteorder.specs.Endian.{big_number, little_number}
 use Rattle.pcap_io.specs.declared.capture.Endian.{Endian}
@@ -47,6 +47,16 @@ head_of_kind bytes (Some (order, unit)) =
 -- the head of a capture, or the first reason to refuse it
 abbrev pub head_of : List ℕ → Result CaptureHead CaptureFault
 head_of bytes = if nat_lt (length bytes) 24 then Err CutHead else head_of_kind bytes (kind_of bytes)
+
+-- a fault of a head
+abbrev pub IsHeadFault : CaptureFault → Type 0
+IsHeadFault BadMagic = Unit {0}
+IsHeadFault BadVersion = Unit {0}
+IsHeadFault (BadLink link) = Unit {0}
+IsHeadFault CutHead = Unit {0}
+IsHeadFault (CutRecord n) = ⊥
+IsHeadFault (FrameTooLong n length) = ⊥
+IsHeadFault TooManyRecords = ⊥
 
 -- the captured length of the record at the front
 abbrev pub captured_of : Endian → List ℕ → ℕ

@@ -1,4 +1,4 @@
--- What reading up to a number of bytes takes off what is left in a slot.
+-- For proofs: what reading up to a number of bytes takes off what is left in a slot.
 use Rattle.std.specs.Prelude.{◌≡◌, ◌≤◌, ◌<◌, ℕ, List, length, take, drop, Some, None, MatchOption, IfSome}
 use Rattle.nfp_outside.specs.declared.slot.Slot.TheVariants.{Capture as CaptureSlot}
 use Rattle.nfp_outside.specs.Outside.{SlotView, TakesFront, IsRisen}

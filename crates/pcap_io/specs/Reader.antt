@@ -1,4 +1,4 @@
--- What a reader of captures does: how far it is, and what it takes off what is left in the slot Capture.
+-- For proofs: what a reader of captures does: how far it is, and what it takes off what is left in the slot Capture.
 use Rattle.std.specs.Prelude.{◌≡◌, ◌≤◌, ◌<◌, ◌+◌, ℕ, List, [], drop, Bool, true, false, Option, Some, None, IfSome, Result, Ok, Err, IsErrOf}
 use Rattle.std.specs.Option.{option_map}
 use Rattle.nfp_outside.specs.declared.slot.Slot.{Slot}
@@ -11,6 +11,7 @@ use Rattle.pcap_io.specs.declared.capture.CaptureFault.{CaptureFault}
 use Rattle.pcap_io.specs.declared.capture.CaptureFault.TheVariants.{BadMagic, BadVersion, BadLink, CutHead, CutRecord, FrameTooLong, TooManyRecords}
 use Rattle.pcap_io.specs.declared.fault.PcapFault.{PcapFault}
 use Rattle.pcap_io.specs.declared.fault.PcapFault.TheVariants.{ReadFault}
+pub use Rattle.pcap_io.specs.Capture.{IsHeadFault}
 use Rattle.pcap_io.specs.Capture.{Body, body_of, capture_of, head_of, next_of, with_record, IsShort}
 
 -- how far a reader is: the order of the numbers, how many records it gave, and whether it was refused
@@ -41,16 +42,6 @@ pub record ReadsHead (head : CaptureHead) (reader : ReaderState) (old new : Slot
   pub accepted : IfSome old.bytes (λ bytes. head_of bytes ≡ Ok head)
   pub rest : new.bytes ≡ option_map (drop 24) old.bytes
   pub whole : option_map capture_of old.bytes ≡ option_map (λ body. Ok (head, body)) (body_left reader new)
-
--- a fault of a head
-abbrev pub IsHeadFault : CaptureFault → Type 0
-IsHeadFault BadMagic = Unit {0}
-IsHeadFault BadVersion = Unit {0}
-IsHeadFault (BadLink link) = Unit {0}
-IsHeadFault CutHead = Unit {0}
-IsHeadFault (CutRecord n) = ⊥
-IsHeadFault (FrameTooLong n length) = ⊥
-IsHeadFault TooManyRecords = ⊥
 
 -- the head is refused with this fault
 pub record RefusesHead (fault : CaptureFault) (old : SlotView) : Type 0 where
