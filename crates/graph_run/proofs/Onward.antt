@@ -17,7 +17,8 @@ use Rattle.chain_walk.specs.FieldWalk.{End, End.Out, End.Gone, Ended, walk_field
 use Rattle.chain_walk.specs.declared.fixed.Fixed.{Fixed}
 use Rattle.chain_walk.specs.declared.walk.Fate.{Fate}
 use Rattle.chain_walk.specs.declared.walk.Fate.TheVariants as fates
-use Rattle.graph_compile.specs.Facts.{IsLawful, IsFull, stands}
+use Rattle.graph_compile.specs.Facts.{IsLawful, IsFull}
+use Rattle.graph_compile.specs.Positions.{stands}
 use Rattle.graph_compile.specs.Lawful.{IsStaged}
 use Rattle.graph_compile.specs.declared.graph.Graph.{Graph}
 use Rattle.graph_compile.specs.declared.graph.Stage.{Stage}

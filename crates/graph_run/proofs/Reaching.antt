@@ -10,7 +10,8 @@ use Rattle.action_profile.specs.declared.rights.Profile.{Profile}
 use Rattle.chain_walk.specs.FieldWalk.{End, End.Out, End.Gone, fate_by}
 use Rattle.chain_walk.specs.declared.walk.Fate.{Fate}
 use Rattle.chain_walk.specs.declared.walk.Fate.TheVariants as fates
-use Rattle.graph_compile.specs.Facts.{IsLawful, stands}
+use Rattle.graph_compile.specs.Facts.{IsLawful}
+use Rattle.graph_compile.specs.Positions.{stands}
 use Rattle.graph_compile.specs.declared.graph.Graph.{Graph}
 use Rattle.graph_compile.specs.declared.graph.Stage.{Stage}
 use Rattle.packet_version.specs.Tallies.{count_of, raised}
