@@ -383,6 +383,10 @@ first-stands s l f = opened s.branches l (λ b e. f 0 b e)
         let here : holds one.0 b ≡ true = one.1 in
         record { at = one.0; here = grind (arith, here) }
 
+-- so every position of a stage is below those of all stages that follow
+pub lawful-rises : (graph : Graph) (chain : List Profile) → IsFull graph → IsLawful graph chain → (i j : ℕ) (s t : Stage) → i < j → slice_get graph.stages i ≡ Some s → slice_get graph.stages j ≡ Some t → IsBelow s t
+lawful-rises graph chain full lawful = rise-through graph.stages (λ i s e. first-stands s (full.branches i s e) (λ j b g. full.functions i j s b e g)) lawful.below
+
 pub staged-from_lawful : (graph : Graph) (chain : List Profile) → IsFull graph → IsLawful graph chain → IsStaged chain 1 graph.stages (suc (length chain))
 staged-from_lawful graph chain full h = facts-staged chain 1 (suc (length chain)) graph.stages (record {
   order = omega arith;
@@ -396,7 +400,7 @@ staged-from_lawful graph chain full h = facts-staged chain 1 (suc (length chain)
         ] refl
   ] refl;
   rising = h.rising;
-  below = rise-through graph.stages (λ i s e. first-stands s (full.branches i s e) (λ j b g. full.functions i j s b e g)) h.below;
+  below = lawful-rises graph chain full h;
   apart = h.apart;
   parts = h.parts;
 })

@@ -62,7 +62,7 @@ pub record IsFlowing {F : Type 0} (b : Behaviour F) (graph : Graph) (time : ℕ)
 
 -- the laws of graphs that a run rests on
 abbrev pub LawfulIsStaged : Type 0
-LawfulIsStaged = (graph : Graph) (chain : List Profile) → IsLawful graph chain → IsStaged chain 1 graph.stages (suc (length chain))
+LawfulIsStaged = (graph : Graph) (chain : List Profile) → IsFull graph → IsLawful graph chain → IsStaged chain 1 graph.stages (suc (length chain))
 
 abbrev pub Rising : Type 0
 Rising = (chain : List Profile) (first : ℕ) (stages : List Stage) (next : ℕ) → IsStaged chain first stages next → first ≤ next
@@ -97,7 +97,7 @@ flow_begins b graph time frame first taggers whole tally law formed running adde
       way = record {
         at = 1;
         position = omega arith;
-        staged_on = law graph (map b.profile first) running.lawful;
+        staged_on = law graph (map b.profile first) running.full running.lawful;
         goes = record {
           formed = subst AreWellFormed (sym values) (formed frame);
           room = subst (λ m. IfSome (m Tag) (λ tags. length tags.bytes + 4 * adders_from (map b.profile first) 1 ≤ tags.room)) (sym parts)
