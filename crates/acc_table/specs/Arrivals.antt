@@ -1,4 +1,4 @@
--- What has come so far of each packet, by branch: a finite map from a packet's number.
+-- For proofs: what has come so far of each packet, by branch: a finite map from a packet's number.
 use Rattle.std.specs.Prelude.{ℕ, ◌<◌, ◌⊎◌, List, Option, Some, None, IsSome, replicate, slice_set, unwrap_or, Contains, refl}
 use Rattle.std.specs.Ordering.{nat_cmp}
 use Rattle.std.specs.Coded.{Coded, code_by, coded×, coded_ℕ, coded_list, coded_option}

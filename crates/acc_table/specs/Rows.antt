@@ -1,4 +1,4 @@
--- The rows that a table keeps: each is a packet's, or free.
+-- For proofs: the rows that a table keeps: each is a packet's, or free.
 use Rattle.std.specs.Prelude.{ℕ, ◌≡◌, ◌≢◌, ◌<◌, ◌≤◌, ◌⊎◌, List, [], ◌∷◌, Option, Some, None, All, length}
 use Rattle.std.specs.List.{AllPairs, HoldsAt}
 use Rattle.acc_table.specs.Arrivals.{nothing}

@@ -15,8 +15,6 @@ mod laws;
 mod place;
 mod row;
 mod table;
-#[cfg(test)]
-mod tests;
 
 pub use laws::open_packets_take_a_place_each;
 pub use table::{AccTable, Complete, MOST_BRANCHES, MOST_ENTRIES};

@@ -48,9 +48,9 @@ impl<T: Drop> AccTable<T> {
     /// An empty table with room for so many packets at a time, each of so many branches.
     pub fn with_room(alloc: Global, entries: u32, branches: u32) -> Result<AccTable<T>, AllocError>
         requires some_entries { 0 < entries }
-        requires few_entries { entries ≤ MOST_ENTRIES }
+        requires few_entries { entries ≤ 65536 }
         requires some_branches { 0 < branches }
-        requires few_branches { branches ≤ MOST_BRANCHES }
+        requires few_branches { branches ≤ 64 }
         ensures made { IfOk result (λ t. t ≡ record { entries = entries; branches = branches; waiting = finite.empty }) }
         ensures nothing { IfOk result (λ t. (p : ℕ) → arrivals t p ≡ nothing branches) }
         ensures none_open { IfOk result (λ t. (p : ℕ) → IsOpen t p → ⊥) }

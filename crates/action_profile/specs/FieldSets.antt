@@ -1,4 +1,4 @@
--- Sets of fields.
+-- Believed: sets of fields.
 use Rattle.std.specs.Prelude.{◌^◌, List, [], ◌∷◌, Bool, ◌==◌, fold}
 use Rattle.std.specs.Int.{bit_at}
 use Rattle.std.specs.Int.RustNames.{bit_or}

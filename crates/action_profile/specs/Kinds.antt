@@ -1,4 +1,4 @@
--- The names of the kinds of network functions.
+-- Believed: the names of the kinds of network functions.
 use Rattle.std.specs.Prelude.{ℕ, List, codes}
 use Rattle.action_profile.specs.declared.kind.Kind.{Kind}
 use Rattle.action_profile.specs.declared.kind.Kind.TheVariants.{Firewall, Signature, Nat, Balancer, Monitor, Limiter, Marker, Nexthop, Hop, Redactor, Tagger, Untagger}

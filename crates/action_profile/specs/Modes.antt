@@ -1,4 +1,4 @@
--- How a stage hands on a field of a packet, by what each of its branches touches.
+-- Believed: how a stage hands on a field of a packet, by what each of its branches touches.
 use Rattle.std.specs.Prelude.{◌-◌, ◌==◌, ◌&&◌, ◌||◌, ℕ, Bool, not, if◌then◌else◌, List, Some, None, map, count_by, position, slice_index_or}
 use Rattle.std.specs.List.{list_any}
 use Rattle.std.specs.Option.{option_map_or}

@@ -20,8 +20,6 @@ mod kind;
 mod parts;
 mod rights;
 mod table;
-#[cfg(test)]
-mod tests;
 
 pub use field_set::{FieldSet, all_fields};
 pub use kind::Kind;

@@ -30,6 +30,7 @@ impl Profile {
     ghost use Rattle.packet_fields.specs.declared.field.Field.{Field};
     ghost use Rattle.action_profile.specs.FieldSets.{has};
     ghost use Rattle.action_profile.specs.Profiles.{reads_of, writes_of, is_tag, handles_tags};
+    ghost use Rattle.action_profile.specs.ProfileSets.{with_tags};
 
     /// Does it read the field?
     pub fn reads_field(&self, field: Field) -> bool
@@ -47,20 +48,23 @@ impl Profile {
 
     /// All fields that it reads, the tags among them where it adds or removes one.
     pub fn read_set(&self) -> FieldSet
-        ensures { (f : Field) → has result f ≡ reads_of self.now f }
+        ensures set { result ≡ with_tags self.now self.now.reads }
+        ensures fields { (f : Field) → has result f ≡ reads_of self.now f }
     {
         self.with_tags(self.reads)
     }
 
     /// All fields that it writes, the tags among them where it adds or removes one.
     pub fn write_set(&self) -> FieldSet
-        ensures { (f : Field) → has result f ≡ writes_of self.now f }
+        ensures set { result ≡ with_tags self.now self.now.writes }
+        ensures fields { (f : Field) → has result f ≡ writes_of self.now f }
     {
         self.with_tags(self.writes)
     }
 
     fn with_tags(&self, set: FieldSet) -> FieldSet
-        ensures { (f : Field) → has result f ≡ (has set f || (is_tag f && handles_tags self.now)) }
+        ensures set { result ≡ with_tags self.now set }
+        ensures fields { (f : Field) → has result f ≡ (has set f || (is_tag f && handles_tags self.now)) }
     {
         if self.adds || self.removes {
             set.with(FieldSet::TAG)

@@ -1,4 +1,4 @@
--- Packets, numbered from 1 in their order, cut into bursts.
+-- For proofs: packets, numbered from 1 in their order, cut into bursts.
 use Rattle.std.specs.Prelude.{ℕ, ◌≡◌, ◌+◌, List, [], ◌∷◌, ◌++◌, Bool, true, false, ◌||◌, Option, All, length, nat_le, if◌then◌else◌}
 use Rattle.std.specs.List.{sum_by}
 use Rattle.pcap_io.specs.declared.capture.PcapRecord.{PcapRecord}

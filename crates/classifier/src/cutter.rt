@@ -41,7 +41,7 @@ impl Cutter {
     /// A cutter into bursts of so many packets, to which none was added. It takes the room of a burst.
     pub fn new(alloc: Global, limit: u32) -> Result<Cutter, AllocError>
         requires some { 0 < limit }
-        requires few { limit ≤ BURST_LIMIT }
+        requires few { limit ≤ 65536 }
         ensures { IfOk result (λ c. c ≡ record { limit = limit; added = 0; held = [] }) }
     {
         Ok(Cutter {

@@ -16,8 +16,6 @@
 mod burst;
 mod cutter;
 mod laws;
-#[cfg(test)]
-mod tests;
 
 pub use burst::{Burst, Item};
 pub use cutter::{BURST_BYTES, BURST_LIMIT, Cutter};

@@ -1,4 +1,4 @@
--- What a function does to a packet, action by action.
+-- Believed: what a function does to a packet, action by action.
 use Rattle.std.specs.Prelude.{List, [], ◌∷◌, ◌++◌, Bool, false, not, map, filter}
 use Rattle.std.specs.List.{list_any}
 use Rattle.action_profile.specs.declared.rights.Profile.{Profile}

@@ -1,4 +1,4 @@
--- The dependency table: function x stands before function y, each action of x against each of y.
+-- Believed: the dependency table: function x stands before function y, each action of x against each of y.
 use Rattle.std.specs.Prelude.{List, Bool, true, false, ◌==◌, ◌&&◌, if◌then◌else◌, Option, map, filter, find}
 use Rattle.std.specs.Option.{option_map_or}
 use Rattle.std.specs.List.{list_any, flat_map}

@@ -15,8 +15,6 @@
 mod action;
 mod laws;
 mod side_by_side;
-#[cfg(test)]
-mod tests;
 
 pub use action::{Action, Answer};
 pub use laws::{beside_is_independent, copied_fields, forbidden_has_a_cause};

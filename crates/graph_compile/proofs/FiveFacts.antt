@@ -1,21 +1,20 @@
 -- Stages that follow each other are what the five facts say, and the other way round.
-use Rattle.std.proofs.Common.{◌≡◌, ◌≢◌, ◌↔◌, ℕ, zero, suc, ◌+◌, ◌-◌, ◌<◌, ◌≤◌, Bool, true, false, ◌||◌, List, [], ◌∷◌, length, refl, sym, ap, ◌∙◌, subst, arith, Some, inl, inr}
-use Rattle.std.specs.Prelude.{◌==◌, nat_le, nat_lt, count_by, slice_get, IsTrue}
+use Rattle.std.proofs.Common.{◌≡◌, ◌≢◌, ℕ, zero, suc, ◌+◌, ◌-◌, ◌<◌, ◌≤◌, Bool, true, false, ◌||◌, List, [], ◌∷◌, length, refl, sym, ap, ◌∙◌, subst, arith, Some, inl, inr}
+use Rattle.std.specs.Prelude.{◌==◌, nat_le, nat_lt, count_by, flat_map, slice_get}
 use Rattle.std.specs.List.{list_any, AllByRecursion}
 use Rattle.std.proofs.lemmas.Bool.Decides.{nat_tests}
-use Rattle.std.proofs.lemmas.List.Concat.{length-flat_map}
+use Rattle.std.proofs.lemmas.List.Concat.{length-flat_map, flat_map-append}
 use Rattle.action_profile.specs.declared.rights.Profile.{Profile}
 use Rattle.graph_compile.specs.declared.graph.Branch.{Branch}
 use Rattle.graph_compile.specs.declared.graph.Graph.{Graph}
 use Rattle.graph_compile.specs.declared.graph.Stage.{Stage}
-use Rattle.graph_compile.specs.Facts.{positions_of, all_positions, times, stands, AreRising, AreApart, IsLawful}
-use Rattle.graph_compile.specs.Lawful.{holds, size, rises, IsLawfulStage, IsStaged}
+use Rattle.graph_compile.specs.Facts.{positions_of, all_positions, times, rises, AreRising, AreApart, IsBelow, IsLawful, IsFull}
+use Rattle.graph_compile.specs.Lawful.{size, Rises, EndsBelow, Joins, Stands, IsLawfulStage, IsStaged}
 use Rattle.graph_compile.specs.Parts.{parts_of}
+use Rattle.graph_compile.specs.Positions.{holds, stands}
 use Rattle.graph_compile.specs.Stages.{is_forbidden}
 use Rattle.graph_compile.proofs.Counting.{AllByRecursion-weaker, one_if, count-cons, count-none}
 use Rattle.graph_compile.proofs.Following.{IsStaged-le}
-use Rattle.graph_compile.proofs.Standing.{Stands, Rises, EndsBelow, Joins}
-use Rattle.graph_compile.proofs.Testing.{is_stage-from, is_stage-to}
 use Rattle.graph_compile.proofs.Times.{inside, inside-yes, inside-low, inside-high, inside-cases, inside-both, times-append, times-stage, RisesFrom, IsParted, front-of}
 
 -- a fact of each item, and of the item at a place
@@ -148,6 +147,11 @@ stage-apart chain first next bs s j k b c n e f q r i h less =
 
 -- from the stages' places in the chain
 
+pub times-stages : (q : ℕ) (s : Stage) (stages : List Stage) → times q (all_positions (s ∷ stages)) ≡ times q (positions_of s.branches) + times q (all_positions stages)
+times-stages q s stages =
+    ap (times q) (flat_map-append (λ (b : Branch). b.positions) s.branches (flat_map (λ (t : Stage). t.branches) stages))
+    ∙ times-append q (positions_of s.branches) (all_positions stages)
+
 all-times : (chain : List Profile) (first : ℕ) (stages : List Stage) (next : ℕ) → IsStaged chain first stages next → (q : ℕ) → times q (all_positions stages) ≡ inside first next q
 unfolding IsStaged
 all-times chain first [] next h q =
@@ -157,11 +161,11 @@ all-times chain first [] next h q =
     ] refl
 all-times chain first (s ∷ stages) next h q =
     let mid = first + size s.branches in
-    let here = stage-times chain first mid s.branches (is_stage-to chain first s.branches h.0.stands) q in
+    let here = stage-times chain first mid s.branches h.0.stands q in
     let rest = all-times chain mid stages next h.1 q in
     let last = IsStaged-le chain mid stages next h.1 in
     let both = inside-both first mid next q (omega arith) last in
-    omega (arith, times-append q (positions_of s.branches) (all_positions stages), here, rest, both)
+    omega (arith, times-stages q s stages, here, rest, both)
 
 -- the place of the stage in the chain
 record IsPlaced (chain : List Profile) (low high : ℕ) (s : Stage) : Type 0 where
@@ -184,7 +188,7 @@ place-of chain first (t ∷ stages) next h (suc i) s e =
 -- a position that stands in a stage is within the stage's range
 stands-inside : (chain : List Profile) (first : ℕ) (s : Stage) → IsLawfulStage chain first s → (q : ℕ) → stands q s ≡ true → (first ≤ q) × (q < first + size s.branches)
 stands-inside chain first s l q i =
-    let st = is_stage-to chain first s.branches l.stands in
+    let st = l.stands in
     let next = first + size s.branches in
     let some = any-count (holds q) s.branches i in
     let counted = times-stage q s.branches (stage-rises chain first next s.branches st) in
@@ -211,13 +215,13 @@ lawful-from_staged graph chain h = record {
   no_other = λ q out. all-times chain 1 graph.stages (suc (length chain)) h q ∙ (elim out [ inl l ↦ inside-low 1 (suc (length chain)) q l | inr u ↦ inside-high 1 (suc (length chain)) q (omega arith) ]);
   rising = λ i s e j b f.
       let p = place-of chain 1 graph.stages (suc (length chain)) h i s e in
-      let st = is_stage-to chain p.first s.branches p.lawful.stands in
+      let st = p.lawful.stands in
       let r = each-at (Rises p.first) s.branches st.rise j b f in
       rises-lower 0 p.first b.positions (omega arith) r.rises;
-  below = λ i j s t l e f q r a b. all-below chain 1 graph.stages (suc (length chain)) h i j s t l e f q r a b;
+  below = λ i s t e f q r a b. all-below chain 1 graph.stages (suc (length chain)) h i (suc i) s t (omega arith) e f q r a b;
   apart = λ i s e.
       let p = place-of chain 1 graph.stages (suc (length chain)) h i s e in
-      stage-apart chain p.first (p.first + size s.branches) s.branches (is_stage-to chain p.first s.branches p.lawful.stands);
+      stage-apart chain p.first (p.first + size s.branches) s.branches p.lawful.stands;
   parts = λ i s e. (place-of chain 1 graph.stages (suc (length chain)) h i s e).lawful.parts;
 }
 
@@ -232,7 +236,7 @@ record HasFacts (chain : List Profile) (first last : ℕ) (stages : List Stage) 
   pub apart : (i : ℕ) (s : Stage) → slice_get stages i ≡ Some s → AreApart chain s.branches
   pub parts : (i : ℕ) (s : Stage) → slice_get stages i ≡ Some s → s.parts ≡ parts_of chain s.branches
 
-rising-each : (bs : List Branch) → AreRising bs → AllByRecursion RisesFrom bs
+pub rising-each : (bs : List Branch) → AreRising bs → AllByRecursion RisesFrom bs
 rising-each bs r = each-from RisesFrom bs (λ j b e. record { low = 0; rise = r j b e })
 
 -- a position that is counted stands in some stage
@@ -247,7 +251,7 @@ all-find q (s ∷ stages) r n =
     elim (times q (positions_of s.branches) == 0) as (λ b. (times q (positions_of s.branches) == 0) ≡ b → PassesSomewhere (stands q) (s ∷ stages)) [
       | true ↦ λ e.
           let none : times q (positions_of s.branches) ≡ 0 = grind (arith, nat_tests) in
-          let sum = times-append q (positions_of s.branches) (all_positions stages) in
+          let sum = times-stages q s stages in
           let some : times q (all_positions stages) ≢ 0 = λ z. n (omega (arith, sum, none, z)) in
           let rest = all-find q stages (λ i t e. r (suc i) t e) some in
           record { at = suc rest.at; it = rest.it; there = rest.there; passes = rest.passes }
@@ -259,7 +263,7 @@ all-find q (s ∷ stages) r n =
 facts-parted : (chain : List Profile) (first last : ℕ) (s : Stage) (stages : List Stage) → HasFacts chain first last (s ∷ stages) → IsParted first last (positions_of s.branches) (all_positions stages)
 facts-parted chain first last s stages h = record {
   order = h.order;
-  each = λ q. sym (times-append q (positions_of s.branches) (all_positions stages)) ∙ h.each q;
+  each = λ q. sym (times-stages q s stages) ∙ h.each q;
   below = λ q r n m.
       let there = all-find r stages (λ i t e. h.rising (suc i) t e) m in
       h.below 0 (suc there.at) s there.it (omega arith) refl there.there q r (stands-counted q s (h.rising 0 s refl) n) there.passes;
@@ -330,7 +334,7 @@ facts-staged chain first last (s ∷ stages) h =
     let R : ℕ → Type 0 = λ k. (q : ℕ) → times q (all_positions stages) ≡ inside (first + k) last q in
     let O : ℕ → Type 0 = λ k. first + k ≤ last in
     let st = facts-stand chain first s.branches (subst P long front.front) (h.rising 0 s refl) (h.apart 0 s refl) in (
-      record { stands = is_stage-from chain first (first + size s.branches) s.branches st; parts = h.parts 0 s refl },
+      record { stands = st; parts = h.parts 0 s refl },
       facts-staged chain (first + size s.branches) last stages (record {
         order = subst O long front.room;
         each = subst R long front.rest;
@@ -341,8 +345,50 @@ facts-staged chain first last (s ∷ stages) h =
       }),
     )
 
-pub staged-from_lawful : (graph : Graph) (chain : List Profile) → IsLawful graph chain → IsStaged chain 1 graph.stages (suc (length chain))
-staged-from_lawful graph chain h = facts-staged chain 1 (suc (length chain)) graph.stages (record {
+-- of stages of which each has a function, the one that is below the next is below all that follow
+record HasFunction (s : Stage) : Type 0 where
+  pub at : ℕ
+  pub here : stands at s ≡ true
+
+rise-through : (stages : List Stage) → ((i : ℕ) (s : Stage) → slice_get stages i ≡ Some s → HasFunction s) →
+    ((i : ℕ) (s t : Stage) → slice_get stages i ≡ Some s → slice_get stages (suc i) ≡ Some t → IsBelow s t) →
+    (i j : ℕ) (s t : Stage) → i < j → slice_get stages i ≡ Some s → slice_get stages j ≡ Some t → IsBelow s t
+rise-through [] full next i j s t l e f q r a b = cc
+rise-through (u ∷ []) full next i zero s t l e f q r a b = absurd (omega arith)
+rise-through (u ∷ []) full next i (suc j) s t l e f q r a b = cc
+rise-through (u ∷ v ∷ stages) full next i zero s t l e f q r a b = absurd (omega arith)
+rise-through (u ∷ v ∷ stages) full next (suc i) (suc j) s t l e f q r a b =
+    rise-through (v ∷ stages) (λ k. full (suc k)) (λ k. next (suc k)) i j s t (omega arith) e f q r a b
+rise-through (u ∷ v ∷ stages) full next zero (suc zero) s t l e f q r a b = next zero s t e f q r a b
+rise-through (u ∷ v ∷ stages) full next zero (suc (suc j)) s t l e f q r a b =
+    let some = full 1 v refl in
+    let first = next zero s v e refl q some.at a some.here in
+    let later = rise-through (v ∷ stages) (λ k. full (suc k)) (λ k. next (suc k)) zero (suc j) v t (omega arith) refl f some.at r some.here b in
+    omega (arith, first, later)
+
+first-stands : (s : Stage) → 0 < length s.branches → ((j : ℕ) (b : Branch) → slice_get s.branches j ≡ Some b → 0 < length b.positions) → HasFunction s
+first-stands s l f = opened s.branches l (λ b e. f 0 b e)
+  where
+    in_first : (b : Branch) → 0 < length b.positions → (x : ℕ) × (holds x b ≡ true)
+    in_first b l = in_list b.positions l
+      where
+        in_list : (xs : List ℕ) → 0 < length xs → (x : ℕ) × (list_any (λ y. y == x) xs ≡ true)
+        in_list [] l = absurd (omega arith)
+        in_list (x ∷ xs) l = (x, let same : (x == x) ≡ true = grind (arith, nat_tests) in grind arith)
+
+    opened : (bs : List Branch) → 0 < length bs → ((b : Branch) → slice_get bs 0 ≡ Some b → 0 < length b.positions) → HasFunction (record s { branches = bs })
+    opened [] l f = absurd (omega arith)
+    opened (b ∷ bs) l f =
+        let one = in_first b (f b refl) in
+        let here : holds one.0 b ≡ true = one.1 in
+        record { at = one.0; here = grind (arith, here) }
+
+-- so every position of a stage is below those of all stages that follow
+pub lawful-rises : (graph : Graph) (chain : List Profile) → IsFull graph → IsLawful graph chain → (i j : ℕ) (s t : Stage) → i < j → slice_get graph.stages i ≡ Some s → slice_get graph.stages j ≡ Some t → IsBelow s t
+lawful-rises graph chain full lawful = rise-through graph.stages (λ i s e. first-stands s (full.branches i s e) (λ j b g. full.functions i j s b e g)) lawful.below
+
+pub staged-from_lawful : (graph : Graph) (chain : List Profile) → IsFull graph → IsLawful graph chain → IsStaged chain 1 graph.stages (suc (length chain))
+staged-from_lawful graph chain full h = facts-staged chain 1 (suc (length chain)) graph.stages (record {
   order = omega arith;
   each = λ q. elim (nat_lt q 1) as (λ b. nat_lt q 1 ≡ b → times q (all_positions graph.stages) ≡ inside 1 (suc (length chain)) q) [
     | true ↦ λ e. let less : q < 1 = grind (arith, nat_tests) in h.no_other q (inl less) ∙ sym (inside-low 1 (suc (length chain)) q less)
@@ -354,11 +400,7 @@ staged-from_lawful graph chain h = facts-staged chain 1 (suc (length chain)) gra
         ] refl
   ] refl;
   rising = h.rising;
-  below = h.below;
+  below = lawful-rises graph chain full h;
   apart = h.apart;
   parts = h.parts;
 })
-
--- an answer that is true just where stages follow each other is true just where the five facts hold
-pub lawful-answer : (answer : Bool) (graph : Graph) (chain : List Profile) → IsTrue answer ↔ IsStaged chain 1 graph.stages (suc (length chain)) → IsTrue answer ↔ IsLawful graph chain
-lawful-answer answer graph chain h = (λ e. lawful-from_staged graph chain (h.0 e), λ l. h.1 (staged-from_lawful graph chain l))

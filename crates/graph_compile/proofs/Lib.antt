@@ -3,6 +3,8 @@ pub mod Drafts
 pub mod Filling
 pub mod FiveFacts
 pub mod Following
+pub mod Handed
+pub mod Judged
 pub mod Making
 pub mod Owning
 mod Rows

@@ -6,10 +6,10 @@ use Rattle.action_profile.specs.declared.rights.Profile.{Profile}
 use Rattle.graph_compile.specs.declared.draft.Draft.{Draft}
 use Rattle.graph_compile.specs.declared.graph.Branch.{Branch}
 use Rattle.graph_compile.specs.declared.graph.Stage.{Stage}
-use Rattle.graph_compile.specs.Lawful.{IsStaged}
+use Rattle.graph_compile.specs.Lawful.{Stands, IsStaged}
 use Rattle.graph_compile.specs.Stages.{holds_back, stage_of, placed, placed_by, nothing_placed, all_stages, graph_of}
 use Rattle.graph_compile.proofs.Following.{IsStaged-push}
-use Rattle.graph_compile.proofs.Standing.{Stands, Stands-new, Stands-alone, Stands-grown}
+use Rattle.graph_compile.proofs.Standing.{Stands-new, Stands-alone, Stands-grown}
 use Rattle.graph_compile.proofs.Testing.{IsLawfulStage-made}
 
 -- the stages that are closed follow each other, and the open one stands behind them, up to the next position

@@ -5,6 +5,7 @@ use Rattle.std.specs.Option.{option_map_or}
 use Rattle.std.specs.List.{list_any, range_with_len, position_or_len}
 use Rattle.std.proofs.lemmas.Bool.Decides.{nat_tests}
 use Rattle.std.proofs.lemmas.List.{length-map}
+use Rattle.std.proofs.lemmas.Option.{slice_get_within}
 use Rattle.packet_fields.specs.declared.field.Field.{Field}
 use Rattle.action_profile.specs.FieldSets.{has}
 use Rattle.action_profile.specs.Profiles.{reads_of, writes_of}
@@ -14,20 +15,15 @@ use Rattle.action_profile.specs.declared.rights.Profile.{Profile}
 use Rattle.dependency_table.specs.Table.{pair_of, is_allowed}
 use Rattle.graph_compile.specs.declared.graph.Branch.{Branch}
 use Rattle.graph_compile.specs.declared.graph.Stage.{Stage}
-use Rattle.graph_compile.specs.Lawful.{holds, size, rises, IsLawfulStage}
+use Rattle.graph_compile.specs.Facts.{rises}
+use Rattle.graph_compile.specs.Lawful.{size, Rises, EndsBelow, Stands, IsLawfulStage}
 use Rattle.graph_compile.specs.Owners.{owner, HasOwners}
 use Rattle.graph_compile.specs.Parts.{profile_at, reads_at, writes_at, branch_reads, branch_writes, touch_of, touches_of, parts_of}
+use Rattle.graph_compile.specs.Positions.{holds}
 use Rattle.graph_compile.specs.Stages.{is_forbidden, is_forbidden_pair}
 use Rattle.graph_compile.proofs.Counting.{one_if, count-cons, any-at}
 use Rattle.graph_compile.proofs.FiveFacts.{each-at, count-at, stage-apart}
-use Rattle.graph_compile.proofs.Standing.{Stands, Rises, EndsBelow}
-use Rattle.graph_compile.proofs.Testing.{is_stage-to}
 use Rattle.graph_compile.proofs.Touches.{touch-reads, touch-writes}
-
-get-length : {X : Type 0} (xs : List X) (i : ℕ) (x : X) → slice_get xs i ≡ Some x → i < length xs
-get-length [] i x e = cc
-get-length (y ∷ ys) zero x e = omega arith
-get-length (y ∷ ys) (suc i) x e = let rest = get-length ys i x e in omega arith
 
 get-map : {X Y : Type 0} (f : X → Y) (xs : List X) (i : ℕ) (x : X) → slice_get xs i ≡ Some x → slice_get (map f xs) i ≡ Some (f x)
 get-map f [] i x e = cc
@@ -189,9 +185,9 @@ same_length chain bs = simp length-map
 pub stage-owners : (chain : List Profile) (first : ℕ) (stage : Stage) → IsLawfulStage chain first stage → HasOwners chain first stage
 stage-owners chain first stage l =
     let bs = stage.branches in
-    let s = is_stage-to chain first stage.branches l.stands in
+    let s = l.stands in
     record {
-      owned = λ q low high. let f = first-of (holds q) stage.branches (let one = s.once q low high in omega (arith, one)) in get-length stage.branches (owner stage.branches q) f.it f.there;
+      owned = λ q low high. let f = first-of (holds q) stage.branches (let one = s.once q low high in omega (arith, one)) in slice_get_within stage.branches (owner stage.branches q) f.it f.there;
       listed = λ j b e. stage-listed chain first stage.branches s j b e;
       beside = λ q r x y low less high other e f.
           let a = first-of (holds q) stage.branches (let one = s.once q low (omega arith) in omega (arith, one)) in

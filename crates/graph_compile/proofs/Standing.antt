@@ -6,28 +6,11 @@ use Rattle.std.proofs.lemmas.Bool.Decides.{nat_tests}
 use Rattle.std.proofs.lemmas.List.Sums.{sum_by-cons, sum_by_push}
 use Rattle.action_profile.specs.declared.rights.Profile.{Profile}
 use Rattle.graph_compile.specs.declared.graph.Branch.{Branch}
-use Rattle.graph_compile.specs.Lawful.{holds, size, rises}
+use Rattle.graph_compile.specs.Facts.{rises}
+use Rattle.graph_compile.specs.Lawful.{size, Rises, EndsBelow, Joins, Stands}
+use Rattle.graph_compile.specs.Positions.{holds}
 use Rattle.graph_compile.specs.Stages.{is_forbidden, holds_back, alone, longer, grown}
 use Rattle.graph_compile.proofs.Counting.{AllByRecursion-weaker, AllByRecursion-both, AllByRecursion-push, AllByRecursion-map, one_if, count-cons, count-push, count-none, count-le, count-map, any-push, any-at}
-
--- no position of a branch is as high as this one
-pub record EndsBelow (high : ℕ) (b : Branch) : Type 0 where
-  pub below : (q : ℕ) → holds q b ≡ true → q < high
-
--- each function stands in the branch of those that are forbidden before it
-pub record Joins (chain : List Profile) (first : ℕ) (b : Branch) : Type 0 where
-  pub joins : (q r : ℕ) → holds r b ≡ true → first ≤ q → q < r → is_forbidden chain q r ≡ true → holds q b ≡ true
-
-pub record Rises (first : ℕ) (b : Branch) : Type 0 where
-  pub rises : rises first b.positions ≡ true
-
--- the branches of a stage from one position on, up to another
-pub record Stands (chain : List Profile) (first next : ℕ) (bs : List Branch) : Type 0 where
-  pub count : first + size bs ≡ next
-  pub rise : AllByRecursion (Rises first) bs
-  pub end : AllByRecursion (EndsBelow next) bs
-  pub once : (q : ℕ) → first ≤ q → q < next → count_by (holds q) bs ≡ 1
-  pub join : AllByRecursion (Joins chain first) bs
 
 pub holds-longer : (q p : ℕ) (b : Branch) → holds q (longer b p) ≡ (holds q b || (p == q))
 holds-longer q p b = any-push (λ x. x == q) b.positions p

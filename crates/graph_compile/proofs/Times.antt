@@ -5,8 +5,8 @@ use Rattle.std.specs.List.{list_any, AllByRecursion}
 use Rattle.std.proofs.lemmas.Bool.Decides.{nat_tests}
 use Rattle.std.proofs.lemmas.List.Sums.{sum_by-append}
 use Rattle.graph_compile.specs.declared.graph.Branch.{Branch}
-use Rattle.graph_compile.specs.Facts.{times, positions_of}
-use Rattle.graph_compile.specs.Lawful.{holds, rises}
+use Rattle.graph_compile.specs.Facts.{times, rises, positions_of}
+use Rattle.graph_compile.specs.Positions.{holds}
 use Rattle.graph_compile.proofs.Counting.{one_if, count-cons}
 
 -- 1 where a number is within bounds, the first of them included

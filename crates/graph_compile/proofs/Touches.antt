@@ -1,9 +1,9 @@
 -- What a branch touches, and the copies that a stage makes.
-use Rattle.std.proofs.Common.{◌≡◌, ℕ, suc, ◌+◌, ◌-◌, ◌<◌, Bool, true, false, ◌&&◌, ◌||◌, not, cond, List, [], ◌∷◌, length, map, refl, sym, ap, ◌∙◌, subst, arith, Some, None}
+use Rattle.std.proofs.Common.{◌≡◌, ℕ, suc, ◌+◌, ◌-◌, ◌<◌, Bool, true, false, ◌&&◌, ◌||◌, not, cond, List, [], ◌∷◌, length, map, refl, ap, ◌∙◌, arith, Some, None}
 use Rattle.std.specs.Prelude.{◌==◌, nat_lt, Option, filter, count_by, position, slice_index_or}
 use Rattle.std.specs.Option.{option_map_or}
 use Rattle.std.specs.List.{list_any, position_or_len}
-use Rattle.std.proofs.lemmas.Bool.Decides.{nat_tests, Decides-eqb}
+use Rattle.std.proofs.lemmas.Bool.Decides.{nat_tests}
 use Rattle.packet_fields.specs.Fields.{number_of}
 use Rattle.packet_fields.specs.declared.field.Field.{Field}
 use Rattle.packet_fields.specs.declared.field.Field.TheVariants.{LinkDst, LinkSrc, Tag, Tos, Ttl, SrcIp, DstIp, SrcPort, DstPort, Payload}
@@ -15,7 +15,7 @@ use Rattle.action_profile.specs.declared.rights.Profile.{Profile}
 use Rattle.action_profile.proofs.Members.{has_fields}
 use Rattle.graph_compile.specs.declared.graph.Branch.{Branch}
 use Rattle.action_profile.specs.Modes.{has_write, has_touch, only_reads, written_mode, mode_of, modes_of, copies_by_mode, copies}
-use Rattle.graph_compile.specs.Parts.{branch_reads, branch_writes, touch_of, touches_of, parts_of, ModeSays}
+use Rattle.graph_compile.specs.Parts.{branch_reads, branch_writes, touch_of, touches_of, parts_of}
 use Rattle.graph_compile.proofs.Counting.{one_if, count-cons, count-map}
 use Rattle.graph_compile.proofs.FiveFacts.{each-from, any-count}
 
@@ -76,7 +76,7 @@ unfolding copies parts_of
 copies-by_touches chain branches f = ap (λ (m : Mode). copies_by_mode m (touches_of chain branches) f) (modes-at (touches_of chain branches) f)
 
 -- a search finds just where a test passes
-position-none : (p : Touch → Bool) (ts : List Touch) → list_any p ts ≡ false → position p ts ≡ None
+pub position-none : (p : Touch → Bool) (ts : List Touch) → list_any p ts ≡ false → position p ts ≡ None
 position-none p ts h =
     elim (nat_lt (position_or_len p ts) (length ts)) as (λ b. nat_lt (position_or_len p ts) (length ts) ≡ b → cond b (Some (position_or_len p ts)) None ≡ None) [
       | true ↦ λ e. let inside : position_or_len p ts < length ts = grind (arith, nat_tests) in absurd (nothing ts inside h)
@@ -95,7 +95,7 @@ pub record Found (p : Touch → Bool) (ts : List Touch) : Type 0 where
   pub at : ℕ
   pub is : position p ts ≡ Some at
 
-position-some : (p : Touch → Bool) (ts : List Touch) → list_any p ts ≡ true → Found p ts
+pub position-some : (p : Touch → Bool) (ts : List Touch) → list_any p ts ≡ true → Found p ts
 position-some p ts h =
     let inside : position_or_len p ts < length ts = within ts h in
     let test : nat_lt (position_or_len p ts) (length ts) ≡ true = grind (arith, nat_tests) in
@@ -131,7 +131,7 @@ unwritten-uncopied chain branches f h =
     copies-by_touches chain branches f ∙ ap (λ (m : Mode). copies_by_mode m (touches_of chain branches) f) (unwritten-shared (touches_of chain branches) f (writes-any chain branches f ∙ h))
 
 -- a branch that writes touches, and so does one that only reads; no branch does both
-touch-sum : (f : Field) (ts : List Touch) → count_by (has_write f) ts + count_by (only_reads f) ts ≡ count_by (has_touch f) ts
+pub touch-sum : (f : Field) (ts : List Touch) → count_by (has_write f) ts + count_by (only_reads f) ts ≡ count_by (has_touch f) ts
 touch-sum f [] = refl
 touch-sum f (t ∷ ts) =
     let rest = touch-sum f ts in
@@ -175,29 +175,3 @@ no-copy-spared chain branches f h =
     let w = writes-count chain branches f in
     let o : one_if (list_any (only_reads f) (touches_of chain branches)) ≡ one_if (list_any (λ b. branch_reads chain b f && not (branch_writes chain b f)) branches) = ap one_if (only-any chain branches f) in
     omega (arith, made, all, w, o)
-
--- what the mode of a field says holds
-pub mode-says : (touches : List Touch) (f : Field) → ModeSays touches f (mode_of touches f)
-unfolding mode_of
-mode-says touches f =
-    elim (list_any (has_write f) touches) as (λ w. list_any (has_write f) touches ≡ w → ModeSays touches f (option_map_or (written_mode touches f) (position (has_write f) touches) Shared)) [
-      | true ↦ λ e.
-          let first = position-some (has_write f) touches e in
-          let P : Option ℕ → Type 0 = λ o. ModeSays touches f (option_map_or (written_mode touches f) o Shared) in
-          subst P (sym first.is) (written first.at first.is)
-      | false ↦ λ e.
-          let none = position-none (has_write f) touches e in
-          let P : Option ℕ → Type 0 = λ o. ModeSays touches f (option_map_or (written_mode touches f) o Shared) in
-          subst P (sym none) e
-    ] refl
-  where
-    written : (first : ℕ) → position (has_write f) touches ≡ Some first → ModeSays touches f (written_mode touches f first)
-    written first is =
-        elim (count_by (has_touch f) touches == 1) as (λ a. (count_by (has_touch f) touches == 1) ≡ a → ModeSays touches f (cond a (Moved first) (Copied (cond (list_any (only_reads f) touches) None (Some first))))) [
-          | true ↦ λ e. (is, (Decides-eqb (count_by (has_touch f) touches) 1).0 e)
-          | false ↦ λ e.
-              elim (list_any (only_reads f) touches) as (λ b. list_any (only_reads f) touches ≡ b → ModeSays touches f (Copied (cond b None (Some first)))) [
-                | true ↦ λ g. g
-                | false ↦ λ g. (is, g)
-              ] refl
-        ] refl

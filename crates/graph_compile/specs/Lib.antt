@@ -1,5 +1,9 @@
+pub mod Causes
 pub mod Facts
+pub mod Handing
+pub mod Judging
 pub mod Lawful
 pub mod Owners
 pub mod Parts
+pub mod Positions
 pub mod Stages

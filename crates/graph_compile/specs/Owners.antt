@@ -1,4 +1,4 @@
--- A lawful stage seen position by position: which branch owns it.
+-- For proofs: a lawful stage seen position by position: which branch owns it.
 use Rattle.std.specs.Prelude.{◌≡◌, ◌≢◌, ◌+◌, ◌==◌, ◌<◌, ◌≤◌, ℕ, true, List, length, Some, filter, slice_get, IsTrue}
 use Rattle.std.specs.List.{position_or_len, range_with_len}
 use Rattle.packet_fields.specs.declared.field.Field.{Field}
@@ -9,8 +9,9 @@ use Rattle.action_profile.specs.declared.rights.Profile.{Profile}
 use Rattle.dependency_table.specs.Table.{pair_of, is_allowed}
 use Rattle.graph_compile.specs.declared.graph.Branch.{Branch}
 use Rattle.graph_compile.specs.declared.graph.Stage.{Stage}
-use Rattle.graph_compile.specs.Lawful.{holds, size}
+use Rattle.graph_compile.specs.Lawful.{size}
 use Rattle.graph_compile.specs.Parts.{profile_at}
+use Rattle.graph_compile.specs.Positions.{holds}
 
 -- the branch that owns a position: the first that holds it
 abbrev pub owner : List Branch → ℕ → ℕ

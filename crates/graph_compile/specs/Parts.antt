@@ -1,13 +1,11 @@
--- How a stage hands on the fields of a packet to its branches.
-use Rattle.std.specs.Prelude.{◌≡◌, ◌-◌, ℕ, Bool, true, false, List, Option, Some, None, map, filter, count_by, position, slice_get}
+-- Believed: how a stage hands on the fields of a packet to its branches.
+use Rattle.std.specs.Prelude.{◌-◌, ℕ, Bool, false, List, Option, map, filter, position, slice_get}
 use Rattle.std.specs.List.{list_any}
 use Rattle.std.specs.Option.{option_map_or}
 use Rattle.packet_fields.specs.declared.field.Field.{Field}
 use Rattle.action_profile.specs.FieldSets.{all_fields, fields}
-use Rattle.action_profile.specs.Modes.{has_write, has_touch, only_reads, modes_of}
+use Rattle.action_profile.specs.Modes.{modes_of}
 use Rattle.action_profile.specs.Profiles.{reads_of, writes_of}
-use Rattle.action_profile.specs.declared.parts.Mode.{Mode}
-use Rattle.action_profile.specs.declared.parts.Mode.TheVariants.{Shared, Moved, Copied}
 use Rattle.action_profile.specs.declared.parts.StageParts.{StageParts}
 use Rattle.action_profile.specs.declared.parts.Touch.{Touch}
 use Rattle.action_profile.specs.declared.rights.Profile.{Profile}
@@ -47,10 +45,3 @@ parts_of chain branches = record {
   modes = modes_of (touches_of chain branches);
   touches = touches_of chain branches;
 }
-
--- What a mode says of the branches. No branch writes a field that is shared; one is moved to the first branch that writes it, where no other touches it; of one that is copied the original is leased where some branch only reads it, and else goes to the first that writes it.
-abbrev pub ModeSays : List Touch → Field → Mode → Type 0
-ModeSays touches f Shared = list_any (has_write f) touches ≡ false
-ModeSays touches f (Moved k) = (position (has_write f) touches ≡ Some k) × (count_by (has_touch f) touches ≡ 1)
-ModeSays touches f (Copied None) = list_any (only_reads f) touches ≡ true
-ModeSays touches f (Copied (Some k)) = (position (has_write f) touches ≡ Some k) × (list_any (only_reads f) touches ≡ false)

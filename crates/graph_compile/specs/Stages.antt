@@ -1,4 +1,4 @@
--- Which functions of a chain run side by side: they are taken in chain order, each into the open stage where it can be.
+-- Believed: which functions of a chain run side by side: they are taken in chain order, each into the open stage where it can be.
 use Rattle.std.specs.Prelude.{ℕ, zero, suc, Bool, false, not, if◌then◌else◌, List, [], ◌∷◌, ◌++◌, length, Option, Some, map, fold, count_by}
 use Rattle.std.specs.List.{list_any, range_with_len}
 use Rattle.action_profile.specs.declared.rights.Profile.{Profile}

@@ -1,11 +1,13 @@
 //! Whether a graph may stand for a chain.
 
-ghost use Rattle.std.specs.Prelude.{◌≡◌, ◌==◌, ◌<◌, ◌≤◌, ◌+◌, ◌-◌, ◌^◌, ◌↔◌, suc, length, count_by, IsTrue, MatchOption, map};
-ghost use Rattle.std.specs.List.{list_any, list_all, range_with_len};
-ghost use Rattle.graph_compile.specs.Facts.{IsLawful};
-ghost use Rattle.graph_compile.specs.Lawful.{holds, size, rises, ends_below, stands_once, joins, is_branch, is_stage, IsLawfulStage, IsStaged};
-ghost use Rattle.action_profile.specs.Modes.{mode_of, modes_of};
+ghost use Rattle.std.specs.Prelude.{◌≡◌, ◌==◌, ◌≤◌, ◌↔◌, suc, length, IsTrue, All, nat_le, nat_lt, count_by};
+ghost use Rattle.std.specs.List.{list_any, list_all};
+ghost use Rattle.graph_compile.specs.Facts.{rises, positions_of, IsLawful, IsFull};
+ghost use Rattle.graph_compile.specs.Judging.{stands_once, stand_once, stand_within, are_below, joins, is_joined, is_above_last, are_in_order, IsSound, AreJudged};
+ghost use Rattle.graph_compile.specs.Lawful.{IsStaged};
+ghost use Rattle.action_profile.specs.Modes.{has_write, mode_of, modes_of};
 ghost use Rattle.graph_compile.specs.Parts.{touches_of, parts_of};
+ghost use Rattle.graph_compile.specs.Positions.{holds, stands};
 
 use crate::graph::{Branch, Graph, Stage};
 use crate::parts::{first_writer, is_alone, some_only_reads};
@@ -17,81 +19,139 @@ use packet_fields::Field;
 /// Whether a graph may stand for a chain, whose profiles come in chain order. Takes no memory.
 ///
 /// It may where each position from 1 to the number of functions stands once and no other number
-/// stands, positions rise within each branch, every position of a stage is below those of the
-/// stages that follow, no function is forbidden by the dependency table before another in a
+/// stands, positions rise within each branch, every position of a stage is below every position
+/// of the next, no function is forbidden by the dependency table before another in a
 /// different branch of its stage, and the parts of each stage are those that its branches need.
 pub fn lawful(graph: &Graph, profiles: &[Profile]) -> bool
     ensures facts { IsTrue result ↔ IsLawful graph.now profiles.now }
-    // The same stage by stage, each from the position of its first function on.
-    ensures staged { IsTrue result ↔ IsStaged profiles.now 1 graph.now.stages (suc (length profiles.now)) }
+    // Where no stage and no branch is empty, the same stage by stage, each from the position of its
+    // first function on.
+    ensures staged { IsFull graph.now → IsTrue result ↔ IsStaged profiles.now 1 graph.now.stages (suc (length profiles.now)) }
 {
-    are_staged(graph.stages.as_slice(), profiles)
+    are_lawful(graph.stages.as_slice(), profiles)
 }
 
-fn are_staged(stages: &[Stage], profiles: &[Profile]) -> bool
-    ensures { IsTrue result ↔ IsStaged profiles.now 1 stages.now (suc (length profiles.now)) }
+fn are_lawful(stages: &[Stage], profiles: &[Profile]) -> bool
+    ensures { IsTrue result ↔ AreJudged profiles.now stages.now }
 {
-    let mut first = 1;
-    'stages: for stage in stages {
-        let Some(next) = position_behind(first, stage.branches.as_slice()) else {
-            return false;
-        };
-        if !is_lawful_stage(profiles, first, next, stage) {
-            return false;
-        }
-        first = next;
-    }
-    first == profiles.len() + 1
+    let end = profiles.len() + 1;
+    stand_once(stages, end)
+        && stand_within(stages, end)
+        && are_in_order(stages)
+        && are_sound(stages, profiles)
 }
 
-// The position behind a stage that begins at this one, unless it is past every number.
-fn position_behind(first: usize, branches: &[Branch]) -> Option<usize>
-    ensures { MatchOption result (2 ^ 64 ≤ first + size branches.now) (λ next. next ≡ first + size branches.now) }
+// Does each position from 1 up to this end stand once?
+fn stand_once(stages: &[Stage], end: usize) -> bool
+    requires { 1 ≤ end }
+    ensures { result ≡ stand_once end stages.now }
 {
-    let mut next = first;
-    'branches: for branch in branches {
-        next = next.checked_add(branch.positions.as_slice().len())?;
-    }
-    Some(next)
+    (1..end).all(|position| stands_once(stages, position))
 }
 
-fn is_lawful_stage(profiles: &[Profile], first: usize, next: usize, stage: &Stage) -> bool
-    requires { next ≡ first + size stage.now.branches }
-    ensures { IsTrue result ↔ IsLawfulStage profiles.now first stage.now }
+// Does the position stand in one stage, and in one of its branches?
+fn stands_once(stages: &[Stage], position: usize) -> bool
+    ensures { result ≡ stands_once position stages.now }
 {
-    let branches = stage.branches.as_slice();
-    is_stage(profiles, first, next, branches) && are_parts(&stage.parts, profiles, branches)
+    holding_stages(stages, position) == 1 && stands_once_at_most(stages, position)
 }
 
-#[tactic(auto, unfolding(crate::specs::Lawful::is_stage))]
-fn is_stage(profiles: &[Profile], first: usize, next: usize, branches: &[Branch]) -> bool
-    requires { next ≡ first + size branches.now }
-    ensures { result ≡ is_stage profiles.now first branches.now }
+fn holding_stages(stages: &[Stage], position: usize) -> usize
+    ensures { result ≡ count_by (stands position) stages.now }
 {
-    are_branches(profiles, first, next, branches) && stands_once(first, next, branches)
+    stages
+        .iter()
+        .filter(|stage| stands(stage.branches.as_slice(), position))
+        .count()
 }
 
-fn are_branches(profiles: &[Profile], first: usize, next: usize, branches: &[Branch]) -> bool
-    ensures { result ≡ list_all (is_branch profiles.now first next) branches.now }
+fn stands_once_at_most(stages: &[Stage], position: usize) -> bool
+    ensures { result ≡ list_all (λ s. nat_le (count_by (holds position) s.branches) 1) stages.now }
+{
+    stages.iter().all(|stage| holding_branches(stage.branches.as_slice(), position) <= 1)
+}
+
+fn holding_branches(branches: &[Branch], position: usize) -> usize
+    ensures { result ≡ count_by (holds position) branches.now }
 {
     branches
         .iter()
-        .all(|branch| is_branch(profiles, first, next, branch))
+        .filter(|branch| holds(branch, position))
+        .count()
 }
 
-fn is_branch(profiles: &[Profile], first: usize, next: usize, branch: &Branch) -> bool
-    ensures { result ≡ is_branch profiles.now first next branch.now }
+fn stand_within(stages: &[Stage], end: usize) -> bool
+    ensures { result ≡ stand_within end stages.now }
 {
-    let positions = branch.positions.as_slice();
-    rises(first, positions)
-        && ends_below(next, positions)
-        && all_join(profiles, first, branch, positions)
+    let branches = stages.iter().flat_map(|stage| stage.branches.as_slice());
+    branches
+        .flat_map(|branch| branch.positions.as_slice())
+        .all(|q| 1 <= *q && (*q as usize) < end)
 }
 
-fn rises(first: usize, positions: &[u32]) -> bool
-    ensures { result ≡ rises first positions.now }
+// Is every position of a stage below every position of the next?
+fn are_in_order(stages: &[Stage]) -> bool
+    ensures { result ≡ are_in_order stages.now }
 {
-    let mut low = first;
+    (1..stages.len()).all(|index| is_above_last(stages, index))
+}
+
+fn is_above_last(stages: &[Stage], index: usize) -> bool
+    ensures { result ≡ is_above_last stages.now index }
+{
+    match (stages.get(index.saturating_sub(1)), stages.get(index)) {
+        (Some(last), Some(stage)) => {
+            are_below(last.branches.as_slice(), stage.branches.as_slice())
+        }
+        _ => true,
+    }
+}
+
+fn are_below(branches: &[Branch], others: &[Branch]) -> bool
+    ensures { result ≡ are_below branches.now others.now }
+{
+    branches
+        .iter()
+        .flat_map(|branch| branch.positions.as_slice())
+        .all(|q| is_below(*q, others))
+}
+
+fn is_below(position: u32, branches: &[Branch]) -> bool
+    ensures { result ≡ list_all (λ r. nat_lt position r) (positions_of branches.now) }
+{
+    branches
+        .iter()
+        .flat_map(|branch| branch.positions.as_slice())
+        .all(|r| position < *r)
+}
+
+fn are_sound(stages: &[Stage], profiles: &[Profile]) -> bool
+    ensures { IsTrue result ↔ All (IsSound profiles.now) stages.now }
+{
+    stages.iter().all(|stage| is_sound(stage, profiles))
+}
+
+fn is_sound(stage: &Stage, profiles: &[Profile]) -> bool
+    ensures { IsTrue result ↔ IsSound profiles.now stage.now }
+{
+    let branches = stage.branches.as_slice();
+    are_rising(branches)
+        && are_joined(profiles, branches)
+        && are_parts(&stage.parts, profiles, branches)
+}
+
+fn are_rising(branches: &[Branch]) -> bool
+    ensures { result ≡ list_all (λ b. rises 0 b.positions) branches.now }
+{
+    branches
+        .iter()
+        .all(|branch| rises(branch.positions.as_slice()))
+}
+
+fn rises(positions: &[u32]) -> bool
+    ensures { result ≡ rises 0 positions.now }
+{
+    let mut low = 0;
     'positions: for position in positions {
         let position = *position as usize;
         if position < low {
@@ -102,24 +162,36 @@ fn rises(first: usize, positions: &[u32]) -> bool
     true
 }
 
-fn ends_below(next: usize, positions: &[u32]) -> bool
-    ensures { result ≡ ends_below next positions.now }
+fn are_joined(profiles: &[Profile], branches: &[Branch]) -> bool
+    ensures { result ≡ list_all (is_joined profiles.now branches.now) branches.now }
 {
-    positions.iter().all(|q| (*q as usize) < next)
+    branches
+        .iter()
+        .all(|branch| is_joined(profiles, branches, branch))
 }
 
-// Does each position stand in one branch?
-fn stands_once(first: usize, next: usize, branches: &[Branch]) -> bool
-    requires { first ≤ next }
-    ensures { result ≡ stands_once first (next - first) branches.now }
+fn is_joined(profiles: &[Profile], branches: &[Branch], branch: &Branch) -> bool
+    ensures { result ≡ is_joined profiles.now branches.now branch.now }
 {
-    (first..next).all(|q| holders(branches, q) == 1)
+    let positions = branch.positions.as_slice();
+    positions
+        .iter()
+        .all(|r| joins(profiles, branches, branch, *r as usize))
 }
 
-fn holders(branches: &[Branch], position: usize) -> usize
-    ensures { result ≡ count_by (holds position) branches.now }
+// Does the branch hold each function of its stage that is forbidden before this one?
+fn joins(profiles: &[Profile], branches: &[Branch], branch: &Branch, position: usize) -> bool
+    ensures { result ≡ joins profiles.now branches.now branch.now position }
 {
-    branches.iter().filter(|b| holds(b, position)).count()
+    (0..position).all(|q| {
+        !is_forbidden(profiles, q, position) || holds(branch, q) || !stands(branches, q)
+    })
+}
+
+fn stands(branches: &[Branch], position: usize) -> bool
+    ensures { result ≡ list_any (holds position) branches.now }
+{
+    branches.iter().any(|branch| holds(branch, position))
 }
 
 fn holds(branch: &Branch, position: usize) -> bool
@@ -127,21 +199,6 @@ fn holds(branch: &Branch, position: usize) -> bool
 {
     let positions = branch.positions.as_slice();
     positions.iter().any(|q| *q as usize == position)
-}
-
-fn all_join(profiles: &[Profile], first: usize, branch: &Branch, positions: &[u32]) -> bool
-    ensures { result ≡ list_all (joins profiles.now first branch.now) positions.now }
-{
-    positions
-        .iter()
-        .all(|q| joins(profiles, first, branch, *q as usize))
-}
-
-// Does the branch hold each earlier function of the stage that is forbidden before this one?
-fn joins(profiles: &[Profile], first: usize, branch: &Branch, position: usize) -> bool
-    ensures { result ≡ joins profiles.now first branch.now position }
-{
-    (first..position).all(|q| !is_forbidden(profiles, q, position) || holds(branch, q))
 }
 
 #[tactic(auto, unfolding(crate::specs::Parts::parts_of))]

@@ -1,6 +1,6 @@
 //! What a graph and its parts are worth.
 
-ghost use Rattle.std.specs.Prelude.{◌≡◌, ◌≤◌, ◌+◌, ◌&&◌, not, suc, ℕ, true, false, List, length, if◌then◌else◌, count_by};
+ghost use Rattle.std.specs.Prelude.{◌≡◌, ◌≢◌, ◌<◌, ◌≤◌, ◌+◌, ◌&&◌, not, suc, ℕ, true, false, List, length, if◌then◌else◌, count_by, IsTrue, None, Some};
 ghost use Rattle.std.specs.List.{list_any};
 ghost use Rattle.packet_fields.specs.declared.field.Field.{Field};
 ghost use Rattle.action_profile.specs.declared.parts.Touch.{Touch};
@@ -8,16 +8,20 @@ ghost use Rattle.action_profile.specs.declared.rights.Profile.{Profile};
 ghost use Rattle.graph_compile.specs.declared.graph.Branch.{Branch};
 ghost use Rattle.graph_compile.specs.declared.graph.Graph.{Graph};
 ghost use Rattle.graph_compile.specs.declared.graph.Stage.{Stage};
-ghost use Rattle.graph_compile.specs.Facts.{IsLawful};
+ghost use Rattle.action_profile.specs.declared.parts.Mode.TheVariants.{Shared, Moved, Copied};
+ghost use Rattle.graph_compile.specs.Causes.{IsClosedForCause, IsJoinedForCause};
+ghost use Rattle.graph_compile.specs.Facts.{IsLawful, IsFull};
+ghost use Rattle.graph_compile.specs.Handing.{passes_at};
 ghost use Rattle.graph_compile.specs.Lawful.{IsLawfulStage, IsStaged};
 ghost use Rattle.graph_compile.specs.Owners.{HasOwners};
-ghost use Rattle.action_profile.specs.Modes.{mode_of, copies};
-ghost use Rattle.graph_compile.specs.Parts.{branch_reads, branch_writes, ModeSays, parts_of};
+ghost use Rattle.action_profile.specs.Modes.{has_write, has_touch, only_reads, mode_of, copies};
+ghost use Rattle.graph_compile.specs.Parts.{branch_reads, branch_writes, parts_of};
+ghost use Rattle.graph_compile.specs.Stages.{graph_of};
 
-/// A law: a graph is lawful for a chain just where its stages follow each other, each from the
-/// position of its first function on.
+/// A law: a graph whose stages follow each other, each from the position of its first function on, is
+/// lawful for a chain; and where no stage and no branch is empty, the stages of a lawful graph do.
 pub fn lawful_graph_is_staged()
-    ensures staged { (graph : Graph) → (chain : List Profile) → IsLawful graph chain → IsStaged chain 1 graph.stages (suc (length chain)) }
+    ensures staged { (graph : Graph) → (chain : List Profile) → IsFull graph → IsLawful graph chain → IsStaged chain 1 graph.stages (suc (length chain)) }
     ensures lawful { (graph : Graph) → (chain : List Profile) → IsStaged chain 1 graph.stages (suc (length chain)) → IsLawful graph chain }
 {}
 
@@ -45,7 +49,24 @@ pub fn no_copy_is_spared()
         copies (parts_of chain branches) f + 1 ≡ count_by (λ b. branch_writes chain b f) branches + (if list_any (λ b. branch_reads chain b f && not (branch_writes chain b f)) branches then 1 else 0) }
 {}
 
-/// A law: the mode of a field says the truth of the branches.
-pub fn modes_are_right()
-    ensures { (touches : List Touch) → (f : Field) → ModeSays touches f (mode_of touches f) }
+/// A law: how a field is handed on, by what each branch does with it. A field that no branch writes
+/// is shared. One that a branch writes and no other touches is moved there. Of any other the
+/// original is leased where a branch only reads it, and else goes to the first branch that writes it.
+pub fn fields_are_handed_on_by_rule()
+    ensures shared { (touches : List Touch) → (f : Field) → ((k : ℕ) → passes_at (has_write f) touches k ≡ false) → mode_of touches f ≡ Shared }
+    ensures moved { (touches : List Touch) → (f : Field) → (k : ℕ) → IsTrue (passes_at (has_write f) touches k) →
+        ((j : ℕ) → j ≢ k → passes_at (has_touch f) touches j ≡ false) → mode_of touches f ≡ Moved k }
+    ensures leased { (touches : List Touch) → (f : Field) → (j k : ℕ) → IsTrue (passes_at (has_write f) touches j) →
+        IsTrue (passes_at (only_reads f) touches k) → mode_of touches f ≡ Copied None }
+    ensures first { (touches : List Touch) → (f : Field) → (j k : ℕ) → IsTrue (passes_at (has_write f) touches j) →
+        ((i : ℕ) → i < j → passes_at (has_write f) touches i ≡ false) → j ≢ k → IsTrue (passes_at (has_touch f) touches k) →
+        ((i : ℕ) → passes_at (only_reads f) touches i ≡ false) → mode_of touches f ≡ Copied (Some j) }
+{}
+
+/// A law: why the functions of a chain stand where they do in its graph. A function that isn't the
+/// first of its branch has one before it in the branch that is forbidden before it, and a stage is
+/// closed only where two of its branches hold a function that is forbidden before the next.
+pub fn functions_are_placed_for_cause()
+    ensures joined { (chain : List Profile) → IsJoinedForCause chain (graph_of chain).stages }
+    ensures closed { (chain : List Profile) → IsClosedForCause chain (graph_of chain).stages }
 {}

@@ -8,11 +8,14 @@
 //!
 //! Each field of a packet is shared by the branches that only read it, moved to the one branch that
 //! touches it, or copied for those that write it. [`copies`] counts the copies, and
-//! [`no_copy_is_spared`] says that there is none too many.
+//! [`no_copy_is_spared`] says that there is none too many. [`functions_are_placed_for_cause`] and
+//! [`fields_are_handed_on_by_rule`] say of stages and of fields what they come to by themselves.
 //!
 //! `specs/Facts.antt` says what a lawful graph is. [`lawful_graph_is_staged`] and
 //! [`lawful_stage_has_owners`] say the same stage by stage and position by position, for proofs that
-//! go over the functions in chain order.
+//! go over the functions in chain order. A stage without a branch may stand in a lawful graph, and
+//! then the stages before and behind it are held against nothing; no stage that [`compile`] makes is
+//! empty.
 //!
 //! How a packet is dealt to branches and put together again is left out.
 #![tactic(auto)]
@@ -24,15 +27,13 @@ mod lawfulness;
 mod laws;
 mod parts;
 mod placing;
-#[cfg(test)]
-mod tests;
 mod touching;
 
 pub use copying::copies;
 pub use graph::{Branch, Graph, Stage};
 pub use lawfulness::lawful;
 pub use laws::{
-    lawful_graph_is_staged, lawful_stage_has_owners, modes_are_right, no_copy_is_spared,
-    stages_rise, unwritten_is_not_copied,
+    fields_are_handed_on_by_rule, functions_are_placed_for_cause, lawful_graph_is_staged,
+    lawful_stage_has_owners, no_copy_is_spared, stages_rise, unwritten_is_not_copied,
 };
 pub use placing::compile;

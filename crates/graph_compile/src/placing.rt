@@ -2,7 +2,8 @@
 
 ghost use Rattle.std.specs.Prelude.{◌≡◌, ◌<◌, ◌≤◌, ◌+◌, ◌^◌, suc, length, map, count_by, IfOk};
 ghost use Rattle.graph_compile.specs.declared.draft.Draft.{Draft};
-ghost use Rattle.graph_compile.specs.Facts.{IsLawful, IsFull, IsClosedForCause};
+ghost use Rattle.graph_compile.specs.Causes.{IsClosedForCause};
+ghost use Rattle.graph_compile.specs.Facts.{IsLawful, IsFull};
 ghost use Rattle.graph_compile.specs.Lawful.{IsStaged};
 ghost use Rattle.graph_compile.specs.Stages.{is_forbidden, holds_back, alone, grown, stage_of, placed, finished, graph_of};
 

@@ -8,8 +8,7 @@ use Rattle.chain_walk.specs.FieldWalk.{End, End.Out, End.Gone}
 use Rattle.chain_walk.specs.Shown.{Values}
 use Rattle.chain_walk.specs.Step.{Behaviour, stepped, is_drop}
 use Rattle.chain_walk.specs.declared.fixed.Fixed.{Fixed}
-use Rattle.graph_compile.specs.Facts.{stands}
-use Rattle.graph_compile.specs.Lawful.{holds}
+use Rattle.graph_compile.specs.Positions.{holds, stands}
 use Rattle.graph_compile.specs.declared.graph.Branch.{Branch}
 use Rattle.graph_compile.specs.declared.graph.Stage.{Stage}
 use Rattle.graph_law.specs.Branches.{Version, Arrival, Arrival.Live, Arrival.Nil, Ran, dealt, met, in_turn, moved_arrival, written_at}

@@ -1,4 +1,4 @@
--- The functions of a branch, one after another on the branch's version of a packet.
+-- For proofs: the functions of a branch, one after another on the branch's version of a packet.
 use Rattle.std.specs.Prelude.{ℕ, ◌-◌, List, [], ◌∷◌, set, slice_get, if◌then◌else◌, Option, Some, None}
 use Rattle.packet_fields.specs.Writing.{over}
 use Rattle.packet_fields.specs.declared.field.Field.{Field}

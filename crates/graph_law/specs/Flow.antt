@@ -1,4 +1,4 @@
--- A packet goes through the stages of a graph: in each, every branch has a version of it, and the versions are merged.
+-- For proofs: a packet goes through the stages of a graph: in each, every branch has a version of it, and the versions are merged.
 use Rattle.std.specs.Prelude.{List, [], ◌∷◌}
 use Rattle.action_profile.specs.declared.parts.Touch.{Touch}
 use Rattle.chain_walk.specs.Shown.{Values}

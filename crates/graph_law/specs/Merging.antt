@@ -1,4 +1,4 @@
--- What comes of a packet behind a stage.
+-- For proofs: what comes of a packet behind a stage.
 use Rattle.std.specs.Prelude.{ℕ, min, nat_lt, List, [], ◌∷◌, if◌then◌else◌, Option, Some, None}
 use Rattle.chain_walk.specs.Shown.{Values}
 use Rattle.chain_walk.specs.FieldWalk.{End, End.Out, End.Gone}

@@ -19,7 +19,8 @@ use Rattle.chain_walk.specs.FieldWalk.{End, End.Out, End.Gone, Ended, walk_field
 use Rattle.chain_walk.specs.declared.fixed.Fixed.{Fixed}
 use Rattle.chain_walk.specs.declared.walk.Fate.{Fate}
 use Rattle.chain_walk.specs.declared.walk.Fate.TheVariants as fates
-use Rattle.graph_compile.specs.Facts.{IsLawful, IsFull, stands}
+use Rattle.graph_compile.specs.Facts.{IsLawful, IsFull}
+use Rattle.graph_compile.specs.Positions.{stands}
 use Rattle.graph_compile.specs.Lawful.{size, IsLawfulStage, IsStaged}
 use Rattle.graph_compile.specs.declared.graph.Branch.{Branch}
 use Rattle.graph_compile.specs.declared.graph.Graph.{Graph}
@@ -61,7 +62,7 @@ pub record IsFlowing {F : Type 0} (b : Behaviour F) (graph : Graph) (time : ℕ)
 
 -- the laws of graphs that a run rests on
 abbrev pub LawfulIsStaged : Type 0
-LawfulIsStaged = (graph : Graph) (chain : List Profile) → IsLawful graph chain → IsStaged chain 1 graph.stages (suc (length chain))
+LawfulIsStaged = (graph : Graph) (chain : List Profile) → IsFull graph → IsLawful graph chain → IsStaged chain 1 graph.stages (suc (length chain))
 
 abbrev pub Rising : Type 0
 Rising = (chain : List Profile) (first : ℕ) (stages : List Stage) (next : ℕ) → IsStaged chain first stages next → first ≤ next
@@ -96,7 +97,7 @@ flow_begins b graph time frame first taggers whole tally law formed running adde
       way = record {
         at = 1;
         position = omega arith;
-        staged_on = law graph (map b.profile first) running.lawful;
+        staged_on = law graph (map b.profile first) running.full running.lawful;
         goes = record {
           formed = subst AreWellFormed (sym values) (formed frame);
           room = subst (λ m. IfSome (m Tag) (λ tags. length tags.bytes + 4 * adders_from (map b.profile first) 1 ≤ tags.room)) (sym parts)

@@ -17,7 +17,8 @@ use Rattle.chain_walk.specs.FieldWalk.{End, End.Out, End.Gone, Ended, walk_field
 use Rattle.chain_walk.specs.declared.fixed.Fixed.{Fixed}
 use Rattle.chain_walk.specs.declared.walk.Fate.{Fate}
 use Rattle.chain_walk.specs.declared.walk.Fate.TheVariants as fates
-use Rattle.graph_compile.specs.Facts.{IsLawful, IsFull, stands}
+use Rattle.graph_compile.specs.Facts.{IsLawful, IsFull}
+use Rattle.graph_compile.specs.Positions.{stands}
 use Rattle.graph_compile.specs.Lawful.{IsStaged}
 use Rattle.graph_compile.specs.declared.graph.Graph.{Graph}
 use Rattle.graph_compile.specs.declared.graph.Stage.{Stage}
@@ -114,7 +115,7 @@ cut_here : {F : Type 0} (b : Behaviour F) (graph : Graph) (time : ℕ) (frame : 
 cut_here {F} b graph time frame first now i whole old new gone running way walks =
     let e : Ended F = flow b (fixed_of time frame) graph.stages (fields_of frame) first in
     ap (λ w. reached graph.stages w.fate) walks
-    ∙ reached_cut graph (map b.profile first) i frame e.end running.lawful (λ p is. gone b (fixed_of time frame) (drop i graph.stages) now (values_in whole) p (ap (λ r. r.end) way.same ∙ is))
+    ∙ reached_cut graph (map b.profile first) i frame e.end running.full running.lawful (λ p is. gone b (fixed_of time frame) (drop i graph.stages) now (values_in whole) p (ap (λ r. r.end) way.same ∙ is))
     ∙ ap (λ w. take i graph.stages ++ reached (drop i graph.stages) w.fate) (sym walks)
 
 -- the counts, where the packet reaches no more stages than these

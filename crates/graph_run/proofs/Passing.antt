@@ -9,7 +9,7 @@ use Rattle.chain_walk.specs.Walk.{walk}
 use Rattle.chain_walk.specs.FieldWalk.{End, End.Out, End.Gone}
 use Rattle.chain_walk.specs.declared.fixed.Fixed.{Fixed}
 use Rattle.chain_walk.specs.declared.walk.Fate.TheVariants as fates
-use Rattle.graph_compile.specs.Facts.{stands}
+use Rattle.graph_compile.specs.Positions.{stands}
 use Rattle.graph_compile.specs.declared.graph.Graph.{Graph}
 use Rattle.graph_compile.specs.declared.graph.Stage.{Stage}
 use Rattle.graph_law.specs.Flow.{staged}

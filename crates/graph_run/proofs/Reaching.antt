@@ -10,9 +10,11 @@ use Rattle.action_profile.specs.declared.rights.Profile.{Profile}
 use Rattle.chain_walk.specs.FieldWalk.{End, End.Out, End.Gone, fate_by}
 use Rattle.chain_walk.specs.declared.walk.Fate.{Fate}
 use Rattle.chain_walk.specs.declared.walk.Fate.TheVariants as fates
-use Rattle.graph_compile.specs.Facts.{IsLawful, stands}
+use Rattle.graph_compile.specs.Facts.{IsLawful, IsFull}
+use Rattle.graph_compile.specs.Positions.{stands}
 use Rattle.graph_compile.specs.declared.graph.Graph.{Graph}
 use Rattle.graph_compile.specs.declared.graph.Stage.{Stage}
+use Rattle.graph_compile.proofs.FiveFacts.{lawful-rises}
 use Rattle.packet_version.specs.Tallies.{count_of, raised}
 use Rattle.graph_run.specs.Counting.{reached, copies_in, RaisesAll, RaisesUpTo}
 
@@ -50,19 +52,19 @@ get_drop [] (suc i) j = sym (slice_get_past {X = _} [] (suc i + j) (omega arith)
 get_drop (x ∷ xs) (suc i) j = get_drop xs i j ∙ ap (slice_get (x ∷ xs)) (let e : suc (i + j) ≡ suc i + j = omega arith in e)
 
 -- a packet that was dropped in a later stage was dropped in none before
-pub not_in : (graph : Graph) (chain : List Profile) (i p : ℕ) → IsLawful graph chain → list_any (stands p) (drop i graph.stages) ≡ true → NotIn i graph.stages p
-not_in graph chain i p lawful some = λ k s less at. by_test k s less at (some_at p (drop i graph.stages) some) (stands p s) refl
+pub not_in : (graph : Graph) (chain : List Profile) (i p : ℕ) → IsFull graph → IsLawful graph chain → list_any (stands p) (drop i graph.stages) ≡ true → NotIn i graph.stages p
+not_in graph chain i p full lawful some = λ k s less at. by_test k s less at (some_at p (drop i graph.stages) some) (stands p s) refl
   where
     by_test : (k : ℕ) (s : Stage) → k < i → slice_get graph.stages k ≡ Some s → ((j : ℕ) × (t : Stage) × (slice_get (drop i graph.stages) j ≡ Some t) × (stands p t ≡ true)) → (b : Bool) → stands p s ≡ b → stands p s ≡ false
     by_test k s less at later false is = is
     by_test k s less at later true is =
-        absurd (let l : p < p = lawful.below k (i + later.0) s later.1 (omega arith) at (sym (get_drop graph.stages i later.0) ∙ later.2) p p is later.3 in omega arith)
+        absurd (let l : p < p = lawful-rises graph chain full lawful k (i + later.0) s later.1 (omega arith) at (sym (get_drop graph.stages i later.0) ∙ later.2) p p is later.3 in omega arith)
 
 -- so the stages that it reaches are those before, and those from there on that it reaches
-pub reached_cut : (graph : Graph) (chain : List Profile) (i : ℕ) (frame : List ℕ) (end : End) → IsLawful graph chain → ((p : ℕ) → end ≡ Gone p → list_any (stands p) (drop i graph.stages) ≡ true) →
+pub reached_cut : (graph : Graph) (chain : List Profile) (i : ℕ) (frame : List ℕ) (end : End) → IsFull graph → IsLawful graph chain → ((p : ℕ) → end ≡ Gone p → list_any (stands p) (drop i graph.stages) ≡ true) →
     reached graph.stages (fate_by frame end) ≡ take i graph.stages ++ reached (drop i graph.stages) (fate_by frame end)
-reached_cut graph chain i frame (Out values) lawful later = cut_out graph.stages i _
-reached_cut graph chain i frame (Gone p) lawful later = cut_gone graph.stages i p (not_in graph chain i p lawful (later p refl))
+reached_cut graph chain i frame (Out values) full lawful later = cut_out graph.stages i _
+reached_cut graph chain i frame (Gone p) full lawful later = cut_gone graph.stages i p (not_in graph chain i p full lawful (later p refl))
 
 pub copies_append : (xs ys : List Stage) (f : Field) → copies_in (xs ++ ys) f ≡ copies_in xs f + copies_in ys f
 copies_append [] ys f = omega arith

@@ -7,7 +7,7 @@ use Rattle.action_profile.specs.Modes.{copies}
 use Rattle.chain_walk.specs.Packets.{Packet}
 use Rattle.chain_walk.specs.declared.walk.Fate.{Fate}
 use Rattle.chain_walk.specs.declared.walk.Fate.TheVariants.{Out, Gone}
-use Rattle.graph_compile.specs.Facts.{stands}
+use Rattle.graph_compile.specs.Positions.{stands}
 use Rattle.graph_compile.specs.declared.graph.Stage.{Stage}
 use Rattle.packet_version.specs.Tallies.{count_of, raised}
 

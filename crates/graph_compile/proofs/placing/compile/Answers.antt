@@ -1,5 +1,6 @@
 use Rattle.std.proofs.Common.{suc, length}
-use Rattle.graph_compile.specs.Facts.{IsLawful, IsFull, IsClosedForCause}
+use Rattle.graph_compile.specs.Causes.{IsClosedForCause}
+use Rattle.graph_compile.specs.Facts.{IsLawful, IsFull}
 use Rattle.graph_compile.specs.Lawful.{IsStaged}
 use Rattle.graph_compile.specs.Stages.{graph_of}
 use Rattle.graph_compile.proofs.Filling.{graph-full, graph-caused}

@@ -9,4 +9,4 @@ returns g c = λ b fixed graph functions values law lawful full. graph_fits b fi
       owners = c.lawful_stage_has_owners.ensures;
       rises = c.stages_rise.ensures;
     })
-    (c.lawful_graph_is_staged.ensures.staged graph (map b.profile functions) lawful)
+    (c.lawful_graph_is_staged.ensures.staged graph (map b.profile functions) full lawful)
