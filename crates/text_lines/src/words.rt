@@ -1,12 +1,12 @@
 //! Words, each after one space.
-ghost use Rattle.std.specs.Prelude.{◌≡◌, ◌++◌, OnOk, codes};
-ghost use Rattle.std.specs.List.{flat_map};
+ghost use Rattle.std.specs.Prelude.{◌≡◌, ◌++◌, OnOk, codes, map};
+ghost use Rattle.text_lines.specs.Texts.{spaced};
 
 use std::alloc::AllocError;
 
 /// Adds words, each after one space.
 pub fn push_words(text: &mut Vec<u8>, words: &[&[u8]]) -> Result<(), AllocError>
-    ensures { OnOk result (text.new.items ≡ text.old.items ++ flat_map (λ word. codes " " ++ word.now) words.now) }
+    ensures { OnOk result (text.new.items ≡ text.old.items ++ spaced (map (λ word. word.now) words.now)) }
 {
     'words: for word in words {
         push_word(text, word)?;
