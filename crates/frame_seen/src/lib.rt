@@ -7,7 +7,5 @@
 #![tactic(auto)]
 
 mod seeing;
-#[cfg(test)]
-mod tests;
 
 pub use seeing::{seen, seen_address, seen_port, seen_tags};

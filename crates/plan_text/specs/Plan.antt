@@ -1,4 +1,4 @@
--- The plan of a chain, as text.
+-- Believed: The plan of a chain, as text.
 use Rattle.std.specs.Prelude.{ℕ, suc, ◌+◌, ◌-◌, List, [], ◌∷◌, ◌++◌, codes, map, slice_get, slice_index_or, if◌then◌else◌}
 use Rattle.std.specs.Fmt.{decimal}
 use Rattle.std.specs.List.{flat_map, list_any}
@@ -15,9 +15,10 @@ use Rattle.action_profile.specs.Modes.{has_touch, copies}
 use Rattle.graph_compile.specs.Stages.{graph_of}
 use Rattle.graph_compile.specs.declared.graph.Branch.{Branch}
 use Rattle.graph_compile.specs.declared.graph.Stage.{Stage}
-use Rattle.policy_judge.specs.Names.{name_at, names_at}
 use Rattle.policy_text.specs.declared.policy.ChainPolicy.{ChainPolicy}
 use Rattle.policy_text.specs.declared.policy.FunctionDecl.{FunctionDecl}
+use Rattle.policy_text.specs.Names.{name_at, names_at}
+use Rattle.text_lines.specs.Texts.{line_of, spaced}
 
 -- the profile of the function at a place, counted from 0 as declared
 abbrev pub profile_in : List FunctionDecl → ℕ → Profile
@@ -39,7 +40,7 @@ name_in functions order position = option_map_or (name_at functions) (slice_get 
 -- `branch J F G ..`
 unfoldable pub branch_text : List FunctionDecl → List ℕ → ℕ → Branch → List ℕ
 branch_text functions order number branch =
-    codes "branch " ++ decimal number ++ flat_map (λ p. codes " " ++ name_in functions order p) branch.positions ++ codes "\n"
+    line_of (codes "branch " ∷ decimal number ∷ spaced (map (name_in functions order) branch.positions) ∷ [])
 
 -- how a field is handed on: shared, moved to a branch, counted from 1, or copied so often
 abbrev pub mode_text : Mode → ℕ → List ℕ
@@ -49,7 +50,7 @@ mode_text (Copied original) count = codes " copied " ++ decimal count
 
 -- `part FIELD ..`
 unfoldable pub part_line : StageParts → Field → List ℕ
-part_line parts f = codes "part " ++ name_of f ++ mode_text (slice_index_or parts.modes (number_of f) Shared) (copies parts f) ++ codes "\n"
+part_line parts f = line_of (codes "part " ∷ name_of f ∷ mode_text (slice_index_or parts.modes (number_of f) Shared) (copies parts f) ∷ [])
 
 -- only of a field that some branch touches
 abbrev pub part_text : StageParts → Field → List ℕ
@@ -58,9 +59,9 @@ part_text parts f = if list_any (has_touch f) parts.touches then part_line parts
 -- `stage K`, its branches, and the parts of its fields, in the fields' order
 unfoldable pub stage_text : List FunctionDecl → List ℕ → ℕ → Stage → List ℕ
 stage_text functions order number stage =
-    codes "stage " ++ decimal number ++ codes "\n" ++ numbered (branch_text functions order) 1 stage.branches ++ flat_map (part_text stage.parts) all_fields
+    line_of (codes "stage " ∷ decimal number ∷ []) ++ numbered (branch_text functions order) 1 stage.branches ++ flat_map (part_text stage.parts) all_fields
 
 -- the line of a chain, that of its functions in chain order, and its stages
 unfoldable pub chain_plan : ChainPolicy → List ℕ → List ℕ
 chain_plan chain order =
-    codes "chain " ++ chain.name ++ codes "\norder" ++ names_at chain.functions order ++ codes "\n" ++ numbered (stage_text chain.functions order) 1 (graph_of (profiles_in chain.functions order)).stages
+    line_of (codes "chain " ∷ chain.name ∷ []) ++ line_of (codes "order" ∷ spaced (names_at chain.functions order) ∷ []) ++ numbered (stage_text chain.functions order) 1 (graph_of (profiles_in chain.functions order)).stages

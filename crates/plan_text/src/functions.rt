@@ -3,8 +3,7 @@ ghost use Rattle.std.specs.Prelude.{◌≡◌, ◌<◌, ◌≤◌, length, All, 
 ghost use Rattle.plan_text.specs.Plan.{profile_in, profiles_in, name_in};
 
 use action_profile::{Profile, profile};
-use policy_judge::name_at;
-use policy_text::FunctionDecl;
+use policy_text::{FunctionDecl, name_at};
 use std::alloc::{AllocError, Global};
 
 /// The profiles of the functions in chain order, which are counted from 0 as declared.

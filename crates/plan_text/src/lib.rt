@@ -10,7 +10,5 @@ mod branches;
 mod functions;
 mod parts;
 mod plan;
-#[cfg(test)]
-mod tests;
 
 pub use plan::put_chain;

@@ -5,11 +5,12 @@ ghost use Rattle.action_profile.specs.FieldSets.{all_fields};
 ghost use Rattle.action_profile.specs.Modes.{has_touch};
 ghost use Rattle.plan_text.specs.Plan.{part_line, part_text, mode_text};
 
-use crate::branches::put_number;
 use action_profile::{Mode, StageParts, all_fields};
 use graph_compile::copies;
 use packet_fields::Field;
 use std::alloc::{AllocError, Global};
+use text_lines::Piece::{Number, Text};
+use text_lines::push_pieces;
 
 /// Adds the line of each field that some branch touches.
 pub(crate) fn put_parts(
@@ -57,8 +58,7 @@ fn put_part_line(
 ) -> Result<(), AllocError>
     ensures { OnOk result (out.new.items ≡ out.old.items ++ part_line parts.now field) }
 {
-    out.extend_from_slice(b"part ".as_slice())?;
-    out.extend_from_slice(field.name().as_bytes())?;
+    push_pieces(alloc, out, &[Text(b"part "), Text(field.name().as_bytes())])?;
     put_mode(
         alloc,
         out,
@@ -76,12 +76,10 @@ fn put_mode(alloc: Global, out: &mut Vec<u8>, mode: Mode, count: usize) -> Resul
     match mode {
         Mode::Shared => out.extend_from_slice(b" shared".as_slice()),
         Mode::Moved(branch) => {
-            out.extend_from_slice(b" moved ".as_slice())?;
-            put_number(alloc, out, branch as usize + 1)
+            push_pieces(alloc, out, &[Text(b" moved "), Number(branch as u64 + 1)])
         }
         Mode::Copied { .. } => {
-            out.extend_from_slice(b" copied ".as_slice())?;
-            put_number(alloc, out, count)
+            push_pieces(alloc, out, &[Text(b" copied "), Number(count as u64)])
         }
     }
 }

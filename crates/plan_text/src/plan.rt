@@ -2,13 +2,14 @@
 ghost use Rattle.std.specs.Prelude.{◌≡◌, ◌<◌, ◌≤◌, ◌+◌, ◌++◌, length, All, OnOk};
 ghost use Rattle.plan_text.specs.Plan.{chain_plan, numbered, stage_text};
 
-use crate::branches::{put_branches, put_number};
+use crate::branches::put_branches;
 use crate::functions::profiles_in;
 use crate::parts::put_parts;
 use graph_compile::{Stage, compile};
-use policy_judge::push_names;
-use policy_text::{ChainPolicy, FunctionDecl};
+use policy_text::{ChainPolicy, FunctionDecl, names_at};
 use std::alloc::{AllocError, Global};
+use text_lines::Piece::{Number, Text};
+use text_lines::{push_line, push_words};
 
 /// Adds the plan of a chain. The order has the chain's functions, counted from 0 as declared, in the
 /// order in which a packet passes them. The one error is want of memory; nothing is said of `out`
@@ -27,10 +28,9 @@ pub fn put_chain(
     let functions = chain.functions.as_slice();
     let profiles = profiles_in(alloc, functions, order)?;
     let graph = compile(alloc, &profiles)?;
-    out.extend_from_slice(b"chain ".as_slice())?;
-    out.extend_from_slice(chain.name.bytes())?;
-    out.extend_from_slice(b"\norder".as_slice())?;
-    push_names(out, functions, order)?;
+    push_line(alloc, out, &[Text(b"chain "), Text(chain.name.bytes())])?;
+    out.extend_from_slice(b"order".as_slice())?;
+    push_words(out, &names_at(alloc, functions, order)?)?;
     out.push(b'\n')?;
     put_stages(alloc, out, functions, order, graph.stages.as_slice())
 }
@@ -62,9 +62,7 @@ fn put_stage(
 ) -> Result<(), AllocError>
     ensures { OnOk result (out.new.items ≡ out.old.items ++ stage_text functions.now order.now number stage.now) }
 {
-    out.extend_from_slice(b"stage ".as_slice())?;
-    put_number(alloc, out, number)?;
-    out.push(b'\n')?;
+    push_line(alloc, out, &[Text(b"stage "), Number(number as u64)])?;
     put_branches(alloc, out, functions, order, stage.branches.as_slice())?;
     put_parts(alloc, out, &stage.parts)
 }

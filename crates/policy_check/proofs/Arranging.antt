@@ -81,7 +81,7 @@ range-below a zero = tt
 range-below a (suc n) =
     (omega arith, all-map (λ x. x < a + 1 + n) (λ x. x < a + suc n) (range_with_len (a + 1) n) (λ x l. omega arith) (range-below (a + 1) n))
 
-below-count : (count : ℕ) → AllByRecursion (λ x. x < count) (range_with_len 0 count)
+pub below-count : (count : ℕ) → AllByRecursion (λ x. x < count) (range_with_len 0 count)
 below-count count = all-map (λ x. x < 0 + count) (λ x. x < count) (range_with_len 0 count) (λ x l. omega arith) (range-below 0 count)
 
 pub order-below : (edge : Edges) (count : ℕ) → AllByRecursion (λ x. x < count) (order_of edge count)

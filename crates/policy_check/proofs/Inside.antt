@@ -19,7 +19,7 @@ AreDistinct (x ∷ xs) = (inside x xs ≡ false) × AreDistinct xs
 abbrev pub AreInside : List ℕ → List ℕ → Type 0
 AreInside ys xs = AllByRecursion (λ x. inside x ys ≡ true) xs
 
-inside-without : (z x : ℕ) (ys : List ℕ) → (z == x) ≡ false → inside z (without x ys) ≡ inside z ys
+pub inside-without : (z x : ℕ) (ys : List ℕ) → (z == x) ≡ false → inside z (without x ys) ≡ inside z ys
 inside-without z x [] e = refl
 inside-without z x (y ∷ ys) e =
     let rest = inside-without z x ys e in

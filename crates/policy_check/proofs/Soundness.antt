@@ -13,12 +13,13 @@ use Rattle.policy_text.specs.declared.policy.Statement.{Statement}
 use Rattle.policy_text.specs.declared.policy.Statement.TheVariants.{Priority}
 use Rattle.policy_check.specs.declared.fault.CheckFault.{CheckFault}
 use Rattle.policy_check.specs.declared.fault.CheckFault.TheVariants.{Cycle, PriorityForbidden, OutOfMemory}
-use Rattle.policy_check.specs.Arrangements.{IsArrangement, IsSoundFault}
+use Rattle.policy_check.specs.Arrangements.{IsArrangement, IsSoundFault, TakesEarliest}
 use Rattle.policy_check.specs.Checked.{order_of, left_of, verdict, answer_of, Answers}
 use Rattle.policy_check.specs.Cycles.{named_cycle}
 use Rattle.policy_check.specs.Edges.{Edges, edges_of}
 use Rattle.policy_check.specs.Refusals.{refused, refusal, first_refusal}
 use Rattle.policy_check.proofs.Arranging.{arranged}
+use Rattle.policy_check.proofs.Choosing.{takes_earliest}
 use Rattle.policy_check.proofs.Naming.{named_cycle_real, named_cycle_below, named_cycle_first}
 use Rattle.policy_check.specs.declared.fault.Order.{Order}
 
@@ -38,6 +39,23 @@ due-arranged chain order e =
 pub order_arranged : (chain : ChainPolicy) (result : Result Order CheckFault) → Answers result (answer_of chain) → IfOk result (λ order. IsArrangement (edges_of chain.statements) (length chain.functions) order.positions)
 order_arranged chain (Ok order) h = due-arranged chain order h
 order_arranged chain (Err fault) h = tt
+
+due-taken : (chain : ChainPolicy) (order : Order) → answer_of chain ≡ Ok order → order_of (edges_of chain.statements) (length chain.functions) ≡ order.positions
+unfolding answer_of
+due-taken chain order e =
+    let edge = edges_of chain.statements in
+    let count = length chain.functions in
+    elim (left_of edge count) as (λ l. verdict edge l (first_refusal chain.functions chain.statements) (order_of edge count) ≡ Ok order → order_of edge count ≡ order.positions) [
+      | [] ↦ λ d. elim (first_refusal chain.functions chain.statements) as (λ r. verdict edge [] r (order_of edge count) ≡ Ok order → order_of edge count ≡ order.positions) [
+        | None ↦ λ f. cc
+        | Some fault ↦ λ f. absurd cc
+      ] d
+      | x ∷ l ↦ λ d. absurd cc
+    ] e
+
+pub order_earliest : (chain : ChainPolicy) (result : Result Order CheckFault) → Answers result (answer_of chain) → IfOk result (λ order. TakesEarliest (edges_of chain.statements) (length chain.functions) order.positions)
+order_earliest chain (Ok order) h = let P : List ℕ → Type 0 = λ o. TakesEarliest (edges_of chain.statements) (length chain.functions) o in subst P (due-taken chain order h) (takes_earliest (edges_of chain.statements) (length chain.functions))
+order_earliest chain (Err fault) h = tt
 
 refused-sound : (edge : Edges) (count high low line : ℕ) (answer : Answer) (fault : CheckFault) → high < count → low < count → refused high low line answer ≡ Some fault → IsSoundFault edge count fault
 refused-sound edge count high low line (Forbidden first second) fault h l e =

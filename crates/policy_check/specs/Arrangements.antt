@@ -1,5 +1,5 @@
--- What an order and a cycle are, whichever way they are found.
-use Rattle.std.specs.Prelude.{◌<◌, ◌≤◌, ℕ, IsTrue, All, List, [], ◌∷◌, ◌++◌, length, slice_index, IsPermutation}
+-- For proofs: What an order and a cycle are, whichever way they are found.
+use Rattle.std.specs.Prelude.{◌<◌, ◌≤◌, ℕ, IsTrue, All, List, [], ◌∷◌, ◌++◌, length, take, slice_index, Contains, IsPermutation}
 use Rattle.std.specs.List.{range_with_len}
 use Rattle.policy_check.specs.declared.fault.CheckFault.{CheckFault}
 use Rattle.policy_check.specs.declared.fault.CheckFault.TheVariants.{Cycle, PriorityForbidden, OutOfMemory}
@@ -35,3 +35,18 @@ abbrev pub IsSoundFault : Edges → ℕ → CheckFault → Type 0
 IsSoundFault edge count (Cycle names) = IsCycle edge names × All (λ x. x < count) names × IsEarliestFirst names
 IsSoundFault edge count (PriorityForbidden high low line first second) = (high < count) × (low < count)
 IsSoundFault edge count OutOfMemory = Unit {0}
+
+-- behind this front the function may be taken: it doesn't stand in it, and each function that has an edge to it does
+pub record IsFree (edge : Edges) (count : ℕ) (front : List ℕ) (x : ℕ) : Type 0 where
+  pub within : x < count
+  pub waits : ¬ Contains front x
+  pub follows : (a : ℕ) → a < count → IsTrue (edge a x) → Contains front a
+
+-- it may be taken, and none that may be is declared before it
+pub record IsEarliestFree (edge : Edges) (count : ℕ) (front : List ℕ) (x : ℕ) : Type 0 where
+  pub free : IsFree edge count front x
+  pub earliest : (y : ℕ) → IsFree edge count front y → x ≤ y
+
+-- at each place stands the earliest declared of the functions that may be taken behind those before it
+abbrev pub TakesEarliest : Edges → ℕ → List ℕ → Type 0
+TakesEarliest edge count order = (i : ℕ) → i < length order → IsEarliestFree edge count (take i order) (slice_index order i)

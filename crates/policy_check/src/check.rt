@@ -1,7 +1,7 @@
 //! Checks a chain.
 
 ghost use Rattle.std.specs.Prelude.{◌≡◌, ◌<◌, ◌^◌, length, IfOk, IfErr};
-ghost use Rattle.policy_check.specs.Arrangements.{IsArrangement, IsSoundFault};
+ghost use Rattle.policy_check.specs.Arrangements.{IsArrangement, IsSoundFault, TakesEarliest};
 ghost use Rattle.policy_check.specs.Checked.{answer_of, Answers};
 ghost use Rattle.policy_check.specs.Edges.{edges_of};
 
@@ -25,11 +25,12 @@ use std::alloc::Global;
 /// Where there is no cycle, a Priority is refused if the dependency table forbids the lower
 /// function before the higher one, the first in the text. Each turn goes over the statements once
 /// for each function.
-#[tactic(auto, using(crate::proofs::Soundness::order_arranged, crate::proofs::Soundness::fault_sound))]
+#[tactic(auto, using(crate::proofs::Soundness::order_arranged, crate::proofs::Soundness::order_earliest, crate::proofs::Soundness::fault_sound))]
 pub fn order(alloc: Global, chain: &ChainPolicy) -> Result<Order, CheckFault>
     requires { length chain.now.functions < 2 ^ 32 }
     ensures exact { Answers result (answer_of chain.now) }
     ensures arranged { IfOk result (λ order. IsArrangement (edges_of chain.now.statements) (length chain.now.functions) order.positions) }
+    ensures earliest { IfOk result (λ order. TakesEarliest (edges_of chain.now.statements) (length chain.now.functions) order.positions) }
     ensures sound { IfErr result (IsSoundFault (edges_of chain.now.statements) (length chain.now.functions)) }
 {
     checked(alloc, chain)

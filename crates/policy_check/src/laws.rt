@@ -1,15 +1,27 @@
 //! What the order and the named cycle of a set of edges are worth.
 
-ghost use Rattle.std.specs.Prelude.{◌≡◌, ◌≢◌, ◌<◌, ℕ, List, [], All};
-ghost use Rattle.policy_check.specs.Arrangements.{IsArrangement, IsCycle, IsEarliestFirst};
+ghost use Rattle.std.specs.Prelude.{◌≡◌, ◌≢◌, ◌<◌, ℕ, List, [], All, Some, None};
+ghost use Rattle.policy_check.specs.Arrangements.{IsArrangement, IsCycle, IsEarliestFirst, IsFree, TakesEarliest};
 ghost use Rattle.policy_check.specs.Checked.{order_of, left_of};
 ghost use Rattle.policy_check.specs.Cycles.{named_cycle};
 ghost use Rattle.policy_check.specs.Edges.{Edges};
+ghost use Rattle.policy_check.specs.Firsts.{IsAllowed, IsFirstForbidden};
+ghost use Rattle.policy_check.specs.Refusals.{first_refusal};
+ghost use Rattle.policy_check.specs.declared.fault.CheckFault.{CheckFault};
+ghost use Rattle.policy_text.specs.declared.policy.FunctionDecl.{FunctionDecl};
+ghost use Rattle.policy_text.specs.declared.policy.Statement.{Statement};
 
 /// A law: where every function gets a turn, the order has each function once and respects every
 /// edge.
 pub fn order_respects_edges()
     ensures { (edge : Edges) → (count : ℕ) → left_of edge count ≡ [] → IsArrangement edge count (order_of edge count) }
+{}
+
+/// A law: at each place of the order stands a function whose predecessors all stand before it, and of those that may
+/// stand there so, the earliest declared. Behind the last of the order none may.
+pub fn order_takes_the_earliest()
+    ensures each { (edge : Edges) → (count : ℕ) → TakesEarliest edge count (order_of edge count) }
+    ensures last { (edge : Edges) → (count x : ℕ) → ¬ IsFree edge count (order_of edge count) x }
 {}
 
 /// A law: where there is an order that has each function once and respects every edge, every
@@ -29,4 +41,11 @@ pub fn named_cycle_is_real()
 /// A law: where there is a cycle, functions remain, so a cycle is answered.
 pub fn every_cycle_is_found()
     ensures { (edge : Edges) → (count : ℕ) → (cycle : List ℕ) → IsCycle edge cycle → All (λ x. x < count) cycle → left_of edge count ≢ [] }
+{}
+
+/// A law: a forbidden Priority that is named stands in the text with each Priority before it allowed, and where none is
+/// named each is allowed.
+pub fn named_priority_is_first()
+    ensures named { (functions : List FunctionDecl) → (statements : List Statement) → (fault : CheckFault) → first_refusal functions statements ≡ Some fault → IsFirstForbidden functions statements fault }
+    ensures none { (functions : List FunctionDecl) → (statements : List Statement) → first_refusal functions statements ≡ None → All (IsAllowed functions) statements }
 {}

@@ -1,5 +1,4 @@
 pub mod Judging
 pub mod Lines
-pub mod Names
 pub mod Orders
 pub mod Settings

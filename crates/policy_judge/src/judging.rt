@@ -17,6 +17,8 @@ use crate::text::{setting_line, text_line};
 use item_list::Items;
 use policy_text::{Policy, TextFault, parse};
 use std::alloc::{AllocError, Global};
+use text_lines::Piece::Text;
+use text_lines::line;
 
 /// Reads a policy text of at most 1,048,576 bytes: the policy with the order of each of its chains,
 /// or its first fault with the line that tells it.
@@ -39,7 +41,7 @@ pub fn too_long(alloc: Global) -> JudgeFault
 {
     refuse(
         PolicyFault::TooLong,
-        Vec::from_slice(alloc, b"policy: too long\n".as_slice()),
+        line(alloc, &[Text(b"policy: too long")]),
     )
 }
 

@@ -13,13 +13,9 @@ mod chains;
 mod fault;
 mod judged;
 mod judging;
-mod names;
 mod settings;
-#[cfg(test)]
-mod tests;
 mod text;
 
 pub use fault::{JudgeFault, PolicyFault, Refusal};
 pub use judged::Judged;
 pub use judging::{judge, too_long};
-pub use names::{name_at, push_names};

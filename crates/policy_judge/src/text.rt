@@ -1,16 +1,16 @@
 //! The lines that tell the faults of a policy.
-ghost use Rattle.std.specs.Prelude.{◌≡◌, ◌++◌, IfOk, OnOk};
-ghost use Rattle.std.specs.List.{flat_map};
+ghost use Rattle.std.specs.Prelude.{◌≡◌, IfOk};
 ghost use Rattle.policy_text.specs.declared.fault.TextFault.{TextFault};
 ghost use Rattle.policy_check.specs.declared.fault.CheckFault.{CheckFault};
-ghost use Rattle.policy_judge.specs.Lines.{text_line, at_line, setting_line, check_line, action_text};
+ghost use Rattle.policy_judge.specs.Lines.{text_line, at_line, setting_line, check_line, priority_line, action_text};
 
-use crate::names::{name_at, push_names};
 use dependency_table::Action;
 use packet_fields::Field;
 use policy_check::CheckFault;
-use policy_text::{FunctionDecl, TextFault};
+use policy_text::{FunctionDecl, TextFault, name_at, names_at};
 use std::alloc::{AllocError, Global};
+use text_lines::Piece::{Number, Text};
+use text_lines::{join, line, push_words};
 
 /// The line of the text's own fault.
 #[tactic(auto, unfolding(crate::specs::Lines::text_line))]
@@ -19,56 +19,51 @@ pub fn text_line(alloc: Global, fault: TextFault) -> Result<Vec<u8>, AllocError>
 {
     match fault {
         TextFault::NotUtf8(place) => {
-            let place = place.to_string(alloc)?;
-            join(alloc, &[b"policy: not utf-8 at ", place.as_bytes(), b"\n"])
+            line(
+                alloc,
+                &[Text(b"policy: not utf-8 at "), Number(place as u64)],
+            )
         }
-        TextFault::Syntax(line, column) => syntax_line(alloc, line, column),
-        TextFault::UnknownKind(line) => at_line(alloc, line, b"unknown kind"),
-        TextFault::DuplicateName(line) => at_line(alloc, line, b"duplicate name"),
-        TextFault::UnknownName(line) => at_line(alloc, line, b"unknown name"),
-        TextFault::TooManyFunctions(line) => at_line(alloc, line, b"too many functions"),
-        TextFault::TooManyChains(line) => at_line(alloc, line, b"too many chains"),
-        TextFault::TooManyRules(line) => at_line(alloc, line, b"too many rules"),
-        TextFault::BadVersionLine => {
-            Vec::from_slice(alloc, b"policy: bad version line\n".as_slice())
-        }
+        TextFault::Syntax(number, column) => line(
+            alloc,
+            &[
+                Text(b"policy: line "),
+                Number(number as u64),
+                Text(b" column "),
+                Number(column as u64),
+                Text(b": syntax"),
+            ],
+        ),
+        TextFault::UnknownKind(number) => at_line(alloc, number, b"unknown kind"),
+        TextFault::DuplicateName(number) => at_line(alloc, number, b"duplicate name"),
+        TextFault::UnknownName(number) => at_line(alloc, number, b"unknown name"),
+        TextFault::TooManyFunctions(number) => at_line(alloc, number, b"too many functions"),
+        TextFault::TooManyChains(number) => at_line(alloc, number, b"too many chains"),
+        TextFault::TooManyRules(number) => at_line(alloc, number, b"too many rules"),
+        TextFault::BadVersionLine => line(alloc, &[Text(b"policy: bad version line")]),
         TextFault::OutOfMemory => Ok(Vec::new(alloc)),
     }
 }
 
-#[tactic(auto, unfolding(crate::specs::Lines::text_line))]
-fn syntax_line(alloc: Global, line: u32, column: u32) -> Result<Vec<u8>, AllocError>
-    ensures { IfOk result (λ text. text.items ≡ text_line (TextFault.Syntax line column)) }
-{
-    let line = line.to_string(alloc)?;
-    let column = column.to_string(alloc)?;
-    join(
-        alloc,
-        &[
-            b"policy: line ",
-            line.as_bytes(),
-            b" column ",
-            column.as_bytes(),
-            b": syntax\n",
-        ],
-    )
-}
-
 /// The line of a setting that is refused.
 #[tactic(auto, unfolding(crate::specs::Lines::setting_line))]
-pub fn setting_line(alloc: Global, line: u32) -> Result<Vec<u8>, AllocError>
-    ensures { IfOk result (λ text. text.items ≡ setting_line line) }
+pub fn setting_line(alloc: Global, number: u32) -> Result<Vec<u8>, AllocError>
+    ensures { IfOk result (λ text. text.items ≡ setting_line number) }
 {
-    at_line(alloc, line, b"bad setting")
+    at_line(alloc, number, b"bad setting")
 }
 
-fn at_line(alloc: Global, line: u32, fault: &[u8]) -> Result<Vec<u8>, AllocError>
-    ensures { IfOk result (λ text. text.items ≡ at_line line fault.now) }
+fn at_line(alloc: Global, number: u32, fault: &[u8]) -> Result<Vec<u8>, AllocError>
+    ensures { IfOk result (λ text. text.items ≡ at_line number fault.now) }
 {
-    let line = line.to_string(alloc)?;
-    join(
+    line(
         alloc,
-        &[b"policy: line ", line.as_bytes(), b": ", fault, b"\n"],
+        &[
+            Text(b"policy: line "),
+            Number(number as u64),
+            Text(b": "),
+            Text(fault),
+        ],
     )
 }
 
@@ -90,25 +85,11 @@ pub fn check_line(
             first,
             second,
         } => {
-            let line = line.to_string(alloc)?;
             let first = action_text(alloc, *first)?;
             let second = action_text(alloc, *second)?;
-            join(
-                alloc,
-                &[
-                    b"policy: line ",
-                    line.as_bytes(),
-                    b": priority ",
-                    name_at(functions, *high),
-                    b" over ",
-                    name_at(functions, *low),
-                    b" forbidden: ",
-                    &first,
-                    b" before ",
-                    &second,
-                    b"\n",
-                ],
-            )
+            let high = name_at(functions, *high);
+            let low = name_at(functions, *low);
+            priority_line(alloc, *line, high, low, &first, &second)
         }
         CheckFault::OutOfMemory => Ok(Vec::new(alloc)),
     }
@@ -123,9 +104,37 @@ fn cycle_line(
     ensures { IfOk result (λ line. line.items ≡ check_line functions.now (CheckFault.Cycle places.now)) }
 {
     let mut text = Vec::from_slice(alloc, b"policy: cycle".as_slice())?;
-    push_names(&mut text, functions, places)?;
+    push_words(&mut text, &names_at(alloc, functions, places)?)?;
     text.push(b'\n')?;
     Ok(text)
+}
+
+#[tactic(auto, unfolding(crate::specs::Lines::priority_line))]
+fn priority_line<'a>(
+    alloc: Global,
+    number: u32,
+    high: &'a [u8],
+    low: &'a [u8],
+    first: &'a [u8],
+    second: &'a [u8],
+) -> Result<Vec<u8>, AllocError>
+    ensures { IfOk result (λ line. line.items ≡ priority_line number high.now low.now first.now second.now) }
+{
+    line(
+        alloc,
+        &[
+            Text(b"policy: line "),
+            Number(number as u64),
+            Text(b": priority "),
+            Text(high),
+            Text(b" over "),
+            Text(low),
+            Text(b" forbidden: "),
+            Text(first),
+            Text(b" before "),
+            Text(second),
+        ],
+    )
 }
 
 // What a function does with a packet.
@@ -133,29 +142,11 @@ fn action_text(alloc: Global, action: Action) -> Result<Vec<u8>, AllocError>
     ensures { IfOk result (λ text. text.items ≡ action_text action) }
 {
     match action {
-        Action::Read(field) => join(alloc, &[b"read ", field.name().as_bytes()]),
-        Action::Write(field) => join(alloc, &[b"write ", field.name().as_bytes()]),
+        Action::Read(field) => join(alloc, &[Text(b"read "), Text(field.name().as_bytes())]),
+        Action::Write(field) => join(alloc, &[Text(b"write "), Text(field.name().as_bytes())]),
         Action::Drop => Vec::from_slice(alloc, b"drop".as_slice()),
         Action::State => Vec::from_slice(alloc, b"state".as_slice()),
         Action::Whole => Vec::from_slice(alloc, b"whole".as_slice()),
         Action::Pass => Vec::from_slice(alloc, b"pass".as_slice()),
     }
-}
-
-// Pieces of a text in a row.
-fn join(alloc: Global, pieces: &[&[u8]]) -> Result<Vec<u8>, AllocError>
-    ensures { IfOk result (λ text. text.items ≡ flat_map (λ piece. piece.now) pieces.now) }
-{
-    let mut text = Vec::new(alloc);
-    push_all(&mut text, pieces)?;
-    Ok(text)
-}
-
-fn push_all(text: &mut Vec<u8>, pieces: &[&[u8]]) -> Result<(), AllocError>
-    ensures { OnOk result (text.new.items ≡ text.old.items ++ flat_map (λ piece. piece.now) pieces.now) }
-{
-    'pieces: for piece in pieces {
-        text.extend_from_slice(piece)?;
-    }
-    Ok(())
 }

@@ -1,9 +1,10 @@
--- The policy language: what each line adds to the policy so far, or its first fault.
-use Rattle.std.specs.Prelude.{ℕ, ◌-◌, List, [], ◌∷◌, ◌++◌, length, map, drop, count_by, position, sum_by, Bool, false, if◌then◌else◌, ◌==◌, ◌&&◌, not, nat_lt, slice_index_or, slice_get, is_some, Option, Some, None, Result, Ok, Err, codes}
+-- Believed: The policy language: what each line adds to the policy so far, or its first fault.
+use Rattle.std.specs.Prelude.{ℕ, ◌-◌, List, [], ◌∷◌, ◌++◌, length, map, drop, count_by, find, position, sum_by, Bool, false, if◌then◌else◌, ◌==◌, ◌&&◌, not, nat_lt, slice_index_or, slice_get, is_some, Option, Some, None, Result, Ok, Err, codes}
 use Rattle.std.specs.Option.{option_map, option_map_or}
 use Rattle.std.specs.List.{list_any}
 use Rattle.std.specs.Str.{bytes_eq}
 use Rattle.std.specs.Str.Lossy.{utf8_valid_len}
+use Rattle.action_profile.specs.Kinds.{kind_name}
 use Rattle.action_profile.specs.declared.kind.Kind.{Kind}
 use Rattle.action_profile.specs.declared.kind.Kind.TheVariants.{Firewall, Signature, Nat, Balancer, Monitor, Limiter, Marker, Nexthop, Hop, Redactor, Tagger, Untagger}
 use Rattle.policy_text.specs.declared.clause.Clause.{Clause}
@@ -23,20 +24,16 @@ use Rattle.policy_text.specs.Lines.{PlacedWord, Line, lines_of, word_at, column_
 use Rattle.policy_text.specs.Steps.{◌>>=◌, demand, some_or, unless}
 use Rattle.policy_text.specs.Values.{is_name}
 
+-- the kinds of functions
+abbrev pub kinds : List Kind
+kinds = Firewall ∷ Signature ∷ Nat ∷ Balancer ∷ Monitor ∷ Limiter ∷ Marker ∷ Nexthop ∷ Hop ∷ Redactor ∷ Tagger ∷ Untagger ∷ []
+
+abbrev pub is_name_of : List ℕ → Kind → Bool
+is_name_of word kind = bytes_eq (kind_name kind) word
+
+-- the kind that has this word for its name
 abbrev pub kind_of : List ℕ → Option Kind
-kind_of word =
-    if bytes_eq word (codes "firewall") then Some Firewall else
-    if bytes_eq word (codes "signature") then Some Signature else
-    if bytes_eq word (codes "nat") then Some Nat else
-    if bytes_eq word (codes "balancer") then Some Balancer else
-    if bytes_eq word (codes "monitor") then Some Monitor else
-    if bytes_eq word (codes "limiter") then Some Limiter else
-    if bytes_eq word (codes "marker") then Some Marker else
-    if bytes_eq word (codes "nexthop") then Some Nexthop else
-    if bytes_eq word (codes "hop") then Some Hop else
-    if bytes_eq word (codes "redactor") then Some Redactor else
-    if bytes_eq word (codes "tagger") then Some Tagger else
-    if bytes_eq word (codes "untagger") then Some Untagger else None
+kind_of word = find (is_name_of word) kinds
 
 -- the last of a list, and the list with its last one changed
 abbrev pub latest : {A : Type 0} → List A → Option A

@@ -4,6 +4,7 @@ pub mod Forms
 pub mod Grammar
 pub mod Lines
 pub mod Meeting
+pub mod Names
 pub mod Soundness
 pub mod Steps
 pub mod Values

@@ -21,9 +21,11 @@ mod counting;
 mod draft;
 mod fault;
 mod form;
+mod laws;
 mod line;
 mod matching;
 mod name;
+mod names;
 mod order_lines;
 mod parsing;
 mod policy;
@@ -35,12 +37,11 @@ pub use bytes::{mac, pattern};
 pub use clause::{Clause, Match};
 pub use fault::{BuildFault, MatchFault, TextFault};
 pub use item_list::Items;
+pub use laws::kinds_have_their_words;
 pub use matching::read_match;
 pub use name::{Name, Word};
+pub use names::{name_at, names_at};
 pub use parsing::parse;
 pub use policy::{ChainPolicy, FunctionDecl, Policy, Setting, Statement};
 pub use seen::{Seen, TagSeen, fits};
 pub use value::{address, is_name, number, prefix, range};
-
-#[cfg(test)]
-mod tests;

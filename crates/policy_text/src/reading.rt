@@ -1,7 +1,7 @@
 //! Reads a policy text line by line.
 
 ghost use Rattle.std.specs.Prelude.{◌≡◌, ◌<◌, length, IfOk, OnOk};
-ghost use Rattle.policy_text.specs.Grammar.{kind_of, of_function, setting_of, function_line, set_line, rule_line, after_line, functions_here};
+ghost use Rattle.policy_text.specs.Grammar.{kind_of, is_name_of, of_function, setting_of, function_line, set_line, rule_line, after_line, functions_here};
 ghost use Rattle.policy_text.specs.Steps.{Gives};
 
 use crate::chain_lines::chain_line;
@@ -19,36 +19,33 @@ use std::alloc::{AllocError, Global};
 /// The most rules of a function.
 const MAX_RULES: usize = 256;
 
+/// The kinds of functions.
+const KINDS: [Kind; 12] = [
+    Kind::Firewall,
+    Kind::Signature,
+    Kind::Nat,
+    Kind::Balancer,
+    Kind::Monitor,
+    Kind::Limiter,
+    Kind::Marker,
+    Kind::Nexthop,
+    Kind::Hop,
+    Kind::Redactor,
+    Kind::Tagger,
+    Kind::Untagger,
+];
+
+// The kind that has this word for its name.
 fn kind_of(word: &[u8]) -> Option<Kind>
     ensures { result ≡ kind_of word.now }
 {
-    if word == b"firewall".as_slice() {
-        Some(Kind::Firewall)
-    } else if word == b"signature".as_slice() {
-        Some(Kind::Signature)
-    } else if word == b"nat".as_slice() {
-        Some(Kind::Nat)
-    } else if word == b"balancer".as_slice() {
-        Some(Kind::Balancer)
-    } else if word == b"monitor".as_slice() {
-        Some(Kind::Monitor)
-    } else if word == b"limiter".as_slice() {
-        Some(Kind::Limiter)
-    } else if word == b"marker".as_slice() {
-        Some(Kind::Marker)
-    } else if word == b"nexthop".as_slice() {
-        Some(Kind::Nexthop)
-    } else if word == b"hop".as_slice() {
-        Some(Kind::Hop)
-    } else if word == b"redactor".as_slice() {
-        Some(Kind::Redactor)
-    } else if word == b"tagger".as_slice() {
-        Some(Kind::Tagger)
-    } else if word == b"untagger".as_slice() {
-        Some(Kind::Untagger)
-    } else {
-        None
-    }
+    KINDS.iter().copied().find(|kind| is_name_of(*kind, word))
+}
+
+fn is_name_of(kind: Kind, word: &[u8]) -> bool
+    ensures { result ≡ is_name_of word.now kind }
+{
+    kind.name().as_bytes() == word
 }
 
 // `fn NAME KIND`.
