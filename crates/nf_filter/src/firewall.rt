@@ -1,14 +1,11 @@
 //! A firewall, and what it decides.
-ghost use Rattle.std.specs.Prelude.{◌≡◌, find};
-ghost use Rattle.std.specs.Option.{option_copied};
-ghost use Rattle.policy_text.specs.Meeting.{is_fitting};
-
 use chain_walk::{FrameFunction, Verdict};
 use frame_seen::{seen, seen_address, seen_port, seen_tags};
+use function_lines::{Fitting, first_met};
 use item_list::Items;
 use packet_fields::{Field, Frame};
 use packet_version::{View, unwritten_stays};
-use policy_text::{Match, Seen, fits};
+use policy_text::{Match, Seen};
 use std::alloc::AllocError;
 
 /// A rule: whether a packet that meets all its clauses passes.
@@ -16,6 +13,14 @@ use std::alloc::AllocError;
 pub struct Rule {
     pub allow: bool,
     pub fit: Match,
+}
+
+impl Fitting for Rule {
+    ghost fit = { λ rule. rule.fit };
+
+    fn fit(&self) -> &Match {
+        &self.fit
+    }
 }
 
 /// Rules, of which the first that a packet meets decides.
@@ -40,12 +45,6 @@ impl Firewall {
             None => self.default,
         }
     }
-}
-
-fn first_met<'a>(rules: &'a [Rule], seen: &Seen) -> Option<&'a Rule>
-    ensures { option_copied result ≡ find (λ rule. is_fitting rule.fit seen.now) rules.now }
-{
-    rules.iter().find(|rule| fits(&rule.fit, seen))
 }
 
 impl Firewall {
@@ -77,6 +76,7 @@ impl Firewall {
     }
 }
 
+ghost use Rattle.std.specs.Prelude.{◌≡◌};
 ghost use Rattle.action_profile.specs.Profiles.{profile_of};
 ghost use Rattle.action_profile.specs.declared.kind.Kind.{Kind};
 ghost use Rattle.chain_walk.specs.Shown.{AreWellFormed};
