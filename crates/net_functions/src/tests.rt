@@ -17,6 +17,7 @@ use item_list::Items;
 use packet_fields::{Field, Frame};
 use packet_version::{
     Part, Tally, Verdict, Version, View, deal, dealt_is_read, split, unwritten_stays,
+    view_is_formed,
 };
 use policy_text::{BuildFault, Policy, parse};
 use std::alloc::{AllocError, Global};
@@ -57,6 +58,7 @@ impl Function for Painter {
 
     fn step(&mut self, view: &mut View) -> Result<Verdict, AllocError> {
         // What holds of the view where nothing is written.
+        view_is_formed(view);
         unwritten_stays(view);
         if self.count >= 2 {
             self.count = 0;

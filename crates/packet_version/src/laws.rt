@@ -3,6 +3,7 @@ ghost use Rattle.std.specs.Prelude.{◌≡◌, ◌≢◌, ◌++◌, ℕ, List, S
 ghost use Rattle.packet_fields.specs.declared.field.Field.{Field};
 ghost use Rattle.action_profile.specs.declared.parts.Touch.{Touch};
 ghost use Rattle.action_profile.specs.Modes.{has_write};
+ghost use Rattle.chain_walk.specs.Shown.{AreWellFormed};
 ghost use Rattle.chain_walk.specs.Step.{nothing};
 ghost use Rattle.packet_version.specs.Parts.{Parts, rewritten, writers_of};
 ghost use Rattle.packet_version.specs.Splitting.{PlainApart, IsWhole, IsShapedAs, parts_of};
@@ -32,6 +33,13 @@ pub fn left_is_read()
 pub fn unwritten_stays(view: &View)
     ensures same { wrote_all nothing view.now ≡ view.now }
     ensures ten { length view.now.version.parts ≡ 10 }
+{
+    let _ = &view.position;
+}
+
+/// What a view shows has the form of a frame's fields: each value has its field's length, and the tags are whole.
+pub fn view_is_formed(view: &View)
+    ensures { AreWellFormed (seen_values view.now) }
 {
     let _ = &view.position;
 }

@@ -10,4 +10,4 @@ byte_fits None there formed = absurd cc
 byte_fits (Some part) there formed = sym formed
 
 pub set-requires-clause-fits : goal.set-requires-clause-fits
-set-requires-clause-fits c = byte_fits (seen_parts c.args.view.now Tos) (sym c.has.ensures ∙ c.if-has.true) (c.requires.well_formed.lengths Tos)
+set-requires-clause-fits c = byte_fits (seen_parts c.args.view.now Tos) (sym c.has.ensures ∙ c.if-has.true) (c.view_is_formed.ensures.lengths Tos)
