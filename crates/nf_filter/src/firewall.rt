@@ -49,15 +49,12 @@ impl Firewall {
 
 impl Firewall {
     ghost use Rattle.std.specs.Prelude.{◌≡◌, Ok, true, is_ok};
-    ghost use Rattle.chain_walk.specs.Shown.{AreWellFormed};
-    ghost use Rattle.packet_version.specs.Views.{viewed, seen_values, wrote_all};
+    ghost use Rattle.packet_version.specs.Views.{viewed, wrote_all};
     ghost use Rattle.nf_filter.specs.Firewalls.{firewall_behaviour};
 
-    /// Judges one packet through a view of a firewall's profile, whose values have the form of a frame's.
-    /// It writes nothing and takes no memory.
+    /// Judges one packet through a view of a firewall's profile. It writes nothing and takes no memory.
     pub fn step(&mut self, view: &mut View) -> Result<Verdict, AllocError>
         requires profile { view.old.profile ≡ firewall_behaviour.profile self.old }
-        requires well_formed { AreWellFormed (seen_values view.old) }
         ensures after { self.new ≡ (viewed firewall_behaviour self.old view.old).after }
         ensures verdict { result ≡ Ok (viewed firewall_behaviour self.old view.old).verdict }
         ensures view { view.new ≡ wrote_all (viewed firewall_behaviour self.old view.old).written view.old }
@@ -79,7 +76,6 @@ impl Firewall {
 ghost use Rattle.std.specs.Prelude.{◌≡◌};
 ghost use Rattle.action_profile.specs.Profiles.{profile_of};
 ghost use Rattle.action_profile.specs.declared.kind.Kind.{Kind};
-ghost use Rattle.chain_walk.specs.Shown.{AreWellFormed};
 ghost use Rattle.frame_seen.specs.Seeing.{seen_by};
 ghost use Rattle.packet_version.specs.Views.{seen_values};
 ghost use Rattle.nf_filter.specs.Firewalls.{verdict_by};
@@ -93,7 +89,6 @@ fn verdict(passes: bool) -> Verdict
 /// What clauses see of the packet behind a view.
 fn seen_in(view: &View) -> Seen
     requires profile { view.now.profile ≡ profile_of Kind.Firewall }
-    requires well_formed { AreWellFormed (seen_values view.now) }
     ensures { result ≡ seen_by (seen_values view.now) view.now.version.fixed.proto }
 {
     Seen {
