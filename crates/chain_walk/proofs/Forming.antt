@@ -35,7 +35,8 @@ by_length f None own has fits = tt
 by_length f (Some o) None has fits = absurd fits
 by_length f (Some o) (Some w) has fits = subst (IsLengthOf f) (sym fits) has
 
-whole_tags : (tags : List ℕ) → is_tag_list tags ≡ true → length tags % 4 ≡ 0
+-- whole tags are so many times four bytes
+pub whole_tags : (tags : List ℕ) → is_tag_list tags ≡ true → length tags % 4 ≡ 0
 unfolding is_tag_list
 whole_tags [] e = refl
 whole_tags (a ∷ b ∷ c ∷ d ∷ rest) e = omega (arith, whole_tags rest (and_parts (is_tpid (a * 256 + b)) (is_tag_list rest) e).1)

@@ -2,7 +2,6 @@
 ghost use Rattle.std.specs.Prelude.{◌≡◌, ◌≤◌, ◌+◌, ℕ, true, length, map, IfOk, OnOk, IfSome};
 ghost use Rattle.packet_fields.specs.declared.field.Field.{Field};
 ghost use Rattle.packet_version.specs.Versions.{parts_of, HoldsNamed};
-ghost use Rattle.chain_walk.specs.Shown.{AreWellFormed};
 ghost use Rattle.chain_walk.specs.Step.{stepped};
 ghost use Rattle.graph_law.specs.Branches.{Arrival.Live, moved_function, moved_arrival, in_turn};
 ghost use Rattle.packet_version.specs.Splitting.{PlainApart};
@@ -26,7 +25,6 @@ fn step_on<F: Function, R: Wait>(
 ) -> Result<Arrival, AllocError>
     requires position { 1 ≤ position }
     requires holds { HoldsNamed (F.behaviour.profile function.old) version.touch }
-    requires well_formed { AreWellFormed (as_version version).values }
     requires room { (F.behaviour.profile function.old).adds ≡ true → IfSome (parts_of version Field.Tag) (λ tags. length tags.bytes + 4 ≤ tags.room) }
     ensures function { OnOk result (function.new ≡ moved_function F.behaviour version.fixed function.old (Live (as_version version))) }
     ensures arrival { IfOk result (λ arrival. as_arrival arrival ≡ moved_arrival F.behaviour version.fixed position function.old (Live (as_version version))) }

@@ -1,11 +1,13 @@
--- Which function a policy declares, and what making it answers.
+-- Believed: Which kinds are built, which function a policy declares, and what making it answers.
 use Rattle.std.specs.Prelude.{◌≡◌, ℕ, Bool, true, false, Option, Some, None, Result, Ok, Err}
 use Rattle.action_profile.specs.declared.kind.Kind.{Kind}
 use Rattle.action_profile.specs.declared.kind.Kind.TheVariants as kinds
 use Rattle.policy_text.specs.declared.fault.BuildFault.{BuildFault}
 use Rattle.policy_text.specs.declared.fault.BuildFault.TheVariants.{BadSetting, OutOfMemory}
 use Rattle.policy_text.specs.declared.policy.FunctionDecl.{FunctionDecl}
-use Rattle.nf_filter.specs.Firewalls.{firewall_of, refused_line as refused_of_firewall}
+use Rattle.function_lines.specs.KindLines.{refused_line as refused_line_of}
+use Rattle.nf_filter.specs.Lines.{firewall_lines}
+use Rattle.nf_filter.specs.Firewalls.{firewall_of}
 use Rattle.net_functions.specs.declared.net_function.NetFunction.{NetFunction}
 use Rattle.net_functions.specs.declared.net_function.NetFunction.TheVariants.{Firewall}
 
@@ -21,7 +23,7 @@ made_by kind decl = None
 
 -- the least line that a declaration of this kind refuses; of a kind that isn't built, no line is
 abbrev pub refused_by : Kind → FunctionDecl → Option ℕ
-refused_by kinds.Firewall decl = refused_of_firewall decl
+refused_by kinds.Firewall decl = refused_line_of firewall_lines decl
 refused_by kind decl = None
 
 -- the function that is declared

@@ -1,4 +1,3 @@
 pub mod NetFunctions
 pub mod NetFunctionLaws
 pub mod Builds
-pub mod Painter

@@ -1,10 +1,9 @@
 //! A network function that sees a packet through a view.
 ghost use Rattle.std.specs.Prelude.{◌≡◌, ◌++◌, ℕ, List, true, IfOk, OnOk, OnErr, IsSome};
 ghost use Rattle.packet_fields.specs.declared.field.Field.{Field};
-ghost use Rattle.chain_walk.specs.Shown.{AreWellFormed};
 ghost use Rattle.chain_walk.specs.Step.{Behaviour};
 ghost use Rattle.chain_walk.specs.Laws.{KeepsProfile};
-ghost use Rattle.packet_version.specs.Views.{seen_parts, seen_values, viewed, wrote_all, HasTagRoom};
+ghost use Rattle.packet_version.specs.Views.{seen_parts, viewed, wrote_all, HasTagRoom};
 
 use action_profile::Profile;
 use packet_version::{Verdict, View};
@@ -22,11 +21,10 @@ pub trait Function {
     fn profile(&self) -> Profile
         ensures { result ≡ behaviour.profile self.now };
 
-    /// Acts on one packet, which it sees through a view of its own profile. The values behind the view are
-    /// formed as those of a frame, and a function that may add a tag finds room for it.
+    /// Acts on one packet, which it sees through a view of its own profile. A function that may add a tag
+    /// finds room for it.
     fn step(&mut self, view: &mut View) -> Result<Verdict, AllocError>
         requires profile { view.old.profile ≡ behaviour.profile self.old }
-        requires well_formed { AreWellFormed (seen_values view.old) }
         requires room { (behaviour.profile self.old).adds ≡ true → IsSome (seen_parts view.old Field.Tag) → HasTagRoom view.old }
         ensures after { OnOk result (self.new ≡ (viewed behaviour self.old view.old).after) }
         ensures verdict { IfOk result (λ verdict. verdict ≡ (viewed behaviour self.old view.old).verdict) }

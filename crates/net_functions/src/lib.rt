@@ -14,8 +14,6 @@
 mod function;
 mod making;
 mod net_function;
-#[cfg(test)]
-mod tests;
 
 pub use function::Function;
 pub use making::{build, is_built};

@@ -1,9 +1,10 @@
--- The lines that set a firewall up: `set default allow`, `set default deny`, and `rule allow` or `rule deny` with clauses.
-use Rattle.std.specs.Prelude.{ℕ, List, [], ◌∷◌, Bool, true, false, if◌then◌else◌, Option, Some, None, Result, Ok, Err, codes}
+-- Believed: The lines that set a firewall up: `set default allow`, `set default deny`, and `rule allow` or `rule deny` with clauses.
+use Rattle.std.specs.Prelude.{ℕ, List, [], ◌∷◌, Bool, true, false, if◌then◌else◌, Option, Some, None, codes}
 use Rattle.std.specs.Option.{option_map}
 use Rattle.std.specs.Str.{bytes_eq}
-use Rattle.policy_text.specs.declared.clause.Clause.{Clause}
-use Rattle.policy_text.specs.Clauses.{clauses_of}
+use Rattle.policy_text.specs.declared.clause.Match.{Match}
+use Rattle.function_lines.specs.KindLines.{KindLines}
+use Rattle.function_lines.specs.Rules.{fit_of}
 use Rattle.nf_filter.specs.declared.lines.FirewallLine.{FirewallLine}
 use Rattle.nf_filter.specs.declared.lines.FirewallLine.TheVariants as lines
 
@@ -11,14 +12,10 @@ use Rattle.nf_filter.specs.declared.lines.FirewallLine.TheVariants as lines
 abbrev pub verdict_of : List ℕ → Option Bool
 verdict_of word = if bytes_eq word (codes "allow") then Some true else if bytes_eq word (codes "deny") then Some false else None
 
--- a rule with these clauses, where the words spell clauses
-abbrev pub rule_with : Bool → Result (List Clause) ℕ → Option FirewallLine
-rule_with allow (Ok clauses) = Some (lines.Rule (record { allow = allow; fit = record { clauses = clauses } }))
-rule_with allow (Err place) = None
-
-abbrev pub rule_of : Option Bool → List (List ℕ) → Option FirewallLine
-rule_of None words = None
-rule_of (Some allow) words = rule_with allow (clauses_of words)
+-- a rule of a verdict and clauses, where the words spell both
+abbrev pub rule_of : Option Bool → Option Match → Option FirewallLine
+rule_of (Some allow) (Some fit) = Some (lines.Rule (record { allow = allow; fit = fit }))
+rule_of allow fit = None
 
 abbrev pub default_of : List ℕ → List (List ℕ) → Option FirewallLine
 default_of key (word ∷ []) = if bytes_eq key (codes "default") then option_map (λ allow. lines.Default allow) (verdict_of word) else None
@@ -27,6 +24,10 @@ default_of key words = None
 -- what a line says, none where it is no line of a firewall
 unfoldable pub line_of : List (List ℕ) → Option FirewallLine
 line_of (lead ∷ word ∷ words) =
-    if bytes_eq lead (codes "rule") then rule_of (verdict_of word) words else
+    if bytes_eq lead (codes "rule") then rule_of (verdict_of word) (fit_of words) else
     if bytes_eq lead (codes "set") then default_of word words else None
 line_of words = None
+
+-- the lines of a firewall, none of which has to be there
+abbrev pub firewall_lines : KindLines FirewallLine
+firewall_lines = record { line_of = line_of; required = [] }

@@ -1,41 +1,38 @@
 //! Makes a firewall of the lines that declare it.
-ghost use Rattle.std.specs.Prelude.{◌≡◌, ◌||◌, is_none};
-ghost use Rattle.nf_filter.specs.Settings.{repeats};
 
 use crate::firewall::Firewall;
-use crate::lines::{FirewallLine, read_line};
-use crate::settings::{least_refused, repeats};
+use crate::lines::FirewallLine;
+use function_lines::read_lines;
 use item_list::Items;
-use policy_text::{BuildFault, FunctionDecl, Setting};
+use policy_text::{BuildFault, FunctionDecl};
 use std::alloc::{AllocError, Global};
 
 impl Firewall {
-    ghost use Rattle.std.specs.Prelude.{◌≡◌, OnOk};
+    ghost use Rattle.std.specs.Prelude.{◌≡◌, IfOk, OnOk};
     ghost use Rattle.action_profile.specs.declared.kind.Kind.{Kind};
-    ghost use Rattle.nf_filter.specs.Builds.{Builds};
-    ghost use Rattle.nf_filter.specs.Firewalls.{open_firewall, with_line};
+    ghost use Rattle.function_lines.specs.KindLines.{Builds};
+    ghost use Rattle.nf_filter.specs.Lines.{firewall_lines};
+    ghost use Rattle.nf_filter.specs.Firewalls.{open_firewall, with_line, firewall_by};
 
     /// Makes the firewall that is declared, or names the least line of the declaration that is
     /// refused: one that is no line of a firewall, or a second `set default`.
-    #[tactic(auto, using(crate::proofs::Building::begins, crate::proofs::Building::goes_on, crate::proofs::Building::made_all, crate::proofs::Building::refused_all))]
     pub fn build(alloc: Global, decl: &FunctionDecl) -> Result<Firewall, BuildFault>
         requires { decl.now.kind ≡ Kind.Firewall }
-        ensures { Builds decl.now result }
+        ensures { Builds firewall_lines firewall_by decl.now result }
     {
-        let settings = decl.settings.as_slice();
+        let lines = read_lines::<FirewallLine>(alloc, decl)?;
+        Ok(Firewall::of_lines(alloc, lines)?)
+    }
+
+    // What these lines make, one after another.
+    fn of_lines(alloc: Global, lines: Items<FirewallLine>) -> Result<Firewall, AllocError>
+        ensures { IfOk result (λ firewall. firewall ≡ firewall_by lines) }
+    {
         let mut firewall = Firewall::open(alloc);
-        let mut least = None;
-        'lines: for place in 0..settings.len() {
-            let setting = &settings[place];
-            let line = read_line(alloc, setting.words.as_slice())?;
-            let refused = is_refused(&line, &settings[..place], setting);
-            least = least_refused(least, refused, setting.line);
+        'lines: for line in lines.into_vec() {
             firewall.take(line)?;
         }
-        match least {
-            Some(line) => Err(BuildFault::BadSetting(line)),
-            None => Ok(firewall),
-        }
+        Ok(firewall)
     }
 
     // Allows every packet.
@@ -49,21 +46,13 @@ impl Firewall {
     }
 
     // Does what the line says.
-    fn take(&mut self, line: Option<FirewallLine>) -> Result<(), AllocError>
+    fn take(&mut self, line: FirewallLine) -> Result<(), AllocError>
         ensures { OnOk result (self.new ≡ with_line self.old line) }
     {
         match line {
-            None => {}
-            Some(FirewallLine::Default(allow)) => self.default = allow,
-            Some(FirewallLine::Rule(rule)) => self.rules.push(rule)?,
+            FirewallLine::Default(allow) => self.default = allow,
+            FirewallLine::Rule(rule) => self.rules.push(rule)?,
         }
         Ok(())
     }
-}
-
-// Is a line refused that says this, and stands behind these?
-fn is_refused(line: &Option<FirewallLine>, before: &[Setting], setting: &Setting) -> bool
-    ensures { result ≡ (is_none line.now || repeats before.now setting.now) }
-{
-    line.is_none() || repeats(before, setting)
 }

@@ -1,14 +1,11 @@
 //! A firewall, and what it decides.
-ghost use Rattle.std.specs.Prelude.{◌≡◌, find};
-ghost use Rattle.std.specs.Option.{option_copied};
-ghost use Rattle.policy_text.specs.Meeting.{is_fitting};
-
 use chain_walk::{FrameFunction, Verdict};
 use frame_seen::{seen, seen_address, seen_port, seen_tags};
+use function_lines::{Fitting, first_met};
 use item_list::Items;
 use packet_fields::{Field, Frame};
 use packet_version::{View, unwritten_stays};
-use policy_text::{Match, Seen, fits};
+use policy_text::{Match, Seen};
 use std::alloc::AllocError;
 
 /// A rule: whether a packet that meets all its clauses passes.
@@ -16,6 +13,14 @@ use std::alloc::AllocError;
 pub struct Rule {
     pub allow: bool,
     pub fit: Match,
+}
+
+impl Fitting for Rule {
+    ghost fit = { λ rule. rule.fit };
+
+    fn fit(&self) -> &Match {
+        &self.fit
+    }
 }
 
 /// Rules, of which the first that a packet meets decides.
@@ -42,23 +47,14 @@ impl Firewall {
     }
 }
 
-fn first_met<'a>(rules: &'a [Rule], seen: &Seen) -> Option<&'a Rule>
-    ensures { option_copied result ≡ find (λ rule. is_fitting rule.fit seen.now) rules.now }
-{
-    rules.iter().find(|rule| fits(&rule.fit, seen))
-}
-
 impl Firewall {
     ghost use Rattle.std.specs.Prelude.{◌≡◌, Ok, true, is_ok};
-    ghost use Rattle.chain_walk.specs.Shown.{AreWellFormed};
-    ghost use Rattle.packet_version.specs.Views.{viewed, seen_values, wrote_all};
+    ghost use Rattle.packet_version.specs.Views.{viewed, wrote_all};
     ghost use Rattle.nf_filter.specs.Firewalls.{firewall_behaviour};
 
-    /// Judges one packet through a view of a firewall's profile, whose values have the form of a frame's.
-    /// It writes nothing and takes no memory.
+    /// Judges one packet through a view of a firewall's profile. It writes nothing and takes no memory.
     pub fn step(&mut self, view: &mut View) -> Result<Verdict, AllocError>
         requires profile { view.old.profile ≡ firewall_behaviour.profile self.old }
-        requires well_formed { AreWellFormed (seen_values view.old) }
         ensures after { self.new ≡ (viewed firewall_behaviour self.old view.old).after }
         ensures verdict { result ≡ Ok (viewed firewall_behaviour self.old view.old).verdict }
         ensures view { view.new ≡ wrote_all (viewed firewall_behaviour self.old view.old).written view.old }
@@ -77,9 +73,9 @@ impl Firewall {
     }
 }
 
+ghost use Rattle.std.specs.Prelude.{◌≡◌};
 ghost use Rattle.action_profile.specs.Profiles.{profile_of};
 ghost use Rattle.action_profile.specs.declared.kind.Kind.{Kind};
-ghost use Rattle.chain_walk.specs.Shown.{AreWellFormed};
 ghost use Rattle.frame_seen.specs.Seeing.{seen_by};
 ghost use Rattle.packet_version.specs.Views.{seen_values};
 ghost use Rattle.nf_filter.specs.Firewalls.{verdict_by};
@@ -93,7 +89,6 @@ fn verdict(passes: bool) -> Verdict
 /// What clauses see of the packet behind a view.
 fn seen_in(view: &View) -> Seen
     requires profile { view.now.profile ≡ profile_of Kind.Firewall }
-    requires well_formed { AreWellFormed (seen_values view.now) }
     ensures { result ≡ seen_by (seen_values view.now) view.now.version.fixed.proto }
 {
     Seen {

@@ -18,8 +18,5 @@
 mod build;
 mod firewall;
 mod lines;
-mod settings;
-#[cfg(test)]
-mod tests;
 
 pub use firewall::{Firewall, Rule};

@@ -1,10 +1,11 @@
 //! The lines that set a firewall up.
-ghost use Rattle.std.specs.Prelude.{◌≡◌, IfOk, Ok, Err};
-ghost use Rattle.policy_text.specs.Clauses.{clauses_of};
-ghost use Rattle.nf_filter.specs.Lines.{verdict_of, rule_with, rule_of, default_of, line_of};
+ghost use Rattle.std.specs.Prelude.{◌≡◌, IfOk};
+ghost use Rattle.function_lines.specs.Rules.{fit_of};
+ghost use Rattle.nf_filter.specs.Lines.{verdict_of, rule_of, default_of};
 
 use crate::firewall::Rule;
-use policy_text::{MatchFault, Word, read_match};
+use function_lines::{FunctionLine, read_fit};
+use policy_text::Word;
 use std::alloc::{AllocError, Global};
 
 /// What a line says.
@@ -15,21 +16,29 @@ pub enum FirewallLine {
     Rule(Rule),
 }
 
-/// Reads a line, or answers `None` where it is no line of a firewall.
-#[tactic(auto, unfolding(crate::specs::Lines::line_of))]
-pub fn read_line(alloc: Global, words: &[Word]) -> Result<Option<FirewallLine>, AllocError>
-    ensures { IfOk result (λ line. line ≡ line_of words.now) }
-{
-    if words.len() < 2 {
-        return Ok(None);
+impl FunctionLine for FirewallLine {
+    ghost use Rattle.nf_filter.specs.Lines.{firewall_lines};
+
+    ghost kind_lines = { firewall_lines };
+
+    #[tactic(auto, unfolding(crate::specs::Lines::line_of))]
+    fn read(alloc: Global, words: &[Word]) -> Result<Option<FirewallLine>, AllocError> {
+        if words.len() < 2 {
+            return Ok(None);
+        }
+        let lead = words[0].bytes();
+        if lead == b"rule".as_slice() {
+            rule_of(alloc, verdict_of(words[1].bytes()), &words[2..])
+        } else if lead == b"set".as_slice() {
+            Ok(default_of(words[1].bytes(), &words[2..]))
+        } else {
+            Ok(None)
+        }
     }
-    let lead = words[0].bytes();
-    if lead == b"rule".as_slice() {
-        rule_of(alloc, verdict_of(words[1].bytes()), &words[2..])
-    } else if lead == b"set".as_slice() {
-        Ok(default_of(words[1].bytes(), &words[2..]))
-    } else {
-        Ok(None)
+
+    // No line of a firewall has to be there.
+    fn lacks_one(_lines: &[FirewallLine]) -> bool {
+        false
     }
 }
 
@@ -38,16 +47,13 @@ fn rule_of(
     allow: Option<bool>,
     clauses: &[Word],
 ) -> Result<Option<FirewallLine>, AllocError>
-    ensures { IfOk result (λ line. line ≡ rule_of allow clauses.now) }
+    ensures { IfOk result (λ line. line ≡ rule_of allow (fit_of clauses.now)) }
 {
     let Some(allow) = allow else {
         return Ok(None);
     };
-    match read_match(alloc, clauses) {
-        Ok(fit) => Ok(Some(FirewallLine::Rule(Rule { allow, fit }))),
-        Err(MatchFault::BadWord(_)) => Ok(None),
-        Err(MatchFault::OutOfMemory) => Err(AllocError),
-    }
+    let fit = read_fit(alloc, clauses)?;
+    Ok(fit.map(|fit| FirewallLine::Rule(Rule { allow, fit })))
 }
 
 fn default_of(key: &[u8], words: &[Word]) -> Option<FirewallLine>

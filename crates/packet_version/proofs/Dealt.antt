@@ -15,7 +15,7 @@ use Rattle.action_profile.specs.declared.parts.Mode.{Mode}
 use Rattle.action_profile.specs.declared.parts.Mode.TheVariants.{Shared, Moved, Copied}
 use Rattle.action_profile.specs.declared.parts.Touch.{Touch}
 use Rattle.chain_walk.specs.declared.fixed.Fixed.{Fixed}
-use Rattle.packet_version.specs.Parts.{PlainPart, Parts, as_list, unwritten, writer_in, AreTags}
+use Rattle.packet_version.specs.Parts.{PlainPart, Parts, as_list, unwritten, writer_in, IsPartOf}
 use Rattle.packet_version.specs.Versions.{PlainVersion, nothing, had_by}
 use Rattle.packet_version.specs.Dealing.{dealt_version, is_given, kept_parts, copies_due}
 use Rattle.packet_version.specs.Handing.{touches_in, copied_some, copies_of, own_parts, with_own, with_loan, lent_to, reads_more, writers_in}
@@ -167,7 +167,7 @@ stage_dealt ts parts fixed vs owned lent empty own loan =
     ∙ (all_dealt parts (kept_parts ts parts) vs (subst (λ (us : List Touch). AreKept us parts (kept_parts ts parts)) (sym touches) (are_kept ts parts))
     ∙ (ap (λ (xs : List PlainVersion). map (λ v. dealt_version parts v.fixed v.touch) xs) empty ∙ empty_dealt ts parts fixed)))
 
--- nobody is the writer of what is kept, and its tags are whole
+-- nobody is the writer of what is kept, and its parts are their fields'
 pub kept_unwritten : (ts : List Touch) (parts : Parts) (f : Field) → writer_in (kept_parts ts parts f) ≡ 0
 kept_unwritten ts parts f = by_test (is_given (mode_of ts f)) (parts f)
   where
@@ -176,10 +176,10 @@ kept_unwritten ts parts f = by_test (is_given (mode_of ts f)) (parts f)
     by_test false None = refl
     by_test false (Some p) = refl
 
-pub kept_tags : (ts : List Touch) (parts : Parts) → AreTags (parts Tag) → AreTags (kept_parts ts parts Tag)
-kept_tags ts parts tags = by_test (is_given (mode_of ts Tag)) (parts Tag) tags
+pub kept_formed : (ts : List Touch) (parts : Parts) (f : Field) → IsPartOf f (parts f) → IsPartOf f (kept_parts ts parts f)
+kept_formed ts parts f formed = by_test (is_given (mode_of ts f)) (parts f) formed
   where
-    by_test : (b : Bool) (o : Option PlainPart) → AreTags o → AreTags (if b then None else option_map unwritten o)
-    by_test true o whole = tt
-    by_test false None whole = tt
-    by_test false (Some p) whole = whole
+    by_test : (b : Bool) (o : Option PlainPart) → IsPartOf f o → IsPartOf f (if b then None else option_map unwritten o)
+    by_test true o has = tt
+    by_test false None has = tt
+    by_test false (Some p) has = has

@@ -15,7 +15,7 @@ use Rattle.action_profile.specs.Modes.{has_write, has_touch, only_reads}
 use Rattle.action_profile.specs.declared.parts.Touch.{Touch}
 use Rattle.action_profile.specs.declared.rights.Profile.{Profile}
 use Rattle.chain_walk.specs.declared.fixed.Fixed.{Fixed}
-use Rattle.packet_version.specs.Parts.{PlainPart, PlainHeld, Parts, as_map, as_list, changed, writer_in, AreTags}
+use Rattle.packet_version.specs.Parts.{PlainPart, PlainHeld, Parts, as_map, as_list, changed, writer_in, IsPartOf}
 use Rattle.packet_version.specs.Versions.{PlainVersion, parts_of, with_part, nothing, lent_parts, had_by, IsHad}
 use Rattle.packet_version.specs.Handing.{with_loan}
 use Rattle.packet_version.specs.Views.{PlainView}
@@ -84,17 +84,17 @@ pub own_read : (touch : Touch) (own : List (Option PlainPart)) (lent : Option Pl
 own_read touch own lent n f o read is below w h =
     had_own touch (as_map own) (lent_parts lent) f w ∙ sym (get_or_read_under own n 10 o None read below (sym (h.there f w)) ∙ ap (λ (k : ℕ). get_or own k None) is)
 
-tags_changed : (touch : Touch) (own : List (Option PlainPart)) (lent : Option PlainHeld) (f : Field) (o : Option PlainPart) → (f ≡ Tag → AreTags o) → AreTags (had_by touch (as_map own) (lent_parts lent) Tag) → AreTags (changed f o (had_by touch (as_map own) (lent_parts lent)) Tag)
-tags_changed touch own lent f o tags_o tags = by_field f Tag (AreTags (changed f o (had_by touch (as_map own) (lent_parts lent)) Tag))
-    (λ same e. subst AreTags (sym (ap (λ (b : Bool). if b then o else had_by touch (as_map own) (lent_parts lent) Tag) e)) (tags_o same))
-    (λ apart e. subst AreTags (sym (ap (λ (b : Bool). if b then o else had_by touch (as_map own) (lent_parts lent) Tag) e)) tags)
+formed_changed : (f : Field) (o : Option PlainPart) (parts : Parts) → IsPartOf f o → ((g : Field) → IsPartOf g (parts g)) → (g : Field) → IsPartOf g (changed f o parts g)
+formed_changed f o parts part formed g = by_field f g (IsPartOf g (changed f o parts g))
+    (λ same e. subst (IsPartOf g) (sym (ap (λ (b : Bool). if b then o else parts g) e)) (subst (λ (h : Field). IsPartOf h o) same part))
+    (λ apart e. subst (IsPartOf g) (sym (ap (λ (b : Bool). if b then o else parts g) e)) (formed g))
 
 -- and it stays so where a part of its own, or none, is put into its place
-pub had_on : (touch : Touch) (own : List (Option PlainPart)) (lent : Option PlainHeld) (n : ℕ) (f : Field) (o : Option PlainPart) → n ≡ number_of f → n < 10 → has_write f touch ≡ true → (f ≡ Tag → AreTags o) → IsHad touch own lent → IsHad touch (set own n o) lent
-had_on touch own lent n f o is below w tags h = record {
+pub had_on : (touch : Touch) (own : List (Option PlainPart)) (lent : Option PlainHeld) (n : ℕ) (f : Field) (o : Option PlainPart) → n ≡ number_of f → n < 10 → has_write f touch ≡ true → IsPartOf f o → IsHad touch own lent → IsHad touch (set own n o) lent
+had_on touch own lent n f o is below w part h = record {
   there = λ g v. length-set own n o ∙ h.there g v;
   unwritten = h.unwritten;
-  tags = subst (λ (m : Parts). AreTags (m Tag)) (sym (had_put touch own (lent_parts lent) n f o is (own_inside touch own lent n f below w h) w)) (tags_changed touch own lent f o tags h.tags);
+  formed = subst (λ (m : Parts). (g : Field) → IsPartOf g (m g)) (sym (had_put touch own (lent_parts lent) n f o is (own_inside touch own lent n f below w h) w)) (formed_changed f o (had_by touch (as_map own) (lent_parts lent)) part h.formed);
 }
 
 -- nobody is the writer of what a branch doesn't write
@@ -131,15 +131,27 @@ no_parts = map (λ f. None) all_fields
 no_part : (f : Field) → as_map no_parts f ≡ None
 no_part f = listed_at (λ g. None) None f
 
+no_place : (f : Field) → as_map [] f ≡ None
+no_place LinkDst = refl
+no_place LinkSrc = refl
+no_place Tag = refl
+no_place Tos = refl
+no_place Ttl = refl
+no_place SrcIp = refl
+no_place DstIp = refl
+no_place SrcPort = refl
+no_place DstPort = refl
+no_place Payload = refl
+
 -- a branch that has nothing yet
 pub empty_had : (touch : Touch) (own : List (Option PlainPart)) → own ≡ (if is_none touch.writes then [] else no_parts) → IsHad touch own None
 empty_had touch own is = subst (λ (xs : List (Option PlainPart)). IsHad touch xs None) (sym is) (by_test (is_none touch.writes) refl)
   where
-    tags_none : (ps : List (Option PlainPart)) → as_map ps Tag ≡ None → AreTags (had_by touch (as_map ps) (lent_parts None) Tag)
-    tags_none ps none = by_tests (has_write Tag touch) (only_reads Tag touch)
+    none_formed : (ps : List (Option PlainPart)) (f : Field) → as_map ps f ≡ None → IsPartOf f (had_by touch (as_map ps) (lent_parts None) f)
+    none_formed ps f none = by_tests (has_write f touch) (only_reads f touch)
       where
-        by_tests : (b c : Bool) → AreTags (if b then as_map ps Tag else (if c then lent_parts None Tag else None))
-        by_tests true c = subst AreTags (sym none) tt
+        by_tests : (b c : Bool) → IsPartOf f (if b then as_map ps f else (if c then lent_parts None f else None))
+        by_tests true c = subst (IsPartOf f) (sym none) tt
         by_tests false true = tt
         by_tests false false = tt
 
@@ -147,12 +159,12 @@ empty_had touch own is = subst (λ (xs : List (Option PlainPart)). IsHad touch x
     by_test true e = record {
       there = λ f w. absurd (some_field touch.writes f w e);
       unwritten = λ f. refl;
-      tags = tags_none [] refl;
+      formed = λ f. none_formed [] f (no_place f);
     }
     by_test false e = record {
       there = λ f w. refl;
       unwritten = λ f. refl;
-      tags = tags_none no_parts refl;
+      formed = λ f. none_formed no_parts f (no_part f);
     }
 
 pub empty_is : (touch : Touch) (own : List (Option PlainPart)) (fixed : Fixed) → own ≡ (if is_none touch.writes then [] else no_parts) → version_of own None touch fixed ≡ nothing touch fixed
@@ -160,16 +172,7 @@ empty_is touch own fixed is =
     ap (λ (m : Parts). let v : PlainVersion = record { parts = as_list m; touch = touch; fixed = fixed } in v) (fun_ext (λ f. by_tests f (has_write f touch) (only_reads f touch)))
   where
     none_own : (f : Field) (b : Bool) → as_map (if b then [] else no_parts) f ≡ None
-    none_own LinkDst true = refl
-    none_own LinkSrc true = refl
-    none_own Tag true = refl
-    none_own Tos true = refl
-    none_own Ttl true = refl
-    none_own SrcIp true = refl
-    none_own DstIp true = refl
-    none_own SrcPort true = refl
-    none_own DstPort true = refl
-    none_own Payload true = refl
+    none_own f true = no_place f
     none_own f false = no_part f
 
     by_tests : (f : Field) (b c : Bool) → (if b then as_map own f else (if c then lent_parts None f else None)) ≡ None
@@ -178,17 +181,17 @@ empty_is touch own fixed is =
     by_tests f false false = refl
 
 -- a loan of parts that nobody wrote
-pub had_loan : (touch : Touch) (own : List (Option PlainPart)) (lent : Option PlainHeld) (held : PlainHeld) → ((f : Field) → writer_in (as_map held.parts f) ≡ 0) → AreTags (as_map held.parts Tag) → IsHad touch own lent → IsHad touch own (Some held)
-had_loan touch own lent held unwritten tags h = record {
+pub had_loan : (touch : Touch) (own : List (Option PlainPart)) (lent : Option PlainHeld) (held : PlainHeld) → ((f : Field) → writer_in (as_map held.parts f) ≡ 0) → ((f : Field) → IsPartOf f (as_map held.parts f)) → IsHad touch own lent → IsHad touch own (Some held)
+had_loan touch own lent held unwritten formed h = record {
   there = h.there;
   unwritten = unwritten;
-  tags = by_tests (has_write Tag touch) (only_reads Tag touch) refl;
+  formed = λ f. by_tests f (has_write f touch) (only_reads f touch) refl;
 }
   where
-    by_tests : (b c : Bool) → has_write Tag touch ≡ b → AreTags (if b then as_map own Tag else (if c then as_map held.parts Tag else None))
-    by_tests true c w = subst AreTags (had_own touch (as_map own) (lent_parts lent) Tag w) h.tags
-    by_tests false true w = tags
-    by_tests false false w = tt
+    by_tests : (f : Field) (b c : Bool) → has_write f touch ≡ b → IsPartOf f (if b then as_map own f else (if c then as_map held.parts f else None))
+    by_tests f true c w = subst (IsPartOf f) (had_own touch (as_map own) (lent_parts lent) f w) (h.formed f)
+    by_tests f false true w = formed f
+    by_tests f false false w = tt
 
 pub loan_is : (touch : Touch) (own : List (Option PlainPart)) (lent : Option PlainHeld) (held : PlainHeld) (fixed : Fixed) (old : PlainVersion) → version_of own lent touch fixed ≡ old → version_of own (Some held) touch fixed ≡ with_loan (as_map held.parts) old
 loan_is touch own lent held fixed old old_is =

@@ -4,8 +4,11 @@ use mathlib.Core.Path.{fun_ext}
 use Rattle.std.specs.Prelude.{Option, Some, None, option_map, if◌then◌else◌}
 use Rattle.std.proofs.lemmas.Bool.Decides.{Decides-eqb}
 use Rattle.packet_fields.specs.Fields.{number_of}
+use Rattle.packet_fields.specs.Writing.{over as values_over}
 use Rattle.packet_fields.specs.declared.field.Field.{Field}
 use Rattle.packet_fields.specs.declared.field.Field.TheVariants.{Tag}
+use Rattle.std.specs.Option.{option_or}
+use Rattle.chain_walk.specs.Shown.{Values}
 use Rattle.chain_walk.specs.Step.{nothing}
 use Rattle.packet_version.specs.Parts.{PlainPart, Parts, as_list, changed, is_field, rewritten}
 use Rattle.packet_version.specs.Versions.{with_part}
@@ -72,3 +75,18 @@ pushed_one view tag = one_written view Tag (option_map (λ tags. tag ++ tags) (s
 
 pub popped_one : (view : PlainView) → popped view ≡ wrote_all (alone Tag (option_map (λ tags. drop 4 tags) (seen_values view Tag))) view
 popped_one view = one_written view Tag (option_map (λ tags. drop 4 tags) (seen_values view Tag)) (option_map (λ part. rewritten (drop 4 part.bytes) view.position part) (seen_parts view Tag)) (by_value (λ tags. drop 4 tags) view.position (seen_parts view Tag))
+
+-- what is there after some values were written
+pub parts_written : (view : PlainView) (new : Values) (f : Field) → seen_parts (wrote_all new view) f ≡ rewritten_by (new f) view.position (seen_parts view f)
+parts_written view new f = ap (λ (m : Parts). m f) (as_map-listed (λ g. rewritten_by (new g) view.position (seen_parts view g)))
+
+rewritten_twice : (later first : Option (List ℕ)) (position : ℕ) (o : Option PlainPart) → rewritten_by later position (rewritten_by first position o) ≡ rewritten_by (option_or later first) position o
+rewritten_twice None first position o = refl
+rewritten_twice (Some bytes) None position o = refl
+rewritten_twice (Some bytes) (Some old) position None = refl
+rewritten_twice (Some bytes) (Some old) position (Some part) = refl
+
+-- later values stand over the first
+pub written_twice : (view : PlainView) (first later : Values) → wrote_all later (wrote_all first view) ≡ wrote_all (values_over later first) view
+written_twice view first later = ap (λ (m : Parts). with_seen view m)
+    (fun_ext (λ f. ap (λ (o : Option PlainPart). rewritten_by (later f) view.position o) (parts_written view first f) ∙ rewritten_twice (later f) (first f) view.position (seen_parts view f)))

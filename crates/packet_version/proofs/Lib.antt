@@ -1,5 +1,6 @@
 pub mod Maps
 pub mod Joining
+pub mod Forming
 pub mod Having
 pub mod Viewing
 pub mod Keeping

@@ -347,11 +347,3 @@ empty_begin ts fixed vs is = is ∙ (sym (same ts) ∙ ap (λ (xs : List PlainVe
     same : (us : List Touch) → map without_fields (map (λ t. nothing t fixed) us) ≡ map (λ t. nothing t fixed) us
     same [] = refl
     same (u ∷ us) = ap (λ (xs : List PlainVersion). nothing u fixed ∷ xs) (same us)
-
--- the tags of a packet are whole
-pub tags_whole : (parts : Parts) (frame : List ℕ) → IsWhole parts frame → AreTags (parts Tag)
-tags_whole parts frame w = by_part (parts Tag) (w.fits Tag)
-  where
-    by_part : (o : Option PlainPart) → IfSome (option_map (λ p. p.bytes) o) (λ new. Fits Tag new frame) → AreTags o
-    by_part None fits = tt
-    by_part (Some p) fits = fits.1

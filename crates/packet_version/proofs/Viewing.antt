@@ -8,7 +8,7 @@ use Rattle.action_profile.specs.Profiles.{writes_of}
 use Rattle.action_profile.specs.declared.parts.Touch.{Touch}
 use Rattle.action_profile.specs.declared.rights.Profile.{Profile}
 use Rattle.chain_walk.specs.declared.fixed.Fixed.{Fixed}
-use Rattle.packet_version.specs.Parts.{PlainPart, PlainHeld, Parts, as_map}
+use Rattle.packet_version.specs.Parts.{PlainPart, PlainHeld, Parts, as_map, IsPartOf}
 use Rattle.packet_version.specs.Versions.{names, with_part, lent_parts, had_by}
 use Rattle.packet_version.specs.Views.{IsView, PlainView, seen_parts, seen_values}
 use Rattle.packet_version.specs.Lending.{edited}
@@ -34,6 +34,10 @@ pub seen_lent : (own : List (Option PlainPart)) (lent : Option PlainHeld) (f : F
 seen_lent own lent f touch fixed profile position old named w v old_is =
     seen_had own lent f touch fixed profile position old old_is
     ∙ had_lent touch (as_map own) (lent_parts lent) f (v.holds.touched f (ap (λ (x : PlainView). names x.profile f) old_is ∙ named)) w
+
+-- each part that a view shows is its field's
+pub seen_formed : (own : List (Option PlainPart)) (lent : Option PlainHeld) (touch : Touch) (fixed : Fixed) (profile : Profile) (position : ℕ) (old : PlainView) → IsView profile touch own lent → view_of own lent touch fixed profile position ≡ old → (f : Field) → IsPartOf f (seen_parts old f)
+seen_formed own lent touch fixed profile position old v old_is f = subst (IsPartOf f) (sym (seen_had own lent f touch fixed profile position old old_is)) (v.had.formed f)
 
 -- the view in which these bytes were left
 pub left_seen : (own : List (Option PlainPart)) (lent : Option PlainHeld) (n : ℕ) (f : Field) (o : Option PlainPart) (bytes : List ℕ) (touch : Touch) (fixed : Fixed) (profile : Profile) (position : ℕ) (old : PlainView) → o ≡ get_or own n o → n ≡ number_of f → n < 10 → has_write f touch ≡ true → IsView profile touch own lent → view_of own lent touch fixed profile position ≡ old → view_of (set own n (option_map (edited bytes position) o)) lent touch fixed profile position ≡ left f bytes old

@@ -1,9 +1,10 @@
 -- A packet in parts: for each field that it has its bytes, who wrote them last, and how many fit.
-use Rattle.std.specs.Prelude.{◌≡◌, ℕ, List, Option, Some, None, Bool, true, if◌then◌else◌, ◌==◌, option_map, slice_index_or, map, IfSome}
+use Rattle.std.specs.Prelude.{◌≡◌, ℕ, List, length, Option, Some, None, Bool, true, if◌then◌else◌, ◌==◌, option_map, slice_index_or, map, IfSome}
 use Rattle.packet_fields.specs.Frames.{is_tag_list}
-use Rattle.packet_fields.specs.Fields.{number_of}
+use Rattle.packet_fields.specs.Fields.{number_of, IsLengthOf}
 use Rattle.packet_fields.specs.Writing.{all_fields}
 use Rattle.packet_fields.specs.declared.field.Field.{Field}
+use Rattle.packet_fields.specs.declared.field.Field.TheVariants.{Tag}
 
 -- A field's bytes, the chain position of the function that wrote them last in this stage (0 where none
 -- did), and the greatest number of bytes that it can have without taking memory.
@@ -55,6 +56,15 @@ rewritten bytes writer p = record p { bytes = bytes; writer = writer }
 -- the bytes of a part, where it is there, are whole tags
 abbrev pub AreTags : Option PlainPart → Type 0
 AreTags part = IfSome part (λ p. is_tag_list p.bytes ≡ true)
+
+-- Bytes that are a field's: as many as the field has, and of the tags whole tags.
+pub record IsValueOf (f : Field) (bytes : List ℕ) : Type 0 where
+  pub size : IsLengthOf f (length bytes)
+  pub whole : f ≡ Tag → is_tag_list bytes ≡ true
+
+-- the bytes of a part, where it is there, are the field's
+abbrev pub IsPartOf : Field → Option PlainPart → Type 0
+IsPartOf f part = IfSome part (λ p. IsValueOf f p.bytes)
 
 -- The parts of a packet in the fields' order, and its frame, whose own fields are of no account.
 pub record PlainHeld : Type 0 where

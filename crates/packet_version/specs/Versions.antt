@@ -5,8 +5,7 @@ use Rattle.action_profile.specs.Modes.{has_touch, has_write, only_reads}
 use Rattle.action_profile.specs.Profiles.{reads_of, writes_of}
 use Rattle.action_profile.specs.declared.parts.Touch.{Touch}
 use Rattle.action_profile.specs.declared.rights.Profile.{Profile}
-use Rattle.packet_fields.specs.declared.field.Field.TheVariants.{Tag}
-use Rattle.packet_version.specs.Parts.{PlainPart, PlainHeld, Parts, as_map, as_list, changed, writer_in, AreTags}
+use Rattle.packet_version.specs.Parts.{PlainPart, PlainHeld, Parts, as_map, as_list, changed, writer_in, IsPartOf}
 use Rattle.chain_walk.specs.declared.fixed.Fixed.{Fixed}
 
 -- The parts of a branch in the fields' order, what the branch touches, and the packet's fixed values.
@@ -45,8 +44,9 @@ lent_parts (Some held) f = as_map held.parts f
 abbrev pub had_by : Touch → Parts → Parts → Parts
 had_by touch own lent f = if has_write f touch then own f else (if only_reads f touch then lent f else None)
 
--- There is a place for each part of a branch's own, what is lent was written by nobody, and the tags are whole.
+-- There is a place for each part of a branch's own, what is lent was written by nobody, and each part has its field's
+-- length, the tags as whole tags.
 pub record IsHad (touch : Touch) (own : List (Option PlainPart)) (lent : Option PlainHeld) : Type 0 where
   pub there : (f : Field) → has_write f touch ≡ true → length own ≡ 10
   pub unwritten : (f : Field) → writer_in (lent_parts lent f) ≡ 0
-  pub tags : AreTags (had_by touch (as_map own) (lent_parts lent) Tag)
+  pub formed : (f : Field) → IsPartOf f (had_by touch (as_map own) (lent_parts lent) f)

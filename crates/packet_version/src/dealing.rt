@@ -3,7 +3,7 @@
 ghost use Rattle.std.specs.Prelude.{◌≡◌, ◌≤◌, map, length, OnOk, OnErr, IfOk};
 ghost use Rattle.packet_fields.specs.declared.field.Field.{Field};
 ghost use Rattle.action_profile.specs.Modes.{modes_of};
-ghost use Rattle.packet_version.specs.Parts.{as_map, as_list, AreTags};
+ghost use Rattle.packet_version.specs.Parts.{as_map, as_list, IsPartOf};
 ghost use Rattle.packet_version.specs.Splitting.{parts_of, IsWhole};
 ghost use Rattle.packet_version.specs.Versions.{nothing};
 ghost use Rattle.packet_version.specs.Dealing.{dealt, based, kept_parts, RaisesByDue, RaisesWithinDue};
@@ -83,7 +83,7 @@ fn deal_parts(
 ) -> Result<(), AllocError>
     requires ten { length held.old.parts ≡ 10 }
     requires modes { modes.now ≡ modes_of (touches_in versions.old) }
-    requires tags { AreTags (as_map held.old.parts Field.Tag) }
+    requires formed { (f : Field) → IsPartOf f (as_map held.old.parts f) }
     requires empty { versions.old ≡ map without_fields versions.old }
     ensures given { OnOk result (versions.new ≡ map (with_own (as_map held.old.parts)) versions.old) }
     ensures kept { OnOk result (held.new ≡ record held.old { parts = as_list (kept_parts (touches_in versions.old) (as_map held.old.parts)) }) }

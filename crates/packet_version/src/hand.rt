@@ -2,10 +2,9 @@
 
 ghost use Rattle.std.specs.Prelude.{◌≡◌, ◌-◌, ◌&&◌, Some, None, option_map, map, true, OnOk, OnErr, IfOk, position, if◌then◌else◌, is_ok};
 ghost use Rattle.std.specs.List.{list_any};
-ghost use Rattle.packet_fields.specs.Frames.{is_tag_list};
 ghost use Rattle.packet_fields.specs.declared.field.Field.{Field};
 ghost use Rattle.action_profile.specs.Modes.{has_write, mode_of};
-ghost use Rattle.packet_version.specs.Parts.{as_map, writer_in, unwritten, AreTags};
+ghost use Rattle.packet_version.specs.Parts.{as_map, writer_in, unwritten, IsValueOf, IsPartOf};
 ghost use Rattle.packet_version.specs.Splitting.{fresh};
 ghost use Rattle.packet_version.specs.Tallies.{RaisesBy, RaisesAtMost};
 ghost use Rattle.packet_version.specs.Dealing.{kept_part, copies_due};
@@ -30,7 +29,7 @@ fn give_copy(
     version: &mut Version,
     tally: &mut Tally,
 ) -> Result<(), AllocError>
-    requires { field ≡ Field.Tag → is_tag_list bytes.now ≡ true }
+    requires { IsValueOf field bytes.now }
     ensures given { OnOk result (version.new ≡ copied_to field (fresh spare bytes.now) version.old) }
     ensures counted { RaisesBy (if is_ok result && has_write field version.old.touch then 1 else 0) field tally.old tally.new }
 {
@@ -50,7 +49,7 @@ fn give_copies(
     versions: &mut [Version],
     tally: &mut Tally,
 ) -> Result<(), AllocError>
-    requires { field ≡ Field.Tag → is_tag_list bytes.now ≡ true }
+    requires { IsValueOf field bytes.now }
     ensures given { OnOk result (versions.new ≡ map (copied_to field (fresh spare bytes.now)) versions.old) }
     ensures counted { OnOk result (RaisesBy (writers_in field versions.old) field tally.old tally.new) }
     ensures refused { OnErr result (RaisesAtMost (writers_in field versions.old) field tally.old tally.new) }
@@ -72,7 +71,7 @@ fn give_original(
     tally: &mut Tally,
 ) -> Result<(), AllocError>
     requires first { position (has_write field) (touches_in versions.old) ≡ Some first }
-    requires tags { field ≡ Field.Tag → is_tag_list part.bytes ≡ true }
+    requires formed { IsValueOf field part.bytes }
     ensures given { OnOk result (versions.new ≡ map (copied_to field part) versions.old) }
     ensures counted { OnOk result (RaisesBy (writers_in field versions.old - 1) field tally.old tally.new) }
     ensures refused { OnErr result (RaisesAtMost (writers_in field versions.old - 1) field tally.old tally.new) }
@@ -100,7 +99,7 @@ fn move_out(
     tally: &mut Tally,
 ) -> Result<(), AllocError>
     requires first { position (has_write field) (touches_in versions.old) ≡ Some first }
-    requires tags { field ≡ Field.Tag → AreTags (as_map held.old.parts field) }
+    requires formed { IsPartOf field (as_map held.old.parts field) }
     ensures given { OnOk result (versions.new ≡ map (copied_some field (as_map held.old.parts field)) versions.old) }
     ensures left { OnOk result (held.new ≡ with_place field None held.old) }
     ensures counted { OnOk result (RaisesBy (copies_of (as_map held.old.parts field) (writers_in field versions.old - 1)) field tally.old tally.new) }
@@ -120,7 +119,7 @@ fn copy_out(
     versions: &mut [Version],
     tally: &mut Tally,
 ) -> Result<(), AllocError>
-    requires tags { field ≡ Field.Tag → AreTags (as_map held.old.parts field) }
+    requires formed { IsPartOf field (as_map held.old.parts field) }
     ensures given { OnOk result (versions.new ≡ map (copied_some field (as_map held.old.parts field)) versions.old) }
     ensures left { OnOk result (held.new ≡ with_place field (option_map unwritten (as_map held.old.parts field)) held.old) }
     ensures counted { OnOk result (RaisesBy (copies_of (as_map held.old.parts field) (writers_in field versions.old)) field tally.old tally.new) }
@@ -145,7 +144,7 @@ pub(crate) fn deal_field(
     tally: &mut Tally,
 ) -> Result<(), AllocError>
     requires mode { mode ≡ mode_of (touches_in versions.old) field }
-    requires tags { field ≡ Field.Tag → AreTags (as_map held.old.parts field) }
+    requires formed { IsPartOf field (as_map held.old.parts field) }
     ensures given { OnOk result (versions.new ≡ map (copied_some field (as_map held.old.parts field)) versions.old) }
     ensures left { OnOk result (held.new ≡ with_place field (kept_part mode (as_map held.old.parts field)) held.old) }
     ensures counted { OnOk result (RaisesBy (copies_due (touches_in versions.old) field (as_map held.old.parts field)) field tally.old tally.new) }
@@ -167,7 +166,7 @@ pub(crate) fn deal_field(
 /// Lends the packet to a branch that reads fields which it doesn't write.
 fn lend_one(owner: &Owner<Held>, version: &mut Version) -> Result<(), AllocError>
     requires unwritten { (f : Field) → writer_in (as_map owner.now.parts f) ≡ 0 }
-    requires tags { AreTags (as_map owner.now.parts Field.Tag) }
+    requires formed { (f : Field) → IsPartOf f (as_map owner.now.parts f) }
     ensures { OnOk result (version.new ≡ lent_to (as_map owner.now.parts) version.old) }
 {
     if version.reads_more() {
@@ -179,7 +178,7 @@ fn lend_one(owner: &Owner<Held>, version: &mut Version) -> Result<(), AllocError
 /// Lends the packet to each branch that reads fields which it doesn't write.
 fn lend_out(owner: &Owner<Held>, versions: &mut [Version]) -> Result<(), AllocError>
     requires unwritten { (f : Field) → writer_in (as_map owner.now.parts f) ≡ 0 }
-    requires tags { AreTags (as_map owner.now.parts Field.Tag) }
+    requires formed { (f : Field) → IsPartOf f (as_map owner.now.parts f) }
     ensures { OnOk result (versions.new ≡ map (lent_to (as_map owner.now.parts)) versions.old) }
 {
     for version in versions.iter_mut() {
@@ -196,7 +195,7 @@ pub(crate) fn share_out(
     versions: &mut [Version],
 ) -> Result<Kept, AllocError>
     requires unwritten { (f : Field) → writer_in (as_map held.parts f) ≡ 0 }
-    requires tags { AreTags (as_map held.parts Field.Tag) }
+    requires formed { (f : Field) → IsPartOf f (as_map held.parts f) }
     ensures lent { OnOk result (versions.new ≡ map (lent_to (as_map held.parts)) versions.old) }
     ensures kept { IfOk result (λ kept. kept_in kept ≡ held) }
 {

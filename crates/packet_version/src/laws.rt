@@ -3,12 +3,14 @@ ghost use Rattle.std.specs.Prelude.{◌≡◌, ◌≢◌, ◌++◌, ℕ, List, S
 ghost use Rattle.packet_fields.specs.declared.field.Field.{Field};
 ghost use Rattle.action_profile.specs.declared.parts.Touch.{Touch};
 ghost use Rattle.action_profile.specs.Modes.{has_write};
+ghost use Rattle.packet_fields.specs.Writing.{over as values_over};
+ghost use Rattle.chain_walk.specs.Shown.{Values, AreWellFormed};
 ghost use Rattle.chain_walk.specs.Step.{nothing};
 ghost use Rattle.packet_version.specs.Parts.{Parts, rewritten, writers_of};
 ghost use Rattle.packet_version.specs.Splitting.{PlainApart, IsWhole, IsShapedAs, parts_of};
 ghost use Rattle.packet_version.specs.Versions.{parts_of as parts_in};
 ghost use Rattle.packet_version.specs.Dealing.{dealt, dealt_parts, based, kept_parts};
-ghost use Rattle.packet_version.specs.Views.{PlainView, seen_parts, seen_values, wrote, pushed, popped, wrote_all, alone, HasBytes, WroteAlone};
+ghost use Rattle.packet_version.specs.Views.{PlainView, seen_parts, seen_values, wrote, pushed, popped, wrote_all, rewritten_by, alone, HasBytes, WroteAlone};
 ghost use Rattle.packet_version.specs.Lending.{edited, over};
 ghost use Rattle.packet_version.specs.ViewLending.{left};
 ghost use Rattle.action_profile.specs.Profiles.{writes_of};
@@ -36,6 +38,13 @@ pub fn unwritten_stays(view: &View)
     let _ = &view.position;
 }
 
+/// What a view shows has the form of a frame's fields: each value has its field's length, and the tags are whole.
+pub fn view_is_formed(view: &View)
+    ensures { AreWellFormed (seen_values view.now) }
+{
+    let _ = &view.position;
+}
+
 /// Each way of writing in a view is to write one field: new bytes, bytes that were lent and left, one tag
 /// more before the others, and one less.
 pub fn written_is_one_value()
@@ -43,6 +52,13 @@ pub fn written_is_one_value()
     ensures edited { (view : PlainView) (f : Field) (bytes : List ℕ) → left f bytes view ≡ wrote_all (alone f (option_map (over bytes) (seen_values view f))) view }
     ensures pushed { (view : PlainView) (tag : List ℕ) → pushed tag view ≡ wrote_all (alone Field.Tag (option_map (λ tags. tag ++ tags) (seen_values view Field.Tag))) view }
     ensures popped { (view : PlainView) → popped view ≡ wrote_all (alone Field.Tag (option_map (λ tags. drop 4 tags) (seen_values view Field.Tag))) view }
+{}
+
+/// Writing some values and then others is writing the later ones over the first, in one step. What is there
+/// after a write has the new bytes, by this function, and room as before; a field that wasn't there stays so.
+pub fn later_write_stands_over()
+    ensures both { (view : PlainView) (first later : Values) → wrote_all later (wrote_all first view) ≡ wrote_all (values_over later first) view }
+    ensures parts { (view : PlainView) (new : Values) (f : Field) → seen_parts (wrote_all new view) f ≡ rewritten_by (new f) view.position (seen_parts view f) }
 {}
 
 /// Whoever wrote a field of a version did so in a branch that writes the field: what a branch only reads

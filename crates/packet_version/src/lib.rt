@@ -40,8 +40,6 @@ mod part;
 mod place;
 mod rest;
 mod tally;
-#[cfg(test)]
-mod tests;
 mod version;
 mod view;
 
@@ -51,8 +49,8 @@ pub use chain_walk::{Fixed, Verdict};
 pub use dealing::deal;
 pub use gathered::Gathered;
 pub use laws::{
-    dealt_is_read, left_is_read, shape_fits, unwritten_stays, write_apart, written_is_one_value,
-    written_is_own, written_is_read,
+    dealt_is_read, later_write_stands_over, left_is_read, shape_fits, unwritten_stays,
+    view_is_formed, write_apart, written_is_one_value, written_is_own, written_is_read,
 };
 pub use part::{Part, copy};
 pub use tally::Tally;

@@ -65,10 +65,9 @@ impl Version {
 
 impl Version {
     ghost use Rattle.std.specs.Prelude.{◌≡◌, Some, None, true, false, IfOk};
-    ghost use Rattle.packet_fields.specs.Frames.{is_tag_list};
     ghost use Rattle.packet_fields.specs.declared.field.Field.{Field};
     ghost use Rattle.action_profile.specs.Modes.{has_write};
-    ghost use Rattle.packet_version.specs.Parts.{as_map, writer_in, writers_of, AreTags};
+    ghost use Rattle.packet_version.specs.Parts.{as_map, writer_in, writers_of, AreTags, IsValueOf, IsPartOf};
     ghost use Rattle.packet_version.specs.Versions.{parts_of, with_part, nothing};
     ghost use Rattle.packet_version.specs.Handing.{reads_more, with_loan};
 
@@ -124,7 +123,7 @@ impl Version {
     /// Gives the branch a part of its own of a field that it writes.
     pub(crate) fn give(&mut self, field: Field, part: Part)
         requires written { has_write field self.old.touch ≡ true }
-        requires tags { field ≡ Field.Tag → is_tag_list part.bytes ≡ true }
+        requires formed { IsValueOf field part.bytes }
         ensures { self.new ≡ with_part field (Some part) self.old }
     {
         self.own[field.number()] = Some(part);
@@ -133,7 +132,7 @@ impl Version {
     /// Lends the branch a packet that nobody wrote, of which it sees what it only reads.
     pub(crate) fn lend(&mut self, reader: Reader<Held>)
         requires unwritten { (f : Field) → writer_in (as_map reader.parts f) ≡ 0 }
-        requires tags { AreTags (as_map reader.parts Field.Tag) }
+        requires formed { (f : Field) → IsPartOf f (as_map reader.parts f) }
         ensures { self.new ≡ with_loan (as_map reader.parts) self.old }
     {
         self.lent = Some(reader);

@@ -1,6 +1,7 @@
 //! What a function sees of its branch's version.
 
 use crate::held::Held;
+use crate::laws::view_is_formed;
 use crate::part::{Part, edit_part};
 use crate::version::{Version, released};
 use action_profile::{Profile, Touch};
@@ -34,22 +35,27 @@ impl Model for View {
 }
 
 impl View {
-    ghost use Rattle.std.specs.Prelude.{◌≡◌, ◌≢◌, ◌<◌, true, length, IsSome, is_some};
+    ghost use Rattle.std.specs.Prelude.{◌≡◌, ◌≢◌, ◌<◌, true, length, IsSome, IfSome, is_some};
     ghost use Rattle.std.specs.Option.{option_copied};
-    ghost use Rattle.packet_fields.specs.Frames.{is_tpid, word};
+    ghost use Rattle.packet_fields.specs.Frames.{is_tpid, is_tag_list, word};
+    ghost use Rattle.packet_fields.specs.Fields.{IsLengthOf};
     ghost use Rattle.packet_fields.specs.declared.field.Field.{Field};
     ghost use Rattle.action_profile.specs.Profiles.{reads_of, writes_of};
-    ghost use Rattle.packet_version.specs.Parts.{AreTags};
+    ghost use Rattle.packet_version.specs.Parts.{IsPartOf};
     ghost use Rattle.packet_version.specs.Versions.{names, with_part};
     ghost use Rattle.packet_version.specs.Views.{seen_parts, seen_values, wrote, pushed, popped, HasBytes, HasTagRoom};
     ghost use Rattle.packet_version.specs.ViewLending.{LendsField};
     ghost use Rattle.std.specs.Borrow.{sem};
 
-    /// The bytes of a field that the profile reads, where the packet has it.
+    /// The bytes of a field that the profile reads, where the packet has it. There are as many as the field
+    /// has, and the tags are whole.
     pub fn get(&self, field: Field) -> Option<&[u8]>
         requires read { reads_of self.now.profile field ≡ true }
-        ensures { option_copied result ≡ seen_values self.now field }
+        ensures value { option_copied result ≡ seen_values self.now field }
+        ensures size { IfSome result (λ bytes. IsLengthOf field (length bytes.now)) }
+        ensures whole { field ≡ Field.Tag → IfSome result (λ bytes. is_tag_list bytes.now ≡ true) }
     {
+        view_is_formed(self);
         self.bytes(field)
     }
 
@@ -131,7 +137,7 @@ impl View {
         requires written { writes_of self.old.profile field ≡ true }
         ensures part { result ≡ seen_parts self.old field }
         ensures left { self.new ≡ record self.old { version = with_part field None self.old.version } }
-        ensures tags { field ≡ Field.Tag → AreTags result }
+        ensures formed { IsPartOf field result }
     {
         mem::replace(&mut self.own[field.number()], None)
     }
@@ -139,7 +145,7 @@ impl View {
     /// Puts a part, or none, into the place of a field.
     fn put(&mut self, field: Field, part: Option<Part>)
         requires written { writes_of self.old.profile field ≡ true }
-        requires tags { field ≡ Field.Tag → AreTags part }
+        requires formed { IsPartOf field part }
         ensures { self.new ≡ record self.old { version = with_part field part self.old.version } }
     {
         self.own[field.number()] = part;

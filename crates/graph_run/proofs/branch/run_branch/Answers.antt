@@ -22,9 +22,6 @@ step_on-requires-clause-holds g c =
     let turn = has_turn _ _ _ _ _ _ _ c.loop-position.invariant c.requires.ready c.loop-position-test.true in
     subst (λ f. HoldsNamed (g.F.Function.behaviour.profile f) c.loop-position.version.touch) (sym (turn_is _ _ _ _ c.index-functions-position.result turn)) turn.holds
 
-pub step_on-requires-clause-well_formed : goal.step_on-requires-clause-well_formed
-step_on-requires-clause-well_formed g c = (has_turn _ _ _ _ _ _ _ c.loop-position.invariant c.requires.ready c.loop-position-test.true).formed
-
 pub step_on-requires-clause-room : goal.step_on-requires-clause-room
 step_on-requires-clause-room g c =
     let turn = has_turn _ _ _ _ _ _ _ c.loop-position.invariant c.requires.ready c.loop-position-test.true in

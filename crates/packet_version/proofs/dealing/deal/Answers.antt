@@ -1,19 +1,20 @@
 use Rattle.std.proofs.Common.{◌≡◌, ◌∙◌, List, map, sym, ap, subst, length, arith}
 use Rattle.std.proofs.lemmas.List.{take_at}
 use Rattle.packet_fields.specs.Writing.{rest_of}
-use Rattle.packet_fields.specs.declared.field.Field.TheVariants.{Tag}
+use Rattle.packet_fields.specs.declared.field.Field.{Field}
 use Rattle.action_profile.specs.Modes.{modes_of}
 use Rattle.action_profile.specs.declared.parts.Touch.{Touch}
-use Rattle.packet_version.specs.Parts.{PlainHeld, Parts, as_map, as_list, writer_in, AreTags}
+use Rattle.packet_version.specs.Parts.{PlainHeld, Parts, as_map, as_list, writer_in, IsPartOf}
 use Rattle.packet_version.specs.Splitting.{PlainApart, IsWhole, parts_of}
 use Rattle.packet_version.specs.Versions.{PlainVersion, nothing}
 use Rattle.packet_version.specs.Dealing.{dealt, based, kept_parts, copies_due, RaisesByDue, RaisesWithinDue}
 use Rattle.packet_version.specs.Handing.{touches_in, lent_to}
-use Rattle.packet_version.proofs.Dealt.{stage_dealt, kept_unwritten, kept_tags}
+use Rattle.packet_version.proofs.Dealt.{stage_dealt, kept_unwritten, kept_formed}
+use Rattle.packet_version.proofs.Forming.{whole_formed}
 use Rattle.packet_version.proofs.Handing.{on_err}
 use Rattle.packet_version.proofs.Maps.{as_map-listed}
 use Rattle.packet_version.proofs.Resting.{whole_to}
-use Rattle.packet_version.proofs.Stepping.{touches_begin, empty_begin, raised_within, tags_whole}
+use Rattle.packet_version.proofs.Stepping.{touches_begin, empty_begin, raised_within}
 use Rattle.packet_version.proofs.dealing.deal.Goals as goal
 
 pub returns-in_err-versions-clause-fits : goal.returns-in_err-versions-clause-fits
@@ -27,8 +28,8 @@ deal_parts-requires-clause-modes c =
     let made : c.deref_mut.result.now ≡ map (λ t. nothing t fixed) touches = c.deref_mut.ensures.value ∙ (c.in_ok-versions.ensures ∙ ap (λ (ts : List Touch). map (λ t. nothing t fixed) ts) c.as_slice.ensures) in
     c.requires.modes ∙ ap (λ (us : List Touch). modes_of us) (sym (touches_begin touches fixed c.deref_mut.result.now made))
 
-pub deal_parts-requires-clause-tags : goal.deal_parts-requires-clause-tags
-deal_parts-requires-clause-tags c = tags_whole (as_map c.whole.inside.held.parts) c.whole.inside.held.frame c.whole.invariant
+pub deal_parts-requires-clause-formed : goal.deal_parts-requires-clause-formed
+deal_parts-requires-clause-formed c = whole_formed (as_map c.whole.inside.held.parts) c.whole.inside.held.frame c.whole.invariant
 
 pub deal_parts-requires-clause-empty : goal.deal_parts-requires-clause-empty
 deal_parts-requires-clause-empty c =
@@ -62,15 +63,15 @@ share_out-requires-clause-unwritten c =
     let kept : as_map c.deal_parts.new.held.parts ≡ kept_parts touches parts = ap (λ (h : PlainHeld). as_map h.parts) c.in_ok-deal_parts.ensures.kept ∙ (as_map-listed (kept_parts (touches_in c.deref_mut.result.now) parts) ∙ ap (λ (us : List Touch). kept_parts us parts) ts) in
     λ f. ap (λ (m : Parts). writer_in (m f)) kept ∙ kept_unwritten touches parts f
 
-pub share_out-requires-clause-tags : goal.share_out-requires-clause-tags
-share_out-requires-clause-tags c =
+pub share_out-requires-clause-formed : goal.share_out-requires-clause-formed
+share_out-requires-clause-formed c =
     let parts = as_map c.whole.inside.held.parts in
     let fixed = c.whole.inside.fixed in
     let touches = c.args.parts.now.touches in
     let made : c.deref_mut.result.now ≡ map (λ t. nothing t fixed) touches = c.deref_mut.ensures.value ∙ (c.in_ok-versions.ensures ∙ ap (λ (ts : List Touch). map (λ t. nothing t fixed) ts) c.as_slice.ensures) in
     let ts = touches_begin touches fixed c.deref_mut.result.now made in
     let kept : as_map c.deal_parts.new.held.parts ≡ kept_parts touches parts = ap (λ (h : PlainHeld). as_map h.parts) c.in_ok-deal_parts.ensures.kept ∙ (as_map-listed (kept_parts (touches_in c.deref_mut.result.now) parts) ∙ ap (λ (us : List Touch). kept_parts us parts) ts) in
-    subst (λ (m : Parts). AreTags (m Tag)) (sym kept) (kept_tags touches parts (tags_whole parts c.whole.inside.held.frame c.whole.invariant))
+    subst (λ (m : Parts). (f : Field) → IsPartOf f (m f)) (sym kept) (λ f. kept_formed touches parts f (whole_formed parts c.whole.inside.held.frame c.whole.invariant f))
 
 pub returns-in_err-kept-clause-refused : goal.returns-in_err-kept-clause-refused
 returns-in_err-kept-clause-refused c =

@@ -6,7 +6,7 @@ use Rattle.packet_fields.specs.declared.field.Field.TheVariants.{LinkDst}
 use Rattle.action_profile.specs.Modes.{mode_of}
 use Rattle.action_profile.specs.declared.parts.Mode.TheVariants.{Shared}
 use Rattle.action_profile.specs.declared.parts.Touch.{Touch}
-use Rattle.packet_version.specs.Parts.{PlainPart, PlainHeld, as_map, as_list, changed, AreTags}
+use Rattle.packet_version.specs.Parts.{PlainPart, PlainHeld, as_map, as_list, changed, IsPartOf}
 use Rattle.packet_version.specs.Dealing.{kept_part, kept_parts, copies_due}
 use Rattle.packet_version.specs.Handing.{touches_in}
 use Rattle.packet_version.proofs.Handing.{on_err}
@@ -20,14 +20,14 @@ deal_field-requires-clause-mode c =
     mode_read (touches_in c.args.versions.now) c.args.modes.now field c.number.result Shared c.requires.modes c.number.ensures.number
     ∙ ap (λ (ts : List Touch). mode_of ts field) (sym (touches_stay c.loop-field.field-index (as_map c.args.held.now.parts) c.args.versions.now c.loop-field.versions c.loop-field.invariant.given))
 
-pub deal_field-requires-clause-tags : goal.deal_field-requires-clause-tags
-deal_field-requires-clause-tags c =
+pub deal_field-requires-clause-formed : goal.deal_field-requires-clause-formed
+deal_field-requires-clause-formed c =
     let field = get_or c.all_fields-fields.result.now c.loop-field.field-index LinkDst in
     let parts = as_map c.args.held.now.parts in
     let ts = touches_in c.args.versions.now in
     let at : number_of field ≡ c.loop-field.field-index = number_at c.all_fields-fields.result.now c.loop-field.field-index c.loop-field.invariant.fields c.loop-field-test.true in
     let own : as_map c.loop-field.held.parts field ≡ parts field = part_next field c.loop-field.field-index ts parts (as_map c.loop-field.held.parts) at c.loop-field.invariant.kept in
-    λ e. subst AreTags (sym own) (subst (λ (g : Field). AreTags (parts g)) (sym e) c.requires.tags)
+    subst (IsPartOf field) (sym own) (c.requires.formed field)
 
 pub returns-in_err-deal_field-clause-refused : goal.returns-in_err-deal_field-clause-refused
 returns-in_err-deal_field-clause-refused c =

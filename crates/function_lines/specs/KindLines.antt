@@ -1,0 +1,67 @@
+-- Believed: The lines of a declaration, which of them are refused, and the least of these, for a function of any kind.
+use Rattle.std.specs.Prelude.{◌≡◌, ℕ, min, List, [], ◌∷◌, ◌++◌, Bool, not, ◌&&◌, ◌||◌, if◌then◌else◌, Option, Some, None, is_none, Result, Ok, Err, slice_index_or, filter_map, fold, codes}
+use Rattle.std.specs.List.{list_any}
+use Rattle.std.specs.Str.{bytes_eq}
+use Rattle.policy_text.specs.declared.fault.BuildFault.{BuildFault}
+use Rattle.policy_text.specs.declared.fault.BuildFault.TheVariants.{BadSetting, OutOfMemory}
+use Rattle.policy_text.specs.declared.policy.FunctionDecl.{FunctionDecl}
+use Rattle.policy_text.specs.declared.policy.Setting.{Setting}
+
+-- The lines of a kind: what the words of a line say, none where they are no line of it, and the lines that each
+-- declaration has to have, each as the test that it passes.
+pub record KindLines (L : Type 0) : Type 0 where
+  pub line_of : List (List ℕ) → Option L
+  pub required : List (L → Bool)
+
+-- what the lines say that are lines of the kind, in order
+abbrev pub said_by : {L : Type 0} → KindLines L → List Setting → List L
+said_by lines settings = filter_map (λ s. lines.line_of s.words) settings
+
+-- one of the lines that have to be there is none of these
+abbrev pub lacks_one : {L : Type 0} → KindLines L → List L → Bool
+lacks_one lines said = list_any (λ is. not (list_any is said)) lines.required
+
+-- a word of the line, none past its end
+abbrev pub word_of : Setting → ℕ → List ℕ
+word_of s place = slice_index_or s.words place []
+
+-- two `set` lines of one key
+abbrev pub has_same_key : Setting → Setting → Bool
+has_same_key s t = bytes_eq (word_of s 0) (codes "set") && (bytes_eq (word_of t 0) (codes "set") && bytes_eq (word_of s 1) (word_of t 1))
+
+-- a `set` line whose key stood in a line before
+abbrev pub repeats : List Setting → Setting → Bool
+repeats before s = list_any (has_same_key s) before
+
+-- a line is refused where it is no line of the kind, or sets a key that stood before
+abbrev pub is_refused : {L : Type 0} → KindLines L → List Setting → Setting → Bool
+is_refused lines before s = is_none (lines.line_of s.words) || repeats before s
+
+-- the refused lines among those that stand behind these
+abbrev pub refused_behind : {L : Type 0} → KindLines L → List Setting → List Setting → List ℕ
+refused_behind lines before [] = []
+refused_behind lines before (s ∷ later) = (if is_refused lines before s then s.line ∷ [] else []) ++ refused_behind lines (before ++ s ∷ []) later
+
+-- all refused lines of a declaration: the `fn` line too, where a line is missing that has to be there
+abbrev pub refused_lines : {L : Type 0} → KindLines L → FunctionDecl → List ℕ
+refused_lines lines decl = refused_behind lines [] decl.settings ++ (if lacks_one lines (said_by lines decl.settings) then decl.line ∷ [] else [])
+
+-- the lesser of two lines
+abbrev pub lesser : Option ℕ → ℕ → Option ℕ
+lesser None line = Some line
+lesser (Some least) line = Some (min least line)
+
+-- the least of these lines, none where there are none
+abbrev pub least : List ℕ → Option ℕ
+least lines = fold lesser None lines
+
+-- the least refused line of a declaration, none where each line may stand
+abbrev pub refused_line : {L : Type 0} → KindLines L → FunctionDecl → Option ℕ
+refused_line lines decl = least (refused_lines lines decl)
+
+-- What making a function of its lines answers, by what the lines make: the function, where no line is refused, or the
+-- least refused line; memory may run out.
+abbrev pub Builds : {L F : Type 0} → KindLines L → (List L → F) → FunctionDecl → Result F BuildFault → Type 0
+Builds lines made_by decl (Ok f) = (refused_line lines decl ≡ None) × (f ≡ made_by (said_by lines decl.settings))
+Builds lines made_by decl (Err (BadSetting line)) = refused_line lines decl ≡ Some line
+Builds lines made_by decl (Err OutOfMemory) = Unit {0}

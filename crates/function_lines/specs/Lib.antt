@@ -1,0 +1,3 @@
+pub mod KindLines
+pub mod Refusing
+pub mod Rules

@@ -1,0 +1,20 @@
+//! The lines of a kind of function.
+ghost use Rattle.std.specs.Prelude.{◌≡◌, IfOk};
+ghost use Rattle.function_lines.specs.KindLines.{KindLines, lacks_one};
+
+use policy_text::Word;
+use std::alloc::{AllocError, Global};
+
+/// What a line of a kind of function says.
+pub trait FunctionLine: Drop {
+    /// What words are a line of the kind, and which of its lines each declaration has to have.
+    ghost kind_lines: { KindLines Self };
+
+    /// Reads a line, or answers `None` where it is no line of the kind.
+    fn read(alloc: Global, words: &[Word]) -> Result<Option<Self>, AllocError>
+        ensures { IfOk result (λ line. line ≡ kind_lines.line_of words.now) };
+
+    /// Is a line missing among these that each declaration has to have?
+    fn lacks_one(lines: &[Self]) -> bool
+        ensures { result ≡ lacks_one kind_lines lines.now };
+}

@@ -1,0 +1,54 @@
+//! Reads the lines of a declaration.
+ghost use Rattle.std.specs.Prelude.{◌≡◌, ◌||◌, ◌++◌, false, is_none, OnOk, IfOk};
+ghost use Rattle.std.specs.Option.{option_to_list};
+ghost use Rattle.function_lines.specs.KindLines.{Builds, lacks_one, repeats};
+
+use crate::line::FunctionLine;
+use crate::settings::{least_refused, repeats};
+use item_list::Items;
+use policy_text::{BuildFault, FunctionDecl, Setting};
+use std::alloc::{AllocError, Global};
+
+/// The lines of a declaration in order, or the least line of it that is refused: one that is no line of
+/// the kind, a second `set` of a key, or the `fn` line, where a line is missing that has to be there.
+#[tactic(auto, using(crate::proofs::Gathering::begins, crate::proofs::Gathering::goes_on))]
+pub fn read_lines<L: FunctionLine>(
+    alloc: Global,
+    decl: &FunctionDecl,
+) -> Result<Items<L>, BuildFault>
+    ensures lines { Builds L.kind_lines (λ lines. lines) decl.now result }
+    ensures whole { IfOk result (λ lines. lacks_one L.kind_lines lines ≡ false) }
+{
+    let settings = decl.settings.as_slice();
+    let mut lines = Items::new(Vec::new(alloc));
+    let mut least = None;
+    'settings: for place in 0..settings.len() {
+        let setting = &settings[place];
+        let line = L::read(alloc, setting.words.as_slice())?;
+        let refused = is_refused(&line, &settings[..place], setting);
+        least = least_refused(least, refused, setting.line);
+        keep(&mut lines, line)?;
+    }
+    let lacks_one = L::lacks_one(lines.as_slice());
+    match least_refused(least, lacks_one, decl.line) {
+        Some(line) => Err(BuildFault::BadSetting(line)),
+        None => Ok(lines),
+    }
+}
+
+// Keeps the line, where there is one.
+fn keep<L: Drop>(lines: &mut Items<L>, line: Option<L>) -> Result<(), AllocError>
+    ensures { OnOk result (lines.new ≡ lines.old ++ option_to_list line) }
+{
+    if let Some(line) = line {
+        lines.push(line)?;
+    }
+    Ok(())
+}
+
+// Is a line refused that says this, and stands behind these?
+fn is_refused<L>(line: &Option<L>, before: &[Setting], setting: &Setting) -> bool
+    ensures { result ≡ (is_none line.now || repeats before.now setting.now) }
+{
+    line.is_none() || repeats(before, setting)
+}
