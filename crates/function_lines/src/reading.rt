@@ -1,7 +1,8 @@
 //! Reads the lines of a declaration.
 ghost use Rattle.std.specs.Prelude.{◌≡◌, ◌||◌, ◌++◌, if◌then◌else◌, false, is_none, OnOk, IfOk};
 ghost use Rattle.std.specs.Option.{option_to_list};
-ghost use Rattle.function_lines.specs.KindLines.{Builds, lacks_one, lesser, repeats};
+ghost use Rattle.function_lines.specs.Builds.{Builds};
+ghost use Rattle.function_lines.specs.KindLines.{lacks_one, lesser, repeats};
 
 use crate::line::FunctionLine;
 use crate::settings::{least_refused, repeats};
