@@ -1,4 +1,4 @@
--- The one line that is put into Note for each outcome.
+-- Believed: the one line that is put into Note for each outcome.
 use Rattle.std.specs.Prelude.{ℕ, ◌-◌, List, [], ◌∷◌, codes}
 use Rattle.std.specs.List.{flat_map}
 use Rattle.std.specs.Fmt.{decimal}

@@ -1,4 +1,4 @@
--- The report: the line of each dropped packet, the totals, the copies of each field, a line for each function, and the end or the
+-- Believed: the report: the line of each dropped packet, the totals, the copies of each field, a line for each function, and the end or the
 -- capture's fault.
 use Rattle.std.specs.Prelude.{ℕ, zero, suc, ◌-◌, List, [], ◌∷◌, ◌++◌, length, Bool, true, false, codes, count_by, slice_get, Option, Some, None}
 use Rattle.std.specs.Option.{option_map_or}

@@ -1,26 +1,54 @@
 //! The one line that is put into Note for each outcome.
-ghost use Rattle.std.specs.Prelude.{◌≡◌, ◌≤◌, IfOk};
+ghost use Rattle.std.specs.Prelude.{◌≡◌, ◌≢◌, ◌≤◌, IfOk};
+ghost use Rattle.nfp_outside.specs.declared.slot.Slot.{Slot};
 ghost use Rattle.nfp_run.specs.Notes.{usage_text, done_text, capture_text, slot_word, read_fault_text, write_fault_text};
-ghost use Rattle.nfp_run.specs.Closing.{outcome_seen, stop_text, text_of, CountsWithin};
+ghost use Rattle.nfp_run.specs.Closing.{outcome_seen, stop_text, text_of, untold, CountsWithin, Notes};
 
 use crate::ending::Ending;
 use crate::outcome::{Outcome, UsageFault};
 use crate::report::{Totals, join};
 use item_list::Items;
-use nfp_outside::Slot;
+use nfp_outside::{Desk, OutsideFault, Slot, write_whole};
 use pcap_io::CaptureFault;
 use policy_judge::Refusal;
 use std::alloc::{AllocError, Global};
 
-/// How a call ended, and the line that tells it.
-#[derive(Drop)]
-pub struct Told {
-    pub outcome: Outcome,
-    pub line: Items<u8>,
+/// Puts the line of what ended so into Note.
+pub fn put_note<D: Desk>(alloc: Global, desk: &mut D, ending: Ending) -> Outcome
+    requires { CountsWithin ending }
+    ensures notes { Notes ending (D.slots desk.old Slot.Note) (D.slots desk.new Slot.Note) result }
+    ensures others { (s : Slot) → s ≢ Slot.Note → D.slots desk.new s ≡ D.slots desk.old s }
+{
+    let told = match tell(alloc, ending) {
+        Ok(told) => told,
+        Err(_) => return Outcome::OutOfMemory,
+    };
+    match write_whole(desk, Slot::Note, told.line.as_slice()) {
+        Ok(()) => told.outcome,
+        Err(OutsideFault::WriteFault(_)) => untold(told.outcome),
+        Err(_) => Outcome::OutOfMemory,
+    }
 }
 
-/// The outcome of what ended so, with its line.
-pub fn tell(alloc: Global, ending: Ending) -> Result<Told, AllocError>
+// What is answered where the line couldn't be put: the work was done, or had ended otherwise before.
+fn untold(outcome: Outcome) -> Outcome
+    ensures { result ≡ untold outcome }
+{
+    match outcome {
+        Outcome::Done => Outcome::WriteFault(Slot::Note),
+        outcome => outcome,
+    }
+}
+
+/// How a call ended, and the line that tells it.
+#[derive(Drop)]
+struct Told {
+    outcome: Outcome,
+    line: Items<u8>,
+}
+
+// The outcome of what ended so, with its line.
+fn tell(alloc: Global, ending: Ending) -> Result<Told, AllocError>
     requires { CountsWithin ending }
     ensures outcome { IfOk result (λ told. told.outcome ≡ outcome_seen ending) }
     ensures line { IfOk result (λ told. told.line ≡ text_of ending) }

@@ -1,6 +1,6 @@
 //! Runs over desks in memory, with the capture and the answers written down by hand.
-use crate::call::nfp;
-use crate::outcome::{Outcome, UsageFault};
+
+use nfp_run::{Outcome, UsageFault, nfp};
 use nfp_outside::{FixedDesk, MemDesk, OpenGate, Slot};
 use pcap_io::CaptureFault;
 use std::alloc::{AllocError, Global};
