@@ -16,7 +16,8 @@ use Rattle.packet_version.specs.Tallies.{raised}
 use Rattle.graph_run.specs.Counting.{copies_made}
 use Rattle.policy_text.specs.declared.policy.ChainPolicy.{ChainPolicy}
 use Rattle.policy_text.specs.declared.policy.FunctionDecl.{FunctionDecl}
-use Rattle.nfp_run.specs.Notes.{joined, capture_text}
+use Rattle.text_lines.specs.Texts.{joined}
+use Rattle.nfp_run.specs.Notes.{capture_text}
 use Rattle.nfp_run.specs.NamedFunctions.{names_of}
 use Rattle.nfp_run.specs.Services.{stages_of}
 use Rattle.nfp_run.specs.declared.service.NamedFunction.{NamedFunction}

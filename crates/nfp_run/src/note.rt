@@ -6,12 +6,14 @@ ghost use Rattle.nfp_run.specs.Closing.{outcome_seen, stop_text, text_of, untold
 
 use crate::ending::Ending;
 use crate::outcome::{Outcome, UsageFault};
-use crate::report::{Totals, join};
+use crate::report::Totals;
 use item_list::Items;
 use nfp_outside::{Desk, OutsideFault, Slot, write_whole};
 use pcap_io::CaptureFault;
 use policy_judge::Refusal;
 use std::alloc::{AllocError, Global};
+use text_lines::Piece::{Number, Text};
+use text_lines::join;
 
 /// Puts the line of what ended so into Note.
 pub fn put_note<D: Desk>(alloc: Global, desk: &mut D, ending: Ending) -> Outcome
@@ -105,19 +107,16 @@ fn done_text(alloc: Global, totals: Totals) -> Result<Vec<u8>, AllocError>
     requires { totals.dropped ≤ totals.records }
     ensures { IfOk result (λ v. v.items ≡ done_text totals.records totals.dropped) }
 {
-    let records = totals.records.to_string(alloc)?;
-    let emitted = (totals.records - totals.dropped).to_string(alloc)?;
-    let dropped = totals.dropped.to_string(alloc)?;
     join(
         alloc,
         &[
-            b"done records ",
-            records.as_bytes(),
-            b" emitted ",
-            emitted.as_bytes(),
-            b" dropped ",
-            dropped.as_bytes(),
-            b"\n",
+            Text(b"done records "),
+            Number(totals.records),
+            Text(b" emitted "),
+            Number(totals.records - totals.dropped),
+            Text(b" dropped "),
+            Number(totals.dropped),
+            Text(b"\n"),
         ],
     )
 }
@@ -131,28 +130,30 @@ pub fn capture_text(alloc: Global, fault: CaptureFault) -> Result<Vec<u8>, Alloc
         CaptureFault::BadMagic => Vec::from_slice(alloc, b"capture: bad magic\n".as_slice()),
         CaptureFault::BadVersion => Vec::from_slice(alloc, b"capture: bad version\n".as_slice()),
         CaptureFault::BadLink(link) => {
-            let link = link.to_string(alloc)?;
-            join(alloc, &[b"capture: bad link ", link.as_bytes(), b"\n"])
+            let link = u64::from(link);
+            join(
+                alloc,
+                &[Text(b"capture: bad link "), Number(link), Text(b"\n")],
+            )
         }
         CaptureFault::CutHead => Vec::from_slice(alloc, b"capture: cut head\n".as_slice()),
         CaptureFault::CutRecord(number) => {
-            let number = number.to_string(alloc)?;
-            join(alloc, &[b"capture: cut record ", number.as_bytes(), b"\n"])
-        }
-        CaptureFault::FrameTooLong(number, length) => {
-            let number = number.to_string(alloc)?;
-            let length = length.to_string(alloc)?;
+            let number = u64::from(number);
             join(
                 alloc,
-                &[
-                    b"capture: frame too long ",
-                    number.as_bytes(),
-                    b" ",
-                    length.as_bytes(),
-                    b"\n",
-                ],
+                &[Text(b"capture: cut record "), Number(number), Text(b"\n")],
             )
         }
+        CaptureFault::FrameTooLong(number, length) => join(
+            alloc,
+            &[
+                Text(b"capture: frame too long "),
+                Number(u64::from(number)),
+                Text(b" "),
+                Number(u64::from(length)),
+                Text(b"\n"),
+            ],
+        ),
         CaptureFault::TooManyRecords => {
             Vec::from_slice(alloc, b"capture: too many records\n".as_slice())
         }
@@ -164,7 +165,10 @@ pub fn capture_text(alloc: Global, fault: CaptureFault) -> Result<Vec<u8>, Alloc
 fn read_fault_text(alloc: Global, slot: Slot) -> Result<Vec<u8>, AllocError>
     ensures { IfOk result (λ v. v.items ≡ read_fault_text slot) }
 {
-    join(alloc, &[b"read fault: ", slot_word(slot), b"\n"])
+    join(
+        alloc,
+        &[Text(b"read fault: "), Text(slot_word(slot)), Text(b"\n")],
+    )
 }
 
 // The line of a slot that couldn't be written.
@@ -172,7 +176,10 @@ fn read_fault_text(alloc: Global, slot: Slot) -> Result<Vec<u8>, AllocError>
 fn write_fault_text(alloc: Global, slot: Slot) -> Result<Vec<u8>, AllocError>
     ensures { IfOk result (λ v. v.items ≡ write_fault_text slot) }
 {
-    join(alloc, &[b"write fault: ", slot_word(slot), b"\n"])
+    join(
+        alloc,
+        &[Text(b"write fault: "), Text(slot_word(slot)), Text(b"\n")],
+    )
 }
 
 fn slot_word(slot: Slot) -> &'static [u8]
