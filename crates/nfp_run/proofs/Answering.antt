@@ -22,12 +22,12 @@ pub record Called (command : Result Command UsageFault) (old mid new : Slot → 
   pub notes : Notes ended (mid slots.Note) (new slots.Note) result
   pub beside : (s : Slot) → s ≢ slots.Note → new s ≡ mid s
 
-if_told : (a b : Option (List ℕ)) (P Q : List ℕ → List ℕ → Type 0) → ((p c : List ℕ) → P p c → Q p c) → IfSome a (λ p. IfSome b (P p)) → IfSome a (λ p. IfSome b (Q p))
+pub if_told : (a b : Option (List ℕ)) (P Q : List ℕ → List ℕ → Type 0) → ((p c : List ℕ) → P p c → Q p c) → IfSome a (λ p. IfSome b (P p)) → IfSome a (λ p. IfSome b (Q p))
 if_told None b P Q f h = tt
 if_told (Some p) None P Q f h = tt
 if_told (Some p) (Some c) P Q f h = f p c h
 
-told_always : (a b : Option (List ℕ)) (P : List ℕ → List ℕ → Type 0) → ((p c : List ℕ) → P p c) → IfSome a (λ p. IfSome b (P p))
+pub told_always : (a b : Option (List ℕ)) (P : List ℕ → List ℕ → Type 0) → ((p c : List ℕ) → P p c) → IfSome a (λ p. IfSome b (P p))
 told_always None b P f = tt
 told_always (Some p) None P f = tt
 told_always (Some p) (Some c) P f = f p c
@@ -59,7 +59,7 @@ due_here : (due : Due) (old mid new : Slot → SlotView) (ended : Ending) (resul
 due_here due old mid new ended result p q is ends = record { answer = is ∙ ends.answer; left = leaves_to due.written old mid new p q ends.left }
 
 untold_final : (outcome : Outcome) → IsFinal (untold outcome) → untold outcome ≡ outcome
-untold_final Done final = absurd final
+untold_final Done final = search rules
 untold_final (Usage fault) final = refl
 untold_final (Policy fault) final = refl
 untold_final (NotBuilt s) final = refl
@@ -190,7 +190,7 @@ unnoted_text command old mid ended ran some = go (outcome_seen ended) refl
 prefix_here : (text text' : List ℕ) (old mid new : SlotView) → mid ≡ old → text ≡ text' → AppendsPrefix text mid new → AppendsPrefix text' old new
 prefix_here text text' old mid new p q a = subst (λ v. AppendsPrefix text' v new) p (subst (λ t. AppendsPrefix t mid new) q a)
 
-whole_here : (text text' : List ℕ) (old mid new : SlotView) → mid ≡ old → text ≡ text' → Appends text mid new → Appends text' old new
+pub whole_here : (text text' : List ℕ) (old mid new : SlotView) → mid ≡ old → text ≡ text' → Appends text mid new → Appends text' old new
 whole_here text text' old mid new p q a = subst (λ v. Appends text' v new) p (subst (λ t. Appends t mid new) q a)
 
 pub called_noted : (command : Result Command UsageFault) (old mid new : Slot → SlotView) (ended : Ending) (result : Outcome) → Called command old mid new ended result → result ≢ OutOfMemory →

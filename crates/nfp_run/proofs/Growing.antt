@@ -25,7 +25,8 @@ use Rattle.chain_walk.proofs.Fielding.{step_fits}
 use Rattle.chain_walk.proofs.Forming.{frame_formed}
 use Rattle.chain_walk.proofs.Walking.{walk_passes, walk_drops}
 use Rattle.nfp_run.specs.Emitted.{packet_of, packets_of, fates_of}
-use Rattle.nfp_run.specs.NamedFunctions.{named_behaviour, named_keeps}
+use Rattle.nfp_run.specs.NamedFunctions.{named_behaviour}
+use Rattle.nfp_run.specs.NamedFunctionLaws.{named_keeps}
 use Rattle.nfp_run.specs.Passing.{IsWritable}
 use Rattle.nfp_run.specs.declared.service.NamedFunction.{NamedFunction}
 use Rattle.nfp_run.proofs.Walking.{walk_names, as_many_named}

@@ -10,6 +10,7 @@ pub mod Judged
 pub mod Leading
 pub mod Listing
 pub mod Naming
+pub mod Noting
 pub mod Passing
 pub mod Planning
 pub mod Putting

@@ -1,9 +1,9 @@
--- What an outcome says of the slots.
+-- Believed: what an outcome says of the slots.
 use Rattle.std.specs.Prelude.{◌≡◌, ◌⊎◌, ℕ, List, ◌++◌, Option, Some, None, IfSome, IsSome, IsOk, Result, Ok, Err}
 use Rattle.std.specs.Option.{option_map}
 use Rattle.nfp_outside.specs.declared.slot.Slot.{Slot}
 use Rattle.nfp_outside.specs.declared.slot.Slot.TheVariants as slots
-use Rattle.nfp_outside.specs.Outside.{SlotView, IsRisen}
+use Rattle.nfp_outside.specs.Outside.{SlotView, IsRisen, AppendsPrefix}
 use Rattle.pcap_io.specs.Capture.{capture_of}
 use Rattle.pcap_io.specs.Reader.{IsHeadFault}
 use Rattle.pcap_io.specs.declared.capture.CaptureFault.{CaptureFault}
@@ -80,6 +80,10 @@ note_due (WriteFault slots.Out) note = write_fault_text slots.Out
 note_due (WriteFault slots.Report) note = write_fault_text slots.Report
 note_due (WriteFault slot) note = note
 note_due outcome note = note
+
+-- a front part is put into Note of what is due, or of the line of a fault of reading or writing
+abbrev pub NotesPrefix : List ℕ → SlotView → SlotView → Type 0
+NotesPrefix note old new = AppendsPrefix note old new ⊎ ((s : Slot) × AppendsPrefix (read_fault_text s) old new) ⊎ ((s : Slot) × AppendsPrefix (write_fault_text s) old new)
 
 -- the name that a command gives a slot
 abbrev pub name_of : Command → Slot → Option (List ℕ)

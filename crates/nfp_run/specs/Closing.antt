@@ -1,4 +1,4 @@
--- How a call ends, before its line is put into Note.
+-- For proofs: how a call ends, before its line is put into Note.
 use Rattle.std.specs.Prelude.{◌≡◌, ◌⊎◌, ◌≤◌, ℕ, List, [], length, count_by, Option, Some, None, IsSome, Result, Ok, Err}
 use Rattle.nfp_outside.specs.declared.slot.Slot.{Slot}
 use Rattle.nfp_outside.specs.declared.slot.Slot.TheVariants as slots

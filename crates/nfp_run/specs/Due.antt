@@ -1,4 +1,4 @@
--- The result: what words, a policy and a capture are to be answered with.
+-- Believed: the result: what words, a policy and a capture are to be answered with.
 use Rattle.std.specs.Prelude.{ℕ, List, length, count_by, Option, Some, None, Result, Ok, Err}
 use Rattle.nfp_outside.specs.declared.slot.Slot.TheVariants.{Policy}
 use Rattle.pcap_io.specs.Capture.{Body, capture_of}

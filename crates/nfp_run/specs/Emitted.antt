@@ -1,4 +1,4 @@
--- The capture that is written: the records whose packets passed the chain, each with the frame that the chain left, sealed.
+-- Believed: the capture that is written: the records whose packets passed the chain, each with the frame that the chain left, sealed.
 use Rattle.std.specs.Prelude.{ℕ, List, [], ◌++◌, map}
 use Rattle.std.specs.List.{flat_map, zip}
 use Rattle.packet_fields.specs.Checksums.{sealed}

@@ -4,6 +4,7 @@ pub mod Due
 pub mod Emitted
 pub mod Named
 pub mod NamedFunctions
+pub mod NamedFunctionLaws
 pub mod Notes
 pub mod Passing
 pub mod Plan

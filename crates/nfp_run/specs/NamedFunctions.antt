@@ -1,11 +1,8 @@
--- Functions with their names: how they behave, and that they do what their profiles say, and no more.
+-- Believed: functions with their names: how they behave.
 use Rattle.std.specs.Prelude.{ℕ, List, map}
-use Rattle.std.proofs.Common.{ap}
-use Rattle.chain_walk.specs.Laws.{KeepsProfile}
 use Rattle.chain_walk.specs.Shown.{Shown}
 use Rattle.chain_walk.specs.Step.{Step, Behaviour}
 use Rattle.net_functions.specs.NetFunctions.{net_behaviour, lines_of}
-use Rattle.net_functions.specs.NetFunctionLaws.{net_keeps}
 use Rattle.nfp_run.specs.declared.service.NamedFunction.{NamedFunction}
 
 -- it does what its function does, and keeps its name
@@ -27,13 +24,3 @@ named_lines f = lines_of f.function
 -- the names of functions, in their order
 abbrev pub names_of : List NamedFunction → List (List ℕ)
 names_of functions = map (λ f. f.name) functions
-
-pub named_keeps : KeepsProfile named_behaviour
-named_keeps = record {
-  stays = λ fixed f v. net_keeps.stays fixed f.function v;
-  writes = λ fixed f v x h. net_keeps.writes fixed f.function v x h;
-  drops = λ fixed f v h. net_keeps.drops fixed f.function v h;
-  state = λ fixed f v h. ap (λ function. record f { function = function }) (net_keeps.state fixed f.function v h);
-  lengths = λ fixed f v x other formed. net_keeps.lengths fixed f.function v x other formed;
-  tags = λ fixed f v whole. net_keeps.tags fixed f.function v whole;
-}

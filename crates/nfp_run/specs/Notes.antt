@@ -1,17 +1,13 @@
--- The one line that is put into Note for each outcome.
+-- Believed: the one line that is put into Note for each outcome.
 use Rattle.std.specs.Prelude.{ℕ, ◌-◌, List, [], ◌∷◌, codes}
-use Rattle.std.specs.List.{flat_map}
 use Rattle.std.specs.Fmt.{decimal}
 use Rattle.nfp_outside.specs.declared.slot.Slot.{Slot}
 use Rattle.nfp_outside.specs.declared.slot.Slot.TheVariants.{Policy, Capture, Out, Report, Note}
+use Rattle.text_lines.specs.Texts.{joined}
 use Rattle.nfp_run.specs.declared.outcome.UsageFault.{UsageFault}
 use Rattle.nfp_run.specs.declared.outcome.UsageFault.TheVariants.{NoCommand, UnknownCommand, Words, SameName}
 use Rattle.pcap_io.specs.declared.capture.CaptureFault.{CaptureFault}
 use Rattle.pcap_io.specs.declared.capture.CaptureFault.TheVariants.{BadMagic, BadVersion, BadLink, CutHead, CutRecord, FrameTooLong, TooManyRecords}
-
--- pieces of a text in a row
-abbrev pub joined : List (List ℕ) → List ℕ
-joined pieces = flat_map (λ piece. piece) pieces
 
 -- why the words are refused
 abbrev pub usage_text : UsageFault → List ℕ

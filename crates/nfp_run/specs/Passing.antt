@@ -1,4 +1,4 @@
--- How a capture passes through a chain, burst by burst.
+-- For proofs: how a capture passes through a chain, burst by burst.
 use Rattle.std.specs.Prelude.{◌≡◌, ◌<◌, ◌+◌, ◌^◌, ℕ, List, [], ◌∷◌, ◌++◌, All, length, map, count_by, Option, Some}
 use Rattle.nfp_outside.specs.declared.slot.Slot.{Slot}
 use Rattle.nfp_outside.specs.declared.slot.Slot.TheVariants.{Capture}

@@ -1,4 +1,4 @@
--- The plan of a policy: what is shown of each chain, in the order of the text.
+-- Believed: the plan of a policy: what is shown of each chain, in the order of the text.
 use Rattle.std.specs.Prelude.{ℕ, List}
 use Rattle.std.specs.List.{flat_map, zip}
 use Rattle.policy_text.specs.declared.policy.ChainPolicy.{ChainPolicy}

@@ -1,4 +1,4 @@
--- How the reading of the policy ends, and the opening of the capture.
+-- For proofs: how the reading of the policy ends, and the opening of the capture.
 use Rattle.std.specs.Prelude.{◌≡◌, ◌<◌, ◌⊎◌, ℕ, List, length, Some, IfSome, Result, Ok, Err}
 use Rattle.std.specs.Option.{option_map}
 use Rattle.nfp_outside.specs.declared.slot.Slot.TheVariants as slots

@@ -1,4 +1,4 @@
--- The report: the line of each dropped packet, the totals, the copies of each field, a line for each function, and the end or the
+-- Believed: the report: the line of each dropped packet, the totals, the copies of each field, a line for each function, and the end or the
 -- capture's fault.
 use Rattle.std.specs.Prelude.{ℕ, zero, suc, ◌-◌, List, [], ◌∷◌, ◌++◌, length, Bool, true, false, codes, count_by, slice_get, Option, Some, None}
 use Rattle.std.specs.Option.{option_map_or}
@@ -16,7 +16,8 @@ use Rattle.packet_version.specs.Tallies.{raised}
 use Rattle.graph_run.specs.Counting.{copies_made}
 use Rattle.policy_text.specs.declared.policy.ChainPolicy.{ChainPolicy}
 use Rattle.policy_text.specs.declared.policy.FunctionDecl.{FunctionDecl}
-use Rattle.nfp_run.specs.Notes.{joined, capture_text}
+use Rattle.text_lines.specs.Texts.{joined}
+use Rattle.nfp_run.specs.Notes.{capture_text}
 use Rattle.nfp_run.specs.NamedFunctions.{names_of}
 use Rattle.nfp_run.specs.Services.{stages_of}
 use Rattle.nfp_run.specs.declared.service.NamedFunction.{NamedFunction}

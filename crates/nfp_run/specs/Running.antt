@@ -1,4 +1,4 @@
--- How a capture runs through a chain, where the desk tells it and where it doesn't.
+-- For proofs: how a capture runs through a chain, where the desk tells it and where it doesn't.
 use Rattle.std.specs.Prelude.{◌≡◌, ◌≤◌, List, length, count_by, Option, IfSome}
 use Rattle.nfp_outside.specs.declared.slot.Slot.{Slot}
 use Rattle.nfp_outside.specs.declared.slot.Slot.TheVariants.{Out, Report}

@@ -1,5 +1,5 @@
--- What a policy runs: the functions of its one chain, in the order in which a packet walks through them.
-use Rattle.std.specs.Prelude.{◌≡◌, ℕ, List, [], ◌∷◌, length, Bool, true, if◌then◌else◌, ◌==◌, ◌&&◌, slice_get, Option, Some, None, Result, Ok, Err}
+-- Believed: what a policy runs: the functions of its one chain, in the order in which a packet walks through them.
+use Rattle.std.specs.Prelude.{◌≡◌, ℕ, List, [], ◌∷◌, length, map, Bool, true, if◌then◌else◌, ◌==◌, ◌&&◌, slice_get, Option, Some, None, Result, Ok, Err}
 use Rattle.std.specs.List.{flat_map, list_all}
 use Rattle.std.specs.Option.{option_map_or}
 use Rattle.policy_text.specs.declared.policy.ChainPolicy.{ChainPolicy}
@@ -9,7 +9,6 @@ use Rattle.policy_judge.specs.declared.fault.Refusal.{Refusal}
 use Rattle.policy_judge.specs.declared.judged.Judged.{Judged}
 use Rattle.graph_compile.specs.Stages.{graph_of}
 use Rattle.graph_compile.specs.declared.graph.Stage.{Stage}
-use Rattle.graph_run.specs.Running.{profiles_of}
 use Rattle.net_functions.specs.Builds.{is_built, function_of, refused_line}
 use Rattle.nfp_run.specs.NamedFunctions.{named_behaviour}
 use Rattle.nfp_run.specs.declared.service.NamedFunction.{NamedFunction}
@@ -50,4 +49,4 @@ service_of (Err refusal) = None
 
 -- the stages of the graph in which these functions run
 abbrev pub stages_of : List NamedFunction → List Stage
-stages_of functions = (graph_of (profiles_of named_behaviour functions)).stages
+stages_of functions = (graph_of (map named_behaviour.profile functions)).stages

@@ -1,4 +1,4 @@
--- What the program puts into Out and Report, step by step.
+-- For proofs: what the program puts into Out and Report, step by step.
 use Rattle.std.specs.Prelude.{◌≡◌, ◌≤◌, ℕ, List}
 use Rattle.nfp_outside.specs.declared.slot.Slot.{Slot}
 use Rattle.nfp_outside.specs.declared.slot.Slot.TheVariants.{Policy, Capture, Out, Report, Note}

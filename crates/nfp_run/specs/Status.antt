@@ -1,4 +1,4 @@
--- The exit status of each outcome.
+-- Believed: the exit status of each outcome.
 use Rattle.std.specs.Prelude.{ℕ}
 use Rattle.nfp_run.specs.declared.outcome.Outcome.{Outcome}
 use Rattle.nfp_run.specs.declared.outcome.Outcome.TheVariants.{Done, Usage, Policy, NotBuilt, Capture, ReadFault, WriteFault, OutOfMemory}

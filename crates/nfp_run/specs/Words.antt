@@ -1,4 +1,4 @@
--- The words of the command line: `run POLICY CAPTURE OUT REPORT` or `plan POLICY`.
+-- Believed: the words of the command line: `run POLICY CAPTURE OUT REPORT` or `plan POLICY`.
 use Rattle.std.specs.Prelude.{ℕ, List, [], ◌∷◌, length, Bool, true, if◌then◌else◌, ◌==◌, nat_le, ◌&&◌, not, slice_index, Result, Ok, Err, codes}
 use Rattle.std.specs.List.{list_all}
 use Rattle.std.specs.Str.{bytes_eq}

@@ -4,19 +4,14 @@ ghost use Rattle.nfp_outside.specs.declared.slot.Slot.{Slot};
 ghost use Rattle.nfp_outside.specs.Outside.{Appends, AppendsPrefix, IsRisen};
 ghost use Rattle.policy_judge.specs.declared.fault.PolicyFault.{PolicyFault};
 ghost use Rattle.nfp_run.specs.declared.outcome.UsageFault.{UsageFault};
-ghost use Rattle.nfp_run.specs.Answers.{IsDue, IsFinal, HasNames, NoneRose, WhereTold, LeavesPrefixes, AttachesDue, ReachesCapture, PolicyCause, NotBuiltCause, ReadFaultCause, WriteFaultCause, note_due};
-ghost use Rattle.nfp_run.specs.Closing.{untold, CountsWithin, Notes};
-ghost use Rattle.nfp_run.specs.Ran.{Ran};
+ghost use Rattle.nfp_run.specs.Answers.{IsDue, IsFinal, HasNames, NoneRose, WhereTold, LeavesPrefixes, AttachesDue, ReachesCapture, PolicyCause, NotBuiltCause, ReadFaultCause, WriteFaultCause, NotesPrefix, note_due};
 ghost use Rattle.nfp_run.specs.Due.{due};
 ghost use Rattle.nfp_run.specs.Words.{command_of};
 
-use crate::ending::Ending;
-use crate::note::tell;
+use crate::commands::run_words;
+use crate::note::put_note;
 use crate::outcome::Outcome;
-use crate::plan::plan;
-use crate::run::run;
-use crate::words::{Command, read_command};
-use nfp_outside::{Desk, Gate, OutsideFault, Slot, write_whole};
+use nfp_outside::{Desk, Gate};
 use std::alloc::Global;
 use std::sync::Wait;
 use std::thread::Threads;
@@ -55,6 +50,12 @@ pub fn nfp<R: Threads + Wait, D: Desk, G: Gate + Sync>(
         AppendsPrefix (note_due result (due (map string_bytes words.now) p c).note) (D.slots desk.old Slot.Note) (D.slots desk.new Slot.Note)) }
     ensures noted_whole { result ≢ Outcome.OutOfMemory → ¬ IsRisen (D.slots desk.old Slot.Note).faults (D.slots desk.new Slot.Note).faults → WhereTold (D.slots desk.old) (λ p c.
         Appends (note_due result (due (map string_bytes words.now) p c).note) (D.slots desk.old Slot.Note) (D.slots desk.new Slot.Note)) }
+    // Done says that Note holds its line or the plan whole, whatever the counts did.
+    ensures done_noted { result ≡ Outcome.Done → WhereTold (D.slots desk.old) (λ p c.
+        Appends (due (map string_bytes words.now) p c).note (D.slots desk.old Slot.Note) (D.slots desk.new Slot.Note)) }
+    // Where memory ran out, Note holds a front part of what is due, or of the line of a fault of reading or writing.
+    ensures noted_short { result ≡ Outcome.OutOfMemory → WhereTold (D.slots desk.old) (λ p c.
+        NotesPrefix (due (map string_bytes words.now) p c).note (D.slots desk.old Slot.Note) (D.slots desk.new Slot.Note)) }
     // A fault of Note is told where the work was done, and Out and Report are whole.
     ensures note_fault { result ≡ Outcome.WriteFault Slot.Note → WhereTold (D.slots desk.old) (λ p c.
         IsDue (due (map string_bytes words.now) p c) (D.slots desk.old) (D.slots desk.new) Outcome.Done) }
@@ -78,43 +79,4 @@ pub fn nfp<R: Threads + Wait, D: Desk, G: Gate + Sync>(
 {
     let ending = run_words(rt, alloc, words, desk);
     put_note(alloc, desk, ending)
-}
-
-#[tactic(auto, using(crate::proofs::Planning::plan_ran, crate::proofs::Planning::usage_ran))]
-fn run_words<R: Wait, D: Desk>(rt: &R, alloc: Global, words: &[String], desk: &mut D) -> Ending
-    requires { (s : Slot) → (D.slots desk.old s).name ≡ None }
-    ensures ran { Ran (command_of (map string_bytes words.now)) (D.slots desk.old) (D.slots desk.new) result }
-{
-    match read_command(words) {
-        Ok(Command::Run(names)) => run(rt, alloc, &names, desk),
-        Ok(Command::Plan(name)) => plan(alloc, name, desk),
-        Err(fault) => Ending::Stopped(Outcome::Usage(fault)),
-    }
-}
-
-// Puts the line of what ended so into Note.
-fn put_note<D: Desk>(alloc: Global, desk: &mut D, ending: Ending) -> Outcome
-    requires { CountsWithin ending }
-    ensures notes { Notes ending (D.slots desk.old Slot.Note) (D.slots desk.new Slot.Note) result }
-    ensures others { (s : Slot) → s ≢ Slot.Note → D.slots desk.new s ≡ D.slots desk.old s }
-{
-    let told = match tell(alloc, ending) {
-        Ok(told) => told,
-        Err(_) => return Outcome::OutOfMemory,
-    };
-    match write_whole(desk, Slot::Note, told.line.as_slice()) {
-        Ok(()) => told.outcome,
-        Err(OutsideFault::WriteFault(_)) => untold(told.outcome),
-        Err(_) => Outcome::OutOfMemory,
-    }
-}
-
-// What is answered where the line couldn't be put: the work was done, or had ended otherwise before.
-fn untold(outcome: Outcome) -> Outcome
-    ensures { result ≡ untold outcome }
-{
-    match outcome {
-        Outcome::Done => Outcome::WriteFault(Slot::Note),
-        outcome => outcome,
-    }
 }

@@ -1,26 +1,56 @@
 //! The one line that is put into Note for each outcome.
-ghost use Rattle.std.specs.Prelude.{◌≡◌, ◌≤◌, IfOk};
+ghost use Rattle.std.specs.Prelude.{◌≡◌, ◌≢◌, ◌≤◌, IfOk};
+ghost use Rattle.nfp_outside.specs.declared.slot.Slot.{Slot};
 ghost use Rattle.nfp_run.specs.Notes.{usage_text, done_text, capture_text, slot_word, read_fault_text, write_fault_text};
-ghost use Rattle.nfp_run.specs.Closing.{outcome_seen, stop_text, text_of, CountsWithin};
+ghost use Rattle.nfp_run.specs.Closing.{outcome_seen, stop_text, text_of, untold, CountsWithin, Notes};
 
 use crate::ending::Ending;
 use crate::outcome::{Outcome, UsageFault};
-use crate::report::{Totals, join};
+use crate::report::Totals;
 use item_list::Items;
-use nfp_outside::Slot;
+use nfp_outside::{Desk, OutsideFault, Slot, write_whole};
 use pcap_io::CaptureFault;
 use policy_judge::Refusal;
 use std::alloc::{AllocError, Global};
+use text_lines::Piece::{Number, Text};
+use text_lines::join;
+
+/// Puts the line of what ended so into Note.
+pub fn put_note<D: Desk>(alloc: Global, desk: &mut D, ending: Ending) -> Outcome
+    requires { CountsWithin ending }
+    ensures notes { Notes ending (D.slots desk.old Slot.Note) (D.slots desk.new Slot.Note) result }
+    ensures others { (s : Slot) → s ≢ Slot.Note → D.slots desk.new s ≡ D.slots desk.old s }
+{
+    let told = match tell(alloc, ending) {
+        Ok(told) => told,
+        Err(_) => return Outcome::OutOfMemory,
+    };
+    match write_whole(desk, Slot::Note, told.line.as_slice()) {
+        Ok(()) => told.outcome,
+        Err(OutsideFault::WriteFault(_)) => untold(told.outcome),
+        Err(_) => Outcome::OutOfMemory,
+    }
+}
+
+// What is answered where the line couldn't be put: the work was done, or had ended otherwise before.
+fn untold(outcome: Outcome) -> Outcome
+    ensures { result ≡ untold outcome }
+{
+    match outcome {
+        Outcome::Done => Outcome::WriteFault(Slot::Note),
+        outcome => outcome,
+    }
+}
 
 /// How a call ended, and the line that tells it.
 #[derive(Drop)]
-pub struct Told {
-    pub outcome: Outcome,
-    pub line: Items<u8>,
+struct Told {
+    outcome: Outcome,
+    line: Items<u8>,
 }
 
-/// The outcome of what ended so, with its line.
-pub fn tell(alloc: Global, ending: Ending) -> Result<Told, AllocError>
+// The outcome of what ended so, with its line.
+fn tell(alloc: Global, ending: Ending) -> Result<Told, AllocError>
     requires { CountsWithin ending }
     ensures outcome { IfOk result (λ told. told.outcome ≡ outcome_seen ending) }
     ensures line { IfOk result (λ told. told.line ≡ text_of ending) }
@@ -77,19 +107,16 @@ fn done_text(alloc: Global, totals: Totals) -> Result<Vec<u8>, AllocError>
     requires { totals.dropped ≤ totals.records }
     ensures { IfOk result (λ v. v.items ≡ done_text totals.records totals.dropped) }
 {
-    let records = totals.records.to_string(alloc)?;
-    let emitted = (totals.records - totals.dropped).to_string(alloc)?;
-    let dropped = totals.dropped.to_string(alloc)?;
     join(
         alloc,
         &[
-            b"done records ",
-            records.as_bytes(),
-            b" emitted ",
-            emitted.as_bytes(),
-            b" dropped ",
-            dropped.as_bytes(),
-            b"\n",
+            Text(b"done records "),
+            Number(totals.records),
+            Text(b" emitted "),
+            Number(totals.records - totals.dropped),
+            Text(b" dropped "),
+            Number(totals.dropped),
+            Text(b"\n"),
         ],
     )
 }
@@ -103,28 +130,30 @@ pub fn capture_text(alloc: Global, fault: CaptureFault) -> Result<Vec<u8>, Alloc
         CaptureFault::BadMagic => Vec::from_slice(alloc, b"capture: bad magic\n".as_slice()),
         CaptureFault::BadVersion => Vec::from_slice(alloc, b"capture: bad version\n".as_slice()),
         CaptureFault::BadLink(link) => {
-            let link = link.to_string(alloc)?;
-            join(alloc, &[b"capture: bad link ", link.as_bytes(), b"\n"])
+            let link = u64::from(link);
+            join(
+                alloc,
+                &[Text(b"capture: bad link "), Number(link), Text(b"\n")],
+            )
         }
         CaptureFault::CutHead => Vec::from_slice(alloc, b"capture: cut head\n".as_slice()),
         CaptureFault::CutRecord(number) => {
-            let number = number.to_string(alloc)?;
-            join(alloc, &[b"capture: cut record ", number.as_bytes(), b"\n"])
-        }
-        CaptureFault::FrameTooLong(number, length) => {
-            let number = number.to_string(alloc)?;
-            let length = length.to_string(alloc)?;
+            let number = u64::from(number);
             join(
                 alloc,
-                &[
-                    b"capture: frame too long ",
-                    number.as_bytes(),
-                    b" ",
-                    length.as_bytes(),
-                    b"\n",
-                ],
+                &[Text(b"capture: cut record "), Number(number), Text(b"\n")],
             )
         }
+        CaptureFault::FrameTooLong(number, length) => join(
+            alloc,
+            &[
+                Text(b"capture: frame too long "),
+                Number(u64::from(number)),
+                Text(b" "),
+                Number(u64::from(length)),
+                Text(b"\n"),
+            ],
+        ),
         CaptureFault::TooManyRecords => {
             Vec::from_slice(alloc, b"capture: too many records\n".as_slice())
         }
@@ -136,7 +165,10 @@ pub fn capture_text(alloc: Global, fault: CaptureFault) -> Result<Vec<u8>, Alloc
 fn read_fault_text(alloc: Global, slot: Slot) -> Result<Vec<u8>, AllocError>
     ensures { IfOk result (λ v. v.items ≡ read_fault_text slot) }
 {
-    join(alloc, &[b"read fault: ", slot_word(slot), b"\n"])
+    join(
+        alloc,
+        &[Text(b"read fault: "), Text(slot_word(slot)), Text(b"\n")],
+    )
 }
 
 // The line of a slot that couldn't be written.
@@ -144,7 +176,10 @@ fn read_fault_text(alloc: Global, slot: Slot) -> Result<Vec<u8>, AllocError>
 fn write_fault_text(alloc: Global, slot: Slot) -> Result<Vec<u8>, AllocError>
     ensures { IfOk result (λ v. v.items ≡ write_fault_text slot) }
 {
-    join(alloc, &[b"write fault: ", slot_word(slot), b"\n"])
+    join(
+        alloc,
+        &[Text(b"write fault: "), Text(slot_word(slot)), Text(b"\n")],
+    )
 }
 
 fn slot_word(slot: Slot) -> &'static [u8]

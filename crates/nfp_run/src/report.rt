@@ -15,6 +15,8 @@ use packet_version::Tally;
 use pcap_io::CaptureFault;
 use policy_text::ChainPolicy;
 use std::alloc::{AllocError, Global};
+use text_lines::Piece::{Number, Text};
+use text_lines::{join, push_pieces};
 
 /// The report's first line.
 pub const TITLE: &[u8] = b"nfp report 1\n";
@@ -74,10 +76,17 @@ fn push_drop_line(
 fn drop_text(alloc: Global, chain: &[u8], number: u64, name: &[u8]) -> Result<Vec<u8>, AllocError>
     ensures { IfOk result (λ v. v.items ≡ drop_text chain.now number name.now) }
 {
-    let number = number.to_string(alloc)?;
     join(
         alloc,
-        &[b"drop ", number.as_bytes(), b" ", chain, b" ", name, b"\n"],
+        &[
+            Text(b"drop "),
+            Number(number),
+            Text(b" "),
+            Text(chain),
+            Text(b" "),
+            Text(name),
+            Text(b"\n"),
+        ],
     )
 }
 
@@ -95,7 +104,7 @@ pub fn summary(
 {
     let mut text = total_line(alloc, totals)?;
     push_copies_lines(alloc, &mut text, chain.name.bytes(), copies)?;
-    push_function_lines(&mut text, chain)?;
+    push_function_lines(alloc, &mut text, chain)?;
     push_last_line(alloc, &mut text, fault)?;
     Ok(text)
 }
@@ -112,7 +121,7 @@ fn push_last_line(
         None => text.extend_from_slice(b"end\n".as_slice()),
         Some(fault) => {
             let line = capture_text(alloc, fault)?;
-            push_all(text, &[b"fault ", &line])
+            push_pieces(alloc, text, &[Text(b"fault "), Text(&line)])
         }
     }
 }
@@ -122,19 +131,16 @@ fn total_line(alloc: Global, totals: Totals) -> Result<Vec<u8>, AllocError>
     requires { totals.dropped ≤ totals.records }
     ensures { IfOk result (λ v. v.items ≡ total_line totals.records totals.dropped) }
 {
-    let records = totals.records.to_string(alloc)?;
-    let emitted = (totals.records - totals.dropped).to_string(alloc)?;
-    let dropped = totals.dropped.to_string(alloc)?;
     join(
         alloc,
         &[
-            b"records ",
-            records.as_bytes(),
-            b" emitted ",
-            emitted.as_bytes(),
-            b" dropped ",
-            dropped.as_bytes(),
-            b"\n",
+            Text(b"records "),
+            Number(totals.records),
+            Text(b" emitted "),
+            Number(totals.records - totals.dropped),
+            Text(b" dropped "),
+            Number(totals.dropped),
+            Text(b"\n"),
         ],
     )
 }
@@ -175,26 +181,30 @@ fn push_copies_line(
 fn copies_text(alloc: Global, chain: &[u8], field: &[u8], count: u64) -> Result<Vec<u8>, AllocError>
     ensures { IfOk result (λ v. v.items ≡ copies_text chain.now field.now count) }
 {
-    let count = count.to_string(alloc)?;
     join(
         alloc,
         &[
-            b"copies ",
-            chain,
-            b" ",
-            field,
-            b" ",
-            count.as_bytes(),
-            b"\n",
+            Text(b"copies "),
+            Text(chain),
+            Text(b" "),
+            Text(field),
+            Text(b" "),
+            Number(count),
+            Text(b"\n"),
         ],
     )
 }
 
-fn push_function_lines(text: &mut Vec<u8>, chain: &ChainPolicy) -> Result<(), AllocError>
+fn push_function_lines(
+    alloc: Global,
+    text: &mut Vec<u8>,
+    chain: &ChainPolicy,
+) -> Result<(), AllocError>
     ensures { OnOk result (text.new.items ≡ text.old.items ++ flat_map (function_line chain.now.name) chain.now.functions) }
 {
     'functions: for function in chain.functions.as_slice() {
         push_function_line(
+            alloc,
             text,
             chain.name.bytes(),
             function.name.bytes(),
@@ -205,31 +215,26 @@ fn push_function_lines(text: &mut Vec<u8>, chain: &ChainPolicy) -> Result<(), Al
 }
 
 #[tactic(auto, unfolding(crate::specs::Report::function_text))]
-fn push_function_line<'a>(
+fn push_function_line(
+    alloc: Global,
     text: &mut Vec<u8>,
-    chain: &'a [u8],
-    name: &'a [u8],
-    kind: &'a [u8],
+    chain: &[u8],
+    name: &[u8],
+    kind: &[u8],
 ) -> Result<(), AllocError>
     ensures { OnOk result (text.new.items ≡ text.old.items ++ function_text chain.now name.now kind.now) }
 {
-    push_all(text, &[b"function ", chain, b" ", name, b" ", kind, b"\n"])
-}
-
-/// Pieces of a text in a row.
-pub fn join(alloc: Global, pieces: &[&[u8]]) -> Result<Vec<u8>, AllocError>
-    ensures { IfOk result (λ v. v.items ≡ flat_map (λ piece. piece.now) pieces.now) }
-{
-    let mut text = Vec::new(alloc);
-    push_all(&mut text, pieces)?;
-    Ok(text)
-}
-
-fn push_all(text: &mut Vec<u8>, pieces: &[&[u8]]) -> Result<(), AllocError>
-    ensures { OnOk result (text.new.items ≡ text.old.items ++ flat_map (λ piece. piece.now) pieces.now) }
-{
-    'pieces: for piece in pieces {
-        text.extend_from_slice(piece)?;
-    }
-    Ok(())
+    push_pieces(
+        alloc,
+        text,
+        &[
+            Text(b"function "),
+            Text(chain),
+            Text(b" "),
+            Text(name),
+            Text(b" "),
+            Text(kind),
+            Text(b"\n"),
+        ],
+    )
 }

@@ -27,7 +27,8 @@ pub struct NamedFunction {
 }
 
 impl Function for NamedFunction {
-    ghost use Rattle.nfp_run.specs.NamedFunctions.{named_behaviour, named_lines, named_keeps};
+    ghost use Rattle.nfp_run.specs.NamedFunctions.{named_behaviour, named_lines};
+    ghost use Rattle.nfp_run.specs.NamedFunctionLaws.{named_keeps};
 
     ghost behaviour = { named_behaviour };
 

@@ -2,6 +2,7 @@ use Rattle.std.proofs.Common.{map}
 use Rattle.std.specs.Prelude.{string_bytes}
 use Rattle.nfp_run.specs.Words.{command_of}
 use Rattle.nfp_run.proofs.Answering.{called_exact, called_prefixes, called_answers, called_noted, called_noted_whole}
+use Rattle.nfp_run.proofs.Noting.{called_done_noted, called_noted_short}
 use Rattle.nfp_run.proofs.Telling.{called_names, called_note_fault, called_attached, called_policy, called_refused, called_not_built, called_read_faults, called_write_faults}
 use Rattle.nfp_run.proofs.call.nfp.Goals as goal
 
@@ -55,4 +56,12 @@ returns-clause-attached g c = called_attached (command_of (map string_bytes c.ar
 
 pub returns-clause-policy : goal.returns-clause-policy
 returns-clause-policy g c = called_policy (command_of (map string_bytes c.args.words.now)) (g.D.Desk.slots c.args.desk.now) (g.D.Desk.slots c.run_words-ending.new.desk) (g.D.Desk.slots c.put_note.new.desk) c.run_words-ending.result c.put_note.result
+    (record { ran = c.run_words-ending.ensures.ran; notes = c.put_note.ensures.notes; beside = c.put_note.ensures.others })
+
+pub returns-clause-done_noted : goal.returns-clause-done_noted
+returns-clause-done_noted g c = called_done_noted (command_of (map string_bytes c.args.words.now)) (g.D.Desk.slots c.args.desk.now) (g.D.Desk.slots c.run_words-ending.new.desk) (g.D.Desk.slots c.put_note.new.desk) c.run_words-ending.result c.put_note.result
+    (record { ran = c.run_words-ending.ensures.ran; notes = c.put_note.ensures.notes; beside = c.put_note.ensures.others })
+
+pub returns-clause-noted_short : goal.returns-clause-noted_short
+returns-clause-noted_short g c = called_noted_short (command_of (map string_bytes c.args.words.now)) (g.D.Desk.slots c.args.desk.now) (g.D.Desk.slots c.run_words-ending.new.desk) (g.D.Desk.slots c.put_note.new.desk) c.run_words-ending.result c.put_note.result
     (record { ran = c.run_words-ending.ensures.ran; notes = c.put_note.ensures.notes; beside = c.put_note.ensures.others })

@@ -2,7 +2,7 @@ use Rattle.std.proofs.Common.{◌∙◌, ap, sym, subst}
 use Rattle.std.specs.Prelude.{Ok}
 use Rattle.nfp_run.specs.Named.{command_seen}
 use Rattle.nfp_run.specs.Ran.{Ran}
-use Rattle.nfp_run.proofs.call.run_words.Goals as goal
+use Rattle.nfp_run.proofs.commands.run_words.Goals as goal
 
 pub returns-in-Ok-Run : goal.returns-in-Ok-Run
 returns-in-Ok-Run g c = record {

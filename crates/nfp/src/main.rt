@@ -1,30 +1,11 @@
 //! `nfp` runs a service chain over a capture file, and shows the plan of a policy.
 //!
-//! The program hands its words to [`call::nfp`], over files and an open gate, and ends with the status of the outcome.
-//! What that call promises is the program's theorem: its contract says it, and `specs/Due.antt` has the result that it
-//! is measured against.
+//! The program hands its words to [`nfp_run::nfp`], over files and an open gate, and ends with the status of the outcome.
+//! What that call promises is the program's theorem.
 #![tactic(auto)]
 
-mod call;
-mod emit;
-mod ending;
-mod laws;
-mod note;
-mod outcome;
-mod passage;
-mod plan;
-mod read;
-mod report;
-mod run;
-mod service;
-mod stream;
-#[cfg(test)]
-mod tests;
-mod words;
-mod write;
-
 use nfp_outside::{FileDesk, OpenGate};
-use outcome::{Outcome, UsageFault};
+use nfp_run::{Outcome, UsageFault, nfp};
 use std::io::ErrorKind;
 use std::process::ExitCode;
 use std::rt::Env;
@@ -33,7 +14,7 @@ use std::{env, io};
 fn main(rt: HostRuntime) -> ExitCode {
     let files: Result<_, _> = rt.clone();
     let outcome = match (command_line(&rt), files) {
-        (Ok(words), Ok(files)) => call::nfp(
+        (Ok(words), Ok(files)) => nfp(
             &rt,
             rt.alloc(),
             &words,

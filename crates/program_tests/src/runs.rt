@@ -1,7 +1,7 @@
 //! Runs over desks in memory, with the capture and the answers written down by hand.
-use crate::call::nfp;
-use crate::outcome::{Outcome, UsageFault};
+
 use nfp_outside::{FixedDesk, MemDesk, OpenGate, Slot};
+use nfp_run::{Outcome, UsageFault, nfp};
 use pcap_io::CaptureFault;
 use std::alloc::{AllocError, Global};
 use std::test::Fail;

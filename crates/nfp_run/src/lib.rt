@@ -1,0 +1,28 @@
+//! The top call of `nfp`, which runs a service chain over a capture, and shows the plan of a policy.
+//!
+//! What [`nfp()`] promises is the program's theorem: its contract says it, and `specs/Due.antt` has the result that it is
+//! measured against. [`a_good_call_is_done`] says of that result that words, policy and capture without fault are Done. The
+//! program itself, the crate `nfp`, hands its words to the call, over files and an open gate, and ends with the status of the
+//! [`Outcome`].
+#![tactic(auto)]
+
+mod call;
+mod commands;
+mod emit;
+mod ending;
+mod laws;
+mod note;
+mod outcome;
+mod passage;
+mod plan;
+mod read;
+mod report;
+mod run;
+mod service;
+mod stream;
+mod words;
+mod write;
+
+pub use call::nfp;
+pub use laws::a_good_call_is_done;
+pub use outcome::{Outcome, UsageFault};

@@ -1,0 +1,5 @@
+//! Tests of the top call, over desks in memory: what no clause says, above all that memory suffices where there is plenty.
+#![tactic(auto)]
+
+#[cfg(test)]
+mod runs;
