@@ -1,9 +1,26 @@
-use Rattle.std.proofs.Common.{rules, ◌≡◌, ◌∙◌, ◌<◌, List, length, get_or, ap, subst, sym, arith}
+use Rattle.std.proofs.Common.{rules, ◌≡◌, ◌∙◌, ◌<◌, ◌≤◌, ℕ, List, length, get_or, ap, subst, sym, arith}
 use Rattle.graph_compile.specs.declared.graph.Branch.{Branch}
 use Rattle.std.specs.Vec.Iter.{into_iter_items}
 use Rattle.graph_run.proofs.Branching.{branches_begin, branch_inside, branch_ready_at, branch_taken}
 use Rattle.graph_run.proofs.Staged.{branches_over, are_arrivals, few_arrivals, stage_ends, stage_leaves, stage_modes, stage_counted, stage_counted_up, stage_refused, nothing_left}
 use Rattle.graph_run.proofs.stage.run_stage.Goals as goal
+
+some_touches : (touches branches : ℕ) → touches ≡ branches → 0 < branches → 1 ≤ touches
+some_touches touches branches same some = omega arith
+
+few_touches : (touches branches : ℕ) → touches ≡ branches → branches ≤ 64 → touches ≤ 64
+few_touches touches branches same few = omega arith
+
+-- a lawful stage has a touch for each of its branches
+pub deal-requires-clause-some : goal.deal-requires-clause-some
+deal-requires-clause-some g c =
+    let ready = c.requires.ready.1 in
+    some_touches _ _ (c.lawful_stage_has_owners.ensures _ _ c.args.stage.now ready.lawful).touches ready.some
+
+pub deal-requires-clause-few : goal.deal-requires-clause-few
+deal-requires-clause-few g c =
+    let ready = c.requires.ready.1 in
+    few_touches _ _ (c.lawful_stage_has_owners.ensures _ _ c.args.stage.now ready.lawful).touches ready.few
 
 pub deal-requires-clause-modes : goal.deal-requires-clause-modes
 deal-requires-clause-modes g c = stage_modes _ _ _ c.requires.ready.1.lawful
