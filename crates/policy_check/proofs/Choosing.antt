@@ -1,12 +1,12 @@
 -- At each turn the earliest declared function is taken of those that may be.
-use Rattle.std.proofs.Common.{◌≡◌, ℕ, zero, suc, ◌<◌, ◌≤◌, Bool, true, false, ◌||◌, not, cond, List, [], ◌∷◌, length, take, Some, None, refl, sym, ◌∙◌, ap, subst, arith, slice_index}
-use Rattle.std.specs.Prelude.{◌==◌, find, Contains, IsTrue}
+use Rattle.std.proofs.Common.{◌≡◌, ℕ, zero, suc, ◌<◌, ◌≤◌, Bool, true, false, ◌||◌, not, cond, List, [], ◌∷◌, length, take, Some, None, refl, ◌∙◌, ap, arith, slice_index}
+use Rattle.std.specs.Prelude.{◌==◌, find, Contains}
 use Rattle.std.specs.List.{list_any, range_with_len, slice_index_or}
 use Rattle.std.specs.Option.{option_map_or}
 use Rattle.std.proofs.lemmas.Bool.Decides.{nat_tests}
 use Rattle.std.proofs.lemmas.List.FromFn.{length-range_with_len}
 use Rattle.std.proofs.lemmas.Map.Views.{Contains-from_any}
-use Rattle.policy_check.specs.Arrangements.{IsFree, IsEarliestFree, TakesEarliest}
+use Rattle.policy_check.specs.Arrangements.{IsFree, TakesEarliest}
 use Rattle.policy_check.specs.Checked.{order_of}
 use Rattle.policy_check.specs.Edges.{Edges}
 use Rattle.policy_check.specs.Turns.{is_held, ready, without, taken}
