@@ -1,4 +1,4 @@
--- For proofs: frames in which a field is written.
+-- Believed: frames in which a field is written.
 use Rattle.std.specs.Prelude.{◌≡◌, ℕ, List, [], ◌∷◌, ◌++◌, length, take, replicate, true, Option, Some, None, option_map, IsSome, IsSomeAnd, IfSome}
 use Rattle.std.specs.Option.{option_or}
 use Rattle.packet_fields.specs.Frames.{packet, is_tag_list}
