@@ -50,6 +50,7 @@ impl<F: Drop> Port<F> {
         ensures err { OnErr result (KeepsSlot (port_view self.old) (port_view self.new)) }
         ensures cause { HasCause (port_view self.old) (port_view self.new) result }
         ensures counted { CountsFailure self.old.faults self.new.faults result }
+        ensures want { IsErrOf result DeskFault.NoMemory → IsErrOf opened DeskFault.NoMemory }
     {
         match opened {
             Ok(file) => {
