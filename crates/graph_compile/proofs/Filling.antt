@@ -1,4 +1,4 @@
--- No stage of a graph that the rule makes is empty, and each is closed for a cause; so is each branch longer for a cause.
+-- No stage of a graph that the rule makes is empty; each is closed for a cause, and each branch grows for a cause.
 use Rattle.std.proofs.Common.{◌≡◌, ◌∙◌, ◌⊎◌, inl, inr, ap, take, Some, ℕ, zero, suc, ◌+◌, ◌<◌, ◌≤◌, Bool, true, false, cond, List, [], ◌∷◌, ◌++◌, length, map, refl, sym, subst, arith, fold}
 use Rattle.std.specs.Prelude.{count_by, slice_get, slice_index}
 use Rattle.std.specs.List.{list_any, range_with_len, AllByRecursion}

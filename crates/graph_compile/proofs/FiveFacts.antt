@@ -345,7 +345,7 @@ facts-staged chain first last (s ∷ stages) h =
       }),
     )
 
--- of stages of which each has a function, the one that is below the next is below all that follow
+-- where each stage is below the next and each has a function, each is below all that follow
 record HasFunction (s : Stage) : Type 0 where
   pub at : ℕ
   pub here : stands at s ≡ true

@@ -49,10 +49,10 @@ stands-held q s l =
           ] refl
     ] refl
 
-abbrev HeldOnce : ℕ → List Stage → Bool
-HeldOnce q stages = list_all (λ s. nat_le (count_by (holds q) s.branches) 1) stages
+abbrev are_held_once : ℕ → List Stage → Bool
+are_held_once q stages = list_all (λ s. nat_le (count_by (holds q) s.branches) 1) stages
 
-times-held : (q : ℕ) (stages : List Stage) → AllByRecursion (λ s. AreRising s.branches) stages → HeldOnce q stages ≡ true → times q (all_positions stages) ≡ count_by (stands q) stages
+times-held : (q : ℕ) (stages : List Stage) → AllByRecursion (λ s. AreRising s.branches) stages → are_held_once q stages ≡ true → times q (all_positions stages) ≡ count_by (stands q) stages
 times-held q [] r h = refl
 times-held q (s ∷ stages) r h =
     let counted = times-stage q s.branches (rising-each s.branches r.0) in
@@ -61,7 +61,7 @@ times-held q (s ∷ stages) r h =
     let rest = times-held q stages r.1 (grind arith) in
     omega (arith, times-stages q s stages, counted, here, rest, count-cons (stands q) s stages)
 
-held-once : (q : ℕ) (stages : List Stage) → AllByRecursion (λ s. AreRising s.branches) stages → times q (all_positions stages) ≤ 1 → HeldOnce q stages ≡ true
+held-once : (q : ℕ) (stages : List Stage) → AllByRecursion (λ s. AreRising s.branches) stages → times q (all_positions stages) ≤ 1 → are_held_once q stages ≡ true
 held-once q [] r h = refl
 held-once q (s ∷ stages) r h =
     let counted = times-stage q s.branches (rising-each s.branches r.0) in
@@ -200,7 +200,7 @@ judged-lawful graph chain h = record {
     once : (q : ℕ) → 1 ≤ q → q ≤ length chain → times q (all_positions graph.stages) ≡ 1
     once q l u =
         let at : stands_once q graph.stages ≡ true = range_all-at (λ q. stands_once q graph.stages) 1 (length chain + 1 - 1) q h.once l (omega (arith, u)) in
-        let few : HeldOnce q graph.stages ≡ true = grind arith in
+        let few : are_held_once q graph.stages ≡ true = grind arith in
         let one : count_by (stands q) graph.stages ≡ 1 = grind (arith, nat_tests) in
         times-held q graph.stages rise few ∙ one
 
