@@ -4,8 +4,8 @@
 //! it does is its `behaviour` (of `chain_walk`), a function of what it is shown alone: whoever runs it
 //! sees the same step whether the packet is whole or in parts. `keeps` says that it keeps to its profile.
 //! [`NetFunction`] is a function of any kind that is built, and [`build`] makes the one that a policy
-//! declares, or names the least line of the declaration that is refused. As a
-//! [`chain_walk::FrameFunction`] it takes whole frames, with the same behaviour.
+//! declares, or names the least line of the declaration that is refused. `frame_walk` leads whole frames
+//! through functions of any kind, with the same behaviour.
 //!
 //! Today firewalls are built ([`is_built`]). How functions are put into stages, and which of them see a
 //! packet, is left out.

@@ -2,9 +2,7 @@
 
 use crate::function::Function;
 use action_profile::{Kind, Profile, profile};
-use chain_walk::FrameFunction;
 use nf_filter::Firewall;
-use packet_fields::Frame;
 use packet_version::{Verdict, View};
 use std::alloc::AllocError;
 
@@ -42,16 +40,4 @@ impl Function for NetFunction {
     }
 
     ghost keeps = { net_keeps };
-}
-
-impl FrameFunction for NetFunction {
-    ghost use Rattle.net_functions.specs.NetFunctions.{net_behaviour};
-
-    ghost behaviour = { net_behaviour };
-
-    fn step(&mut self, time: u64, frame: &mut Frame) -> Result<Verdict, AllocError> {
-        match self {
-            NetFunction::Firewall(firewall) => FrameFunction::step(firewall, time, frame),
-        }
-    }
 }

@@ -1,9 +1,9 @@
 //! A firewall, and what it decides.
-use chain_walk::{FrameFunction, Verdict};
-use frame_seen::{seen, seen_address, seen_port, seen_tags};
+use chain_walk::Verdict;
+use frame_seen::{seen_address, seen_port, seen_tags};
 use function_lines::{Fitting, first_met};
 use item_list::Items;
-use packet_fields::{Field, Frame};
+use packet_fields::Field;
 use packet_version::{View, unwritten_stays};
 use policy_text::{Match, Seen};
 use std::alloc::AllocError;
@@ -98,16 +98,5 @@ fn seen_in(view: &View) -> Seen
         sport: seen_port(view.get(Field::SrcPort)),
         dport: seen_port(view.get(Field::DstPort)),
         proto: view.proto(),
-    }
-}
-
-impl FrameFunction for Firewall {
-    ghost use Rattle.nf_filter.specs.Firewalls.{firewall_behaviour};
-
-    ghost behaviour = { firewall_behaviour };
-
-    #[tactic(auto, unfolding(packet_fields::specs::Writing::written_in))]
-    fn step(&mut self, _time: u64, frame: &mut Frame) -> Result<Verdict, AllocError> {
-        Ok(verdict(self.judge(&seen(frame.bytes()))))
     }
 }

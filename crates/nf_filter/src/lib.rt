@@ -8,9 +8,8 @@
 //!
 //! As a function of a chain a firewall has one meaning, `firewall_behaviour` of
 //! `specs/Firewalls.antt`: it judges by what it is shown, writes nothing, and stays as it is. It sees a
-//! packet in two ways, through a view of a version of it ([`Firewall::step`]) and as a whole frame (as a
-//! [`chain_walk::FrameFunction`]). That it keeps to its profile is `firewall_keeps` of
-//! `specs/FirewallLaws.antt`.
+//! packet through a view of a version of it ([`Firewall::step`]). That it keeps to its profile is
+//! `firewall_keeps` of `specs/FirewallLaws.antt`.
 //!
 //! Patterns in a packet's data are not here yet.
 #![tactic(auto)]
