@@ -1,5 +1,5 @@
 -- How the lines of a declaration are read, one after another.
-use Rattle.std.proofs.Common.{◌≡◌, ◌<◌, ◌≤◌, ◌+◌, ◌∙◌, ℕ, List, [], ◌∷◌, ◌++◌, length, take, get_or, refl, sym, ap, append_assoc, Bool, true, false}
+use Rattle.std.proofs.Common.{◌≡◌, ◌<◌, ◌≤◌, ◌+◌, ◌∙◌, ℕ, List, [], ◌∷◌, ◌++◌, length, take, get_or, refl, sym, ap, append_assoc, Bool, true, false, arith}
 use Rattle.std.specs.Prelude.{if◌then◌else◌, Option, None, Some}
 use Rattle.std.specs.List.{cons_option}
 use Rattle.std.specs.Option.{option_to_list}
@@ -31,6 +31,11 @@ refused_more lines before (t ∷ settings) s =
 least_more : (lines : List ℕ) (refused : Bool) (line : ℕ) → least (lines ++ (if refused then line ∷ [] else [])) ≡ (if refused then lesser (least lines) line else least lines)
 least_more lines true line = fold-append lesser None lines (line ∷ [])
 least_more lines false line = ap least (append-nil lines)
+
+-- a line that is no lesser changes nothing
+pub stays_least : (refused : Bool) (least line : ℕ) → least ≤ line → Some least ≡ (if refused then lesser (Some least) line else Some least)
+stays_least true least line below = ap Some (omega arith)
+stays_least false least line below = refl
 
 one_said : {A : Type 0} (o : Option A) → cons_option o [] ≡ option_to_list o
 one_said None = refl

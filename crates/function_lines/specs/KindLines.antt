@@ -1,9 +1,7 @@
 -- Believed: The lines of a declaration, which of them are refused, and the least of these, for a function of any kind.
-use Rattle.std.specs.Prelude.{◌≡◌, ℕ, min, List, [], ◌∷◌, ◌++◌, Bool, not, ◌&&◌, ◌||◌, if◌then◌else◌, Option, Some, None, is_none, Result, Ok, Err, slice_index_or, filter_map, fold, codes}
+use Rattle.std.specs.Prelude.{ℕ, min, List, [], ◌∷◌, ◌++◌, Bool, not, ◌&&◌, ◌||◌, if◌then◌else◌, Option, Some, None, is_none, slice_index_or, filter_map, fold, codes}
 use Rattle.std.specs.List.{list_any}
 use Rattle.std.specs.Str.{bytes_eq}
-use Rattle.policy_text.specs.declared.fault.BuildFault.{BuildFault}
-use Rattle.policy_text.specs.declared.fault.BuildFault.TheVariants.{BadSetting, OutOfMemory}
 use Rattle.policy_text.specs.declared.policy.FunctionDecl.{FunctionDecl}
 use Rattle.policy_text.specs.declared.policy.Setting.{Setting}
 
@@ -58,10 +56,3 @@ least lines = fold lesser None lines
 -- the least refused line of a declaration, none where each line may stand
 abbrev pub refused_line : {L : Type 0} → KindLines L → FunctionDecl → Option ℕ
 refused_line lines decl = least (refused_lines lines decl)
-
--- What making a function of its lines answers, by what the lines make: the function, where no line is refused, or the
--- least refused line; memory may run out.
-abbrev pub Builds : {L F : Type 0} → KindLines L → (List L → F) → FunctionDecl → Result F BuildFault → Type 0
-Builds lines made_by decl (Ok f) = (refused_line lines decl ≡ None) × (f ≡ made_by (said_by lines decl.settings))
-Builds lines made_by decl (Err (BadSetting line)) = refused_line lines decl ≡ Some line
-Builds lines made_by decl (Err OutOfMemory) = Unit {0}

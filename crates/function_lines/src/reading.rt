@@ -1,7 +1,8 @@
 //! Reads the lines of a declaration.
-ghost use Rattle.std.specs.Prelude.{◌≡◌, ◌||◌, ◌++◌, false, is_none, OnOk, IfOk};
+ghost use Rattle.std.specs.Prelude.{◌≡◌, ◌||◌, ◌++◌, if◌then◌else◌, false, is_none, OnOk, IfOk};
 ghost use Rattle.std.specs.Option.{option_to_list};
-ghost use Rattle.function_lines.specs.KindLines.{Builds, lacks_one, repeats};
+ghost use Rattle.function_lines.specs.Builds.{Builds};
+ghost use Rattle.function_lines.specs.KindLines.{lacks_one, lesser, repeats};
 
 use crate::line::FunctionLine;
 use crate::settings::{least_refused, repeats};
@@ -25,8 +26,7 @@ pub fn read_lines<L: FunctionLine>(
     'settings: for place in 0..settings.len() {
         let setting = &settings[place];
         let line = L::read(alloc, setting.words.as_slice())?;
-        let refused = is_refused(&line, &settings[..place], setting);
-        least = least_refused(least, refused, setting.line);
+        least = least_behind(least, &line, &settings[..place], setting);
         keep(&mut lines, line)?;
     }
     let lacks_one = L::lacks_one(lines.as_slice());
@@ -44,6 +44,23 @@ fn keep<L: Drop>(lines: &mut Items<L>, line: Option<L>) -> Result<(), AllocError
         lines.push(line)?;
     }
     Ok(())
+}
+
+// The least refused line, with a line that says this and stands behind these.
+#[tactic(auto, using(crate::proofs::Gathering::stays_least))]
+fn least_behind<L>(
+    least: Option<u32>,
+    line: &Option<L>,
+    before: &[Setting],
+    setting: &Setting,
+) -> Option<u32>
+    ensures { result ≡ (if (is_none line.now || repeats before.now setting.now) then lesser least setting.now.line else least) }
+{
+    match least {
+        // It is the least whether or not this one is refused: the lines before aren't gone through again.
+        Some(other) if other <= setting.line => least,
+        _ => least_refused(least, is_refused(line, before, setting), setting.line),
+    }
 }
 
 // Is a line refused that says this, and stands behind these?

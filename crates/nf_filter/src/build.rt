@@ -10,7 +10,7 @@ use std::alloc::{AllocError, Global};
 impl Firewall {
     ghost use Rattle.std.specs.Prelude.{◌≡◌, IfOk, OnOk};
     ghost use Rattle.action_profile.specs.declared.kind.Kind.{Kind};
-    ghost use Rattle.function_lines.specs.KindLines.{Builds};
+    ghost use Rattle.function_lines.specs.Builds.{Builds};
     ghost use Rattle.nf_filter.specs.Lines.{firewall_lines};
     ghost use Rattle.nf_filter.specs.Firewalls.{open_firewall, with_line, firewall_by};
 

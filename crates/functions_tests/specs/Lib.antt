@@ -1,0 +1,2 @@
+pub mod Painter
+pub mod SizeLines

@@ -1,0 +1,62 @@
+-- For proofs: A function for tests, which writes into the type of service how many packets have passed since it last dropped
+-- one, and drops every third packet.
+use Rattle.std.specs.Prelude.{◌≡◌, ◌≤◌, ◌+◌, ℕ, List, [], ◌∷◌, length, Bool, true, false, ◌&&◌, if◌then◌else◌, nat_le, Option, Some, None, is_some, IfSome, IsSomeAnd, refl}
+use Rattle.std.proofs.Common.{ap, sym}
+use Rattle.packet_fields.specs.Frames.{is_tag_list}
+use Rattle.packet_fields.specs.Fields.{IsLengthOf}
+use Rattle.packet_fields.specs.declared.field.Field.{Field}
+use Rattle.packet_fields.specs.declared.field.Field.TheVariants.{Tag, Tos}
+use Rattle.action_profile.specs.Profiles.{plain, writes_of}
+use Rattle.action_profile.specs.declared.rights.Profile.{Profile}
+use Rattle.chain_walk.specs.Shown.{Values}
+use Rattle.chain_walk.specs.Step.{Step, Behaviour, nothing}
+use Rattle.chain_walk.specs.Laws.{KeepsProfile}
+use Rattle.chain_walk.specs.declared.verdict.Verdict.TheVariants.{Pass, Drop}
+
+abbrev pub painter_profile : Profile
+painter_profile = record (plain [] (Tos ∷ [])) { drops = true; state = true }
+
+-- the type of service, where it is there
+abbrev pub painted : Bool → ℕ → Values
+painted there count Tos = if there then Some (count ∷ []) else None
+painted there count f = None
+
+-- the painters of a type, by the count that each has and how one is made of a count
+abbrev pub painter_behaviour : {F : Type 0} → (F → ℕ) → (ℕ → F) → Behaviour F
+painter_behaviour count make = record {
+  profile = λ f. painter_profile;
+  step = λ f shown.
+      if nat_le 2 (count f)
+      then record { after = make 0; verdict = Drop; written = nothing }
+      else record { after = make (count f + 1); verdict = Pass; written = painted (shown.has Tos) (count f) };
+}
+
+chosen : {F : Type 0} (P : Step F → Type 0) (drops : Bool) (dropped passed : Step F) → P dropped → P passed → P (if drops then dropped else passed)
+chosen P true dropped passed d p = d
+chosen P false dropped passed d p = p
+
+not_there : (there : Bool) (count : ℕ) → there ≡ false → painted there count Tos ≡ None
+not_there there count e = ap (λ b. painted b count Tos) e
+
+unpainted : (v : Values) (x : Field) (count : ℕ) → (writes_of painter_profile x && is_some (v x)) ≡ false → painted (writes_of painter_profile Tos && is_some (v Tos)) count x ≡ None
+unpainted v Tos count h = not_there (is_some (v Tos)) count h
+unpainted v x count h = refl
+
+one_byte : (old : Option (List ℕ)) (count : ℕ) → IfSome old (λ o. length o ≡ 1) → IfSome (painted (is_some old) count Tos) (λ new. IsSomeAnd old (λ o. length new ≡ length o))
+one_byte None count formed = tt
+one_byte (Some o) count formed = sym formed
+
+painted_length : (v : Values) (x : Field) (count : ℕ) → IfSome (v x) (λ old. IsLengthOf x (length old)) →
+    IfSome (painted (writes_of painter_profile Tos && is_some (v Tos)) count x) (λ new. IsSomeAnd (v x) (λ old. length new ≡ length old))
+painted_length v Tos count formed = one_byte (v Tos) count formed
+painted_length v x count formed = tt
+
+pub painter_keeps : {F : Type 0} (count : F → ℕ) (make : ℕ → F) → KeepsProfile (painter_behaviour count make)
+painter_keeps count make = record {
+  stays = λ fixed f v. refl;
+  writes = λ fixed f v x h. chosen (λ t. t.written x ≡ None) (nat_le 2 (count f)) _ _ refl (unpainted v x (count f) h);
+  drops = λ fixed f v h. absurd cc;
+  state = λ fixed f v h. absurd cc;
+  lengths = λ fixed f v x other formed. chosen (λ t. IfSome (t.written x) (λ new. IsSomeAnd (v x) (λ old. length new ≡ length old))) (nat_le 2 (count f)) _ _ tt (painted_length v x (count f) formed);
+  tags = λ fixed f v whole. chosen (λ t. IfSome (t.written Tag) (λ new. (is_tag_list new ≡ true) × IsSomeAnd (v Tag) (λ old. length new ≤ length old + 0))) (nat_le 2 (count f)) _ _ tt tt;
+}

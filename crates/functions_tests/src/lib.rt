@@ -1,0 +1,12 @@
+//! Tests of network functions over their public calls alone: what no contract says, with values that were worked out by hand.
+//!
+//! `lines` reads declarations of a kind of its own, which has a line that has to be there; `making` makes functions of declarations;
+//! `walking` leads frames through firewalls, and through a `painter`, which writes, drops and has a state.
+#![tactic(auto)]
+
+#[cfg(test)]
+mod lines;
+#[cfg(test)]
+mod making;
+#[cfg(test)]
+mod painter;

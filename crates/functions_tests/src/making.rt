@@ -1,0 +1,49 @@
+//! Functions are made of what a policy declares.
+
+use action_profile::Kind;
+use net_functions::{NetFunction, build, is_built};
+use policy_text::{BuildFault, Policy, parse};
+use std::alloc::Global;
+use std::process::Abort;
+
+pub fn built(rt: &impl Abort, alloc: Global, text: &str) -> Result<NetFunction, BuildFault> {
+    assert!(rt; text.len() < 1000);
+    let policy: Policy = parse(alloc, text.as_bytes()).expect(rt, "a policy");
+    let chain = policy.chains.as_slice().first().expect(rt, "a chain");
+    let decl = chain.functions.as_slice().first().expect(rt, "a function");
+    assert!(rt; is_built(decl.kind));
+    build(alloc, decl)
+}
+
+#[test]
+fn a_firewall_is_made_of_its_lines(rt: HostRuntime) {
+    let text =
+        "nfp 1\nchain c\nfn f firewall\nset default deny\nrule allow proto udp dport 50-60\nrule deny\n";
+    let NetFunction::Firewall(firewall) = built(&rt, rt.alloc(), text).expect(&rt, "a firewall");
+    assert!(rt; !firewall.default);
+    let [first, second] = firewall.rules.as_slice() else {
+        rt.abort()
+    };
+    assert!(rt; first.allow && first.fit.clauses.as_slice().len() == 2);
+    assert!(rt; !second.allow && second.fit.clauses.as_slice().is_empty());
+}
+
+#[test]
+fn a_refused_line_of_a_firewall_is_named(rt: HostRuntime) {
+    assert!(rt; is_built(Kind::Firewall) && !is_built(Kind::Nat));
+    for (text, line) in [
+        ("nfp 1\nchain c\nfn f firewall\nrule pass\n", 4),
+        (
+            "nfp 1\nchain c\nfn f firewall\nset default deny\nset default deny\n",
+            5,
+        ),
+        (
+            "nfp 1\nchain c\nfn f firewall\nset size 1\nrule allow src\n",
+            4,
+        ),
+    ] {
+        assert!(rt;
+            built(&rt, rt.alloc(), text).is_err_and(|fault| fault == BuildFault::BadSetting(line))
+        );
+    }
+}

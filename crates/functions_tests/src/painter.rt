@@ -1,0 +1,55 @@
+//! A function that writes, drops and has a state: it writes into the type of service how many packets have passed since it last
+//! dropped one, and drops every third.
+ghost use Rattle.std.specs.Prelude.{◌∷◌, []};
+
+use action_profile::{FieldSet, Profile};
+use net_functions::Function;
+use packet_fields::Field;
+use packet_version::{Verdict, View, unwritten_stays, view_is_formed};
+use std::alloc::AllocError;
+
+#[derive(Drop)]
+pub struct Painter {
+    pub count: u8,
+}
+
+impl Function for Painter {
+    ghost use Rattle.functions_tests.specs.Painter.{painter_behaviour, painter_keeps};
+
+    ghost behaviour = { painter_behaviour (λ f. f.count) (λ n. record { count = n }) };
+
+    ghost lines = { λ f. f.count ∷ [] };
+
+    fn profile(&self) -> Profile {
+        Profile {
+            reads: FieldSet::NONE,
+            writes: FieldSet::TOS,
+            drops: true,
+            state: true,
+            adds: false,
+            removes: false,
+            whole: false,
+        }
+    }
+
+    fn step(&mut self, view: &mut View) -> Result<Verdict, AllocError> {
+        // What holds of the view where nothing is written, and of the values behind it.
+        unwritten_stays(view);
+        view_is_formed(view);
+        if self.count >= 2 {
+            self.count = 0;
+            return Ok(Verdict::Drop);
+        }
+        if view.has(Field::Tos) {
+            view.set(Field::Tos, &[self.count]);
+        }
+        self.count += 1;
+        Ok(Verdict::Pass)
+    }
+
+    fn state_lines(&self, out: &mut Vec<u8>) -> Result<(), AllocError> {
+        Ok(out.push(self.count)?)
+    }
+
+    ghost keeps = { painter_keeps (λ f. f.count) (λ n. record { count = n }) };
+}
