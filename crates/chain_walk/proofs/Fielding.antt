@@ -141,3 +141,13 @@ pub built_again : (values : Values) (frame : List ℕ) → IsFilled values frame
 built_again values frame filled =
     written-written values (blanks frame) frame filled.fits (blanks_fit frame)
     ∙ ap (λ (v : Values). written v frame) (same_values (over values (blanks frame)) values (λ f. over_blank f (values f) (value f frame) (filled.whole f)))
+
+-- so a frame is put together of what is left of it, its own fields and what a step wrote over them
+pub put_together : {F : Type 0} (b : Behaviour F) (fixed : Fixed) (f : F) (frame : List ℕ) → KeepsProfile b →
+    written (over (stepped b fixed f (fields_of frame)).written (fields_of frame)) (rest_of frame) ≡ written (stepped b fixed f (fields_of frame)).written frame
+put_together b fixed f frame keeps =
+    let own = own_filled frame in
+    let new = (stepped b fixed f (fields_of frame)).written in
+    built_again (over new (fields_of frame)) frame (step_fills b fixed f (fields_of frame) frame keeps own)
+    ∙ sym (written-written new (fields_of frame) frame (step_fits b fixed f (fields_of frame) frame keeps own.fits) own.fits)
+    ∙ ap (written new) (written-own frame)

@@ -4,7 +4,7 @@ ghost use Rattle.packet_fields.specs.Writing.{AllFit, fields_of, over, rest_of, 
 ghost use Rattle.chain_walk.specs.Shown.{Values, AreWellFormed, fixed_of};
 ghost use Rattle.chain_walk.specs.Step.{Behaviour, stepped};
 ghost use Rattle.chain_walk.specs.Laws.{KeepsProfile};
-ghost use Rattle.chain_walk.specs.Walk.{walk, Walked, EndsWithin};
+ghost use Rattle.chain_walk.specs.Walk.{walk, applied, frame_after, Walked, EndsWithin};
 ghost use Rattle.chain_walk.specs.Packets.{Packet, fates, functions_after};
 ghost use Rattle.chain_walk.specs.FieldWalk.{End.Out, walk_fields, walked_by};
 ghost use Rattle.chain_walk.specs.declared.fixed.Fixed.{Fixed};
@@ -30,6 +30,12 @@ pub fn values_stay_well_formed<F>()
 pub fn frames_are_built_again<F>()
     ensures { (b : Behaviour F) (time position : ℕ) (functions : List F) (frame : List ℕ) (after : Values) → KeepsProfile b →
         (walk_fields b (fixed_of time frame) position functions (fields_of frame)).end ≡ Out after → written after (rest_of frame) ≡ written after frame }
+{}
+
+/// What a function writes may be put over a frame's own fields, and with them into what is left of the frame
+/// without its fields: it is the frame that the function hands on.
+pub fn step_is_put_together<F>()
+    ensures { (b : Behaviour F) (time : ℕ) (f : F) (frame : List ℕ) → KeepsProfile b → written (over (applied b time f frame).written (fields_of frame)) (rest_of frame) ≡ frame_after b time f frame }
 {}
 
 /// Packets that walk in two lots end as in one, each as the packet before left the functions, and each has

@@ -2,7 +2,7 @@
 //! and each packet of a capture through the functions as the packet before it left them.
 //!
 //! This is the yardstick. Whatever else runs a chain (in bursts, in branches, in threads) is measured against the
-//! definitions of `specs/Walk.antt`: no stage, part, copy, queue or thread is known there. [`walk_chain`] is the plain body
+//! definitions of `specs/Walk.antt`: no stage, part, copy, queue or thread is known there. `frame_walk` has the plain body
 //! of the definition for one packet.
 //!
 //! What a function does is told once, by a `Behaviour` of `specs/Step.antt`: its profile, and its step by what it is
@@ -14,15 +14,14 @@
 #![tactic(auto)]
 
 mod fixed;
-mod function;
 mod laws;
 mod verdict;
 mod walk;
 
 pub use fixed::Fixed;
-pub use function::FrameFunction;
 pub use laws::{
-    frames_are_built_again, frames_walk_as_fields, packets_walk_in_a_row, values_stay_well_formed,
+    frames_are_built_again, frames_walk_as_fields, packets_walk_in_a_row, step_is_put_together,
+    values_stay_well_formed,
 };
 pub use verdict::Verdict;
-pub use walk::{Fate, walk_chain};
+pub use walk::Fate;

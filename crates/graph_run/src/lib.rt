@@ -27,8 +27,6 @@ mod packet;
 mod plain;
 mod running;
 mod stage;
-#[cfg(test)]
-mod tests;
 
 pub use chain_walk::Fate;
 pub use plain::run_plain;

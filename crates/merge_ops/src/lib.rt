@@ -21,8 +21,6 @@ mod arrival;
 mod decision;
 mod laws;
 mod merging;
-#[cfg(test)]
-mod tests;
 
 pub use arrival::Arrival;
 pub use decision::{Decision, MergeOp, decide};

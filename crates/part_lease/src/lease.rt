@@ -8,9 +8,6 @@ use std::alloc::{AllocError, Global};
 use std::marker::Model;
 use std::sync::{Arc, Wait};
 
-/// The most readers that a value is shared to.
-pub const READER_LIMIT: u32 = 64;
-
 /// The right to have the value back. A contract sees the value that was shared.
 #[derive(Drop)]
 pub struct Owner<T> {
@@ -64,7 +61,7 @@ impl<T: Drop> From<ShareFault<T>> for AllocError {
     }
 }
 
-/// Shares a value to so many readers. What its owner and each of its readers see is this value. A
+/// Shares a value to so many readers, at most 64. What its owner and each of its readers see is this value. A
 /// refusal is want of memory, and hands the value back.
 pub fn share<T: Drop>(
     alloc: Global,
@@ -72,7 +69,7 @@ pub fn share<T: Drop>(
     readers: u32,
 ) -> Result<(Owner<T>, Vec<Reader<T>>), ShareFault<T>>
     requires some { 0 < readers }
-    requires few { readers ≤ READER_LIMIT }
+    requires few { readers ≤ 64 }
     ensures owner { IfOk result (λ s. s.0 ≡ value) }
     ensures count { IfOk result (λ s. length s.1.items ≡ readers) }
     ensures readers { IfOk result (λ s. All (λ r. r ≡ value) s.1.items) }

@@ -16,7 +16,5 @@
 
 mod home;
 mod lease;
-#[cfg(test)]
-mod tests;
 
-pub use lease::{Owner, READER_LIMIT, Reader, ShareFault, Shown, lend, share};
+pub use lease::{Owner, Reader, ShareFault, Shown, lend, share};

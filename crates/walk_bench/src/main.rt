@@ -9,8 +9,9 @@ ghost use Rattle.std.specs.Prelude.{◌≡◌, ◌≤◌, length, map, IfOk, OnO
 ghost use Rattle.net_functions.specs.NetFunctions.{net_behaviour};
 
 use action_profile::{Profile, all_fields};
-use chain_walk::{Fate, walk_chain};
+use chain_walk::Fate;
 use classifier::Burst;
+use frame_walk::walk_chain;
 use frames::burst_of;
 use graph_compile::compile;
 use graph_run::{Running, run_plain};
@@ -106,6 +107,7 @@ fn through_graph(
 }
 
 fn by_walk(
+    rt: &impl Wait,
     alloc: Global,
     functions: &mut [NetFunction],
     burst: &Burst,
@@ -115,18 +117,23 @@ fn by_walk(
 {
     let mut out = 0u64;
     for _round in 0..rounds {
-        out = out.wrapping_add(walk_all(alloc, functions, burst)?);
+        out = out.wrapping_add(walk_all(rt, alloc, functions, burst)?);
     }
     Ok(out)
 }
 
-fn walk_all(alloc: Global, functions: &mut [NetFunction], burst: &Burst) -> Result<u64, AllocError>
+fn walk_all(
+    rt: &impl Wait,
+    alloc: Global,
+    functions: &mut [NetFunction],
+    burst: &Burst,
+) -> Result<u64, AllocError>
     requires { length functions.old ≤ 64 }
 {
     let mut out = 0u64;
     for item in burst.items.as_slice() {
         let frame = Frame::new(item.packet.frame.bytes().to_vec(alloc)?);
-        match walk_chain(functions, item.packet.time(Unit::Micro), frame)? {
+        match walk_chain(rt, alloc, functions, item.packet.time(Unit::Micro), frame)? {
             Fate::Out(_) => out = out.wrapping_add(1),
             Fate::Gone(_) => {}
         }
@@ -157,7 +164,7 @@ fn lead(
             println!(rt; "out {out} copies {copies}")
         }
         "walk" => {
-            let out = by_walk(alloc, &mut functions, &burst, rounds)?;
+            let out = by_walk(rt, alloc, &mut functions, &burst, rounds)?;
             println!(rt; "out {out}")
         }
         _ => println!(rt; "none"),
