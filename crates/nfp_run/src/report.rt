@@ -73,7 +73,12 @@ fn push_drop_line(
 }
 
 #[tactic(auto, unfolding(crate::specs::Report::drop_text))]
-fn drop_text(alloc: Global, chain: &[u8], number: u64, name: &[u8]) -> Result<Vec<u8>, AllocError>
+fn drop_text<'a>(
+    alloc: Global,
+    chain: &'a [u8],
+    number: u64,
+    name: &'a [u8],
+) -> Result<Vec<u8>, AllocError>
     ensures { IfOk result (λ v. v.items ≡ drop_text chain.now number name.now) }
 {
     join(
@@ -178,7 +183,12 @@ fn push_copies_line(
 }
 
 #[tactic(auto, unfolding(crate::specs::Report::copies_text))]
-fn copies_text(alloc: Global, chain: &[u8], field: &[u8], count: u64) -> Result<Vec<u8>, AllocError>
+fn copies_text<'a>(
+    alloc: Global,
+    chain: &'a [u8],
+    field: &'a [u8],
+    count: u64,
+) -> Result<Vec<u8>, AllocError>
     ensures { IfOk result (λ v. v.items ≡ copies_text chain.now field.now count) }
 {
     join(
@@ -215,12 +225,12 @@ fn push_function_lines(
 }
 
 #[tactic(auto, unfolding(crate::specs::Report::function_text))]
-fn push_function_line(
+fn push_function_line<'a>(
     alloc: Global,
     text: &mut Vec<u8>,
-    chain: &[u8],
-    name: &[u8],
-    kind: &[u8],
+    chain: &'a [u8],
+    name: &'a [u8],
+    kind: &'a [u8],
 ) -> Result<(), AllocError>
     ensures { OnOk result (text.new.items ≡ text.old.items ++ function_text chain.now name.now kind.now) }
 {
