@@ -6,7 +6,7 @@ use Rattle.nfp_outside.specs.declared.slot.Slot.TheVariants as slots
 use Rattle.nfp_outside.specs.Outside.{SlotView}
 use Rattle.pcap_io.specs.declared.capture.CaptureFault.{CaptureFault}
 use Rattle.pcap_io.specs.declared.capture.CaptureFault.TheVariants.{BadMagic, BadVersion, BadLink, CutHead, CutRecord, FrameTooLong, TooManyRecords}
-use Rattle.pcap_io.specs.Reader.{IsHeadFault}
+use Rattle.pcap_io.specs.Capture.{IsHeadFault}
 use Rattle.nfp_run.specs.declared.outcome.Outcome.{Outcome}
 use Rattle.nfp_run.specs.declared.outcome.Outcome.TheVariants.{Done, Usage, Policy, NotBuilt, Capture, ReadFault, WriteFault, OutOfMemory}
 use Rattle.nfp_run.specs.declared.report.Totals.{Totals}

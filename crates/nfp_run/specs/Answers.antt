@@ -4,8 +4,7 @@ use Rattle.std.specs.Option.{option_map}
 use Rattle.nfp_outside.specs.declared.slot.Slot.{Slot}
 use Rattle.nfp_outside.specs.declared.slot.Slot.TheVariants as slots
 use Rattle.nfp_outside.specs.Outside.{SlotView, IsRisen, AppendsPrefix}
-use Rattle.pcap_io.specs.Capture.{capture_of}
-use Rattle.pcap_io.specs.Reader.{IsHeadFault}
+use Rattle.pcap_io.specs.Capture.{capture_of, IsHeadFault}
 use Rattle.pcap_io.specs.declared.capture.CaptureFault.{CaptureFault}
 use Rattle.pcap_io.specs.declared.capture.CaptureFault.TheVariants.{BadMagic, BadVersion, BadLink, CutHead, CutRecord, FrameTooLong, TooManyRecords}
 use Rattle.policy_judge.specs.declared.fault.PolicyFault.{PolicyFault}

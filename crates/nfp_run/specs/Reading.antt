@@ -3,8 +3,8 @@ use Rattle.std.specs.Prelude.{◌≡◌, ◌<◌, ◌⊎◌, ℕ, List, length, 
 use Rattle.std.specs.Option.{option_map}
 use Rattle.nfp_outside.specs.declared.slot.Slot.TheVariants as slots
 use Rattle.nfp_outside.specs.Outside.{SlotView, IsRisen}
-use Rattle.pcap_io.specs.Capture.{capture_of}
-use Rattle.pcap_io.specs.Reader.{ReaderState, reader_at, body_left, IsHeadFault}
+use Rattle.pcap_io.specs.Capture.{capture_of, IsHeadFault}
+use Rattle.pcap_io.specs.Reader.{ReaderState, reader_at, body_left}
 use Rattle.pcap_io.specs.declared.capture.CaptureHead.{CaptureHead}
 use Rattle.policy_judge.specs.declared.fault.JudgeFault.{JudgeFault}
 use Rattle.policy_judge.specs.declared.fault.JudgeFault.TheVariants as faults

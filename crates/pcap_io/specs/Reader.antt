@@ -1,4 +1,4 @@
--- Believed: what a reader of captures does: how far it is, and what it takes off what is left in the slot Capture.
+-- For proofs: what a reader of captures does: how far it is, and what it takes off what is left in the slot Capture.
 use Rattle.std.specs.Prelude.{◌≡◌, ◌≤◌, ◌<◌, ◌+◌, ℕ, List, [], drop, Bool, true, false, Option, Some, None, IfSome, Result, Ok, Err, IsErrOf}
 use Rattle.std.specs.Option.{option_map}
 use Rattle.nfp_outside.specs.declared.slot.Slot.{Slot}
