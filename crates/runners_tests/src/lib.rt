@@ -1,0 +1,8 @@
+//! Tests of what leads packets through a graph, through public calls alone.
+//!
+//! No clause says that a call finds memory, so each call that takes some runs here once with ample
+//! memory.
+#![tactic(auto)]
+
+#[cfg(test)]
+mod graphs;
