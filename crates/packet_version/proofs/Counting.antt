@@ -3,7 +3,8 @@ use Rattle.std.proofs.Common.{◌≡◌, ◌∙◌, ◌≤◌, ◌+◌, ℕ, Boo
 use Rattle.std.specs.Prelude.{if◌then◌else◌}
 use Rattle.packet_fields.specs.declared.field.Field.{Field}
 use Rattle.packet_version.specs.Parts.{is_field}
-use Rattle.packet_version.specs.Tallies.{count_of, raised, RaisesBy, RaisesAtMost}
+use Rattle.packet_version.specs.Tallies.{count_of, raised}
+use Rattle.packet_version.specs.Raising.{RaisesBy, RaisesAtMost}
 
 pub raised_none : (c : ℕ) → raised c 0 ≡ c
 raised_none c = omega arith

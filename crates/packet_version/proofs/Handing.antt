@@ -3,7 +3,7 @@ use Rattle.std.proofs.Common.{◌≡◌, ◌<◌, ◌+◌, ℕ, List, take, sym,
 use Rattle.std.specs.Prelude.{if◌then◌else◌, OnErr, Result, Ok, Err}
 use Rattle.packet_fields.specs.declared.field.Field.{Field}
 use Rattle.action_profile.specs.Modes.{has_write}
-use Rattle.packet_version.specs.Tallies.{RaisesBy, RaisesAtMost}
+use Rattle.packet_version.specs.Raising.{RaisesBy, RaisesAtMost}
 use Rattle.packet_version.specs.Versions.{PlainVersion}
 use Rattle.packet_version.specs.Handing.{writers_in}
 use Rattle.packet_version.proofs.Mapping.{count_next, count_some}

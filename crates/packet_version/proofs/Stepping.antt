@@ -11,7 +11,8 @@ use Rattle.action_profile.specs.Modes.{has_write, mode_of, modes_of}
 use Rattle.action_profile.specs.declared.parts.Mode.{Mode}
 use Rattle.action_profile.specs.declared.parts.Touch.{Touch}
 use Rattle.packet_version.specs.Parts.{PlainPart, Parts, as_list, changed, is_field, unwritten, AreTags}
-use Rattle.packet_version.specs.Tallies.{count_of, raised, RaisesBy, RaisesAtMost}
+use Rattle.packet_version.specs.Tallies.{count_of, raised}
+use Rattle.packet_version.specs.Raising.{RaisesBy, RaisesAtMost}
 use Rattle.packet_version.specs.Versions.{PlainVersion, with_part, nothing}
 use Rattle.packet_fields.specs.Writing.{Fits}
 use Rattle.packet_version.specs.Splitting.{IsWhole}

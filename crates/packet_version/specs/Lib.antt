@@ -1,6 +1,7 @@
 pub mod Parts
 pub mod Splitting
 pub mod Tallies
+pub mod Raising
 pub mod Places
 pub mod Versions
 pub mod Views

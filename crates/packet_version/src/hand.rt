@@ -6,7 +6,7 @@ ghost use Rattle.packet_fields.specs.declared.field.Field.{Field};
 ghost use Rattle.action_profile.specs.Modes.{has_write, mode_of};
 ghost use Rattle.packet_version.specs.Parts.{as_map, writer_in, unwritten, IsValueOf, IsPartOf};
 ghost use Rattle.packet_version.specs.Splitting.{fresh};
-ghost use Rattle.packet_version.specs.Tallies.{RaisesBy, RaisesAtMost};
+ghost use Rattle.packet_version.specs.Raising.{RaisesBy, RaisesAtMost};
 ghost use Rattle.packet_version.specs.Dealing.{kept_part, copies_due};
 ghost use Rattle.packet_version.specs.Handing.{touches_in, copies_of, copied_to, copied_some, lent_to, reads_more, writers_in, kept_in, with_place};
 

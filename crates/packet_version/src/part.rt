@@ -142,7 +142,7 @@ ghost use Rattle.std.specs.Borrow.{sem};
 ghost use Rattle.packet_version.specs.Parts.{unwritten};
 ghost use Rattle.packet_version.specs.Lending.{LendsPart};
 ghost use Rattle.packet_version.specs.Splitting.{fresh};
-ghost use Rattle.packet_version.specs.Tallies.{RaisesBy};
+ghost use Rattle.packet_version.specs.Raising.{RaisesBy};
 
 /// Sets the writer of a part that is there, and lends its bytes.
 pub(crate) fn edit_part(part: &mut Option<Part>, writer: u32) -> &mut [u8]

@@ -21,7 +21,8 @@ impl Model for Tally {
 impl Tally {
     ghost use Rattle.std.specs.Prelude.{◌≡◌};
     ghost use Rattle.packet_fields.specs.declared.field.Field.{Field};
-    ghost use Rattle.packet_version.specs.Tallies.{count_of, raised, RaisesBy};
+    ghost use Rattle.packet_version.specs.Tallies.{count_of, raised};
+    ghost use Rattle.packet_version.specs.Raising.{RaisesBy};
 
     /// No copies.
     pub fn new() -> Self

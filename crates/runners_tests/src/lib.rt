@@ -7,4 +7,6 @@
 #[cfg(test)]
 mod bursts;
 #[cfg(test)]
+mod graphs;
+#[cfg(test)]
 mod tables;

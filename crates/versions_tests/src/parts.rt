@@ -1,18 +1,19 @@
 //! A frame comes apart and together, and a version of it is read, written and copied.
-ghost use Rattle.std.specs.Prelude.{◌≡◌, ◌∷◌, [], Some, IfOk, IsSome};
+ghost use Rattle.std.specs.Prelude.{◌≡◌, ◌∷◌, [], length, Some, IfOk, IsSomeAnd, IsTrue};
+ghost use Rattle.std.specs.Option.{option_copied};
 ghost use Rattle.packet_fields.specs.Writing.{over};
 ghost use Rattle.packet_fields.specs.declared.field.Field.{Field};
 ghost use Rattle.action_profile.specs.Modes.{modes_of};
 ghost use Rattle.action_profile.specs.Profiles.{profile_of};
 ghost use Rattle.action_profile.specs.declared.kind.Kind.{Kind};
-ghost use Rattle.packet_version.specs.Views.{seen_parts, wrote_all, alone};
+ghost use Rattle.packet_version.specs.Views.{wrote_all, alone, HasBytes};
 
 use action_profile::{FieldSet, Kind, Mode, StageParts, Touch, profile};
 use fixtures::UDP;
 use item_list::Items;
 use packet_fields::Field;
 use packet_version::{
-    Base, Tally, Version, View, copy, deal, join, later_write_stands_over, split, view_is_formed,
+    Base, Tally, Version, View, copy, deal, join, later_write_stands_over, split,
     written_is_one_value,
 };
 use std::alloc::{AllocError, Global};
@@ -61,21 +62,35 @@ fn dealt(rt: &impl Abort, alloc: Global, tally: &mut Tally) -> Result<(Base, Ver
     Ok((base, version))
 }
 
-/// Writes the source's address and port, where the packet has both.
+/// Are the source's address and port there?
+fn has_both(view: &View) -> bool
+    requires { view.now.profile ≡ profile_of Kind.Nat }
+    ensures address { IsTrue result → HasBytes view.now Field.SrcIp (λ old. 4 ≡ length old) }
+    ensures port { IsTrue result → HasBytes view.now Field.SrcPort (λ old. 2 ≡ length old) }
+{
+    has_bytes(view.get(Field::SrcIp), 4) && has_bytes(view.get(Field::SrcPort), 2)
+}
+
+fn has_bytes(value: Option<&[u8]>, count: usize) -> bool
+    ensures { IsTrue result → IsSomeAnd (option_copied value) (λ old. count ≡ length old) }
+{
+    match value {
+        Some(bytes) => bytes.len() == count,
+        None => false,
+    }
+}
+
+/// Writes the source's address and port, which are there. Two writes are one.
 fn readdress(view: &mut View, address: &[u8; 4], port: &[u8; 2])
     requires profile { view.old.profile ≡ profile_of Kind.Nat }
-    ensures both { IsSome (seen_parts view.old Field.SrcIp) → IsSome (seen_parts view.old Field.SrcPort) →
-        view.new ≡ wrote_all (over (alone Field.SrcPort (Some port.now)) (alone Field.SrcIp (Some address.now))) view.old }
+    requires address { HasBytes view.old Field.SrcIp (λ old. 4 ≡ length old) }
+    requires port { HasBytes view.old Field.SrcPort (λ old. 2 ≡ length old) }
+    ensures { view.new ≡ wrote_all (over (alone Field.SrcPort (Some port.now)) (alone Field.SrcIp (Some address.now))) view.old }
 {
-    // Two writes are one.
     written_is_one_value();
     later_write_stands_over();
-    view_is_formed(view);
-    if view.has(Field::SrcIp) && view.has(Field::SrcPort) {
-        view.set(Field::SrcIp, address);
-        view_is_formed(view);
-        view.set(Field::SrcPort, port);
-    }
+    view.set(Field::SrcIp, address);
+    view.set(Field::SrcPort, port);
 }
 
 #[test]
@@ -83,6 +98,7 @@ fn writes_two_fields_and_copies_one(rt: HostRuntime) -> Result<(), Fail> {
     let mut tally = Tally::new();
     let (base, version) = dealt(&rt, rt.alloc(), &mut tally)?;
     let mut view = version.view(&rt, &profile(Kind::Nat), 3);
+    assert!(rt; has_both(&view));
     readdress(&mut view, b"\x0a\x09\0\x01", b"\x20\0");
     assert!(rt; view.get(Field::SrcIp) == Some(b"\x0a\x09\0\x01".as_slice()));
     assert!(rt; view.get(Field::SrcPort) == Some(b"\x20\0".as_slice()));

@@ -2,7 +2,7 @@ use Rattle.std.proofs.Common.{◌∙◌, ℕ, ap, subst}
 use Rattle.std.specs.Prelude.{OnOk, OnErr, Option}
 use Rattle.action_profile.specs.declared.parts.Mode.TheVariants.{Copied}
 use Rattle.packet_version.specs.Parts.{as_map}
-use Rattle.packet_version.specs.Tallies.{RaisesBy, RaisesAtMost}
+use Rattle.packet_version.specs.Raising.{RaisesBy, RaisesAtMost}
 use Rattle.packet_version.proofs.Dealt.{shared_alone, moved_first, moved_due, copied_first, copied_due, lent_due}
 use Rattle.packet_version.proofs.hand.deal_field.Goals as goal
 

@@ -1,7 +1,7 @@
 use Rattle.std.proofs.Common.{◌≡◌, take}
 use Rattle.packet_version.specs.Handing.{copied_to, writers_in}
 use Rattle.packet_version.specs.Splitting.{fresh}
-use Rattle.packet_version.specs.Tallies.{RaisesBy}
+use Rattle.packet_version.specs.Raising.{RaisesBy}
 use Rattle.packet_version.proofs.Mapping.{changed_first}
 use Rattle.packet_version.proofs.hand.give_copies.Given as goal
 

@@ -2,7 +2,7 @@ use Rattle.std.proofs.Common.{◌∙◌, ◌+◌, ◌-◌, ℕ, length, get_or, 
 use Rattle.std.specs.Prelude.{Some}
 use borrow.Rule.Slice.PartMut.{put_mid, mid_of}
 use Rattle.packet_version.specs.Parts.{PlainPart}
-use Rattle.packet_version.specs.Tallies.{RaisesBy, RaisesAtMost}
+use Rattle.packet_version.specs.Raising.{RaisesBy, RaisesAtMost}
 use Rattle.packet_version.specs.Versions.{with_part}
 use Rattle.packet_version.proofs.Originals.{original_given, original_writes, copies_alike, writers_behind, first_there}
 use Rattle.packet_version.proofs.Handing.{on_err}

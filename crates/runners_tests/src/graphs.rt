@@ -1,0 +1,86 @@
+//! A burst of packets runs through a graph.
+ghost use Rattle.std.specs.Prelude.{◌≡◌, [], ◌∷◌, length, map, IfOk};
+ghost use Rattle.action_profile.specs.Profiles.{profile_of};
+ghost use Rattle.action_profile.specs.declared.kind.Kind.{Kind};
+ghost use Rattle.net_functions.specs.NetFunctions.{net_behaviour};
+
+use action_profile::{Kind, profile};
+use chain_walk::Fate;
+use classifier::{Burst, Item};
+use fixtures::UDP;
+use graph_compile::compile;
+use graph_run::{Running, run_plain};
+use item_list::Items;
+use net_functions::NetFunction;
+use nf_filter::Firewall;
+use packet_fields::{Field, Frame};
+use packet_version::Tally;
+use pcap_io::{PcapRecord, Unit};
+use std::alloc::{AllocError, Global};
+use std::test::Fail;
+
+/// Two firewalls: the first lets every packet pass, the second none.
+fn open_and_shut(alloc: Global) -> Result<Vec<NetFunction>, AllocError>
+    ensures { IfOk result (λ functions. map net_behaviour.profile functions.items ≡ profile_of Kind.Firewall ∷ profile_of Kind.Firewall ∷ []) }
+{
+    let mut functions = Vec::with_capacity(alloc, 2)?;
+    functions.push(firewall(alloc, true))?;
+    functions.push(firewall(alloc, false))?;
+    Ok(functions)
+}
+
+/// A firewall without rules.
+fn firewall(alloc: Global, default: bool) -> NetFunction {
+    NetFunction::Firewall(Firewall {
+        default,
+        rules: Items::new(Vec::new(alloc)),
+    })
+}
+
+fn packet(alloc: Global) -> Result<Frame, AllocError> {
+    Ok(Frame::new(UDP.to_vec(alloc)?))
+}
+
+/// The first packet is of chain 0, the second of no chain.
+fn burst(alloc: Global) -> Result<Burst, AllocError>
+    ensures { IfOk result (λ burst. length burst.items ≡ 2) }
+{
+    let mut items = Vec::with_capacity(alloc, 2)?;
+    items.push(item(alloc, 1, Some(0))?)?;
+    items.push(item(alloc, 2, None)?)?;
+    Ok(Burst {
+        items: Items::new(items),
+    })
+}
+
+fn item(alloc: Global, number: u32, class: Option<u32>) -> Result<Item, AllocError> {
+    Ok(Item {
+        number,
+        class,
+        packet: PcapRecord {
+            seconds: 0,
+            fraction: 0,
+            wire: 42,
+            frame: packet(alloc)?,
+        },
+    })
+}
+
+#[test]
+fn a_packet_of_the_chain_is_dropped_by_its_second_function(rt: HostRuntime) -> Result<(), Fail> {
+    let alloc = rt.alloc();
+    let profiles = [profile(Kind::Firewall), profile(Kind::Firewall)];
+    let graph = compile(alloc, &profiles)?;
+    let run = Running::new(open_and_shut(alloc)?, graph);
+    let burst = burst(alloc)?;
+    let mut tally = Tally::new();
+    let (run, fates) = run_plain(&rt, alloc, run, &burst, Unit::Micro, 0, &mut tally)?;
+    assert_eq!(rt; run.functions().len(), 2);
+    assert_eq!(rt; fates.len(), 1);
+    match fates.first() {
+        Some(Fate::Gone(position)) => assert_eq!(rt; *position, 2),
+        _ => assert!(rt; false),
+    }
+    assert_eq!(rt; tally.of(Field::SrcIp), 0);
+    Ok(())
+}
