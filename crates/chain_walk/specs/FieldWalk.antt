@@ -1,4 +1,4 @@
--- For proofs: The same way of a packet, seen of its fields alone.
+-- For proofs: the same way of a packet, seen of its fields alone.
 use Rattle.std.specs.Prelude.{ℕ, ◌+◌, List, [], ◌∷◌, if◌then◌else◌}
 use Rattle.packet_fields.specs.Writing.{written, over}
 use Rattle.chain_walk.specs.Shown.{Values}

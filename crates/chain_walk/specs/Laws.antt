@@ -1,4 +1,4 @@
--- Believed: What every network function keeps to.
+-- For proofs: what every network function keeps to.
 use Rattle.std.specs.Prelude.{◌≡◌, ◌≢◌, ◌≤◌, ◌+◌, true, false, ◌&&◌, if◌then◌else◌, length, None, is_some, IfSome, IsSomeAnd}
 use Rattle.packet_fields.specs.Frames.{is_tag_list}
 use Rattle.packet_fields.specs.Fields.{IsLengthOf}

@@ -1,4 +1,4 @@
--- Believed: All the packets of a capture, each walking through the functions as the one before left them.
+-- Believed: all the packets of a capture, each walking through the functions as the one before left them.
 use Rattle.std.specs.Prelude.{ℕ, List, [], ◌∷◌}
 use Rattle.chain_walk.specs.Step.{Behaviour}
 use Rattle.chain_walk.specs.Walk.{walk}

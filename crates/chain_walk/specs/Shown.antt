@@ -1,4 +1,4 @@
--- Believed: What a network function is shown of a packet.
+-- Believed: what a network function is shown of a packet.
 use Rattle.std.specs.Prelude.{◌≡◌, ℕ, List, length, Bool, true, ◌&&◌, if◌then◌else◌, Option, None, is_some, IfSome}
 use Rattle.packet_fields.specs.Frames.{packet, is_tag_list}
 use Rattle.packet_fields.specs.Packets.{total_len, protocol, control_bits}

@@ -1,4 +1,4 @@
--- Believed: What a network function does with one packet.
+-- Believed: what a network function does with one packet.
 use Rattle.std.specs.Prelude.{Bool, true, false, None}
 use Rattle.action_profile.specs.declared.rights.Profile.{Profile}
 use Rattle.chain_walk.specs.Shown.{Shown, Values, shown_by}

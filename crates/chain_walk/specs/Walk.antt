@@ -1,4 +1,4 @@
--- Believed: The way of a packet through the functions of a chain, one after another.
+-- Believed: the way of a packet through the functions of a chain, one after another.
 use Rattle.std.specs.Prelude.{ℕ, ◌+◌, ◌≤◌, List, [], ◌∷◌, if◌then◌else◌}
 use Rattle.packet_fields.specs.Writing.{written, fields_of}
 use Rattle.chain_walk.specs.Shown.{fixed_of}

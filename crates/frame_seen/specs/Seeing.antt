@@ -1,4 +1,4 @@
--- Believed: What the clauses of a policy see of a packet, as numbers, most significant byte first.
+-- Believed: what the clauses of a policy see of a packet, as numbers, most significant byte first.
 use Rattle.std.specs.Prelude.{ℕ, ◌%◌, ◌==◌, if◌then◌else◌, List, length, take, drop, Option}
 use Rattle.std.specs.Option.{option_map, option_map_or}
 use Rattle.byteorder.specs.Endian.{big_number}

@@ -1,4 +1,4 @@
--- For proofs: What one turn of a walk hands on, and where a walk stops for want of memory.
+-- For proofs: what one turn of a walk hands on, and where a walk stops for want of memory.
 use Rattle.std.specs.Prelude.{◌≡◌, ◌≤◌, ◌⊎◌, ℕ, List, length, take, drop, Bool, true, false, if◌then◌else◌, Option, Some, None}
 use Rattle.chain_walk.specs.Step.{Behaviour, is_drop}
 use Rattle.chain_walk.specs.Walk.{walk, applied, frame_after}

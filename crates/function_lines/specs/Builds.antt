@@ -1,4 +1,4 @@
--- For proofs: What reading the lines of a declaration answers, and making a function of them.
+-- For proofs: what reading the lines of a declaration answers, and making a function of them.
 use Rattle.std.specs.Prelude.{◌≡◌, List, Some, None, Result, Ok, Err}
 use Rattle.policy_text.specs.declared.fault.BuildFault.{BuildFault}
 use Rattle.policy_text.specs.declared.fault.BuildFault.TheVariants.{BadSetting, OutOfMemory}

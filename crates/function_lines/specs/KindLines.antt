@@ -1,4 +1,4 @@
--- Believed: The lines of a declaration, which of them are refused, and the least of these, for a function of any kind.
+-- Believed: the lines of a declaration, which of them are refused, and the least of these, for a function of any kind.
 use Rattle.std.specs.Prelude.{ℕ, min, List, [], ◌∷◌, ◌++◌, Bool, not, ◌&&◌, ◌||◌, if◌then◌else◌, Option, Some, None, is_none, slice_index_or, filter_map, fold, codes}
 use Rattle.std.specs.List.{list_any}
 use Rattle.std.specs.Str.{bytes_eq}

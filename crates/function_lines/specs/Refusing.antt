@@ -1,4 +1,4 @@
--- For proofs: When a line of a declaration is refused, as a relation beside the list of those that are.
+-- For proofs: when a line of a declaration is refused, as a relation beside the list of those that are.
 use Rattle.std.specs.Prelude.{◌≡◌, ℕ, List, ◌∷◌, ◌++◌, true}
 use Rattle.policy_text.specs.declared.policy.FunctionDecl.{FunctionDecl}
 use Rattle.policy_text.specs.declared.policy.Setting.{Setting}

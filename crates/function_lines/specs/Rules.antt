@@ -1,4 +1,4 @@
--- Believed: Rules that ask for clauses: how the clauses are read, and which rule is the first that a packet meets.
+-- Believed: rules that ask for clauses: how the clauses are read, and which rule is the first that a packet meets.
 use Rattle.std.specs.Prelude.{ℕ, List, Option, Some, None, Result, Ok, Err, find}
 use Rattle.policy_text.specs.declared.clause.Clause.{Clause}
 use Rattle.policy_text.specs.declared.clause.Match.{Match}

@@ -1,4 +1,4 @@
--- For proofs: A function for tests, which writes into the type of service how many packets have passed since it last dropped
+-- For proofs: a function for tests, which writes into the type of service how many packets have passed since it last dropped
 -- one, and drops every third packet.
 use Rattle.std.specs.Prelude.{◌≡◌, ◌≤◌, ◌+◌, ℕ, List, [], ◌∷◌, length, Bool, true, false, ◌&&◌, if◌then◌else◌, nat_le, Option, Some, None, is_some, IfSome, IsSomeAnd, refl}
 use Rattle.std.proofs.Common.{ap, sym}

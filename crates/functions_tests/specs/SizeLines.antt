@@ -1,4 +1,4 @@
--- For proofs: The lines of a kind for tests: `set size N`, N up to 9, which each declaration has to have.
+-- For proofs: the lines of a kind for tests: `set size N`, N up to 9, which each declaration has to have.
 use Rattle.std.specs.Prelude.{ℕ, List, [], ◌∷◌, true, ◌&&◌, if◌then◌else◌, Option, None, codes}
 use Rattle.std.specs.Option.{option_map}
 use Rattle.std.specs.Str.{bytes_eq}

@@ -1,4 +1,4 @@
--- For proofs: The versions and arrivals of a stage, as the law of graphs sees them.
+-- For proofs: the versions and arrivals of a stage, as the law of graphs sees them.
 use Rattle.std.specs.Prelude.{ℕ, map}
 use Rattle.chain_walk.specs.Shown.{Values}
 use Rattle.chain_walk.specs.FieldWalk.{End, End.Out, End.Gone}

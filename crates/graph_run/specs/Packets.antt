@@ -1,4 +1,4 @@
--- For proofs: The packets of a burst that a chain takes.
+-- For proofs: the packets of a burst that a chain takes.
 use Rattle.std.specs.Prelude.{ℕ, List, map, filter, Bool, false, ◌==◌}
 use Rattle.std.specs.Option.{option_map_or}
 use Rattle.pcap_io.specs.Capture.{time_of}

@@ -1,4 +1,4 @@
--- For proofs: Room for the tags that the functions of a chain may still add.
+-- For proofs: room for the tags that the functions of a chain may still add.
 use Rattle.std.specs.Prelude.{ℕ, ◌+◌, ◌*◌, ◌-◌, ◌≤◌, List, length, drop, count_by, IfSome}
 use Rattle.packet_fields.specs.declared.field.Field.TheVariants.{Tag}
 use Rattle.action_profile.specs.declared.rights.Profile.{Profile}

@@ -1,4 +1,4 @@
--- Believed: The functions of a chain and their graph, ready to run.
+-- For proofs: the functions of a chain and their graph, ready to run.
 use Rattle.std.specs.Prelude.{◌≤◌, List, length, map}
 use Rattle.action_profile.specs.declared.rights.Profile.{Profile}
 use Rattle.chain_walk.specs.Step.{Behaviour}

@@ -1,4 +1,4 @@
--- For proofs: What a stage needs of a packet, and what it leaves of it.
+-- For proofs: what a stage needs of a packet, and what it leaves of it.
 use Rattle.std.specs.Prelude.{◌≡◌, ◌≤◌, ◌<◌, ◌+◌, ℕ, suc, List, [], ◌∷◌, length, is_some, if◌then◌else◌}
 use Rattle.packet_fields.specs.declared.field.Field.{Field}
 use Rattle.action_profile.specs.Modes.{copies}

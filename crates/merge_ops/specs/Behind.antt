@@ -1,4 +1,4 @@
--- For proofs: The arrivals of a base: what the branches of its stage made of the versions that they were dealt.
+-- For proofs: the arrivals of a base: what the branches of its stage made of the versions that they were dealt.
 use Rattle.std.specs.Prelude.{◌≡◌, ◌≢◌, ◌<◌, ℕ, List, length, Option, Some, None, is_some, option_map, map, slice_index_or}
 use Rattle.packet_fields.specs.declared.field.Field.{Field}
 use Rattle.packet_fields.specs.declared.field.Field.TheVariants.{Tag}

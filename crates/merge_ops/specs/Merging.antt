@@ -1,4 +1,4 @@
--- For proofs: What comes of a packet behind a stage: the part of each field that was written last, or a drop.
+-- For proofs: what comes of a packet behind a stage: the part of each field that was written last, or a drop.
 use Rattle.std.specs.Prelude.{◌==◌, ℕ, Bool, true, false, if◌then◌else◌, List, [], ◌∷◌, Option, Some, None, max, min, map, position}
 use Rattle.std.specs.List.{list_any}
 use Rattle.packet_fields.specs.declared.field.Field.{Field}

@@ -1,4 +1,4 @@
--- For proofs: Which branch the part of a field is taken from, and what the merged packet has.
+-- For proofs: which branch the part of a field is taken from, and what the merged packet has.
 use Rattle.std.specs.Prelude.{◌≡◌, ◌<◌, ℕ, Bool, true, false, if◌then◌else◌, List, length, Option, Some, None, is_some, IfSome, map, position, slice_index_or}
 use Rattle.std.specs.Option.{option_or}
 use Rattle.packet_fields.specs.declared.field.Field.{Field}

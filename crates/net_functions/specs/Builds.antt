@@ -1,4 +1,4 @@
--- Believed: Which kinds are built, which function a policy declares, and what making it answers.
+-- Believed: which kinds are built, which function a policy declares, and what making it answers.
 use Rattle.std.specs.Prelude.{◌≡◌, ℕ, Bool, true, false, Option, Some, None, Result, Ok, Err}
 use Rattle.action_profile.specs.declared.kind.Kind.{Kind}
 use Rattle.action_profile.specs.declared.kind.Kind.TheVariants as kinds

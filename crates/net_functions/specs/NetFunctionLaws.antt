@@ -1,4 +1,4 @@
--- For proofs: Functions of every kind do what their profiles say, and no more.
+-- For proofs: functions of every kind do what their profiles say, and no more.
 use Rattle.std.specs.Prelude.{◌≡◌, ◌≢◌, ◌≤◌, ◌+◌, ℕ, List, false, true, ◌&&◌, if◌then◌else◌, length, Option, None, is_some, IfSome, IsSomeAnd, refl}
 use Rattle.std.proofs.Common.{◌∙◌, ap, sym, subst}
 use Rattle.packet_fields.specs.Frames.{is_tag_list}

@@ -1,4 +1,4 @@
--- Believed: Network functions of any kind: what each may do, what it does, and the lines of its state.
+-- Believed: network functions of any kind: what each may do, what it does, and the lines of its state.
 use Rattle.std.specs.Prelude.{ℕ, List, []}
 use Rattle.action_profile.specs.declared.rights.Profile.{Profile}
 use Rattle.chain_walk.specs.Shown.{Shown}

@@ -1,4 +1,4 @@
--- For proofs: A firewall does what its profile says, and no more.
+-- For proofs: a firewall does what its profile says, and no more.
 use Rattle.std.specs.Prelude.{refl}
 use Rattle.chain_walk.specs.Laws.{KeepsProfile}
 use Rattle.nf_filter.specs.Firewalls.{firewall_behaviour}

@@ -1,4 +1,4 @@
--- Believed: A firewall: how it is declared, what it decides, and what it does as a function of a chain.
+-- Believed: a firewall: how it is declared, what it decides, and what it does as a function of a chain.
 use Rattle.std.specs.Prelude.{List, [], ◌∷◌, ◌++◌, Bool, true, false, fold}
 use Rattle.std.specs.Option.{option_map_or}
 use Rattle.policy_text.specs.declared.policy.FunctionDecl.{FunctionDecl}

@@ -1,4 +1,4 @@
--- Believed: The lines that set a firewall up: `set default allow`, `set default deny`, and `rule allow` or `rule deny` with clauses.
+-- Believed: the lines that set a firewall up: `set default allow`, `set default deny`, and `rule allow` or `rule deny` with clauses.
 use Rattle.std.specs.Prelude.{ℕ, List, [], ◌∷◌, Bool, true, false, if◌then◌else◌, Option, Some, None, codes}
 use Rattle.std.specs.Option.{option_map}
 use Rattle.std.specs.Str.{bytes_eq}

@@ -1,4 +1,4 @@
--- For proofs: How the branches of a stage come to the parts of a packet.
+-- For proofs: how the branches of a stage come to the parts of a packet.
 use Rattle.std.specs.Prelude.{◌≡◌, ◌≤◌, ℕ, List, Option, Some, None, Bool, true, false, if◌then◌else◌, option_map}
 use Rattle.packet_fields.specs.declared.field.Field.{Field}
 use Rattle.action_profile.specs.Modes.{has_touch, mode_of, copies_by_mode}

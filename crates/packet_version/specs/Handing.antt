@@ -1,4 +1,4 @@
--- For proofs: The parts of a packet on their way to the versions of a stage's branches.
+-- For proofs: the parts of a packet on their way to the versions of a stage's branches.
 use Rattle.std.specs.Prelude.{ℕ, Bool, not, ◌==◌, List, Option, Some, None, if◌then◌else◌, map, option_map, count_by}
 use Rattle.packet_fields.specs.declared.field.Field.{Field}
 use Rattle.action_profile.specs.FieldSets.{joined}

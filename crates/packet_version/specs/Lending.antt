@@ -1,4 +1,4 @@
--- For proofs: Bytes that are lent to be written.
+-- For proofs: bytes that are lent to be written.
 use Rattle.std.specs.Prelude.{ℕ, List, ◌++◌, take, drop, length, Option, option_map}
 use Rattle.std.specs.Borrow.{Lends, MutBor, Fml, Array, u8}
 use Rattle.packet_version.specs.Parts.{PlainPart, rewritten}

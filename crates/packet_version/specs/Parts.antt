@@ -1,4 +1,4 @@
--- For proofs: A packet in parts: for each field that it has its bytes, who wrote them last, and how many fit.
+-- For proofs: a packet in parts: for each field that it has its bytes, who wrote them last, and how many fit.
 use Rattle.std.specs.Prelude.{◌≡◌, ℕ, List, length, Option, Some, None, Bool, true, if◌then◌else◌, ◌==◌, option_map, slice_index_or, map, IfSome}
 use Rattle.packet_fields.specs.Frames.{is_tag_list}
 use Rattle.packet_fields.specs.Fields.{number_of, IsLengthOf}

@@ -1,4 +1,4 @@
--- For proofs: Where the parts of a packet are.
+-- For proofs: where the parts of a packet are.
 use Rattle.std.specs.Prelude.{ℕ, List, Option, Some, None, Bool, true, false, map, slice_index_or}
 use Rattle.packet_fields.specs.Fields.{number_of}
 use Rattle.packet_fields.specs.Writing.{all_fields}

@@ -1,4 +1,4 @@
--- For proofs: Counts of copies that rise in one field.
+-- For proofs: counts of copies that rise in one field.
 use Rattle.std.specs.Prelude.{ℕ, List, if◌then◌else◌, ◌≡◌, ◌≤◌}
 use Rattle.packet_fields.specs.declared.field.Field.{Field}
 use Rattle.packet_version.specs.Parts.{is_field}

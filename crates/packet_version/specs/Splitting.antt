@@ -1,4 +1,4 @@
--- For proofs: A frame that comes apart into its fields and its rest, and goes together again.
+-- For proofs: a frame that comes apart into its fields and its rest, and goes together again.
 use Rattle.std.specs.Prelude.{◌≡◌, ◌≢◌, ℕ, ◌+◌, ◌*◌, List, length, true, Option, IfSome, option_map, is_some, if◌then◌else◌}
 use Rattle.packet_fields.specs.Frames.{is_tag_list}
 use Rattle.packet_fields.specs.Fields.{value}

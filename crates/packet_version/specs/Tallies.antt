@@ -1,4 +1,4 @@
--- Believed: Counts of copies, field by field.
+-- Believed: counts of copies, field by field.
 use Rattle.std.specs.Prelude.{ℕ, ◌+◌, ◌-◌, ◌^◌, min, max, List, slice_index}
 use Rattle.packet_fields.specs.Fields.{number_of}
 use Rattle.packet_fields.specs.declared.field.Field.{Field}

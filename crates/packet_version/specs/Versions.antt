@@ -1,4 +1,4 @@
--- For proofs: What a branch of a stage has of a packet.
+-- For proofs: what a branch of a stage has of a packet.
 use Rattle.std.specs.Prelude.{◌≡◌, List, length, Option, Some, None, Bool, true, ◌||◌, if◌then◌else◌}
 use Rattle.packet_fields.specs.declared.field.Field.{Field}
 use Rattle.action_profile.specs.Modes.{has_touch, has_write, only_reads}

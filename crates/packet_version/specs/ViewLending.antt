@@ -1,4 +1,4 @@
--- For proofs: The bytes of a field that a view lends to be written.
+-- For proofs: the bytes of a field that a view lends to be written.
 use Rattle.std.specs.Prelude.{ℕ, List, option_map}
 use Rattle.std.specs.Borrow.{Lends, MutBor, Fml, Array, u8}
 use Rattle.packet_fields.specs.declared.field.Field.{Field}

@@ -1,4 +1,4 @@
--- For proofs: What a function sees of its branch's version, and how it writes there.
+-- For proofs: what a function sees of its branch's version, and how it writes there.
 use Rattle.std.specs.Prelude.{◌≡◌, ◌≢◌, ℕ, ◌≤◌, ◌+◌, List, ◌++◌, length, drop, Option, option_map, Some, None, IsSomeAnd, if◌then◌else◌}
 use Rattle.packet_fields.specs.declared.field.Field.{Field}
 use Rattle.packet_fields.specs.declared.field.Field.TheVariants.{Tag}

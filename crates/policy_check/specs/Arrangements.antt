@@ -1,4 +1,4 @@
--- For proofs: What an order and a cycle are, whichever way they are found.
+-- For proofs: what an order and a cycle are, whichever way they are found.
 use Rattle.std.specs.Prelude.{◌<◌, ◌≤◌, ℕ, IsTrue, All, List, [], ◌∷◌, ◌++◌, length, take, slice_index, Contains, IsPermutation}
 use Rattle.std.specs.List.{range_with_len}
 use Rattle.policy_check.specs.declared.fault.CheckFault.{CheckFault}

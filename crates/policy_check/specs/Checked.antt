@@ -1,4 +1,4 @@
--- Believed: What checking a chain answers.
+-- Believed: what checking a chain answers.
 use Rattle.std.specs.Prelude.{◌≡◌, ℕ, List, [], ◌∷◌, length, Option, Some, None, Result, Ok, Err}
 use Rattle.std.specs.List.{range_with_len}
 use Rattle.policy_text.specs.declared.policy.ChainPolicy.{ChainPolicy}

@@ -1,4 +1,4 @@
--- Believed: The edges that the statements of a chain draw between its functions, counted from 0 as declared.
+-- Believed: the edges that the statements of a chain draw between its functions, counted from 0 as declared.
 use Rattle.std.specs.Prelude.{ℕ, Bool, ◌==◌, ◌&&◌, not, List}
 use Rattle.std.specs.List.{list_any}
 use Rattle.policy_text.specs.declared.policy.Statement.{Statement}

@@ -1,4 +1,4 @@
--- For proofs: Which Priority of a text is the first that the dependency table forbids.
+-- For proofs: which Priority of a text is the first that the dependency table forbids.
 use Rattle.std.specs.Prelude.{◌≡◌, ◌≢◌, List, ◌∷◌, ◌++◌, All, Some}
 use Rattle.dependency_table.specs.declared.action.Action.{Action}
 use Rattle.dependency_table.specs.declared.action.Answer.TheVariants.{Forbidden}

@@ -1,4 +1,4 @@
--- Believed: Priorities that the dependency table forbids.
+-- Believed: priorities that the dependency table forbids.
 use Rattle.std.specs.Prelude.{ℕ, List, [], ◌∷◌, Option, Some, None, slice_get, option_and_then}
 use Rattle.std.specs.Option.{option_or, option_map}
 use Rattle.action_profile.specs.Profiles.{profile_of}

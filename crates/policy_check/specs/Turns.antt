@@ -1,4 +1,4 @@
--- Believed: The order of a chain: at each turn the earliest declared function whose predecessors are all taken.
+-- Believed: the order of a chain: at each turn the earliest declared function whose predecessors are all taken.
 use Rattle.std.specs.Prelude.{ℕ, zero, suc, Bool, ◌==◌, not, List, [], ◌∷◌, Option, filter, find}
 use Rattle.std.specs.List.{list_any}
 use Rattle.std.specs.Option.{option_map_or}

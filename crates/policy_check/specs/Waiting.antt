@@ -1,4 +1,4 @@
--- For proofs: Functions that still wait, as flags: one for each function as declared.
+-- For proofs: functions that still wait, as flags: one for each function as declared.
 use Rattle.std.specs.Prelude.{ℕ, Bool, false, not, ◌==◌, ◌&&◌, List, length, filter}
 use Rattle.std.specs.List.{list_any, range_with_len, slice_index_or}
 use Rattle.policy_text.specs.declared.policy.Statement.{Statement}

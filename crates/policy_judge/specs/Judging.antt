@@ -1,4 +1,4 @@
--- Believed: What a policy text is worth: its chains, each with its order, or the first fault with the line that tells it.
+-- Believed: what a policy text is worth: its chains, each with its order, or the first fault with the line that tells it.
 use Rattle.std.specs.Prelude.{◌≡◌, ℕ, ◌+◌, List, [], ◌∷◌, length, nat_lt, if◌then◌else◌, Option, Some, None, Result, Ok, Err}
 use Rattle.policy_text.specs.declared.fault.TextFault.{TextFault}
 use Rattle.policy_text.specs.declared.fault.TextFault.TheVariants as texts

@@ -1,4 +1,4 @@
--- Believed: The line that tells the fault of a policy.
+-- Believed: the line that tells the fault of a policy.
 use Rattle.std.specs.Prelude.{ℕ, List, [], ◌∷◌, ◌++◌, codes}
 use Rattle.std.specs.Fmt.{decimal}
 use Rattle.text_lines.specs.Texts.{line_of, spaced}

@@ -1,4 +1,4 @@
--- Believed: The least line of a policy that a function refuses.
+-- Believed: the least line of a policy that a function refuses.
 use Rattle.std.specs.Prelude.{◌≡◌, ℕ, min, List, All, Option, Some, None, fold}
 use Rattle.policy_text.specs.declared.policy.ChainPolicy.{ChainPolicy}
 use Rattle.policy_text.specs.declared.policy.FunctionDecl.{FunctionDecl}

@@ -1,4 +1,4 @@
--- Believed: The clauses of a match: a leading word and a value each.
+-- Believed: the clauses of a match: a leading word and a value each.
 use Rattle.std.specs.Prelude.{◌≡◌, ℕ, ◌+◌, List, [], ◌∷◌, ◌++◌, Bool, if◌then◌else◌, ◌&&◌, not, Option, Some, None, Result, Ok, Err, codes}
 use Rattle.std.specs.Option.{option_map}
 use Rattle.std.specs.List.{list_any}

@@ -1,4 +1,4 @@
--- Believed: The forms of lines, word by word.
+-- Believed: the forms of lines, word by word.
 use Rattle.std.specs.Prelude.{ℕ, ◌+◌, List, [], ◌∷◌, Bool, if◌then◌else◌, ◌||◌, Option, Some, None, codes}
 use Rattle.std.specs.Str.{bytes_eq}
 use Rattle.policy_text.specs.declared.form.Slot.{Slot}

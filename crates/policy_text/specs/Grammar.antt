@@ -1,4 +1,4 @@
--- Believed: The policy language: what each line adds to the policy so far, or its first fault.
+-- Believed: the policy language: what each line adds to the policy so far, or its first fault.
 use Rattle.std.specs.Prelude.{ℕ, ◌-◌, List, [], ◌∷◌, ◌++◌, length, map, drop, count_by, find, position, sum_by, Bool, false, if◌then◌else◌, ◌==◌, ◌&&◌, not, nat_lt, slice_index_or, slice_get, is_some, Option, Result, Ok, Err, codes}
 use Rattle.std.specs.Option.{option_map, option_map_or}
 use Rattle.std.specs.List.{list_any}

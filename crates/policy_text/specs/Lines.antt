@@ -1,4 +1,4 @@
--- Believed: A policy text as numbered lines of words. Lines and columns count from 1, and a column counts bytes.
+-- Believed: a policy text as numbered lines of words. Lines and columns count from 1, and a column counts bytes.
 use Rattle.std.specs.Prelude.{◌≡◌, ◌<◌, ◌≤◌, ◌⊎◌, ℕ, ◌+◌, ◌-◌, List, [], ◌∷◌, length, Bool, ◌==◌, ◌||◌, filter, if◌then◌else◌, nat_lt, slice_index_or}
 use Rattle.std.specs.List.{slice_split, before_first}
 use Rattle.std.specs.Str.Lines.{strip_carriage_return}

@@ -1,4 +1,4 @@
--- Believed: Which packets meet a clause.
+-- Believed: which packets meet a clause.
 use Rattle.std.specs.Prelude.{ℕ, ◌-◌, ◌/◌, ◌^◌, Bool, true, false, ◌==◌, ◌&&◌, nat_le}
 use Rattle.std.specs.Option.{option_map_or}
 use Rattle.std.specs.List.{list_all}

@@ -1,4 +1,4 @@
--- Believed: The names of the functions of a chain.
+-- Believed: the names of the functions of a chain.
 use Rattle.std.specs.Prelude.{ℕ, List, [], slice_get, map}
 use Rattle.std.specs.Option.{option_map_or}
 use Rattle.policy_text.specs.declared.policy.FunctionDecl.{FunctionDecl}

@@ -1,4 +1,4 @@
--- For proofs: What holds of every policy that a text writes.
+-- For proofs: what holds of every policy that a text writes.
 use Rattle.std.specs.Prelude.{◌≡◌, ◌≢◌, ◌<◌, ◌≤◌, ℕ, List, [], length, map, count_by, All, AllPairs, Bool, true, ◌||◌, slice_index_or, codes}
 use Rattle.std.specs.List.{flat_map}
 use Rattle.std.specs.Str.{bytes_eq}

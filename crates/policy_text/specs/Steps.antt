@@ -1,4 +1,4 @@
--- Believed: Steps of which each may fail: the first failure is the answer.
+-- Believed: steps of which each may fail: the first failure is the answer.
 use Rattle.std.specs.Prelude.{◌≡◌, Bool, ⊤, if◌then◌else◌, Option, Some, None, Result, Ok, Err}
 use Rattle.policy_text.specs.declared.fault.TextFault.{TextFault}
 use Rattle.policy_text.specs.declared.fault.TextFault.TheVariants.{OutOfMemory}

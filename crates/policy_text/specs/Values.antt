@@ -1,4 +1,4 @@
--- Believed: The values of a policy text. Addresses (RFC 791) have their first byte in the highest bits.
+-- Believed: the values of a policy text. Addresses (RFC 791) have their first byte in the highest bits.
 use Rattle.std.specs.Prelude.{ℕ, ◌+◌, ◌*◌, List, [], ◌∷◌, length, Bool, if◌then◌else◌, ◌==◌, nat_le, ◌&&◌, ◌||◌, slice_index, Option, Some, None}
 use Rattle.std.specs.Option.{option_map, option_and_then}
 use Rattle.std.specs.List.{slice_split, list_all}

@@ -1,4 +1,4 @@
--- Believed: Lines, and words each after one space.
+-- Believed: lines, and words each after one space.
 use Rattle.std.specs.Prelude.{ℕ, List, ◌++◌, codes}
 use Rattle.std.specs.List.{flat_map}
 
