@@ -10,3 +10,5 @@ mod lines;
 mod making;
 #[cfg(test)]
 mod painter;
+#[cfg(test)]
+mod walking;
