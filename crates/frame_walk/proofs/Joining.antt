@@ -1,5 +1,5 @@
 -- What is put together behind the only branch of a stage.
-use Rattle.std.proofs.Common.{◌≡◌, ◌∙◌, List, [], ◌∷◌, ℕ, sym, ap, refl, subst}
+use Rattle.std.proofs.Common.{◌≡◌, ◌∙◌, List, [], ◌∷◌, ap, refl}
 use mathlib.Core.Path.{fun_ext}
 use Rattle.std.specs.Prelude.{Result, Ok, Err, IfOk}
 use Rattle.packet_fields.specs.Writing.{written}

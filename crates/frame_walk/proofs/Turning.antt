@@ -4,7 +4,6 @@ use mathlib.Core.Path.{fun_ext}
 use Rattle.std.specs.Prelude.{Option, Some, None, is_some, ◌&&◌, ◌||◌, option_map, IsSome, IfSome, IsSomeAnd, if◌then◌else◌, slice_index_or, Result, Ok, Err, OnErr, position, count_by, nat_lt, not, ◌==◌}
 use Rattle.std.specs.Option.{option_or, option_map_or}
 use Rattle.std.specs.List.{list_any}
-use Rattle.std.proofs.lemmas.Option.{none-some}
 use Rattle.packet_fields.specs.Fields.{value}
 use Rattle.packet_fields.specs.Writing.{written, over, fields_of, rest_of}
 use Rattle.packet_fields.specs.declared.field.Field.{Field}
@@ -15,8 +14,8 @@ use Rattle.action_profile.specs.declared.parts.Mode.TheVariants.{Shared, Moved, 
 use Rattle.action_profile.specs.Profiles.{reads_of, writes_of}
 use Rattle.action_profile.specs.declared.parts.Touch.{Touch}
 use Rattle.action_profile.specs.declared.rights.Profile.{Profile}
-use Rattle.chain_walk.specs.Shown.{Values, Shown, AreWellFormed, shown_by, fixed_of}
-use Rattle.chain_walk.specs.Step.{Behaviour, Step, stepped, is_drop}
+use Rattle.chain_walk.specs.Shown.{Values, AreWellFormed, shown_by, fixed_of}
+use Rattle.chain_walk.specs.Step.{Behaviour, Step, is_drop}
 use Rattle.chain_walk.specs.Laws.{KeepsProfile}
 use Rattle.chain_walk.specs.Walk.{applied, frame_after}
 use Rattle.chain_walk.specs.declared.fixed.Fixed.{Fixed}

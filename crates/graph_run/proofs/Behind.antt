@@ -9,29 +9,25 @@ use Rattle.packet_fields.specs.Fields.{IsLengthOf}
 use Rattle.packet_fields.specs.declared.field.Field.{Field}
 use Rattle.packet_fields.specs.declared.field.Field.TheVariants.{Tag}
 use Rattle.action_profile.specs.Modes.{mode_of}
-use Rattle.action_profile.specs.declared.parts.Mode.{Mode}
 use Rattle.action_profile.specs.declared.parts.Touch.{Touch}
 use Rattle.action_profile.specs.declared.rights.Profile.{Profile}
 use Rattle.chain_walk.specs.Shown.{Values, AreWellFormed}
-use Rattle.chain_walk.specs.FieldWalk.{End, End.Out, End.Gone}
-use Rattle.graph_law.specs.Branches.{Version, Arrival}
+use Rattle.chain_walk.specs.FieldWalk.{End.Out, End.Gone}
+use Rattle.graph_law.specs.Branches.{Version}
 use Rattle.graph_law.specs.Merging.{lesser as lesser_by, least_nil as least_by, later, latest, unwritten, gone_or, merged as merged_by_law}
 use Rattle.packet_version.specs.Parts.{PlainPart, Parts, values_of, unwritten as cleared}
 use Rattle.packet_version.specs.Splitting.{PlainApart, parts_of as parts_in}
-use Rattle.packet_version.specs.Versions.{PlainVersion, parts_of}
-use Rattle.packet_version.specs.Dealing.{is_given, kept_part, kept_parts, based}
+use Rattle.packet_version.specs.Dealing.{is_given, kept_parts, based}
 use Rattle.merge_ops.specs.Behind.{no_touch, IsFrom, AreFrom, value_behind}
-use Rattle.merge_ops.specs.Merging.{is_short, nil_of, part_of, lesser, least_nil, last_writer, decided_by, decision_of}
-use Rattle.merge_ops.specs.Taking.{arrival_at, source, part_from, part_behind, merged_parts, merged_packet, merged_by, merged}
+use Rattle.merge_ops.specs.Merging.{is_short, part_of, lesser, least_nil, last_writer, decided_by, decision_of}
+use Rattle.merge_ops.specs.Taking.{arrival_at, source, part_from, merged_parts, merged_packet, merged_by, merged}
 use Rattle.merge_ops.specs.declared.arrival.Arrival.{Arrival as Came}
 use Rattle.merge_ops.specs.declared.arrival.Arrival.TheVariants as cames
-use Rattle.merge_ops.specs.declared.decision.Decision.{Decision}
 use Rattle.merge_ops.specs.declared.decision.Decision.TheVariants as decisions
 use Rattle.merge_ops.specs.declared.decision.MergeOp.{MergeOp}
 use Rattle.graph_run.specs.Carrying.{as_version, as_arrival, values_in, as_end}
 use Rattle.graph_run.specs.Rooms.{adders_from, HasRoomFrom}
-use Rattle.graph_run.specs.Staging.{IsCarried, IsCarriedBy}
-use Rattle.graph_run.specs.Stages.{AllCarried, GoesFrom, IsBehind, LeavesStage}
+use Rattle.graph_run.specs.Stages.{AllCarried, GoesFrom, LeavesStage}
 use Rattle.graph_run.proofs.Listed.{map_of_list}
 use Rattle.graph_run.proofs.Rooming.{room_later}
 use Rattle.graph_run.proofs.Latest.{AreVersions, Unwritten, values_behind}

@@ -1,12 +1,11 @@
 -- The branches of a stage, one after another: how far they have come.
-use Rattle.std.proofs.Common.{◌≡◌, ◌∙◌, ◌<◌, ◌≤◌, ◌+◌, ◌-◌, ◌*◌, ℕ, zero, suc, Bool, true, false, List, [], ◌∷◌, ◌++◌, map, length, take, drop, get_or, sym, ap, refl, subst, arith, append_assoc, add-one}
+use Rattle.std.proofs.Common.{◌≡◌, ◌∙◌, ◌<◌, ◌≤◌, ◌+◌, ◌-◌, ◌*◌, ℕ, zero, suc, Bool, true, false, List, [], ◌∷◌, ◌++◌, map, length, take, drop, get_or, sym, ap, refl, subst, arith, add-one}
 use mathlib.Core.Path.{fun_ext}
 use Rattle.std.specs.Prelude.{if◌then◌else◌, Option, Some, None, option_map, IfSome, slice_get}
 use Rattle.std.proofs.Math.Seq.{drop-nil}
-use Rattle.std.proofs.lemmas.List.{drop_more, drop_all, take_more, take_all, append-nil}
+use Rattle.std.proofs.lemmas.List.{drop_more}
 use Rattle.packet_fields.specs.Frames.{is_tag_list}
 use Rattle.packet_fields.specs.Fields.{IsLengthOf}
-use Rattle.packet_fields.specs.declared.field.Field.{Field}
 use Rattle.packet_fields.specs.declared.field.Field.TheVariants.{Tag}
 use Rattle.action_profile.specs.Modes.{has_touch}
 use Rattle.action_profile.specs.declared.parts.Touch.{Touch}
@@ -15,20 +14,20 @@ use Rattle.chain_walk.specs.Shown.{Values, AreWellFormed}
 use Rattle.chain_walk.specs.Step.{Behaviour}
 use Rattle.chain_walk.specs.Laws.{KeepsProfile}
 use Rattle.chain_walk.specs.declared.fixed.Fixed.{Fixed}
-use Rattle.graph_compile.specs.Lawful.{size, IsLawfulStage}
+use Rattle.graph_compile.specs.Lawful.{IsLawfulStage}
 use Rattle.graph_compile.specs.Owners.{HasOwners}
 use Rattle.graph_compile.specs.declared.graph.Branch.{Branch}
 use Rattle.graph_compile.specs.declared.graph.Stage.{Stage}
-use Rattle.graph_law.specs.Branches.{Version, Arrival, Arrival.Live, Ran, in_turn, dealt as dealt_by_law}
+use Rattle.graph_law.specs.Branches.{Arrival, Arrival.Live, Ran, in_turn, dealt as dealt_by_law}
 use Rattle.graph_law.specs.Flow.{Branched, then_branched, branched}
-use Rattle.packet_version.specs.Parts.{PlainPart, Parts, as_list, values_of, writers_of, writer_in, unwritten}
+use Rattle.packet_version.specs.Parts.{PlainPart, Parts, values_of, writers_of, writer_in, unwritten}
 use Rattle.packet_version.specs.Splitting.{PlainApart, parts_of as parts_in}
 use Rattle.packet_version.specs.Versions.{PlainVersion, parts_of}
 use Rattle.packet_version.specs.Dealing.{dealt, dealt_parts}
-use Rattle.merge_ops.specs.Behind.{IsMadeOf, no_touch}
+use Rattle.merge_ops.specs.Behind.{IsMadeOf}
 use Rattle.merge_ops.specs.declared.arrival.Arrival.{Arrival as Came}
 use Rattle.graph_run.specs.Carrying.{as_version, as_arrival, values_in}
-use Rattle.graph_run.specs.Rooms.{adders_from, HasRoomFrom}
+use Rattle.graph_run.specs.Rooms.{adders_from}
 use Rattle.graph_run.specs.Staging.{Holds, IsCarried, IsCarriedBy, IsReady}
 use Rattle.graph_run.specs.Stages.{end_of, GoesFrom, IsStageReady, AllCarried}
 use Rattle.graph_run.proofs.Listed.{map_of_list}

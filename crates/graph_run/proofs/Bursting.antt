@@ -1,8 +1,8 @@
 -- The packets of a burst, one after another: how far they have come.
 use Rattle.std.proofs.Common.{◌≡◌, ◌∙◌, ◌<◌, ◌≤◌, ◌+◌, ℕ, zero, suc, Bool, true, false, List, [], ◌∷◌, ◌++◌, map, length, take, drop, get_or, sym, ap, refl, subst, arith, take-append-drop}
-use Rattle.std.specs.Prelude.{if◌then◌else◌, filter, All, is_some, count_by}
+use Rattle.std.specs.Prelude.{if◌then◌else◌, filter, All, count_by}
 use Rattle.std.specs.List.{sum_by, zip}
-use Rattle.std.proofs.lemmas.List.{drop_more, take_more, take_all, length-map, map-append, length-append}
+use Rattle.std.proofs.lemmas.List.{drop_more, take_more, take_all, length-map, map-append}
 use Rattle.std.proofs.lemmas.List.Sums.{sum_by-cons, count_by-le-length}
 use Rattle.packet_fields.specs.declared.field.Field.{Field}
 use Rattle.action_profile.specs.declared.rights.Profile.{Profile}
@@ -10,7 +10,7 @@ use Rattle.pcap_io.specs.declared.capture.Unit.{Unit as TimeUnit}
 use Rattle.chain_walk.specs.Step.{Behaviour, is_drop}
 use Rattle.chain_walk.specs.Laws.{KeepsProfile}
 use Rattle.chain_walk.specs.Packets.{Packet, fates, functions_after}
-use Rattle.chain_walk.specs.Walk.{Walked, walk, applied, frame_after, dropped_at, then_walked, EndsWithin}
+use Rattle.chain_walk.specs.Walk.{walk, applied, frame_after, dropped_at, then_walked, EndsWithin}
 use Rattle.chain_walk.specs.declared.walk.Fate.{Fate}
 use Rattle.classifier.specs.declared.burst.Item.{Item}
 use Rattle.graph_compile.specs.Facts.{IsLawful}

@@ -4,7 +4,6 @@ use Rattle.std.specs.Prelude.{Option, Some, None, is_some, ◌&&◌, IfSome, IsS
 use Rattle.packet_fields.specs.Frames.{is_tag_list}
 use Rattle.packet_fields.specs.declared.field.Field.{Field}
 use Rattle.packet_fields.specs.declared.field.Field.TheVariants.{Tag}
-use Rattle.action_profile.specs.Modes.{has_write}
 use Rattle.action_profile.specs.Profiles.{writes_of}
 use Rattle.action_profile.specs.declared.parts.Touch.{Touch}
 use Rattle.action_profile.specs.declared.rights.Profile.{Profile}
@@ -14,14 +13,13 @@ use Rattle.chain_walk.specs.Step.{Behaviour, stepped}
 use Rattle.chain_walk.specs.Laws.{KeepsProfile}
 use Rattle.chain_walk.specs.declared.fixed.Fixed.{Fixed}
 use Rattle.graph_compile.specs.Parts.{profile_at}
-use Rattle.packet_version.specs.Parts.{PlainPart, Parts, writer_in, values_of}
+use Rattle.packet_version.specs.Parts.{PlainPart, writer_in, values_of}
 use Rattle.packet_version.specs.Splitting.{PlainApart, parts_of as parts_in}
 use Rattle.packet_version.specs.Versions.{PlainVersion, parts_of, HoldsNamed}
 use Rattle.packet_version.specs.Dealing.{dealt_parts}
 use Rattle.packet_version.specs.Views.{rewritten_by}
-use Rattle.merge_ops.specs.Behind.{IsMadeOf}
 use Rattle.graph_run.specs.Carrying.{as_version, wrote_at}
-use Rattle.graph_run.specs.Rooms.{adders_from, HasRoomFrom}
+use Rattle.graph_run.specs.Rooms.{adders_from}
 use Rattle.graph_run.specs.Staging.{IsCarried}
 use Rattle.graph_run.proofs.Writing.{bytes_in, length_in, part_after, as_wrote, there_after, own_after, length_after}
 use Rattle.graph_run.proofs.Rooming.{adders_at, room_later}

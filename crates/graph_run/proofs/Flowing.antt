@@ -2,42 +2,34 @@
 use Rattle.std.proofs.Common.{◌≡◌, ◌∙◌, ◌<◌, ◌≤◌, ◌+◌, ◌*◌, ℕ, zero, suc, Bool, true, false, List, [], ◌∷◌, ◌++◌, map, length, take, drop, get_or, sym, ap, refl, subst, arith}
 use mathlib.Core.Path.{fun_ext}
 use Rattle.std.specs.Prelude.{if◌then◌else◌, Option, Some, None, option_map, is_some, IfSome, slice_get}
-use Rattle.std.specs.List.{list_any, sum_by}
-use Rattle.std.proofs.lemmas.List.{drop_more, drop_all, take_more, take_all, append-nil, length-map}
+use Rattle.std.proofs.lemmas.List.{drop_more, length-map}
 use Rattle.std.proofs.lemmas.List.Sums.{sum_by-cons}
 use Rattle.packet_fields.specs.Fields.{value}
-use Rattle.packet_fields.specs.Writing.{fields_of, rest_of, written}
+use Rattle.packet_fields.specs.Writing.{fields_of, rest_of}
 use Rattle.packet_fields.specs.declared.field.Field.{Field}
 use Rattle.packet_fields.specs.declared.field.Field.TheVariants.{Tag}
-use Rattle.action_profile.specs.Modes.{copies}
 use Rattle.action_profile.specs.declared.rights.Profile.{Profile}
 use Rattle.chain_walk.specs.Shown.{Values, AreWellFormed, fixed_of}
 use Rattle.chain_walk.specs.Step.{Behaviour}
-use Rattle.chain_walk.specs.Laws.{KeepsProfile}
-use Rattle.chain_walk.specs.Walk.{Walked, walk}
-use Rattle.chain_walk.specs.FieldWalk.{End, End.Out, End.Gone, Ended, walk_fields, walked_by, fate_by}
+use Rattle.chain_walk.specs.FieldWalk.{End, End.Out, End.Gone, Ended}
 use Rattle.chain_walk.specs.declared.fixed.Fixed.{Fixed}
-use Rattle.chain_walk.specs.declared.walk.Fate.{Fate}
 use Rattle.chain_walk.specs.declared.walk.Fate.TheVariants as fates
 use Rattle.graph_compile.specs.Facts.{IsLawful, IsFull}
-use Rattle.graph_compile.specs.Positions.{stands}
 use Rattle.graph_compile.specs.Lawful.{size, IsLawfulStage, IsStaged}
 use Rattle.graph_compile.specs.declared.graph.Branch.{Branch}
 use Rattle.graph_compile.specs.declared.graph.Graph.{Graph}
 use Rattle.graph_compile.specs.declared.graph.Stage.{Stage}
 use Rattle.graph_law.specs.Flow.{staged, then_flow, flow}
-use Rattle.packet_version.specs.Parts.{PlainPart, values_of}
+use Rattle.packet_version.specs.Parts.{values_of}
 use Rattle.packet_version.specs.Splitting.{PlainApart, split_parts, fresh, spare_room, parts_of}
 use Rattle.packet_version.specs.Tallies.{count_of, raised}
-use Rattle.merge_ops.specs.declared.merging.Merged.{Merged}
 use Rattle.merge_ops.specs.declared.merging.Merged.TheVariants as ends
-use Rattle.graph_run.specs.Carrying.{values_in, as_end}
-use Rattle.graph_run.specs.Counting.{reached, copies_in, copies_of, RaisesAll, RaisesUpTo}
-use Rattle.graph_run.specs.Rooms.{adders_from, HasRoomFrom}
+use Rattle.graph_run.specs.Carrying.{values_in}
+use Rattle.graph_run.specs.Counting.{copies_in, RaisesAll}
+use Rattle.graph_run.specs.Rooms.{adders_from}
 use Rattle.graph_run.specs.Running.{IsRunning}
-use Rattle.graph_run.specs.Stages.{end_of, GoesFrom, IsStageReady, IsBehind, LeavesStage, stage_copies}
+use Rattle.graph_run.specs.Stages.{end_of, GoesFrom, IsStageReady}
 use Rattle.graph_run.proofs.Writing.{bytes_in}
-use Rattle.graph_run.proofs.Reaching.{reached_cut, copies_append, first_reached, last_reached}
 
 -- the copies that were made of a packet in so many stages
 abbrev pub made_in : List Stage → ℕ → List ℕ → Field → ℕ

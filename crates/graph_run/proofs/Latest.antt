@@ -1,17 +1,16 @@
 -- What was written last, by the merge of arrivals and by the law of graphs.
-use Rattle.std.proofs.Common.{◌≡◌, ◌≢◌, ◌∙◌, ◌<◌, ◌≤◌, ℕ, zero, suc, Bool, true, false, List, [], ◌∷◌, map, length, max, sym, ap, refl, subst, arith, ltb-true, ltb-false, eq-eqb, ne_eqb}
+use Rattle.std.proofs.Common.{◌≡◌, ◌≢◌, ◌∙◌, ◌<◌, ◌≤◌, ℕ, zero, suc, Bool, true, false, List, [], ◌∷◌, map, length, max, sym, ap, refl, arith, ltb-true, ltb-false, eq-eqb, ne_eqb}
 use Rattle.std.proofs.lemmas.Bool.{lt-ltb, le-ltb}
 use mathlib.Core.Path.{fun_ext}
-use Rattle.std.specs.Prelude.{◌==◌, nat_lt, if◌then◌else◌, Option, Some, None, option_map, position}
+use Rattle.std.specs.Prelude.{◌==◌, nat_lt, if◌then◌else◌, Option, Some, None, position}
 use Rattle.std.proofs.lemmas.List.Quantifiers.{position-Some}
 use Rattle.std.proofs.lemmas.Bool.Decides.{Decides-eqb}
 use Rattle.packet_fields.specs.declared.field.Field.{Field}
-use Rattle.chain_walk.specs.Shown.{Values}
 use Rattle.graph_law.specs.Branches.{Version}
 use Rattle.graph_law.specs.Merging.{later, latest, unwritten}
 use Rattle.packet_version.specs.Parts.{PlainPart, writers_of, values_of}
 use Rattle.packet_version.specs.Splitting.{PlainApart}
-use Rattle.packet_version.specs.Versions.{PlainVersion, parts_of}
+use Rattle.packet_version.specs.Versions.{parts_of}
 use Rattle.merge_ops.specs.Behind.{value_by, value_behind}
 use Rattle.merge_ops.specs.Merging.{part_of, writer_of, greatest_writer, last_writer}
 use Rattle.merge_ops.specs.Taking.{arrival_at}

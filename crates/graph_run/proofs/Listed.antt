@@ -1,7 +1,6 @@
 -- A list made field by field, read as a map.
-use Rattle.std.proofs.Common.{◌≡◌, map, get_or, refl}
+use Rattle.std.proofs.Common.{◌≡◌, refl}
 use mathlib.Core.Path.{fun_ext}
-use Rattle.std.specs.Prelude.{None}
 use Rattle.packet_fields.specs.declared.field.Field.{Field}
 use Rattle.packet_fields.specs.declared.field.Field.TheVariants.{LinkDst, LinkSrc, Tag, Tos, Ttl, SrcIp, DstIp, SrcPort, DstPort, Payload}
 use Rattle.packet_version.specs.Parts.{Parts, as_map, as_list}

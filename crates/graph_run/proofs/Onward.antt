@@ -1,8 +1,8 @@
 -- One stage more, and the end of the way.
-use Rattle.std.proofs.Common.{◌≡◌, ◌∙◌, ◌<◌, ◌≤◌, ◌+◌, ℕ, zero, suc, Bool, true, false, List, [], ◌∷◌, ◌++◌, map, length, take, drop, get_or, sym, ap, refl, subst, arith}
-use Rattle.std.specs.Prelude.{if◌then◌else◌, Option, Some, None, option_map, is_some, IfSome, slice_get}
-use Rattle.std.specs.List.{list_any, sum_by}
-use Rattle.std.proofs.lemmas.List.{drop_more, drop_all, take_more, take_all, append-nil}
+use Rattle.std.proofs.Common.{◌≡◌, ◌∙◌, ◌<◌, ◌≤◌, ◌+◌, ℕ, suc, Bool, true, false, List, [], ◌∷◌, ◌++◌, map, length, take, drop, get_or, sym, ap, refl, subst, arith}
+use Rattle.std.specs.Prelude.{if◌then◌else◌, Option, Some, None, is_some}
+use Rattle.std.specs.List.{list_any}
+use Rattle.std.proofs.lemmas.List.{drop_more, drop_all, take_more, append-nil}
 use Rattle.std.proofs.lemmas.List.Sums.{sum_by-cons}
 use Rattle.packet_fields.specs.Fields.{value}
 use Rattle.packet_fields.specs.Writing.{fields_of, rest_of, written}
@@ -13,28 +13,27 @@ use Rattle.chain_walk.specs.Shown.{Values, fixed_of}
 use Rattle.chain_walk.specs.Step.{Behaviour}
 use Rattle.chain_walk.specs.Laws.{KeepsProfile}
 use Rattle.chain_walk.specs.Walk.{Walked, walk}
-use Rattle.chain_walk.specs.FieldWalk.{End, End.Out, End.Gone, Ended, walk_fields, walked_by, fate_by}
+use Rattle.chain_walk.specs.FieldWalk.{End.Out, End.Gone, Ended, walk_fields, walked_by}
 use Rattle.chain_walk.specs.declared.fixed.Fixed.{Fixed}
 use Rattle.chain_walk.specs.declared.walk.Fate.{Fate}
 use Rattle.chain_walk.specs.declared.walk.Fate.TheVariants as fates
-use Rattle.graph_compile.specs.Facts.{IsLawful, IsFull}
 use Rattle.graph_compile.specs.Positions.{stands}
 use Rattle.graph_compile.specs.Lawful.{IsStaged}
 use Rattle.graph_compile.specs.declared.graph.Graph.{Graph}
 use Rattle.graph_compile.specs.declared.graph.Stage.{Stage}
-use Rattle.graph_law.specs.Flow.{branched, staged, then_flow, flow}
+use Rattle.graph_law.specs.Flow.{branched, staged, flow}
 use Rattle.graph_compile.specs.declared.graph.Branch.{Branch}
 use Rattle.action_profile.specs.declared.parts.Touch.{Touch}
-use Rattle.packet_version.specs.Parts.{PlainPart, values_of}
+use Rattle.packet_version.specs.Parts.{PlainPart}
 use Rattle.packet_version.specs.Splitting.{PlainApart, joined, parts_of}
 use Rattle.packet_version.specs.Tallies.{count_of, raised}
 use Rattle.graph_run.specs.Carrying.{values_in}
 use Rattle.graph_run.specs.Counting.{reached, copies_in, copies_of, RaisesAll, RaisesUpTo}
 use Rattle.graph_run.specs.Running.{IsRunning}
-use Rattle.graph_run.specs.Stages.{end_of, GoesFrom, IsStageReady, IsBehind, stage_copies}
+use Rattle.graph_run.specs.Stages.{end_of, IsStageReady, IsBehind, stage_copies}
 use Rattle.graph_run.proofs.Writing.{bytes_in}
 use Rattle.graph_run.proofs.Reaching.{reached_cut, copies_append, first_reached, last_reached}
-use Rattle.graph_run.proofs.Flowing.{made_in, OnItsWay, IsFlowing, Rising, staged_head, stage_ready, then_out, then_gone, way_on}
+use Rattle.graph_run.proofs.Flowing.{made_in, IsFlowing, Rising, staged_head, stage_ready, then_out, then_gone, way_on}
 
 -- laws of the way through a graph
 abbrev pub StageKeepsFields : Type 0 → Type 0

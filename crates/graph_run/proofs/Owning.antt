@@ -1,10 +1,8 @@
 -- The branches of a lawful stage hold what their functions name.
-use Rattle.std.proofs.Common.{◌≡◌, ◌∙◌, ◌<◌, ◌≤◌, ◌+◌, ◌-◌, ℕ, zero, suc, Bool, true, false, List, [], ◌∷◌, map, length, sym, ap, refl, subst, arith, eqb-true}
-use Rattle.std.specs.Prelude.{◌==◌, if◌then◌else◌, Option, Some, None, filter, slice_get, ◌||◌, IsTrue}
+use Rattle.std.proofs.Common.{◌≡◌, ◌∙◌, ◌<◌, ◌≤◌, ◌+◌, ◌-◌, ℕ, zero, suc, Bool, true, false, List, [], ◌∷◌, length, sym, ap, refl, subst, arith, eqb-true}
+use Rattle.std.specs.Prelude.{◌==◌, if◌then◌else◌, Some, filter, slice_get, ◌||◌}
 use Rattle.std.specs.List.{range_with_len}
-use Rattle.packet_fields.specs.declared.field.Field.{Field}
 use Rattle.action_profile.specs.FieldSets.{has}
-use Rattle.action_profile.specs.Modes.{has_touch, has_write}
 use Rattle.action_profile.specs.Profiles.{reads_of, writes_of}
 use Rattle.action_profile.specs.declared.parts.Touch.{Touch}
 use Rattle.action_profile.specs.declared.rights.Profile.{Profile}
@@ -13,7 +11,7 @@ use Rattle.graph_compile.specs.Owners.{owner, HasOwners}
 use Rattle.graph_compile.specs.Parts.{profile_at}
 use Rattle.graph_compile.specs.declared.graph.Branch.{Branch}
 use Rattle.graph_compile.specs.declared.graph.Stage.{Stage}
-use Rattle.packet_version.specs.Versions.{names, HoldsNamed}
+use Rattle.packet_version.specs.Versions.{HoldsNamed}
 use Rattle.graph_run.specs.Staging.{Holds}
 use Rattle.graph_run.specs.Stages.{end_of}
 

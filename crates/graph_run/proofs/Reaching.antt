@@ -1,7 +1,7 @@
 -- The stages that a packet reaches, and the copies that are made there.
-use Rattle.std.proofs.Common.{◌≡◌, ◌∙◌, ◌<◌, ◌≤◌, ◌+◌, ℕ, zero, suc, Bool, true, false, List, [], ◌∷◌, ◌++◌, length, take, drop, sym, ap, refl, subst, arith}
-use Rattle.std.specs.Prelude.{if◌then◌else◌, ◌||◌, IsTrue, Option, Some, None, slice_get}
-use Rattle.std.specs.List.{list_any, sum_by}
+use Rattle.std.proofs.Common.{◌≡◌, ◌∙◌, ◌<◌, ◌≤◌, ◌+◌, ℕ, zero, suc, Bool, true, false, List, [], ◌∷◌, ◌++◌, take, drop, sym, ap, refl, arith}
+use Rattle.std.specs.Prelude.{if◌then◌else◌, ◌||◌, Some, slice_get}
+use Rattle.std.specs.List.{list_any}
 use Rattle.std.proofs.lemmas.List.Sums.{sum_by-cons}
 use Rattle.std.proofs.lemmas.Option.{slice_get_past}
 use Rattle.packet_fields.specs.declared.field.Field.{Field}
@@ -15,8 +15,7 @@ use Rattle.graph_compile.specs.Positions.{stands}
 use Rattle.graph_compile.specs.declared.graph.Graph.{Graph}
 use Rattle.graph_compile.specs.declared.graph.Stage.{Stage}
 use Rattle.graph_compile.proofs.FiveFacts.{lawful-rises}
-use Rattle.packet_version.specs.Tallies.{count_of, raised}
-use Rattle.graph_run.specs.Counting.{reached, copies_in, RaisesAll, RaisesUpTo}
+use Rattle.graph_run.specs.Counting.{reached, copies_in}
 
 -- a packet that is gone was dropped in none of so many stages
 abbrev pub NotIn : ℕ → List Stage → ℕ → Type 0

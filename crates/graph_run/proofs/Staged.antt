@@ -1,11 +1,10 @@
 -- A stage whose branches have all run, and the copies that it made.
-use Rattle.std.proofs.Common.{◌≡◌, ◌∙◌, ◌<◌, ◌≤◌, ◌+◌, ℕ, zero, suc, Bool, true, false, List, [], ◌∷◌, ◌++◌, map, length, take, drop, sym, ap, refl, subst, arith}
+use Rattle.std.proofs.Common.{◌≡◌, ◌∙◌, ◌<◌, ◌≤◌, ◌+◌, ℕ, zero, suc, List, [], ◌∷◌, ◌++◌, map, length, drop, sym, ap, refl, subst, arith}
 use Rattle.std.specs.Prelude.{◌^◌, Option, Some, None, is_some, if◌then◌else◌, slice_index_or}
 use Rattle.std.proofs.lemmas.List.{drop_all, take_all, append-nil}
 use Rattle.packet_fields.specs.Fields.{number_of}
 use Rattle.packet_fields.specs.declared.field.Field.{Field}
 use Rattle.packet_fields.specs.declared.field.Field.TheVariants.{LinkDst, LinkSrc, Tag, Tos, Ttl, SrcIp, DstIp, SrcPort, DstPort, Payload}
-use Rattle.action_profile.specs.FieldSets.{all_fields}
 use Rattle.action_profile.specs.Modes.{mode_of, modes_of, copies_by_mode, copies}
 use Rattle.action_profile.specs.declared.parts.Mode.TheVariants.{Shared}
 use Rattle.action_profile.specs.declared.parts.Touch.{Touch}

@@ -1,15 +1,14 @@
 -- One function of a branch, as the law of graphs sees it.
-use Rattle.std.proofs.Common.{◌≡◌, ◌∙◌, ℕ, true, false, sym, ap, refl}
-use Rattle.std.specs.Prelude.{if◌then◌else◌, is_some}
+use Rattle.std.proofs.Common.{◌≡◌, ◌∙◌, ℕ, ap}
+use Rattle.std.specs.Prelude.{if◌then◌else◌}
 use Rattle.action_profile.specs.declared.rights.Profile.{Profile}
 use Rattle.packet_version.specs.Views.{PlainView, viewed, wrote_all}
 use Rattle.chain_walk.specs.Step.{Behaviour, stepped, is_drop}
 use Rattle.chain_walk.specs.Laws.{KeepsProfile}
-use Rattle.chain_walk.specs.declared.verdict.Verdict.{Verdict}
 use Rattle.chain_walk.specs.declared.verdict.Verdict.TheVariants.{Pass, Drop}
-use Rattle.graph_law.specs.Branches.{Version, Arrival, Arrival.Live, Arrival.Nil, moved_function, moved_arrival, written_at}
+use Rattle.graph_law.specs.Branches.{Arrival.Live, Arrival.Nil, moved_function, moved_arrival, written_at}
 use Rattle.packet_version.specs.Versions.{PlainVersion}
-use Rattle.graph_run.specs.Carrying.{as_version, wrote_at}
+use Rattle.graph_run.specs.Carrying.{as_version}
 use Rattle.graph_run.proofs.Writing.{as_wrote}
 use Rattle.graph_run.proofs.Carried.{only_there}
 

@@ -17,9 +17,9 @@ use Rattle.packet_version.specs.Splitting.{PlainApart}
 use Rattle.packet_version.specs.Versions.{PlainVersion, parts_of, HoldsNamed}
 use Rattle.merge_ops.specs.declared.arrival.Arrival.{Arrival as Came}
 use Rattle.merge_ops.specs.declared.arrival.Arrival.TheVariants as cames
-use Rattle.chain_walk.specs.Shown.{Values, AreWellFormed}
+use Rattle.chain_walk.specs.Shown.{AreWellFormed}
 use Rattle.graph_run.specs.Carrying.{as_version, as_arrival, wrote_at}
-use Rattle.graph_run.specs.Rooms.{adders_from, HasRoomFrom}
+use Rattle.graph_run.specs.Rooms.{adders_from}
 use Rattle.graph_run.specs.Staging.{Holds, IsReady, IsCarried, IsCarriedBy, IsWhatWasWritten}
 use Rattle.graph_run.proofs.Rooming.{adders_at, room_later}
 use Rattle.graph_run.proofs.Carried.{StaysFormed, carried_on}

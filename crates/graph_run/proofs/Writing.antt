@@ -1,13 +1,12 @@
 -- A version in which a function wrote, field by field.
-use Rattle.std.proofs.Common.{◌≡◌, ◌≢◌, ◌∙◌, ◌≤◌, ℕ, Bool, true, false, List, length, sym, ap, refl, subst, arith}
+use Rattle.std.proofs.Common.{◌≡◌, ◌≢◌, ◌∙◌, ◌≤◌, ℕ, false, List, length, sym, ap, refl, arith}
 use mathlib.Core.Path.{fun_ext}
 use Rattle.std.specs.Prelude.{Option, Some, None, is_some, option_map, IfSome, IsSomeAnd}
 use Rattle.std.specs.Option.{option_or}
 use Rattle.std.proofs.lemmas.Option.{none-some}
-use Rattle.packet_fields.specs.Writing.{over}
 use Rattle.packet_fields.specs.declared.field.Field.{Field}
 use Rattle.chain_walk.specs.Shown.{Values}
-use Rattle.graph_law.specs.Branches.{Version, writer_by, written_at}
+use Rattle.graph_law.specs.Branches.{writer_by, written_at}
 use Rattle.packet_version.specs.Parts.{PlainPart, Parts, writer_in}
 use Rattle.packet_version.specs.Versions.{PlainVersion, parts_of}
 use Rattle.packet_version.specs.Views.{rewritten_by}

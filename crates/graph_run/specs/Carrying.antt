@@ -1,5 +1,5 @@
 -- For proofs: the versions and arrivals of a stage, as the law of graphs sees them.
-use Rattle.std.specs.Prelude.{ℕ, map}
+use Rattle.std.specs.Prelude.{ℕ}
 use Rattle.chain_walk.specs.Shown.{Values}
 use Rattle.chain_walk.specs.FieldWalk.{End, End.Out, End.Gone}
 use Rattle.graph_law.specs.Branches.{Version, Arrival, Arrival.Live, Arrival.Nil}

@@ -1,7 +1,7 @@
 -- The parts of a packet are dealt field by field.
 use Rattle.std.proofs.Common.{◌≡◌, ◌≢◌, ◌∙◌, ◌<◌, ◌≤◌, ◌+◌, ℕ, zero, suc, Bool, true, false, List, [], ◌∷◌, map, sym, ap, refl, get_or, length, arith}
 use mathlib.Core.Path.{fun_ext}
-use Rattle.std.specs.Prelude.{if◌then◌else◌, Option, Some, None, option_map, nat_lt, IfSome}
+use Rattle.std.specs.Prelude.{if◌then◌else◌, Option, Some, None, option_map, nat_lt}
 use Rattle.std.proofs.lemmas.Bool.Decides.{Decides-eqb, nat_tests}
 use Rattle.packet_fields.specs.Fields.{number_of}
 use Rattle.packet_fields.specs.Writing.{all_fields}
@@ -10,12 +10,10 @@ use Rattle.packet_fields.specs.declared.field.Field.TheVariants.{LinkDst, LinkSr
 use Rattle.action_profile.specs.Modes.{has_write, mode_of, modes_of}
 use Rattle.action_profile.specs.declared.parts.Mode.{Mode}
 use Rattle.action_profile.specs.declared.parts.Touch.{Touch}
-use Rattle.packet_version.specs.Parts.{PlainPart, Parts, as_list, changed, is_field, unwritten, AreTags}
+use Rattle.packet_version.specs.Parts.{PlainPart, Parts, as_list, changed, is_field, unwritten}
 use Rattle.packet_version.specs.Tallies.{count_of, raised}
 use Rattle.packet_version.specs.Raising.{RaisesBy, RaisesAtMost}
 use Rattle.packet_version.specs.Versions.{PlainVersion, with_part, nothing}
-use Rattle.packet_fields.specs.Writing.{Fits}
-use Rattle.packet_version.specs.Splitting.{IsWhole}
 use Rattle.chain_walk.specs.declared.fixed.Fixed.{Fixed}
 use Rattle.packet_version.specs.Dealing.{kept_part, kept_parts}
 use Rattle.packet_version.specs.Handing.{touches_in, copied_some, copied_to, own_parts, with_own, without_fields}

@@ -1,6 +1,5 @@
 -- The stages of the tests.
 use Rattle.std.proofs.Common.{◌≡◌, List, [], ◌∷◌, refl}
-use Rattle.std.specs.Prelude.{Some}
 use Rattle.action_profile.specs.Modes.{mode_of, modes_of}
 use Rattle.action_profile.specs.Profiles.{profile_of}
 use Rattle.action_profile.specs.declared.kind.Kind.TheVariants.{Nat}

@@ -1,8 +1,5 @@
-use Rattle.std.proofs.Common.{◌≡◌, ◌∙◌, List, sym, ap}
-use Rattle.packet_fields.specs.Writing.{written}
-use Rattle.merge_ops.specs.Behind.{value_behind}
+use Rattle.std.proofs.Common.{◌≡◌, ◌∙◌, ap}
 use Rattle.merge_ops.specs.Taking.{merged}
-use Rattle.packet_version.specs.Splitting.{joined}
 use Rattle.frame_walk.proofs.Joining.{joined_behind, if_ok}
 use Rattle.frame_walk.proofs.step.put_together.Goals as goal
 

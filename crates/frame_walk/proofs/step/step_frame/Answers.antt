@@ -1,5 +1,5 @@
-use Rattle.std.proofs.Common.{◌≡◌, ◌∙◌, List, ℕ, Bool, [], ◌∷◌, Some, None, inl, inr, sym, ap, refl}
-use Rattle.std.specs.Prelude.{if◌then◌else◌, Option}
+use Rattle.std.proofs.Common.{◌≡◌, ◌∙◌, List, ℕ, Bool, [], ◌∷◌, Some, None, inr, sym, ap}
+use Rattle.std.specs.Prelude.{if◌then◌else◌}
 use Rattle.packet_fields.specs.Writing.{rest_of}
 use Rattle.chain_walk.specs.Shown.{fixed_of}
 use Rattle.chain_walk.specs.Walk.{frame_after}

@@ -1,8 +1,7 @@
-use Rattle.std.proofs.Common.{rules, ◌≡◌, ◌<◌, ◌≤◌, ◌∙◌, length, List, refl, ap, sym, subst, get_or, arith}
-use Rattle.graph_compile.specs.declared.graph.Stage.{Stage}
+use Rattle.std.proofs.Common.{rules, ◌≡◌, ◌<◌, ◌≤◌, ◌∙◌, length, refl, ap, subst, get_or, arith}
 use Rattle.graph_run.proofs.Flowing.{flow_begins}
-use Rattle.graph_run.proofs.Onward.{is_walk, way_over, nothing_made, all_made}
-use Rattle.graph_run.proofs.Passing.{Gave, next_ready, passed, dropped, never_short, failed}
+use Rattle.graph_run.proofs.Onward.{is_walk, way_over, all_made}
+use Rattle.graph_run.proofs.Passing.{next_ready, passed, dropped, never_short, failed}
 use Rattle.graph_run.proofs.packet.run_packet.Goals as goal
 
 pub loop-stage-init : goal.loop-stage-init

@@ -1,4 +1,4 @@
-use Rattle.std.proofs.Common.{rules, ◌≡◌, ◌<◌, ◌≤◌, ◌∙◌, length, get_or, sym, ap, subst, arith}
+use Rattle.std.proofs.Common.{rules, ◌≡◌, ◌<◌, ◌≤◌, ◌∙◌, length, get_or, sym, ap, subst}
 use Rattle.std.specs.Prelude.{All}
 use Rattle.chain_walk.specs.Walk.{EndsWithin}
 use Rattle.graph_run.specs.Counting.{RaisesUpTo}
