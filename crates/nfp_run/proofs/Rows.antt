@@ -24,7 +24,7 @@ use Rattle.policy_judge.specs.declared.fault.PolicyFault.TheVariants.{Text, BadS
 use Rattle.policy_judge.specs.declared.fault.Refusal.{Refusal}
 use Rattle.policy_judge.specs.declared.judged.Judged.{Judged}
 use Rattle.policy_judge.specs.Judging.{judged_text, orders_from}
-use Rattle.policy_judge.specs.Lines.{text_line, setting_line, check_line}
+use Rattle.policy_judge.specs.Lines.{text_line, setting_line, check_line, priority_line}
 use Rattle.nf_filter.specs.Firewalls.{passes}
 use Rattle.nf_filter.specs.Lines.{line_of}
 use Rattle.chain_walk.specs.Walk.{walk}
@@ -166,7 +166,7 @@ cycle = refl
 -- a monitor over a nat, whose settings are not looked at yet
 forbidden : due_of_policy run_command (worth (codes "nfp 1\nchain main\nfn mon monitor\nfn n nat\n\n\n\npriority mon > n\n")) []
     ≡ nothing_but (Policy (Check 0 (PriorityForbidden 0 1 8 (Write SrcIp) (Read SrcIp)))) (codes "policy: line 8: priority mon over n forbidden: write src before read src\n")
-unfolding run_command worth check_line digits pair_of first_forbidden pairs actions all_actions is_copied copied policy_of_utf8 after_line orders_from answer_of edges_of taken stuck named_cycle from_earliest cycle_back first_refusal
+unfolding run_command worth check_line priority_line digits pair_of first_forbidden pairs actions all_actions is_copied copied policy_of_utf8 after_line orders_from answer_of edges_of taken stuck named_cycle from_earliest cycle_back first_refusal
 forbidden = refl
 
 four : List (List ℕ)
