@@ -1,5 +1,4 @@
-//! What comes from the branches of a stage is merged: the earliest drop is named, and the later function's value
-//! prevails.
+//! What comes from the branches of a stage is merged: the later function's value prevails.
 ghost use Rattle.std.specs.Prelude.{◌≡◌, ◌≤◌, ◌∷◌, [], length, true, IfOk, IsTrue};
 ghost use Rattle.packet_fields.specs.declared.field.Field.{Field};
 ghost use Rattle.action_profile.specs.declared.parts.Touch.{Touch};
@@ -12,30 +11,12 @@ ghost use Rattle.merge_ops.specs.Behind.{AreArrivals, IsMadeOf};
 use action_profile::{FieldSet, Mode, Profile, StageParts, Touch};
 use fixtures::UDP;
 use item_list::Items;
-use merge_ops::{Arrival, Decision, Merged, decide, merge};
+use merge_ops::{Arrival, Merged, merge};
 use packet_fields::Field;
 use packet_version::{Apart, Base, Tally, Version, View, deal, join, split};
 use std::alloc::{AllocError, Global};
 use std::sync::Wait;
 use std::test::Fail;
-
-#[test]
-fn names_the_earlier_drop(rt: HostRuntime) -> Result<(), Fail> {
-    match decide(&[Arrival::Nil(4), Arrival::Nil(2)]) {
-        Decision::Gone(position) => assert_eq!(rt; position, 2),
-        _ => assert!(rt; false),
-    }
-    Ok(())
-}
-
-#[test]
-fn is_short_before_it_is_gone(rt: HostRuntime) -> Result<(), Fail> {
-    match decide(&[Arrival::Nil(4), Arrival::Short]) {
-        Decision::Short => {}
-        _ => assert!(rt; false),
-    }
-    Ok(())
-}
 
 /// Reads and writes the type of service.
 const MARKS: Touch = Touch {
