@@ -1,4 +1,4 @@
-pub mod Forming
-pub mod Fielding
+pub mod WellFormedFields
+pub mod FrameWalkIsFieldWalk
 pub mod Walking
-pub mod Rowing
+pub mod PacketsInRow

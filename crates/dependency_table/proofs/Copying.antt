@@ -20,7 +20,7 @@ use Rattle.dependency_table.specs.declared.action.Action.{Action}
 use Rattle.dependency_table.specs.declared.action.Action.TheVariants.{Read, Write}
 use Rattle.dependency_table.specs.declared.action.Answer.TheVariants.{Free, Copy, Forbidden}
 use Rattle.dependency_table.proofs.Among.{Among, among_filter, among_filtered, any_among, any_passes, find_passes, find_among, side, among_sides, sides_among}
-use Rattle.dependency_table.proofs.Standing.{same_bool, is_same_field, same_field, among_fields, stands, has_it, none_forbidden}
+use Rattle.dependency_table.proofs.ActionsOfProfile.{same_bool, is_same_field, same_field, among_fields, stands, has_it, none_forbidden}
 
 both : (a b : Bool) → a ≡ true → b ≡ true → (a && b) ≡ true
 both true b h k = k

@@ -1,5 +1,5 @@
 pub mod Among
 pub mod Copying
 mod Rows
-pub mod Standing
+pub mod ActionsOfProfile
 pub mod Walks

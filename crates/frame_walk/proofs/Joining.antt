@@ -6,7 +6,7 @@ use Rattle.packet_fields.specs.Writing.{written}
 use Rattle.packet_fields.specs.declared.field.Field.{Field}
 use Rattle.action_profile.specs.declared.parts.Touch.{Touch}
 use Rattle.packet_version.specs.Parts.{values_of}
-use Rattle.packet_version.specs.Splitting.{PlainApart, joined, parts_of}
+use Rattle.packet_version.specs.Splitting.{PlainApart, joined, packet_parts}
 use Rattle.packet_version.specs.Versions.{PlainVersion}
 use Rattle.merge_ops.specs.Behind.{AreFrom, value_behind}
 use Rattle.merge_ops.specs.Merging.{decision_of}
@@ -18,7 +18,7 @@ use Rattle.merge_ops.specs.declared.decision.MergeOp.{MergeOp}
 use Rattle.merge_ops.specs.declared.merging.Merged.TheVariants.{Whole}
 
 abbrev pub LastValues : Type 0
-LastValues = (whole : PlainApart) (touches : List Touch) (base : PlainApart) (arrivals : List Arrival) (ops : List MergeOp) (f : Field) → AreFrom whole touches base arrivals → decision_of arrivals ≡ Take ops → values_of (parts_of (merged_packet base arrivals)) f ≡ value_behind whole arrivals f
+LastValues = (whole : PlainApart) (touches : List Touch) (base : PlainApart) (arrivals : List Arrival) (ops : List MergeOp) (f : Field) → AreFrom whole touches base arrivals → decision_of arrivals ≡ Take ops → values_of (packet_parts (merged_packet base arrivals)) f ≡ value_behind whole arrivals f
 
 abbrev pub SameRest : Type 0
 SameRest = (whole : PlainApart) (touches : List Touch) (base : PlainApart) (arrivals : List Arrival) → AreFrom whole touches base arrivals → (merged_packet base arrivals).rest ≡ whole.rest
@@ -28,7 +28,7 @@ alone : (base : PlainApart) (version : PlainVersion) (whole : PlainApart) → Wh
 unfolding decision_of
 alone base version whole is = cc
 
-values_alone : (whole base : PlainApart) (touch : Touch) (version : PlainVersion) → LastValues → AreFrom whole (touch ∷ []) base (of_version version ∷ []) → values_of (parts_of (merged_packet base (of_version version ∷ []))) ≡ value_behind whole (of_version version ∷ [])
+values_alone : (whole base : PlainApart) (touch : Touch) (version : PlainVersion) → LastValues → AreFrom whole (touch ∷ []) base (of_version version ∷ []) → values_of (packet_parts (merged_packet base (of_version version ∷ []))) ≡ value_behind whole (of_version version ∷ [])
 unfolding decision_of
 values_alone whole base touch version last from = fun_ext (λ f. last whole (touch ∷ []) base (of_version version ∷ []) _ f from refl)
 

@@ -1,3 +1,3 @@
 pub mod Walking
-pub mod Turning
+pub mod FunctionOnFrame
 pub mod Joining

@@ -10,7 +10,7 @@ use Rattle.graph_compile.specs.declared.graph.Graph.{Graph}
 use Rattle.graph_compile.specs.declared.graph.Stage.{Stage}
 use Rattle.graph_compile.specs.Facts.{positions_of, all_positions, times, rises, AreRising, AreApart, IsBelow, IsLawful, IsFull}
 use Rattle.graph_compile.specs.Lawful.{size, Rises, EndsBelow, Joins, Stands, IsLawfulStage, IsStaged}
-use Rattle.graph_compile.specs.Parts.{parts_of}
+use Rattle.graph_compile.specs.Parts.{stage_parts}
 use Rattle.graph_compile.specs.Positions.{holds, stands}
 use Rattle.graph_compile.specs.Stages.{is_forbidden}
 use Rattle.graph_compile.proofs.Counting.{AllByRecursion-weaker, one_if, count-cons, count-none}
@@ -234,7 +234,7 @@ record HasFacts (chain : List Profile) (first last : ℕ) (stages : List Stage) 
   pub rising : (i : ℕ) (s : Stage) → slice_get stages i ≡ Some s → AreRising s.branches
   pub below : (i j : ℕ) (s t : Stage) → i < j → slice_get stages i ≡ Some s → slice_get stages j ≡ Some t → (q r : ℕ) → stands q s ≡ true → stands r t ≡ true → q < r
   pub apart : (i : ℕ) (s : Stage) → slice_get stages i ≡ Some s → AreApart chain s.branches
-  pub parts : (i : ℕ) (s : Stage) → slice_get stages i ≡ Some s → s.parts ≡ parts_of chain s.branches
+  pub parts : (i : ℕ) (s : Stage) → slice_get stages i ≡ Some s → s.parts ≡ stage_parts chain s.branches
 
 pub rising-each : (bs : List Branch) → AreRising bs → AllByRecursion RisesFrom bs
 rising-each bs r = each-from RisesFrom bs (λ j b e. record { low = 0; rise = r j b e })

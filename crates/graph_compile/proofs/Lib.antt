@@ -8,7 +8,7 @@ pub mod Judged
 pub mod Making
 pub mod Owning
 mod Rows
-pub mod Standing
+pub mod BranchesInOrder
 pub mod Testing
 pub mod Times
 pub mod Touches

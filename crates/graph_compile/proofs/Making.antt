@@ -9,7 +9,7 @@ use Rattle.graph_compile.specs.declared.graph.Stage.{Stage}
 use Rattle.graph_compile.specs.Lawful.{Stands, IsStaged}
 use Rattle.graph_compile.specs.Stages.{holds_back, stage_of, placed, placed_by, nothing_placed, all_stages, graph_of}
 use Rattle.graph_compile.proofs.Following.{IsStaged-push}
-use Rattle.graph_compile.proofs.Standing.{Stands-new, Stands-alone, Stands-grown}
+use Rattle.graph_compile.proofs.BranchesInOrder.{Stands-new, Stands-alone, Stands-grown}
 use Rattle.graph_compile.proofs.Testing.{IsLawfulStage-made}
 
 -- the stages that are closed follow each other, and the open one stands behind them, up to the next position

@@ -18,7 +18,7 @@ use Rattle.graph_compile.specs.declared.graph.Stage.{Stage}
 use Rattle.graph_compile.specs.Facts.{rises}
 use Rattle.graph_compile.specs.Lawful.{size, Rises, EndsBelow, Stands, IsLawfulStage}
 use Rattle.graph_compile.specs.Owners.{owner, HasOwners}
-use Rattle.graph_compile.specs.Parts.{profile_at, reads_at, writes_at, branch_reads, branch_writes, touch_of, touches_of, parts_of}
+use Rattle.graph_compile.specs.Parts.{profile_at, reads_at, writes_at, branch_reads, branch_writes, touch_of, touches_of, stage_parts}
 use Rattle.graph_compile.specs.Positions.{holds}
 use Rattle.graph_compile.specs.Stages.{is_forbidden, is_forbidden_pair}
 use Rattle.graph_compile.proofs.Counting.{one_if, count-cons, any-at}
@@ -167,11 +167,11 @@ unfolding branch_writes
 branch-writes chain b q x f i e w =
     touch-writes chain b f ∙ any-at (writes_at chain f) b.positions q i (ap (λ o. option_map_or (λ p. writes_of p f) o false) e ∙ w)
 
-parts-touches : (chain : List Profile) (bs : List Branch) (parts : StageParts) → parts ≡ parts_of chain bs → parts.touches ≡ touches_of chain bs
-unfolding parts_of
+parts-touches : (chain : List Profile) (bs : List Branch) (parts : StageParts) → parts ≡ stage_parts chain bs → parts.touches ≡ touches_of chain bs
+unfolding stage_parts
 parts-touches chain bs parts e = ap (λ (p : StageParts). p.touches) e
 
-touch-at : (chain : List Profile) (bs : List Branch) (parts : StageParts) → parts ≡ parts_of chain bs → (i : ℕ) (b : Branch) (t : Touch) → slice_get bs i ≡ Some b → slice_get parts.touches i ≡ Some t → touch_of chain b ≡ t
+touch-at : (chain : List Profile) (bs : List Branch) (parts : StageParts) → parts ≡ stage_parts chain bs → (i : ℕ) (b : Branch) (t : Touch) → slice_get bs i ≡ Some b → slice_get parts.touches i ≡ Some t → touch_of chain b ≡ t
 touch-at chain bs parts e i b t f g =
     let made = parts-touches chain bs parts e in
     let P : List Touch → Type 0 = λ ts. slice_get ts i ≡ Some t in

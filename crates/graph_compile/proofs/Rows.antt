@@ -10,7 +10,7 @@ use Rattle.action_profile.specs.declared.rights.Profile.{Profile}
 use Rattle.dependency_table.specs.Actions.{all_actions, actions}
 use Rattle.dependency_table.specs.Table.{pairs, first_forbidden, is_copied, copied, pair_of}
 use Rattle.action_profile.specs.Modes.{mode_of, copies}
-use Rattle.graph_compile.specs.Parts.{branch_reads, branch_writes, touch_of, parts_of}
+use Rattle.graph_compile.specs.Parts.{branch_reads, branch_writes, touch_of, stage_parts}
 use Rattle.graph_compile.specs.Stages.{is_forbidden, holds_back, placed, graph_of}
 use Rattle.graph_compile.specs.declared.graph.Branch.{Branch}
 use Rattle.graph_compile.specs.declared.graph.Stage.{Stage}
@@ -49,7 +49,7 @@ filtered_stages = refl
 
 filtered_modes : modes filtered ≡ (Shared ∷ Shared ∷ Shared ∷ Shared ∷ Shared ∷ Shared ∷ Shared ∷ Shared ∷ Shared ∷ Shared ∷ [])
     ∷ (Shared ∷ Shared ∷ Shared ∷ Shared ∷ Shared ∷ Moved 0 ∷ Moved 0 ∷ Moved 0 ∷ Moved 0 ∷ Shared ∷ []) ∷ []
-unfolding graph_of placed holds_back is_forbidden pair_of first_forbidden pairs actions all_actions copied is_copied parts_of touch_of branch_reads branch_writes mode_of
+unfolding graph_of placed holds_back is_forbidden pair_of first_forbidden pairs actions all_actions copied is_copied stage_parts touch_of branch_reads branch_writes mode_of
 filtered_modes = refl
 
 -- a tagger, a limiter, a marker and a translator, which stands behind the limiter alone
@@ -61,11 +61,11 @@ unfolding graph_of placed holds_back is_forbidden pair_of first_forbidden pairs 
 tagged_stages = refl
 
 tagged_modes : modes tagged ≡ (Shared ∷ Shared ∷ Moved 0 ∷ Moved 2 ∷ Shared ∷ Copied None ∷ Copied None ∷ Copied None ∷ Copied None ∷ Shared ∷ []) ∷ []
-unfolding graph_of placed holds_back is_forbidden pair_of first_forbidden pairs actions all_actions copied is_copied parts_of touch_of branch_reads branch_writes mode_of
+unfolding graph_of placed holds_back is_forbidden pair_of first_forbidden pairs actions all_actions copied is_copied stage_parts touch_of branch_reads branch_writes mode_of
 tagged_modes = refl
 
 tagged_copies : copied_in tagged ≡ (0 ∷ 0 ∷ 0 ∷ 0 ∷ 0 ∷ 1 ∷ 1 ∷ 1 ∷ 1 ∷ 0 ∷ []) ∷ []
-unfolding graph_of placed holds_back is_forbidden pair_of first_forbidden pairs actions all_actions copied is_copied parts_of touch_of branch_reads branch_writes mode_of copies
+unfolding graph_of placed holds_back is_forbidden pair_of first_forbidden pairs actions all_actions copied is_copied stage_parts touch_of branch_reads branch_writes mode_of copies
 tagged_copies = refl
 
 -- a monitor beside a firewall and a balancer
@@ -77,7 +77,7 @@ unfolding graph_of placed holds_back is_forbidden pair_of first_forbidden pairs 
 balanced_stages = refl
 
 balanced_copies : copied_in balanced ≡ (0 ∷ 0 ∷ 0 ∷ 0 ∷ 0 ∷ 0 ∷ 1 ∷ 0 ∷ 0 ∷ 0 ∷ []) ∷ []
-unfolding graph_of placed holds_back is_forbidden pair_of first_forbidden pairs actions all_actions copied is_copied parts_of touch_of branch_reads branch_writes mode_of copies
+unfolding graph_of placed holds_back is_forbidden pair_of first_forbidden pairs actions all_actions copied is_copied stage_parts touch_of branch_reads branch_writes mode_of copies
 balanced_copies = refl
 
 -- two markers: the first has the original
@@ -85,11 +85,11 @@ abbrev marked_twice : List Profile
 marked_twice = profile_of Marker ∷ profile_of Marker ∷ []
 
 marked_modes : modes marked_twice ≡ (Shared ∷ Shared ∷ Shared ∷ Copied (Some 0) ∷ Shared ∷ Shared ∷ Shared ∷ Shared ∷ Shared ∷ Shared ∷ []) ∷ []
-unfolding graph_of placed holds_back is_forbidden pair_of first_forbidden pairs actions all_actions copied is_copied parts_of touch_of branch_reads branch_writes mode_of
+unfolding graph_of placed holds_back is_forbidden pair_of first_forbidden pairs actions all_actions copied is_copied stage_parts touch_of branch_reads branch_writes mode_of
 marked_modes = refl
 
 marked_copies : copied_in marked_twice ≡ (0 ∷ 0 ∷ 0 ∷ 1 ∷ 0 ∷ 0 ∷ 0 ∷ 0 ∷ 0 ∷ 0 ∷ []) ∷ []
-unfolding graph_of placed holds_back is_forbidden pair_of first_forbidden pairs actions all_actions copied is_copied parts_of touch_of branch_reads branch_writes mode_of copies
+unfolding graph_of placed holds_back is_forbidden pair_of first_forbidden pairs actions all_actions copied is_copied stage_parts touch_of branch_reads branch_writes mode_of copies
 marked_copies = refl
 
 -- no function, no stage

@@ -15,7 +15,7 @@ use Rattle.action_profile.specs.declared.rights.Profile.{Profile}
 use Rattle.action_profile.proofs.Members.{has_fields}
 use Rattle.graph_compile.specs.declared.graph.Branch.{Branch}
 use Rattle.action_profile.specs.Modes.{has_write, has_touch, only_reads, written_mode, mode_of, modes_of, copies_by_mode, copies}
-use Rattle.graph_compile.specs.Parts.{branch_reads, branch_writes, touch_of, touches_of, parts_of}
+use Rattle.graph_compile.specs.Parts.{branch_reads, branch_writes, touch_of, touches_of, stage_parts}
 use Rattle.graph_compile.proofs.Counting.{one_if, count-cons, count-map}
 use Rattle.graph_compile.proofs.FiveFacts.{each-from, any-count}
 
@@ -71,8 +71,8 @@ modes-at touches SrcPort = refl
 modes-at touches DstPort = refl
 modes-at touches Payload = refl
 
-pub copies-by_touches : (chain : List Profile) (branches : List Branch) (f : Field) → copies (parts_of chain branches) f ≡ copies_by_mode (mode_of (touches_of chain branches) f) (touches_of chain branches) f
-unfolding copies parts_of
+pub copies-by_touches : (chain : List Profile) (branches : List Branch) (f : Field) → copies (stage_parts chain branches) f ≡ copies_by_mode (mode_of (touches_of chain branches) f) (touches_of chain branches) f
+unfolding copies stage_parts
 copies-by_touches chain branches f = ap (λ (m : Mode). copies_by_mode m (touches_of chain branches) f) (modes-at (touches_of chain branches) f)
 
 -- a search finds just where a test passes
@@ -126,7 +126,7 @@ pub unwritten-shared : (touches : List Touch) (f : Field) → list_any (has_writ
 unfolding mode_of
 unwritten-shared touches f h = ap (λ (o : Option ℕ). option_map_or (written_mode touches f) o Shared) (position-none (has_write f) touches h)
 
-pub unwritten-uncopied : (chain : List Profile) (branches : List Branch) (f : Field) → list_any (λ b. branch_writes chain b f) branches ≡ false → copies (parts_of chain branches) f ≡ 0
+pub unwritten-uncopied : (chain : List Profile) (branches : List Branch) (f : Field) → list_any (λ b. branch_writes chain b f) branches ≡ false → copies (stage_parts chain branches) f ≡ 0
 unwritten-uncopied chain branches f h =
     copies-by_touches chain branches f ∙ ap (λ (m : Mode). copies_by_mode m (touches_of chain branches) f) (unwritten-shared (touches_of chain branches) f (writes-any chain branches f ∙ h))
 
@@ -163,14 +163,14 @@ copies-written touches f first h =
     ] refl
 
 pub no-copy-spared : (chain : List Profile) (branches : List Branch) (f : Field) → list_any (λ b. branch_writes chain b f) branches ≡ true →
-    copies (parts_of chain branches) f + 1 ≡ count_by (λ b. branch_writes chain b f) branches + one_if (list_any (λ b. branch_reads chain b f && not (branch_writes chain b f)) branches)
+    copies (stage_parts chain branches) f + 1 ≡ count_by (λ b. branch_writes chain b f) branches + one_if (list_any (λ b. branch_reads chain b f && not (branch_writes chain b f)) branches)
 unfolding mode_of
 no-copy-spared chain branches f h =
     let touches = touches_of chain branches in
     let written : list_any (has_write f) (touches_of chain branches) ≡ true = writes-any chain branches f ∙ h in
     let first = position-some (has_write f) (touches_of chain branches) written in
     let mode : mode_of (touches_of chain branches) f ≡ written_mode (touches_of chain branches) f first.at = ap (λ (o : Option ℕ). option_map_or (written_mode (touches_of chain branches) f) o Shared) first.is in
-    let made : copies (parts_of chain branches) f ≡ copies_by_mode (written_mode (touches_of chain branches) f first.at) (touches_of chain branches) f = copies-by_touches chain branches f ∙ ap (λ (m : Mode). copies_by_mode m (touches_of chain branches) f) mode in
+    let made : copies (stage_parts chain branches) f ≡ copies_by_mode (written_mode (touches_of chain branches) f first.at) (touches_of chain branches) f = copies-by_touches chain branches f ∙ ap (λ (m : Mode). copies_by_mode m (touches_of chain branches) f) mode in
     let all = copies-written (touches_of chain branches) f first.at written in
     let w = writes-count chain branches f in
     let o : one_if (list_any (only_reads f) (touches_of chain branches)) ≡ one_if (list_any (λ b. branch_reads chain b f && not (branch_writes chain b f)) branches) = ap one_if (only-any chain branches f) in

@@ -4,7 +4,7 @@ use Rattle.action_profile.specs.declared.rights.Profile.{Profile}
 use Rattle.graph_compile.specs.declared.graph.Branch.{Branch}
 use Rattle.graph_compile.specs.declared.graph.Graph.{Graph}
 use Rattle.graph_compile.specs.declared.graph.Stage.{Stage}
-use Rattle.graph_compile.specs.Parts.{parts_of}
+use Rattle.graph_compile.specs.Parts.{stage_parts}
 use Rattle.graph_compile.specs.Positions.{holds, stands}
 use Rattle.graph_compile.specs.Stages.{is_forbidden}
 
@@ -48,7 +48,7 @@ pub record IsLawful (graph : Graph) (chain : List Profile) : Type 0 where
   -- no function is forbidden before another in a different branch of its stage
   pub apart : (i : ℕ) (s : Stage) → slice_get graph.stages i ≡ Some s → AreApart chain s.branches
   -- each stage's parts are those of its branches
-  pub parts : (i : ℕ) (s : Stage) → slice_get graph.stages i ≡ Some s → s.parts ≡ parts_of chain s.branches
+  pub parts : (i : ℕ) (s : Stage) → slice_get graph.stages i ≡ Some s → s.parts ≡ stage_parts chain s.branches
 
 -- each stage has a branch, and each branch a function
 pub record IsFull (graph : Graph) : Type 0 where

@@ -5,7 +5,7 @@ use Rattle.action_profile.specs.declared.rights.Profile.{Profile}
 use Rattle.graph_compile.specs.declared.graph.Branch.{Branch}
 use Rattle.graph_compile.specs.declared.graph.Stage.{Stage}
 use Rattle.graph_compile.specs.Facts.{rises, positions_of, all_positions}
-use Rattle.graph_compile.specs.Parts.{parts_of}
+use Rattle.graph_compile.specs.Parts.{stage_parts}
 use Rattle.graph_compile.specs.Positions.{holds, stands}
 use Rattle.graph_compile.specs.Stages.{is_forbidden}
 
@@ -47,7 +47,7 @@ is_joined chain branches branch = list_all (joins chain branches branch) branch.
 pub record IsSound (chain : List Profile) (stage : Stage) : Type 0 where
   pub rising : list_all (λ b. rises 0 b.positions) stage.branches ≡ true
   pub joined : list_all (is_joined chain stage.branches) stage.branches ≡ true
-  pub parts : stage.parts ≡ parts_of chain stage.branches
+  pub parts : stage.parts ≡ stage_parts chain stage.branches
 
 pub record AreJudged (chain : List Profile) (stages : List Stage) : Type 0 where
   pub once : stand_once (length chain + 1) stages ≡ true

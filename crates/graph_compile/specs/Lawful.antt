@@ -5,7 +5,7 @@ use Rattle.action_profile.specs.declared.rights.Profile.{Profile}
 use Rattle.graph_compile.specs.declared.graph.Branch.{Branch}
 use Rattle.graph_compile.specs.declared.graph.Stage.{Stage}
 use Rattle.graph_compile.specs.Facts.{rises}
-use Rattle.graph_compile.specs.Parts.{parts_of}
+use Rattle.graph_compile.specs.Parts.{stage_parts}
 use Rattle.graph_compile.specs.Positions.{holds}
 use Rattle.graph_compile.specs.Stages.{is_forbidden}
 
@@ -35,7 +35,7 @@ pub record Stands (chain : List Profile) (first next : ℕ) (bs : List Branch) :
 
 pub record IsLawfulStage (chain : List Profile) (first : ℕ) (stage : Stage) : Type 0 where
   pub stands : Stands chain first (first + size stage.branches) stage.branches
-  pub parts : stage.parts ≡ parts_of chain stage.branches
+  pub parts : stage.parts ≡ stage_parts chain stage.branches
 
 -- stages that follow each other: the first begins at one position, and the last ends before another
 unfoldable pub IsStaged : List Profile → ℕ → List Stage → ℕ → Type 0

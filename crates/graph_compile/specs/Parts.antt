@@ -40,8 +40,8 @@ abbrev pub touches_of : List Profile → List Branch → List Touch
 touches_of chain branches = map (touch_of chain) branches
 
 -- the parts of a stage: what each branch touches, and the mode of each field by that
-unfoldable pub parts_of : List Profile → List Branch → StageParts
-parts_of chain branches = record {
+unfoldable pub stage_parts : List Profile → List Branch → StageParts
+stage_parts chain branches = record {
   modes = modes_of (touches_of chain branches);
   touches = touches_of chain branches;
 }

@@ -7,7 +7,7 @@ use Rattle.graph_compile.specs.declared.draft.Draft.{Draft}
 use Rattle.graph_compile.specs.declared.graph.Branch.{Branch}
 use Rattle.graph_compile.specs.declared.graph.Graph.{Graph}
 use Rattle.graph_compile.specs.declared.graph.Stage.{Stage}
-use Rattle.graph_compile.specs.Parts.{profile_at, parts_of}
+use Rattle.graph_compile.specs.Parts.{profile_at, stage_parts}
 
 abbrev pub is_forbidden_pair : Option Profile → Option Profile → Bool
 is_forbidden_pair (Some x) (Some y) = not (is_allowed (pair_of x y))
@@ -32,7 +32,7 @@ abbrev pub grown : List Profile → ℕ → Branch → Branch
 grown chain position branch = if holds_back chain position branch then longer branch position else branch
 
 abbrev pub stage_of : List Profile → List Branch → Stage
-stage_of chain branches = record { branches = branches; parts = parts_of chain branches }
+stage_of chain branches = record { branches = branches; parts = stage_parts chain branches }
 
 -- no stage is closed or open yet
 abbrev pub nothing_placed : Draft

@@ -6,7 +6,7 @@ ghost use Rattle.graph_compile.specs.Facts.{rises, positions_of, IsLawful, IsFul
 ghost use Rattle.graph_compile.specs.Judging.{stands_once, stand_once, stand_within, are_below, joins, is_joined, is_above_last, are_in_order, IsSound, AreJudged};
 ghost use Rattle.graph_compile.specs.Lawful.{IsStaged};
 ghost use Rattle.action_profile.specs.Modes.{has_write, mode_of, modes_of};
-ghost use Rattle.graph_compile.specs.Parts.{touches_of, parts_of};
+ghost use Rattle.graph_compile.specs.Parts.{touches_of, stage_parts};
 ghost use Rattle.graph_compile.specs.Positions.{holds, stands};
 
 use crate::graph::{Branch, Graph, Stage};
@@ -201,9 +201,9 @@ fn holds(branch: &Branch, position: usize) -> bool
     positions.iter().any(|q| *q as usize == position)
 }
 
-#[tactic(auto, unfolding(crate::specs::Parts::parts_of))]
+#[tactic(auto, unfolding(crate::specs::Parts::stage_parts))]
 fn are_parts(parts: &StageParts, profiles: &[Profile], branches: &[Branch]) -> bool
-    ensures { IsTrue result ↔ (parts.now ≡ parts_of profiles.now branches.now) }
+    ensures { IsTrue result ↔ (parts.now ≡ stage_parts profiles.now branches.now) }
 {
     let touches = parts.touches.as_slice();
     are_touches(touches, profiles, branches) && are_modes(&parts.modes, touches)

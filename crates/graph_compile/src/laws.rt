@@ -15,7 +15,7 @@ ghost use Rattle.graph_compile.specs.Handing.{passes_at};
 ghost use Rattle.graph_compile.specs.Lawful.{IsLawfulStage, IsStaged};
 ghost use Rattle.graph_compile.specs.Owners.{HasOwners};
 ghost use Rattle.action_profile.specs.Modes.{has_write, has_touch, only_reads, mode_of, copies};
-ghost use Rattle.graph_compile.specs.Parts.{branch_reads, branch_writes, parts_of};
+ghost use Rattle.graph_compile.specs.Parts.{branch_reads, branch_writes, stage_parts};
 ghost use Rattle.graph_compile.specs.Stages.{graph_of};
 
 /// A law: a graph whose stages follow each other, each from the position of its first function on, is
@@ -39,14 +39,14 @@ pub fn lawful_stage_has_owners()
 
 /// A law: a field that no branch writes isn't copied.
 pub fn unwritten_is_not_copied()
-    ensures { (chain : List Profile) → (branches : List Branch) → (f : Field) → list_any (λ b. branch_writes chain b f) branches ≡ false → copies (parts_of chain branches) f ≡ 0 }
+    ensures { (chain : List Profile) → (branches : List Branch) → (f : Field) → list_any (λ b. branch_writes chain b f) branches ≡ false → copies (stage_parts chain branches) f ≡ 0 }
 {}
 
 /// A law: no copy could be spared. Of a field that some branch writes, the copies and the original
 /// are exactly one for each branch that writes it, and one more where some branch only reads it.
 pub fn no_copy_is_spared()
     ensures { (chain : List Profile) → (branches : List Branch) → (f : Field) → list_any (λ b. branch_writes chain b f) branches ≡ true →
-        copies (parts_of chain branches) f + 1 ≡ count_by (λ b. branch_writes chain b f) branches + (if list_any (λ b. branch_reads chain b f && not (branch_writes chain b f)) branches then 1 else 0) }
+        copies (stage_parts chain branches) f + 1 ≡ count_by (λ b. branch_writes chain b f) branches + (if list_any (λ b. branch_reads chain b f && not (branch_writes chain b f)) branches then 1 else 0) }
 {}
 
 /// A law: how a field is handed on, by what each branch does with it. A field that no branch writes

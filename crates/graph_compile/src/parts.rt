@@ -3,7 +3,7 @@
 ghost use Rattle.std.specs.Prelude.{◌≡◌, ◌==◌, ◌<◌, ◌≤◌, ◌^◌, ◌↔◌, IsTrue, IfOk, length, count_by, position};
 ghost use Rattle.std.specs.List.{list_any};
 ghost use Rattle.action_profile.specs.Modes.{has_write, has_touch, only_reads, mode_of, modes_of};
-ghost use Rattle.graph_compile.specs.Parts.{touches_of, parts_of};
+ghost use Rattle.graph_compile.specs.Parts.{touches_of, stage_parts};
 
 use crate::graph::Branch;
 use crate::touching::touch_of;
@@ -13,14 +13,14 @@ use packet_fields::Field;
 use std::alloc::{AllocError, Global};
 
 /// The parts of a stage with these branches.
-#[tactic(auto, unfolding(crate::specs::Parts::parts_of))]
-pub(crate) fn parts_of(
+#[tactic(auto, unfolding(crate::specs::Parts::stage_parts))]
+pub(crate) fn stage_parts(
     alloc: Global,
     profiles: &[Profile],
     branches: &[Branch],
 ) -> Result<StageParts, AllocError>
     requires { length branches.now < 2 ^ 32 }
-    ensures { IfOk result (λ parts. parts ≡ parts_of profiles.now branches.now) }
+    ensures { IfOk result (λ parts. parts ≡ stage_parts profiles.now branches.now) }
 {
     let touches = touches_of(alloc, profiles, branches)?;
     Ok(StageParts {

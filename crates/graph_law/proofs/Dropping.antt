@@ -11,7 +11,7 @@ use Rattle.chain_walk.specs.declared.fixed.Fixed.{Fixed}
 use Rattle.graph_compile.specs.Positions.{holds, stands}
 use Rattle.graph_compile.specs.declared.graph.Branch.{Branch}
 use Rattle.graph_compile.specs.declared.graph.Stage.{Stage}
-use Rattle.graph_law.specs.Branches.{Version, Arrival, Arrival.Live, Arrival.Nil, Ran, dealt, met, in_turn, moved_arrival, written_at}
+use Rattle.graph_law.specs.Branches.{Version, BranchEnd, BranchEnd.Live, BranchEnd.Nil, Ran, dealt, met, in_turn, moved_end, written_at}
 use Rattle.graph_law.specs.Flow.{Branched, branched, staged, then_flow, flow}
 use Rattle.graph_law.specs.Merging.{least_nil, lesser, gone_or, merged}
 
@@ -19,8 +19,8 @@ nil_same : {p q : ℕ} → Nil p ≡ Nil q → p ≡ q
 nil_same e = cc
 
 -- what a function hands on as dropped came so, or it dropped it
-moved_nil : {F : Type 0} (b : Behaviour F) (fixed : Fixed) (q : ℕ) (f : F) (a : Arrival) (p : ℕ) → moved_arrival b fixed q f a ≡ Nil p → (a ≡ Nil p) ⊎ (q ≡ p)
-unfolding moved_arrival
+moved_nil : {F : Type 0} (b : Behaviour F) (fixed : Fixed) (q : ℕ) (f : F) (a : BranchEnd) (p : ℕ) → moved_end b fixed q f a ≡ Nil p → (a ≡ Nil p) ⊎ (q ≡ p)
+unfolding moved_end
 moved_nil b fixed q f (Nil r) p e = inl e
 moved_nil b fixed q f (Live v) p e = inr (go (is_drop (stepped b fixed f v.values).verdict) e)
   where
@@ -28,12 +28,12 @@ moved_nil b fixed q f (Live v) p e = inr (go (is_drop (stepped b fixed f v.value
     go true e = nil_same e
     go false e = absurd cc
 
-met_nil : {F : Type 0} (b : Behaviour F) (fixed : Fixed) (q : ℕ) (o : Option F) (fs : List F) (a : Arrival) (p : ℕ) → (met b fixed q o fs a).arrival ≡ Nil p → (a ≡ Nil p) ⊎ (q ≡ p)
+met_nil : {F : Type 0} (b : Behaviour F) (fixed : Fixed) (q : ℕ) (o : Option F) (fs : List F) (a : BranchEnd) (p : ℕ) → (met b fixed q o fs a).arrival ≡ Nil p → (a ≡ Nil p) ⊎ (q ≡ p)
 unfolding met
 met_nil b fixed q None fs a p e = inl e
 met_nil b fixed q (Some f) fs a p e = moved_nil b fixed q f a p e
 
-in_turn_nil : {F : Type 0} (b : Behaviour F) (fixed : Fixed) (positions : List ℕ) (fs : List F) (a : Arrival) (p : ℕ) → (in_turn b fixed positions fs a).arrival ≡ Nil p → (a ≡ Nil p) ⊎ IsTrue (list_any (λ q. q == p) positions)
+in_turn_nil : {F : Type 0} (b : Behaviour F) (fixed : Fixed) (positions : List ℕ) (fs : List F) (a : BranchEnd) (p : ℕ) → (in_turn b fixed positions fs a).arrival ≡ Nil p → (a ≡ Nil p) ⊎ IsTrue (list_any (λ q. q == p) positions)
 unfolding in_turn
 in_turn_nil b fixed [] fs a p e = inl e
 in_turn_nil {F} b fixed (q ∷ positions) fs a p e = elim (in_turn_nil b fixed positions m.functions m.arrival p e) [
@@ -66,7 +66,7 @@ branched_least {F} b fixed (x ∷ branches) (t ∷ touches) fs values p e = go r
     rest : Branched F
     rest = branched b fixed branches touches values r.functions
 
-    go : (a : Arrival) → r.arrival ≡ a → least_nil (a ∷ rest.arrivals) ≡ Some p → (least_nil rest.arrivals ≡ Some p → IsTrue (list_any (holds p) (x ∷ branches))) → IsTrue (list_any (holds p) (x ∷ branches))
+    go : (a : BranchEnd) → r.arrival ≡ a → least_nil (a ∷ rest.arrivals) ≡ Some p → (least_nil rest.arrivals ≡ Some p → IsTrue (list_any (holds p) (x ∷ branches))) → IsTrue (list_any (holds p) (x ∷ branches))
     go (Live v) is e later = later e
     go (Nil q) is e later = elim (lesser_is q (least_nil rest.arrivals) p e) [
       | inl same ↦ rw (dealt_holds b fixed x _ fs p (is ∙ ap Nil same)) refl

@@ -8,7 +8,7 @@ pub mod Walking
 pub mod Staging
 pub mod Seams
 pub mod Owned
-pub mod Flowing
-pub mod Staying
+pub mod FlowIsWalk
+pub mod KeptProfiles
 pub mod Present
 pub mod Dropping

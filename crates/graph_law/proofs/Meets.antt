@@ -8,7 +8,7 @@ use Rattle.chain_walk.specs.Laws.{KeepsProfile}
 use Rattle.chain_walk.specs.Shown.{Values}
 use Rattle.chain_walk.specs.Step.{Behaviour, Step, stepped, is_drop}
 use Rattle.chain_walk.specs.declared.fixed.Fixed.{Fixed}
-use Rattle.graph_law.specs.Branches.{Version, Arrival, Arrival.Live, Arrival.Nil, Ran, moved_function, moved_arrival, written_at}
+use Rattle.graph_law.specs.Branches.{Version, BranchEnd, BranchEnd.Live, BranchEnd.Nil, Ran, moved_function, moved_end, written_at}
 use Rattle.graph_law.proofs.Near.{Same, Near, marks, shown_same, near_own, near_other}
 use Rattle.graph_law.proofs.Quiet.{Late, Late.live, Late.late, ran_quiet}
 use Rattle.graph_law.proofs.Rights.{Reads, Writes, Stateless, Apart}
@@ -23,7 +23,7 @@ last_of b fixed p (f ∷ fs) values last =
     else last_of b fixed (p + 1) fs (over (stepped b fixed f values).written values) (marks p (stepped b fixed f values).written last)
 
 -- What comes from branch c fits where the walk ends: a version like the walk's packet, and no drop, where it goes out; and where it is gone at p, a drop there if p is on side c, and else none before p.
-abbrev pub Meets : (ℕ → ℕ) → ℕ → End → (Field → ℕ) → Arrival → Type 0
+abbrev pub Meets : (ℕ → ℕ) → ℕ → End → (Field → ℕ) → BranchEnd → Type 0
 Meets side c (Out values) last (Live v) = Same side c values last v
 Meets side c (Out values) last (Nil q) = ⊥
 Meets side c (Gone p) last (Live v) = side p ≢ c
@@ -33,7 +33,7 @@ pub record Ends {F : Type 0} (side : ℕ → ℕ) (c p : ℕ) (w : Ended F) (las
   pub functions : Agree side c p w.functions r.functions
   pub arrival : Meets side c w.end last r.arrival
 
-late_meets : (side : ℕ → ℕ) (c p : ℕ) (last : Field → ℕ) (a : Arrival) → side p ≢ c → Late (p + 1) a → Meets side c (Gone p) last a
+late_meets : (side : ℕ → ℕ) (c p : ℕ) (last : Field → ℕ) (a : BranchEnd) → side p ≢ c → Late (p + 1) a → Meets side c (Gone p) last a
 late_meets side c p last (Live v) ne (live _) = ne
 late_meets side c p last (Nil q) ne (late _ h) = (omega arith, λ e. absurd (ne e))
 
@@ -52,7 +52,7 @@ stateless_agree b side c p (f ∷ fs) (g ∷ gs) a h = (λ e. ap (λ y. (b.profi
 pub meets : {F : Type 0} (b : Behaviour F) (fixed : Fixed) (side : ℕ → ℕ) (c p : ℕ) (fs gs : List F) (values : Values) (last : Field → ℕ) (v : Version) →
     KeepsProfile b → Apart side p (map b.profile fs) → Agree side c p fs gs → Near side c p (map b.profile fs) values last v →
     Ends side c p (walk_fields b fixed p fs values) (last_of b fixed p fs values last) (ran b fixed side c p gs (Live v))
-unfolding Agree Apart walk_fields ran last_of Reads Writes moved_function moved_arrival
+unfolding Agree Apart walk_fields ran last_of Reads Writes moved_function moved_end
 meets b fixed side c p [] [] values last v law apart agree n = record { functions = tt; arrival = n.same }
 meets b fixed side c p [] (g ∷ gs) values last v law apart agree n = absurd agree
 meets b fixed side c p (f ∷ fs) [] values last v law apart agree n = absurd agree

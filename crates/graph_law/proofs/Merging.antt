@@ -4,18 +4,18 @@ use Rattle.std.specs.Prelude.{Option, ◌⊎◌, nat_lt}
 use Rattle.packet_fields.specs.declared.field.Field.{Field}
 use Rattle.chain_walk.specs.FieldWalk.{End, End.Out, End.Gone}
 use Rattle.chain_walk.specs.Shown.{Values}
-use Rattle.graph_law.specs.Branches.{Version, Arrival, Arrival.Live, Arrival.Nil}
+use Rattle.graph_law.specs.Branches.{Version, BranchEnd, BranchEnd.Live, BranchEnd.Nil}
 use Rattle.graph_law.specs.Merging.{least_nil, lesser, later, latest, unwritten, gone_or, merged}
 use Rattle.graph_law.proofs.Meets.{Meets}
 use Rattle.graph_law.proofs.Near.{Same}
 use Rattle.graph_law.proofs.Sides.{is_or_not}
 
 -- the arrivals of the branches from c on
-unfoldable pub AllMeet : (ℕ → ℕ) → ℕ → End → (Field → ℕ) → List Arrival → Type 0
+unfoldable pub AllMeet : (ℕ → ℕ) → ℕ → End → (Field → ℕ) → List BranchEnd → Type 0
 AllMeet side c end last [] = Unit {0}
 AllMeet side c end last (a ∷ rest) = Meets side c end last a × AllMeet side (c + 1) end last rest
 
-none_nil : (side : ℕ → ℕ) (c : ℕ) (values : Values) (last : Field → ℕ) (rest : List Arrival) → AllMeet side c (Out values) last rest → least_nil rest ≡ None
+none_nil : (side : ℕ → ℕ) (c : ℕ) (values : Values) (last : Field → ℕ) (rest : List BranchEnd) → AllMeet side c (Out values) last rest → least_nil rest ≡ None
 unfolding AllMeet least_nil
 none_nil side c values last [] h = refl
 none_nil side c values last (Live v ∷ rest) h = none_nil side (c + 1) values last rest h.1
@@ -26,7 +26,7 @@ data NotBefore (p : ℕ) : Option ℕ → Type 0 where
   nobody : NotBefore p None
   somebody : (q : ℕ) → p ≤ q → NotBefore p (Some q)
 
-not_before : (side : ℕ → ℕ) (c p : ℕ) (last : Field → ℕ) (rest : List Arrival) → AllMeet side c (Gone p) last rest → NotBefore p (least_nil rest)
+not_before : (side : ℕ → ℕ) (c p : ℕ) (last : Field → ℕ) (rest : List BranchEnd) → AllMeet side c (Gone p) last rest → NotBefore p (least_nil rest)
 unfolding AllMeet least_nil
 not_before side c p last [] h = nobody
 not_before side c p last (Live v ∷ rest) h = not_before side (c + 1) p last rest h.1
@@ -44,12 +44,12 @@ least_more : (p q : ℕ) (o : Option ℕ) → p ≤ q → o ≡ Some p → lesse
 least_more p q None l e = absurd cc
 least_more p q (Some r) l e = ap Some (let x : r ≡ p = grind arith in omega arith)
 
-the_nil : (side : ℕ → ℕ) (c p : ℕ) (last : Field → ℕ) (rest : List Arrival) → AllMeet side c (Gone p) last rest → c ≤ side p → side p < c + length rest → least_nil rest ≡ Some p
+the_nil : (side : ℕ → ℕ) (c p : ℕ) (last : Field → ℕ) (rest : List BranchEnd) → AllMeet side c (Gone p) last rest → c ≤ side p → side p < c + length rest → least_nil rest ≡ Some p
 unfolding AllMeet least_nil
 the_nil side c p last [] h low high = absurd (omega arith)
 the_nil side c p last (a ∷ rest) h low high = go a h.0 (is_or_not (side p) c) (not_before side (c + 1) p last rest h.1) (λ l. the_nil side (c + 1) p last rest h.1 l (omega arith))
   where
-    go : (a : Arrival) → Meets side c (Gone p) last a → (side p ≡ c) ⊎ (side p ≢ c) → NotBefore p (least_nil rest) → (c + 1 ≤ side p → least_nil rest ≡ Some p) → least_nil (a ∷ rest) ≡ Some p
+    go : (a : BranchEnd) → Meets side c (Gone p) last a → (side p ≡ c) ⊎ (side p ≢ c) → NotBefore p (least_nil rest) → (c + 1 ≤ side p → least_nil rest ≡ Some p) → least_nil (a ∷ rest) ≡ Some p
     go (Live v) meet (inl e) nb ih = absurd (meet e)
     go (Live v) meet (inr ne) nb ih = ih (omega arith)
     go (Nil q) meet (inl e) nb ih = ap (λ y. lesser y (least_nil rest)) (meet.1 e) ∙ least_here p (least_nil rest) nb
@@ -82,7 +82,7 @@ best_more side c n values last x best v h s = go (nat_lt (best.writers x) (v.wri
           comes = rw is (elim h.comes [ inl e ↦ inl e | inr w ↦ elim (is_or_not (side (last x)) c) [ inl e ↦ inl (let y : v.writers x ≡ last x = s.mine x w.0 e in omega arith) | inr ne ↦ inr (w.0, let l = w.1 in omega arith, let l = w.2 in omega arith) ] ]);
         }
 
-best_at_end : (side : ℕ → ℕ) (c : ℕ) (values : Values) (last : Field → ℕ) (x : Field) (best : Version) (rest : List Arrival) → Best side c (length rest) values last x best → AllMeet side c (Out values) last rest → (latest best rest).values x ≡ values x
+best_at_end : (side : ℕ → ℕ) (c : ℕ) (values : Values) (last : Field → ℕ) (x : Field) (best : Version) (rest : List BranchEnd) → Best side c (length rest) values last x best → AllMeet side c (Out values) last rest → (latest best rest).values x ≡ values x
 unfolding AllMeet latest
 best_at_end side c values last x best [] h all = h.same (elim h.comes [ inl e ↦ e | inr w ↦ absurd (let a = w.1 in let k = w.2 in omega arith) ])
 best_at_end side c values last x best (Live v ∷ rest) h all = best_at_end side (c + 1) values last x (later best v) rest (best_more side c (length rest) values last x best v (rw (← one_more) h) all.0) all.1
@@ -92,7 +92,7 @@ best_at_end side c values last x best (Live v ∷ rest) h all = best_at_end side
 best_at_end side c values last x best (Nil q ∷ rest) h all = absurd all.0
 
 -- all arrivals fit where the walk ends, and what nobody wrote is as it came
-pub merged_fits : (side : ℕ → ℕ) (values : Values) (end : End) (last : Field → ℕ) (rest : List Arrival) → ((p : ℕ) → end ≡ Gone p → side p < length rest) → ((x : Field) → 0 < last x → side (last x) < length rest) →
+pub merged_fits : (side : ℕ → ℕ) (values : Values) (end : End) (last : Field → ℕ) (rest : List BranchEnd) → ((p : ℕ) → end ≡ Gone p → side p < length rest) → ((x : Field) → 0 < last x → side (last x) < length rest) →
     AllMeet side 0 end last rest → ((after : Values) → end ≡ Out after → (x : Field) → last x ≡ 0 → after x ≡ values x) → merged values rest ≡ end
 unfolding merged gone_or
 merged_fits side values (Gone p) last rest dropped wrote all kept = rw (the_nil side 0 p last rest all (omega arith) (let l = dropped p refl in omega arith)) refl

@@ -13,7 +13,7 @@ use Rattle.chain_walk.specs.Step.{Behaviour, Step, stepped, is_drop}
 use Rattle.chain_walk.specs.declared.fixed.Fixed.{Fixed}
 use Rattle.graph_compile.specs.declared.graph.Branch.{Branch}
 use Rattle.graph_compile.specs.declared.graph.Stage.{Stage}
-use Rattle.graph_law.specs.Branches.{Version, Arrival, Arrival.Live, Arrival.Nil, Ran, dealt, met, in_turn, moved_arrival, writer_by, written_at}
+use Rattle.graph_law.specs.Branches.{Version, BranchEnd, BranchEnd.Live, BranchEnd.Nil, Ran, dealt, met, in_turn, moved_end, writer_by, written_at}
 use Rattle.graph_law.specs.Flow.{branched, staged, then_flow, flow}
 use Rattle.graph_law.specs.Merging.{later, latest, unwritten, gone_or, merged}
 
@@ -22,15 +22,15 @@ record Has (x : Field) (old : Option (List ℕ)) (v : Version) : Type 0 where
   only : is_some (v.values x) ≡ true → is_some old ≡ true
   wrote : 0 < v.writers x → is_some (v.values x) ≡ true
 
-abbrev ArrivalHas : Field → Option (List ℕ) → Arrival → Type 0
-ArrivalHas x old (Live v) = Has x old v
-ArrivalHas x old (Nil p) = Unit {0}
+abbrev BranchEndHas : Field → Option (List ℕ) → BranchEnd → Type 0
+BranchEndHas x old (Live v) = Has x old v
+BranchEndHas x old (Nil p) = Unit {0}
 
 dealt_only : (touches : Bool) (old : Option (List ℕ)) → is_some (if touches then old else None) ≡ true → is_some old ≡ true
 dealt_only true old h = h
 dealt_only false old h = absurd cc
 
-dealt_has : (x : Field) (t : Touch) (values : Values) → ArrivalHas x (values x) (dealt t values)
+dealt_has : (x : Field) (t : Touch) (values : Values) → BranchEndHas x (values x) (dealt t values)
 dealt_has x t values = record { only = dealt_only (has_touch x t) (values x); wrote = λ l. absurd (omega arith) }
 
 -- what is written where it may be is a field that is there
@@ -47,36 +47,36 @@ over_wrote : (new was : Option (List ℕ)) (p n : ℕ) → (0 < n → is_some wa
 over_wrote (Some y) was p n h l = refl
 over_wrote None was p n h l = h l
 
-moved_has : {F : Type 0} (b : Behaviour F) (fixed : Fixed) (p : ℕ) (f : F) (a : Arrival) (x : Field) (old : Option (List ℕ)) → KeepsProfile b → ArrivalHas x old a → ArrivalHas x old (moved_arrival b fixed p f a)
-unfolding moved_arrival
+moved_has : {F : Type 0} (b : Behaviour F) (fixed : Fixed) (p : ℕ) (f : F) (a : BranchEnd) (x : Field) (old : Option (List ℕ)) → KeepsProfile b → BranchEndHas x old a → BranchEndHas x old (moved_end b fixed p f a)
+unfolding moved_end
 moved_has b fixed p f (Nil q) x old law h = tt
 moved_has {F} b fixed p f (Live v) x old law h = go (is_drop t.verdict)
   where
     t : Step F
     t = stepped b fixed f v.values
 
-    go : (d : Bool) → ArrivalHas x old (if d then Nil p else Live (written_at p t.written v))
+    go : (d : Bool) → BranchEndHas x old (if d then Nil p else Live (written_at p t.written v))
     go true = tt
     go false = record {
       only = over_only (t.written x) (v.values x) old (may_write (writes_of (b.profile f) x) (t.written x) (v.values x) (law.writes fixed f v.values x)) h.only;
       wrote = over_wrote (t.written x) (v.values x) p (v.writers x) h.wrote;
     }
 
-met_has : {F : Type 0} (b : Behaviour F) (fixed : Fixed) (q : ℕ) (o : Option F) (fs : List F) (a : Arrival) (x : Field) (old : Option (List ℕ)) → KeepsProfile b → ArrivalHas x old a → ArrivalHas x old (met b fixed q o fs a).arrival
+met_has : {F : Type 0} (b : Behaviour F) (fixed : Fixed) (q : ℕ) (o : Option F) (fs : List F) (a : BranchEnd) (x : Field) (old : Option (List ℕ)) → KeepsProfile b → BranchEndHas x old a → BranchEndHas x old (met b fixed q o fs a).arrival
 unfolding met
 met_has b fixed q None fs a x old law h = h
 met_has b fixed q (Some f) fs a x old law h = moved_has b fixed q f a x old law h
 
-in_turn_has : {F : Type 0} (b : Behaviour F) (fixed : Fixed) (positions : List ℕ) (fs : List F) (a : Arrival) (x : Field) (old : Option (List ℕ)) → KeepsProfile b → ArrivalHas x old a → ArrivalHas x old (in_turn b fixed positions fs a).arrival
+in_turn_has : {F : Type 0} (b : Behaviour F) (fixed : Fixed) (positions : List ℕ) (fs : List F) (a : BranchEnd) (x : Field) (old : Option (List ℕ)) → KeepsProfile b → BranchEndHas x old a → BranchEndHas x old (in_turn b fixed positions fs a).arrival
 unfolding in_turn
 in_turn_has b fixed [] fs a x old law h = h
 in_turn_has {F} b fixed (q ∷ positions) fs a x old law h =
     let m : Ran F = met b fixed q (slice_get fs (q - 1)) fs a in
     in_turn_has b fixed positions m.functions m.arrival x old law (met_has b fixed q (slice_get fs (q - 1)) fs a x old law h)
 
-unfoldable AllHave : Field → Option (List ℕ) → List Arrival → Type 0
+unfoldable AllHave : Field → Option (List ℕ) → List BranchEnd → Type 0
 AllHave x old [] = Unit {0}
-AllHave x old (a ∷ rest) = ArrivalHas x old a × AllHave x old rest
+AllHave x old (a ∷ rest) = BranchEndHas x old a × AllHave x old rest
 
 branched_has : {F : Type 0} (b : Behaviour F) (fixed : Fixed) (branches : List Branch) (touches : List Touch) (fs : List F) (values : Values) (x : Field) → KeepsProfile b → AllHave x (values x) (branched b fixed branches touches values fs).arrivals
 unfolding branched AllHave
@@ -94,7 +94,7 @@ later_has x old best v same h = go (nat_lt (best.writers x) (v.writers x)) refl
     go true is = let l : best.writers x < v.writers x = ltb-true _ _ is in let there = h.wrote (omega arith) in there ∙ sym (h.only there)
     go false is = same
 
-latest_has : (x : Field) (old : Option (List ℕ)) (best : Version) (rest : List Arrival) → is_some (best.values x) ≡ is_some old → AllHave x old rest → is_some ((latest best rest).values x) ≡ is_some old
+latest_has : (x : Field) (old : Option (List ℕ)) (best : Version) (rest : List BranchEnd) → is_some (best.values x) ≡ is_some old → AllHave x old rest → is_some ((latest best rest).values x) ≡ is_some old
 unfolding latest AllHave
 latest_has x old best [] same h = same
 latest_has x old best (Live v ∷ rest) same h = latest_has x old (later best v) rest (later_has x old best v same h.0) h.1

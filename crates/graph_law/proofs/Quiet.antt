@@ -4,16 +4,16 @@ use Rattle.std.specs.Prelude.{◌⊎◌}
 use Rattle.chain_walk.specs.Laws.{KeepsProfile}
 use Rattle.chain_walk.specs.Step.{Behaviour, stepped, is_drop}
 use Rattle.chain_walk.specs.declared.fixed.Fixed.{Fixed}
-use Rattle.graph_law.specs.Branches.{Version, Arrival, Arrival.Live, Arrival.Nil, Ran, moved_function, moved_arrival, written_at}
+use Rattle.graph_law.specs.Branches.{Version, BranchEnd, BranchEnd.Live, BranchEnd.Nil, Ran, moved_function, moved_end, written_at}
 use Rattle.graph_law.proofs.Rights.{Stateless}
 use Rattle.graph_law.proofs.Sides.{ran, ran_here, ran_elsewhere, ran_nil, is_or_not, Agree, agree_refl}
 
 -- no drop before position p
-pub data Late (p : ℕ) : Arrival → Type 0 where
+pub data Late (p : ℕ) : BranchEnd → Type 0 where
   live : (v : Version) → Late p (Live v)
   late : (q : ℕ) → p ≤ q → Late p (Nil q)
 
-late_more : {p : ℕ} {a : Arrival} → Late (p + 1) a → Late p a
+late_more : {p : ℕ} {a : BranchEnd} → Late (p + 1) a → Late p a
 late_more (live v) = live v
 late_more {p} (late q h) = late q (omega arith)
 
@@ -22,7 +22,7 @@ pub record Quiet {F : Type 0} (side : ℕ → ℕ) (c p : ℕ) (fs : List F) (r 
   pub arrival : Late p r.arrival
 
 pub ran_quiet : {F : Type 0} (b : Behaviour F) (fixed : Fixed) (side : ℕ → ℕ) (c p : ℕ) (fs : List F) (v : Version) → KeepsProfile b → Stateless side c p (map b.profile fs) → Quiet side c p fs (ran b fixed side c p fs (Live v))
-unfolding ran Agree Stateless moved_function moved_arrival
+unfolding ran Agree Stateless moved_function moved_end
 ran_quiet b fixed side c p [] v law h = record { functions = tt; arrival = live v }
 ran_quiet b fixed side c p (f ∷ fs) v law h = go (is_or_not (side p) c) (is_drop (stepped b fixed f v.values).verdict) refl (λ v. ran_quiet b fixed side c (p + 1) fs v law h.1)
   where

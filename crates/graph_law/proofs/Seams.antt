@@ -8,7 +8,7 @@ use Rattle.chain_walk.specs.Shown.{Values}
 use Rattle.chain_walk.specs.Step.{Behaviour}
 use Rattle.chain_walk.specs.declared.fixed.Fixed.{Fixed}
 use Rattle.graph_compile.specs.declared.graph.Branch.{Branch}
-use Rattle.graph_law.specs.Branches.{Arrival, Ran, dealt, met, in_turn, moved_function, moved_arrival}
+use Rattle.graph_law.specs.Branches.{BranchEnd, Ran, dealt, met, in_turn, moved_function, moved_end}
 use Rattle.graph_law.specs.Flow.{then_branched, branched}
 use Rattle.graph_law.proofs.Sides.{ran, ran_here, ran_elsewhere, length_ran, sides, is_or_not}
 
@@ -26,8 +26,8 @@ get_seam : {A : Type 0} (pre : List A) (f : A) (post : List A) → slice_get (pr
 get_seam [] f post = refl
 get_seam (x ∷ pre) f post = get_seam pre f post
 
-met_seam : {F : Type 0} (b : Behaviour F) (fixed : Fixed) (p : ℕ) (pre : List F) (f : F) (rest : List F) (a : Arrival) → suc (length pre) ≡ p →
-    met b fixed p (slice_get (pre ++ (f ∷ rest)) (p - 1)) (pre ++ (f ∷ rest)) a ≡ record { functions = pre ++ (moved_function b fixed f a ∷ rest); arrival = moved_arrival b fixed p f a }
+met_seam : {F : Type 0} (b : Behaviour F) (fixed : Fixed) (p : ℕ) (pre : List F) (f : F) (rest : List F) (a : BranchEnd) → suc (length pre) ≡ p →
+    met b fixed p (slice_get (pre ++ (f ∷ rest)) (p - 1)) (pre ++ (f ∷ rest)) a ≡ record { functions = pre ++ (moved_function b fixed f a ∷ rest); arrival = moved_end b fixed p f a }
 unfolding met
 met_seam {F} b fixed p pre f rest a e =
     let whole : List F = pre ++ (f ∷ rest) in
@@ -35,10 +35,10 @@ met_seam {F} b fixed p pre f rest a e =
     let at_seam : p - 1 ≡ length pre = omega arith in
     let got : slice_get whole (p - 1) ≡ Some f = ap (slice_get whole) at_seam ∙ get_seam pre f rest in
     let put : set whole (p - 1) y ≡ pre ++ (y ∷ rest) = ap (λ n. set whole n y) at_seam ∙ set-append_seam pre f rest y in
-    ap (λ o. met b fixed p o whole a) got ∙ (λ i. record { functions = put i; arrival = moved_arrival b fixed p f a })
+    ap (λ o. met b fixed p o whole a) got ∙ (λ i. record { functions = put i; arrival = moved_end b fixed p f a })
 
 -- a branch by its positions among all functions is the branch among those of its stage
-pub in_turn_ran : {F : Type 0} (b : Behaviour F) (fixed : Fixed) (side : ℕ → ℕ) (c p : ℕ) (pre mid post : List F) (a : Arrival) → suc (length pre) ≡ p →
+pub in_turn_ran : {F : Type 0} (b : Behaviour F) (fixed : Fixed) (side : ℕ → ℕ) (c p : ℕ) (pre mid post : List F) (a : BranchEnd) → suc (length pre) ≡ p →
     in_turn b fixed (places side c p (length mid)) (pre ++ (mid ++ post)) a ≡ record { functions = pre ++ ((ran b fixed side c p mid a).functions ++ post); arrival = (ran b fixed side c p mid a).arrival }
 unfolding in_turn ran
 in_turn_ran b fixed side c p pre [] post a e = refl
@@ -48,14 +48,14 @@ in_turn_ran {F} b fixed side c p pre (f ∷ mid) post a e = go (is_or_not (side 
     shift y rest = append_assoc pre (y ∷ []) rest
 
     go : (side p ≡ c) ⊎ (side p ≢ c) →
-        ((y : F) (a : Arrival) → in_turn b fixed (places side c (p + 1) (length mid)) ((pre ++ y ∷ []) ++ (mid ++ post)) a ≡ record { functions = (pre ++ y ∷ []) ++ ((ran b fixed side c (p + 1) mid a).functions ++ post); arrival = (ran b fixed side c (p + 1) mid a).arrival }) →
+        ((y : F) (a : BranchEnd) → in_turn b fixed (places side c (p + 1) (length mid)) ((pre ++ y ∷ []) ++ (mid ++ post)) a ≡ record { functions = (pre ++ y ∷ []) ++ ((ran b fixed side c (p + 1) mid a).functions ++ post); arrival = (ran b fixed side c (p + 1) mid a).arrival }) →
         in_turn b fixed (places side c p (suc (length mid))) (pre ++ (f ∷ (mid ++ post))) a ≡ record { functions = pre ++ ((ran b fixed side c p (f ∷ mid) a).functions ++ post); arrival = (ran b fixed side c p (f ∷ mid) a).arrival }
     go which ih = elim which [
-      | inl here ↦ rw (places_here side c p (length mid) here, ran_here b fixed side c p f mid a here) (ap (λ r. in_turn b fixed (places side c (p + 1) (length mid)) r.functions r.arrival) (met_seam b fixed p pre f (mid ++ post) a e) ∙ on (moved_function b fixed f a) (moved_arrival b fixed p f a))
+      | inl here ↦ rw (places_here side c p (length mid) here, ran_here b fixed side c p f mid a here) (ap (λ r. in_turn b fixed (places side c (p + 1) (length mid)) r.functions r.arrival) (met_seam b fixed p pre f (mid ++ post) a e) ∙ on (moved_function b fixed f a) (moved_end b fixed p f a))
       | inr ne ↦ rw (places_elsewhere side c p (length mid) ne, ran_elsewhere b fixed side c p f mid a ne) (on f a)
     ]
       where
-        on : (y : F) (a : Arrival) → in_turn b fixed (places side c (p + 1) (length mid)) (pre ++ (y ∷ (mid ++ post))) a ≡ record { functions = pre ++ (y ∷ ((ran b fixed side c (p + 1) mid a).functions ++ post)); arrival = (ran b fixed side c (p + 1) mid a).arrival }
+        on : (y : F) (a : BranchEnd) → in_turn b fixed (places side c (p + 1) (length mid)) (pre ++ (y ∷ (mid ++ post))) a ≡ record { functions = pre ++ (y ∷ ((ran b fixed side c (p + 1) mid a).functions ++ post)); arrival = (ran b fixed side c (p + 1) mid a).arrival }
         on y a = rw (← shift y (mid ++ post), ← shift y ((ran b fixed side c (p + 1) mid a).functions ++ post)) (ih y a)
 
 -- each branch from branch c on has the positions on its side

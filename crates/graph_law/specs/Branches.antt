@@ -15,9 +15,9 @@ pub record Version : Type 0 where
   pub writers : Field → ℕ
 
 -- What comes from a branch: its version, or the position of the function that dropped the packet.
-pub data Arrival : Type 0 where
-  Live : (version : Version) → Arrival
-  Nil : (position : ℕ) → Arrival
+pub data BranchEnd : Type 0 where
+  Live : (version : Version) → BranchEnd
+  Nil : (position : ℕ) → BranchEnd
 
 -- the position of a function that wrote a new value, and else the former writer
 abbrev pub writer_by : Option (List ℕ) → ℕ → ℕ → ℕ
@@ -29,32 +29,32 @@ abbrev pub written_at : ℕ → Values → Version → Version
 written_at position new v = record { values = over new v.values; writers = λ f. writer_by (new f) position (v.writers f) }
 
 -- a branch is dealt the fields that it touches, written by nobody
-abbrev pub dealt : Touch → Values → Arrival
+abbrev pub dealt : Touch → Values → BranchEnd
 dealt touch values = Live (record { values = λ f. if has_touch f touch then values f else None; writers = λ f. 0 })
 
 -- a function as it leaves what came to it
-unfoldable pub moved_function : {F : Type 0} → Behaviour F → Fixed → F → Arrival → F
+unfoldable pub moved_function : {F : Type 0} → Behaviour F → Fixed → F → BranchEnd → F
 moved_function b fixed f (Nil q) = f
 moved_function b fixed f (Live v) = (stepped b fixed f v.values).after
 
 -- what goes on from the function at this position
-unfoldable pub moved_arrival : {F : Type 0} → Behaviour F → Fixed → ℕ → F → Arrival → Arrival
-moved_arrival b fixed p f (Nil q) = Nil q
-moved_arrival b fixed p f (Live v) =
+unfoldable pub moved_end : {F : Type 0} → Behaviour F → Fixed → ℕ → F → BranchEnd → BranchEnd
+moved_end b fixed p f (Nil q) = Nil q
+moved_end b fixed p f (Live v) =
     if is_drop (stepped b fixed f v.values).verdict then Nil p else Live (written_at p (stepped b fixed f v.values).written v)
 
 -- The functions of a chain as a branch leaves them, and what comes from it.
 pub record Ran (F : Type 0) : Type 0 where
   pub functions : List F
-  pub arrival : Arrival
+  pub arrival : BranchEnd
 
 -- the function at a position, which counts from 1, where there is one
-unfoldable pub met : {F : Type 0} → Behaviour F → Fixed → ℕ → Option F → List F → Arrival → Ran F
+unfoldable pub met : {F : Type 0} → Behaviour F → Fixed → ℕ → Option F → List F → BranchEnd → Ran F
 met b fixed q None fs a = record { functions = fs; arrival = a }
-met b fixed q (Some f) fs a = record { functions = set fs (q - 1) (moved_function b fixed f a); arrival = moved_arrival b fixed q f a }
+met b fixed q (Some f) fs a = record { functions = set fs (q - 1) (moved_function b fixed f a); arrival = moved_end b fixed q f a }
 
 -- the functions at these positions, in turn
-unfoldable pub in_turn : {F : Type 0} → Behaviour F → Fixed → List ℕ → List F → Arrival → Ran F
+unfoldable pub in_turn : {F : Type 0} → Behaviour F → Fixed → List ℕ → List F → BranchEnd → Ran F
 in_turn b fixed [] fs a = record { functions = fs; arrival = a }
 in_turn b fixed (q ∷ qs) fs a =
     in_turn b fixed qs (met b fixed q (slice_get fs (q - 1)) fs a).functions (met b fixed q (slice_get fs (q - 1)) fs a).arrival

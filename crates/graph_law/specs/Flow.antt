@@ -7,15 +7,15 @@ use Rattle.chain_walk.specs.FieldWalk.{End, End.Out, End.Gone, Ended}
 use Rattle.chain_walk.specs.declared.fixed.Fixed.{Fixed}
 use Rattle.graph_compile.specs.declared.graph.Branch.{Branch}
 use Rattle.graph_compile.specs.declared.graph.Stage.{Stage}
-use Rattle.graph_law.specs.Branches.{Arrival, in_turn, dealt}
+use Rattle.graph_law.specs.Branches.{BranchEnd, in_turn, dealt}
 use Rattle.graph_law.specs.Merging.{merged}
 
 -- The functions of a chain as the branches of a stage leave them, and what comes from each branch.
 pub record Branched (F : Type 0) : Type 0 where
   pub functions : List F
-  pub arrivals : List Arrival
+  pub arrivals : List BranchEnd
 
-abbrev pub then_branched : {F : Type 0} → Arrival → Branched F → Branched F
+abbrev pub then_branched : {F : Type 0} → BranchEnd → Branched F → Branched F
 then_branched a rest = record { functions = rest.functions; arrivals = a ∷ rest.arrivals }
 
 -- the branches of a stage, one after another, each on the version that it is dealt

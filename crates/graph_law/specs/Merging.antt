@@ -2,7 +2,7 @@
 use Rattle.std.specs.Prelude.{ℕ, min, nat_lt, List, [], ◌∷◌, if◌then◌else◌, Option, Some, None}
 use Rattle.chain_walk.specs.Shown.{Values}
 use Rattle.chain_walk.specs.FieldWalk.{End, End.Out, End.Gone}
-use Rattle.graph_law.specs.Branches.{Version, Arrival, Arrival.Live, Arrival.Nil}
+use Rattle.graph_law.specs.Branches.{Version, BranchEnd, BranchEnd.Live, BranchEnd.Nil}
 
 -- the lesser of two positions, where there are two
 abbrev pub lesser : ℕ → Option ℕ → Option ℕ
@@ -10,7 +10,7 @@ lesser p None = Some p
 lesser p (Some q) = Some (min p q)
 
 -- the least position at which the packet was dropped
-unfoldable pub least_nil : List Arrival → Option ℕ
+unfoldable pub least_nil : List BranchEnd → Option ℕ
 least_nil [] = None
 least_nil (Live v ∷ others) = least_nil others
 least_nil (Nil p ∷ others) = lesser p (least_nil others)
@@ -23,7 +23,7 @@ later best v = record {
 }
 
 -- field by field, what was written last
-unfoldable pub latest : Version → List Arrival → Version
+unfoldable pub latest : Version → List BranchEnd → Version
 latest best [] = best
 latest best (Live v ∷ others) = latest (later best v) others
 latest best (Nil p ∷ others) = latest best others
@@ -37,5 +37,5 @@ gone_or (Some p) values = Gone p
 gone_or None values = Out values
 
 -- gone at the least position where it was dropped, else each field as it was written last, and as it came where nobody wrote it
-unfoldable pub merged : Values → List Arrival → End
+unfoldable pub merged : Values → List BranchEnd → End
 merged values arrivals = gone_or (least_nil arrivals) (latest (unwritten values) arrivals).values

@@ -14,7 +14,7 @@ ghost use Rattle.graph_compile.specs.Positions.{stands};
 ghost use Rattle.graph_compile.specs.declared.graph.Branch.{Branch};
 ghost use Rattle.graph_compile.specs.declared.graph.Graph.{Graph};
 ghost use Rattle.graph_compile.specs.declared.graph.Stage.{Stage};
-ghost use Rattle.graph_law.specs.Branches.{Arrival, in_turn};
+ghost use Rattle.graph_law.specs.Branches.{BranchEnd, in_turn};
 ghost use Rattle.graph_law.specs.Flow.{branched, staged, flow};
 
 use dependency_table::beside_is_independent;
@@ -38,9 +38,9 @@ pub fn graph_is_chain<F>()
 /// that a packet goes through: the next packet finds functions for which the same graph is lawful.
 pub fn profiles_stay<F>()
     // the functions of one branch, whatever comes to it
-    ensures branch { (b : Behaviour F) (fixed : Fixed) (positions : List ℕ) (functions : List F) (arrival : Arrival) →
+    ensures branch { (b : Behaviour F) (fixed : Fixed) (positions : List ℕ) (functions : List F) (arrival : BranchEnd) →
         KeepsProfile b → map b.profile (in_turn b fixed positions functions arrival).functions ≡ map b.profile functions }
-    ensures branch_length { (b : Behaviour F) (fixed : Fixed) (positions : List ℕ) (functions : List F) (arrival : Arrival) →
+    ensures branch_length { (b : Behaviour F) (fixed : Fixed) (positions : List ℕ) (functions : List F) (arrival : BranchEnd) →
         length (in_turn b fixed positions functions arrival).functions ≡ length functions }
     // the branches of a stage
     ensures stage { (b : Behaviour F) (fixed : Fixed) (branches : List Branch) (touches : List Touch) (functions : List F) (values : Values) →

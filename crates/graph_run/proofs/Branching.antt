@@ -18,15 +18,15 @@ use Rattle.graph_compile.specs.Lawful.{IsLawfulStage}
 use Rattle.graph_compile.specs.Owners.{HasOwners}
 use Rattle.graph_compile.specs.declared.graph.Branch.{Branch}
 use Rattle.graph_compile.specs.declared.graph.Stage.{Stage}
-use Rattle.graph_law.specs.Branches.{Arrival, Arrival.Live, Ran, in_turn, dealt as dealt_by_law}
+use Rattle.graph_law.specs.Branches.{BranchEnd, BranchEnd.Live, Ran, in_turn, dealt as dealt_by_law}
 use Rattle.graph_law.specs.Flow.{Branched, then_branched, branched}
 use Rattle.packet_version.specs.Parts.{PlainPart, Parts, values_of, writers_of, writer_in, unwritten}
-use Rattle.packet_version.specs.Splitting.{PlainApart, parts_of as parts_in}
-use Rattle.packet_version.specs.Versions.{PlainVersion, parts_of}
+use Rattle.packet_version.specs.Splitting.{PlainApart, packet_parts}
+use Rattle.packet_version.specs.Versions.{PlainVersion, version_parts}
 use Rattle.packet_version.specs.Dealing.{dealt, dealt_parts}
 use Rattle.merge_ops.specs.Behind.{IsMadeOf}
-use Rattle.merge_ops.specs.declared.arrival.Arrival.{Arrival as Came}
-use Rattle.graph_run.specs.Carrying.{as_version, as_arrival, values_in}
+use Rattle.merge_ops.specs.declared.arrival.Arrival.{Arrival}
+use Rattle.graph_run.specs.Carrying.{as_version, as_branch_end, values_in}
 use Rattle.graph_run.specs.Rooms.{adders_from}
 use Rattle.graph_run.specs.Staging.{Holds, IsCarried, IsCarriedBy, IsReady}
 use Rattle.graph_run.specs.Stages.{end_of, GoesFrom, IsStageReady, AllCarried}
@@ -53,10 +53,10 @@ nobody false o = refl
 -- a branch is dealt what the law says
 pub dealt_is : (whole : PlainApart) (touch : Touch) → Live (as_version (dealt whole touch)) ≡ dealt_by_law touch (values_in whole)
 dealt_is whole touch =
-    let read = map_of_list (dealt_parts touch (parts_in whole)) in
+    let read = map_of_list (dealt_parts touch (packet_parts whole)) in
     λ i. Live (record {
-      values = (ap values_of read ∙ fun_ext (λ f. bytes_dealt (has_touch f touch) (parts_in whole f))) i;
-      writers = (ap writers_of read ∙ fun_ext (λ f. nobody (has_touch f touch) (parts_in whole f))) i;
+      values = (ap values_of read ∙ fun_ext (λ f. bytes_dealt (has_touch f touch) (packet_parts whole f))) i;
+      writers = (ap writers_of read ∙ fun_ext (λ f. nobody (has_touch f touch) (packet_parts whole f))) i;
     })
 
 length_dealt : (t : Bool) (o : Option (List ℕ)) (P : List ℕ → Type 0) → IfSome o P → IfSome (if t then o else None) P
@@ -71,8 +71,8 @@ room_dealt false o n h = tt
 -- what a branch is dealt may go on from the stage's first position
 pub dealt_carried : (chain : List Profile) (whole : PlainApart) (touch : Touch) (first : ℕ) → DealtIsMade → GoesFrom chain first whole → IsCarried chain whole touch first (dealt whole touch)
 dealt_carried chain whole touch first made goes =
-    let read = map_of_list (dealt_parts touch (parts_in whole)) in
-    let values : values_of (parts_of (dealt whole touch)) ≡ (λ f. if has_touch f touch then values_in whole f else None) = ap values_of read ∙ fun_ext (λ f. bytes_dealt (has_touch f touch) (parts_in whole f)) in
+    let read = map_of_list (dealt_parts touch (packet_parts whole)) in
+    let values : values_of (version_parts (dealt whole touch)) ≡ (λ f. if has_touch f touch then values_in whole f else None) = ap values_of read ∙ fun_ext (λ f. bytes_dealt (has_touch f touch) (packet_parts whole f)) in
     record {
       made = made whole touch;
       fixed = refl;
@@ -80,28 +80,28 @@ dealt_carried chain whole touch first made goes =
         lengths = λ f. length_dealt (has_touch f touch) (values_in whole f) (λ bytes. IsLengthOf f (length bytes)) (goes.formed.lengths f);
         tags = length_dealt (has_touch Tag touch) (values_in whole Tag) (λ tags. is_tag_list tags ≡ true) goes.formed.tags;
       });
-      room = subst (λ (m : Parts). IfSome (m Tag) (λ p. length p.bytes + 4 * adders_from chain first ≤ p.room)) (sym read) (room_dealt (has_touch Tag touch) (parts_in whole Tag) (4 * adders_from chain first) goes.room);
+      room = subst (λ (m : Parts). IfSome (m Tag) (λ p. length p.bytes + 4 * adders_from chain first ≤ p.room)) (sym read) (room_dealt (has_touch Tag touch) (packet_parts whole Tag) (4 * adders_from chain first) goes.room);
     }
 
 -- what the branches before have given, beside what the others give
-abbrev pub before : {F : Type 0} → List Arrival → Branched F → Branched F
+abbrev pub before : {F : Type 0} → List BranchEnd → Branched F → Branched F
 before done rest = record { functions = rest.functions; arrivals = done ++ rest.arrivals }
 
 -- so many branches have run, and the rest of them gives what all give
-pub record HasRun {F : Type 0} (b : Behaviour F) (stage : Stage) (whole : PlainApart) (first now : List F) (j : ℕ) (done : List Came) (rest : List PlainVersion) : Type 0 where
-  pub same : before (map as_arrival done) (branched b whole.fixed (drop j stage.branches) (drop j stage.parts.touches) (values_in whole) now) ≡ branched b whole.fixed stage.branches stage.parts.touches (values_in whole) first
+pub record HasRun {F : Type 0} (b : Behaviour F) (stage : Stage) (whole : PlainApart) (first now : List F) (j : ℕ) (done : List Arrival) (rest : List PlainVersion) : Type 0 where
+  pub same : before (map as_branch_end done) (branched b whole.fixed (drop j stage.branches) (drop j stage.parts.touches) (values_in whole) now) ≡ branched b whole.fixed stage.branches stage.parts.touches (values_in whole) first
   pub left : rest ≡ map (dealt whole) (drop j stage.parts.touches)
   pub profiles : map b.profile now ≡ map b.profile first
   pub came : (at : ℕ) → IsStageReady (map b.profile first) at stage whole → AllCarried (map b.profile first) whole (end_of at stage) (take j stage.parts.touches) done
 
-pub branches_begin : {F : Type 0} (b : Behaviour F) (stage : Stage) (whole : PlainApart) (first : List F) (done : List Came) (rest versions : List PlainVersion) → done ≡ [] → rest ≡ versions → versions ≡ map (dealt whole) stage.parts.touches →
+pub branches_begin : {F : Type 0} (b : Behaviour F) (stage : Stage) (whole : PlainApart) (first : List F) (done : List Arrival) (rest versions : List PlainVersion) → done ≡ [] → rest ≡ versions → versions ≡ map (dealt whole) stage.parts.touches →
     HasRun b stage whole first first 0 done rest
 unfolding AllCarried
 branches_begin b stage whole first done rest versions none all is = record {
-  same = ap (λ (l : List Came). before (map as_arrival l) (branched b whole.fixed stage.branches stage.parts.touches (values_in whole) first)) none;
+  same = ap (λ (l : List Arrival). before (map as_branch_end l) (branched b whole.fixed stage.branches stage.parts.touches (values_in whole) first)) none;
   left = all ∙ is;
   profiles = refl;
-  came = λ at ready. subst (λ (l : List Came). AllCarried (map b.profile first) whole (end_of at stage) [] l) (sym none) tt;
+  came = λ at ready. subst (λ (l : List Arrival). AllCarried (map b.profile first) whole (end_of at stage) [] l) (sym none) tt;
 }
 
 -- what is known of the touch of the branch that is next
@@ -141,7 +141,7 @@ abbrev pub ReadySomewhere : {F : Type 0} → Behaviour F → List F → Stage �
 ReadySomewhere b first stage whole = (at : ℕ) × IsStageReady (map b.profile first) at stage whole
 
 -- there is a branch for each version
-pub branch_inside : {F : Type 0} (b : Behaviour F) (stage : Stage) (whole : PlainApart) (first now : List F) (j : ℕ) (done : List Came) (was rest : List PlainVersion) (version : PlainVersion) → Owned → HasRun b stage whole first now j done was →
+pub branch_inside : {F : Type 0} (b : Behaviour F) (stage : Stage) (whole : PlainApart) (first now : List F) (j : ℕ) (done : List Arrival) (was rest : List PlainVersion) (version : PlainVersion) → Owned → HasRun b stage whole first now j done was →
     was ≡ version ∷ rest → ReadySomewhere b first stage whole → j < length stage.branches
 branch_inside b stage whole first now j done was rest version owned run takes ready =
     let next = next_touch whole stage.parts.touches j version rest (sym takes ∙ run.left) in
@@ -149,7 +149,7 @@ branch_inside b stage whole first now j done was rest version owned run takes re
     let inside = next.inside in
     omega arith
 
-pub branch_ready : {F : Type 0} (b : Behaviour F) (stage : Stage) (whole : PlainApart) (first now : List F) (j : ℕ) (done : List Came) (was rest : List PlainVersion) (version : PlainVersion) (d : Branch) → Owned → DealtIsMade →
+pub branch_ready : {F : Type 0} (b : Behaviour F) (stage : Stage) (whole : PlainApart) (first now : List F) (j : ℕ) (done : List Arrival) (was rest : List PlainVersion) (version : PlainVersion) (d : Branch) → Owned → DealtIsMade →
     HasRun b stage whole first now j done was → was ≡ version ∷ rest → ReadySomewhere b first stage whole → IsReady (map b.profile now) (get_or stage.branches j d).positions version
 branch_ready b stage whole first now j done was rest version d owned made run takes ready =
     let next = next_touch whole stage.parts.touches j version rest (sym takes ∙ run.left) in
@@ -165,7 +165,7 @@ branch_ready b stage whole first now j done was rest version d owned made run ta
       carried = dealt_carried chain whole next.touch ready.0 made ready.1.goes;
     }))
 
-all_more : (chain : List Profile) (whole : PlainApart) (high : ℕ) (touches : List Touch) (done : List Came) (t : Touch) (a : Came) → AllCarried chain whole high touches done → IsCarriedBy chain whole t high a → AllCarried chain whole high (touches ++ t ∷ []) (done ++ a ∷ [])
+all_more : (chain : List Profile) (whole : PlainApart) (high : ℕ) (touches : List Touch) (done : List Arrival) (t : Touch) (a : Arrival) → AllCarried chain whole high touches done → IsCarriedBy chain whole t high a → AllCarried chain whole high (touches ++ t ∷ []) (done ++ a ∷ [])
 unfolding AllCarried
 all_more chain whole high [] [] t a all here = (here, tt)
 all_more chain whole high (u ∷ touches) (c ∷ done) t a all here = (all.0, all_more chain whole high touches done t a all.1 here)
@@ -173,21 +173,21 @@ all_more chain whole high [] (c ∷ done) t a all here = absurd all
 all_more chain whole high (u ∷ touches) [] t a all here = absurd all
 
 abbrev pub StaysInBranch : Type 0 → Type 0
-StaysInBranch F = (b : Behaviour F) (fixed : Fixed) (positions : List ℕ) (functions : List F) (arrival : Arrival) → KeepsProfile b → map b.profile (in_turn b fixed positions functions arrival).functions ≡ map b.profile functions
+StaysInBranch F = (b : Behaviour F) (fixed : Fixed) (positions : List ℕ) (functions : List F) (arrival : BranchEnd) → KeepsProfile b → map b.profile (in_turn b fixed positions functions arrival).functions ≡ map b.profile functions
 
-arrivals_more : (done : List Came) (a : Came) (rest : List Arrival) → map as_arrival (done ++ a ∷ []) ++ rest ≡ map as_arrival done ++ as_arrival a ∷ rest
+arrivals_more : (done : List Arrival) (a : Arrival) (rest : List BranchEnd) → map as_branch_end (done ++ a ∷ []) ++ rest ≡ map as_branch_end done ++ as_branch_end a ∷ rest
 arrivals_more [] a rest = refl
-arrivals_more (c ∷ done) a rest = ap (λ l. as_arrival c ∷ l) (arrivals_more done a rest)
+arrivals_more (c ∷ done) a rest = ap (λ l. as_branch_end c ∷ l) (arrivals_more done a rest)
 
 branched_more : {F : Type 0} (b : Behaviour F) (fixed : Fixed) (x : Branch) (branches : List Branch) (t : Touch) (touches : List Touch) (values : Values) (fs : List F) →
     branched b fixed (x ∷ branches) (t ∷ touches) values fs ≡ then_branched (in_turn b fixed x.positions fs (dealt_by_law t values)).arrival (branched b fixed branches touches values (in_turn b fixed x.positions fs (dealt_by_law t values)).functions)
 unfolding branched
 branched_more b fixed x branches t touches values fs = refl
 
-pub branch_more : {F : Type 0} (b : Behaviour F) (stage : Stage) (whole : PlainApart) (first now after : List F) (j : ℕ) (done more : List Came) (was rest : List PlainVersion) (version : PlainVersion) (a : Came) (d : Branch) →
+pub branch_more : {F : Type 0} (b : Behaviour F) (stage : Stage) (whole : PlainApart) (first now after : List F) (j : ℕ) (done more : List Arrival) (was rest : List PlainVersion) (version : PlainVersion) (a : Arrival) (d : Branch) →
     Owned → DealtIsMade → StaysInBranch F → KeepsProfile b → HasRun b stage whole first now j done was → was ≡ version ∷ rest → ReadySomewhere b first stage whole →
     after ≡ (in_turn b version.fixed (get_or stage.branches j d).positions now (Live (as_version version))).functions →
-    as_arrival a ≡ (in_turn b version.fixed (get_or stage.branches j d).positions now (Live (as_version version))).arrival →
+    as_branch_end a ≡ (in_turn b version.fixed (get_or stage.branches j d).positions now (Live (as_version version))).arrival →
     ((whole : PlainApart) (low high : ℕ) → Holds (map b.profile now) version.touch low high (get_or stage.branches j d).positions → IsCarried (map b.profile now) whole version.touch low version → IsCarriedBy (map b.profile now) whole version.touch high a) →
     more ≡ done ++ a ∷ [] → HasRun b stage whole first after (j + 1) more rest
 branch_more {F} b stage whole first now after j done more was rest version a d owned made stays keeps run takes ready fs came carried push =
@@ -200,11 +200,11 @@ branch_more {F} b stage whole first now after j done more was rest version a d o
     ap (λ (v : PlainVersion). in_turn b v.fixed x.positions now (Live (as_version v))) next.dealt_so ∙ ap (in_turn b whole.fixed x.positions now) (dealt_is whole next.touch) in
     let later : List F → Branched F = branched b whole.fixed (drop (j + 1) stage.branches) (drop (j + 1) stage.parts.touches) (values_in whole) in
     record {
-      same = ap (λ (l : List Came). before (map as_arrival l) (later after)) push
-          ∙ ap (λ l. before (map as_arrival (done ++ a ∷ [])) (later l)) (fs ∙ ap (λ r. r.functions) ran)
-          ∙ ap (λ l. record { functions = (later r.functions).functions; arrivals = l }) (arrivals_more done a (later r.functions).arrivals ∙ ap (λ y. map as_arrival done ++ y ∷ (later r.functions).arrivals) (came ∙ ap (λ r. r.arrival) ran))
-          ∙ ap (before (map as_arrival done)) (sym (branched_more b whole.fixed x (drop (j + 1) stage.branches) next.touch (drop (j + 1) stage.parts.touches) (values_in whole) now))
-          ∙ (λ i. before (map as_arrival done) (branched b whole.fixed (sym (drop_more stage.branches j d inside) i) (sym next.cut i) (values_in whole) now))
+      same = ap (λ (l : List Arrival). before (map as_branch_end l) (later after)) push
+          ∙ ap (λ l. before (map as_branch_end (done ++ a ∷ [])) (later l)) (fs ∙ ap (λ r. r.functions) ran)
+          ∙ ap (λ l. record { functions = (later r.functions).functions; arrivals = l }) (arrivals_more done a (later r.functions).arrivals ∙ ap (λ y. map as_branch_end done ++ y ∷ (later r.functions).arrivals) (came ∙ ap (λ r. r.arrival) ran))
+          ∙ ap (before (map as_branch_end done)) (sym (branched_more b whole.fixed x (drop (j + 1) stage.branches) next.touch (drop (j + 1) stage.parts.touches) (values_in whole) now))
+          ∙ (λ i. before (map as_branch_end done) (branched b whole.fixed (sym (drop_more stage.branches j d inside) i) (sym next.cut i) (values_in whole) now))
           ∙ run.same;
       left = next.others;
       profiles = ap (map b.profile) fs ∙ stays b version.fixed x.positions now (Live (as_version version)) keeps ∙ run.profiles;
@@ -216,14 +216,14 @@ branch_more {F} b stage whole first now after j done more was rest version a d o
           whole at (end_of at stage)
           (subst (λ (ps : List Profile). Holds ps next.touch at (end_of at stage) x.positions) (sym run.profiles) holds)
           (subst (λ (ps : List Profile). IsCarried ps whole next.touch at (dealt whole next.touch)) (sym run.profiles) (dealt_carried chain whole next.touch at made is_ready.goes))) in
-          subst (λ (ts : List Touch). AllCarried chain whole (end_of at stage) ts more) (sym next.front) (subst (λ (l : List Came). AllCarried chain whole (end_of at stage) (take j stage.parts.touches ++ next.touch ∷ []) l) (sym push) (all_more chain whole (end_of at stage) (take j stage.parts.touches) done next.touch a (run.came at is_ready) here));
+          subst (λ (ts : List Touch). AllCarried chain whole (end_of at stage) ts more) (sym next.front) (subst (λ (l : List Arrival). AllCarried chain whole (end_of at stage) (take j stage.parts.touches ++ next.touch ∷ []) l) (sym push) (all_more chain whole (end_of at stage) (take j stage.parts.touches) done next.touch a (run.came at is_ready) here));
     }
 
 -- the same, where the branch's positions are known by an equation
-pub branch_taken : {F : Type 0} (b : Behaviour F) (stage : Stage) (whole : PlainApart) (first now after : List F) (j : ℕ) (done more : List Came) (was rest : List PlainVersion) (version : PlainVersion) (a : Came) (d : Branch) (positions : List ℕ) →
+pub branch_taken : {F : Type 0} (b : Behaviour F) (stage : Stage) (whole : PlainApart) (first now after : List F) (j : ℕ) (done more : List Arrival) (was rest : List PlainVersion) (version : PlainVersion) (a : Arrival) (d : Branch) (positions : List ℕ) →
     Owned → DealtIsMade → StaysInBranch F → KeepsProfile b → HasRun b stage whole first now j done was → was ≡ version ∷ rest → ReadySomewhere b first stage whole → positions ≡ (get_or stage.branches j d).positions →
     after ≡ (in_turn b version.fixed positions now (Live (as_version version))).functions →
-    as_arrival a ≡ (in_turn b version.fixed positions now (Live (as_version version))).arrival →
+    as_branch_end a ≡ (in_turn b version.fixed positions now (Live (as_version version))).arrival →
     ((whole : PlainApart) (low high : ℕ) → Holds (map b.profile now) version.touch low high positions → IsCarried (map b.profile now) whole version.touch low version → IsCarriedBy (map b.profile now) whole version.touch high a) →
     more ≡ done ++ a ∷ [] → HasRun b stage whole first after (j + 1) more rest
 branch_taken b stage whole first now after j done more was rest version a d positions owned made stays keeps run takes ready at fs came carried push =
@@ -233,7 +233,7 @@ branch_taken b stage whole first now after j done more was rest version a d posi
     (subst (λ l. (whole : PlainApart) (low high : ℕ) → Holds (map b.profile now) version.touch low high l → IsCarried (map b.profile now) whole version.touch low version → IsCarriedBy (map b.profile now) whole version.touch high a) at carried)
     push
 
-pub branch_ready_at : {F : Type 0} (b : Behaviour F) (stage : Stage) (whole : PlainApart) (first now : List F) (j : ℕ) (done : List Came) (was rest : List PlainVersion) (version : PlainVersion) (d : Branch) (positions : List ℕ) → Owned → DealtIsMade →
+pub branch_ready_at : {F : Type 0} (b : Behaviour F) (stage : Stage) (whole : PlainApart) (first now : List F) (j : ℕ) (done : List Arrival) (was rest : List PlainVersion) (version : PlainVersion) (d : Branch) (positions : List ℕ) → Owned → DealtIsMade →
     HasRun b stage whole first now j done was → was ≡ version ∷ rest → ReadySomewhere b first stage whole → positions ≡ (get_or stage.branches j d).positions → IsReady (map b.profile now) positions version
 branch_ready_at b stage whole first now j done was rest version d positions owned made run takes ready at =
     subst (λ l. IsReady (map b.profile now) l version) (sym at) (branch_ready b stage whole first now j done was rest version d owned made run takes ready)

@@ -14,23 +14,23 @@ use Rattle.chain_walk.specs.Laws.{KeepsProfile}
 use Rattle.chain_walk.specs.declared.fixed.Fixed.{Fixed}
 use Rattle.graph_compile.specs.Parts.{profile_at}
 use Rattle.packet_version.specs.Parts.{PlainPart, writer_in, values_of}
-use Rattle.packet_version.specs.Splitting.{PlainApart, parts_of as parts_in}
-use Rattle.packet_version.specs.Versions.{PlainVersion, parts_of, HoldsNamed}
+use Rattle.packet_version.specs.Splitting.{PlainApart, packet_parts}
+use Rattle.packet_version.specs.Versions.{PlainVersion, version_parts, HoldsNamed}
 use Rattle.packet_version.specs.Dealing.{dealt_parts}
 use Rattle.packet_version.specs.Views.{rewritten_by}
 use Rattle.graph_run.specs.Carrying.{as_version, wrote_at}
 use Rattle.graph_run.specs.Rooms.{adders_from}
 use Rattle.graph_run.specs.Staging.{IsCarried}
 use Rattle.graph_run.proofs.Writing.{bytes_in, length_in, part_after, as_wrote, there_after, own_after, length_after}
-use Rattle.graph_run.proofs.Rooming.{adders_at, room_later}
+use Rattle.graph_run.proofs.RoomForTags.{adders_at, room_later}
 
 false_and : (a b : Bool) → b ≡ false → (a && b) ≡ false
 false_and true b e = e
 false_and false b e = refl
 
 -- a function writes only what is there, and what its profile writes
-pub only_there : {F : Type 0} (b : Behaviour F) (fixed : Fixed) (f : F) (v : PlainVersion) → KeepsProfile b → (x : Field) → is_some (parts_of v x) ≡ false → (stepped b fixed f (values_of (parts_of v))).written x ≡ None
-only_there b fixed f v keeps x e = keeps.writes fixed f (values_of (parts_of v)) x (false_and (writes_of (b.profile f) x) _ (none_there (parts_of v x) e))
+pub only_there : {F : Type 0} (b : Behaviour F) (fixed : Fixed) (f : F) (v : PlainVersion) → KeepsProfile b → (x : Field) → is_some (version_parts v x) ≡ false → (stepped b fixed f (values_of (version_parts v))).written x ≡ None
+only_there b fixed f v keeps x e = keeps.writes fixed f (values_of (version_parts v)) x (false_and (writes_of (b.profile f) x) _ (none_there (version_parts v x) e))
   where
     none_there : (o : Option PlainPart) → is_some o ≡ false → is_some (bytes_in o) ≡ false
     none_there None e = refl
@@ -56,17 +56,17 @@ carried_on b chain whole touch low q f v stays keeps pos le is holds carried =
     let new : Values = (stepped b v.fixed f (as_version v).values).written in
     let made = carried.made in
     let after = part_after q new v in
-    let dealt = dealt_parts touch (parts_in whole) in
+    let dealt = dealt_parts touch (packet_parts whole) in
     let tags = keeps.tags v.fixed f (as_version v).values carried.formed.tags in
     record {
       made = record {
         touched = made.touched;
-        there = λ x. ap (λ (o : Option PlainPart). is_some o) (after x) ∙ there_after (new x) q (parts_of v x) ∙ made.there x;
-        own = λ x. subst (λ (o : Option PlainPart). writer_in o ≡ 0 → bytes_in o ≡ bytes_in (dealt x)) (sym (after x)) (own_after (new x) q (parts_of v x) (bytes_in (dealt x)) pos (made.own x));
-        lengths = λ x apart. ap length_in (after x) ∙ length_after (new x) q (parts_of v x) (keeps.lengths v.fixed f (as_version v).values x apart (carried.formed.lengths x)) ∙ made.lengths x apart;
+        there = λ x. ap (λ (o : Option PlainPart). is_some o) (after x) ∙ there_after (new x) q (version_parts v x) ∙ made.there x;
+        own = λ x. subst (λ (o : Option PlainPart). writer_in o ≡ 0 → bytes_in o ≡ bytes_in (dealt x)) (sym (after x)) (own_after (new x) q (version_parts v x) (bytes_in (dealt x)) pos (made.own x));
+        lengths = λ x apart. ap length_in (after x) ∙ length_after (new x) q (version_parts v x) (keeps.lengths v.fixed f (as_version v).values x apart (carried.formed.lengths x)) ∙ made.lengths x apart;
       };
       fixed = carried.fixed;
       formed = subst AreWellFormed (sym (ap (λ w. w.values) (as_wrote q new v (only_there b v.fixed f v keeps)))) (stays b v.fixed f (as_version v).values keeps carried.formed);
       room = subst (λ (o : Option PlainPart). IfSome o (λ p. length p.bytes + 4 * adders_from chain (q + 1) ≤ p.room)) (sym (after Tag))
-          (room_after (new Tag) q (parts_of v Tag) (b.profile f).adds (adders_from chain q) (adders_from chain (q + 1)) (adders_at chain q (b.profile f) pos is) tags (room_later chain low q (parts_of v) le carried.room));
+          (room_after (new Tag) q (version_parts v Tag) (b.profile f).adds (adders_from chain q) (adders_from chain (q + 1)) (adders_at chain q (b.profile f) pos is) tags (room_later chain low q (version_parts v) le carried.room));
     }

@@ -25,7 +25,7 @@ use Rattle.graph_law.specs.Flow.{branched, staged, flow}
 use Rattle.graph_compile.specs.declared.graph.Branch.{Branch}
 use Rattle.action_profile.specs.declared.parts.Touch.{Touch}
 use Rattle.packet_version.specs.Parts.{PlainPart}
-use Rattle.packet_version.specs.Splitting.{PlainApart, joined, parts_of}
+use Rattle.packet_version.specs.Splitting.{PlainApart, joined, packet_parts}
 use Rattle.packet_version.specs.Tallies.{count_of, raised}
 use Rattle.graph_run.specs.Carrying.{values_in}
 use Rattle.graph_run.specs.Counting.{reached, copies_in, copies_of, RaisesAll, RaisesUpTo}
@@ -33,7 +33,7 @@ use Rattle.graph_run.specs.Running.{IsRunning}
 use Rattle.graph_run.specs.Stages.{end_of, IsStageReady, IsBehind, stage_copies}
 use Rattle.graph_run.proofs.Writing.{bytes_in}
 use Rattle.graph_run.proofs.Reaching.{reached_cut, copies_append, first_reached, last_reached}
-use Rattle.graph_run.proofs.Flowing.{made_in, IsFlowing, Rising, staged_head, stage_ready, then_out, then_gone, way_on}
+use Rattle.graph_run.proofs.WayThroughStages.{made_in, IsFlowing, Rising, staged_head, stage_ready, then_out, then_gone, way_on}
 
 -- laws of the way through a graph
 abbrev pub StageKeepsFields : Type 0 → Type 0
@@ -72,7 +72,7 @@ counted_more : (graph : Graph) (frame : List ℕ) (i : ℕ) (whole : PlainApart)
     RaisesAll (made_in graph.stages i frame) old now → RaisesAll (stage_copies (get_or graph.stages i d) whole) now new → RaisesAll (made_in graph.stages (i + 1) frame) old new
 counted_more graph frame i whole old now new d inside there before here = λ f.
     raised_on (is_some (value f frame)) (count_of old f) (copies_in (take i graph.stages) f) (copies (get_or graph.stages i d).parts f) (copies_in (take (i + 1) graph.stages) f) (count_of now f) (count_of new f)
-    (before f) (here f ∙ ap (λ (t : Bool). raised (count_of now f) (if t then copies (get_or graph.stages i d).parts f else 0)) (sym (part_there (parts_of whole f)) ∙ there f)) (one_more graph.stages i d f inside)
+    (before f) (here f ∙ ap (λ (t : Bool). raised (count_of now f) (if t then copies (get_or graph.stages i d).parts f else 0)) (sym (part_there (packet_parts whole f)) ∙ there f)) (one_more graph.stages i d f inside)
 
 -- one stage more, behind which the packet goes on
 pub stage_passed : {F : Type 0} (b : Behaviour F) (graph : Graph) (time : ℕ) (frame : List ℕ) (first now after : List F) (i : ℕ) (whole next : PlainApart) (old new newer : List ℕ) (d : Stage) → Rising → StageKeepsFields F → StageKeepsProfiles F → KeepsProfile b →
@@ -185,7 +185,7 @@ stage_fails b graph time frame first now i whole old new newer d gone running wa
     ∙ ap (λ (l : List Stage). copies_in (take i graph.stages) f + copies_in (reached l fate) f) (drop_more graph.stages i d inside) in
     up_to (is_some (value f frame)) (count_of old f) (copies_in (take i graph.stages) f) (copies s.parts f) (copies_in (reached (s ∷ drop (i + 1) graph.stages) fate) f) (count_of new f) (count_of newer f) (copies_in (reached graph.stages fate) f)
     (way.counted f) (within f).0
-    (subst (λ (t : Bool). count_of newer f ≤ raised (count_of new f) (if t then copies s.parts f else 0)) (sym (part_there (parts_of whole f)) ∙ way.there f) (within f).1)
+    (subst (λ (t : Bool). count_of newer f ≤ raised (count_of new f) (if t then copies s.parts f else 0)) (sym (part_there (packet_parts whole f)) ∙ way.there f) (within f).1)
     all (first_reached s (drop (i + 1) graph.stages) fate f)
 
 pub nothing_made : (by : Field → ℕ) (tally : List ℕ) → RaisesUpTo by tally tally

@@ -18,7 +18,7 @@ use Rattle.graph_run.specs.Carrying.{values_in, as_end}
 use Rattle.graph_run.specs.Counting.{copies_of, RaisesAll, RaisesUpTo}
 use Rattle.graph_run.specs.Running.{IsRunning}
 use Rattle.graph_run.specs.Stages.{end_of, IsStageReady, LeavesStage, stage_copies}
-use Rattle.graph_run.proofs.Flowing.{IsFlowing, Rising, stage_ready}
+use Rattle.graph_run.proofs.WayThroughStages.{IsFlowing, Rising, stage_ready}
 use Rattle.graph_run.proofs.Onward.{StageKeepsFields, StageKeepsProfiles, GoneLater, IsWalk, Ends, stage_passed, stage_drops, stage_fails}
 
 -- what running a stage gave

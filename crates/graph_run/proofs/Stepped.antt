@@ -6,7 +6,7 @@ use Rattle.packet_version.specs.Views.{PlainView, viewed, wrote_all}
 use Rattle.chain_walk.specs.Step.{Behaviour, stepped, is_drop}
 use Rattle.chain_walk.specs.Laws.{KeepsProfile}
 use Rattle.chain_walk.specs.declared.verdict.Verdict.TheVariants.{Pass, Drop}
-use Rattle.graph_law.specs.Branches.{Arrival.Live, Arrival.Nil, moved_function, moved_arrival, written_at}
+use Rattle.graph_law.specs.Branches.{BranchEnd.Live, BranchEnd.Nil, moved_function, moved_end, written_at}
 use Rattle.packet_version.specs.Versions.{PlainVersion}
 use Rattle.graph_run.specs.Carrying.{as_version}
 use Rattle.graph_run.proofs.Writing.{as_wrote}
@@ -21,13 +21,13 @@ unfolding moved_function
 function_moved b q p f after v view sees is = is ∙ ap (λ w. (viewed b f w).after) sees
 
 pub passes : {F : Type 0} (b : Behaviour F) (q : ℕ) (p : Profile) (f : F) (v after : PlainVersion) (view left : PlainView) → KeepsProfile b → view ≡ seen_at q p v → Pass ≡ (viewed b f view).verdict →
-    left ≡ wrote_all (viewed b f view).written view → after ≡ left.version → Live (as_version after) ≡ moved_arrival b v.fixed q f (Live (as_version v))
-unfolding moved_arrival
+    left ≡ wrote_all (viewed b f view).written view → after ≡ left.version → Live (as_version after) ≡ moved_end b v.fixed q f (Live (as_version v))
+unfolding moved_end
 passes b q p f v after view left keeps sees decided wrote ends =
     ap (λ x. Live (as_version x)) (ends ∙ ap (λ w. w.version) wrote ∙ ap (λ w. (wrote_all (viewed b f w).written w).version) sees)
     ∙ ap (λ x. Live x) (as_wrote q (stepped b v.fixed f (as_version v).values).written v (only_there b v.fixed f v keeps))
     ∙ ap (λ verdict. if is_drop verdict then Nil q else Live (written_at q (stepped b v.fixed f (as_version v).values).written (as_version v))) (decided ∙ ap (λ w. (viewed b f w).verdict) sees)
 
-pub drops : {F : Type 0} (b : Behaviour F) (q : ℕ) (p : Profile) (f : F) (v : PlainVersion) (view : PlainView) → view ≡ seen_at q p v → Drop ≡ (viewed b f view).verdict → Nil q ≡ moved_arrival b v.fixed q f (Live (as_version v))
-unfolding moved_arrival
+pub drops : {F : Type 0} (b : Behaviour F) (q : ℕ) (p : Profile) (f : F) (v : PlainVersion) (view : PlainView) → view ≡ seen_at q p v → Drop ≡ (viewed b f view).verdict → Nil q ≡ moved_end b v.fixed q f (Live (as_version v))
+unfolding moved_end
 drops b q p f v view sees decided = ap (λ verdict. if is_drop verdict then Nil q else Live (written_at q (stepped b v.fixed f (as_version v).values).written (as_version v))) (decided ∙ ap (λ w. (viewed b f w).verdict) sees)

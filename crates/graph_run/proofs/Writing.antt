@@ -8,7 +8,7 @@ use Rattle.packet_fields.specs.declared.field.Field.{Field}
 use Rattle.chain_walk.specs.Shown.{Values}
 use Rattle.graph_law.specs.Branches.{writer_by, written_at}
 use Rattle.packet_version.specs.Parts.{PlainPart, Parts, writer_in}
-use Rattle.packet_version.specs.Versions.{PlainVersion, parts_of}
+use Rattle.packet_version.specs.Versions.{PlainVersion, version_parts}
 use Rattle.packet_version.specs.Views.{rewritten_by}
 use Rattle.graph_run.specs.Carrying.{as_version, wrote_at}
 use Rattle.graph_run.proofs.Listed.{map_of_list}
@@ -19,8 +19,8 @@ bytes_in part = option_map (λ p. p.bytes) part
 abbrev pub length_in : Option PlainPart → Option ℕ
 length_in part = option_map (λ p. length p.bytes) part
 
-pub part_after : (q : ℕ) (new : Values) (v : PlainVersion) (f : Field) → parts_of (wrote_at q new v) f ≡ rewritten_by (new f) q (parts_of v f)
-part_after q new v f = ap (λ (m : Parts). m f) (map_of_list (λ g. rewritten_by (new g) q (parts_of v g)))
+pub part_after : (q : ℕ) (new : Values) (v : PlainVersion) (f : Field) → version_parts (wrote_at q new v) f ≡ rewritten_by (new f) q (version_parts v f)
+part_after q new v f = ap (λ (m : Parts). m f) (map_of_list (λ g. rewritten_by (new g) q (version_parts v g)))
 
 bytes_after : (w : Option (List ℕ)) (o : Option PlainPart) (q : ℕ) → (is_some o ≡ false → w ≡ None) → bytes_in (rewritten_by w q o) ≡ option_or w (bytes_in o)
 bytes_after None o q h = refl
@@ -33,10 +33,10 @@ writer_after (Some w) None q h = absurd (none-some w (sym (h refl)))
 writer_after (Some w) (Some p) q h = refl
 
 -- what is written where there is a field is written in the version that the law sees
-pub as_wrote : (q : ℕ) (new : Values) (v : PlainVersion) → ((f : Field) → is_some (parts_of v f) ≡ false → new f ≡ None) → as_version (wrote_at q new v) ≡ written_at q new (as_version v)
+pub as_wrote : (q : ℕ) (new : Values) (v : PlainVersion) → ((f : Field) → is_some (version_parts v f) ≡ false → new f ≡ None) → as_version (wrote_at q new v) ≡ written_at q new (as_version v)
 as_wrote q new v there = λ i. record {
-  values = fun_ext (λ f. ap bytes_in (part_after q new v f) ∙ bytes_after (new f) (parts_of v f) q (there f)) i;
-  writers = fun_ext (λ f. ap writer_in (part_after q new v f) ∙ writer_after (new f) (parts_of v f) q (there f)) i;
+  values = fun_ext (λ f. ap bytes_in (part_after q new v f) ∙ bytes_after (new f) (version_parts v f) q (there f)) i;
+  writers = fun_ext (λ f. ap writer_in (part_after q new v f) ∙ writer_after (new f) (version_parts v f) q (there f)) i;
 }
 
 pub there_after : (w : Option (List ℕ)) (q : ℕ) (o : Option PlainPart) → is_some (rewritten_by w q o) ≡ is_some o

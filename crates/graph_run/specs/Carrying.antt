@@ -2,29 +2,29 @@
 use Rattle.std.specs.Prelude.{ℕ}
 use Rattle.chain_walk.specs.Shown.{Values}
 use Rattle.chain_walk.specs.FieldWalk.{End, End.Out, End.Gone}
-use Rattle.graph_law.specs.Branches.{Version, Arrival, Arrival.Live, Arrival.Nil}
+use Rattle.graph_law.specs.Branches.{Version, BranchEnd, BranchEnd.Live, BranchEnd.Nil}
 use Rattle.packet_version.specs.Parts.{as_list, values_of, writers_of}
-use Rattle.packet_version.specs.Splitting.{PlainApart, parts_of as parts_in}
-use Rattle.packet_version.specs.Versions.{PlainVersion, parts_of}
+use Rattle.packet_version.specs.Splitting.{PlainApart, packet_parts}
+use Rattle.packet_version.specs.Versions.{PlainVersion, version_parts}
 use Rattle.packet_version.specs.Views.{rewritten_by}
-use Rattle.merge_ops.specs.declared.arrival.Arrival.{Arrival as Came}
+use Rattle.merge_ops.specs.declared.arrival.Arrival.{Arrival}
 use Rattle.merge_ops.specs.declared.arrival.Arrival.TheVariants as came
 use Rattle.merge_ops.specs.declared.merging.Merged.{Merged}
 use Rattle.merge_ops.specs.declared.merging.Merged.TheVariants as ends
 
 -- the values and the last writers of a version
 abbrev pub as_version : PlainVersion → Version
-as_version version = record { values = values_of (parts_of version); writers = writers_of (parts_of version) }
+as_version version = record { values = values_of (version_parts version); writers = writers_of (version_parts version) }
 
 -- what comes from a branch; no branch of a run is short
-abbrev pub as_arrival : Came → Arrival
-as_arrival (came.Version version) = Live (as_version version)
-as_arrival (came.Nil position) = Nil position
-as_arrival came.Short = Nil 0
+abbrev pub as_branch_end : Arrival → BranchEnd
+as_branch_end (came.Version version) = Live (as_version version)
+as_branch_end (came.Nil position) = Nil position
+as_branch_end came.Short = Nil 0
 
 -- the values of a packet in parts
 abbrev pub values_in : PlainApart → Values
-values_in whole = values_of (parts_in whole)
+values_in whole = values_of (packet_parts whole)
 
 -- what comes of a packet behind a stage; no packet of a run is short
 abbrev pub as_end : Merged → End
@@ -34,4 +34,4 @@ as_end ends.Short = Gone 0
 
 -- the version once the function at this position wrote these values
 abbrev pub wrote_at : ℕ → Values → PlainVersion → PlainVersion
-wrote_at position new version = record version { parts = as_list (λ f. rewritten_by (new f) position (parts_of version f)) }
+wrote_at position new version = record version { parts = as_list (λ f. rewritten_by (new f) position (version_parts version f)) }

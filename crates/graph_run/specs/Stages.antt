@@ -7,8 +7,8 @@ use Rattle.action_profile.specs.declared.rights.Profile.{Profile}
 use Rattle.chain_walk.specs.Shown.{AreWellFormed}
 use Rattle.graph_compile.specs.Lawful.{IsLawfulStage, size}
 use Rattle.graph_compile.specs.declared.graph.Stage.{Stage}
-use Rattle.packet_version.specs.Splitting.{PlainApart, parts_of}
-use Rattle.merge_ops.specs.declared.arrival.Arrival.{Arrival as Came}
+use Rattle.packet_version.specs.Splitting.{PlainApart, packet_parts}
+use Rattle.merge_ops.specs.declared.arrival.Arrival.{Arrival}
 use Rattle.merge_ops.specs.declared.merging.Merged.{Merged}
 use Rattle.merge_ops.specs.declared.merging.Merged.TheVariants.{Whole, Gone, Short}
 use Rattle.graph_run.specs.Carrying.{values_in}
@@ -22,7 +22,7 @@ end_of first stage = first + size stage.branches
 -- A packet may go on from this position: its values are those of a frame, and its tags have room.
 pub record GoesFrom (chain : List Profile) (position : ℕ) (whole : PlainApart) : Type 0 where
   pub formed : AreWellFormed (values_in whole)
-  pub room : HasRoomFrom chain position (parts_of whole)
+  pub room : HasRoomFrom chain position (packet_parts whole)
 
 -- A packet is ready for a stage, whose first function has this position.
 pub record IsStageReady (chain : List Profile) (first : ℕ) (stage : Stage) (whole : PlainApart) : Type 0 where
@@ -46,11 +46,11 @@ LeavesStage chain next whole (Gone p) = Unit {0}
 LeavesStage chain next whole Short = ⊥
 
 -- what came from the branches with these touches, one from each
-unfoldable pub AllCarried : List Profile → PlainApart → ℕ → List Touch → List Came → Type 0
+unfoldable pub AllCarried : List Profile → PlainApart → ℕ → List Touch → List Arrival → Type 0
 AllCarried chain whole high [] [] = Unit {0}
 AllCarried chain whole high (t ∷ touches) (a ∷ arrivals) = IsCarriedBy chain whole t high a × AllCarried chain whole high touches arrivals
 AllCarried chain whole high touches arrivals = ⊥
 
 -- the copies of a field that a stage makes of a packet, where it has the field
 abbrev pub stage_copies : Stage → PlainApart → Field → ℕ
-stage_copies stage whole f = if is_some (parts_of whole f) then copies stage.parts f else 0
+stage_copies stage whole f = if is_some (packet_parts whole f) then copies stage.parts f else 0

@@ -6,9 +6,9 @@ use Rattle.chain_walk.specs.Shown.{Values, AreWellFormed}
 use Rattle.packet_version.specs.Parts.{values_of}
 use Rattle.graph_compile.specs.Parts.{profile_at}
 use Rattle.packet_version.specs.Splitting.{PlainApart}
-use Rattle.packet_version.specs.Versions.{PlainVersion, parts_of, HoldsNamed}
+use Rattle.packet_version.specs.Versions.{PlainVersion, version_parts, HoldsNamed}
 use Rattle.merge_ops.specs.Behind.{IsMadeOf}
-use Rattle.merge_ops.specs.declared.arrival.Arrival.{Arrival as Came}
+use Rattle.merge_ops.specs.declared.arrival.Arrival.{Arrival}
 use Rattle.merge_ops.specs.declared.arrival.Arrival.TheVariants as came
 use Rattle.graph_run.specs.Carrying.{wrote_at}
 use Rattle.graph_run.specs.Rooms.{HasRoomFrom}
@@ -22,8 +22,8 @@ Holds chain touch low high (q ∷ qs) = (1 ≤ q) × (low ≤ q) × ((p : Profil
 pub record IsCarried (chain : List Profile) (whole : PlainApart) (touch : Touch) (position : ℕ) (version : PlainVersion) : Type 0 where
   pub made : IsMadeOf whole touch version
   pub fixed : version.fixed ≡ whole.fixed
-  pub formed : AreWellFormed (values_of (parts_of version))
-  pub room : HasRoomFrom chain position (parts_of version)
+  pub formed : AreWellFormed (values_of (version_parts version))
+  pub room : HasRoomFrom chain position (version_parts version)
 
 -- A version is ready for the functions at these positions.
 pub record IsReady (chain : List Profile) (positions : List ℕ) (version : PlainVersion) : Type 0 where
@@ -34,13 +34,13 @@ pub record IsReady (chain : List Profile) (positions : List ℕ) (version : Plai
   pub carried : IsCarried chain whole version.touch low version
 
 -- what comes from a branch: a version that goes on from a position, or a drop
-abbrev pub IsCarriedBy : List Profile → PlainApart → Touch → ℕ → Came → Type 0
+abbrev pub IsCarriedBy : List Profile → PlainApart → Touch → ℕ → Arrival → Type 0
 IsCarriedBy chain whole touch position (came.Version version) = IsCarried chain whole touch position version
 IsCarriedBy chain whole touch position (came.Nil p) = Unit {0}
 IsCarriedBy chain whole touch position came.Short = ⊥
 
 -- a version that comes is the one that was there, with what the function at this position wrote
-abbrev pub IsWhatWasWritten : ℕ → Values → PlainVersion → Came → Type 0
+abbrev pub IsWhatWasWritten : ℕ → Values → PlainVersion → Arrival → Type 0
 IsWhatWasWritten position new version (came.Version after) = after ≡ wrote_at position new version
 IsWhatWasWritten position new version (came.Nil p) = Unit {0}
 IsWhatWasWritten position new version came.Short = ⊥

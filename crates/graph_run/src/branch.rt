@@ -1,11 +1,11 @@
 //! The functions of a branch, in turn.
 ghost use Rattle.std.specs.Prelude.{◌≡◌, ◌≤◌, ◌+◌, ℕ, true, length, map, IfOk, OnOk, IfSome};
 ghost use Rattle.packet_fields.specs.declared.field.Field.{Field};
-ghost use Rattle.packet_version.specs.Versions.{parts_of, HoldsNamed};
+ghost use Rattle.packet_version.specs.Versions.{version_parts, HoldsNamed};
 ghost use Rattle.chain_walk.specs.Step.{stepped};
-ghost use Rattle.graph_law.specs.Branches.{Arrival.Live, moved_function, moved_arrival, in_turn};
+ghost use Rattle.graph_law.specs.Branches.{BranchEnd.Live, moved_function, moved_end, in_turn};
 ghost use Rattle.packet_version.specs.Splitting.{PlainApart};
-ghost use Rattle.graph_run.specs.Carrying.{as_version, as_arrival, wrote_at};
+ghost use Rattle.graph_run.specs.Carrying.{as_version, as_branch_end, wrote_at};
 ghost use Rattle.graph_run.specs.Running.{profiles_of};
 ghost use Rattle.graph_run.specs.Staging.{Holds, IsReady, IsCarried, IsCarriedBy, IsWhatWasWritten};
 
@@ -25,9 +25,9 @@ fn step_on<F: Function, R: Wait>(
 ) -> Result<Arrival, AllocError>
     requires position { 1 ≤ position }
     requires holds { HoldsNamed (F.behaviour.profile function.old) version.touch }
-    requires room { (F.behaviour.profile function.old).adds ≡ true → IfSome (parts_of version Field.Tag) (λ tags. length tags.bytes + 4 ≤ tags.room) }
+    requires room { (F.behaviour.profile function.old).adds ≡ true → IfSome (version_parts version Field.Tag) (λ tags. length tags.bytes + 4 ≤ tags.room) }
     ensures function { OnOk result (function.new ≡ moved_function F.behaviour version.fixed function.old (Live (as_version version))) }
-    ensures arrival { IfOk result (λ arrival. as_arrival arrival ≡ moved_arrival F.behaviour version.fixed position function.old (Live (as_version version))) }
+    ensures arrival { IfOk result (λ arrival. as_branch_end arrival ≡ moved_end F.behaviour version.fixed position function.old (Live (as_version version))) }
     ensures written { IfOk result (IsWhatWasWritten position (stepped F.behaviour version.fixed function.old (as_version version).values).written version) }
 {
     let profile = function.profile();
@@ -50,7 +50,7 @@ pub(crate) fn run_branch<F: Function, R: Wait>(
 ) -> Result<Arrival, AllocError>
     requires ready { IsReady (profiles_of F.behaviour functions.old) positions.now version }
     ensures functions { OnOk result (functions.new ≡ (in_turn F.behaviour version.fixed positions.now functions.old (Live (as_version version))).functions) }
-    ensures arrival { IfOk result (λ arrival. as_arrival arrival ≡ (in_turn F.behaviour version.fixed positions.now functions.old (Live (as_version version))).arrival) }
+    ensures arrival { IfOk result (λ arrival. as_branch_end arrival ≡ (in_turn F.behaviour version.fixed positions.now functions.old (Live (as_version version))).arrival) }
     // What comes may be merged, and has room for the functions that follow.
     ensures carried { (whole : PlainApart) (low high : ℕ) → Holds (profiles_of F.behaviour functions.old) version.touch low high positions.now → IsCarried (profiles_of F.behaviour functions.old) whole version.touch low version →
         IfOk result (IsCarriedBy (profiles_of F.behaviour functions.old) whole version.touch high) }

@@ -13,10 +13,10 @@ use Rattle.packet_fields.specs.Fields.{number_of}
 use Rattle.packet_fields.specs.declared.field.Field.{Field}
 use Rattle.packet_fields.specs.declared.field.Field.TheVariants.{LinkDst, LinkSrc, Tag, Tos, Ttl, SrcIp, DstIp, SrcPort, DstPort, Payload}
 use Rattle.packet_version.specs.Parts.{PlainPart, Parts, changed, is_field, writer_in}
-use Rattle.packet_version.specs.Splitting.{PlainApart, parts_of as parts_in}
-use Rattle.packet_version.specs.Versions.{parts_of}
+use Rattle.packet_version.specs.Splitting.{PlainApart, packet_parts}
+use Rattle.packet_version.specs.Versions.{version_parts}
 use Rattle.packet_version.proofs.Maps.{as_map-listed}
-use Rattle.packet_version.proofs.Stepping.{same_field}
+use Rattle.packet_version.proofs.DealtByField.{same_field}
 use Rattle.merge_ops.specs.Merging.{part_of, writer_of, last_writer, op_from, op_of}
 use Rattle.merge_ops.specs.Taking.{writes_in, without, arrival_at, branch_of, source, part_from, part_behind, merged_parts, with_parts, IsWritten, SameIn}
 use Rattle.merge_ops.specs.declared.arrival.Arrival.{Arrival}
@@ -33,7 +33,7 @@ other_field f g apart = by_test (is_field g f) refl
     by_test false e = e
 
 without_part : (f g : Field) (a : Arrival) → f ≢ g → part_of f (without g a) ≡ part_of f a
-without_part f g (Version v) apart = ap (λ (m : Parts). m f) (as_map-listed (changed g None (parts_of v))) ∙ ap (λ (b : Bool). if b then None else parts_of v f) (other_field f g apart)
+without_part f g (Version v) apart = ap (λ (m : Parts). m f) (as_map-listed (changed g None (version_parts v))) ∙ ap (λ (b : Bool). if b then None else version_parts v f) (other_field f g apart)
 without_part f g (Nil p) apart = refl
 without_part f g Short apart = refl
 
@@ -171,24 +171,24 @@ way_all done left = fun_ext all
     all Payload = refl
 
 abbrev pub on_way : ℕ → PlainApart → List Arrival → PlainApart
-on_way i first arrivals = with_parts first (way i (merged_parts first arrivals) (parts_in first))
+on_way i first arrivals = with_parts first (way i (merged_parts first arrivals) (packet_parts first))
 
-pub way_parts : (i : ℕ) (first was : PlainApart) (old : List Arrival) → was ≡ on_way i first old → parts_in was ≡ way i (merged_parts first old) (parts_in first)
-way_parts i first was old e = ap parts_in e ∙ as_map-listed (way i (merged_parts first old) (parts_in first))
+pub way_parts : (i : ℕ) (first was : PlainApart) (old : List Arrival) → was ≡ on_way i first old → packet_parts was ≡ way i (merged_parts first old) (packet_parts first)
+way_parts i first was old e = ap packet_parts e ∙ as_map-listed (way i (merged_parts first old) (packet_parts first))
 
-merged_by_op : (f : Field) (op : MergeOp) (first : PlainApart) (old now : List Arrival) → op ≡ op_of old f → SameIn f old now → part_behind f now (branch_of op) (parts_in first f) ≡ merged_parts first old f
+merged_by_op : (f : Field) (op : MergeOp) (first : PlainApart) (old now : List Arrival) → op ≡ op_of old f → SameIn f old now → part_behind f now (branch_of op) (packet_parts first f) ≡ merged_parts first old f
 unfolding merged_parts
 merged_by_op f op first old now is s =
-    ap (λ (b : Option ℕ). part_behind f now b (parts_in first f)) (ap branch_of is ∙ op_branch f (last_writer old f)) ∙ same_behind f old now (last_writer old f) (parts_in first f) s
+    ap (λ (b : Option ℕ). part_behind f now b (packet_parts first f)) (ap branch_of is ∙ op_branch f (last_writer old f)) ∙ same_behind f old now (last_writer old f) (packet_parts first f) s
 
 -- one part more
-pub put_next : (f : Field) (i : ℕ) (op : MergeOp) (first was next : PlainApart) (old now : List Arrival) → number_of f ≡ i → op ≡ op_of old f → SameIn f old now → was ≡ on_way i first old → next ≡ with_parts was (changed f (part_behind f now (branch_of op) (parts_in was f)) (parts_in was)) → next ≡ on_way (i + 1) first old
+pub put_next : (f : Field) (i : ℕ) (op : MergeOp) (first was next : PlainApart) (old now : List Arrival) → number_of f ≡ i → op ≡ op_of old f → SameIn f old now → was ≡ on_way i first old → next ≡ with_parts was (changed f (part_behind f now (branch_of op) (packet_parts was f)) (packet_parts was)) → next ≡ on_way (i + 1) first old
 put_next f i op first was next old now is made s e step =
     let done = merged_parts first old in
-    let parts : parts_in was ≡ way i done (parts_in first) = way_parts i first was old e in
-    let here : parts_in was f ≡ parts_in first f = ap (λ (m : Parts). m f) parts ∙ way_by i done (parts_in first) f false (lt_self (number_of f) i is) in
-    let part : part_behind f now (branch_of op) (parts_in was f) ≡ done f = ap (λ (o : Option PlainPart). part_behind f now (branch_of op) o) here ∙ merged_by_op f op first old now made s in
+    let parts : packet_parts was ≡ way i done (packet_parts first) = way_parts i first was old e in
+    let here : packet_parts was f ≡ packet_parts first f = ap (λ (m : Parts). m f) parts ∙ way_by i done (packet_parts first) f false (lt_self (number_of f) i is) in
+    let part : part_behind f now (branch_of op) (packet_parts was f) ≡ done f = ap (λ (o : Option PlainPart). part_behind f now (branch_of op) o) here ∙ merged_by_op f op first old now made s in
     step
-    ∙ (ap (λ (w : PlainApart). with_parts w (changed f (part_behind f now (branch_of op) (parts_in was f)) (parts_in was))) e
-    ∙ (ap (λ (m : Parts). with_parts first (changed f (part_behind f now (branch_of op) (parts_in was f)) m)) parts
-    ∙ ap (λ (m : Parts). with_parts first m) (fun_ext (λ g. way_next f i done (parts_in first) (part_behind f now (branch_of op) (parts_in was f)) g is part))))
+    ∙ (ap (λ (w : PlainApart). with_parts w (changed f (part_behind f now (branch_of op) (packet_parts was f)) (packet_parts was))) e
+    ∙ (ap (λ (m : Parts). with_parts first (changed f (part_behind f now (branch_of op) (packet_parts was f)) m)) parts
+    ∙ ap (λ (m : Parts). with_parts first m) (fun_ext (λ g. way_next f i done (packet_parts first) (part_behind f now (branch_of op) (packet_parts was f)) g is part))))

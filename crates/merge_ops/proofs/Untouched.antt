@@ -10,8 +10,8 @@ use Rattle.action_profile.specs.FieldSets.{all_fields}
 use Rattle.action_profile.specs.declared.parts.Touch.{Touch}
 use Rattle.action_profile.specs.Modes.{has_touch}
 use Rattle.packet_version.specs.Parts.{PlainPart, Parts, unwritten, values_of, writers_of, writer_in}
-use Rattle.packet_version.specs.Splitting.{PlainApart, IsWhole, joined, parts_of}
-use Rattle.packet_version.specs.Versions.{parts_of as parts_in}
+use Rattle.packet_version.specs.Splitting.{PlainApart, IsWhole, joined, packet_parts}
+use Rattle.packet_version.specs.Versions.{version_parts}
 use Rattle.packet_version.specs.Dealing.{dealt, dealt_parts, based}
 use Rattle.packet_version.proofs.Maps.{as_map-listed}
 use Rattle.merge_ops.specs.Merging.{is_short, least_nil, writer_of, greatest_writer, last_writer, op_of, op_from, decided_by, decision_of}
@@ -26,7 +26,7 @@ use Rattle.merge_ops.specs.declared.decision.Decision.TheVariants.{Take, Short a
 use Rattle.merge_ops.proofs.Whole.{merged_value}
 
 -- a field behind the stage, of the values
-pub packet_value : (whole : PlainApart) (touches : List Touch) (base : PlainApart) (arrivals : List Arrival) (ops : List MergeOp) (f : Field) → AreFrom whole touches base arrivals → decision_of arrivals ≡ Take ops → values_of (parts_of (merged_packet base arrivals)) f ≡ value_behind whole arrivals f
+pub packet_value : (whole : PlainApart) (touches : List Touch) (base : PlainApart) (arrivals : List Arrival) (ops : List MergeOp) (f : Field) → AreFrom whole touches base arrivals → decision_of arrivals ≡ Take ops → values_of (packet_parts (merged_packet base arrivals)) f ≡ value_behind whole arrivals f
 packet_value whole touches base arrivals ops f from on =
     ap (λ (m : Parts). values_of m f) (as_map-listed (merged_parts base arrivals)) ∙ merged_value whole touches base arrivals ops f from on
 
@@ -36,12 +36,12 @@ nobody true (Some p) = refl
 nobody false o = refl
 
 -- nobody wrote what a branch is dealt
-dealt_writer : (whole : PlainApart) (touch : Touch) (f : Field) → writers_of (parts_in (dealt whole touch)) f ≡ 0
-dealt_writer whole touch f = ap (λ (m : Parts). writers_of m f) (as_map-listed (dealt_parts touch (parts_of whole))) ∙ nobody (has_touch f touch) (parts_of whole f)
+dealt_writer : (whole : PlainApart) (touch : Touch) (f : Field) → writers_of (version_parts (dealt whole touch)) f ≡ 0
+dealt_writer whole touch f = ap (λ (m : Parts). writers_of m f) (as_map-listed (dealt_parts touch (packet_parts whole))) ∙ nobody (has_touch f touch) (packet_parts whole f)
 
 pub dealt_made : (whole : PlainApart) (touch : Touch) → IsMadeOf whole touch (dealt whole touch)
 dealt_made whole touch =
-    let read = as_map-listed (dealt_parts touch (parts_of whole)) in
+    let read = as_map-listed (dealt_parts touch (packet_parts whole)) in
     record {
       touched = refl;
       there = λ f. ap (λ (m : Parts). is_some (m f)) read;
@@ -49,7 +49,7 @@ dealt_made whole touch =
       lengths = λ f apart. ap (λ (m : Parts). lengths_of m f) read;
     }
 
-pub dealt_from : (whole : PlainApart) (touches : List Touch) → IsWhole (parts_of whole) whole.rest → AreFrom whole touches (based touches whole) (dealt_arrivals whole touches)
+pub dealt_from : (whole : PlainApart) (touches : List Touch) → IsWhole (packet_parts whole) whole.rest → AreFrom whole touches (based touches whole) (dealt_arrivals whole touches)
 dealt_from whole touches fits = record {
   fits = fits;
   behind = refl;
@@ -86,7 +86,7 @@ dealt_kept whole touches =
     ∙ (ap (λ (o : Option ℕ). decided_by arrivals o) (none_dropped whole touches)
     ∙ ap (λ (ops : List MergeOp). let d : Decision = Take ops in d) (keeps_all arrivals (none_last whole touches)))
 
-pub dealt_same : (whole : PlainApart) (touches : List Touch) → IsWhole (parts_of whole) whole.rest → joined (merged_packet (based touches whole) (dealt_arrivals whole touches)) ≡ joined whole
+pub dealt_same : (whole : PlainApart) (touches : List Touch) → IsWhole (packet_parts whole) whole.rest → joined (merged_packet (based touches whole) (dealt_arrivals whole touches)) ≡ joined whole
 dealt_same whole touches fits =
     let arrivals = dealt_arrivals whole touches in
     ap (λ (values : Field → Option (List ℕ)). written values whole.rest) (fun_ext (λ f. packet_value whole touches (based touches whole) arrivals (map (λ g. Keep) all_fields) f (dealt_from whole touches fits) (dealt_kept whole touches) ∙ ap (λ (o : Option ℕ). value_by whole arrivals f o) (none_last whole touches f)))

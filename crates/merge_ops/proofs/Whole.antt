@@ -13,8 +13,8 @@ use Rattle.action_profile.specs.declared.parts.Touch.{Touch}
 use Rattle.action_profile.specs.Modes.{has_write, has_touch, mode_of, written_mode}
 use Rattle.packet_version.specs.Parts.{PlainPart, Parts, unwritten, values_of, writers_of, writer_in}
 use Rattle.packet_version.specs.Parts.{AreTags}
-use Rattle.packet_version.specs.Splitting.{PlainApart, IsWhole, parts_of}
-use Rattle.packet_version.specs.Versions.{PlainVersion, parts_of as parts_in}
+use Rattle.packet_version.specs.Splitting.{PlainApart, IsWhole, packet_parts}
+use Rattle.packet_version.specs.Versions.{PlainVersion, version_parts}
 use Rattle.packet_version.specs.Dealing.{dealt_parts, kept_part, kept_parts, based, is_given}
 use Rattle.packet_version.proofs.Firsts.{none-position, any-none}
 use Rattle.packet_version.proofs.Maps.{as_map-listed}
@@ -59,10 +59,10 @@ touch_write false w e = e
 dealt_write : (touch : Touch) (parts : Parts) (f : Field) → has_write f touch ≡ true → dealt_parts touch parts f ≡ option_map unwritten (parts f)
 dealt_write touch parts f w = ap (λ (b : Bool). if b then option_map unwritten (parts f) else None) (touch_write (has touch.reads f) (has touch.writes f) w)
 
-made_alike : (whole : PlainApart) (touch : Touch) (v : PlainVersion) (f : Field) → IsMadeOf whole touch v → dealt_parts touch (parts_of whole) f ≡ option_map unwritten (parts_of whole f) → Alike f (parts_in v f) (parts_of whole f)
+made_alike : (whole : PlainApart) (touch : Touch) (v : PlainVersion) (f : Field) → IsMadeOf whole touch v → dealt_parts touch (packet_parts whole) f ≡ option_map unwritten (packet_parts whole f) → Alike f (version_parts v f) (packet_parts whole f)
 made_alike whole touch v f m d = record {
-  there = m.there f ∙ (ap (λ (o : Option PlainPart). is_some o) d ∙ unwritten_there (parts_of whole f));
-  lengths = λ apart. m.lengths f apart ∙ (ap length_in d ∙ unwritten_length (parts_of whole f));
+  there = m.there f ∙ (ap (λ (o : Option PlainPart). is_some o) d ∙ unwritten_there (packet_parts whole f));
+  lengths = λ apart. m.lengths f apart ∙ (ap length_in d ∙ unwritten_length (packet_parts whole f));
 }
 
 -- a branch that is dealt a field has the packet's part
@@ -77,22 +77,22 @@ there_written : (part : Option PlainPart) → writer_in part ≢ 0 → is_some p
 there_written None w = absurd (w refl)
 there_written (Some p) w = refl
 
-made_own : (whole : PlainApart) (touch : Touch) (v : PlainVersion) (f : Field) → IsMadeOf whole touch v → has_write f touch ≡ true → writers_of (parts_in v) f ≡ 0 → bytes_in (parts_in v f) ≡ bytes_in (parts_of whole f)
-made_own whole touch v f m w zero = m.own f zero ∙ (ap bytes_in (dealt_write touch (parts_of whole) f w) ∙ unwritten_bytes (parts_of whole f))
+made_own : (whole : PlainApart) (touch : Touch) (v : PlainVersion) (f : Field) → IsMadeOf whole touch v → has_write f touch ≡ true → writers_of (version_parts v) f ≡ 0 → bytes_in (version_parts v f) ≡ bytes_in (packet_parts whole f)
+made_own whole touch v f m w zero = m.own f zero ∙ (ap bytes_in (dealt_write touch (packet_parts whole) f w) ∙ unwritten_bytes (packet_parts whole f))
 
 -- an arrival in which a field was written
-wrote_alike : (whole : PlainApart) (touch : Touch) (a : Arrival) (f : Field) → IsFrom whole touch a → writer_of f a ≢ 0 → Alike f (part_of f a) (parts_of whole f)
-wrote_alike whole touch (Version v) f m w = made_alike whole touch v f m (dealt_there touch (parts_of whole) f (sym (m.there f) ∙ there_written (parts_in v f) w))
+wrote_alike : (whole : PlainApart) (touch : Touch) (a : Arrival) (f : Field) → IsFrom whole touch a → writer_of f a ≢ 0 → Alike f (part_of f a) (packet_parts whole f)
+wrote_alike whole touch (Version v) f m w = made_alike whole touch v f m (dealt_there touch (packet_parts whole) f (sym (m.there f) ∙ there_written (version_parts v f) w))
 wrote_alike whole touch (Nil p) f m w = absurd (w refl)
 wrote_alike whole touch Short f m w = absurd (w refl)
 
 -- an arrival of a branch that writes it
-from_alike : (whole : PlainApart) (touch : Touch) (a : Arrival) (f : Field) → IsFrom whole touch a → writes_in f a ≡ true → Alike f (part_of f a) (parts_of whole f)
-from_alike whole touch (Version v) f m w = made_alike whole touch v f m (dealt_write touch (parts_of whole) f (sym (ap (λ (t : Touch). has_write f t) m.touched) ∙ w))
+from_alike : (whole : PlainApart) (touch : Touch) (a : Arrival) (f : Field) → IsFrom whole touch a → writes_in f a ≡ true → Alike f (part_of f a) (packet_parts whole f)
+from_alike whole touch (Version v) f m w = made_alike whole touch v f m (dealt_write touch (packet_parts whole) f (sym (ap (λ (t : Touch). has_write f t) m.touched) ∙ w))
 from_alike whole touch (Nil p) f m w = absurd (cc)
 from_alike whole touch Short f m w = absurd (cc)
 
-from_own : (whole : PlainApart) (touch : Touch) (a : Arrival) (f : Field) → IsFrom whole touch a → writes_in f a ≡ true → writer_of f a ≡ 0 → bytes_in (part_of f a) ≡ bytes_in (parts_of whole f)
+from_own : (whole : PlainApart) (touch : Touch) (a : Arrival) (f : Field) → IsFrom whole touch a → writes_in f a ≡ true → writer_of f a ≡ 0 → bytes_in (part_of f a) ≡ bytes_in (packet_parts whole f)
 from_own whole touch (Version v) f m w zero = made_own whole touch v f m (sym (ap (λ (t : Touch). has_write f t) m.touched) ∙ w) zero
 from_own whole touch (Nil p) f m w zero = absurd (cc)
 from_own whole touch Short f m w zero = absurd (cc)
@@ -111,9 +111,9 @@ or_none None = refl
 or_none (Some p) = refl
 
 -- what the base kept
-based_part : (whole : PlainApart) (touches : List Touch) (base : PlainApart) (f : Field) → base ≡ based touches whole → parts_of base f ≡ kept_part (mode_of touches f) (parts_of whole f)
+based_part : (whole : PlainApart) (touches : List Touch) (base : PlainApart) (f : Field) → base ≡ based touches whole → packet_parts base f ≡ kept_part (mode_of touches f) (packet_parts whole f)
 based_part whole touches base f e =
-    ap (λ (b : PlainApart). parts_of b f) e ∙ ap (λ (m : Parts). m f) (as_map-listed (kept_parts touches (parts_of whole)))
+    ap (λ (b : PlainApart). packet_parts b f) e ∙ ap (λ (m : Parts). m f) (as_map-listed (kept_parts touches (packet_parts whole)))
 
 kept_by : (b : Bool) (o : Option PlainPart) (p : PlainPart) → (if b then None else option_map unwritten o) ≡ Some p → option_map unwritten o ≡ Some p
 kept_by true o p e = absurd (cc)
@@ -141,10 +141,10 @@ none_writes whole touches base arrivals ops f from on none (Some b) e =
 
 -- The part of a field behind the stage: it has the shape of the packet's own, and the value that was written last.
 record IsBehind (whole : PlainApart) (arrivals : List Arrival) (f : Field) (last : Option ℕ) (part : Option PlainPart) : Type 0 where
-  alike : Alike f part (parts_of whole f)
+  alike : Alike f part (packet_parts whole f)
   value : bytes_in part ≡ value_by whole arrivals f last
 
-by_first : (whole : PlainApart) (touches : List Touch) (base : PlainApart) (arrivals : List Arrival) (ops : List MergeOp) (f : Field) → AreFrom whole touches base arrivals → GoesOn arrivals ops → last_writer arrivals f ≡ None → parts_of base f ≡ None → (o : Option ℕ) → position (writes_in f) arrivals ≡ o → IsBehind whole arrivals f None (option_or (part_from f arrivals o) None)
+by_first : (whole : PlainApart) (touches : List Touch) (base : PlainApart) (arrivals : List Arrival) (ops : List MergeOp) (f : Field) → AreFrom whole touches base arrivals → GoesOn arrivals ops → last_writer arrivals f ≡ None → packet_parts base f ≡ None → (o : Option ℕ) → position (writes_in f) arrivals ≡ o → IsBehind whole arrivals f None (option_or (part_from f arrivals o) None)
 by_first whole touches base arrivals ops f from on last own (Some b) e =
     let found = position-Some (writes_in f) arrivals b Short e in
     let below : b < length touches = (let inside : b < length arrivals = found.0 in let count = from.count in omega arith) in
@@ -156,17 +156,17 @@ by_first whole touches base arrivals ops f from on last own (Some b) e =
     })
 by_first whole touches base arrivals ops f from on last own None e =
     let free : is_given (mode_of touches f) ≡ false = ap is_given (shared_mode touches f (none_writes whole touches base arrivals ops f from on e (position (has_write f) touches) refl)) in
-    let lacks = given_by (is_given (mode_of touches f)) (parts_of whole f) free (sym (based_part whole touches base f from.behind) ∙ own) in
-    nothing (parts_of whole f) refl lacks
+    let lacks = given_by (is_given (mode_of touches f)) (packet_parts whole f) free (sym (based_part whole touches base f from.behind) ∙ own) in
+    nothing (packet_parts whole f) refl lacks
   where
-    nothing : (o : Option PlainPart) → parts_of whole f ≡ o → is_some o ≡ false → IsBehind whole arrivals f None None
+    nothing : (o : Option PlainPart) → packet_parts whole f ≡ o → is_some o ≡ false → IsBehind whole arrivals f None None
     nothing None is lacks = record {
       alike = record { there = sym (ap (λ (p : Option PlainPart). is_some p) is); lengths = λ apart. sym (ap length_in is) };
       value = sym (ap bytes_in is);
     }
     nothing (Some p) is lacks = absurd (cc)
 
-behind : (whole : PlainApart) (touches : List Touch) (base : PlainApart) (arrivals : List Arrival) (ops : List MergeOp) (f : Field) → AreFrom whole touches base arrivals → GoesOn arrivals ops → (last : Option ℕ) → last_writer arrivals f ≡ last → (own : Option PlainPart) → parts_of base f ≡ own → IsBehind whole arrivals f last (part_behind f arrivals last own)
+behind : (whole : PlainApart) (touches : List Touch) (base : PlainApart) (arrivals : List Arrival) (ops : List MergeOp) (f : Field) → AreFrom whole touches base arrivals → GoesOn arrivals ops → (last : Option ℕ) → last_writer arrivals f ≡ last → (own : Option PlainPart) → packet_parts base f ≡ own → IsBehind whole arrivals f last (part_behind f arrivals last own)
 behind whole touches base arrivals ops f from on (Some b) e own is =
     let last = last_is arrivals f b e in
     let below : b < length touches = (let inside : b < length arrivals = last.below in let count = from.count in omega arith) in
@@ -177,19 +177,19 @@ behind whole touches base arrivals ops f from on (Some b) e own is =
       value = refl;
     })
 behind whole touches base arrivals ops f from on None e (Some p) is =
-    let kept : option_map unwritten (parts_of whole f) ≡ Some p = kept_by (is_given (mode_of touches f)) (parts_of whole f) p (sym (based_part whole touches base f from.behind) ∙ is) in
+    let kept : option_map unwritten (packet_parts whole f) ≡ Some p = kept_by (is_given (mode_of touches f)) (packet_parts whole f) p (sym (based_part whole touches base f from.behind) ∙ is) in
     record {
       alike = record {
-        there = sym (ap (λ (o : Option PlainPart). is_some o) kept) ∙ unwritten_there (parts_of whole f);
-        lengths = λ apart. sym (ap length_in kept) ∙ unwritten_length (parts_of whole f);
+        there = sym (ap (λ (o : Option PlainPart). is_some o) kept) ∙ unwritten_there (packet_parts whole f);
+        lengths = λ apart. sym (ap length_in kept) ∙ unwritten_length (packet_parts whole f);
       };
-      value = sym (ap bytes_in kept) ∙ unwritten_bytes (parts_of whole f);
+      value = sym (ap bytes_in kept) ∙ unwritten_bytes (packet_parts whole f);
     }
 behind whole touches base arrivals ops f from on None e None is = by_first whole touches base arrivals ops f from on e is (position (writes_in f) arrivals) refl
 
 merged_behind : (whole : PlainApart) (touches : List Touch) (base : PlainApart) (arrivals : List Arrival) (ops : List MergeOp) (f : Field) → AreFrom whole touches base arrivals → GoesOn arrivals ops → IsBehind whole arrivals f (last_writer arrivals f) (merged_parts base arrivals f)
 unfolding merged_parts
-merged_behind whole touches base arrivals ops f from on = behind whole touches base arrivals ops f from on (last_writer arrivals f) refl (parts_of base f) refl
+merged_behind whole touches base arrivals ops f from on = behind whole touches base arrivals ops f from on (last_writer arrivals f) refl (packet_parts base f) refl
 
 -- each field has the value that was written last
 pub merged_value : (whole : PlainApart) (touches : List Touch) (base : PlainApart) (arrivals : List Arrival) (ops : List MergeOp) (f : Field) → AreFrom whole touches base arrivals → decision_of arrivals ≡ Take ops → values_of (merged_parts base arrivals) f ≡ value_behind whole arrivals f
@@ -201,16 +201,16 @@ tags_by false None frame fits = tt
 tags_by false (Some p) frame fits = fits.1
 
 -- the tags that the base kept are whole
-pub kept_tags : (whole : PlainApart) (touches : List Touch) (base : PlainApart) (arrivals : List Arrival) → AreFrom whole touches base arrivals → AreTags (parts_of base Tag)
-kept_tags whole touches base arrivals from = subst AreTags (sym (based_part whole touches base Tag from.behind)) (tags_by (is_given (mode_of touches Tag)) (parts_of whole Tag) whole.rest (from.fits.fits Tag))
+pub kept_tags : (whole : PlainApart) (touches : List Touch) (base : PlainApart) (arrivals : List Arrival) → AreFrom whole touches base arrivals → AreTags (packet_parts base Tag)
+kept_tags whole touches base arrivals from = subst AreTags (sym (based_part whole touches base Tag from.behind)) (tags_by (is_given (mode_of touches Tag)) (packet_parts whole Tag) whole.rest (from.fits.fits Tag))
 
 -- so what is put together fits the rest
-pub whole_behind : (whole : PlainApart) (touches : List Touch) (base made : PlainApart) (arrivals : List Arrival) (ops : List MergeOp) → AreFrom whole touches base arrivals → Take ops ≡ decision_of arrivals → made ≡ with_parts base (merged_parts base arrivals) → AreTags (parts_of made Tag) → IsWhole (parts_of made) made.rest
+pub whole_behind : (whole : PlainApart) (touches : List Touch) (base made : PlainApart) (arrivals : List Arrival) (ops : List MergeOp) → AreFrom whole touches base arrivals → Take ops ≡ decision_of arrivals → made ≡ with_parts base (merged_parts base arrivals) → AreTags (packet_parts made Tag) → IsWhole (packet_parts made) made.rest
 whole_behind whole touches base made arrivals ops from on is tags =
     let done = goes_on arrivals ops on in
-    let parts : parts_of made ≡ merged_parts base arrivals = ap parts_of is ∙ as_map-listed (merged_parts base arrivals) in
+    let parts : packet_parts made ≡ merged_parts base arrivals = ap packet_parts is ∙ as_map-listed (merged_parts base arrivals) in
     let rest : whole.rest ≡ made.rest = sym (ap (λ (w : PlainApart). w.rest) is ∙ ap (λ (w : PlainApart). w.rest) from.behind) in
-    subst (λ (r : List ℕ). IsWhole (parts_of made) r) rest (shaped_whole (parts_of whole) (parts_of made) whole.rest from.fits (record {
+    subst (λ (r : List ℕ). IsWhole (packet_parts made) r) rest (shaped_whole (packet_parts whole) (packet_parts made) whole.rest from.fits (record {
       there = λ f. ap (λ (m : Parts). is_some (m f)) parts ∙ (merged_behind whole touches base arrivals ops f from done).alike.there;
       lengths = λ f apart. ap (λ (m : Parts). length_in (m f)) parts ∙ (merged_behind whole touches base arrivals ops f from done).alike.lengths apart;
       tags = tags;

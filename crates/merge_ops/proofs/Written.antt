@@ -8,27 +8,27 @@ use Rattle.packet_fields.specs.declared.field.Field.TheVariants.{Tag}
 use Rattle.action_profile.specs.declared.parts.Touch.{Touch}
 use Rattle.action_profile.specs.Modes.{has_write}
 use Rattle.packet_version.specs.Parts.{PlainPart, Parts, changed, is_field, writer_in}
-use Rattle.packet_version.specs.Splitting.{PlainApart, parts_of}
-use Rattle.packet_version.specs.Versions.{PlainVersion, parts_of as parts_in, with_part}
+use Rattle.packet_version.specs.Splitting.{PlainApart, packet_parts}
+use Rattle.packet_version.specs.Versions.{PlainVersion, version_parts, with_part}
 use Rattle.packet_version.specs.Dealing.{dealt_parts}
 use Rattle.packet_version.proofs.Maps.{as_map-listed}
-use Rattle.packet_version.proofs.Stepping.{same_field}
+use Rattle.packet_version.proofs.DealtByField.{same_field}
 use Rattle.merge_ops.specs.Behind.{IsMadeOf}
 
 abbrev length_in : Option PlainPart → Option ℕ
 length_in part = option_map (λ p. length p.bytes) part
 
 -- what holds of the new part and of each other one holds of every field
-changed_cases : (f g : Field) (part : Option PlainPart) (v : PlainVersion) (P : Option PlainPart → Type 0) → (f ≡ g → P part) → P (parts_in v g) → P (parts_in (with_part f part v) g)
+changed_cases : (f g : Field) (part : Option PlainPart) (v : PlainVersion) (P : Option PlainPart → Type 0) → (f ≡ g → P part) → P (version_parts v g) → P (version_parts (with_part f part v) g)
 changed_cases f g part v P own other = by_test (is_field f g) refl
   where
-    by_test : (b : Bool) → is_field f g ≡ b → P (parts_in (with_part f part v) g)
-    by_test true e = subst P (sym (ap (λ (m : Parts). m g) (as_map-listed (changed f part (parts_in v))) ∙ ap (λ (b : Bool). if b then part else parts_in v g) e)) (own (same_field f g ((Decides-eqb (number_of f) (number_of g)).0 e)))
-    by_test false e = subst P (sym (ap (λ (m : Parts). m g) (as_map-listed (changed f part (parts_in v))) ∙ ap (λ (b : Bool). if b then part else parts_in v g) e)) other
+    by_test : (b : Bool) → is_field f g ≡ b → P (version_parts (with_part f part v) g)
+    by_test true e = subst P (sym (ap (λ (m : Parts). m g) (as_map-listed (changed f part (version_parts v))) ∙ ap (λ (b : Bool). if b then part else version_parts v g) e)) (own (same_field f g ((Decides-eqb (number_of f) (number_of g)).0 e)))
+    by_test false e = subst P (sym (ap (λ (m : Parts). m g) (as_map-listed (changed f part (version_parts v))) ∙ ap (λ (b : Bool). if b then part else version_parts v g) e)) other
 
-pub made_on : (whole : PlainApart) (touch : Touch) (v : PlainVersion) (f : Field) (old new : PlainPart) → IsMadeOf whole touch v → has_write f touch ≡ true → parts_in v f ≡ Some old → 1 ≤ new.writer → (f ≢ Tag → length new.bytes ≡ length old.bytes) → IsMadeOf whole touch (with_part f (Some new) v)
+pub made_on : (whole : PlainApart) (touch : Touch) (v : PlainVersion) (f : Field) (old new : PlainPart) → IsMadeOf whole touch v → has_write f touch ≡ true → version_parts v f ≡ Some old → 1 ≤ new.writer → (f ≢ Tag → length new.bytes ≡ length old.bytes) → IsMadeOf whole touch (with_part f (Some new) v)
 made_on whole touch v f old new m w is by len =
-    let dealt = dealt_parts touch (parts_of whole) in
+    let dealt = dealt_parts touch (packet_parts whole) in
     record {
       touched = m.touched;
       there = λ g. changed_cases f g (Some new) v (λ o. is_some o ≡ is_some (dealt g)) (λ e. sym (ap (λ (o : Option PlainPart). is_some o) is) ∙ (m.there f ∙ ap (λ (h : Field). is_some (dealt h)) e)) (m.there g);
@@ -37,9 +37,9 @@ made_on whole touch v f old new m w is by len =
     }
 
 -- a field that the packet lacks stays so
-pub made_absent : (whole : PlainApart) (touch : Touch) (v : PlainVersion) (f : Field) → IsMadeOf whole touch v → parts_in v f ≡ None → IsMadeOf whole touch (with_part f None v)
+pub made_absent : (whole : PlainApart) (touch : Touch) (v : PlainVersion) (f : Field) → IsMadeOf whole touch v → version_parts v f ≡ None → IsMadeOf whole touch (with_part f None v)
 made_absent whole touch v f m is =
-    let dealt = dealt_parts touch (parts_of whole) in
+    let dealt = dealt_parts touch (packet_parts whole) in
     record {
       touched = m.touched;
       there = λ g. changed_cases f g None v (λ o. is_some o ≡ is_some (dealt g)) (λ e. sym (ap (λ (o : Option PlainPart). is_some o) is) ∙ (m.there f ∙ ap (λ (h : Field). is_some (dealt h)) e)) (m.there g);

@@ -4,8 +4,8 @@ use Rattle.packet_fields.specs.declared.field.Field.{Field}
 use Rattle.packet_fields.specs.declared.field.Field.TheVariants.{Tag}
 use Rattle.action_profile.specs.declared.parts.Touch.{Touch}
 use Rattle.packet_version.specs.Parts.{Parts, values_of, writers_of}
-use Rattle.packet_version.specs.Splitting.{PlainApart, IsWhole, parts_of}
-use Rattle.packet_version.specs.Versions.{PlainVersion, parts_of as parts_in}
+use Rattle.packet_version.specs.Splitting.{PlainApart, IsWhole, packet_parts}
+use Rattle.packet_version.specs.Versions.{PlainVersion, version_parts}
 use Rattle.packet_version.specs.Dealing.{dealt_parts, dealt, based}
 use Rattle.merge_ops.specs.Merging.{part_of, last_writer}
 use Rattle.merge_ops.specs.Taking.{arrival_at}
@@ -23,9 +23,9 @@ lengths_of parts f = option_map (λ p. length p.bytes) (parts f)
 -- packet's own value where nobody wrote, and each field but the tags has its length.
 pub record IsMadeOf (whole : PlainApart) (touch : Touch) (version : PlainVersion) : Type 0 where
   pub touched : version.touch ≡ touch
-  pub there : (f : Field) → is_some (parts_in version f) ≡ is_some (dealt_parts touch (parts_of whole) f)
-  pub own : (f : Field) → writers_of (parts_in version) f ≡ 0 → values_of (parts_in version) f ≡ values_of (dealt_parts touch (parts_of whole)) f
-  pub lengths : (f : Field) → f ≢ Tag → lengths_of (parts_in version) f ≡ lengths_of (dealt_parts touch (parts_of whole)) f
+  pub there : (f : Field) → is_some (version_parts version f) ≡ is_some (dealt_parts touch (packet_parts whole) f)
+  pub own : (f : Field) → writers_of (version_parts version) f ≡ 0 → values_of (version_parts version) f ≡ values_of (dealt_parts touch (packet_parts whole)) f
+  pub lengths : (f : Field) → f ≢ Tag → lengths_of (version_parts version) f ≡ lengths_of (dealt_parts touch (packet_parts whole)) f
 
 -- an arrival from a branch with this touch
 abbrev pub IsFrom : PlainApart → Touch → Arrival → Type 0
@@ -35,7 +35,7 @@ IsFrom whole touch Short = Unit {0}
 
 -- The base of a packet that was dealt to branches with these touches, and an arrival from each, in branch order.
 pub record AreFrom (whole : PlainApart) (touches : List Touch) (base : PlainApart) (arrivals : List Arrival) : Type 0 where
-  pub fits : IsWhole (parts_of whole) whole.rest
+  pub fits : IsWhole (packet_parts whole) whole.rest
   pub behind : base ≡ based touches whole
   pub count : length arrivals ≡ length touches
   pub each : (b : ℕ) → b < length touches → IsFrom whole (slice_index_or touches b no_touch) (arrival_at arrivals b)
@@ -48,7 +48,7 @@ pub record AreArrivals (base : PlainApart) (arrivals : List Arrival) : Type 0 wh
 
 -- the value of a field behind the stage: that which was written last, and the packet's own where nobody wrote
 abbrev pub value_by : PlainApart → List Arrival → Field → Option ℕ → Option (List ℕ)
-value_by whole arrivals f None = values_of (parts_of whole) f
+value_by whole arrivals f None = values_of (packet_parts whole) f
 value_by whole arrivals f (Some branch) = option_map (λ p. p.bytes) (part_of f (arrival_at arrivals branch))
 
 abbrev pub value_behind : PlainApart → List Arrival → Field → Option (List ℕ)

@@ -5,7 +5,7 @@ use Rattle.packet_fields.specs.declared.field.Field.{Field}
 use Rattle.packet_fields.specs.declared.field.Field.TheVariants.{Tag}
 use Rattle.action_profile.specs.FieldSets.{all_fields}
 use Rattle.packet_version.specs.Parts.{PlainPart, writer_in}
-use Rattle.packet_version.specs.Versions.{parts_of}
+use Rattle.packet_version.specs.Versions.{version_parts}
 use Rattle.merge_ops.specs.declared.arrival.Arrival.{Arrival}
 use Rattle.merge_ops.specs.declared.arrival.Arrival.TheVariants.{Version, Nil, Short}
 use Rattle.merge_ops.specs.declared.decision.MergeOp.{MergeOp}
@@ -25,7 +25,7 @@ nil_of arrival = None
 
 -- the part that a branch has of a field
 abbrev pub part_of : Field → Arrival → Option PlainPart
-part_of f (Version v) = parts_of v f
+part_of f (Version v) = version_parts v f
 part_of f (Nil p) = None
 part_of f Short = None
 

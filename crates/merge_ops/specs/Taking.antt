@@ -4,7 +4,7 @@ use Rattle.std.specs.Option.{option_or}
 use Rattle.packet_fields.specs.declared.field.Field.{Field}
 use Rattle.action_profile.specs.Modes.{has_write}
 use Rattle.packet_version.specs.Parts.{PlainPart, Parts, as_list}
-use Rattle.packet_version.specs.Splitting.{PlainApart, parts_of}
+use Rattle.packet_version.specs.Splitting.{PlainApart, packet_parts}
 use Rattle.packet_version.specs.Versions.{with_part}
 use Rattle.merge_ops.specs.Merging.{part_of, writer_of, last_writer, decision_of}
 use Rattle.merge_ops.specs.declared.arrival.Arrival.{Arrival}
@@ -52,7 +52,7 @@ part_behind f arrivals last own = option_or (part_from f arrivals (source f arri
 
 -- the parts of the merged packet
 unfoldable pub merged_parts : PlainApart → List Arrival → Parts
-merged_parts base arrivals f = part_behind f arrivals (last_writer arrivals f) (parts_of base f)
+merged_parts base arrivals f = part_behind f arrivals (last_writer arrivals f) (packet_parts base f)
 
 abbrev pub with_parts : PlainApart → Parts → PlainApart
 with_parts base parts = record base { parts = as_list parts }

@@ -5,9 +5,9 @@ ghost use Rattle.action_profile.specs.FieldSets.{all_fields};
 ghost use Rattle.action_profile.specs.declared.parts.Touch.{Touch};
 ghost use Rattle.packet_version.specs.Dealing.{dealt, based};
 ghost use Rattle.packet_version.specs.Parts.{PlainPart, values_of};
-ghost use Rattle.packet_version.specs.Splitting.{PlainApart, IsWhole, joined, parts_of};
+ghost use Rattle.packet_version.specs.Splitting.{PlainApart, IsWhole, joined, packet_parts};
 ghost use Rattle.action_profile.specs.Modes.{has_write};
-ghost use Rattle.packet_version.specs.Versions.{PlainVersion, with_part, parts_of as parts_in};
+ghost use Rattle.packet_version.specs.Versions.{PlainVersion, with_part, version_parts};
 ghost use Rattle.merge_ops.specs.declared.arrival.Arrival.{Arrival};
 ghost use Rattle.merge_ops.specs.declared.decision.MergeOp.{MergeOp};
 ghost use Rattle.merge_ops.specs.declared.decision.MergeOp.TheVariants.{Keep};
@@ -27,14 +27,14 @@ pub fn last_writer_is_greatest()
 /// A packet that goes on has of each field the value that was written last, or its own where nobody
 /// wrote it, and its own rest and fixed values.
 pub fn merged_is_written_last()
-    ensures values { (whole : PlainApart) (touches : List Touch) (base : PlainApart) (arrivals : List Arrival) (ops : List MergeOp) (f : Field) → AreFrom whole touches base arrivals → decision_of arrivals ≡ Take ops → values_of (parts_of (merged_packet base arrivals)) f ≡ value_behind whole arrivals f }
+    ensures values { (whole : PlainApart) (touches : List Touch) (base : PlainApart) (arrivals : List Arrival) (ops : List MergeOp) (f : Field) → AreFrom whole touches base arrivals → decision_of arrivals ≡ Take ops → values_of (packet_parts (merged_packet base arrivals)) f ≡ value_behind whole arrivals f }
     ensures rest { (whole : PlainApart) (touches : List Touch) (base : PlainApart) (arrivals : List Arrival) → AreFrom whole touches base arrivals → (merged_packet base arrivals).rest ≡ whole.rest }
     ensures fixed { (whole : PlainApart) (touches : List Touch) (base : PlainApart) (arrivals : List Arrival) → AreFrom whole touches base arrivals → (merged_packet base arrivals).fixed ≡ whole.fixed }
 {}
 
 /// The versions that branches are dealt, which nobody wrote, are arrivals of their base.
 pub fn dealt_are_arrivals()
-    ensures { (whole : PlainApart) (touches : List Touch) → IsWhole (parts_of whole) whole.rest → AreFrom whole touches (based touches whole) (dealt_arrivals whole touches) }
+    ensures { (whole : PlainApart) (touches : List Touch) → IsWhole (packet_parts whole) whole.rest → AreFrom whole touches (based touches whole) (dealt_arrivals whole touches) }
 {}
 
 /// The version that a branch is dealt it may have made, and so may it one in which it wrote a field that
@@ -42,12 +42,12 @@ pub fn dealt_are_arrivals()
 /// lacks stays so.
 pub fn written_is_made()
     ensures dealt { (whole : PlainApart) (touch : Touch) → IsMadeOf whole touch (dealt whole touch) }
-    ensures written { (whole : PlainApart) (touch : Touch) (version : PlainVersion) (f : Field) (old new : PlainPart) → IsMadeOf whole touch version → has_write f touch ≡ true → parts_in version f ≡ Some old → 1 ≤ new.writer → (f ≢ Field.Tag → length new.bytes ≡ length old.bytes) → IsMadeOf whole touch (with_part f (Some new) version) }
-    ensures absent { (whole : PlainApart) (touch : Touch) (version : PlainVersion) (f : Field) → IsMadeOf whole touch version → parts_in version f ≡ None → IsMadeOf whole touch (with_part f None version) }
+    ensures written { (whole : PlainApart) (touch : Touch) (version : PlainVersion) (f : Field) (old new : PlainPart) → IsMadeOf whole touch version → has_write f touch ≡ true → version_parts version f ≡ Some old → 1 ≤ new.writer → (f ≢ Field.Tag → length new.bytes ≡ length old.bytes) → IsMadeOf whole touch (with_part f (Some new) version) }
+    ensures absent { (whole : PlainApart) (touch : Touch) (version : PlainVersion) (f : Field) → IsMadeOf whole touch version → version_parts version f ≡ None → IsMadeOf whole touch (with_part f None version) }
 {}
 
 /// A packet that was dealt and that nobody wrote goes on as the same frame.
 pub fn unwritten_is_same()
     ensures kept { (whole : PlainApart) (touches : List Touch) → decision_of (dealt_arrivals whole touches) ≡ Take (map (λ f. Keep) all_fields) }
-    ensures same { (whole : PlainApart) (touches : List Touch) → IsWhole (parts_of whole) whole.rest → joined (merged_packet (based touches whole) (dealt_arrivals whole touches)) ≡ joined whole }
+    ensures same { (whole : PlainApart) (touches : List Touch) → IsWhole (packet_parts whole) whole.rest → joined (merged_packet (based touches whole) (dealt_arrivals whole touches)) ≡ joined whole }
 {}

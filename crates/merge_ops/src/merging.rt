@@ -5,7 +5,7 @@ ghost use Rattle.packet_fields.specs.declared.field.Field.{Field};
 ghost use Rattle.action_profile.specs.FieldSets.{all_fields as every_field, has};
 ghost use Rattle.packet_version.specs.Parts.{as_list, changed};
 ghost use Rattle.packet_version.specs.Parts.{AreTags};
-ghost use Rattle.packet_version.specs.Splitting.{parts_of};
+ghost use Rattle.packet_version.specs.Splitting.{packet_parts};
 ghost use Rattle.merge_ops.specs.Merging.{op_of, writer_of};
 ghost use Rattle.merge_ops.specs.Taking.{branch_of, source as source_of, part_behind, merged_parts, with_parts, writes_in, arrival_at, merged, IsWriting, IsWritten, SameIn};
 ghost use Rattle.merge_ops.specs.Behind.{AreArrivals};
@@ -54,10 +54,10 @@ pub fn merge<R: Wait>(rt: &R, base: Base, arrivals: &mut Vec<Arrival>) -> Merged
 
 /// Puts the part of each field in.
 fn put_parts(gathered: &mut Gathered, arrivals: &mut [Arrival], ops: &[MergeOp; 10])
-    requires listed { gathered.old.parts ≡ as_list (parts_of gathered.old) }
+    requires listed { gathered.old.parts ≡ as_list (packet_parts gathered.old) }
     requires ops { ops.now ≡ map (op_of arrivals.old) every_field }
     ensures parts { gathered.new ≡ with_parts gathered.old (merged_parts gathered.old arrivals.old) }
-    ensures tags { AreTags (parts_of gathered.old Field.Tag) → AreTags (parts_of gathered.new Field.Tag) }
+    ensures tags { AreTags (packet_parts gathered.old Field.Tag) → AreTags (packet_parts gathered.new Field.Tag) }
 {
     let writable = writable_in(arrivals);
     for field in all_fields() {
@@ -74,10 +74,10 @@ fn put_part(
     op: MergeOp,
 )
     requires unwritten { has writable field ≡ false → position (writes_in field) arrivals.old ≡ None }
-    requires listed { gathered.old.parts ≡ as_list (parts_of gathered.old) }
+    requires listed { gathered.old.parts ≡ as_list (packet_parts gathered.old) }
     requires written { IsWritten field arrivals.old (branch_of op) }
-    ensures part { gathered.new ≡ with_parts gathered.old (changed field (part_behind field arrivals.old (branch_of op) (parts_of gathered.old field)) (parts_of gathered.old)) }
-    ensures tags { AreTags (parts_of gathered.old Field.Tag) → AreTags (parts_of gathered.new Field.Tag) }
+    ensures part { gathered.new ≡ with_parts gathered.old (changed field (part_behind field arrivals.old (branch_of op) (packet_parts gathered.old field)) (packet_parts gathered.old)) }
+    ensures tags { AreTags (packet_parts gathered.old Field.Tag) → AreTags (packet_parts gathered.new Field.Tag) }
     ensures others { (f : Field) → f ≢ field → SameIn f arrivals.old arrivals.new }
 {
     let Some(branch) = source(gathered, arrivals, writable, field, op) else {
@@ -98,7 +98,7 @@ fn source(
 ) -> Option<usize>
     requires unwritten { has writable field ≡ false → position (writes_in field) arrivals.now ≡ None }
     requires written { IsWritten field arrivals.now (branch_of op) }
-    ensures branch { result ≡ source_of field arrivals.now (branch_of op) (parts_of gathered.now field) }
+    ensures branch { result ≡ source_of field arrivals.now (branch_of op) (packet_parts gathered.now field) }
     ensures writing { IsWriting field arrivals.now result }
 {
     match op {

@@ -7,7 +7,7 @@ use Rattle.nfp_outside.specs.declared.slot.DeskFault.{DeskFault}
 use Rattle.nfp_outside.specs.declared.slot.DeskFault.TheVariants.{Failed}
 use Rattle.nfp_outside.specs.declared.held.Source.{Source}
 use Rattle.nfp_outside.specs.declared.held.Sink.{Sink}
-use Rattle.nfp_outside.specs.declared.tally.Tally.{Tally}
+use Rattle.nfp_outside.specs.declared.call_counts.CallCounts.{CallCounts}
 use Rattle.nfp_outside.specs.declared.fixed.FixedDesk.{FixedDesk}
 use Rattle.nfp_outside.specs.declared.memory.MemDesk.{MemDesk}
 use Rattle.nfp_outside.specs.Outside.{SlotView, one_more, CountsFailure}
@@ -46,12 +46,12 @@ abbrev pub fixed_slots : FixedDesk → Slot → SlotView
 fixed_slots d s = record { name = name_in d s; bytes = Some (contents d s); faults = 0 }
 
 -- the calls on a slot of the desk that fails where it is told to
-abbrev pub tally_of : MemDesk → Slot → Tally
-tally_of d = at_slot d.policy d.capture d.out d.report d.note
+abbrev pub call_counts : MemDesk → Slot → CallCounts
+call_counts d = at_slot d.policy d.capture d.out d.report d.note
 
 -- how many calls there were on a slot, which is the number of its next call
 abbrev pub calls_of : MemDesk → Slot → ℕ
-calls_of d s = (tally_of d s).calls
+calls_of d s = (call_counts d s).calls
 
 -- the calls that are to fail
 abbrev pub listed : MemDesk → List (Slot × ℕ)
@@ -67,7 +67,7 @@ mem_step d = step_of d.held
 
 -- the desk that fails where it is told to shows its names, its bytes and its counts
 abbrev pub mem_slots : MemDesk → Slot → SlotView
-mem_slots d s = record { name = name_in d.held s; bytes = Some (mem_contents d s); faults = (tally_of d s).faults }
+mem_slots d s = record { name = name_in d.held s; bytes = Some (mem_contents d s); faults = (call_counts d s).faults }
 
 -- a call on a slot is counted there alone; it failed exactly where its number was listed, and only
 -- then did the count of faults rise

@@ -18,6 +18,7 @@
 //! Left out: that a file was kept by the system, locks on files, and any wait for a reader.
 #![tactic(auto)]
 
+mod call_counts;
 mod desk;
 mod files;
 mod fixed;
@@ -26,7 +27,6 @@ mod held;
 mod memory;
 mod port;
 mod slot;
-mod tally;
 mod whole;
 
 pub use desk::Desk;

@@ -1,10 +1,10 @@
 // A desk in memory that fails where it is told to.
 ghost use Rattle.std.specs.Prelude.{◌≡◌, ◌↔◌, IsTrue, Contains};
 
+use crate::call_counts::CallCounts;
 use crate::desk::Desk;
 use crate::fixed::FixedDesk;
 use crate::slot::{DeskFault, Slot};
-use crate::tally::Tally;
 use std::alloc::Global;
 
 /// A desk in memory that fails exactly at the calls that it is given a list of: the calls on a slot
@@ -14,18 +14,18 @@ use std::alloc::Global;
 pub struct MemDesk {
     held: FixedDesk,
     fails: Vec<(Slot, u64)>,
-    policy: Tally,
-    capture: Tally,
-    out: Tally,
-    report: Tally,
-    note: Tally,
+    policy: CallCounts,
+    capture: CallCounts,
+    out: CallCounts,
+    report: CallCounts,
+    note: CallCounts,
 }
 
 impl MemDesk {
     ghost use Rattle.std.specs.Prelude.{◌≡◌, ◌≢◌, ◌≤◌, [], None, false, IsTrue, IsErrOf, Contains, ◌↔◌};
     ghost use Rattle.nfp_outside.specs.declared.slot.Slot.{Slot};
     ghost use Rattle.nfp_outside.specs.Outside.{is_read, one_more, HasCause, CountsFailure};
-    ghost use Rattle.nfp_outside.specs.Memory.{mem_slots, mem_contents, mem_step, calls_of, listed, tally_of};
+    ghost use Rattle.nfp_outside.specs.Memory.{mem_slots, mem_contents, mem_step, calls_of, listed, call_counts};
 
     /// A desk whose read slots hold these bytes, whose write slots are empty, which moves at most
     /// `step` bytes in a call, and which fails at the listed calls. Nothing is attached, and every
@@ -51,11 +51,11 @@ impl MemDesk {
         MemDesk {
             held: FixedDesk::new(alloc, policy, capture, step),
             fails,
-            policy: Tally::new(),
-            capture: Tally::new(),
-            out: Tally::new(),
-            report: Tally::new(),
-            note: Tally::new(),
+            policy: CallCounts::new(),
+            capture: CallCounts::new(),
+            out: CallCounts::new(),
+            report: CallCounts::new(),
+            note: CallCounts::new(),
         }
     }
 
@@ -98,7 +98,7 @@ impl MemDesk {
         ensures faults { CountsFailure
             (mem_slots self.old slot).faults (mem_slots self.new slot).faults result }
         ensures cause { HasCause (mem_slots self.old slot) (mem_slots self.new slot) result }
-        ensures others { (s : Slot) → s ≢ slot → tally_of self.new s ≡ tally_of self.old s }
+        ensures others { (s : Slot) → s ≢ slot → call_counts self.new s ≡ call_counts self.old s }
         ensures held { self.new.held ≡ self.old.held }
         ensures fails { self.new.fails ≡ self.old.fails }
     {

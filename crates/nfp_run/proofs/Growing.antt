@@ -21,8 +21,8 @@ use Rattle.chain_walk.specs.Walk.{walk, applied, frame_after}
 use Rattle.chain_walk.specs.Packets.{Packet, fates}
 use Rattle.chain_walk.specs.declared.walk.Fate.{Fate}
 use Rattle.chain_walk.specs.declared.walk.Fate.TheVariants.{Out, Gone}
-use Rattle.chain_walk.proofs.Fielding.{step_fits}
-use Rattle.chain_walk.proofs.Forming.{frame_formed}
+use Rattle.chain_walk.proofs.FrameWalkIsFieldWalk.{step_fits}
+use Rattle.chain_walk.proofs.WellFormedFields.{frame_formed}
 use Rattle.chain_walk.proofs.Walking.{walk_passes, walk_drops}
 use Rattle.nfp_run.specs.Emitted.{packet_of, packets_of, fates_of}
 use Rattle.nfp_run.specs.NamedFunctions.{named_behaviour}

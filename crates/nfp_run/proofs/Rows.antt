@@ -39,7 +39,7 @@ use Rattle.nfp_run.specs.Plan.{plan_text}
 use Rattle.packet_fields.specs.Writing.{written_in}
 use Rattle.packet_fields.specs.Fields.{number_of}
 use Rattle.action_profile.specs.Modes.{mode_of, copies}
-use Rattle.graph_compile.specs.Parts.{branch_reads, branch_writes, touch_of, parts_of}
+use Rattle.graph_compile.specs.Parts.{branch_reads, branch_writes, touch_of, stage_parts}
 use Rattle.graph_compile.specs.Stages.{is_forbidden, holds_back, placed, graph_of}
 use Rattle.graph_run.specs.Counting.{copies_made}
 use Rattle.nfp_run.specs.Report.{report_bytes, drop_text, drop_lines, total_line, copies_due, copies_text, copies_lines, function_text, last_line, summary}
@@ -78,7 +78,7 @@ deny_written : due_of_policy run_command (worth deny) capture ≡ record {
   });
   note = codes "done records 3 emitted 2 dropped 1\n";
 }
-unfolding run_command worth deny policy_of_utf8 after_line orders_from answer_of edges_of taken stuck named_cycle from_earliest cycle_back first_refusal head first ninth capture body_of head_bytes record_head tags_len is_ipv4 walk fates fates_of emitted_all out_bytes report_bytes drop_text drop_lines total_line last_line summary done_text digits words is_changed change_sum has_same_places has_transport passes line_of function_text copies_due copies_lines copies_made written_in graph_of placed holds_back is_forbidden branch_reads branch_writes touch_of parts_of mode_of copies pair_of first_forbidden pairs actions all_actions is_copied copied
+unfolding run_command worth deny policy_of_utf8 after_line orders_from answer_of edges_of taken stuck named_cycle from_earliest cycle_back first_refusal head first ninth capture body_of head_bytes record_head tags_len is_ipv4 walk fates fates_of emitted_all out_bytes report_bytes drop_text drop_lines total_line last_line summary done_text digits words is_changed change_sum has_same_places has_transport passes line_of function_text copies_due copies_lines copies_made written_in graph_of placed holds_back is_forbidden branch_reads branch_writes touch_of stage_parts mode_of copies pair_of first_forbidden pairs actions all_actions is_copied copied
 deny_written = refl
 
 -- b stands before a, and denies what no rule of its own allows: only the second packet passes it, and a drops that
@@ -93,7 +93,7 @@ two_written : due_of_policy run_command (worth two) capture ≡ record {
   });
   note = codes "done records 3 emitted 0 dropped 3\n";
 }
-unfolding run_command worth two policy_of_utf8 after_line orders_from answer_of edges_of taken stuck named_cycle from_earliest cycle_back first_refusal head first ninth capture body_of head_bytes record_head tags_len is_ipv4 walk fates fates_of emitted_all out_bytes report_bytes drop_text drop_lines total_line last_line summary done_text digits words is_changed change_sum has_same_places has_transport passes line_of function_text copies_due copies_lines copies_made written_in graph_of placed holds_back is_forbidden branch_reads branch_writes touch_of parts_of mode_of copies pair_of first_forbidden pairs actions all_actions is_copied copied
+unfolding run_command worth two policy_of_utf8 after_line orders_from answer_of edges_of taken stuck named_cycle from_earliest cycle_back first_refusal head first ninth capture body_of head_bytes record_head tags_len is_ipv4 walk fates fates_of emitted_all out_bytes report_bytes drop_text drop_lines total_line last_line summary done_text digits words is_changed change_sum has_same_places has_transport passes line_of function_text copies_due copies_lines copies_made written_in graph_of placed holds_back is_forbidden branch_reads branch_writes touch_of stage_parts mode_of copies pair_of first_forbidden pairs actions all_actions is_copied copied
 two_written = refl
 
 -- cut inside the third record: the two before it are done, and the report ends with the fault
@@ -105,7 +105,7 @@ cut_written : due_of_policy run_command (worth deny) (head ++ (first ++ (ninth +
   });
   note = codes "capture: cut record 3\n";
 }
-unfolding run_command worth deny capture_text policy_of_utf8 after_line orders_from answer_of edges_of taken stuck named_cycle from_earliest cycle_back first_refusal head first ninth capture body_of head_bytes record_head tags_len is_ipv4 walk fates fates_of emitted_all out_bytes report_bytes drop_text drop_lines total_line last_line summary done_text digits words is_changed change_sum has_same_places has_transport passes line_of function_text copies_due copies_lines copies_made written_in graph_of placed holds_back is_forbidden branch_reads branch_writes touch_of parts_of mode_of copies pair_of first_forbidden pairs actions all_actions is_copied copied
+unfolding run_command worth deny capture_text policy_of_utf8 after_line orders_from answer_of edges_of taken stuck named_cycle from_earliest cycle_back first_refusal head first ninth capture body_of head_bytes record_head tags_len is_ipv4 walk fates fates_of emitted_all out_bytes report_bytes drop_text drop_lines total_line last_line summary done_text digits words is_changed change_sum has_same_places has_transport passes line_of function_text copies_due copies_lines copies_made written_in graph_of placed holds_back is_forbidden branch_reads branch_writes touch_of stage_parts mode_of copies pair_of first_forbidden pairs actions all_actions is_copied copied
 cut_written = refl
 
 -- the second packet is dropped by the first function, which stands beside the other, and the others by that
@@ -120,7 +120,7 @@ beside_written : due_of_policy run_command (worth beside) capture ≡ record {
   });
   note = codes "done records 3 emitted 0 dropped 3\n";
 }
-unfolding run_command worth beside policy_of_utf8 after_line orders_from answer_of edges_of taken stuck named_cycle from_earliest cycle_back first_refusal head first ninth capture body_of head_bytes record_head tags_len is_ipv4 walk fates fates_of emitted_all out_bytes report_bytes drop_text drop_lines total_line last_line summary done_text digits words is_changed change_sum has_same_places has_transport passes line_of function_text copies_due copies_lines copies_made written_in graph_of placed holds_back is_forbidden branch_reads branch_writes touch_of parts_of mode_of copies pair_of first_forbidden pairs actions all_actions is_copied copied
+unfolding run_command worth beside policy_of_utf8 after_line orders_from answer_of edges_of taken stuck named_cycle from_earliest cycle_back first_refusal head first ninth capture body_of head_bytes record_head tags_len is_ipv4 walk fates fates_of emitted_all out_bytes report_bytes drop_text drop_lines total_line last_line summary done_text digits words is_changed change_sum has_same_places has_transport passes line_of function_text copies_due copies_lines copies_made written_in graph_of placed holds_back is_forbidden branch_reads branch_writes touch_of stage_parts mode_of copies pair_of first_forbidden pairs actions all_actions is_copied copied
 beside_written = refl
 
 -- a field has a line where copies of it were made, in the order of the fields

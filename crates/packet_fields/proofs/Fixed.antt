@@ -12,7 +12,7 @@ use Rattle.packet_fields.proofs.TagWalk.{packet_at-short}
 use Rattle.packet_fields.proofs.Overwriting.{cong2}
 use Rattle.packet_fields.proofs.Shapes.{SameShape, protocol-same, total_len-same, control_bits-same}
 use Rattle.packet_fields.proofs.Framing.{framed}
-use Rattle.packet_fields.proofs.Putting.{ether_type-packet, same_shape}
+use Rattle.packet_fields.proofs.OverwrittenField.{ether_type-packet, same_shape}
 use Rattle.packet_fields.proofs.Sealed.{packet_sealed_keeps}
 use Rattle.packet_fields.proofs.RightFrames.{part_in, nowhere, sealed_packet}
 

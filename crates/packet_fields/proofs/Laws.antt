@@ -13,7 +13,7 @@ use Rattle.packet_fields.proofs.Spans.{found_inside}
 use Rattle.packet_fields.proofs.Overwriting.{cong3, length-overwritten, overwritten_twice, overwritten_own, overwritten_comm, cong2}
 use Rattle.packet_fields.proofs.Shapes.{Apart}
 use Rattle.packet_fields.proofs.Framing.{framed, parts}
-use Rattle.packet_fields.proofs.Putting.{span-same, lies_at, apart_in_frame, LiesAt, InPacketAt, writes_packet, overwritten-front, link_keeps}
+use Rattle.packet_fields.proofs.OverwrittenField.{span-same, lies_at, apart_in_frame, LiesAt, InPacketAt, writes_packet, overwritten-front, link_keeps}
 use Rattle.packet_fields.proofs.Puts.{value-parts, puts_at, put_is, put_keeps, value-put_own, value-put_other, long_from_tags, retagged, own_parts}
 
 is_tag : (f : Field) → (f ≡ Tag) ⊎ (f ≢ Tag)

@@ -4,7 +4,7 @@ mod Rows
 pub mod Overwriting
 pub mod Shapes
 pub mod Framing
-pub mod Putting
+pub mod OverwrittenField
 pub mod Puts
 pub mod Laws
 pub mod Walk

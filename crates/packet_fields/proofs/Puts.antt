@@ -15,7 +15,7 @@ use Rattle.packet_fields.proofs.Spans.{found_inside}
 use Rattle.packet_fields.proofs.Overwriting.{cong3, bytes_same, cong2}
 use Rattle.packet_fields.proofs.Shapes.{bytes_apart, packet_value}
 use Rattle.packet_fields.proofs.Framing.{framed, parts, HasParts}
-use Rattle.packet_fields.proofs.Putting.{KeepsPlaces, keeps, span-same, layout-same, lies_at, apart_in_frame, value-packet}
+use Rattle.packet_fields.proofs.OverwrittenField.{KeepsPlaces, keeps, span-same, layout-same, lies_at, apart_in_frame, value-packet}
 
 -- the place of a field that a value fits
 pub record PutsAt (f : Field) (new frame : List ℕ) : Type 0 where

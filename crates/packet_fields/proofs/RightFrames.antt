@@ -14,7 +14,7 @@ use Rattle.packet_fields.specs.declared.plan.Span.{Span}
 use Rattle.packet_fields.proofs.Overwriting.{cong2, bytes_before, bytes_behind, get_or-before}
 use Rattle.packet_fields.proofs.Shapes.{is_ipv4-transport, SameShape, InBounds, bounds_at, inside_at, shape_kept, Apart, bytes_apart, packet_span-same, is_ipv4-same, has_transport-same, segment_at-same, is_udp-same, is_tcp-same, total_len-same, protocol-same, control_bits-same, header_sum_at-same, segment_sum_at-same}
 use Rattle.packet_fields.proofs.Framing.{parts}
-use Rattle.packet_fields.proofs.Putting.{lies_at, link_packet, writes_packet, InPacketAt}
+use Rattle.packet_fields.proofs.OverwrittenField.{lies_at, link_packet, writes_packet, InPacketAt}
 use Rattle.packet_fields.proofs.Puts.{puts_at, put_is, retagged, long_from_tags}
 use Rattle.packet_fields.proofs.Walk.{all_fit_after, blanks, blanks_fit}
 use Rattle.packet_fields.proofs.Sealed.{same_places, after_header, header_keeps, segment_keeps, sealed_parts, sealed_short, sealed_none, is_ipv4-nil, shape_trans, shape_refl, payload_apart, header_sum_is}

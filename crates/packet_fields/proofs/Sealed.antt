@@ -18,7 +18,7 @@ use Rattle.packet_fields.proofs.Shapes.{SameShape, OutsideAll, shape_outside, se
 use Rattle.packet_fields.proofs.ChecksumSteps.{HasSum, has_sum}
 use Rattle.packet_fields.proofs.TagWalk.{packet_at-short}
 use Rattle.packet_fields.proofs.Framing.{framed, parts, HasParts}
-use Rattle.packet_fields.proofs.Putting.{begins_tag-same}
+use Rattle.packet_fields.proofs.OverwrittenField.{begins_tag-same}
 use Rattle.packet_fields.proofs.Puts.{parts_value, value-parts, own_parts}
 
 -- what the test of two packets tells

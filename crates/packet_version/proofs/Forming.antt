@@ -8,7 +8,7 @@ use Rattle.packet_fields.specs.Fields.{IsLengthOf}
 use Rattle.packet_fields.specs.declared.field.Field.{Field}
 use Rattle.packet_fields.specs.declared.field.Field.TheVariants.{Tag}
 use Rattle.chain_walk.specs.Shown.{AreWellFormed}
-use Rattle.chain_walk.proofs.Forming.{form_by_fit, whole_tags}
+use Rattle.chain_walk.proofs.WellFormedFields.{form_by_fit, whole_tags}
 use Rattle.packet_version.specs.Parts.{PlainPart, Parts, values_of, rewritten, AreTags, IsPartOf}
 use Rattle.packet_version.specs.Splitting.{IsWhole}
 use Rattle.packet_version.specs.Lending.{over, edited}

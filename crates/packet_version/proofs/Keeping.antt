@@ -14,7 +14,7 @@ use Rattle.packet_version.specs.declared.place.Place.{Place}
 use Rattle.packet_version.specs.declared.place.Place.TheVariants.{Inside, Gone, Outside}
 use Rattle.packet_version.proofs.Maps.{as_map-listed, listed_at}
 use Rattle.packet_version.proofs.Placing.{read_set}
-use Rattle.packet_version.proofs.Stepping.{by_field}
+use Rattle.packet_version.proofs.DealtByField.{by_field}
 use Rattle.packet_version.proofs.Joining.{fresh_value, split_whole, joined_again}
 
 -- what is held, by its places

@@ -16,7 +16,7 @@ use Rattle.packet_version.specs.Views.{PlainView, seen_parts, seen_values, wrote
 use Rattle.packet_version.specs.Lending.{edited, over}
 use Rattle.packet_version.specs.ViewLending.{left}
 use Rattle.packet_version.proofs.Maps.{as_map-listed, as_list-again}
-use Rattle.packet_version.proofs.Stepping.{same_field, by_field}
+use Rattle.packet_version.proofs.DealtByField.{same_field, by_field}
 
 changed_own : (f : Field) (part : Option PlainPart) (parts : Parts) → changed f part parts f ≡ part
 changed_own f part parts = ap (λ (b : Bool). if b then part else parts f) ((Decides-eqb (number_of f) (number_of f)).1 refl)

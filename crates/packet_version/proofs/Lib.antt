@@ -1,7 +1,7 @@
 pub mod Maps
 pub mod Joining
 pub mod Forming
-pub mod Having
+pub mod PartsOfBranch
 pub mod Viewing
 pub mod Keeping
 pub mod Tagging
@@ -12,8 +12,8 @@ pub mod Firsts
 pub mod Modal
 pub mod Originals
 pub mod Dealt
-pub mod Stepping
-pub mod Resting
+pub mod DealtByField
+pub mod PartsFitRest
 pub mod Placing
 pub mod Rows
 pub mod Lawful

@@ -13,7 +13,7 @@ use Rattle.action_profile.specs.declared.parts.Mode.TheVariants.{Shared, Moved, 
 use Rattle.action_profile.specs.declared.parts.Touch.{Touch}
 use Rattle.packet_version.specs.Parts.{as_list, as_map, values_of}
 use Rattle.chain_walk.specs.Shown.{fixed_of}
-use Rattle.packet_version.specs.Splitting.{PlainApart, split_parts, joined, parts_of}
+use Rattle.packet_version.specs.Splitting.{PlainApart, split_parts, joined, packet_parts}
 use Rattle.packet_version.specs.Versions.{HoldsNamed, names}
 use Rattle.packet_version.specs.Dealing.{dealt, based, copies_due}
 
@@ -41,7 +41,7 @@ unfolding written_in tags_len is_ipv4 has_transport
 joined_packet = refl
 
 -- the tags of a frame without any have room for those that two functions add
-tag_room : parts_of (apart 2 packet) Tag ≡ Some (record { bytes = []; writer = 0; room = 8 })
+tag_room : packet_parts (apart 2 packet) Tag ≡ Some (record { bytes = []; writer = 0; room = 8 })
 unfolding tags_len
 tag_room = refl
 
@@ -100,7 +100,7 @@ unfolding tags_len is_ipv4 has_transport
 watched_port = refl
 
 -- what no branch touches stays in the base
-kept_data : values_of (parts_of (based stage (apart 0 packet))) Payload ≡ Some []
+kept_data : values_of (packet_parts (based stage (apart 0 packet))) Payload ≡ Some []
 unfolding mode_of tags_len is_ipv4 has_transport
 kept_data = refl
 

@@ -14,7 +14,7 @@ use Rattle.packet_version.specs.Views.{IsView, PlainView, seen_parts, seen_value
 use Rattle.packet_version.specs.Lending.{edited}
 use Rattle.packet_version.specs.ViewLending.{left}
 use Rattle.packet_version.proofs.Maps.{as_map-listed}
-use Rattle.packet_version.proofs.Having.{view_of, had_lent, own_read, own_inside, put_seen}
+use Rattle.packet_version.proofs.PartsOfBranch.{view_of, had_lent, own_read, own_inside, put_seen}
 
 -- a field that the function writes is one that its branch writes
 pub view_writes : (own : List (Option PlainPart)) (lent : Option PlainHeld) (f : Field) (touch : Touch) (fixed : Fixed) (profile : Profile) (position : ℕ) (old : PlainView) → writes_of old.profile f ≡ true → IsView profile touch own lent → view_of own lent touch fixed profile position ≡ old → has_write f touch ≡ true

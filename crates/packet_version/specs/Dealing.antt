@@ -7,7 +7,7 @@ use Rattle.action_profile.specs.declared.parts.Mode.TheVariants.{Shared, Moved, 
 use Rattle.action_profile.specs.declared.parts.Touch.{Touch}
 use Rattle.packet_version.specs.Parts.{PlainPart, Parts, as_list, unwritten}
 use Rattle.packet_version.specs.Tallies.{count_of, raised}
-use Rattle.packet_version.specs.Splitting.{PlainApart, parts_of}
+use Rattle.packet_version.specs.Splitting.{PlainApart, packet_parts}
 use Rattle.packet_version.specs.Versions.{PlainVersion}
 use Rattle.chain_walk.specs.declared.fixed.Fixed.{Fixed}
 
@@ -20,7 +20,7 @@ dealt_version parts fixed touch = record { parts = as_list (dealt_parts touch pa
 
 -- the version that a branch with this touch is dealt
 abbrev pub dealt : PlainApart → Touch → PlainVersion
-dealt whole touch = dealt_version (parts_of whole) whole.fixed touch
+dealt whole touch = dealt_version (packet_parts whole) whole.fixed touch
 
 -- the original goes to a branch: where it is moved, and where every branch that touches the field writes it
 abbrev pub is_given : Mode → Bool
@@ -38,7 +38,7 @@ kept_parts touches parts f = kept_part (mode_of touches f) (parts f)
 
 -- the base beside the versions of branches with these touches
 abbrev pub based : List Touch → PlainApart → PlainApart
-based touches whole = record whole { parts = as_list (kept_parts touches (parts_of whole)) }
+based touches whole = record whole { parts = as_list (kept_parts touches (packet_parts whole)) }
 
 -- the copies that are due of a part, where it is there
 abbrev pub copies_due : List Touch → Field → Option PlainPart → ℕ

@@ -5,7 +5,7 @@ use Rattle.action_profile.specs.FieldSets.{joined}
 use Rattle.action_profile.specs.Modes.{has_write}
 use Rattle.action_profile.specs.declared.parts.Touch.{Touch}
 use Rattle.packet_version.specs.Parts.{PlainPart, PlainHeld, Parts, as_map, as_list, changed, unwritten}
-use Rattle.packet_version.specs.Versions.{PlainVersion, parts_of, with_part, had_by}
+use Rattle.packet_version.specs.Versions.{PlainVersion, version_parts, with_part, had_by}
 use Rattle.packet_version.specs.declared.base.Kept.{Kept}
 use Rattle.packet_version.specs.declared.base.Kept.TheVariants.{Own, Lent}
 
@@ -39,7 +39,7 @@ reads_more touch = not ((joined touch.reads touch.writes).0 == touch.writes.0)
 
 -- a version with a loan of these parts
 abbrev pub with_loan : Parts → PlainVersion → PlainVersion
-with_loan parts version = record version { parts = as_list (had_by version.touch (parts_of version) parts) }
+with_loan parts version = record version { parts = as_list (had_by version.touch (version_parts version) parts) }
 
 -- the same, where its branch reads of it
 abbrev pub lent_to : Parts → PlainVersion → PlainVersion

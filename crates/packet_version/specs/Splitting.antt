@@ -15,8 +15,8 @@ pub record PlainApart : Type 0 where
   pub rest : List ℕ
   pub fixed : Fixed
 
-abbrev pub parts_of : PlainApart → Parts
-parts_of whole = as_map whole.parts
+abbrev pub packet_parts : PlainApart → Parts
+packet_parts whole = as_map whole.parts
 
 -- room for so many further tags of four bytes each, in the list of tags alone
 abbrev pub spare_room : ℕ → Field → ℕ
@@ -32,7 +32,7 @@ split_parts taggers frame f = option_map (fresh (spare_room taggers f)) (value f
 
 -- the frame of some parts: its rest, with each part in its field's place
 abbrev pub joined : PlainApart → List ℕ
-joined whole = written (values_of (parts_of whole)) whole.rest
+joined whole = written (values_of (packet_parts whole)) whole.rest
 
 -- these are the parts of such a frame: there is one exactly where the frame has the field, and it can stand
 -- in the field's place

@@ -14,12 +14,12 @@ pub record PlainVersion : Type 0 where
   pub touch : Touch
   pub fixed : Fixed
 
-abbrev pub parts_of : PlainVersion → Parts
-parts_of version = as_map version.parts
+abbrev pub version_parts : PlainVersion → Parts
+version_parts version = as_map version.parts
 
 -- the same with this part in a field's place, or none
 abbrev pub with_part : Field → Option PlainPart → PlainVersion → PlainVersion
-with_part f part version = record version { parts = as_list (changed f part (parts_of version)) }
+with_part f part version = record version { parts = as_list (changed f part (version_parts version)) }
 
 -- a version without any field
 abbrev pub nothing : Touch → Fixed → PlainVersion

@@ -7,7 +7,7 @@ use Rattle.action_profile.specs.declared.rights.Profile.{Profile}
 use Rattle.chain_walk.specs.Shown.{Values}
 use Rattle.chain_walk.specs.Step.{Behaviour, Step, stepped}
 use Rattle.packet_version.specs.Parts.{PlainPart, PlainHeld, Parts, as_list, values_of, rewritten, changed, is_field}
-use Rattle.packet_version.specs.Versions.{PlainVersion, parts_of, with_part, HoldsNamed, IsHad}
+use Rattle.packet_version.specs.Versions.{PlainVersion, version_parts, with_part, HoldsNamed, IsHad}
 
 -- The version, the profile of the function that sees it, and the function's position in its chain.
 pub record PlainView : Type 0 where
@@ -17,7 +17,7 @@ pub record PlainView : Type 0 where
 
 -- the parts behind a view
 abbrev pub seen_parts : PlainView → Parts
-seen_parts view = parts_of view.version
+seen_parts view = version_parts view.version
 
 -- the bytes behind a view
 abbrev pub seen_values : PlainView → Field → Option (List ℕ)

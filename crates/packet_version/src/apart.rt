@@ -30,19 +30,19 @@ impl Model for Apart {
 ghost use Rattle.std.specs.Prelude.{◌≡◌, IfOk};
 ghost use Rattle.packet_fields.specs.Writing.{rest_of};
 ghost use Rattle.chain_walk.specs.Shown.{fixed_of};
-ghost use Rattle.packet_version.specs.Splitting.{parts_of, split_parts as split_parts_of, joined, IsWhole};
+ghost use Rattle.packet_version.specs.Splitting.{packet_parts, split_parts as split_parts_of, joined, IsWhole};
 
 /// Takes a frame of any bytes apart. The parts are written by nobody, and the list of tags has room for
 /// `taggers` tags more. `time` is when the packet was captured, in nanoseconds.
 ///
 /// Memory is taken for a copy of the frame, for its layout, and for a list of its parts.
 pub fn split(alloc: Global, frame: &[u8], time: u64, taggers: u32) -> Result<Apart, AllocError>
-    ensures parts { IfOk result (λ whole. parts_of whole ≡ split_parts_of taggers frame.now) }
+    ensures parts { IfOk result (λ whole. packet_parts whole ≡ split_parts_of taggers frame.now) }
     ensures rest { IfOk result (λ whole. whole.rest ≡ rest_of frame.now) }
     ensures fixed { IfOk result (λ whole. whole.fixed ≡ fixed_of time frame.now) }
 
     // There is a part for each field of the frame, and it has the field's length.
-    ensures fits { IfOk result (λ whole. IsWhole (parts_of whole) whole.rest) }
+    ensures fits { IfOk result (λ whole. IsWhole (packet_parts whole) whole.rest) }
 
     // Put together again it is the same frame.
     ensures whole { IfOk result (λ whole. joined whole ≡ frame.now) }

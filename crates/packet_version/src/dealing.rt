@@ -4,7 +4,7 @@ ghost use Rattle.std.specs.Prelude.{◌≡◌, ◌≤◌, map, length, OnOk, OnE
 ghost use Rattle.packet_fields.specs.declared.field.Field.{Field};
 ghost use Rattle.action_profile.specs.Modes.{modes_of};
 ghost use Rattle.packet_version.specs.Parts.{as_map, as_list, IsPartOf};
-ghost use Rattle.packet_version.specs.Splitting.{parts_of, IsWhole};
+ghost use Rattle.packet_version.specs.Splitting.{packet_parts, IsWhole};
 ghost use Rattle.packet_version.specs.Versions.{nothing};
 ghost use Rattle.packet_version.specs.Dealing.{dealt, based, kept_parts, RaisesByDue, RaisesWithinDue};
 ghost use Rattle.packet_version.specs.Handing.{touches_in, with_own, without_fields};
@@ -44,11 +44,11 @@ pub fn deal(
     requires modes { parts.now.modes ≡ modes_of parts.now.touches }
     ensures versions { IfOk result (λ d. d.1.items ≡ map (dealt whole) parts.now.touches) }
     ensures base { IfOk result (λ d. d.0 ≡ based parts.now.touches whole) }
-    ensures counted { OnOk result (RaisesByDue parts.now.touches (parts_of whole) tally.old tally.new) }
-    ensures refused { OnErr result (RaisesWithinDue parts.now.touches (parts_of whole) tally.old tally.new) }
+    ensures counted { OnOk result (RaisesByDue parts.now.touches (packet_parts whole) tally.old tally.new) }
+    ensures refused { OnErr result (RaisesWithinDue parts.now.touches (packet_parts whole) tally.old tally.new) }
 
     // The packet's parts are those of its frame, in number and length.
-    ensures fits { IsWhole (parts_of whole) whole.rest }
+    ensures fits { IsWhole (packet_parts whole) whole.rest }
 {
     let Apart { mut held, fixed } = whole;
     let mut versions = empty_versions(alloc, parts.touches.as_slice(), fixed)?;

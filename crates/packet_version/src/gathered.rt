@@ -26,18 +26,18 @@ impl Model for Gathered {
 impl Gathered {
     ghost use Rattle.std.specs.Prelude.{◌≡◌, Some, is_some};
     ghost use Rattle.packet_version.specs.Parts.{changed, as_list};
-    ghost use Rattle.packet_version.specs.Splitting.{parts_of, IsWhole};
+    ghost use Rattle.packet_version.specs.Splitting.{packet_parts, IsWhole};
 
     /// Is the part of this field there?
     pub fn has(&self, field: Field) -> bool
-        ensures { result ≡ is_some (parts_of self.now field) }
+        ensures { result ≡ is_some (packet_parts self.now field) }
     {
         self.held.bytes(field).is_some()
     }
 
     /// Puts a part into the place of its field. A part that lay there is let go.
     pub fn put(&mut self, field: Field, part: Part)
-        ensures { self.new ≡ record self.old { parts = as_list (changed field (Some part) (parts_of self.old)) } }
+        ensures { self.new ≡ record self.old { parts = as_list (changed field (Some part) (packet_parts self.old)) } }
     {
         self.held.put(field, part);
     }
@@ -45,7 +45,7 @@ impl Gathered {
     /// The packet, for the next stage or to be joined. The part of each field is there, with the field's
     /// length or, of the tags, whole tags.
     pub fn finish(self) -> Apart
-        requires { IsWhole (parts_of self) self.rest }
+        requires { IsWhole (packet_parts self) self.rest }
         ensures { result ≡ self }
     {
         let Gathered { held, fixed } = self;

@@ -7,8 +7,8 @@ ghost use Rattle.packet_fields.specs.Writing.{over as values_over};
 ghost use Rattle.chain_walk.specs.Shown.{Values, AreWellFormed};
 ghost use Rattle.chain_walk.specs.Step.{nothing};
 ghost use Rattle.packet_version.specs.Parts.{Parts, rewritten, writers_of};
-ghost use Rattle.packet_version.specs.Splitting.{PlainApart, IsWhole, IsShapedAs, parts_of};
-ghost use Rattle.packet_version.specs.Versions.{parts_of as parts_in};
+ghost use Rattle.packet_version.specs.Splitting.{PlainApart, IsWhole, IsShapedAs, packet_parts};
+ghost use Rattle.packet_version.specs.Versions.{version_parts};
 ghost use Rattle.packet_version.specs.Dealing.{dealt, dealt_parts, based, kept_parts};
 ghost use Rattle.packet_version.specs.Views.{PlainView, seen_parts, seen_values, wrote, pushed, popped, wrote_all, rewritten_by, alone, HasBytes, WroteAlone};
 ghost use Rattle.packet_version.specs.Lending.{edited, over};
@@ -64,7 +64,7 @@ pub fn later_write_stands_over()
 /// Whoever wrote a field of a version did so in a branch that writes the field: what a branch only reads
 /// was written by nobody. A version has a place for each field.
 pub fn written_is_own(version: &Version)
-    ensures unwritten { (f : Field) → has_write f version.now.touch ≡ false → writers_of (parts_in version.now) f ≡ 0 }
+    ensures unwritten { (f : Field) → has_write f version.now.touch ≡ false → writers_of (version_parts version.now) f ≡ 0 }
     ensures ten { length version.now.parts ≡ 10 }
 {
     let _ = &version.touch;
@@ -83,8 +83,8 @@ pub fn write_apart(mine: &mut View, other: &mut View, field: Field, value: &[u8]
 
 /// What a version and a base are dealt, field by field.
 pub fn dealt_is_read()
-    ensures version { (whole : PlainApart) (touch : Touch) → parts_in (dealt whole touch) ≡ dealt_parts touch (parts_of whole) }
-    ensures base { (whole : PlainApart) (touches : List Touch) → parts_of (based touches whole) ≡ kept_parts touches (parts_of whole) }
+    ensures version { (whole : PlainApart) (touch : Touch) → version_parts (dealt whole touch) ≡ dealt_parts touch (packet_parts whole) }
+    ensures base { (whole : PlainApart) (touches : List Touch) → packet_parts (based touches whole) ≡ kept_parts touches (packet_parts whole) }
 {}
 
 /// Parts that have the shape of a packet's parts make a packet with its rest.

@@ -23,7 +23,7 @@
 //!
 //! Contracts see a packet, a base, a version and a view as plain data: a list of ten optional parts, each
 //! with its bytes, its writer and its room, which `as_map` of `specs/Parts.antt` reads as a map from the
-//! fields (`parts_of` of a packet or a version, `seen_parts` of a view); beside it what the branch
+//! fields (`packet_parts`, `version_parts`, and `seen_parts` of a view); beside it what the branch
 //! touches, the fixed values, the profile and the position.
 //!
 //! Which part of several prevails behind a stage is left out, and so is what a function does.

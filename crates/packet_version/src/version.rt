@@ -68,7 +68,7 @@ impl Version {
     ghost use Rattle.packet_fields.specs.declared.field.Field.{Field};
     ghost use Rattle.action_profile.specs.Modes.{has_write};
     ghost use Rattle.packet_version.specs.Parts.{as_map, writer_in, writers_of, AreTags, IsValueOf, IsPartOf};
-    ghost use Rattle.packet_version.specs.Versions.{parts_of, with_part, nothing};
+    ghost use Rattle.packet_version.specs.Versions.{version_parts, with_part, nothing};
     ghost use Rattle.packet_version.specs.Handing.{reads_more, with_loan};
 
     /// A branch's version in which there is no field yet.
@@ -107,7 +107,7 @@ impl Version {
 
     /// The chain position of the function that wrote the field last in this stage, 0 for none.
     pub fn writer(&self, field: Field) -> u32
-        ensures writer { result ≡ writers_of (parts_of self.now) field }
+        ensures writer { result ≡ writers_of (version_parts self.now) field }
         // Only a field that the branch writes has a writer.
         ensures unwritten { has_write field self.now.touch ≡ false → result ≡ 0 }
     {
@@ -141,7 +141,7 @@ impl Version {
     /// Takes the branch's own part of a field away.
     pub fn take(&mut self, field: Field) -> Option<Part>
         requires { has_write field self.old.touch ≡ true }
-        ensures part { result ≡ parts_of self.old field }
+        ensures part { result ≡ version_parts self.old field }
         ensures left { self.new ≡ with_part field None self.old }
         // The tags of a version are whole.
         ensures tags { field ≡ Field.Tag → AreTags result }

@@ -6,4 +6,4 @@ pub mod Relation
 pub mod Pieces
 pub mod Fronts
 pub mod Steps
-pub mod Putting
+pub mod JoinedNumbers

@@ -11,5 +11,5 @@ pub mod Naming
 pub mod Refusing
 pub mod Soundness
 pub mod Trails
-pub mod Turning
+pub mod OneTurn
 pub mod WaitingLemmas

@@ -1,3 +1,3 @@
 pub mod Ordering
-pub mod Settling
-pub mod Sounding
+pub mod NoLineRefused
+pub mod FewFunctions

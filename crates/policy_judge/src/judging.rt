@@ -22,7 +22,7 @@ use text_lines::line;
 
 /// Reads a policy text of at most 1,048,576 bytes: the policy with the order of each of its chains,
 /// or its first fault with the line that tells it.
-#[tactic(auto, unfolding(crate::specs::Judging::judged), using(crate::proofs::Sounding::text_refused))]
+#[tactic(auto, unfolding(crate::specs::Judging::judged), using(crate::proofs::FewFunctions::text_refused))]
 pub fn judge(alloc: Global, bytes: &[u8]) -> Result<Judged, JudgeFault>
     requires { length bytes.now ≤ 1048576 }
     ensures exact { Judges (judged bytes.now) result }
@@ -46,7 +46,7 @@ pub fn too_long(alloc: Global) -> JudgeFault
 }
 
 // The settings of all functions, and then the orders of the chains.
-#[tactic(auto, using(crate::proofs::Sounding::few_here, crate::proofs::Settling::all_settled))]
+#[tactic(auto, using(crate::proofs::FewFunctions::few_here, crate::proofs::NoLineRefused::all_settled))]
 fn judge_policy(alloc: Global, policy: Policy) -> Result<Judged, JudgeFault>
     requires { IsSound policy.chains }
     ensures exact { Judges (judged_settings policy (least_refused policy.chains)) result }

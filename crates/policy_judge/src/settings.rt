@@ -34,7 +34,7 @@ fn least_among(
 }
 
 // The least line that a function refuses; what a kind that isn't built refuses isn't known.
-#[tactic(auto, using(crate::proofs::Settling::unbuilt))]
+#[tactic(auto, using(crate::proofs::NoLineRefused::unbuilt))]
 fn refused_line(alloc: Global, decl: &FunctionDecl) -> Result<Option<u32>, AllocError>
     ensures { IfOk result (λ line. line ≡ refused_line decl.now) }
 {

@@ -1,9 +1,9 @@
 mod Rows
-pub mod Clausing
+pub mod ReadClauses
 pub mod Digits
 pub mod Keeping
 pub mod Latest
-pub mod Naming
+pub mod KindWords
 pub mod Remaining
 pub mod Sound
 pub mod Splitting

@@ -13,8 +13,8 @@ use Rattle.std.proofs.lemmas.Slice.Eq.{bytes_eq-Decides}
 use Rattle.std.proofs.lemmas.Bool.{ltb-true}
 use Rattle.policy_text.specs.declared.clause.Clause.{Clause}
 use Rattle.policy_text.specs.declared.fault.TextFault.TheVariants.{NotUtf8, BadVersionLine, TooManyRules, TooManyChains, TooManyFunctions, DuplicateName, UnknownKind}
-use Rattle.policy_text.specs.declared.form.Slot.{Slot}
-use Rattle.policy_text.specs.declared.form.Slot.TheVariants as slots
+use Rattle.policy_text.specs.declared.form.WordForm.{WordForm}
+use Rattle.policy_text.specs.declared.form.WordForm.TheVariants as word_forms
 use Rattle.policy_text.specs.declared.policy.ChainPolicy.{ChainPolicy}
 use Rattle.policy_text.specs.declared.policy.FunctionDecl.{FunctionDecl}
 use Rattle.policy_text.specs.declared.policy.Setting.{Setting}
@@ -62,13 +62,13 @@ named_ok chains line place k e =
 -- the orders
 order_keeps : (chains : List ChainPolicy) (line : Line) → IsSound chains → IfOk (order_line chains line) IsSound
 order_keeps chains line sound =
-    two_values IsSound (in_chain chains line) (fit_form (slots.Name ∷ slots.Before ∷ slots.Name ∷ []) line) (named_at chains line 1) (named_at chains line 3)
+    two_values IsSound (in_chain chains line) (fit_form (word_forms.Name ∷ word_forms.Before ∷ word_forms.Name ∷ []) line) (named_at chains line 1) (named_at chains line 3)
     (λ a b. add_statement chains (Order a b line.number))
     (λ a b ea eb. statement_keeps chains (Order a b line.number) sound (named_ok chains line 1 a ea, named_ok chains line 3 b eb))
 
 priority_keeps : (chains : List ChainPolicy) (line : Line) → IsSound chains → IfOk (priority_line chains line) IsSound
 priority_keeps chains line sound =
-    two_values IsSound (in_chain chains line) (fit_form (slots.Name ∷ slots.Above ∷ slots.Name ∷ []) line) (named_at chains line 1) (named_at chains line 3)
+    two_values IsSound (in_chain chains line) (fit_form (word_forms.Name ∷ word_forms.Above ∷ word_forms.Name ∷ []) line) (named_at chains line 1) (named_at chains line 3)
     (λ a b. add_statement chains (Priority a b line.number))
     (λ a b ea eb. statement_keeps chains (Priority a b line.number) sound (named_ok chains line 1 a ea, named_ok chains line 3 b eb))
 
@@ -77,7 +77,7 @@ speaks_end n x number end inside = elim (bytes_eq end (codes "first")) as (λ b.
 
 position_keeps : (chains : List ChainPolicy) (line : Line) → IsSound chains → IfOk (position_line chains line) IsSound
 position_keeps chains line sound =
-    one_value IsSound (in_chain chains line) (fit_form (slots.Name ∷ slots.End ∷ []) line) (named_at chains line 1)
+    one_value IsSound (in_chain chains line) (fit_form (word_forms.Name ∷ word_forms.End ∷ []) line) (named_at chains line 1)
     (λ x. add_statement chains (end_statement x line.number (word_at line 2)))
     (λ x e. statement_keeps chains (end_statement x line.number (word_at line 2)) sound (speaks_end _ x line.number (word_at line 2) (named_ok chains line 1 x e)))
 
@@ -248,7 +248,7 @@ not_true false h = refl
 failed : {A E : Type 0} {e : E} {x : A} → Err e ≡ Ok x → ⊥
 failed h = cc
 
-fit_name : (form : List Slot) (number : ℕ) (words : List PlacedWord) (u : ⊤) → fit_form (slots.Name ∷ form) (record { number = number; words = words }) ≡ Ok u → is_name (word_at (record { number = number; words = words }) 1) ≡ true
+fit_name : (form : List WordForm) (number : ℕ) (words : List PlacedWord) (u : ⊤) → fit_form (word_forms.Name ∷ form) (record { number = number; words = words }) ≡ Ok u → is_name (word_at (record { number = number; words = words }) 1) ≡ true
 fit_name form number [] u h = absurd (failed h)
 fit_name form number (w ∷ []) u h = absurd (failed h)
 fit_name form number (w ∷ v ∷ ws) u h = elim (is_name v.text) as (λ b. unless (option_map (syntax_at (record { number = number; words = w ∷ v ∷ ws })) (cond b (misfit_from 2 form ws) (Some 1))) ≡ Ok u → b ≡ true) [
@@ -258,12 +258,12 @@ fit_name form number (w ∷ v ∷ ws) u h = elim (is_name v.text) as (λ b. unle
 
 function_line_keeps : (chains : List ChainPolicy) (line : Line) → IsSound chains → IfOk (function_line chains line) IsSound
 function_line_keeps chains line sound =
-    value_last IsSound (in_chain chains line) (fit_form (slots.Name ∷ slots.Name ∷ []) line) (demand (nat_lt (count_functions chains) 64) (TooManyFunctions line.number))
+    value_last IsSound (in_chain chains line) (fit_form (word_forms.Name ∷ word_forms.Name ∷ []) line) (demand (nat_lt (count_functions chains) 64) (TooManyFunctions line.number))
     (demand (not (has_function chains (word_at line 1))) (DuplicateName line.number)) (some_or (UnknownKind line.number) (kind_of (word_at line 2)))
     (λ kind. add_function chains (record { name = word_at line 1; line = line.number; kind = kind; settings = [] }))
     (λ u v w z kind eu ev ew ez.
     function_keeps chains (record { name = word_at line 1; line = line.number; kind = kind; settings = [] }) sound
-    (record { name = fit_name (slots.Name ∷ []) line.number line.words v ev; settings = λ k d inside. absurd (omega arith); rules = omega arith })
+    (record { name = fit_name (word_forms.Name ∷ []) line.number line.words v ev; settings = λ k d inside. absurd (omega arith); rules = omega arith })
     (demand_ok _ _ u eu) (ltb-true _ _ (demand_ok _ _ w ew)) (not_true _ (demand_ok _ _ z ez)))
 
 -- a chain whose words fit has a name

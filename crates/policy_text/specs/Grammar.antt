@@ -10,8 +10,8 @@ use Rattle.action_profile.specs.declared.kind.Kind.TheVariants.{Firewall, Signat
 use Rattle.policy_text.specs.declared.clause.Clause.{Clause}
 use Rattle.policy_text.specs.declared.fault.TextFault.{TextFault}
 use Rattle.policy_text.specs.declared.fault.TextFault.TheVariants.{NotUtf8, Syntax, UnknownKind, DuplicateName, UnknownName, TooManyFunctions, TooManyChains, TooManyRules, BadVersionLine}
-use Rattle.policy_text.specs.declared.form.Slot.{Slot}
-use Rattle.policy_text.specs.declared.form.Slot.TheVariants as slots
+use Rattle.policy_text.specs.declared.form.WordForm.{WordForm}
+use Rattle.policy_text.specs.declared.form.WordForm.TheVariants as word_forms
 use Rattle.policy_text.specs.declared.policy.ChainPolicy.{ChainPolicy}
 use Rattle.policy_text.specs.declared.policy.FunctionDecl.{FunctionDecl}
 use Rattle.policy_text.specs.declared.policy.Policy.{Policy}
@@ -49,7 +49,7 @@ abbrev pub syntax_at : Line → ℕ → TextFault
 syntax_at line place = Syntax line.number (column_of line place)
 
 -- the words behind the first are of this form
-abbrev pub fit_form : List Slot → Line → Result (Unit {0}) TextFault
+abbrev pub fit_form : List WordForm → Line → Result (Unit {0}) TextFault
 fit_form form line = unless (option_map (syntax_at line) (misfit_from 1 form (drop 1 line.words)))
 
 -- the functions of the current chain, which is the latest
@@ -123,7 +123,7 @@ in_chain chains line = demand (is_some (latest chains)) (syntax_at line 0)
 abbrev pub function_line : List ChainPolicy → Line → Result (List ChainPolicy) TextFault
 function_line chains line = do
   _ ← in_chain chains line
-  _ ← fit_form (slots.Name ∷ slots.Name ∷ []) line
+  _ ← fit_form (word_forms.Name ∷ word_forms.Name ∷ []) line
   _ ← demand (nat_lt (count_functions chains) 64) (TooManyFunctions line.number)
   _ ← demand (not (has_function chains (word_at line 1))) (DuplicateName line.number)
   kind ← some_or (UnknownKind line.number) (kind_of (word_at line 2))
@@ -159,7 +159,7 @@ named_at chains line place = some_or (UnknownName line.number) (function_named (
 abbrev pub order_line : List ChainPolicy → Line → Result (List ChainPolicy) TextFault
 order_line chains line = do
   _ ← in_chain chains line
-  _ ← fit_form (slots.Name ∷ slots.Before ∷ slots.Name ∷ []) line
+  _ ← fit_form (word_forms.Name ∷ word_forms.Before ∷ word_forms.Name ∷ []) line
   a ← named_at chains line 1
   b ← named_at chains line 3
   Ok (add_statement chains (Order a b line.number))
@@ -168,7 +168,7 @@ order_line chains line = do
 abbrev pub priority_line : List ChainPolicy → Line → Result (List ChainPolicy) TextFault
 priority_line chains line = do
   _ ← in_chain chains line
-  _ ← fit_form (slots.Name ∷ slots.Above ∷ slots.Name ∷ []) line
+  _ ← fit_form (word_forms.Name ∷ word_forms.Above ∷ word_forms.Name ∷ []) line
   high ← named_at chains line 1
   low ← named_at chains line 3
   Ok (add_statement chains (Priority high low line.number))
@@ -180,7 +180,7 @@ end_statement x line end = if bytes_eq end (codes "first") then First x line els
 abbrev pub position_line : List ChainPolicy → Line → Result (List ChainPolicy) TextFault
 position_line chains line = do
   _ ← in_chain chains line
-  _ ← fit_form (slots.Name ∷ slots.End ∷ []) line
+  _ ← fit_form (word_forms.Name ∷ word_forms.End ∷ []) line
   x ← named_at chains line 1
   Ok (add_statement chains (end_statement x line.number (word_at line 2)))
 

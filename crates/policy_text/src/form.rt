@@ -12,7 +12,7 @@ use crate::value::is_name;
 
 /// What a word of a line has to be.
 #[derive(Clone, Copy)]
-pub enum Slot {
+pub enum WordForm {
     /// A name.
     Name,
     /// `before`.
@@ -23,7 +23,7 @@ pub enum Slot {
     End,
 }
 
-impl Slot {
+impl WordForm {
     ghost use Rattle.std.specs.Prelude.{◌≡◌};
     ghost use Rattle.policy_text.specs.Forms.{is_fit};
 
@@ -32,26 +32,26 @@ impl Slot {
         ensures { result ≡ is_fit self word.now }
     {
         match self {
-            Slot::Name => is_name(word),
-            Slot::Before => word == b"before".as_slice(),
-            Slot::Above => word == b">".as_slice(),
-            Slot::End => word == b"first".as_slice() || word == b"last".as_slice(),
+            WordForm::Name => is_name(word),
+            WordForm::Before => word == b"before".as_slice(),
+            WordForm::Above => word == b">".as_slice(),
+            WordForm::End => word == b"first".as_slice() || word == b"last".as_slice(),
         }
     }
 }
 
 /// The place of the first word behind the first that doesn't fit the form, is missing or is one too
 /// many.
-fn misfit(form: &[Slot], words: &[WordSpan<'_>]) -> Option<usize>
+fn misfit(form: &[WordForm], words: &[WordSpan<'_>]) -> Option<usize>
     requires { 0 < length words.now }
     ensures { result ≡ misfit_from 1 form.now (drop 1 words.now) }
 {
     let mut place = 1;
-    'slots: for slot in form {
+    'forms: for wanted in form {
         if place >= words.len() {
             return Some(place);
         }
-        if !slot.accepts(words[place].text()) {
+        if !wanted.accepts(words[place].text()) {
             return Some(place);
         }
         place += 1;
@@ -71,7 +71,7 @@ pub fn syntax_at(line: &Line<'_>, place: usize) -> TextFault
 }
 
 /// The words behind the first are of this form.
-pub fn fit_form(form: &[Slot], line: &Line<'_>) -> Result<(), TextFault>
+pub fn fit_form(form: &[WordForm], line: &Line<'_>) -> Result<(), TextFault>
     ensures { Gives (λ x. x) result (fit_form form.now line.now) }
 {
     match misfit(form, line.words()) {

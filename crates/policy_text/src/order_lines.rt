@@ -6,7 +6,7 @@ ghost use Rattle.policy_text.specs.Steps.{Gives};
 
 use crate::draft::Draft;
 use crate::fault::TextFault;
-use crate::form::{Slot, fit_form, in_chain};
+use crate::form::{WordForm, fit_form, in_chain};
 use crate::line::Line;
 use crate::policy::Statement;
 
@@ -25,7 +25,7 @@ pub fn order_line(draft: &mut Draft, line: &Line<'_>) -> Result<(), TextFault>
     ensures { Gives (λ _. draft.new) result (order_line draft.old line.now) }
 {
     in_chain(draft, line)?;
-    fit_form(&[Slot::Name, Slot::Before, Slot::Name], line)?;
+    fit_form(&[WordForm::Name, WordForm::Before, WordForm::Name], line)?;
     let a = named_at(draft, line, 1)?;
     let b = named_at(draft, line, 3)?;
     let line = line.number();
@@ -38,7 +38,7 @@ pub fn priority_line(draft: &mut Draft, line: &Line<'_>) -> Result<(), TextFault
     ensures { Gives (λ _. draft.new) result (priority_line draft.old line.now) }
 {
     in_chain(draft, line)?;
-    fit_form(&[Slot::Name, Slot::Above, Slot::Name], line)?;
+    fit_form(&[WordForm::Name, WordForm::Above, WordForm::Name], line)?;
     let high = named_at(draft, line, 1)?;
     let low = named_at(draft, line, 3)?;
     let line = line.number();
@@ -51,7 +51,7 @@ pub fn position_line(draft: &mut Draft, line: &Line<'_>) -> Result<(), TextFault
     ensures { Gives (λ _. draft.new) result (position_line draft.old line.now) }
 {
     in_chain(draft, line)?;
-    fit_form(&[Slot::Name, Slot::End], line)?;
+    fit_form(&[WordForm::Name, WordForm::End], line)?;
     let x = named_at(draft, line, 1)?;
     draft.add_statement(end_statement(x, line.number(), line.word(2)))?;
     Ok(())

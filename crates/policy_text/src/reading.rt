@@ -7,7 +7,7 @@ ghost use Rattle.policy_text.specs.Steps.{Gives};
 use crate::chain_lines::chain_line;
 use crate::draft::Draft;
 use crate::fault::TextFault;
-use crate::form::{Slot, fit_form, in_chain, syntax_at};
+use crate::form::{WordForm, fit_form, in_chain, syntax_at};
 use crate::line::Line;
 use crate::name::{Name, Word};
 use crate::order_lines::{order_line, position_line, priority_line};
@@ -53,7 +53,7 @@ fn function_line(alloc: Global, draft: &mut Draft, line: &Line<'_>) -> Result<()
     ensures { Gives (λ _. draft.new) result (function_line draft.old line.now) }
 {
     in_chain(draft, line)?;
-    fit_form(&[Slot::Name, Slot::Name], line)?;
+    fit_form(&[WordForm::Name, WordForm::Name], line)?;
     if !draft.has_room() {
         return Err(TextFault::TooManyFunctions(line.number()));
     }

@@ -66,7 +66,7 @@ fn profiles_of(alloc: Global, functions: &[NetFunction]) -> Result<Vec<Profile>,
         .collect(alloc)
 }
 
-fn running(alloc: Global, functions: Vec<NetFunction>) -> Result<Running<NetFunction>, AllocError>
+fn make_running(alloc: Global, functions: Vec<NetFunction>) -> Result<Running<NetFunction>, AllocError>
     requires { vec_len functions ≤ 64 }
 {
     let profiles = profiles_of(alloc, &functions)?;
@@ -91,7 +91,7 @@ fn through_graph(
     requires few { vec_len functions ≤ 64 }
     requires short { length burst.now.items ≤ 65536 }
 {
-    let mut run = running(alloc, functions)?;
+    let mut run = make_running(alloc, functions)?;
     let mut tally = Tally::new();
     let mut out = 0u64;
     for _round in 0..rounds {

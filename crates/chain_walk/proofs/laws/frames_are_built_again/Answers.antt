@@ -1,6 +1,6 @@
 use Rattle.chain_walk.specs.Shown.{fixed_of}
 use Rattle.packet_fields.specs.Writing.{fields_of}
-use Rattle.chain_walk.proofs.Fielding.{own_filled, ends_filled, built_again}
+use Rattle.chain_walk.proofs.FrameWalkIsFieldWalk.{own_filled, ends_filled, built_again}
 use Rattle.chain_walk.proofs.laws.frames_are_built_again.Goals as goal
 
 pub returns : goal.returns

@@ -1,4 +1,4 @@
-use Rattle.chain_walk.proofs.Fielding.{walks_as_fields}
+use Rattle.chain_walk.proofs.FrameWalkIsFieldWalk.{walks_as_fields}
 use Rattle.chain_walk.proofs.laws.frames_walk_as_fields.Goals as goal
 
 pub returns : goal.returns

@@ -1,4 +1,4 @@
-use Rattle.chain_walk.proofs.Rowing.{fates_in_a_row, functions_in_a_row, count_of_fates, ends_within}
+use Rattle.chain_walk.proofs.PacketsInRow.{fates_in_a_row, functions_in_a_row, count_of_fates, ends_within}
 use Rattle.chain_walk.proofs.laws.packets_walk_in_a_row.Goals as goal
 
 pub returns-clause-fates : goal.returns-clause-fates

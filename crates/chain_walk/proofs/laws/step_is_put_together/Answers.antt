@@ -1,5 +1,5 @@
 use Rattle.chain_walk.specs.Shown.{fixed_of}
-use Rattle.chain_walk.proofs.Fielding.{put_together}
+use Rattle.chain_walk.proofs.FrameWalkIsFieldWalk.{put_together}
 use Rattle.chain_walk.proofs.laws.step_is_put_together.Goals as goal
 
 pub returns : goal.returns

@@ -1,4 +1,4 @@
-use Rattle.chain_walk.proofs.Forming.{frame_formed, form_by_fit, step_formed}
+use Rattle.chain_walk.proofs.WellFormedFields.{frame_formed, form_by_fit, step_formed}
 use Rattle.chain_walk.proofs.laws.values_stay_well_formed.Goals as goal
 
 pub returns-clause-frame : goal.returns-clause-frame

@@ -1,4 +1,4 @@
-use Rattle.dependency_table.proofs.Standing.{unread, stateless, first_in_parts, second_in_parts}
+use Rattle.dependency_table.proofs.ActionsOfProfile.{unread, stateless, first_in_parts, second_in_parts}
 use Rattle.dependency_table.proofs.laws.beside_is_independent.Goals as goal
 
 pub returns-clause-unread : goal.returns-clause-unread

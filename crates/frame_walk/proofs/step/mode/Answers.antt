@@ -1,5 +1,5 @@
 use Rattle.std.proofs.Common.{◌∙◌, sym}
-use Rattle.frame_walk.proofs.Turning.{mode_moved, mode_shared}
+use Rattle.frame_walk.proofs.FunctionOnFrame.{mode_moved, mode_shared}
 use Rattle.frame_walk.proofs.step.mode.Goals as goal
 
 pub returns-then-has : goal.returns-then-has

@@ -5,7 +5,7 @@ use Rattle.chain_walk.specs.Shown.{fixed_of}
 use Rattle.chain_walk.specs.Walk.{frame_after}
 use Rattle.chain_walk.specs.declared.verdict.Verdict.TheVariants.{Pass, Drop}
 use Rattle.packet_version.specs.Splitting.{split_parts}
-use Rattle.frame_walk.proofs.Turning.{turn, turn_room, turn_from, turn_made, turn_verdict, on_err}
+use Rattle.frame_walk.proofs.FunctionOnFrame.{turn, turn_room, turn_from, turn_made, turn_verdict, on_err}
 use Rattle.frame_walk.proofs.step.step_frame.Goals as goal
 
 pub step-verdict-requires-clause-room : goal.step-verdict-requires-clause-room

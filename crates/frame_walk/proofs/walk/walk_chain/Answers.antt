@@ -1,5 +1,5 @@
 use Rattle.std.proofs.Common.{◌∙◌, get_or, sym, ap, arith}
-use Rattle.frame_walk.proofs.Turning.{on_err}
+use Rattle.frame_walk.proofs.FunctionOnFrame.{on_err}
 use Rattle.frame_walk.proofs.Walking.{walk_begins, walk_goes_on, walk_stops, walk_over, stops_in_turn, handed_next, handed_none}
 use Rattle.frame_walk.proofs.walk.walk_chain.Goals as goal
 

@@ -1,5 +1,5 @@
 use Rattle.std.proofs.Common.{map}
-use Rattle.graph_law.proofs.Flowing.{graph_fits}
+use Rattle.graph_law.proofs.FlowIsWalk.{graph_fits}
 use Rattle.graph_law.proofs.laws.graph_is_chain.Goals as goal
 
 pub returns : goal.returns

@@ -1,4 +1,4 @@
-use Rattle.graph_law.proofs.Staying.{in_turn_keeps, length_in_turn, branched_keeps, length_branched, flow_keeps, length_flow}
+use Rattle.graph_law.proofs.KeptProfiles.{in_turn_keeps, length_in_turn, branched_keeps, length_branched, flow_keeps, length_flow}
 use Rattle.graph_law.proofs.laws.profiles_stay.Goals as goal
 
 pub returns : goal.returns

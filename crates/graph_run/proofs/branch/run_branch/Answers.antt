@@ -1,8 +1,8 @@
 use Rattle.std.proofs.Common.{rules, ◌≡◌, ◌≤◌, ◌+◌, length, true, ap, sym, subst, ◌∙◌, arith}
 use Rattle.std.specs.Prelude.{IfSome}
 use Rattle.packet_fields.specs.declared.field.Field.TheVariants.{Tag}
-use Rattle.packet_version.specs.Versions.{parts_of, HoldsNamed}
-use Rattle.graph_run.proofs.Turning.{has_turn, turn_inside, turn_is, turn_passed, turns_over, carried_over, turn_dropped}
+use Rattle.packet_version.specs.Versions.{version_parts, HoldsNamed}
+use Rattle.graph_run.proofs.TurnsInBranch.{has_turn, turn_inside, turn_is, turn_passed, turns_over, carried_over, turn_dropped}
 use Rattle.graph_run.proofs.branch.run_branch.Goals as goal
 
 pub overflow_sub-function : goal.overflow_sub-function
@@ -25,7 +25,7 @@ step_on-requires-clause-holds g c =
 pub step_on-requires-clause-room : goal.step_on-requires-clause-room
 step_on-requires-clause-room g c =
     let turn = has_turn _ _ _ _ _ _ _ c.loop-position.invariant c.requires.ready c.loop-position-test.true in
-    subst (λ f. (g.F.Function.behaviour.profile f).adds ≡ true → IfSome (parts_of c.loop-position.version Tag) (λ tags. length tags.bytes + 4 ≤ tags.room)) (sym (turn_is _ _ _ _ c.index-functions-position.result turn)) turn.room
+    subst (λ f. (g.F.Function.behaviour.profile f).adds ≡ true → IfSome (version_parts c.loop-position.version Tag) (λ tags. length tags.bytes + 4 ≤ tags.room)) (sym (turn_is _ _ _ _ c.index-functions-position.result turn)) turn.room
 
 pub returns-in_default : goal.returns-in_default
 returns-in_default g c =

@@ -1,4 +1,4 @@
-use Rattle.graph_run.proofs.Turning.{InTurn}
+use Rattle.graph_run.proofs.TurnsInBranch.{InTurn}
 use Rattle.graph_run.proofs.branch.run_branch.Given as goal
 
 abbrev pub invariant-loop-position : goal.invariant-loop-position

@@ -1,4 +1,4 @@
-use Rattle.graph_run.proofs.Flowing.{IsFlowing}
+use Rattle.graph_run.proofs.WayThroughStages.{IsFlowing}
 use Rattle.graph_run.proofs.packet.run_packet.Given as goal
 
 abbrev pub invariant-loop-stage : goal.invariant-loop-stage

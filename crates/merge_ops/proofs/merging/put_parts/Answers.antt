@@ -2,7 +2,7 @@ use Rattle.std.proofs.Common.{◌≡◌, ◌∙◌, ℕ, List, get_or, ap, sym, 
 use Rattle.packet_fields.specs.Fields.{number_of}
 use Rattle.packet_fields.specs.declared.field.Field.TheVariants.{LinkDst}
 use Rattle.packet_version.proofs.Maps.{listed_at}
-use Rattle.packet_version.proofs.Stepping.{number_at}
+use Rattle.packet_version.proofs.DealtByField.{number_at}
 use Rattle.merge_ops.specs.Merging.{op_of}
 use Rattle.merge_ops.specs.declared.decision.MergeOp.{MergeOp}
 use Rattle.merge_ops.specs.declared.decision.MergeOp.TheVariants.{Keep}

@@ -1,7 +1,7 @@
 use Rattle.std.proofs.Common.{◌∙◌, List, ℕ, ap}
 use Rattle.packet_version.specs.Parts.{as_map}
 use Rattle.packet_version.specs.Splitting.{split_parts}
-use Rattle.packet_version.proofs.Resting.{whole_to}
+use Rattle.packet_version.proofs.PartsFitRest.{whole_to}
 use Rattle.packet_version.proofs.Keeping.{inside_parts, inside_whole, inside_again}
 use Rattle.packet_version.proofs.apart.split.Goals as goal
 

@@ -5,7 +5,7 @@ use Rattle.packet_fields.specs.declared.field.Field.{Field}
 use Rattle.action_profile.specs.Modes.{modes_of}
 use Rattle.action_profile.specs.declared.parts.Touch.{Touch}
 use Rattle.packet_version.specs.Parts.{PlainHeld, Parts, as_map, as_list, writer_in, IsPartOf}
-use Rattle.packet_version.specs.Splitting.{PlainApart, IsWhole, parts_of}
+use Rattle.packet_version.specs.Splitting.{PlainApart, IsWhole, packet_parts}
 use Rattle.packet_version.specs.Versions.{PlainVersion, nothing}
 use Rattle.packet_version.specs.Dealing.{dealt, based, kept_parts, copies_due, RaisesByDue, RaisesWithinDue}
 use Rattle.packet_version.specs.Handing.{touches_in, lent_to}
@@ -13,12 +13,12 @@ use Rattle.packet_version.proofs.Dealt.{stage_dealt, kept_unwritten, kept_formed
 use Rattle.packet_version.proofs.Forming.{whole_formed}
 use Rattle.packet_version.proofs.Handing.{on_err}
 use Rattle.packet_version.proofs.Maps.{as_map-listed}
-use Rattle.packet_version.proofs.Resting.{whole_to}
-use Rattle.packet_version.proofs.Stepping.{touches_begin, empty_begin, raised_within}
+use Rattle.packet_version.proofs.PartsFitRest.{whole_to}
+use Rattle.packet_version.proofs.DealtByField.{touches_begin, empty_begin, raised_within}
 use Rattle.packet_version.proofs.dealing.deal.Goals as goal
 
 pub returns-in_err-versions-clause-fits : goal.returns-in_err-versions-clause-fits
-returns-in_err-versions-clause-fits c = subst (λ (w : PlainApart). IsWhole (parts_of w) w.rest) c.whole.view_is (whole_to (as_map c.whole.inside.held.parts) c.whole.inside.held.frame c.whole.invariant)
+returns-in_err-versions-clause-fits c = subst (λ (w : PlainApart). IsWhole (packet_parts w) w.rest) c.whole.view_is (whole_to (as_map c.whole.inside.held.parts) c.whole.inside.held.frame c.whole.invariant)
 
 pub deal_parts-requires-clause-modes : goal.deal_parts-requires-clause-modes
 deal_parts-requires-clause-modes c =
@@ -47,11 +47,11 @@ returns-in_err-deal_parts-clause-refused c =
     let made : c.deref_mut.result.now ≡ map (λ t. nothing t fixed) touches = c.deref_mut.ensures.value ∙ (c.in_ok-versions.ensures ∙ ap (λ (ts : List Touch). map (λ t. nothing t fixed) ts) c.as_slice.ensures) in
     let ts = touches_begin touches fixed c.deref_mut.result.now made in
     on_err c.from_residual-in_err-deal_parts.result _
-    (subst (λ (w : PlainApart). RaisesWithinDue touches (parts_of w) c.args.tally.now c.deal_parts.new.tally) c.whole.view_is
+    (subst (λ (w : PlainApart). RaisesWithinDue touches (packet_parts w) c.args.tally.now c.deal_parts.new.tally) c.whole.view_is
     (subst (λ (us : List Touch). RaisesWithinDue us parts c.args.tally.now c.deal_parts.new.tally) ts c.in_err-deal_parts.ensures.refused))
 
 pub returns-in_err-deal_parts-clause-fits : goal.returns-in_err-deal_parts-clause-fits
-returns-in_err-deal_parts-clause-fits c = subst (λ (w : PlainApart). IsWhole (parts_of w) w.rest) c.whole.view_is (whole_to (as_map c.whole.inside.held.parts) c.whole.inside.held.frame c.whole.invariant)
+returns-in_err-deal_parts-clause-fits c = subst (λ (w : PlainApart). IsWhole (packet_parts w) w.rest) c.whole.view_is (whole_to (as_map c.whole.inside.held.parts) c.whole.inside.held.frame c.whole.invariant)
 
 pub share_out-requires-clause-unwritten : goal.share_out-requires-clause-unwritten
 share_out-requires-clause-unwritten c =
@@ -81,12 +81,12 @@ returns-in_err-kept-clause-refused c =
     let made : c.deref_mut.result.now ≡ map (λ t. nothing t fixed) touches = c.deref_mut.ensures.value ∙ (c.in_ok-versions.ensures ∙ ap (λ (ts : List Touch). map (λ t. nothing t fixed) ts) c.as_slice.ensures) in
     let ts = touches_begin touches fixed c.deref_mut.result.now made in
     on_err c.from_residual-in_err-kept.result _
-    (subst (λ (w : PlainApart). RaisesWithinDue touches (parts_of w) c.args.tally.now c.deal_parts.new.tally) c.whole.view_is
+    (subst (λ (w : PlainApart). RaisesWithinDue touches (packet_parts w) c.args.tally.now c.deal_parts.new.tally) c.whole.view_is
     (subst (λ (us : List Touch). RaisesWithinDue us parts c.args.tally.now c.deal_parts.new.tally) ts
     (raised_within (λ g. copies_due (touches_in c.deref_mut.result.now) g (parts g)) c.args.tally.now c.deal_parts.new.tally c.in_ok-deal_parts.ensures.counted)))
 
 pub returns-in_err-kept-clause-fits : goal.returns-in_err-kept-clause-fits
-returns-in_err-kept-clause-fits c = subst (λ (w : PlainApart). IsWhole (parts_of w) w.rest) c.whole.view_is (whole_to (as_map c.whole.inside.held.parts) c.whole.inside.held.frame c.whole.invariant)
+returns-in_err-kept-clause-fits c = subst (λ (w : PlainApart). IsWhole (packet_parts w) w.rest) c.whole.view_is (whole_to (as_map c.whole.inside.held.parts) c.whole.inside.held.frame c.whole.invariant)
 
 pub returns-clause-versions : goal.returns-clause-versions
 returns-clause-versions c =
@@ -121,8 +121,8 @@ returns-clause-counted c =
     let touches = c.args.parts.now.touches in
     let made : c.deref_mut.result.now ≡ map (λ t. nothing t fixed) touches = c.deref_mut.ensures.value ∙ (c.in_ok-versions.ensures ∙ ap (λ (ts : List Touch). map (λ t. nothing t fixed) ts) c.as_slice.ensures) in
     let ts = touches_begin touches fixed c.deref_mut.result.now made in
-    subst (λ (w : PlainApart). RaisesByDue touches (parts_of w) c.args.tally.now c.deal_parts.new.tally) c.whole.view_is
+    subst (λ (w : PlainApart). RaisesByDue touches (packet_parts w) c.args.tally.now c.deal_parts.new.tally) c.whole.view_is
     (subst (λ (us : List Touch). RaisesByDue us parts c.args.tally.now c.deal_parts.new.tally) ts c.in_ok-deal_parts.ensures.counted)
 
 pub returns-clause-fits : goal.returns-clause-fits
-returns-clause-fits c = subst (λ (w : PlainApart). IsWhole (parts_of w) w.rest) c.whole.view_is (whole_to (as_map c.whole.inside.held.parts) c.whole.inside.held.frame c.whole.invariant)
+returns-clause-fits c = subst (λ (w : PlainApart). IsWhole (packet_parts w) w.rest) c.whole.view_is (whole_to (as_map c.whole.inside.held.parts) c.whole.inside.held.frame c.whole.invariant)

@@ -11,7 +11,7 @@ use Rattle.packet_version.specs.Dealing.{kept_part, kept_parts, copies_due}
 use Rattle.packet_version.specs.Handing.{touches_in}
 use Rattle.packet_version.proofs.Handing.{on_err}
 use Rattle.packet_version.proofs.Maps.{as_map-listed, as_list-again}
-use Rattle.packet_version.proofs.Stepping.{number_at, mode_read, touches_stay, part_next, kept_next, kept_over, versions_next, versions_over, counted_next, counted_refused}
+use Rattle.packet_version.proofs.DealtByField.{number_at, mode_read, touches_stay, part_next, kept_next, kept_over, versions_next, versions_over, counted_next, counted_refused}
 use Rattle.packet_version.proofs.dealing.deal_parts.Goals as goal
 
 pub deal_field-requires-clause-mode : goal.deal_field-requires-clause-mode

@@ -2,7 +2,7 @@ use Rattle.std.proofs.Common.{◌∙◌, ap, sym, length}
 use Rattle.packet_version.specs.Parts.{Parts, writers_of}
 use Rattle.packet_version.specs.Versions.{PlainVersion}
 use Rattle.action_profile.specs.Modes.{has_write}
-use Rattle.packet_version.proofs.Having.{parts_are, unwritten_by}
+use Rattle.packet_version.proofs.PartsOfBranch.{parts_are, unwritten_by}
 use Rattle.packet_version.proofs.laws.written_is_own.Goals as goal
 
 pub returns-clause-unwritten : goal.returns-clause-unwritten

@@ -1,6 +1,6 @@
 use Rattle.std.proofs.Common.{◌∙◌, ap}
 use Rattle.pcap_io.specs.Written.{head_bytes, bytes_of}
-use Rattle.pcap_io.proofs.Putting.{seven_numbers}
+use Rattle.pcap_io.proofs.JoinedNumbers.{seven_numbers}
 use Rattle.pcap_io.proofs.writer.spell_head.Goals as goal
 
 pub returns : goal.returns

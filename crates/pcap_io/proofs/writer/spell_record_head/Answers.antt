@@ -1,6 +1,6 @@
 use Rattle.std.proofs.Common.{◌∙◌, ◌++◌, ap, length, take}
 use Rattle.pcap_io.specs.Written.{record_head, bytes_of}
-use Rattle.pcap_io.proofs.Putting.{four_numbers}
+use Rattle.pcap_io.proofs.JoinedNumbers.{four_numbers}
 use Rattle.pcap_io.proofs.writer.spell_record_head.Goals as goal
 
 pub returns : goal.returns

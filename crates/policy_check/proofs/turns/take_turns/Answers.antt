@@ -2,7 +2,7 @@ use Rattle.std.proofs.Common.{sym, ◌∙◌, ap, length}
 use Rattle.std.proofs.Math.ListN.{length-set}
 use Rattle.policy_check.specs.Edges.{edges_of}
 use Rattle.policy_check.proofs.Deciding.{length-replicate, taken-all, stuck-all}
-use Rattle.policy_check.proofs.Turning.{fewer_wait, HasTurned-start, HasTurned-turn, HasTurned-taken, HasTurned-stuck}
+use Rattle.policy_check.proofs.OneTurn.{fewer_wait, HasTurned-start, HasTurned-turn, HasTurned-taken, HasTurned-stuck}
 use Rattle.policy_check.proofs.turns.take_turns.Goals as goal
 
 pub turns-init : goal.turns-init

@@ -1,7 +1,7 @@
 use Rattle.std.proofs.Common.{◌≡◌, length, replicate, true}
 use Rattle.policy_check.specs.Edges.{edges_of}
 use Rattle.policy_check.specs.Waiting.{waits}
-use Rattle.policy_check.proofs.Turning.{HasTurned}
+use Rattle.policy_check.proofs.OneTurn.{HasTurned}
 use Rattle.policy_check.proofs.turns.take_turns.Given as goal
 
 abbrev pub invariant-turns : goal.invariant-turns

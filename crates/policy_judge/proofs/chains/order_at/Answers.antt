@@ -1,5 +1,5 @@
 use Rattle.policy_check.specs.Edges.{edges_of}
-use Rattle.policy_judge.proofs.Sounding.{is_ordered}
+use Rattle.policy_judge.proofs.FewFunctions.{is_ordered}
 use Rattle.policy_judge.proofs.chains.order_at.Goals as goal
 
 pub returns-in-Ok-clause-ordered : goal.returns-in-Ok-clause-ordered

@@ -1,4 +1,4 @@
-use Rattle.policy_text.proofs.Naming.{kind_of-name, name-kind_of}
+use Rattle.policy_text.proofs.KindWords.{kind_of-name, name-kind_of}
 use Rattle.policy_text.proofs.laws.kinds_have_their_words.Goals as goal
 
 pub returns-clause-read : goal.returns-clause-read

@@ -1,6 +1,6 @@
 use Rattle.std.proofs.Common.{◌+◌, ◌∙◌, ap, sym, arith, drop}
 use Rattle.policy_text.specs.Clauses.{clauses_from}
-use Rattle.policy_text.proofs.Clausing.{seen, read_clause, read_no_value, read_no_lead}
+use Rattle.policy_text.proofs.ReadClauses.{seen, read_clause, read_no_value, read_no_lead}
 use Rattle.policy_text.proofs.matching.read_clauses.Goals as goal
 
 pub clauses-preserved : goal.clauses-preserved

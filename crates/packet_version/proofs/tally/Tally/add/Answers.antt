@@ -2,7 +2,7 @@ use Rattle.std.proofs.Common.{◌≡◌, List, get_or, length, ap, arith}
 use Rattle.packet_fields.specs.declared.field.Field.{Field}
 use Rattle.packet_fields.specs.declared.field.Field.TheVariants.{LinkDst}
 use Rattle.packet_version.specs.Tallies.{count_of}
-use Rattle.packet_version.proofs.Stepping.{number_at, counted_begin, counted_next, counted_over}
+use Rattle.packet_version.proofs.DealtByField.{number_at, counted_begin, counted_next, counted_over}
 use Rattle.packet_version.proofs.tally.Tally.add.Goals as goal
 
 pub loop-field-init : goal.loop-field-init

@@ -1,7 +1,7 @@
 use Rattle.std.proofs.Common.{◌≡◌}
 use Rattle.packet_fields.specs.Writing.{all_fields}
 use Rattle.packet_version.specs.Tallies.{count_of}
-use Rattle.packet_version.proofs.Stepping.{RaisesBefore}
+use Rattle.packet_version.proofs.DealtByField.{RaisesBefore}
 use Rattle.packet_version.proofs.tally.Tally.add.Given as goal
 
 abbrev pub invariant-loop-field : goal.invariant-loop-field

@@ -1,4 +1,4 @@
-use Rattle.packet_version.proofs.Having.{empty_is}
+use Rattle.packet_version.proofs.PartsOfBranch.{empty_is}
 use Rattle.packet_version.proofs.version.Version.empty.Goals as goal
 
 pub returns : goal.returns

@@ -1,4 +1,4 @@
-use Rattle.packet_version.proofs.Having.{writes_is, own_inside, put_had}
+use Rattle.packet_version.proofs.PartsOfBranch.{writes_is, own_inside, put_had}
 use Rattle.packet_version.proofs.version.Version.give.Goals as goal
 
 pub returns : goal.returns

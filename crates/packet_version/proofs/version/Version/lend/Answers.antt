@@ -1,4 +1,4 @@
-use Rattle.packet_version.proofs.Having.{loan_is}
+use Rattle.packet_version.proofs.PartsOfBranch.{loan_is}
 use Rattle.packet_version.proofs.version.Version.lend.Goals as goal
 
 pub returns : goal.returns

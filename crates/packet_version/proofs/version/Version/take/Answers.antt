@@ -1,7 +1,7 @@
 use Rattle.std.proofs.Common.{◌∙◌, ap, set}
 use Rattle.std.specs.Prelude.{Option, None}
 use Rattle.packet_version.specs.Parts.{PlainPart}
-use Rattle.packet_version.proofs.Having.{writes_is, own_inside, put_had, version_of}
+use Rattle.packet_version.proofs.PartsOfBranch.{writes_is, own_inside, put_had, version_of}
 use Rattle.packet_version.proofs.version.Version.take.Goals as goal
 
 pub returns-clause-left : goal.returns-clause-left

@@ -1,6 +1,6 @@
 use Rattle.std.proofs.Common.{◌∙◌, ap, sym}
 use Rattle.packet_version.specs.Parts.{Parts, writers_of}
-use Rattle.packet_version.proofs.Having.{parts_are, unwritten_by}
+use Rattle.packet_version.proofs.PartsOfBranch.{parts_are, unwritten_by}
 use Rattle.packet_version.proofs.version.Version.writer.Goals as goal
 
 pub returns-then-not-has-clause-writer : goal.returns-then-not-has-clause-writer

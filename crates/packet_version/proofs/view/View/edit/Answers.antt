@@ -3,7 +3,7 @@ use Rattle.std.specs.Prelude.{option_map}
 use Rattle.packet_version.specs.Parts.{IsPartOf}
 use Rattle.packet_version.specs.Lending.{edited}
 use Rattle.packet_version.proofs.Forming.{edited_formed}
-use Rattle.packet_version.proofs.Having.{had_on, own_read}
+use Rattle.packet_version.proofs.PartsOfBranch.{had_on, own_read}
 use Rattle.packet_version.proofs.Viewing.{view_writes, seen_own, left_seen, lent_seen}
 use Rattle.packet_version.proofs.view.View.edit.Goals as goal
 

@@ -1,4 +1,4 @@
-use Rattle.packet_version.proofs.Having.{own_inside, put_seen}
+use Rattle.packet_version.proofs.PartsOfBranch.{own_inside, put_seen}
 use Rattle.packet_version.proofs.Viewing.{view_writes}
 use Rattle.packet_version.proofs.view.View.put.Goals as goal
 

@@ -1,7 +1,7 @@
 use Rattle.std.proofs.Common.{◌∙◌, ap, sym, set}
 use Rattle.std.specs.Prelude.{Option, None}
 use Rattle.packet_version.specs.Parts.{PlainPart}
-use Rattle.packet_version.proofs.Having.{own_inside, put_seen, view_of}
+use Rattle.packet_version.proofs.PartsOfBranch.{own_inside, put_seen, view_of}
 use Rattle.packet_version.proofs.Viewing.{view_writes, seen_own}
 use Rattle.packet_version.proofs.view.View.take.Goals as goal
 

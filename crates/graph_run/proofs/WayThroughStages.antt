@@ -21,7 +21,7 @@ use Rattle.graph_compile.specs.declared.graph.Graph.{Graph}
 use Rattle.graph_compile.specs.declared.graph.Stage.{Stage}
 use Rattle.graph_law.specs.Flow.{staged, then_flow, flow}
 use Rattle.packet_version.specs.Parts.{values_of}
-use Rattle.packet_version.specs.Splitting.{PlainApart, split_parts, fresh, spare_room, parts_of}
+use Rattle.packet_version.specs.Splitting.{PlainApart, split_parts, fresh, spare_room, packet_parts}
 use Rattle.packet_version.specs.Tallies.{count_of, raised}
 use Rattle.merge_ops.specs.declared.merging.Merged.TheVariants as ends
 use Rattle.graph_run.specs.Carrying.{values_in}
@@ -68,7 +68,7 @@ room_split spare adders None is = tt
 room_split spare adders (Some bytes) is = omega arith
 
 -- the values of a frame that was split are its fields
-pub split_values : (taggers : ℕ) (frame : List ℕ) (whole : PlainApart) → parts_of whole ≡ split_parts taggers frame → values_in whole ≡ fields_of frame
+pub split_values : (taggers : ℕ) (frame : List ℕ) (whole : PlainApart) → packet_parts whole ≡ split_parts taggers frame → values_in whole ≡ fields_of frame
 split_values taggers frame whole parts = ap values_of parts ∙ fun_ext (λ f. value_split (spare_room taggers f) (value f frame))
 
 none_made : (t : Bool) (c : ℕ) → c ≡ raised c (if t then 0 else 0)
@@ -76,7 +76,7 @@ none_made true c = omega arith
 none_made false c = omega arith
 
 pub flow_begins : {F : Type 0} (b : Behaviour F) (graph : Graph) (time : ℕ) (frame : List ℕ) (first : List F) (taggers : ℕ) (whole : PlainApart) (tally : List ℕ) → LawfulIsStaged → ((frame : List ℕ) → AreWellFormed (fields_of frame)) →
-    IsRunning b first graph → taggers ≡ adders_from (map b.profile first) 1 → parts_of whole ≡ split_parts taggers frame → whole.rest ≡ rest_of frame → whole.fixed ≡ fixed_of time frame →
+    IsRunning b first graph → taggers ≡ adders_from (map b.profile first) 1 → packet_parts whole ≡ split_parts taggers frame → whole.rest ≡ rest_of frame → whole.fixed ≡ fixed_of time frame →
     IsFlowing b graph time frame first first 0 whole tally tally
 flow_begins b graph time frame first taggers whole tally law formed running adders parts rest fixed =
     let values = split_values taggers frame whole parts in

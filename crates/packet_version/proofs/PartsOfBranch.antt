@@ -16,12 +16,12 @@ use Rattle.action_profile.specs.declared.parts.Touch.{Touch}
 use Rattle.action_profile.specs.declared.rights.Profile.{Profile}
 use Rattle.chain_walk.specs.declared.fixed.Fixed.{Fixed}
 use Rattle.packet_version.specs.Parts.{PlainPart, PlainHeld, Parts, as_map, as_list, changed, writer_in, IsPartOf}
-use Rattle.packet_version.specs.Versions.{PlainVersion, parts_of, with_part, nothing, lent_parts, had_by, IsHad}
+use Rattle.packet_version.specs.Versions.{PlainVersion, version_parts, with_part, nothing, lent_parts, had_by, IsHad}
 use Rattle.packet_version.specs.Handing.{with_loan}
 use Rattle.packet_version.specs.Views.{PlainView}
 use Rattle.packet_version.proofs.Maps.{as_map-listed, listed_at}
 use Rattle.packet_version.proofs.Placing.{map_put}
-use Rattle.packet_version.proofs.Stepping.{by_field}
+use Rattle.packet_version.proofs.DealtByField.{by_field}
 
 -- only the tags have their number
 pub number-tag : (f : Field) → (number_of f == number_of Tag) ≡ true → f ≡ Tag
@@ -72,8 +72,8 @@ pub writes_is : (own : List (Option PlainPart)) (lent : Option PlainHeld) (f : F
 writes_is own lent f touch fixed b old old_is w = ap (λ (v : PlainVersion). has_write f v.touch) old_is ∙ w
 
 -- the parts of a version
-pub parts_are : (own : List (Option PlainPart)) (lent : Option PlainHeld) (touch : Touch) (fixed : Fixed) (old : PlainVersion) → version_of own lent touch fixed ≡ old → parts_of old ≡ had_by touch (as_map own) (lent_parts lent)
-parts_are own lent touch fixed old old_is = sym (ap (λ (v : PlainVersion). parts_of v) old_is) ∙ as_map-listed (had_by touch (as_map own) (lent_parts lent))
+pub parts_are : (own : List (Option PlainPart)) (lent : Option PlainHeld) (touch : Touch) (fixed : Fixed) (old : PlainVersion) → version_of own lent touch fixed ≡ old → version_parts old ≡ had_by touch (as_map own) (lent_parts lent)
+parts_are own lent touch fixed old old_is = sym (ap (λ (v : PlainVersion). version_parts v) old_is) ∙ as_map-listed (had_by touch (as_map own) (lent_parts lent))
 
 -- there is a place for what a branch writes
 pub own_inside : (touch : Touch) (own : List (Option PlainPart)) (lent : Option PlainHeld) (n : ℕ) (f : Field) → n < 10 → has_write f touch ≡ true → IsHad touch own lent → n < length own

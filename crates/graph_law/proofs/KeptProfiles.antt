@@ -9,10 +9,10 @@ use Rattle.chain_walk.specs.Step.{Behaviour}
 use Rattle.chain_walk.specs.declared.fixed.Fixed.{Fixed}
 use Rattle.graph_compile.specs.declared.graph.Branch.{Branch}
 use Rattle.graph_compile.specs.declared.graph.Stage.{Stage}
-use Rattle.graph_law.specs.Branches.{Arrival, Arrival.Live, Arrival.Nil, Ran, dealt, met, in_turn, moved_function}
+use Rattle.graph_law.specs.Branches.{BranchEnd, BranchEnd.Live, BranchEnd.Nil, Ran, dealt, met, in_turn, moved_function}
 use Rattle.graph_law.specs.Flow.{branched, staged, then_flow, flow}
 
-moved_keeps : {F : Type 0} (b : Behaviour F) (fixed : Fixed) (f : F) (a : Arrival) → KeepsProfile b → b.profile (moved_function b fixed f a) ≡ b.profile f
+moved_keeps : {F : Type 0} (b : Behaviour F) (fixed : Fixed) (f : F) (a : BranchEnd) → KeepsProfile b → b.profile (moved_function b fixed f a) ≡ b.profile f
 unfolding moved_function
 moved_keeps b fixed f (Live v) law = law.stays fixed f v.values
 moved_keeps b fixed f (Nil q) law = refl
@@ -22,24 +22,24 @@ set_keeps profile [] n f y e same = absurd cc
 set_keeps profile (x ∷ fs) zero f y e same = let is : f ≡ x = cc in ap (λ q. q ∷ map profile fs) (same ∙ ap profile is)
 set_keeps profile (x ∷ fs) (suc n) f y e same = ap (λ rest. profile x ∷ rest) (set_keeps profile fs n f y e same)
 
-met_keeps : {F : Type 0} (b : Behaviour F) (fixed : Fixed) (q : ℕ) (o : Option F) (fs : List F) (a : Arrival) → KeepsProfile b → slice_get fs (q - 1) ≡ o → map b.profile (met b fixed q o fs a).functions ≡ map b.profile fs
+met_keeps : {F : Type 0} (b : Behaviour F) (fixed : Fixed) (q : ℕ) (o : Option F) (fs : List F) (a : BranchEnd) → KeepsProfile b → slice_get fs (q - 1) ≡ o → map b.profile (met b fixed q o fs a).functions ≡ map b.profile fs
 unfolding met
 met_keeps b fixed q None fs a law e = refl
 met_keeps b fixed q (Some f) fs a law e = set_keeps b.profile fs (q - 1) f (moved_function b fixed f a) e (moved_keeps b fixed f a law)
 
-length_met : {F : Type 0} (b : Behaviour F) (fixed : Fixed) (q : ℕ) (o : Option F) (fs : List F) (a : Arrival) → length (met b fixed q o fs a).functions ≡ length fs
+length_met : {F : Type 0} (b : Behaviour F) (fixed : Fixed) (q : ℕ) (o : Option F) (fs : List F) (a : BranchEnd) → length (met b fixed q o fs a).functions ≡ length fs
 unfolding met
 length_met b fixed q None fs a = refl
 length_met b fixed q (Some f) fs a = length-set fs (q - 1) (moved_function b fixed f a)
 
-pub in_turn_keeps : {F : Type 0} (b : Behaviour F) (fixed : Fixed) (positions : List ℕ) (fs : List F) (a : Arrival) → KeepsProfile b → map b.profile (in_turn b fixed positions fs a).functions ≡ map b.profile fs
+pub in_turn_keeps : {F : Type 0} (b : Behaviour F) (fixed : Fixed) (positions : List ℕ) (fs : List F) (a : BranchEnd) → KeepsProfile b → map b.profile (in_turn b fixed positions fs a).functions ≡ map b.profile fs
 unfolding in_turn
 in_turn_keeps b fixed [] fs a law = refl
 in_turn_keeps {F} b fixed (q ∷ positions) fs a law =
     let m : Ran F = met b fixed q (slice_get fs (q - 1)) fs a in
     in_turn_keeps b fixed positions m.functions m.arrival law ∙ met_keeps b fixed q (slice_get fs (q - 1)) fs a law refl
 
-pub length_in_turn : {F : Type 0} (b : Behaviour F) (fixed : Fixed) (positions : List ℕ) (fs : List F) (a : Arrival) → length (in_turn b fixed positions fs a).functions ≡ length fs
+pub length_in_turn : {F : Type 0} (b : Behaviour F) (fixed : Fixed) (positions : List ℕ) (fs : List F) (a : BranchEnd) → length (in_turn b fixed positions fs a).functions ≡ length fs
 unfolding in_turn
 length_in_turn b fixed [] fs a = refl
 length_in_turn {F} b fixed (q ∷ positions) fs a =

@@ -15,7 +15,7 @@ use Rattle.chain_walk.specs.Laws.{KeepsProfile}
 use Rattle.chain_walk.specs.Walk.{Walked, walk, dropped_at, then_walked}
 use Rattle.chain_walk.specs.FieldWalk.{End.Out, End.Gone, Ended, walk_fields, walked_by, then_ended}
 use Rattle.chain_walk.specs.declared.fixed.Fixed.{Fixed}
-use Rattle.chain_walk.proofs.Forming.{old_tags, old_length}
+use Rattle.chain_walk.proofs.WellFormedFields.{old_tags, old_length}
 
 -- Values for a frame: each can stand in its field's place, and there is one wherever the frame has the field.
 pub record IsFilled (values : Values) (frame : List ℕ) : Type 0 where

@@ -7,17 +7,17 @@ use crate::slot::DeskFault;
 /// The calls on a slot so far, those that failed among them, and how many failed. Both stand still
 /// at the end of their type.
 #[derive(Clone, Copy, Debug)]
-pub struct Tally {
+pub struct CallCounts {
     pub calls: u64,
     pub faults: u64,
 }
 
-impl Tally {
+impl CallCounts {
     pub fn new() -> Self
         ensures calls { result.calls ≡ 0 }
         ensures faults { result.faults ≡ 0 }
     {
-        Tally {
+        CallCounts {
             calls: 0,
             faults: 0,
         }

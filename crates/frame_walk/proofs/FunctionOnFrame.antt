@@ -21,8 +21,8 @@ use Rattle.chain_walk.specs.Walk.{applied, frame_after}
 use Rattle.chain_walk.specs.declared.fixed.Fixed.{Fixed}
 use Rattle.chain_walk.specs.declared.verdict.Verdict.{Verdict}
 use Rattle.packet_version.specs.Parts.{PlainPart, Parts, writer_in, values_of, unwritten}
-use Rattle.packet_version.specs.Splitting.{PlainApart, IsWhole, fresh, split_parts, spare_room, parts_of as parts_in}
-use Rattle.packet_version.specs.Versions.{PlainVersion, HoldsNamed, parts_of}
+use Rattle.packet_version.specs.Splitting.{PlainApart, IsWhole, fresh, split_parts, spare_room, packet_parts}
+use Rattle.packet_version.specs.Versions.{PlainVersion, HoldsNamed, version_parts}
 use Rattle.packet_version.specs.Dealing.{dealt, dealt_parts, based}
 use Rattle.packet_version.specs.Views.{PlainView, seen_parts, seen_values, viewed, wrote_all, rewritten_by, HasTagRoom}
 use Rattle.packet_version.proofs.Firsts.{count-cons}
@@ -34,16 +34,16 @@ use Rattle.merge_ops.specs.declared.arrival.Arrival.TheVariants.{Version as of_v
 
 -- a frame in parts, with room for so many tags more
 pub record IsApart (whole : PlainApart) (taggers time : ℕ) (frame : List ℕ) : Type 0 where
-  pub parts : parts_in whole ≡ split_parts taggers frame
+  pub parts : packet_parts whole ≡ split_parts taggers frame
   pub rest : whole.rest ≡ rest_of frame
   pub fixed : whole.fixed ≡ fixed_of time frame
-  pub fits : IsWhole (parts_in whole) whole.rest
+  pub fits : IsWhole (packet_parts whole) whole.rest
 
 bytes_fresh : (spare : ℕ) (o : Option (List ℕ)) → option_map (λ (p : PlainPart). p.bytes) (option_map (fresh spare) o) ≡ o
 bytes_fresh spare None = refl
 bytes_fresh spare (Some bytes) = refl
 
-values_apart : (whole : PlainApart) (taggers time : ℕ) (frame : List ℕ) → IsApart whole taggers time frame → values_of (parts_in whole) ≡ fields_of frame
+values_apart : (whole : PlainApart) (taggers time : ℕ) (frame : List ℕ) → IsApart whole taggers time frame → values_of (packet_parts whole) ≡ fields_of frame
 values_apart whole taggers time frame apart = ap values_of apart.parts ∙ fun_ext (λ f. bytes_fresh (spare_room taggers f) (value f frame))
 
 -- the version that the only branch is dealt, as its function sees it
@@ -52,7 +52,7 @@ dealt_view whole touch profile = record { version = dealt whole touch; profile =
 
 -- what is read of a version that was dealt
 abbrev pub IsReadAs : PlainApart → Touch → Type 0
-IsReadAs whole touch = parts_of (dealt whole touch) ≡ dealt_parts touch (parts_in whole)
+IsReadAs whole touch = version_parts (dealt whole touch) ≡ dealt_parts touch (packet_parts whole)
 
 reads_named : (r w : Bool) → r ≡ true → (r || w) ≡ true
 reads_named true w e = refl
@@ -88,7 +88,7 @@ pub step_same : {F : Type 0} (b : Behaviour F) (f : F) (whole : PlainApart) (tou
     viewed b f (dealt_view whole touch (b.profile f)) ≡ applied b time f frame
 step_same b f whole touch taggers time frame apart read holds =
     ap (λ (m : Parts). b.step f (shown_by (b.profile f) whole.fixed (values_of m))) read
-    ∙ ap (b.step f) (shown_same (b.profile f) whole.fixed touch (parts_in whole) holds)
+    ∙ ap (b.step f) (shown_same (b.profile f) whole.fixed touch (packet_parts whole) holds)
     ∙ ap (λ (v : Values). b.step f (shown_by (b.profile f) whole.fixed v)) (values_apart whole taggers time frame apart)
     ∙ ap (λ (x : Fixed). b.step f (shown_by (b.profile f) x (fields_of frame))) apart.fixed
 
@@ -142,7 +142,7 @@ step_made b f whole touch new keeps read formed is after =
           ∙ ap (λ (m : Parts). lengths_of m x) read;
     }
 
-pub from_one : (whole base : PlainApart) (touch : Touch) (version : PlainVersion) → IsWhole (parts_in whole) whole.rest → base ≡ based (touch ∷ []) whole → IsMadeOf whole touch version → AreFrom whole (touch ∷ []) base (of_version version ∷ [])
+pub from_one : (whole base : PlainApart) (touch : Touch) (version : PlainVersion) → IsWhole (packet_parts whole) whole.rest → base ≡ based (touch ∷ []) whole → IsMadeOf whole touch version → AreFrom whole (touch ∷ []) base (of_version version ∷ [])
 from_one whole base touch version fits behind made = record { fits = fits; behind = behind; count = refl; each = each }
   where
     each : (k : ℕ) → k < 1 → IsFrom whole (slice_index_or (touch ∷ []) k no_touch) (arrival_at (of_version version ∷ []) k)
@@ -177,7 +177,7 @@ false_and false c e = refl
 
 -- behind the branch each field has the value that was written, or the packet's own
 pub value_written : {F : Type 0} (b : Behaviour F) (f : F) (whole : PlainApart) (touch : Touch) (new : Values) → NoneWrote → OneWrote → KeepsProfile b → IsReadAs whole touch → new ≡ (viewed b f (dealt_view whole touch (b.profile f))).written →
-    IsWrittenAs (dealt_view whole touch (b.profile f)) new → value_behind whole (of_version (wrote_all new (dealt_view whole touch (b.profile f))).version ∷ []) ≡ over new (values_of (parts_in whole))
+    IsWrittenAs (dealt_view whole touch (b.profile f)) new → value_behind whole (of_version (wrote_all new (dealt_view whole touch (b.profile f))).version ∷ []) ≡ over new (values_of (packet_parts whole))
 value_written b f whole touch new none_wrote one_wrote keeps read is after = fun_ext (λ x. by_last x (last_writer arrivals x) refl)
   where
     view : PlainView
@@ -190,12 +190,12 @@ value_written b f whole touch new none_wrote one_wrote keeps read is after = fun
     absent x e = ap (λ (w : Values). w x) is ∙ keeps.writes whole.fixed f (seen_values view) x (false_and (writes_of (b.profile f) x) (is_some (seen_values view x)) e)
 
     unwritten_yet : (x : Field) → writer_in (seen_parts view x) ≡ 0
-    unwritten_yet x = ap (λ (m : Parts). writer_in (m x)) read ∙ nobody (has_touch x touch) (parts_in whole x)
+    unwritten_yet x = ap (λ (m : Parts). writer_in (m x)) read ∙ nobody (has_touch x touch) (packet_parts whole x)
 
-    by_last : (x : Field) (o : Option ℕ) → last_writer arrivals x ≡ o → value_by whole arrivals x o ≡ option_or (new x) (values_of (parts_in whole) x)
-    by_last x None none = sym (ap (λ (w : Option (List ℕ)). option_or w (values_of (parts_in whole) x)) (nothing_new (new x) (seen_parts view x) (absent x) (sym (ap writer_in (after x)) ∙ none_wrote arrivals x 0 none)))
+    by_last : (x : Field) (o : Option ℕ) → last_writer arrivals x ≡ o → value_by whole arrivals x o ≡ option_or (new x) (values_of (packet_parts whole) x)
+    by_last x None none = sym (ap (λ (w : Option (List ℕ)). option_or w (values_of (packet_parts whole) x)) (nothing_new (new x) (seen_parts view x) (absent x) (sym (ap writer_in (after x)) ∙ none_wrote arrivals x 0 none)))
     by_last x (Some zero) some = let wrote = (one_wrote arrivals x 0 some).1 in
-        ap bytes_in (after x) ∙ new_bytes (new x) (seen_parts view x) (values_of (parts_in whole) x) (unwritten_yet x) (subst (λ (o : Option PlainPart). 0 < writer_in o) (after x) wrote)
+        ap bytes_in (after x) ∙ new_bytes (new x) (seen_parts view x) (values_of (packet_parts whole) x) (unwritten_yet x) (subst (λ (o : Option PlainPart). 0 < writer_in o) (after x) wrote)
     by_last x (Some (suc k)) some = absurd (let less = (one_wrote arrivals x (suc k) some).0 in omega arith)
 
 -- the frame is put together with what was written
@@ -203,10 +203,10 @@ abbrev pub PutTogether : {F : Type 0} → Behaviour F → ℕ → F → List ℕ
 PutTogether b time f frame = written (over (applied b time f frame).written (fields_of frame)) (rest_of frame) ≡ frame_after b time f frame
 
 pub frame_made : {F : Type 0} (b : Behaviour F) (f : F) (whole : PlainApart) (taggers time : ℕ) (frame out : List ℕ) (new : Values) (behind : Values) → IsApart whole taggers time frame → PutTogether b time f frame → new ≡ (applied b time f frame).written →
-    behind ≡ over new (values_of (parts_in whole)) → out ≡ written behind whole.rest → out ≡ frame_after b time f frame
+    behind ≡ over new (values_of (packet_parts whole)) → out ≡ written behind whole.rest → out ≡ frame_after b time f frame
 frame_made b f whole taggers time frame out new behind apart together is values made =
     made
-    ∙ ap (λ (v : Values). written v whole.rest) (values ∙ ap (λ (v : Values). over v (values_of (parts_in whole))) is ∙ ap (over (applied b time f frame).written) (values_apart whole taggers time frame apart))
+    ∙ ap (λ (v : Values). written v whole.rest) (values ∙ ap (λ (v : Values). over v (values_of (packet_parts whole))) is ∙ ap (over (applied b time f frame).written) (values_apart whole taggers time frame apart))
     ∙ ap (written (over (applied b time f frame).written (fields_of frame))) apart.rest
     ∙ together
 

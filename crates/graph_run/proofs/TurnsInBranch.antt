@@ -11,17 +11,17 @@ use Rattle.chain_walk.specs.Step.{Behaviour, stepped}
 use Rattle.chain_walk.specs.Laws.{KeepsProfile}
 use Rattle.chain_walk.specs.declared.fixed.Fixed.{Fixed}
 use Rattle.graph_compile.specs.Parts.{profile_at}
-use Rattle.graph_law.specs.Branches.{Arrival, Arrival.Live, Arrival.Nil, Ran, moved_function, moved_arrival, met, in_turn}
+use Rattle.graph_law.specs.Branches.{BranchEnd, BranchEnd.Live, BranchEnd.Nil, Ran, moved_function, moved_end, met, in_turn}
 use Rattle.packet_version.specs.Parts.{PlainPart}
 use Rattle.packet_version.specs.Splitting.{PlainApart}
-use Rattle.packet_version.specs.Versions.{PlainVersion, parts_of, HoldsNamed}
-use Rattle.merge_ops.specs.declared.arrival.Arrival.{Arrival as Came}
+use Rattle.packet_version.specs.Versions.{PlainVersion, version_parts, HoldsNamed}
+use Rattle.merge_ops.specs.declared.arrival.Arrival.{Arrival}
 use Rattle.merge_ops.specs.declared.arrival.Arrival.TheVariants as cames
 use Rattle.chain_walk.specs.Shown.{AreWellFormed}
-use Rattle.graph_run.specs.Carrying.{as_version, as_arrival, wrote_at}
+use Rattle.graph_run.specs.Carrying.{as_version, as_branch_end, wrote_at}
 use Rattle.graph_run.specs.Rooms.{adders_from}
 use Rattle.graph_run.specs.Staging.{Holds, IsReady, IsCarried, IsCarriedBy, IsWhatWasWritten}
-use Rattle.graph_run.proofs.Rooming.{adders_at, room_later}
+use Rattle.graph_run.proofs.RoomForTags.{adders_at, room_later}
 use Rattle.graph_run.proofs.Carried.{StaysFormed, carried_on}
 
 -- a version goes on through the functions at these positions
@@ -55,7 +55,7 @@ pub record HasTurn {F : Type 0} (b : Behaviour F) (now : List F) (q : ℕ) (v : 
   pub is : slice_get now (q - 1) ≡ Some function
   pub holds : HoldsNamed (b.profile function) v.touch
   pub formed : AreWellFormed (as_version v).values
-  pub room : (b.profile function).adds ≡ true → IfSome (parts_of v Tag) (λ tags. length tags.bytes + 4 ≤ tags.room)
+  pub room : (b.profile function).adds ≡ true → IfSome (version_parts v Tag) (λ tags. length tags.bytes + 4 ≤ tags.room)
 
 -- the function at a position, by its profile
 function_at : {F : Type 0} (b : Behaviour F) (fs : List F) (n : ℕ) (p : Profile) → slice_get (map b.profile fs) n ≡ Some p → (f : F) × (slice_get fs n ≡ Some f) × (b.profile f ≡ p)
@@ -103,9 +103,9 @@ has_turn b positions first now v0 v i turn ready inside =
         written = λ x e. rw turn.touch (next.named.written x (rw (← found.2) e));
       };
       formed = goes.carried.formed;
-      room = λ adds. four_more (parts_of v Tag) (b.profile found.0).adds (adders_from chain (get_or positions i 0)) (adders_from chain (get_or positions i 0 + 1))
+      room = λ adds. four_more (version_parts v Tag) (b.profile found.0).adds (adders_from chain (get_or positions i 0)) (adders_from chain (get_or positions i 0 + 1))
           (adders_at chain (get_or positions i 0) (b.profile found.0) next.position (next.is ∙ ap (λ (p : Profile). Some p) (sym found.2))) adds
-          (room_later chain goes.at (get_or positions i 0) (parts_of v) next.rises goes.carried.room);
+          (room_later chain goes.at (get_or positions i 0) (version_parts v) next.rises goes.carried.room);
     }
 
 pub turn_inside : {F : Type 0} (b : Behaviour F) (now : List F) (q : ℕ) (v : PlainVersion) → HasTurn b now q v → q - 1 < length now
@@ -126,14 +126,14 @@ turn_is b now q v d turn = got now (q - 1) turn.function d turn.is
     got (y ∷ xs) (suc n) x d e = got xs n x d e
 
 -- one turn: the function at a position that there is
-in_turn_more : {F : Type 0} (b : Behaviour F) (fixed : Fixed) (q : ℕ) (qs : List ℕ) (fs : List F) (f : F) (a : Arrival) → slice_get fs (q - 1) ≡ Some f →
-    in_turn b fixed (q ∷ qs) fs a ≡ in_turn b fixed qs (set fs (q - 1) (moved_function b fixed f a)) (moved_arrival b fixed q f a)
+in_turn_more : {F : Type 0} (b : Behaviour F) (fixed : Fixed) (q : ℕ) (qs : List ℕ) (fs : List F) (f : F) (a : BranchEnd) → slice_get fs (q - 1) ≡ Some f →
+    in_turn b fixed (q ∷ qs) fs a ≡ in_turn b fixed qs (set fs (q - 1) (moved_function b fixed f a)) (moved_end b fixed q f a)
 unfolding in_turn met
 in_turn_more b fixed q qs fs f a is = ap (λ o. in_turn b fixed qs (met b fixed q o fs a).functions (met b fixed q o fs a).arrival) is
 
 -- a packet that is gone leaves every function as it is
 in_turn_gone : {F : Type 0} (b : Behaviour F) (fixed : Fixed) (qs : List ℕ) (fs : List F) (p : ℕ) → in_turn b fixed qs fs (Nil p) ≡ record { functions = fs; arrival = Nil p }
-unfolding in_turn met moved_function moved_arrival
+unfolding in_turn met moved_function moved_end
 in_turn_gone b fixed [] fs p = refl
 in_turn_gone {F} b fixed (q ∷ qs) fs p = by_get (in_turn_gone b fixed qs fs p) (slice_get fs (q - 1)) refl
   where
@@ -154,7 +154,7 @@ profile_kept b fixed g v keeps = keeps.stays fixed g (as_version v).values
 pub turn_taken : {F : Type 0} (b : Behaviour F) (positions : List ℕ) (first now : List F) (v0 v after : PlainVersion) (i : ℕ) (f d : F) → StaysFormed F → KeepsProfile b →
     InTurn b positions first now v0 v i → IsReady (map b.profile first) positions v0 → i < length positions →
     f ≡ moved_function b v.fixed (get_or now (get_or positions i 0 - 1) d) (Live (as_version v)) →
-    Live (as_version after) ≡ moved_arrival b v.fixed (get_or positions i 0) (get_or now (get_or positions i 0 - 1) d) (Live (as_version v)) →
+    Live (as_version after) ≡ moved_end b v.fixed (get_or positions i 0) (get_or now (get_or positions i 0 - 1) d) (Live (as_version v)) →
     after ≡ wrote_at (get_or positions i 0) (stepped b v.fixed (get_or now (get_or positions i 0 - 1) d) (as_version v).values).written v →
     InTurn b positions first (set now (get_or positions i 0 - 1) f) v0 after (i + 1)
 turn_taken {F} b positions first now v0 v after i f d stays keeps turn ready inside moved goes_on wrote =
@@ -164,7 +164,7 @@ turn_taken {F} b positions first now v0 v after i f d stays keeps turn ready ins
     let is : slice_get now (q - 1) ≡ Some was = has.is ∙ ap (λ x. Some x) (sym (turn_is b now q v d has)) in
     record {
       same = (λ j. in_turn b v0.fixed (drop (i + 1) positions) (set now (q - 1) (moved j)) (goes_on j))
-          ∙ ap (λ x. in_turn b v0.fixed (drop (i + 1) positions) (set now (q - 1) (moved_function b x was (Live (as_version v)))) (moved_arrival b x q was (Live (as_version v)))) turn.fixed
+          ∙ ap (λ x. in_turn b v0.fixed (drop (i + 1) positions) (set now (q - 1) (moved_function b x was (Live (as_version v)))) (moved_end b x q was (Live (as_version v)))) turn.fixed
           ∙ sym (in_turn_more b v0.fixed q (drop (i + 1) positions) now was (Live (as_version v)) is)
           ∙ ap (λ l. in_turn b v0.fixed l now (Live (as_version v))) (sym (drop_more positions i 0 inside))
           ∙ turn.same;
@@ -185,14 +185,14 @@ turn_taken {F} b positions first now v0 v after i f d stays keeps turn ready ins
     }
 
 -- the same, of what comes from the function's step
-pub turn_passed : {F : Type 0} (b : Behaviour F) (positions : List ℕ) (first now : List F) (v0 v after : PlainVersion) (i : ℕ) (f d : F) (came : Came) → StaysFormed F → KeepsProfile b →
+pub turn_passed : {F : Type 0} (b : Behaviour F) (positions : List ℕ) (first now : List F) (v0 v after : PlainVersion) (i : ℕ) (f d : F) (came : Arrival) → StaysFormed F → KeepsProfile b →
     InTurn b positions first now v0 v i → IsReady (map b.profile first) positions v0 → i < length positions →
     f ≡ moved_function b v.fixed (get_or now (get_or positions i 0 - 1) d) (Live (as_version v)) →
-    as_arrival came ≡ moved_arrival b v.fixed (get_or positions i 0) (get_or now (get_or positions i 0 - 1) d) (Live (as_version v)) →
+    as_branch_end came ≡ moved_end b v.fixed (get_or positions i 0) (get_or now (get_or positions i 0 - 1) d) (Live (as_version v)) →
     IsWhatWasWritten (get_or positions i 0) (stepped b v.fixed (get_or now (get_or positions i 0 - 1) d) (as_version v).values).written v came → came ≡ cames.Version after →
     InTurn b positions first (set now (get_or positions i 0 - 1) f) v0 after (i + 1)
 turn_passed b positions first now v0 v after i f d came stays keeps turn ready inside moved goes_on wrote is =
-    turn_taken b positions first now v0 v after i f d stays keeps turn ready inside moved (ap as_arrival (sym is) ∙ goes_on)
+    turn_taken b positions first now v0 v after i f d stays keeps turn ready inside moved (ap as_branch_end (sym is) ∙ goes_on)
     (subst (IsWhatWasWritten (get_or positions i 0) (stepped b v.fixed (get_or now (get_or positions i 0 - 1) d) (as_version v).values).written v) is wrote)
 
 pub turns_over : {F : Type 0} (b : Behaviour F) (positions : List ℕ) (first now : List F) (v0 v : PlainVersion) (i : ℕ) → InTurn b positions first now v0 v i → length positions ≤ i →
@@ -202,7 +202,7 @@ turns_over b positions first now v0 v i turn past = ap (λ l. in_turn b v0.fixed
 
 carried_later : (chain : List Profile) (whole : PlainApart) (touch : Touch) (at high : ℕ) (v : PlainVersion) → Holds chain touch at high [] → IsCarried chain whole touch at v → IsCarried chain whole touch high v
 unfolding Holds
-carried_later chain whole touch at high v le c = record { made = c.made; fixed = c.fixed; formed = c.formed; room = room_later chain at high (parts_of v) le c.room }
+carried_later chain whole touch at high v le c = record { made = c.made; fixed = c.fixed; formed = c.formed; room = room_later chain at high (version_parts v) le c.room }
 
 pub carried_over : {F : Type 0} (b : Behaviour F) (positions : List ℕ) (first now : List F) (v0 v : PlainVersion) (i : ℕ) → InTurn b positions first now v0 v i → length positions ≤ i →
     (whole : PlainApart) (low high : ℕ) → Holds (map b.profile first) v0.touch low high positions → IsCarried (map b.profile first) whole v0.touch low v0 → IsCarried (map b.profile first) whole v0.touch high v
@@ -211,15 +211,15 @@ carried_over b positions first now v0 v i turn past whole low high holds carried
     carried_later (map b.profile first) whole v0.touch goes.at high v (subst (Holds (map b.profile first) v0.touch goes.at high) (drop_all i positions past) goes.holds) goes.carried
 
 -- what comes of a branch in which a function dropped the packet
-pub record Dropped {F : Type 0} (b : Behaviour F) (positions : List ℕ) (first now : List F) (v0 : PlainVersion) (came : Came) : Type 0 where
+pub record Dropped {F : Type 0} (b : Behaviour F) (positions : List ℕ) (first now : List F) (v0 : PlainVersion) (came : Arrival) : Type 0 where
   pub functions : now ≡ (in_turn b v0.fixed positions first (Live (as_version v0))).functions
-  pub arrival : as_arrival came ≡ (in_turn b v0.fixed positions first (Live (as_version v0))).arrival
+  pub arrival : as_branch_end came ≡ (in_turn b v0.fixed positions first (Live (as_version v0))).arrival
   pub carried : (whole : PlainApart) (low high : ℕ) → Holds (map b.profile first) v0.touch low high positions → IsCarried (map b.profile first) whole v0.touch low v0 → IsCarriedBy (map b.profile first) whole v0.touch high came
 
-pub turn_dropped : {F : Type 0} (b : Behaviour F) (positions : List ℕ) (first now : List F) (v0 v : PlainVersion) (i : ℕ) (f d : F) (came : Came) →
+pub turn_dropped : {F : Type 0} (b : Behaviour F) (positions : List ℕ) (first now : List F) (v0 v : PlainVersion) (i : ℕ) (f d : F) (came : Arrival) →
     InTurn b positions first now v0 v i → IsReady (map b.profile first) positions v0 → i < length positions →
     f ≡ moved_function b v.fixed (get_or now (get_or positions i 0 - 1) d) (Live (as_version v)) →
-    as_arrival came ≡ moved_arrival b v.fixed (get_or positions i 0) (get_or now (get_or positions i 0 - 1) d) (Live (as_version v)) →
+    as_branch_end came ≡ moved_end b v.fixed (get_or positions i 0) (get_or now (get_or positions i 0 - 1) d) (Live (as_version v)) →
     IsWhatWasWritten (get_or positions i 0) (stepped b v.fixed (get_or now (get_or positions i 0 - 1) d) (as_version v).values).written v came → ((w : PlainVersion) → came ≢ cames.Version w) →
     Dropped b positions first (set now (get_or positions i 0 - 1) f) v0 came
 turn_dropped b positions first now v0 v i f d (cames.Version w) turn ready inside moved gone wrote no_version = absurd (no_version w refl)
@@ -232,7 +232,7 @@ turn_dropped {F} b positions first now v0 v i f d (cames.Nil p) turn ready insid
     let all : ◌≡◌ {A = Ran F} (record { functions = set now (q - 1) f; arrival = Nil p }) (in_turn b v0.fixed positions first (Live (as_version v0))) =
     sym (in_turn_gone b v0.fixed (drop (i + 1) positions) (set now (q - 1) f) p)
     ∙ (λ j. in_turn b v0.fixed (drop (i + 1) positions) (set now (q - 1) (moved j)) (gone j))
-    ∙ ap (λ x. in_turn b v0.fixed (drop (i + 1) positions) (set now (q - 1) (moved_function b x was (Live (as_version v)))) (moved_arrival b x q was (Live (as_version v)))) turn.fixed
+    ∙ ap (λ x. in_turn b v0.fixed (drop (i + 1) positions) (set now (q - 1) (moved_function b x was (Live (as_version v)))) (moved_end b x q was (Live (as_version v)))) turn.fixed
     ∙ sym (in_turn_more b v0.fixed q (drop (i + 1) positions) now was (Live (as_version v)) is)
     ∙ ap (λ l. in_turn b v0.fixed l now (Live (as_version v))) (sym (drop_more positions i 0 inside))
     ∙ turn.same in
