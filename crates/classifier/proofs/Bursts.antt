@@ -5,7 +5,7 @@ use Rattle.std.proofs.lemmas.List.Sums.{sum_by-append}
 use Rattle.std.proofs.lemmas.List.Elements.{All-cons, All-head, All-nil, All-same, All-tail}
 use Rattle.pcap_io.specs.declared.capture.PcapRecord.{PcapRecord}
 use Rattle.classifier.specs.declared.burst.Item.{Item}
-use Rattle.classifier.specs.Cutting.{IsClosedByLast, IsCut, bursts_from, captured, class_of, in_a_row, is_full, numbered, rest_from}
+use Rattle.classifier.specs.Cutting.{IsClosedByLast, IsCut, bursts_from, captured, in_a_row, is_full, numbered, rest_from, unnumbered}
 
 -- no burst is full without a packet
 pub nothing_is_full : (limit : ℕ) → 0 < limit → is_full limit [] ≡ false
@@ -54,7 +54,7 @@ rest_open limit held (i ∷ items) none e =
       | inr f ↦ ap (λ b. is_full limit (cond b closed open_still)) f ∙ rest_open limit (held ++ i ∷ []) items none f
     ]
 
-pub packets_numbered : (first : ℕ) (packets : List (PcapRecord × Option ℕ)) → map class_of (numbered first packets) ≡ packets
+pub packets_numbered : (first : ℕ) (packets : List (PcapRecord × Option ℕ)) → map unnumbered (numbered first packets) ≡ packets
 packets_numbered first [] = refl
 packets_numbered first (p ∷ ps) = ap (λ l. p ∷ l) (packets_numbered (first + 1) ps)
 

@@ -1,2 +1,4 @@
 pub mod Bursts
+mod ClassRows
+pub mod Firsts
 mod Rows

@@ -38,8 +38,8 @@ numbered n [] = []
 numbered n (p ∷ ps) = record { number = n; class = p.1; packet = p.0 } ∷ numbered (n + 1) ps
 
 -- the packet and its class, without the number
-abbrev pub class_of : Item → PcapRecord × Option ℕ
-class_of i = (i.packet, i.class)
+abbrev pub unnumbered : Item → PcapRecord × Option ℕ
+unnumbered i = (i.packet, i.class)
 
 -- the bursts of these packets, where some are held already: each is closed by the first packet that makes it full
 unfoldable pub bursts_from : ℕ → List Item → List Item → List (List Item)

@@ -1,8 +1,21 @@
-//! What cutting is worth.
-ghost use Rattle.std.specs.Prelude.{◌≡◌, ◌<◌, ℕ, ◌+◌, ◌++◌, List, [], ◌∷◌, Option, if◌then◌else◌, length, map, slice_index_or};
+//! What classes and cutting are worth.
+ghost use Rattle.std.specs.Prelude.{◌≡◌, ◌↔◌, ◌<◌, ℕ, ◌+◌, ◌++◌, List, [], ◌∷◌, Option, Some, None, All, true, false, if◌then◌else◌, length, map, slice_index_or};
+ghost use Rattle.frame_seen.specs.Seeing.{seen_of};
 ghost use Rattle.pcap_io.specs.declared.capture.PcapRecord.{PcapRecord};
-ghost use Rattle.classifier.specs.Cutting.{IsCut, bursts_from, class_of, is_full, numbered, rest_from};
+ghost use Rattle.policy_text.specs.Meeting.{is_fitting};
+ghost use Rattle.policy_text.specs.declared.clause.Match.{Match};
+ghost use Rattle.classifier.specs.Classes.{class_of};
+ghost use Rattle.classifier.specs.Cutting.{IsCut, bursts_from, is_full, numbered, rest_from, unnumbered};
 ghost use Rattle.classifier.specs.declared.burst.Item.{Item};
+
+/// A law: the chain that takes a packet is one whose clauses the packet meets, and no chain before it is. A packet is taken
+/// by no chain exactly where it meets the clauses of none.
+pub fn class_is_the_first()
+    ensures within { (fits : List Match) → (frame : List ℕ) → (c : ℕ) → class_of fits frame ≡ Some c → c < length fits }
+    ensures met { (fits : List Match) → (frame : List ℕ) → (c : ℕ) → (d : Match) → class_of fits frame ≡ Some c → is_fitting (slice_index_or fits c d) (seen_of frame) ≡ true }
+    ensures first { (fits : List Match) → (frame : List ℕ) → (c k : ℕ) → (d : Match) → class_of fits frame ≡ Some c → k < c → is_fitting (slice_index_or fits k d) (seen_of frame) ≡ false }
+    ensures none { (fits : List Match) → (frame : List ℕ) → (class_of fits frame ≡ None) ↔ All (λ fit. is_fitting fit (seen_of frame) ≡ false) fits }
+{}
 
 /// A law: the bursts in a row, and the open one behind them, are the packets in a row. Each burst
 /// was closed by its last packet, and the open one isn't full. There is no other way to cut so.
@@ -15,7 +28,7 @@ pub fn bursts_are_the_packets_in_a_row()
 /// A law: numbering leaves the packets and their classes as they are and in their order, and the
 /// packet behind k others has the number k more than the first.
 pub fn numbered_in_order()
-    ensures packets { (first : ℕ) → (packets : List (PcapRecord × Option ℕ)) → map class_of (numbered first packets) ≡ packets }
+    ensures packets { (first : ℕ) → (packets : List (PcapRecord × Option ℕ)) → map unnumbered (numbered first packets) ≡ packets }
     ensures numbers { (first : ℕ) → (packets : List (PcapRecord × Option ℕ)) → (k : ℕ) → (d : Item) → k < length packets → (slice_index_or (numbered first packets) k d).number ≡ first + k }
     ensures more { (first : ℕ) → (packets more : List (PcapRecord × Option ℕ)) → numbered first (packets ++ more) ≡ numbered first packets ++ numbered (first + length packets) more }
 {}

@@ -1,4 +1,8 @@
-//! Packets on their way to the chains: numbered in their order, and cut into bursts.
+//! Packets on their way to the chains: which chain takes each, their numbers, and their bursts.
+//!
+//! A [`ClassTable`] says which chain takes a packet: the first, in the order of the policy, whose
+//! clauses the frame meets as it was read, and none where no chain's are met
+//! ([`class_is_the_first`]).
 //!
 //! A [`Cutter`] takes one packet after another, with the chain that takes it, numbers them from 1,
 //! and gives a [`Burst`] whenever one is full: with the set number of packets, or once
@@ -10,13 +14,18 @@
 //! numbered from 1 ([`numbered_in_order`]). [`cutting_goes_on`] ties the cutting of a list to what a
 //! cutter does, packet by packet.
 //!
-//! What is left out: which chain takes a packet. A cutter is told.
+//! A cutter doesn't ask the table: it is told the chain of each packet. What a chain does with its
+//! packets is left out.
 #![tactic(auto)]
 
 mod burst;
+mod class_table;
 mod cutter;
 mod laws;
 
 pub use burst::{Burst, Item};
+pub use class_table::ClassTable;
 pub use cutter::{BURST_BYTES, BURST_LIMIT, Cutter};
-pub use laws::{bursts_are_the_packets_in_a_row, cutting_goes_on, numbered_in_order};
+pub use laws::{
+    bursts_are_the_packets_in_a_row, class_is_the_first, cutting_goes_on, numbered_in_order,
+};

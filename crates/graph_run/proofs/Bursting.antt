@@ -18,7 +18,7 @@ use Rattle.graph_compile.specs.declared.graph.Graph.{Graph}
 use Rattle.graph_compile.specs.declared.graph.Stage.{Stage}
 use Rattle.packet_version.specs.Tallies.{count_of, raised}
 use Rattle.graph_run.specs.Counting.{copies_of, copies_made, RaisesAll, RaisesUpTo}
-use Rattle.graph_run.specs.Packets.{is_of, packet_of, packets_of}
+use Rattle.graph_run.specs.Packets.{is_of, packet_of, packets_taken}
 use Rattle.graph_run.specs.Rooms.{adders_from}
 use Rattle.graph_run.specs.Running.{IsRunning}
 
@@ -40,7 +40,7 @@ filter_append p (x ∷ xs) ys = by_test (p x) (filter_append p xs ys)
     by_test true e = ap (λ l. x ∷ l) e
     by_test false e = e
 
-pub packets_append : (unit : TimeUnit) (chain : ℕ) (xs ys : List Item) → packets_of unit chain (xs ++ ys) ≡ packets_of unit chain xs ++ packets_of unit chain ys
+pub packets_append : (unit : TimeUnit) (chain : ℕ) (xs ys : List Item) → packets_taken unit chain (xs ++ ys) ≡ packets_taken unit chain xs ++ packets_taken unit chain ys
 packets_append unit chain xs ys = ap (map (packet_of unit)) (filter_append (is_of chain) xs ys) ∙ map-append (packet_of unit) (filter (is_of chain) xs) (filter (is_of chain) ys)
 
 zip_append : {A B : Type 0} (xs ys : List A) (us vs : List B) → length us ≡ length xs → zip (xs ++ ys) (us ++ vs) ≡ zip xs us ++ zip ys vs
@@ -70,10 +70,10 @@ copies_in_a_row b stages functions first later f rows many =
 
 -- so many items have run, and the functions, fates and counts are those of their packets
 pub record HasRunItems {F : Type 0} (b : Behaviour F) (graph : Graph) (unit : TimeUnit) (chain : ℕ) (items : List Item) (first now : List F) (i : ℕ) (done : List Fate) (old new : List ℕ) : Type 0 where
-  pub functions : now ≡ functions_after b first (packets_of unit chain (take i items))
-  pub fates_are : done ≡ fates b first (packets_of unit chain (take i items))
+  pub functions : now ≡ functions_after b first (packets_taken unit chain (take i items))
+  pub fates_are : done ≡ fates b first (packets_taken unit chain (take i items))
   pub profiles : map b.profile now ≡ map b.profile first
-  pub counted : RaisesAll (walked_copies b graph.stages first (packets_of unit chain (take i items))) old new
+  pub counted : RaisesAll (walked_copies b graph.stages first (packets_taken unit chain (take i items))) old new
 
 nothing_yet : {F : Type 0} (b : Behaviour F) (stages : List Stage) (functions : List F) (f : Field) → walked_copies b stages functions [] f ≡ 0
 unfolding copies_made fates
@@ -93,17 +93,17 @@ raised_more c a m all now new x y e = omega arith
 
 pub item_more : {F : Type 0} (b : Behaviour F) (graph : Graph) (unit : TimeUnit) (chain : ℕ) (items : List Item) (first now after : List F) (i : ℕ) (done more : List Fate) (old new newer : List ℕ) (d : Item) → FatesInARow F → FunctionsInARow F → AsManyFates F →
     HasRunItems b graph unit chain items first now i done old new → i < length items → map b.profile after ≡ map b.profile now →
-    after ≡ functions_after b now (packets_of unit chain (get_or items i d ∷ [])) → more ≡ done ++ fates b now (packets_of unit chain (get_or items i d ∷ [])) →
-    RaisesAll (walked_copies b graph.stages now (packets_of unit chain (get_or items i d ∷ []))) new newer → HasRunItems b graph unit chain items first after (i + 1) more old newer
+    after ≡ functions_after b now (packets_taken unit chain (get_or items i d ∷ [])) → more ≡ done ++ fates b now (packets_taken unit chain (get_or items i d ∷ [])) →
+    RaisesAll (walked_copies b graph.stages now (packets_taken unit chain (get_or items i d ∷ []))) new newer → HasRunItems b graph unit chain items first after (i + 1) more old newer
 item_more {F} b graph unit chain items first now after i done more old new newer d rows functions_rows many run inside profiles fs came counted =
-    let before : List Packet = packets_of unit chain (take i items) in
-    let here : List Packet = packets_of unit chain (get_or items i d ∷ []) in
-    let row : packets_of unit chain (take (i + 1) items) ≡ before ++ here = ap (packets_of unit chain) (take_more items i d inside) ∙ packets_append unit chain (take i items) (get_or items i d ∷ []) in
+    let before : List Packet = packets_taken unit chain (take i items) in
+    let here : List Packet = packets_taken unit chain (get_or items i d ∷ []) in
+    let row : packets_taken unit chain (take (i + 1) items) ≡ before ++ here = ap (packets_taken unit chain) (take_more items i d inside) ∙ packets_append unit chain (take i items) (get_or items i d ∷ []) in
     record {
       functions = fs ∙ ap (λ (l : List F). functions_after b l here) run.functions ∙ sym (functions_rows b first before here) ∙ ap (functions_after b first) (sym row);
       fates_are = came ∙ (λ j. run.fates_are j ++ fates b (run.functions j) here) ∙ sym (rows b first before here) ∙ ap (fates b first) (sym row);
       profiles = profiles ∙ run.profiles;
-      counted = λ f. raised_more (count_of old f) (walked_copies b graph.stages first before f) (walked_copies b graph.stages now here f) (walked_copies b graph.stages first (packets_of unit chain (take (i + 1) items)) f) (count_of new f) (count_of newer f) (run.counted f) (counted f)
+      counted = λ f. raised_more (count_of old f) (walked_copies b graph.stages first before f) (walked_copies b graph.stages now here f) (walked_copies b graph.stages first (packets_taken unit chain (take (i + 1) items)) f) (count_of new f) (count_of newer f) (run.counted f) (counted f)
           (ap (λ (l : List Packet). walked_copies b graph.stages first l f) row ∙ copies_in_a_row b graph.stages first before here f rows many
           ∙ ap (λ (l : List F). walked_copies b graph.stages first before f + walked_copies b graph.stages l here f) (sym run.functions));
     }
@@ -113,21 +113,21 @@ bounded : (c a m n all now new : ℕ) → now ≡ raised c a → now ≤ new →
 bounded c a m n all now new x low high e = (omega arith, omega arith)
 
 pub item_fails : {F : Type 0} (b : Behaviour F) (graph : Graph) (unit : TimeUnit) (chain : ℕ) (items : List Item) (first now : List F) (i : ℕ) (done : List Fate) (old new newer : List ℕ) (d : Item) → FatesInARow F → FunctionsInARow F → AsManyFates F →
-    HasRunItems b graph unit chain items first now i done old new → i < length items → RaisesUpTo (walked_copies b graph.stages now (packets_of unit chain (get_or items i d ∷ []))) new newer → RaisesUpTo (walked_copies b graph.stages first (packets_of unit chain items)) old newer
+    HasRunItems b graph unit chain items first now i done old new → i < length items → RaisesUpTo (walked_copies b graph.stages now (packets_taken unit chain (get_or items i d ∷ []))) new newer → RaisesUpTo (walked_copies b graph.stages first (packets_taken unit chain items)) old newer
 item_fails {F} b graph unit chain items first now i done old new newer d rows functions_rows many run inside within = λ f.
-    let before : List Packet = packets_of unit chain (take i items) in
-    let here : List Packet = packets_of unit chain (get_or items i d ∷ []) in
-    let later : List Packet = packets_of unit chain (drop (i + 1) items) in
-    let row : packets_of unit chain items ≡ before ++ (here ++ later) =
-    ap (packets_of unit chain) (sym (take-append-drop i items) ∙ ap (λ l. take i items ++ l) (drop_more items i d inside))
+    let before : List Packet = packets_taken unit chain (take i items) in
+    let here : List Packet = packets_taken unit chain (get_or items i d ∷ []) in
+    let later : List Packet = packets_taken unit chain (drop (i + 1) items) in
+    let row : packets_taken unit chain items ≡ before ++ (here ++ later) =
+    ap (packets_taken unit chain) (sym (take-append-drop i items) ∙ ap (λ l. take i items ++ l) (drop_more items i d inside))
     ∙ packets_append unit chain (take i items) (get_or items i d ∷ drop (i + 1) items)
     ∙ ap (λ l. before ++ l) (packets_append unit chain (get_or items i d ∷ []) (drop (i + 1) items)) in
-    let all : walked_copies b graph.stages first (packets_of unit chain items) f ≡ walked_copies b graph.stages first before f + (walked_copies b graph.stages now here f + walked_copies b graph.stages (functions_after b now here) later f) =
+    let all : walked_copies b graph.stages first (packets_taken unit chain items) f ≡ walked_copies b graph.stages first before f + (walked_copies b graph.stages now here f + walked_copies b graph.stages (functions_after b now here) later f) =
     ap (λ (l : List Packet). walked_copies b graph.stages first l f) row
     ∙ copies_in_a_row b graph.stages first before (here ++ later) f rows many
     ∙ ap (λ (l : List F). walked_copies b graph.stages first before f + walked_copies b graph.stages l (here ++ later) f) (sym run.functions)
     ∙ ap (λ n. walked_copies b graph.stages first before f + n) (copies_in_a_row b graph.stages now here later f rows many) in
-    bounded (count_of old f) (walked_copies b graph.stages first before f) (walked_copies b graph.stages now here f) (walked_copies b graph.stages (functions_after b now here) later f) (walked_copies b graph.stages first (packets_of unit chain items) f)
+    bounded (count_of old f) (walked_copies b graph.stages first before f) (walked_copies b graph.stages now here f) (walked_copies b graph.stages (functions_after b now here) later f) (walked_copies b graph.stages first (packets_taken unit chain items) f)
     (count_of new f) (count_of newer f) (run.counted f) (within f).0 (within f).1 all
 
 -- a walk leaves as many functions, each with its profile

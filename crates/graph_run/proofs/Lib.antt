@@ -5,6 +5,7 @@ pub mod Carried
 pub mod Stepped
 pub mod TurnsInBranch
 pub mod Latest
+pub mod Led
 pub mod Behind
 pub mod Owning
 pub mod Branching

@@ -15,13 +15,13 @@ use Rattle.graph_compile.specs.declared.graph.Graph.{Graph}
 use Rattle.graph_compile.specs.declared.graph.Stage.{Stage}
 use Rattle.packet_version.specs.Tallies.{count_of, raised}
 use Rattle.graph_run.specs.Counting.{copies_of, copies_made, RaisesAll, RaisesUpTo}
-use Rattle.graph_run.specs.Packets.{is_of, packet_of, packets_of}
+use Rattle.graph_run.specs.Packets.{is_of, packet_of, packets_taken}
 use Rattle.graph_run.proofs.Bursting.{walked_copies, FatesInARow, FunctionsInARow, AsManyFates, HasRunItems, item_more, item_fails, after_profiles}
 
-not_of : (unit : TimeUnit) (chain : ℕ) (item : Item) → is_of chain item ≡ false → packets_of unit chain (item ∷ []) ≡ []
+not_of : (unit : TimeUnit) (chain : ℕ) (item : Item) → is_of chain item ≡ false → packets_taken unit chain (item ∷ []) ≡ []
 not_of unit chain item is = ap (λ (t : Bool). map (packet_of unit) (if t then item ∷ [] else [])) is
 
-one_of : (unit : TimeUnit) (chain : ℕ) (item : Item) → is_of chain item ≡ true → packets_of unit chain (item ∷ []) ≡ packet_of unit item ∷ []
+one_of : (unit : TimeUnit) (chain : ℕ) (item : Item) → is_of chain item ≡ true → packets_taken unit chain (item ∷ []) ≡ packet_of unit item ∷ []
 one_of unit chain item is = ap (λ (t : Bool). map (packet_of unit) (if t then item ∷ [] else [])) is
 
 no_copies : {F : Type 0} (b : Behaviour F) (stages : List Stage) (fs : List F) (f : Field) → walked_copies b stages fs [] f ≡ 0
@@ -49,7 +49,7 @@ skipped_none b stages fs done tally = record {
   counted = λ f. let none = no_copies b stages fs f in omega (arith, none);
 }
 
-pub skipped : {F : Type 0} (b : Behaviour F) (stages : List Stage) (fs : List F) (done : List Fate) (unit : TimeUnit) (chain : ℕ) (item : Item) (tally : List ℕ) → is_of chain item ≡ false → Skipped b stages fs done (packets_of unit chain (item ∷ [])) tally
+pub skipped : {F : Type 0} (b : Behaviour F) (stages : List Stage) (fs : List F) (done : List Fate) (unit : TimeUnit) (chain : ℕ) (item : Item) (tally : List ℕ) → is_of chain item ≡ false → Skipped b stages fs done (packets_taken unit chain (item ∷ [])) tally
 skipped b stages fs done unit chain item tally is = subst (λ (l : List Packet). Skipped b stages fs done l tally) (sym (not_of unit chain item is)) (skipped_none b stages fs done tally)
 
 -- an item of the chain walks
@@ -68,7 +68,7 @@ walks_one b stages fs after done more fate p old new functions is push counted =
 }
 
 pub walks : {F : Type 0} (b : Behaviour F) (stages : List Stage) (fs after : List F) (done more : List Fate) (fate : Fate) (unit : TimeUnit) (chain : ℕ) (item : Item) (time : ℕ) (frame : List ℕ) (old new : List ℕ) → is_of chain item ≡ true → time ≡ (packet_of unit item).time → frame ≡ item.packet.frame →
-    after ≡ (walk b time 1 fs frame).functions → fate ≡ (walk b time 1 fs frame).fate → more ≡ done ++ fate ∷ [] → RaisesAll (copies_of stages frame (walk b time 1 fs frame).fate) old new → Walks b stages fs after done more (packets_of unit chain (item ∷ [])) old new
+    after ≡ (walk b time 1 fs frame).functions → fate ≡ (walk b time 1 fs frame).fate → more ≡ done ++ fate ∷ [] → RaisesAll (copies_of stages frame (walk b time 1 fs frame).fate) old new → Walks b stages fs after done more (packets_taken unit chain (item ∷ [])) old new
 walks b stages fs after done more fate unit chain item time frame old new is at framed functions came push counted =
     subst (λ (l : List Packet). Walks b stages fs after done more l old new) (sym (one_of unit chain item is))
     (walks_one b stages fs after done more fate (packet_of unit item) old new
@@ -76,9 +76,9 @@ walks b stages fs after done more fate unit chain item time frame old new is at 
     (subst (λ (t : ℕ). RaisesAll (copies_of stages item.packet.frame (walk b t 1 fs item.packet.frame).fate) old new) at (subst (λ (l : List ℕ). RaisesAll (copies_of stages l (walk b time 1 fs l).fate) old new) framed counted)))
 
 pub walks_up_to : {F : Type 0} (b : Behaviour F) (stages : List Stage) (fs : List F) (unit : TimeUnit) (chain : ℕ) (item : Item) (time : ℕ) (frame : List ℕ) (old new : List ℕ) → is_of chain item ≡ true → time ≡ (packet_of unit item).time → frame ≡ item.packet.frame →
-    RaisesUpTo (copies_of stages frame (walk b time 1 fs frame).fate) old new → RaisesUpTo (walked_copies b stages fs (packets_of unit chain (item ∷ []))) old new
+    RaisesUpTo (copies_of stages frame (walk b time 1 fs frame).fate) old new → RaisesUpTo (walked_copies b stages fs (packets_taken unit chain (item ∷ []))) old new
 walks_up_to b stages fs unit chain item time frame old new is at framed within = λ f.
-    let same : walked_copies b stages fs (packets_of unit chain (item ∷ [])) f ≡ copies_of stages frame (walk b time 1 fs frame).fate f =
+    let same : walked_copies b stages fs (packets_taken unit chain (item ∷ [])) f ≡ copies_of stages frame (walk b time 1 fs frame).fate f =
     ap (λ (l : List Packet). walked_copies b stages fs l f) (one_of unit chain item is) ∙ one_copies b stages fs (packet_of unit item) f ∙ sym (λ i. copies_of stages (framed i) (walk b (at i) 1 fs (framed i)).fate f) in
     ((within f).0, subst (λ n. count_of new f ≤ raised (count_of old f) n) (sym same) (within f).1)
 
@@ -93,19 +93,19 @@ wrote_back n xs ys e = ap (λ k. take k (xs ++ drop (length xs) ys)) (sym e) ∙
 -- an item more, where the functions were lent and written back
 pub item_taken : {F : Type 0} (b : Behaviour F) (graph : Graph) (unit : TimeUnit) (chain : ℕ) (items : List Item) (first now lent after back : List F) (i : ℕ) (done more : List Fate) (old new newer : List ℕ) (item : Item) → FatesInARow F → FunctionsInARow F → AsManyFates F → KeepsProfile b →
     HasRunItems b graph unit chain items first now i done old new → i < length items → item ≡ get_or items i item → lent ≡ now → back ≡ after →
-    after ≡ functions_after b lent (packets_of unit chain (item ∷ [])) → more ≡ done ++ fates b lent (packets_of unit chain (item ∷ [])) →
-    RaisesAll (walked_copies b graph.stages lent (packets_of unit chain (item ∷ []))) new newer → HasRunItems b graph unit chain items first back (i + 1) more old newer
+    after ≡ functions_after b lent (packets_taken unit chain (item ∷ [])) → more ≡ done ++ fates b lent (packets_taken unit chain (item ∷ [])) →
+    RaisesAll (walked_copies b graph.stages lent (packets_taken unit chain (item ∷ []))) new newer → HasRunItems b graph unit chain items first back (i + 1) more old newer
 item_taken {F} b graph unit chain items first now lent after back i done more old new newer item rows functions_rows many keeps run inside is lends writes fs came counted =
-    let row : packets_of unit chain (item ∷ []) ≡ packets_of unit chain (get_or items i item ∷ []) = ap (λ (x : Item). packets_of unit chain (x ∷ [])) is in
-    let functions : back ≡ functions_after b now (packets_of unit chain (get_or items i item ∷ [])) = writes ∙ fs ∙ (λ j. functions_after b (lends j) (row j)) in
+    let row : packets_taken unit chain (item ∷ []) ≡ packets_taken unit chain (get_or items i item ∷ []) = ap (λ (x : Item). packets_taken unit chain (x ∷ [])) is in
+    let functions : back ≡ functions_after b now (packets_taken unit chain (get_or items i item ∷ [])) = writes ∙ fs ∙ (λ j. functions_after b (lends j) (row j)) in
     item_more b graph unit chain items first now back i done more old new newer item rows functions_rows many run inside
-    (ap (map b.profile) functions ∙ after_profiles b now (packets_of unit chain (get_or items i item ∷ [])) keeps) functions
+    (ap (map b.profile) functions ∙ after_profiles b now (packets_taken unit chain (get_or items i item ∷ [])) keeps) functions
     (came ∙ (λ j. done ++ fates b (lends j) (row j)))
     (λ f. counted f ∙ (λ j. raised (count_of new f) (walked_copies b graph.stages (lends j) (row j) f)))
 
 pub item_refused : {F : Type 0} (b : Behaviour F) (graph : Graph) (unit : TimeUnit) (chain : ℕ) (items : List Item) (first now lent : List F) (i : ℕ) (done : List Fate) (old new newer : List ℕ) (item : Item) → FatesInARow F → FunctionsInARow F → AsManyFates F →
     HasRunItems b graph unit chain items first now i done old new → i < length items → item ≡ get_or items i item → lent ≡ now →
-    RaisesUpTo (walked_copies b graph.stages lent (packets_of unit chain (item ∷ []))) new newer → RaisesUpTo (walked_copies b graph.stages first (packets_of unit chain items)) old newer
+    RaisesUpTo (walked_copies b graph.stages lent (packets_taken unit chain (item ∷ []))) new newer → RaisesUpTo (walked_copies b graph.stages first (packets_taken unit chain items)) old newer
 item_refused b graph unit chain items first now lent i done old new newer item rows functions_rows many run inside is lends within =
     item_fails b graph unit chain items first now i done old new newer item rows functions_rows many run inside
-    (λ f. ((within f).0, subst (λ n. count_of newer f ≤ raised (count_of new f) n) (λ j. walked_copies b graph.stages (lends j) (packets_of unit chain (is j ∷ [])) f) (within f).1))
+    (λ f. ((within f).0, subst (λ n. count_of newer f ≤ raised (count_of new f) n) (λ j. walked_copies b graph.stages (lends j) (packets_taken unit chain (is j ∷ [])) f) (within f).1))

@@ -5,3 +5,4 @@ pub mod Rooms
 pub mod Counting
 pub mod Staging
 pub mod Stages
+pub mod Leading

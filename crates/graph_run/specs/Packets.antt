@@ -15,5 +15,5 @@ abbrev pub packet_of : TimeUnit → Item → Packet
 packet_of unit item = record { time = time_of unit item.packet; frame = item.packet.frame }
 
 -- the packets of a chain, in their order
-abbrev pub packets_of : TimeUnit → ℕ → List Item → List Packet
-packets_of unit chain items = map (packet_of unit) (filter (is_of chain) items)
+abbrev pub packets_taken : TimeUnit → ℕ → List Item → List Packet
+packets_taken unit chain items = map (packet_of unit) (filter (is_of chain) items)

@@ -6,12 +6,12 @@
 //! of it one after another; what comes from them is merged behind each stage, and what goes out is joined
 //! to a frame again.
 //!
-//! What is promised, for every lawful graph, every kind of function and all opening states: the fates of
-//! the packets are those of packets that walk through the functions of the chain one after another
-//! (`fates` of `chain_walk`), and so are the states of the functions (`functions_after`); the graph stays;
-//! the tally rises by exactly the copies that `copies_made` of `specs/Counting.antt` counts, which are
-//! those of the stages that each packet reaches, and stops at its type's end. Want of memory is the one
-//! refusal.
+//! What is promised, for every lawful graph, every kind of function and all opening states (`Leads` of
+//! `specs/Leading.antt`): the fates of the packets are those of packets that walk through the functions of
+//! the chain one after another (`fates` of `chain_walk`), and so are the states of the functions
+//! (`functions_after`); the graph stays; the tally rises by exactly the copies that `copies_made` of
+//! `specs/Counting.antt` counts, which are those of the stages that each packet reaches, and stops at its
+//! type's end. Want of memory is the one refusal.
 //!
 //! Why this is so is told in three steps. A function sees the same through a view of a version as in the
 //! whole packet (`packet_version`); a stage of branches that are not forbidden beside each other gives what

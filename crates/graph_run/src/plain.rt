@@ -1,9 +1,9 @@
 //! A burst of packets through a graph, on one thread.
-ghost use Rattle.std.specs.Prelude.{◌≡◌, ◌≤◌, ◌++◌, [], ◌∷◌, All, length, IfOk, OnOk, OnErr, if◌then◌else◌};
+ghost use Rattle.std.specs.Prelude.{◌≡◌, ◌≤◌, ◌++◌, [], ◌∷◌, length, IfOk, OnOk, OnErr, if◌then◌else◌};
 ghost use Rattle.chain_walk.specs.Packets.{fates, functions_after};
-ghost use Rattle.chain_walk.specs.Walk.{EndsWithin};
 ghost use Rattle.graph_run.specs.Counting.{RaisesAll, RaisesUpTo, copies_made};
-ghost use Rattle.graph_run.specs.Packets.{is_of, packets_of};
+ghost use Rattle.graph_run.specs.Leading.{Leads};
+ghost use Rattle.graph_run.specs.Packets.{is_of, packets_taken};
 ghost use Rattle.graph_run.specs.Rooms.{adders_from};
 ghost use Rattle.graph_run.specs.Running.{IsRunning, profiles_of};
 
@@ -35,13 +35,8 @@ pub fn run_plain<F: Function + Drop, R: Wait>(
     tally: &mut Tally,
 ) -> Result<(Running<F>, Vec<Fate>), AllocError>
     requires few { length burst.now.items ≤ 65536 }
-    ensures fates { IfOk result (λ ran. ran.1.items ≡ fates F.behaviour run.functions (packets_of unit chain burst.now.items)) }
-    ensures functions { IfOk result (λ ran. ran.0.functions ≡ functions_after F.behaviour run.functions (packets_of unit chain burst.now.items)) }
-    ensures graph { IfOk result (λ ran. ran.0.graph ≡ run.graph) }
-    // A function that is named as one that dropped a packet stands in the chain.
-    ensures within { IfOk result (λ ran. All (EndsWithin (length run.functions)) ran.1.items) }
-    ensures counted { OnOk result (RaisesAll (copies_made run.graph.stages (packets_of unit chain burst.now.items) (fates F.behaviour run.functions (packets_of unit chain burst.now.items))) tally.old tally.new) }
-    ensures refused { OnErr result (RaisesUpTo (copies_made run.graph.stages (packets_of unit chain burst.now.items) (fates F.behaviour run.functions (packets_of unit chain burst.now.items))) tally.old tally.new) }
+    ensures leads { IfOk result (λ ran. Leads F.behaviour run (packets_taken unit chain burst.now.items) tally.old tally.new ran.0 ran.1.items) }
+    ensures refused { OnErr result (RaisesUpTo (copies_made run.graph.stages (packets_taken unit chain burst.now.items) (fates F.behaviour run.functions (packets_taken unit chain burst.now.items))) tally.old tally.new) }
 {
     packets_walk_in_a_row::<F>();
     let Running {
@@ -82,10 +77,10 @@ fn run_item<F: Function, R: Wait>(
 ) -> Result<(), AllocError>
     requires running { IsRunning F.behaviour functions.old graph.now }
     requires taggers { taggers ≡ adders_from (profiles_of F.behaviour functions.old) 1 }
-    ensures functions { OnOk result (functions.new ≡ functions_after F.behaviour functions.old (packets_of unit chain (item.now ∷ []))) }
-    ensures fates { OnOk result (ended.new.items ≡ ended.old.items ++ fates F.behaviour functions.old (packets_of unit chain (item.now ∷ []))) }
-    ensures counted { OnOk result (RaisesAll (copies_made graph.now.stages (packets_of unit chain (item.now ∷ [])) (fates F.behaviour functions.old (packets_of unit chain (item.now ∷ [])))) tally.old tally.new) }
-    ensures refused { OnErr result (RaisesUpTo (copies_made graph.now.stages (packets_of unit chain (item.now ∷ [])) (fates F.behaviour functions.old (packets_of unit chain (item.now ∷ [])))) tally.old tally.new) }
+    ensures functions { OnOk result (functions.new ≡ functions_after F.behaviour functions.old (packets_taken unit chain (item.now ∷ []))) }
+    ensures fates { OnOk result (ended.new.items ≡ ended.old.items ++ fates F.behaviour functions.old (packets_taken unit chain (item.now ∷ []))) }
+    ensures counted { OnOk result (RaisesAll (copies_made graph.now.stages (packets_taken unit chain (item.now ∷ [])) (fates F.behaviour functions.old (packets_taken unit chain (item.now ∷ [])))) tally.old tally.new) }
+    ensures refused { OnErr result (RaisesUpTo (copies_made graph.now.stages (packets_taken unit chain (item.now ∷ [])) (fates F.behaviour functions.old (packets_taken unit chain (item.now ∷ [])))) tally.old tally.new) }
 {
     if !is_of(item, chain) {
         return Ok(());

@@ -37,6 +37,24 @@ fn a_policy_without_fault_has_its_orders(rt: HostRuntime) {
 }
 
 #[test]
+fn functions_stand_where_they_are_declared(rt: HostRuntime) {
+    let text = "nfp 1\nchain a\nfn sig signature\nfn fw firewall\nchain b\n".as_bytes();
+    match judge(rt.alloc(), text) {
+        Ok(judged) => {
+            let chains = judged.functions.as_slice();
+            assert_eq!(rt; chains.len(), 2);
+            let functions = chains[0].as_slice();
+            assert_eq!(rt; functions.len(), 2);
+            // Signatures aren't built.
+            assert!(rt; functions[0].is_none());
+            assert!(rt; functions[1].is_some());
+            assert!(rt; chains[1].as_slice().is_empty());
+        }
+        Err(_) => rt.abort(),
+    }
+}
+
+#[test]
 fn the_first_fault_is_told(rt: HostRuntime) {
     let alloc = rt.alloc();
     let chain = "nfp 1\nchain main\nfn mon monitor\nfn fw firewall\nposition mon\n";

@@ -1,4 +1,4 @@
-//! `nfp` runs a service chain over a capture file, and shows the plan of a policy.
+//! `nfp` runs the service chains of a policy over a capture file, and shows the plan of a policy.
 //!
 //! The program hands its words to [`nfp_run::nfp`], over files and an open gate, and ends with the status of the outcome.
 //! What that call promises is the program's theorem.

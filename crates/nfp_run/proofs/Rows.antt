@@ -1,5 +1,5 @@
 -- Worked rows, computed by the definitions.
-use Rattle.std.specs.Prelude.{◌≡◌, ℕ, List, [], ◌∷◌, ◌++◌, refl, take, slice_index, Some, Result, Ok, Err, codes}
+use Rattle.std.specs.Prelude.{◌≡◌, ℕ, List, [], ◌∷◌, ◌++◌, refl, take, slice_index, Some, Result, Err, codes}
 use Rattle.std.specs.Fmt.{digits}
 use Rattle.nfp_outside.specs.declared.slot.Slot.TheVariants.{Policy as PolicySlot}
 use Rattle.pcap_io.specs.declared.capture.CaptureFault.TheVariants.{CutRecord, CutHead}
@@ -28,13 +28,13 @@ use Rattle.policy_judge.specs.Lines.{text_line, setting_line, check_line, priori
 use Rattle.nf_filter.specs.Firewalls.{passes}
 use Rattle.nf_filter.specs.Lines.{line_of}
 use Rattle.chain_walk.specs.Walk.{walk}
-use Rattle.chain_walk.specs.Packets.{fates}
 use Rattle.nfp_run.specs.declared.outcome.Outcome.TheVariants.{Done, Policy, NotBuilt, Capture}
-use Rattle.nfp_run.specs.declared.outcome.UsageFault.TheVariants.{NoCommand, UnknownCommand, Words, SameName}
-use Rattle.nfp_run.specs.Words.{Command, Run, Plan, command_of}
+use Rattle.command_words.specs.Words.{Command, Run, Plan}
 use Rattle.nfp_run.specs.Due.{due_of_policy, nothing_but}
-use Rattle.nfp_run.specs.Emitted.{fates_of, emitted_all, out_bytes}
-use Rattle.nfp_run.specs.Notes.{done_text, capture_text}
+use Rattle.service_walk.specs.Service.{fates_among, chains_after}
+use Rattle.capture_run.specs.Emitted.{fates_of, chains_behind, emitted_all, out_bytes}
+use Rattle.capture_run.specs.FaultLines.{capture_text}
+use Rattle.nfp_run.specs.Notes.{done_text}
 use Rattle.nfp_run.specs.Plan.{plan_text}
 use Rattle.packet_fields.specs.Writing.{written_in}
 use Rattle.packet_fields.specs.Fields.{number_of}
@@ -42,7 +42,7 @@ use Rattle.action_profile.specs.Modes.{mode_of, copies}
 use Rattle.graph_compile.specs.Parts.{branch_reads, branch_writes, touch_of, stage_parts}
 use Rattle.graph_compile.specs.Stages.{is_forbidden, holds_back, placed, graph_of}
 use Rattle.graph_run.specs.Counting.{copies_made}
-use Rattle.nfp_run.specs.Report.{report_bytes, drop_text, drop_lines, total_line, copies_due, copies_text, copies_lines, function_text, last_line, summary}
+use Rattle.capture_run.specs.Report.{report_bytes, drop_text, drop_lines, total_line, copies_due, copies_text, copies_lines, function_text, chain_lines, last_line, summary}
 
 -- version 2.4, snaplen 65535, Ethernet
 head : List ℕ
@@ -78,7 +78,7 @@ deny_written : due_of_policy run_command (worth deny) capture ≡ record {
   });
   note = codes "done records 3 emitted 2 dropped 1\n";
 }
-unfolding run_command worth deny policy_of_utf8 after_line orders_from answer_of edges_of taken stuck named_cycle from_earliest cycle_back first_refusal head first ninth capture body_of head_bytes record_head tags_len is_ipv4 walk fates fates_of emitted_all out_bytes report_bytes drop_text drop_lines total_line last_line summary done_text digits words is_changed change_sum has_same_places has_transport passes line_of function_text copies_due copies_lines copies_made written_in graph_of placed holds_back is_forbidden branch_reads branch_writes touch_of stage_parts mode_of copies pair_of first_forbidden pairs actions all_actions is_copied copied
+unfolding run_command worth deny policy_of_utf8 after_line orders_from answer_of edges_of taken stuck named_cycle from_earliest cycle_back first_refusal head first ninth capture body_of head_bytes record_head tags_len is_ipv4 walk fates_among chains_after fates_of chains_behind emitted_all out_bytes report_bytes drop_text drop_lines total_line last_line summary done_text digits words is_changed change_sum has_same_places has_transport passes line_of function_text chain_lines copies_due copies_lines copies_made written_in graph_of placed holds_back is_forbidden branch_reads branch_writes touch_of stage_parts mode_of copies pair_of first_forbidden pairs actions all_actions is_copied copied
 deny_written = refl
 
 -- b stands before a, and denies what no rule of its own allows: only the second packet passes it, and a drops that
@@ -93,7 +93,7 @@ two_written : due_of_policy run_command (worth two) capture ≡ record {
   });
   note = codes "done records 3 emitted 0 dropped 3\n";
 }
-unfolding run_command worth two policy_of_utf8 after_line orders_from answer_of edges_of taken stuck named_cycle from_earliest cycle_back first_refusal head first ninth capture body_of head_bytes record_head tags_len is_ipv4 walk fates fates_of emitted_all out_bytes report_bytes drop_text drop_lines total_line last_line summary done_text digits words is_changed change_sum has_same_places has_transport passes line_of function_text copies_due copies_lines copies_made written_in graph_of placed holds_back is_forbidden branch_reads branch_writes touch_of stage_parts mode_of copies pair_of first_forbidden pairs actions all_actions is_copied copied
+unfolding run_command worth two policy_of_utf8 after_line orders_from answer_of edges_of taken stuck named_cycle from_earliest cycle_back first_refusal head first ninth capture body_of head_bytes record_head tags_len is_ipv4 walk fates_among chains_after fates_of chains_behind emitted_all out_bytes report_bytes drop_text drop_lines total_line last_line summary done_text digits words is_changed change_sum has_same_places has_transport passes line_of function_text chain_lines copies_due copies_lines copies_made written_in graph_of placed holds_back is_forbidden branch_reads branch_writes touch_of stage_parts mode_of copies pair_of first_forbidden pairs actions all_actions is_copied copied
 two_written = refl
 
 -- cut inside the third record: the two before it are done, and the report ends with the fault
@@ -105,7 +105,7 @@ cut_written : due_of_policy run_command (worth deny) (head ++ (first ++ (ninth +
   });
   note = codes "capture: cut record 3\n";
 }
-unfolding run_command worth deny capture_text policy_of_utf8 after_line orders_from answer_of edges_of taken stuck named_cycle from_earliest cycle_back first_refusal head first ninth capture body_of head_bytes record_head tags_len is_ipv4 walk fates fates_of emitted_all out_bytes report_bytes drop_text drop_lines total_line last_line summary done_text digits words is_changed change_sum has_same_places has_transport passes line_of function_text copies_due copies_lines copies_made written_in graph_of placed holds_back is_forbidden branch_reads branch_writes touch_of stage_parts mode_of copies pair_of first_forbidden pairs actions all_actions is_copied copied
+unfolding run_command worth deny capture_text policy_of_utf8 after_line orders_from answer_of edges_of taken stuck named_cycle from_earliest cycle_back first_refusal head first ninth capture body_of head_bytes record_head tags_len is_ipv4 walk fates_among chains_after fates_of chains_behind emitted_all out_bytes report_bytes drop_text drop_lines total_line last_line summary done_text digits words is_changed change_sum has_same_places has_transport passes line_of function_text chain_lines copies_due copies_lines copies_made written_in graph_of placed holds_back is_forbidden branch_reads branch_writes touch_of stage_parts mode_of copies pair_of first_forbidden pairs actions all_actions is_copied copied
 cut_written = refl
 
 -- the second packet is dropped by the first function, which stands beside the other, and the others by that
@@ -120,8 +120,60 @@ beside_written : due_of_policy run_command (worth beside) capture ≡ record {
   });
   note = codes "done records 3 emitted 0 dropped 3\n";
 }
-unfolding run_command worth beside policy_of_utf8 after_line orders_from answer_of edges_of taken stuck named_cycle from_earliest cycle_back first_refusal head first ninth capture body_of head_bytes record_head tags_len is_ipv4 walk fates fates_of emitted_all out_bytes report_bytes drop_text drop_lines total_line last_line summary done_text digits words is_changed change_sum has_same_places has_transport passes line_of function_text copies_due copies_lines copies_made written_in graph_of placed holds_back is_forbidden branch_reads branch_writes touch_of stage_parts mode_of copies pair_of first_forbidden pairs actions all_actions is_copied copied
+unfolding run_command worth beside policy_of_utf8 after_line orders_from answer_of edges_of taken stuck named_cycle from_earliest cycle_back first_refusal head first ninth capture body_of head_bytes record_head tags_len is_ipv4 walk fates_among chains_after fates_of chains_behind emitted_all out_bytes report_bytes drop_text drop_lines total_line last_line summary done_text digits words is_changed change_sum has_same_places has_transport passes line_of function_text chain_lines copies_due copies_lines copies_made written_in graph_of placed holds_back is_forbidden branch_reads branch_writes touch_of stage_parts mode_of copies pair_of first_forbidden pairs actions all_actions is_copied copied
 beside_written = refl
+
+-- The clauses of both chains are met by the second packet, and the first chain takes it. The others meet the second chain's alone.
+overlapping : List ℕ
+overlapping = codes "nfp 1\nchain ninth match src 10.0.0.9\nfn n firewall\nset default deny\nchain all match src 10.0.0.0/8\nfn a firewall\nrule deny src 10.0.0.1\n"
+
+overlapping_written : due_of_policy run_command (worth overlapping) capture ≡ record {
+  outcome = Done;
+  written = Some (record {
+    out = head;
+    report = codes "nfp report 1\ndrop 1 all a\ndrop 2 ninth n\ndrop 3 all a\nrecords 3 emitted 0 dropped 3\nfunction ninth n firewall\nfunction all a firewall\nend\n";
+  });
+  note = codes "done records 3 emitted 0 dropped 3\n";
+}
+unfolding run_command worth overlapping policy_of_utf8 after_line orders_from answer_of edges_of taken stuck named_cycle from_earliest cycle_back first_refusal head first ninth capture body_of head_bytes record_head tags_len is_ipv4 walk fates_among chains_after fates_of chains_behind emitted_all out_bytes report_bytes drop_text drop_lines total_line last_line summary done_text digits words is_changed change_sum has_same_places has_transport passes line_of function_text chain_lines copies_due copies_lines copies_made written_in graph_of placed holds_back is_forbidden branch_reads branch_writes touch_of stage_parts mode_of copies pair_of first_forbidden pairs actions all_actions is_copied copied
+overlapping_written = refl
+
+-- a frame of 14 bytes that is no IPv4, and its record
+other : List ℕ
+other = 0 ∷ 0 ∷ 0 ∷ 0 ∷ 0 ∷ 0 ∷ 0 ∷ 0 ∷ 14 ∷ 0 ∷ 0 ∷ 0 ∷ 14 ∷ 0 ∷ 0 ∷ 0 ∷ 2 ∷ 0 ∷ 0 ∷ 0 ∷ 0 ∷ 2 ∷ 2 ∷ 0 ∷ 0 ∷ 0 ∷ 0 ∷ 1 ∷ 8 ∷ 6 ∷ []
+
+-- no chain takes the second packet, which goes out with its own bytes beside the first, which is dropped
+untaken : List ℕ
+untaken = codes "nfp 1\nchain one match src 10.0.0.1\nfn fw firewall\nset default deny\n"
+
+untaken_written : due_of_policy run_command (worth untaken) (head ++ (first ++ (other ++ ninth))) ≡ record {
+  outcome = Done;
+  written = Some (record {
+    out = head ++ (other ++ ninth);
+    report = codes "nfp report 1\ndrop 1 one fw\nrecords 3 emitted 2 dropped 1\nfunction one fw firewall\nend\n";
+  });
+  note = codes "done records 3 emitted 2 dropped 1\n";
+}
+unfolding run_command worth untaken other policy_of_utf8 after_line orders_from answer_of edges_of taken stuck named_cycle from_earliest cycle_back first_refusal head first ninth capture body_of head_bytes record_head tags_len is_ipv4 walk fates_among chains_after fates_of chains_behind emitted_all out_bytes report_bytes drop_text drop_lines total_line last_line summary done_text digits words is_changed change_sum has_same_places has_transport passes line_of function_text chain_lines copies_due copies_lines copies_made written_in graph_of placed holds_back is_forbidden branch_reads branch_writes touch_of stage_parts mode_of copies pair_of first_forbidden pairs actions all_actions is_copied copied
+untaken_written = refl
+
+-- a chain without functions lets its packets pass
+idle_written : due_of_policy run_command (worth (codes "nfp 1\nchain idle match src 10.0.0.9\n")) capture ≡ record {
+  outcome = Done;
+  written = Some (record { out = capture; report = codes "nfp report 1\nrecords 3 emitted 3 dropped 0\nend\n" });
+  note = codes "done records 3 emitted 3 dropped 0\n";
+}
+unfolding run_command worth policy_of_utf8 after_line orders_from answer_of edges_of taken stuck named_cycle from_earliest cycle_back first_refusal head first ninth capture body_of head_bytes record_head tags_len is_ipv4 walk fates_among chains_after fates_of chains_behind emitted_all out_bytes report_bytes drop_text drop_lines total_line last_line summary done_text digits words is_changed change_sum has_same_places has_transport passes line_of function_text chain_lines copies_due copies_lines copies_made written_in graph_of placed holds_back is_forbidden branch_reads branch_writes touch_of stage_parts mode_of copies pair_of first_forbidden pairs actions all_actions is_copied copied
+idle_written = refl
+
+-- without chains every packet passes, and the report has the totals and the end alone
+no_chains_written : due_of_policy run_command (worth (codes "nfp 1\n")) capture ≡ record {
+  outcome = Done;
+  written = Some (record { out = capture; report = codes "nfp report 1\nrecords 3 emitted 3 dropped 0\nend\n" });
+  note = codes "done records 3 emitted 3 dropped 0\n";
+}
+unfolding run_command worth policy_of_utf8 after_line orders_from answer_of edges_of taken stuck named_cycle from_earliest cycle_back first_refusal head first ninth capture body_of head_bytes record_head tags_len is_ipv4 walk fates_among chains_after fates_of chains_behind emitted_all out_bytes report_bytes drop_text drop_lines total_line last_line summary done_text digits words is_changed change_sum has_same_places has_transport passes line_of function_text chain_lines copies_due copies_lines copies_made written_in graph_of placed holds_back is_forbidden branch_reads branch_writes touch_of stage_parts mode_of copies pair_of first_forbidden pairs actions all_actions is_copied copied
+no_chains_written = refl
 
 -- a field has a line where copies of it were made, in the order of the fields
 copies_told : copies_lines (codes "main") (λ f. slice_index (0 ∷ 0 ∷ 3 ∷ 0 ∷ 0 ∷ 12 ∷ 0 ∷ 0 ∷ 0 ∷ 18446744073709551615 ∷ []) (number_of f)) ≡ codes "copies main tag 3\ncopies main src 12\ncopies main payload 18446744073709551615\n"
@@ -168,32 +220,3 @@ forbidden : due_of_policy run_command (worth (codes "nfp 1\nchain main\nfn mon m
     ≡ nothing_but (Policy (Check 0 (PriorityForbidden 0 1 8 (Write SrcIp) (Read SrcIp)))) (codes "policy: line 8: priority mon over n forbidden: write src before read src\n")
 unfolding run_command worth check_line priority_line digits pair_of first_forbidden pairs actions all_actions is_copied copied policy_of_utf8 after_line orders_from answer_of edges_of taken stuck named_cycle from_earliest cycle_back first_refusal
 forbidden = refl
-
-four : List (List ℕ)
-four = codes "p" ∷ codes "c" ∷ codes "o" ∷ codes "r" ∷ []
-
-run_read : command_of (codes "run" ∷ four) ≡ Ok run_command
-unfolding four run_command
-run_read = refl
-
-plan_read : command_of (codes "plan" ∷ codes "p" ∷ []) ≡ Ok (Plan (codes "p"))
-plan_read = refl
-
-no_words : command_of [] ≡ Err NoCommand
-no_words = refl
-
-other_word : command_of (codes "walk" ∷ four) ≡ Err UnknownCommand
-unfolding four
-other_word = refl
-
-three_names : command_of (codes "run" ∷ codes "a" ∷ codes "b" ∷ codes "c" ∷ []) ≡ Err Words
-three_names = refl
-
-equal_names : command_of (codes "run" ∷ codes "p" ∷ codes "c" ∷ codes "c" ∷ codes "r" ∷ []) ≡ Err SameName
-equal_names = refl
-
-dashed_name : command_of (codes "run" ∷ codes "a" ∷ codes "b" ∷ codes "-" ∷ codes "d" ∷ []) ≡ Err Words
-dashed_name = refl
-
-empty_name : command_of (codes "plan" ∷ [] ∷ []) ≡ Err Words
-empty_name = refl

@@ -13,9 +13,9 @@ use Rattle.policy_judge.specs.declared.judged.Judged.{Judged}
 use Rattle.policy_judge.specs.Judging.{judged}
 use Rattle.nfp_run.specs.declared.outcome.Outcome.{Outcome}
 use Rattle.nfp_run.specs.declared.outcome.Outcome.TheVariants.{Done, Usage, Policy, NotBuilt, Capture, ReadFault, WriteFault, OutOfMemory}
-use Rattle.nfp_run.specs.declared.outcome.UsageFault.{UsageFault}
-use Rattle.nfp_run.specs.Services.{service_of, service_among}
-use Rattle.nfp_run.specs.Words.{Command, Run, Plan}
+use Rattle.command_words.specs.declared.usage.UsageFault.{UsageFault}
+use Rattle.chain_service.specs.Services.{service_of, service_among}
+use Rattle.command_words.specs.Words.{Command, Run, Plan}
 use Rattle.nfp_run.specs.Notes.{read_fault_text, write_fault_text}
 use Rattle.nfp_run.specs.Due.{Due, Written}
 

@@ -1,5 +1,5 @@
 -- For proofs: how a call ends, before its line is put into Note.
-use Rattle.std.specs.Prelude.{◌≡◌, ◌⊎◌, ◌≤◌, ℕ, List, [], length, count_by, Option, Some, None, IsSome, Result, Ok, Err}
+use Rattle.std.specs.Prelude.{◌≡◌, ◌⊎◌, ◌≤◌, ℕ, List, [], Option, Some, None, Result, Ok, Err}
 use Rattle.nfp_outside.specs.declared.slot.Slot.{Slot}
 use Rattle.nfp_outside.specs.declared.slot.Slot.TheVariants as slots
 use Rattle.nfp_outside.specs.Outside.{SlotView, IsRisen, Appends, AppendsPrefix}
@@ -10,26 +10,25 @@ use Rattle.nfp_run.specs.declared.outcome.Outcome.{Outcome}
 use Rattle.nfp_run.specs.declared.outcome.Outcome.TheVariants.{Done, Usage, Policy, NotBuilt, Capture, ReadFault, WriteFault, OutOfMemory}
 use Rattle.nfp_run.specs.declared.ending.Ending.{Ending}
 use Rattle.nfp_run.specs.declared.ending.Ending.TheVariants.{Completed, Planned, Refused, Stopped}
-use Rattle.nfp_run.specs.declared.report.Totals.{Totals}
-use Rattle.nfp_run.specs.declared.stream.Ended.{Ended}
-use Rattle.nfp_run.specs.Notes.{usage_text, not_built_text, done_text, capture_text, read_fault_text, write_fault_text}
-use Rattle.nfp_run.specs.Report.{is_gone}
+use Rattle.capture_run.specs.declared.ended.Totals.{Totals}
+use Rattle.capture_run.specs.declared.ended.Ended.{Ended}
+use Rattle.capture_run.specs.declared.fault.RunFault.{RunFault}
+use Rattle.capture_run.specs.FaultLines.{capture_text}
+use Rattle.capture_run.specs.Running.{Counts}
+use Rattle.nfp_run.specs.Notes.{usage_text, not_built_text, done_text, read_fault_text, write_fault_text}
+use Rattle.nfp_run.specs.Broken.{broken_by}
 use Rattle.nfp_run.specs.Due.{Due, Written}
-use Rattle.nfp_run.specs.Slots.{IsBroken}
-use Rattle.nfp_run.specs.Answers.{Leaves, LeavesPrefixes, BothAttached, IsBodyFault}
+use Rattle.nfp_run.specs.Answers.{Leaves, LeavesPrefixes}
 
 -- a capture that ended with a fault is answered by it
-abbrev pub closed : Totals → Option CaptureFault → Result Totals Outcome
-closed totals None = Ok totals
-closed totals (Some fault) = Err (Capture fault)
-
-abbrev pub close_of : Ended → Result Totals Outcome
-close_of ended = closed ended.totals ended.fault
+abbrev pub closed : Totals → Option CaptureFault → Ending
+closed totals None = Completed totals
+closed totals (Some fault) = Stopped (Capture fault)
 
 -- how the work of a call ended that ran a capture
-abbrev pub ending_of : Result Totals Outcome → Ending
-ending_of (Ok totals) = Completed totals
-ending_of (Err outcome) = Stopped outcome
+abbrev pub ending_of : Result Ended RunFault → Ending
+ending_of (Ok ended) = closed ended.totals ended.fault
+ending_of (Err fault) = Stopped (broken_by fault)
 
 -- the outcome of what ended so
 abbrev pub outcome_seen : Ending → Outcome
@@ -57,22 +56,9 @@ text_of (Refused refusal) = refusal.line
 text_of (Stopped outcome) = stop_text outcome
 
 -- what a body that is told leaves, by how the run over it ended
-abbrev pub Left : Written → Body → List Fate → (Slot → SlotView) → (Slot → SlotView) → Result Totals Outcome → Type 0
-Left due body fates old new (Ok totals) = Leaves (Some due) old new × (body.fault ≡ None) × (totals.records ≡ length fates) × (totals.dropped ≡ count_by is_gone fates)
-Left due body fates old new (Err (Capture fault)) = Leaves (Some due) old new × (body.fault ≡ Some fault)
-Left due body fates old new (Err outcome) = LeavesPrefixes (Some due) old new
-
--- why writing ended without totals: a fault of the capture, or it was broken off
-abbrev pub EndCause : (Slot → SlotView) → (Slot → SlotView) → Outcome → Type 0
-EndCause old new (Capture fault) = Unit {0}
-EndCause old new outcome = IsBroken old new outcome
-
--- which of Out and Report are attached where the writing of a capture ended so
-abbrev pub WriteAttaches : Result Totals Outcome → (Slot → SlotView) → Type 0
-WriteAttaches (Ok totals) new = BothAttached new
-WriteAttaches (Err (Capture fault)) new = IsBodyFault fault × BothAttached new
-WriteAttaches (Err (WriteFault slots.Report)) new = IsSome (new slots.Out).name
-WriteAttaches (Err outcome) new = Unit {0}
+abbrev pub Left : Written → Body → List Fate → (Slot → SlotView) → (Slot → SlotView) → Result Ended RunFault → Type 0
+Left due body fates old new (Ok ended) = Leaves (Some due) old new × Counts body fates ended
+Left due body fates old new (Err fault) = LeavesPrefixes (Some due) old new
 
 -- An outcome that the words, the policy and the capture determine is the one that is due, and so is its line.
 pub record EndsDue (due : Due) (old new : Slot → SlotView) (ending : Ending) : Type 0 where

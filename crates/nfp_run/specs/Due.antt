@@ -5,20 +5,19 @@ use Rattle.pcap_io.specs.Capture.{Body, capture_of}
 use Rattle.pcap_io.specs.declared.capture.CaptureHead.{CaptureHead}
 use Rattle.pcap_io.specs.declared.capture.CaptureFault.{CaptureFault}
 use Rattle.chain_walk.specs.declared.walk.Fate.{Fate}
-use Rattle.policy_text.specs.declared.policy.ChainPolicy.{ChainPolicy}
 use Rattle.policy_judge.specs.declared.fault.Refusal.{Refusal}
 use Rattle.policy_judge.specs.declared.judged.Judged.{Judged}
 use Rattle.policy_judge.specs.Judging.{judged}
 use Rattle.nfp_run.specs.declared.outcome.Outcome.{Outcome}
 use Rattle.nfp_run.specs.declared.outcome.Outcome.TheVariants as outcomes
-use Rattle.nfp_run.specs.declared.outcome.UsageFault.{UsageFault}
-use Rattle.nfp_run.specs.declared.service.NamedFunction.{NamedFunction}
-use Rattle.nfp_run.specs.Words.{Command, Run, Plan, command_of}
-use Rattle.nfp_run.specs.Notes.{usage_text, not_built_text, capture_text, done_text}
-use Rattle.nfp_run.specs.Emitted.{packets_of, fates_of, out_bytes}
+use Rattle.command_words.specs.declared.usage.UsageFault.{UsageFault}
+use Rattle.command_words.specs.Words.{Command, Run, Plan, command_of}
+use Rattle.chain_service.specs.Services.{Chains, service_among}
+use Rattle.capture_run.specs.Emitted.{fates_of, out_bytes}
+use Rattle.capture_run.specs.FaultLines.{capture_text}
+use Rattle.capture_run.specs.Report.{report_of, is_gone}
+use Rattle.nfp_run.specs.Notes.{usage_text, not_built_text, done_text}
 use Rattle.nfp_run.specs.Plan.{plan_text}
-use Rattle.nfp_run.specs.Report.{report_bytes, is_gone}
-use Rattle.nfp_run.specs.Services.{service_among}
 
 -- What is written: the bytes of Out and of Report.
 pub record Written : Type 0 where
@@ -35,13 +34,9 @@ pub record Due : Type 0 where
 abbrev pub nothing_but : Outcome → List ℕ → Due
 nothing_but outcome note = record { outcome = outcome; written = None; note = note }
 
--- what a chain with these functions writes of a capture, by the fates of its packets
-abbrev pub written_by : ChainPolicy → List NamedFunction → CaptureHead → Body → List Fate → Written
-written_by chain functions head body fates = record { out = out_bytes head body.records fates; report = report_bytes chain functions (packets_of head.unit body.records) fates body.fault }
-
--- the same by the walk
-abbrev pub written_of : ChainPolicy → List NamedFunction → CaptureHead → Body → Written
-written_of chain functions head body = written_by chain functions head body (fates_of functions head.unit body.records)
+-- what these chains write of a capture: each packet walks through the chain that takes it, after those before it
+abbrev pub written_of : Chains → CaptureHead → Body → Written
+written_of chains head body = record { out = out_bytes head body.records (fates_of chains head.unit body.records); report = report_of chains head.unit body.records body.fault }
 
 -- a capture without a fault is done
 abbrev pub outcome_of : Option CaptureFault → Outcome
@@ -52,19 +47,19 @@ abbrev pub note_of : Option CaptureFault → List Fate → List ℕ
 note_of None fates = done_text (length fates) (count_by is_gone fates)
 note_of (Some fault) fates = capture_text fault
 
--- a refused head leaves nothing to write; else the records before a fault go through the chain
-abbrev pub due_of_capture : ChainPolicy × List NamedFunction → Result (CaptureHead × Body) CaptureFault → Due
-due_of_capture service (Err fault) = nothing_but (outcomes.Capture fault) (capture_text fault)
-due_of_capture service (Ok capture) = record {
+-- a refused head leaves nothing to write; else the records before a fault go through the chains
+abbrev pub due_of_capture : Chains → Result (CaptureHead × Body) CaptureFault → Due
+due_of_capture chains (Err fault) = nothing_but (outcomes.Capture fault) (capture_text fault)
+due_of_capture chains (Ok capture) = record {
   outcome = outcome_of capture.1.fault;
-  written = Some (written_of service.0 service.1 capture.0 capture.1);
-  note = note_of capture.1.fault (fates_of service.1 capture.0.unit capture.1.records);
+  written = Some (written_of chains capture.0 capture.1);
+  note = note_of capture.1.fault (fates_of chains capture.0.unit capture.1.records);
 }
 
 -- a policy without fault that doesn't run yet counts before the capture
-abbrev pub due_of_service : Option (ChainPolicy × List NamedFunction) → List ℕ → Due
+abbrev pub due_of_service : Option Chains → List ℕ → Due
 due_of_service None capture = nothing_but (outcomes.NotBuilt Policy) not_built_text
-due_of_service (Some service) capture = due_of_capture service (capture_of capture)
+due_of_service (Some chains) capture = due_of_capture chains (capture_of capture)
 
 -- a policy with a fault is told by it, whatever is asked for; a plan doesn't look at the capture
 abbrev pub due_of_policy : Command → Result Judged Refusal → List ℕ → Due

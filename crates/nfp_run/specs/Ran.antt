@@ -6,8 +6,8 @@ use Rattle.nfp_outside.specs.Outside.{SlotView}
 use Rattle.policy_judge.specs.declared.fault.PolicyFault.{PolicyFault}
 use Rattle.nfp_run.specs.declared.ending.Ending.{Ending}
 use Rattle.nfp_run.specs.declared.outcome.Outcome.TheVariants.{Usage, Policy, NotBuilt, ReadFault, WriteFault}
-use Rattle.nfp_run.specs.declared.outcome.UsageFault.{UsageFault}
-use Rattle.nfp_run.specs.Words.{Command}
+use Rattle.command_words.specs.declared.usage.UsageFault.{UsageFault}
+use Rattle.command_words.specs.Words.{Command}
 use Rattle.nfp_run.specs.Due.{due_of_command}
 use Rattle.nfp_run.specs.Closing.{outcome_seen, EndsDue, CountsWithin}
 use Rattle.nfp_run.specs.Answers.{IsFinal, WhereTold, LeavesPrefixes, HasNames, AttachesDue, ReachesCapture, PolicyCause, NotBuiltCause, ReadFaultCause, WriteFaultCause}

@@ -3,10 +3,10 @@ ghost use Rattle.std.specs.Prelude.{◌≡◌, ◌≢◌, ◌⊎◌, [], map, If
 ghost use Rattle.nfp_outside.specs.declared.slot.Slot.{Slot};
 ghost use Rattle.nfp_outside.specs.Outside.{Appends, AppendsPrefix, IsRisen};
 ghost use Rattle.policy_judge.specs.declared.fault.PolicyFault.{PolicyFault};
-ghost use Rattle.nfp_run.specs.declared.outcome.UsageFault.{UsageFault};
+ghost use Rattle.command_words.specs.declared.usage.UsageFault.{UsageFault};
 ghost use Rattle.nfp_run.specs.Answers.{IsDue, IsFinal, HasNames, NoneRose, WhereTold, LeavesPrefixes, AttachesDue, ReachesCapture, PolicyCause, NotBuiltCause, ReadFaultCause, WriteFaultCause, NotesPrefix, note_due};
 ghost use Rattle.nfp_run.specs.Due.{due};
-ghost use Rattle.nfp_run.specs.Words.{command_of};
+ghost use Rattle.command_words.specs.Words.{command_of};
 
 use crate::commands::run_words;
 use crate::note::put_note;
@@ -16,13 +16,15 @@ use std::alloc::Global;
 use std::sync::Wait;
 use std::thread::Threads;
 
-/// Runs the chain of a policy over a capture, as the words `run POLICY CAPTURE OUT REPORT` say, or shows the plan of a
+/// Runs the chains of a policy over a capture, as the words `run POLICY CAPTURE OUT REPORT` say, or shows the plan of a
 /// policy, as the words `plan POLICY` say.
 ///
-/// The policy is checked whole before anything else is touched. `run` puts the capture of the packets that passed the chain
-/// into Out, and into Report the line of each that was dropped, the totals, the copies that the graph made of each field, the
-/// functions, and the capture's fault where it has one. The capture is read record by record, and written burst by burst, each of at most 1,024 packets. Last, one line
-/// goes into Note, or the plan. The gate is passed by nothing yet, since a burst runs on one thread.
+/// The policy is checked whole before anything else is touched. `run` leads each packet through the first chain whose clauses
+/// it meets, and lets one that no chain takes pass as it was read. It puts the capture of the packets that passed into Out, and
+/// into Report the line of each that was dropped, the totals, the copies that the graph of each chain made of each field, the
+/// functions of each chain, and the capture's fault where it has one. The capture is read record by record, and written burst
+/// by burst, each of at most 1,024 packets. Last, one line goes into Note, or the plan. The gate is passed by nothing yet, since
+/// a burst runs on one thread.
 pub fn nfp<R: Threads + Wait, D: Desk, G: Gate + Sync>(
     rt: &R,
     alloc: Global,

@@ -2,19 +2,19 @@
 ghost use Rattle.std.specs.Prelude.{◌≡◌, map, None, string_bytes};
 ghost use Rattle.nfp_outside.specs.declared.slot.Slot.{Slot};
 ghost use Rattle.nfp_run.specs.Ran.{Ran};
-ghost use Rattle.nfp_run.specs.Words.{command_of};
+ghost use Rattle.command_words.specs.Words.{command_of};
 
 use crate::ending::Ending;
 use crate::outcome::Outcome;
 use crate::plan::plan;
 use crate::run::run;
-use crate::words::{Command, read_command};
+use command_words::{Command, read_command};
 use nfp_outside::Desk;
 use std::alloc::Global;
 use std::sync::Wait;
 
 /// Does what the words ask for.
-#[tactic(auto, using(crate::proofs::Planning::plan_ran, crate::proofs::Planning::usage_ran))]
+#[tactic(auto, using(crate::proofs::ShownPlans::plan_ran, crate::proofs::ShownPlans::usage_ran))]
 pub fn run_words<R: Wait, D: Desk>(rt: &R, alloc: Global, words: &[String], desk: &mut D) -> Ending
     requires { (s : Slot) → (D.slots desk.old s).name ≡ None }
     ensures ran { Ran (command_of (map string_bytes words.now)) (D.slots desk.old) (D.slots desk.new) result }

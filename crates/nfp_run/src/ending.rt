@@ -1,14 +1,14 @@
 //! How the work of a call ended, before its line is put into Note.
 
 use crate::outcome::Outcome;
-use crate::report::Totals;
+use capture_run::Totals;
 use item_list::Items;
 use policy_judge::Refusal;
 
 /// How the work of a call ended.
 #[derive(Debug, Drop)]
 pub enum Ending {
-    /// A capture without fault went through the chain.
+    /// A capture without fault went through the chains.
     Completed(Totals),
     /// The plan of a policy was made.
     Planned(Items<u8>),

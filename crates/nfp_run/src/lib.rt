@@ -1,4 +1,4 @@
-//! The top call of `nfp`, which runs a service chain over a capture, and shows the plan of a policy.
+//! The top call of `nfp`, which runs the chains of a policy over a capture, and shows the plan of a policy.
 //!
 //! What [`nfp()`] promises is the program's theorem: its contract says it, and `specs/Due.antt` has the result that it is
 //! measured against. [`a_good_call_is_done`] says of that result that words, policy and capture without fault are Done. The
@@ -6,23 +6,18 @@
 //! [`Outcome`].
 #![tactic(auto)]
 
+mod attach;
 mod call;
 mod commands;
-mod emit;
 mod ending;
 mod laws;
 mod note;
 mod outcome;
-mod passage;
 mod plan;
 mod read;
-mod report;
 mod run;
-mod service;
-mod stream;
-mod words;
-mod write;
 
 pub use call::nfp;
+pub use command_words::UsageFault;
 pub use laws::a_good_call_is_done;
-pub use outcome::{Outcome, UsageFault};
+pub use outcome::Outcome;

@@ -1,18 +1,18 @@
 //! The one line that is put into Note for each outcome.
 ghost use Rattle.std.specs.Prelude.{◌≡◌, ◌≢◌, ◌≤◌, IfOk};
 ghost use Rattle.nfp_outside.specs.declared.slot.Slot.{Slot};
-ghost use Rattle.nfp_run.specs.Notes.{usage_text, done_text, capture_text, slot_word, read_fault_text, write_fault_text};
+ghost use Rattle.nfp_run.specs.Notes.{usage_text, done_text, slot_word, read_fault_text, write_fault_text};
 ghost use Rattle.nfp_run.specs.Closing.{outcome_seen, stop_text, text_of, untold, CountsWithin, Notes};
 
 use crate::ending::Ending;
-use crate::outcome::{Outcome, UsageFault};
-use crate::report::Totals;
+use crate::outcome::Outcome;
+use capture_run::{Totals, capture_line, totals_line};
+use command_words::UsageFault;
 use item_list::Items;
 use nfp_outside::{Desk, OutsideFault, Slot, write_whole};
-use pcap_io::CaptureFault;
 use policy_judge::Refusal;
 use std::alloc::{AllocError, Global};
-use text_lines::Piece::{Number, Text};
+use text_lines::Piece::Text;
 use text_lines::join;
 
 /// Puts the line of what ended so into Note.
@@ -82,7 +82,7 @@ fn stop_text(alloc: Global, outcome: &Outcome) -> Result<Vec<u8>, AllocError>
     match outcome {
         Outcome::Usage(fault) => Vec::from_slice(alloc, usage_text(*fault)),
         Outcome::NotBuilt(_) => Vec::from_slice(alloc, b"not built: policy\n".as_slice()),
-        Outcome::Capture(fault) => capture_text(alloc, *fault),
+        Outcome::Capture(fault) => capture_line(alloc, *fault),
         Outcome::ReadFault(slot) => read_fault_text(alloc, *slot),
         Outcome::WriteFault(slot) => write_fault_text(alloc, *slot),
         Outcome::Done | Outcome::Policy(_) | Outcome::OutOfMemory => Ok(Vec::new(alloc)),
@@ -101,63 +101,15 @@ fn usage_text(fault: UsageFault) -> &'static [u8]
     }
 }
 
-// The line of a capture that went through the chain whole.
+// The line of a capture that went through the chains whole.
 #[tactic(auto, unfolding(crate::specs::Notes::done_text))]
 fn done_text(alloc: Global, totals: Totals) -> Result<Vec<u8>, AllocError>
     requires { totals.dropped ≤ totals.records }
     ensures { IfOk result (λ v. v.items ≡ done_text totals.records totals.dropped) }
 {
-    join(
-        alloc,
-        &[
-            Text(b"done records "),
-            Number(totals.records),
-            Text(b" emitted "),
-            Number(totals.records - totals.dropped),
-            Text(b" dropped "),
-            Number(totals.dropped),
-            Text(b"\n"),
-        ],
-    )
-}
-
-/// The line of a capture's first fault.
-#[tactic(auto, unfolding(crate::specs::Notes::capture_text))]
-pub fn capture_text(alloc: Global, fault: CaptureFault) -> Result<Vec<u8>, AllocError>
-    ensures { IfOk result (λ v. v.items ≡ capture_text fault) }
-{
-    match fault {
-        CaptureFault::BadMagic => Vec::from_slice(alloc, b"capture: bad magic\n".as_slice()),
-        CaptureFault::BadVersion => Vec::from_slice(alloc, b"capture: bad version\n".as_slice()),
-        CaptureFault::BadLink(link) => {
-            let link = u64::from(link);
-            join(
-                alloc,
-                &[Text(b"capture: bad link "), Number(link), Text(b"\n")],
-            )
-        }
-        CaptureFault::CutHead => Vec::from_slice(alloc, b"capture: cut head\n".as_slice()),
-        CaptureFault::CutRecord(number) => {
-            let number = u64::from(number);
-            join(
-                alloc,
-                &[Text(b"capture: cut record "), Number(number), Text(b"\n")],
-            )
-        }
-        CaptureFault::FrameTooLong(number, length) => join(
-            alloc,
-            &[
-                Text(b"capture: frame too long "),
-                Number(u64::from(number)),
-                Text(b" "),
-                Number(u64::from(length)),
-                Text(b"\n"),
-            ],
-        ),
-        CaptureFault::TooManyRecords => {
-            Vec::from_slice(alloc, b"capture: too many records\n".as_slice())
-        }
-    }
+    let mut line = Vec::from_slice(alloc, b"done ".as_slice())?;
+    line.extend_from_slice(&totals_line(alloc, totals)?)?;
+    Ok(line)
 }
 
 // The line of a slot that couldn't be read.

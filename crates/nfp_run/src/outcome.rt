@@ -3,28 +3,17 @@ ghost use Rattle.std.specs.Prelude.{◌≡◌};
 ghost use Rattle.nfp_run.specs.declared.outcome.Outcome.TheVariants.{OutOfMemory};
 ghost use Rattle.nfp_run.specs.Status.{status_of};
 
+use capture_run::RunFault;
+use command_words::UsageFault;
 use nfp_outside::Slot;
 use pcap_io::CaptureFault;
 use policy_judge::PolicyFault;
 use std::alloc::{AllocError, AllocFailed};
 
-/// Why the words of the command line are refused.
-#[derive(Clone, Copy, Debug, PartialEq, Eq)]
-pub enum UsageFault {
-    /// There is no word.
-    NoCommand,
-    /// The first word is no command.
-    UnknownCommand,
-    /// The names are too few or too many, or one is empty or begins with a dash.
-    Words,
-    /// Two of the names of `run` are equal.
-    SameName,
-}
-
 /// How a call ended.
 #[derive(Debug, Drop)]
 pub enum Outcome {
-    /// The whole capture, which has no fault, went through the chain; or the plan of a policy without
+    /// The whole capture, which has no fault, went through the chains; or the plan of a policy without
     /// fault was shown.
     Done,
     /// The words are refused, and nothing was touched.
@@ -33,7 +22,7 @@ pub enum Outcome {
     Policy(PolicyFault),
     /// The policy has no fault, and what it asks for doesn't run yet; the slot is Policy.
     NotBuilt(Slot),
-    /// The capture has this first fault. What stood before it went through the chain.
+    /// The capture has this first fault. What stood before it went through the chains.
     Capture(CaptureFault),
     /// This slot couldn't be read.
     ReadFault(Slot),
@@ -57,6 +46,20 @@ impl Outcome {
             Outcome::WriteFault(_) => 5,
             Outcome::OutOfMemory => 6,
             Outcome::NotBuilt(_) => 7,
+        }
+    }
+}
+
+impl From<RunFault> for Outcome {
+    ghost use Rattle.nfp_run.specs.Broken.{broken_by};
+
+    ghost from_gives = { λ fault outcome. outcome ≡ broken_by fault };
+
+    fn from(fault: RunFault) -> Self {
+        match fault {
+            RunFault::ReadFault => Outcome::ReadFault(Slot::Capture),
+            RunFault::WriteFault(slot) => Outcome::WriteFault(slot),
+            RunFault::OutOfMemory => Outcome::OutOfMemory,
         }
     }
 }

@@ -19,7 +19,7 @@ use policy_text::ChainPolicy;
 use std::alloc::{AllocError, Global};
 
 /// Shows the plan of a policy without fault.
-#[tactic(auto, using(crate::proofs::Judged::plan_shown, crate::proofs::Judged::plan_ends))]
+#[tactic(auto, using(crate::proofs::PolicyEnds::plan_shown, crate::proofs::PolicyEnds::plan_ends))]
 pub fn plan<D: Desk>(alloc: Global, name: &str, desk: &mut D) -> Ending
     requires { (D.slots desk.old Slot.Policy).name ≡ None }
     ensures ends { PlanEnds (D.slots desk.old Slot.Policy) (D.slots desk.new Slot.Policy) result }
@@ -37,7 +37,7 @@ pub fn plan<D: Desk>(alloc: Global, name: &str, desk: &mut D) -> Ending
 }
 
 // What is shown of each chain, in the order of the text.
-#[tactic(auto, using(crate::proofs::Planning::none_shown, crate::proofs::Planning::one_shown, crate::proofs::Planning::all_shown, crate::proofs::Planning::as_many), unfolding(crate::specs::Plan::plan_text))]
+#[tactic(auto, using(crate::proofs::ShownPlans::none_shown, crate::proofs::ShownPlans::one_shown, crate::proofs::ShownPlans::all_shown, crate::proofs::ShownPlans::as_many), unfolding(crate::specs::Plan::plan_text))]
 fn plan_text(alloc: Global, judged: &Judged) -> Result<Items<u8>, AllocError>
     requires { AllZip IsOrdered judged.now.policy.chains judged.now.orders }
     ensures { IfOk result (λ text. text ≡ plan_text judged.now) }

@@ -3,14 +3,16 @@ ghost use Rattle.std.specs.Prelude.{◌≡◌, ◌≢◌, ◌≤◌, ◌⊎◌, 
 ghost use Rattle.std.specs.List.{AllZip};
 ghost use Rattle.nfp_outside.specs.declared.slot.Slot.{Slot};
 ghost use Rattle.policy_judge.specs.Judging.{judged};
+ghost use Rattle.policy_judge.specs.Making.{functions_made};
 ghost use Rattle.policy_judge.specs.Orders.{IsOrdered};
 ghost use Rattle.policy_judge.specs.Settings.{IsSettled};
 ghost use Rattle.nfp_run.specs.Reading.{IsUnread, UnreadEnds, refused_by, EndsAtPolicy, EndsBeforeCapture, Opens, RefusedOpening};
-ghost use Rattle.nfp_run.specs.Services.{service_of, stages_of};
+ghost use Rattle.chain_service.specs.Opening.{IsOpening, chains_of};
+ghost use Rattle.chain_service.specs.Services.{service_of};
 
 use crate::ending::Ending;
 use crate::outcome::Outcome;
-use crate::service::{Service, make_service};
+use chain_service::{Service, make_service};
 use nfp_outside::{Desk, DeskFault, OutsideFault, Slot, read_all};
 use pcap_io::{CaptureHead, PcapFault, Reader};
 use policy_judge::{JudgeFault, Judged, judge, too_long};
@@ -27,7 +29,7 @@ enum Unread {
 }
 
 /// Reads the policy whole and judges it.
-#[tactic(auto, using(crate::proofs::Judged::unread_ends, crate::proofs::Judged::refused_ends))]
+#[tactic(auto, using(crate::proofs::PolicyEnds::unread_ends, crate::proofs::PolicyEnds::refused_ends))]
 pub fn read_policy<D: Desk>(alloc: Global, desk: &mut D, name: &str) -> Result<Judged, Ending>
     requires { (D.slots desk.old Slot.Policy).name ≡ None }
     ensures read { MatchResult result
@@ -35,6 +37,8 @@ pub fn read_policy<D: Desk>(alloc: Global, desk: &mut D, name: &str) -> Result<J
         (EndsAtPolicy (D.slots desk.old Slot.Policy) (D.slots desk.new Slot.Policy)) }
     ensures settled { IfOk result (λ policy. All IsSettled policy.policy.chains) }
     ensures ordered { IfOk result (λ policy. AllZip IsOrdered policy.policy.chains policy.orders) }
+    ensures made { IfOk result (λ policy. policy.functions ≡ functions_made policy.policy.chains) }
+    ensures few { IfOk result (λ policy. length policy.policy.chains ≤ 16) }
     ensures name { ((D.slots desk.new Slot.Policy).name ≡ None) ⊎ ((D.slots desk.new Slot.Policy).name ≡ Some name.now) }
     ensures others { (s : Slot) → s ≢ Slot.Policy → D.slots desk.new s ≡ D.slots desk.old s }
 {
@@ -48,14 +52,14 @@ pub fn read_policy<D: Desk>(alloc: Global, desk: &mut D, name: &str) -> Result<J
     }
 }
 
-/// Reads the policy, judges it, and makes the functions of its chain.
-#[tactic(auto, using(crate::proofs::Judged::policy_ends, crate::proofs::Judged::served, crate::proofs::Judged::unbuilt))]
+/// Reads the policy, judges it, and makes ready the chains that it runs.
+#[tactic(auto, using(crate::proofs::PolicyEnds::policy_ends, crate::proofs::PolicyEnds::served, crate::proofs::PolicyEnds::unbuilt))]
 pub fn read_service<D: Desk>(alloc: Global, desk: &mut D, name: &str) -> Result<Service, Ending>
     requires { (D.slots desk.old Slot.Policy).name ≡ None }
     ensures read { MatchResult result
-        (λ s. IfSome (D.slots desk.old Slot.Policy).bytes (λ bytes. service_of (judged bytes) ≡ Some (s.declared, s.running.functions)))
+        (λ s. IfSome (D.slots desk.old Slot.Policy).bytes (λ bytes. service_of (judged bytes) ≡ Some (chains_of s.chains)))
         (EndsBeforeCapture (D.slots desk.old Slot.Policy) (D.slots desk.new Slot.Policy)) }
-    ensures compiled { IfOk result (λ s. s.running.graph.stages ≡ stages_of s.running.functions) }
+    ensures opening { IfOk result IsOpening }
     ensures name { ((D.slots desk.new Slot.Policy).name ≡ None) ⊎ ((D.slots desk.new Slot.Policy).name ≡ Some name.now) }
     ensures others { (s : Slot) → s ≢ Slot.Policy → D.slots desk.new s ≡ D.slots desk.old s }
 {

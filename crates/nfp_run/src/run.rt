@@ -1,31 +1,32 @@
-//! Runs the chain of a policy over a capture, or shows the plan of a policy, up to the line in Note.
-ghost use Rattle.std.specs.Prelude.{◌≡◌, ◌≢◌, ◌≤◌, ◌<◌, ◌^◌, ◌⊎◌, IfErr, IfOk, IfSome, IsSome, Ok, Some, None};
+//! Runs the chains of a policy over a capture, up to the line in Note.
+ghost use Rattle.std.specs.Prelude.{◌≡◌, ◌≢◌, ◌≤◌, ◌⊎◌, IfErr, IfOk, IfSome, IsSome, Ok, Some, None};
 ghost use Rattle.nfp_outside.specs.declared.slot.Slot.{Slot};
 ghost use Rattle.pcap_io.specs.Reader.{reader_at, body_left};
 ghost use Rattle.policy_judge.specs.declared.fault.PolicyFault.{PolicyFault};
-ghost use Rattle.nfp_run.specs.declared.outcome.UsageFault.{UsageFault};
-ghost use Rattle.nfp_run.specs.Words.{Run};
-ghost use Rattle.nfp_run.specs.Answers.{IsFinal, WhereTold, LeavesPrefixes, HasNames, RunAttaches, ReachesCapture, PolicyCause, NotBuiltCause, ReadFaultCause, WriteFaultCause};
-ghost use Rattle.nfp_run.specs.Closing.{outcome_seen, ending_of, close_of, Left, EndCause, EndsDue, WriteAttaches, CountsWithin};
+ghost use Rattle.command_words.specs.declared.usage.UsageFault.{UsageFault};
+ghost use Rattle.command_words.specs.Words.{Run};
+ghost use Rattle.nfp_run.specs.Answers.{IsFinal, WhereTold, LeavesPrefixes, HasNames, RunAttaches, ReachesCapture, PolicyCause, NotBuiltCause, ReadFaultCause, WriteFaultCause, IsBodyFault};
+ghost use Rattle.nfp_run.specs.Attached.{RunLeavesAttached};
+ghost use Rattle.nfp_run.specs.Closing.{outcome_seen, closed, ending_of, Left, EndsDue, CountsWithin};
 ghost use Rattle.nfp_run.specs.Due.{due_of_command, written_of};
-ghost use Rattle.nfp_run.specs.Emitted.{fates_of};
-ghost use Rattle.nfp_run.specs.Named.{names_seen};
-ghost use Rattle.nfp_run.specs.Services.{stages_of};
+ghost use Rattle.capture_run.specs.Emitted.{fates_of};
+ghost use Rattle.capture_run.specs.Slots.{IsBroken};
+ghost use Rattle.command_words.specs.Named.{names_seen};
+ghost use Rattle.chain_service.specs.Opening.{IsOpening, chains_of};
 
+use crate::attach::{attach_sink, put_head};
 use crate::ending::Ending;
 use crate::outcome::Outcome;
 use crate::read::{open_capture, read_service};
-use crate::report::Totals;
-use crate::service::Service;
-use crate::stream::{Ended, write_capture};
-use crate::words::FileNames;
-use crate::write::attach_sink;
+use capture_run::{Ended, RunFault, run_capture};
+use chain_service::Service;
+use command_words::FileNames;
 use nfp_outside::{Desk, Slot};
 use pcap_io::{CaptureHead, Reader};
 use std::alloc::Global;
 use std::sync::Wait;
 
-/// Runs the chain of the policy over the capture. The words are accepted, and nothing is put into Note.
+/// Runs the chains of the policy over the capture. The words are accepted, and nothing is put into Note.
 pub fn run<R: Wait, D: Desk>(rt: &R, alloc: Global, names: &FileNames<'_>, desk: &mut D) -> Ending
     requires { (s : Slot) → (D.slots desk.old s).name ≡ None }
     ensures due { IsFinal (outcome_seen result) → WhereTold (D.slots desk.old) (λ p c.
@@ -52,22 +53,31 @@ pub fn run<R: Wait, D: Desk>(rt: &R, alloc: Global, names: &FileNames<'_>, desk:
         Ok(opened) => opened,
         Err(outcome) => return Ending::Stopped(outcome),
     };
-    ending_of(write(rt, alloc, desk, names, service, &head, reader))
+    ending_of(attach_and_run(rt, alloc, desk, names, service, &head, reader))
 }
 
 // How the work of a call ended that ran a capture.
-fn ending_of(written: Result<Totals, Outcome>) -> Ending
-    ensures { result ≡ ending_of written }
+fn ending_of(ran: Result<Ended, RunFault>) -> Ending
+    ensures { result ≡ ending_of ran }
 {
-    match written {
-        Ok(totals) => Ending::Completed(totals),
-        Err(outcome) => Ending::Stopped(outcome),
+    match ran {
+        Ok(ended) => closed(ended),
+        Err(fault) => Ending::Stopped(fault.into()),
     }
 }
 
-// Attaches Out and Report, and writes both.
-#[tactic(auto, using(crate::proofs::Attaching::attached_at_end, crate::proofs::Attaching::attached_at_break, crate::proofs::Attaching::attached_no_out, crate::proofs::Attaching::attached_no_report))]
-fn write<R: Wait, D: Desk>(
+// A capture that ended with a fault is answered by it.
+fn closed(ended: Ended) -> Ending
+    ensures { result ≡ closed ended.totals ended.fault }
+{
+    match ended.fault {
+        None => Ending::Completed(ended.totals),
+        Some(fault) => Ending::Stopped(Outcome::Capture(fault)),
+    }
+}
+
+// Attaches Out and Report, puts the head of the capture into Out, and runs the capture into both.
+fn attach_and_run<R: Wait, D: Desk>(
     rt: &R,
     alloc: Global,
     desk: &mut D,
@@ -75,42 +85,25 @@ fn write<R: Wait, D: Desk>(
     service: Service,
     head: &CaptureHead,
     reader: Reader,
-) -> Result<Totals, Outcome>
+) -> Result<Ended, RunFault>
     requires capture { IsSome (D.slots desk.old Slot.Capture).name }
     requires out_free { (D.slots desk.old Slot.Out).name ≡ None }
     requires report_free { (D.slots desk.old Slot.Report).name ≡ None }
-    requires compiled { service.running.graph.stages ≡ stages_of service.running.functions }
+    requires opening { IsOpening service }
     requires fresh { reader ≡ reader_at head.now.order 0 }
     ensures left { IfSome (body_left reader (D.slots desk.old Slot.Capture)) (λ body.
-        Left (written_of service.declared service.running.functions head.now body) body (fates_of service.running.functions head.now.unit body.records) (D.slots desk.old) (D.slots desk.new) result) }
-    ensures cause { IfErr result (EndCause (D.slots desk.old) (D.slots desk.new)) }
-    ensures attached { WriteAttaches result (D.slots desk.new) }
-    ensures within { IfOk result (λ totals. totals.dropped ≤ totals.records) }
+        Left (written_of (chains_of service.chains) head.now body) body (fates_of (chains_of service.chains) head.now.unit body.records) (D.slots desk.old) (D.slots desk.new) result) }
+    ensures cause { IfErr result (IsBroken (D.slots desk.old) (D.slots desk.new)) }
+    ensures within { IfOk result (λ ended. ended.totals.dropped ≤ ended.totals.records) }
+    ensures kind { IfOk result (λ ended. IfSome ended.fault IsBodyFault) }
+    ensures attached { RunLeavesAttached result (D.slots desk.new) }
     ensures out_name { ((D.slots desk.new Slot.Out).name ≡ None) ⊎ ((D.slots desk.new Slot.Out).name ≡ Some names.now.out.now) }
     ensures report_name { ((D.slots desk.new Slot.Report).name ≡ None) ⊎ ((D.slots desk.new Slot.Report).name ≡ Some names.now.report.now) }
     ensures capture_name { (D.slots desk.new Slot.Capture).name ≡ (D.slots desk.old Slot.Capture).name }
     ensures others { (s : Slot) → s ≢ Slot.Out → s ≢ Slot.Report → s ≢ Slot.Capture → D.slots desk.new s ≡ D.slots desk.old s }
 {
-    match attach_sink(desk, Slot::Out, names.out) {
-        Ok(()) => {}
-        Err(outcome) => return Err(outcome),
-    }
-    match attach_sink(desk, Slot::Report, names.report) {
-        Ok(()) => {}
-        Err(outcome) => return Err(outcome),
-    }
-    match write_capture(rt, alloc, desk, service, head, reader) {
-        Ok(ended) => close(&ended),
-        Err(outcome) => Err(outcome),
-    }
-}
-
-// A capture that ended with a fault is answered by it.
-fn close(ended: &Ended) -> Result<Totals, Outcome>
-    ensures { result ≡ close_of ended.now }
-{
-    match ended.fault {
-        None => Ok(ended.totals),
-        Some(fault) => Err(Outcome::Capture(fault)),
-    }
+    attach_sink(desk, Slot::Out, names.out)?;
+    attach_sink(desk, Slot::Report, names.report)?;
+    let writer = put_head(desk, head)?;
+    run_capture(rt, alloc, desk, service, head.unit, reader, writer)
 }

@@ -1,12 +1,16 @@
--- Where no line is the least that is refused, no function refuses one.
-use Rattle.std.proofs.Common.{◌≡◌, ℕ, List, [], ◌∷◌, false, refl}
+-- Where no line is the least that is refused, no function refuses one, and each is made.
+use Rattle.std.proofs.Common.{◌≡◌, ◌≤◌, ◌∙◌, ℕ, List, [], ◌∷◌, length, map, take, false, refl, ap, sym}
 use Rattle.std.specs.Prelude.{All, Option, Some, None, fold}
-use Rattle.std.proofs.lemmas.List.Elements.{All-nil, All-cons}
+use Rattle.std.proofs.lemmas.List.{take_all}
+use Rattle.std.proofs.lemmas.List.Elements.{All-nil, All-cons, All-head, All-tail}
 use Rattle.action_profile.specs.declared.kind.Kind.{Kind}
 use Rattle.action_profile.specs.declared.kind.Kind.TheVariants.{Firewall, Signature, Nat, Balancer, Monitor, Limiter, Marker, Nexthop, Hop, Redactor, Tagger, Untagger}
 use Rattle.policy_text.specs.declared.policy.ChainPolicy.{ChainPolicy}
 use Rattle.policy_text.specs.declared.policy.FunctionDecl.{FunctionDecl}
-use Rattle.net_functions.specs.Builds.{is_built, refused_by, refused_line}
+use Rattle.net_functions.specs.Builds.{is_built, made_by, refused_by, refused_line, function_of}
+use Rattle.net_functions.specs.declared.net_function.NetFunction.{NetFunction}
+use Rattle.policy_judge.specs.Kept.{kept_where, kept_of, kept_each}
+use Rattle.policy_judge.specs.Making.{functions_made}
 use Rattle.policy_judge.specs.Settings.{lesser_of, least_among, least_refused, IsSettled}
 
 first_none : (a b : Option ℕ) → lesser_of a b ≡ None → a ≡ None
@@ -41,7 +45,48 @@ settled_from line (c ∷ cs) e = All-cons IsSettled c cs (among line c.functions
 pub all_settled : (cs : List ChainPolicy) → least_refused cs ≡ None → All IsSettled cs
 all_settled cs e = settled_from None cs e
 
--- of a kind that isn't built no line is refused
+-- where no line is refused, each function is kept
+kept_here : (fs : List FunctionDecl) → All (λ f. refused_line f ≡ None) fs → kept_each fs ≡ map function_of fs
+kept_here [] settled = refl
+kept_here (f ∷ fs) settled =
+    let here : kept_of f ≡ function_of f = ap (λ o. kept_where o (function_of f)) (All-head (λ g. refused_line g ≡ None) f fs settled) in
+    ap (λ o. o ∷ kept_each fs) here ∙ ap (λ l. function_of f ∷ l) (kept_here fs (All-tail (λ g. refused_line g ≡ None) f fs settled))
+
+kept_in : (cs : List ChainPolicy) → All IsSettled cs → map (λ c. kept_each c.functions) cs ≡ functions_made cs
+kept_in [] settled = refl
+kept_in (c ∷ cs) settled =
+    ap (λ l. l ∷ map (λ d. kept_each d.functions) cs) (kept_here c.functions (All-head IsSettled c cs settled))
+    ∙ ap (λ l. map function_of c.functions ∷ l) (kept_in cs (All-tail IsSettled c cs settled))
+
+-- past the last chain all functions are made, where no line was refused
+pub all_made : (cs : List ChainPolicy) (index : ℕ) (least : Option ℕ) (functions made : List (List (Option NetFunction))) → length cs ≤ index →
+    least ≡ least_refused (take index cs) → functions ≡ map (λ c. kept_each c.functions) (take index cs) → least ≡ None → made ≡ functions →
+    (least_refused cs ≡ None) × (made ≡ functions_made cs)
+all_made cs index least functions made past least_is functions_are none made_are =
+    let all : take index cs ≡ cs = take_all index cs past in
+    let settled : least_refused cs ≡ None = ap least_refused (sym all) ∙ sym least_is ∙ none in
+    (settled, made_are ∙ functions_are ∙ ap (map (λ c. kept_each c.functions)) all ∙ kept_in cs (all_settled cs settled))
+
+pub lesser_of_none : (line : Option ℕ) → lesser_of line None ≡ line
+lesser_of_none None = refl
+lesser_of_none (Some line) = refl
+
+-- of a kind that isn't built no function is made
+pub never_made : (kind : Kind) (decl : FunctionDecl) → is_built kind ≡ false → made_by kind decl ≡ None
+never_made Firewall decl not = absurd cc
+never_made Signature decl not = refl
+never_made Nat decl not = refl
+never_made Balancer decl not = refl
+never_made Monitor decl not = refl
+never_made Limiter decl not = refl
+never_made Marker decl not = refl
+never_made Nexthop decl not = refl
+never_made Hop decl not = refl
+never_made Redactor decl not = refl
+never_made Tagger decl not = refl
+never_made Untagger decl not = refl
+
+-- nor is a line refused
 pub unbuilt : (kind : Kind) (decl : FunctionDecl) → is_built kind ≡ false → refused_by kind decl ≡ None
 unbuilt Firewall decl not = absurd cc
 unbuilt Signature decl not = refl

@@ -16,6 +16,7 @@ use Rattle.policy_judge.specs.declared.fault.JudgeFault.{JudgeFault}
 use Rattle.policy_judge.specs.declared.fault.JudgeFault.TheVariants.{Refused, OutOfMemory}
 use Rattle.policy_judge.specs.declared.judged.Judged.{Judged}
 use Rattle.policy_judge.specs.Lines.{too_long_line, text_line, setting_line, check_line}
+use Rattle.policy_judge.specs.Making.{functions_made}
 use Rattle.policy_judge.specs.Settings.{least_refused}
 
 -- a fault and the line that tells it
@@ -35,10 +36,10 @@ orders_from place (chain ∷ chains) = do
   orders ← orders_from (place + 1) chains
   Ok (order ∷ orders)
 
--- the chains with their orders
+-- the chains with their orders and their functions
 abbrev pub judged_orders : Policy → Result (List Order) Refusal → Result Judged Refusal
 judged_orders policy (Err refusal) = Err refusal
-judged_orders policy (Ok orders) = Ok (record { policy = policy; orders = orders })
+judged_orders policy (Ok orders) = Ok (record { policy = policy; orders = orders; functions = functions_made policy.chains })
 
 -- the settings of all functions before the order of any chain
 abbrev pub judged_settings : Policy → Option ℕ → Result Judged Refusal

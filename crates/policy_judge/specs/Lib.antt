@@ -1,4 +1,6 @@
 pub mod Judging
+pub mod Kept
 pub mod Lines
+pub mod Making
 pub mod Orders
 pub mod Settings

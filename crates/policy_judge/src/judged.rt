@@ -1,12 +1,15 @@
 //! A policy without fault.
 
 use item_list::Items;
+use net_functions::NetFunction;
 use policy_check::Order;
 use policy_text::Policy;
 
-/// A policy without fault, with the order of each of its chains, in the order of the text.
+/// A policy without fault, with the order of each of its chains, in the order of the text, and the
+/// functions of each chain as they are declared, none for one whose kind isn't built.
 #[derive(Debug, Drop)]
 pub struct Judged {
     pub policy: Policy,
     pub orders: Items<Order>,
+    pub functions: Items<Items<Option<NetFunction>>>,
 }

@@ -3,17 +3,20 @@
 //! [`judge`] reads a policy text whole and checks all that an operator can get wrong in it, in this
 //! order: the faults of the text, the least line that a function refuses among its settings, and then
 //! chain by chain a cycle of orders or a Priority that the dependency table forbids. It gives the
-//! policy with the order of each chain ([`Judged`]), or the first fault with the line that tells it
-//! ([`Refusal`]). `specs/Judging.antt` is the definition, `specs/Lines.antt` has the lines.
+//! policy with the order and the functions of each chain ([`Judged`]), or the first fault with the
+//! line that tells it ([`Refusal`]). `specs/Judging.antt` is the definition, `specs/Lines.antt` has
+//! the lines.
 //!
-//! Settings of kinds that aren't built yet are not looked at.
+//! Which lines a function refuses shows when it is made. So each is made here, once, and handed on
+//! where the policy has no fault. Settings of kinds that aren't built yet are not looked at, and no
+//! function stands for them.
 #![tactic(auto)]
 
 mod chains;
 mod fault;
 mod judged;
 mod judging;
-mod settings;
+mod making;
 mod text;
 
 pub use fault::{JudgeFault, PolicyFault, Refusal};

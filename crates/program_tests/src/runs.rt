@@ -38,6 +38,20 @@ const BESIDE_REPORT: &[u8] =
 const CUT_REPORT: &[u8] =
     b"nfp report 1\ndrop 2 main fw\nrecords 2 emitted 1 dropped 1\nfunction main fw firewall\nfault capture: cut record 3\n";
 
+// Each chain is for the packets of one host.
+const CHAINS: &[u8] =
+    b"nfp 1\nchain one match src 10.0.0.1\nfn open firewall\nchain nine match src 10.0.0.9\nfn shut firewall\nset default deny\n";
+
+const CHAINS_REPORT: &[u8] =
+    b"nfp report 1\ndrop 2 nine shut\nrecords 3 emitted 2 dropped 1\nfunction one open firewall\nfunction nine shut firewall\nend\n";
+
+// As many chains as a policy may have.
+const SIXTEEN: &[u8] =
+    b"nfp 1\nchain c1 match src 10.0.0.1\nfn f1 firewall\nchain c2 match src 10.0.0.2\nfn f2 firewall\nchain c3 match src 10.0.0.3\nfn f3 firewall\nchain c4 match src 10.0.0.4\nfn f4 firewall\nchain c5 match src 10.0.0.5\nfn f5 firewall\nchain c6 match src 10.0.0.6\nfn f6 firewall\nchain c7 match src 10.0.0.7\nfn f7 firewall\nchain c8 match src 10.0.0.8\nfn f8 firewall\nchain c9 match src 10.0.0.9\nfn f9 firewall\nchain c10 match src 10.0.0.10\nfn f10 firewall\nchain c11 match src 10.0.0.11\nfn f11 firewall\nchain c12 match src 10.0.0.12\nfn f12 firewall\nchain c13 match src 10.0.0.13\nfn f13 firewall\nchain c14 match src 10.0.0.14\nfn f14 firewall\nchain c15 match src 10.0.0.15\nfn f15 firewall\nchain c16 match src 10.0.0.16\nfn f16 firewall\nset default deny\n";
+
+const SIXTEEN_REPORT: &[u8] =
+    b"nfp report 1\ndrop 2 c16 f16\nrecords 3 emitted 2 dropped 1\nfunction c1 f1 firewall\nfunction c2 f2 firewall\nfunction c3 f3 firewall\nfunction c4 f4 firewall\nfunction c5 f5 firewall\nfunction c6 f6 firewall\nfunction c7 f7 firewall\nfunction c8 f8 firewall\nfunction c9 f9 firewall\nfunction c10 f10 firewall\nfunction c11 f11 firewall\nfunction c12 f12 firewall\nfunction c13 f13 firewall\nfunction c14 f14 firewall\nfunction c15 f15 firewall\nfunction c16 f16 firewall\nend\n";
+
 const PLAN: &[u8] =
     b"chain main\norder fw sig\nstage 1\nbranch 1 fw\nbranch 2 sig\npart tag shared\npart src shared\npart dst shared\npart sport shared\npart dport shared\npart payload shared\nchain rest\norder\n";
 
@@ -50,12 +64,17 @@ fn push_record(capture: &mut Vec<u8>, host: u8) -> Result<(), AllocError> {
     capture.extend_from_slice(&[10, 0, 0, 2, 3, 0xe8, 0, 53, 0, 8, 0, 0])
 }
 
-fn capture(alloc: Global) -> Result<Vec<u8>, AllocError> {
+// A capture with a packet from each of these hosts.
+fn capture_from(alloc: Global, hosts: &[u8]) -> Result<Vec<u8>, AllocError> {
     let mut capture = HEAD.to_vec(alloc)?;
-    push_record(&mut capture, 1)?;
-    push_record(&mut capture, 9)?;
-    push_record(&mut capture, 1)?;
+    for host in hosts {
+        push_record(&mut capture, *host)?;
+    }
     Ok(capture)
+}
+
+fn capture(alloc: Global) -> Result<Vec<u8>, AllocError> {
+    capture_from(alloc, &[1, 9, 1])
 }
 
 fn words(alloc: Global, texts: &[&str]) -> Result<Vec<String>, AllocError> {
@@ -79,6 +98,25 @@ fn a_capture_goes_through_the_functions_in_chain_order(rt: HostRuntime) -> Resul
         let outcome = nfp(&rt, alloc, &words, &mut desk, &OpenGate);
         assert!(rt; matches!(outcome, Outcome::Done));
         assert_eq!(rt; desk.put(Slot::Out).len(), out);
+        assert_eq!(rt; desk.put(Slot::Report), report);
+    }
+    Ok(())
+}
+
+// A packet of the first chain, one that the last chain drops, and one that no chain takes, which goes out too.
+#[test]
+fn each_packet_goes_through_the_chain_that_takes_it(rt: HostRuntime) -> Result<(), Fail> {
+    let alloc = rt.alloc();
+    let run = words(alloc, &["run", "p", "c", "o", "r"])?;
+    for (policy, hosts, report) in [
+        (CHAINS, [1, 9, 5], CHAINS_REPORT),
+        (SIXTEEN, [1, 16, 17], SIXTEEN_REPORT),
+    ] {
+        let capture = capture_from(alloc, &hosts)?;
+        let mut desk = FixedDesk::new(alloc, policy.to_vec(alloc)?, capture, 7);
+        let outcome = nfp(&rt, alloc, &run, &mut desk, &OpenGate);
+        assert!(rt; matches!(outcome, Outcome::Done));
+        assert_eq!(rt; desk.put(Slot::Out).len(), 140);
         assert_eq!(rt; desk.put(Slot::Report), report);
     }
     Ok(())

@@ -1,4 +1,4 @@
-//! Tests of what leads packets through a graph, through public calls alone.
+//! Tests of what leads packets to chains and through a graph, through public calls alone.
 //!
 //! No clause says that a call finds memory, so each call that takes some runs here once with ample
 //! memory.
@@ -6,6 +6,8 @@
 
 #[cfg(test)]
 mod bursts;
+#[cfg(test)]
+mod classes;
 #[cfg(test)]
 mod graphs;
 #[cfg(test)]

@@ -1,9 +1,9 @@
 use Rattle.std.proofs.Common.{map}
 use Rattle.std.specs.Prelude.{string_bytes}
-use Rattle.nfp_run.specs.Words.{command_of}
-use Rattle.nfp_run.proofs.Answering.{called_exact, called_prefixes, called_answers, called_noted, called_noted_whole}
-use Rattle.nfp_run.proofs.Noting.{called_done_noted, called_noted_short}
-use Rattle.nfp_run.proofs.Telling.{called_names, called_note_fault, called_attached, called_policy, called_refused, called_not_built, called_read_faults, called_write_faults}
+use Rattle.command_words.specs.Words.{command_of}
+use Rattle.nfp_run.proofs.CallAnswers.{called_exact, called_prefixes, called_answers, called_noted, called_noted_whole}
+use Rattle.nfp_run.proofs.NotedLines.{called_done_noted, called_noted_short}
+use Rattle.nfp_run.proofs.CallCauses.{called_names, called_note_fault, called_attached, called_policy, called_refused, called_not_built, called_read_faults, called_write_faults}
 use Rattle.nfp_run.proofs.call.nfp.Goals as goal
 
 pub returns-clause-answers : goal.returns-clause-answers

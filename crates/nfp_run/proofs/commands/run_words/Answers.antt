@@ -1,6 +1,6 @@
 use Rattle.std.proofs.Common.{◌∙◌, ap, sym, subst}
 use Rattle.std.specs.Prelude.{Ok}
-use Rattle.nfp_run.specs.Named.{command_seen}
+use Rattle.command_words.specs.Named.{command_seen}
 use Rattle.nfp_run.specs.Ran.{Ran}
 use Rattle.nfp_run.proofs.commands.run_words.Goals as goal
 

@@ -1,5 +1,5 @@
 use Rattle.std.proofs.Common.{rules}
-use Rattle.nfp_run.proofs.Planning.{ordered_here}
+use Rattle.nfp_run.proofs.ShownPlans.{ordered_here}
 use Rattle.nfp_run.proofs.plan.plan_text.Goals as goal
 
 pub push_plan-requires : goal.push_plan-requires

@@ -1,4 +1,4 @@
-use Rattle.nfp_run.proofs.Planning.{IsShown}
+use Rattle.nfp_run.proofs.ShownPlans.{IsShown}
 use Rattle.nfp_run.proofs.plan.plan_text.Given as goal
 
 abbrev pub invariant-chains : goal.invariant-chains

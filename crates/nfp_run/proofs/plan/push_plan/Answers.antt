@@ -1,4 +1,4 @@
-use Rattle.nfp_run.proofs.Planning.{few_ordered}
+use Rattle.nfp_run.proofs.ShownPlans.{few_ordered}
 use Rattle.nfp_run.proofs.plan.push_plan.Goals as goal
 
 pub put_chain-requires-clause-few : goal.put_chain-requires-clause-few

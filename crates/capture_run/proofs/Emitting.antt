@@ -1,0 +1,113 @@
+-- What came of the packets of a burst is put, one after another.
+use Rattle.std.proofs.Common.{◌≡◌, ◌≢◌, ◌<◌, ◌+◌, ◌∙◌, ℕ, suc, List, [], ◌∷◌, ◌++◌, length, drop, refl, ap, sym, subst, append_assoc, arith}
+use Rattle.std.specs.Prelude.{All, IfSome, None, Option, slice_index_or}
+use Rattle.std.proofs.lemmas.List.{append-nil, drop_all, drop_more, nil_from_length}
+use Rattle.std.proofs.lemmas.List.Elements.{All-head, All-same, All-tail}
+use Rattle.nfp_outside.specs.declared.slot.Slot.{Slot}
+use Rattle.nfp_outside.specs.declared.slot.Slot.TheVariants as slots
+use Rattle.nfp_outside.specs.Outside.{SlotView}
+use Rattle.packet_fields.specs.Checksums.{sealed}
+use Rattle.pcap_io.specs.declared.capture.PcapRecord.{PcapRecord}
+use Rattle.chain_walk.specs.declared.walk.Fate.{Fate}
+use Rattle.classifier.specs.declared.burst.Item.{Item}
+use Rattle.capture_run.specs.Emitted.{emitted, emitted_all}
+use Rattle.capture_run.specs.Leading.{IsWritable, all_ended, ended, records_of}
+use Rattle.capture_run.specs.Slots.{Puts, Breaks}
+use Rattle.capture_run.specs.declared.fault.RunFault.{RunFault}
+use Rattle.capture_run.proofs.Putting.{puts_none, puts_more, puts_is, breaks_more, breaks_longer, breaks_is}
+
+-- the records that are put of these packets, by the fates that their chains gave
+abbrev pub put_of : (PcapRecord → List ℕ) → List Item → List (Option Fate) → List ℕ
+put_of spelled items fates = emitted_all spelled (records_of items) (all_ended items fates)
+
+put_of-nil : (spelled : PcapRecord → List ℕ) → put_of spelled [] [] ≡ []
+unfolding emitted_all all_ended
+put_of-nil spelled = refl
+
+put_of-cons : (spelled : PcapRecord → List ℕ) (item : Item) (items : List Item) (fate : Option Fate) (fates : List (Option Fate)) →
+    put_of spelled (item ∷ items) (fate ∷ fates) ≡ emitted spelled item.packet (ended item.packet fate) ++ put_of spelled items fates
+unfolding emitted_all all_ended
+put_of-cons spelled item items fate fates = refl
+
+-- a packet that no chain took goes out as it was read
+pub untaken : (spelled : PcapRecord → List ℕ) (packet : PcapRecord) (fate : Option Fate) → fate ≡ None → sealed packet.frame packet.frame ≡ packet.frame → emitted spelled packet (ended packet fate) ≡ spelled packet
+untaken spelled packet fate none own = ap (λ o. emitted spelled packet (ended packet o)) none ∙ ap (λ frame. spelled (record packet { frame = frame })) own
+
+-- The records of some packets were put, and these fates are left.
+pub record IsEmitting (spelled spelled' : PcapRecord → List ℕ) (items : List Item) (fates left : List (Option Fate)) (index : ℕ) (old now : Slot → SlotView) : Type 0 where
+  pub put : List ℕ
+  pub puts : Puts put [] old now
+  pub due : put ++ put_of spelled (drop index items) left ≡ put_of spelled items fates
+  pub count : index + length left ≡ length items
+  pub writable : All (λ o. IfSome o IsWritable) left
+  pub same_spelling : spelled' ≡ spelled
+  pub others : (s : Slot) → s ≢ slots.Out → now s ≡ old s
+
+pub emitting_begins : (spelled : PcapRecord → List ℕ) (items : List Item) (fates left : List (Option Fate)) (old : Slot → SlotView) → left ≡ fates → length fates ≡ length items →
+    All (λ o. IfSome o IsWritable) fates → IsEmitting spelled spelled items fates left 0 old old
+emitting_begins spelled items fates left old all as_many writable = record {
+  put = [];
+  puts = puts_none old;
+  due = ap (put_of spelled items) all;
+  count = let e : length left ≡ length fates = ap length all in omega arith;
+  writable = All-same (λ o. IfSome o IsWritable) left fates all writable;
+  same_spelling = refl;
+  others = λ s r. refl;
+}
+
+-- a packet is left where a fate is
+pub still_left : (spelled spelled' : PcapRecord → List ℕ) (items : List Item) (fates left left' : List (Option Fate)) (fate : Option Fate) (index : ℕ) (old now : Slot → SlotView) →
+    IsEmitting spelled spelled' items fates left index old now → left ≡ fate ∷ left' → index < length items
+still_left spelled spelled' items fates left left' fate index old now at next =
+    let c = at.count in
+    let n : length left ≡ suc (length left') = ap length next in
+    omega arith
+
+pub next_writable : (spelled spelled' : PcapRecord → List ℕ) (items : List Item) (fates left left' : List (Option Fate)) (fate : Option Fate) (index : ℕ) (old now : Slot → SlotView) →
+    IsEmitting spelled spelled' items fates left index old now → left ≡ fate ∷ left' → IfSome fate IsWritable
+next_writable spelled spelled' items fates left left' fate index old now at next =
+    All-head (λ o. IfSome o IsWritable) fate left' (All-same (λ o. IfSome o IsWritable) (fate ∷ left') left (sym next) at.writable)
+
+-- what is left to be put is the next packet's record and what is left behind it
+due_next : (spelled : PcapRecord → List ℕ) (items : List Item) (left left' : List (Option Fate)) (index : ℕ) (item : Item) (fate : Option Fate) → left ≡ fate ∷ left' → index < length items → item ≡ slice_index_or items index item →
+    put_of spelled (drop index items) left ≡ emitted spelled item.packet (ended item.packet fate) ++ put_of spelled (drop (index + 1) items) left'
+due_next spelled items left left' index item fate next inside is =
+    let split : drop index items ≡ item ∷ drop (index + 1) items = drop_more items index item inside ∙ ap (λ i. i ∷ drop (index + 1) items) (sym is) in
+    ap (λ xs. put_of spelled xs left) split ∙ ap (put_of spelled (item ∷ drop (index + 1) items)) next ∙ put_of-cons spelled item (drop (index + 1) items) fate left'
+
+pub emitting_goes_on : (spelled spelled1 spelled2 : PcapRecord → List ℕ) (items : List Item) (fates left left' : List (Option Fate)) (index : ℕ) (item : Item) (fate : Option Fate) (old mid new : Slot → SlotView) →
+    IsEmitting spelled spelled1 items fates left index old mid → left ≡ fate ∷ left' → item ≡ slice_index_or items index item →
+    Puts (emitted spelled1 item.packet (ended item.packet fate)) [] mid new → spelled2 ≡ spelled1 → ((s : Slot) → s ≢ slots.Out → new s ≡ mid s) →
+    IsEmitting spelled spelled2 items fates left' (index + 1) old new
+emitting_goes_on spelled spelled1 spelled2 items fates left left' index item fate old mid new at next is put same beside =
+    let inside = still_left spelled spelled1 items fates left left' fate index old mid at next in
+    let one = emitted spelled item.packet (ended item.packet fate) in
+    record {
+      put = at.put ++ one;
+      puts = puts_more at.put [] one [] old mid new at.puts (subst (λ f. Puts (emitted f item.packet (ended item.packet fate)) [] mid new) at.same_spelling put);
+      due = append_assoc at.put one (put_of spelled (drop (index + 1) items) left') ∙ ap (λ l. at.put ++ l) (sym (due_next spelled items left left' index item fate next inside is)) ∙ at.due;
+      count = let c = at.count in let n : length left ≡ suc (length left') = ap length next in omega arith;
+      writable = All-tail (λ o. IfSome o IsWritable) fate left' (All-same (λ o. IfSome o IsWritable) (fate ∷ left') left (sym next) at.writable);
+      same_spelling = same ∙ at.same_spelling;
+      others = λ s r. beside s r ∙ at.others s r;
+    }
+
+pub emitting_ends : (spelled spelled' : PcapRecord → List ℕ) (items : List Item) (fates left : List (Option Fate)) (index : ℕ) (old now : Slot → SlotView) → IsEmitting spelled spelled' items fates left index old now →
+    length left ≡ 0 → Puts (put_of spelled items fates) [] old now
+emitting_ends spelled spelled' items fates left index old now at none =
+    let c = at.count in
+    let over : drop index items ≡ [] = drop_all index items (omega arith) in
+    let rest : put_of spelled (drop index items) left ≡ [] = ap (λ xs. put_of spelled xs left) over ∙ ap (put_of spelled []) (nil_from_length left none) ∙ put_of-nil spelled in
+    puts_is at.put (put_of spelled items fates) [] [] old now (sym (append-nil at.put) ∙ ap (λ l. at.put ++ l) (sym rest) ∙ at.due) refl at.puts
+
+pub emitting_breaks : (spelled spelled1 : PcapRecord → List ℕ) (items : List Item) (fates left left' : List (Option Fate)) (index : ℕ) (item : Item) (fate : Option Fate) (old mid new : Slot → SlotView) (e : RunFault) →
+    IsEmitting spelled spelled1 items fates left index old mid → left ≡ fate ∷ left' → item ≡ slice_index_or items index item →
+    Breaks (emitted spelled1 item.packet (ended item.packet fate)) [] mid new e → Breaks (put_of spelled items fates) [] old new e
+emitting_breaks spelled spelled1 items fates left left' index item fate old mid new e at next is broken =
+    let inside = still_left spelled spelled1 items fates left left' fate index old mid at next in
+    let one = emitted spelled item.packet (ended item.packet fate) in
+    let rest = put_of spelled (drop (index + 1) items) left' in
+    breaks_is ((at.put ++ one) ++ rest) (put_of spelled items fates) [] [] old new e
+    (append_assoc at.put one rest ∙ ap (λ l. at.put ++ l) (sym (due_next spelled items left left' index item fate next inside is)) ∙ at.due) refl
+    (breaks_longer (at.put ++ one) [] rest [] old new e
+    (breaks_more at.put [] one [] old mid new e at.puts (subst (λ f. Breaks (emitted f item.packet (ended item.packet fate)) [] mid new e) at.same_spelling broken)))

@@ -1,0 +1,63 @@
+-- For proofs: how the chains of a service lead the packets of a burst, each its own.
+use Rattle.std.specs.Prelude.{◌≡◌, ◌<◌, ◌^◌, ℕ, suc, List, [], ◌∷◌, map, length, Option, Some, None}
+use Rattle.pcap_io.specs.Capture.{IsShort}
+use Rattle.pcap_io.specs.declared.capture.PcapRecord.{PcapRecord}
+use Rattle.pcap_io.specs.declared.capture.Unit.{Unit as TimeUnit}
+use Rattle.packet_fields.specs.declared.field.Field.{Field}
+use Rattle.policy_text.specs.declared.clause.Match.{Match}
+use Rattle.chain_walk.specs.Packets.{fates, functions_after}
+use Rattle.chain_walk.specs.declared.walk.Fate.{Fate}
+use Rattle.chain_walk.specs.declared.walk.Fate.TheVariants.{Out, Gone}
+use Rattle.service_walk.specs.Service.{Classed, packets_in}
+use Rattle.packet_version.specs.Tallies.{count_of, raised}
+use Rattle.classifier.specs.Classes.{class_of}
+use Rattle.classifier.specs.declared.burst.Item.{Item}
+use Rattle.graph_run.specs.Counting.{copies_made}
+use Rattle.graph_run.specs.Packets.{packet_of}
+use Rattle.chain_service.specs.NamedFunctions.{named_behaviour}
+use Rattle.chain_service.specs.declared.service.ServiceChain.{ServiceChain}
+
+-- the records of the packets of a burst
+abbrev pub records_of : List Item → List PcapRecord
+records_of items = map (λ i. i.packet) items
+
+-- the packet of an item, with the chain that takes it
+abbrev pub classed_item : TimeUnit → Item → Classed
+classed_item unit item = record { class = item.class; packet = packet_of unit item }
+
+abbrev pub classed_items : TimeUnit → List Item → List Classed
+classed_items unit items = map (classed_item unit) items
+
+-- A packet that is told its chain by these clauses, from a record of a length that is accepted.
+pub record IsClassed (fits : List Match) (item : Item) : Type 0 where
+  pub class : item.class ≡ class_of fits item.packet.frame
+  pub short : IsShort item.packet
+
+-- a frame that can be written as a record
+abbrev pub IsWritable : Fate → Type 0
+IsWritable (Out frame) = length frame < 2 ^ 32
+IsWritable (Gone position) = Unit {0}
+
+-- The chain with this number led its packets among these, and stays the chain that it is.
+pub record LeadsChain (packets : List Classed) (number : ℕ) (before after : ServiceChain) : Type 0 where
+  pub same_chain : after.declared ≡ before.declared
+  pub same_graph : after.running.graph ≡ before.running.graph
+  pub functions : after.running.functions ≡ functions_after named_behaviour before.running.functions (packets_in number packets)
+  pub copied : (f : Field) → count_of after.copies f ≡ raised (count_of before.copies f) (copies_made before.running.graph.stages (packets_in number packets) (fates named_behaviour before.running.functions (packets_in number packets)) f)
+
+-- each chain did so, where the first has this number
+unfoldable pub LeadsEach : List Classed → ℕ → List ServiceChain → List ServiceChain → Type 0
+LeadsEach packets number [] [] = Unit {0}
+LeadsEach packets number (before ∷ befores) (after ∷ afters) = LeadsChain packets number before after × LeadsEach packets (suc number) befores afters
+LeadsEach packets number befores afters = ⊥
+
+-- where a packet ended that a chain led to this end, or that no chain took
+abbrev pub ended : PcapRecord → Option Fate → Fate
+ended r None = Out r.frame
+ended r (Some fate) = fate
+
+-- the same for the packets of a burst
+unfoldable pub all_ended : List Item → List (Option Fate) → List Fate
+all_ended [] fates = []
+all_ended (i ∷ items) [] = []
+all_ended (i ∷ items) (fate ∷ fates) = ended i.packet fate ∷ all_ended items fates

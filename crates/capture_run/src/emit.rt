@@ -1,0 +1,112 @@
+//! Writes the packets of a burst that passed.
+ghost use Rattle.std.specs.Prelude.{◌≡◌, ◌≢◌, ◌<◌, ◌^◌, false, [], All, IfErr, IfSome, OnOk, IsSome, count_by, length};
+ghost use Rattle.std.specs.Option.{option_map_or};
+ghost use Rattle.nfp_outside.specs.declared.slot.Slot.{Slot};
+ghost use Rattle.packet_fields.specs.Checksums.{sealed};
+ghost use Rattle.capture_run.specs.Emitted.{emitted, emitted_all};
+ghost use Rattle.capture_run.specs.Leading.{IsWritable, records_of, ended, all_ended};
+ghost use Rattle.capture_run.specs.Report.{is_gone};
+ghost use Rattle.capture_run.specs.Slots.{Puts, Breaks};
+
+use crate::fault::RunFault;
+use crate::sink::Sink;
+use crate::write::put_record;
+use chain_walk::Fate;
+use classifier::Item;
+use nfp_outside::Desk;
+use packet_fields::{Frame, seal};
+use pcap_io::PcapRecord;
+
+/// Puts the records of the packets that passed into Out, in their order: with the frame that its chain left, sealed, or as it
+/// was read where no chain took it.
+pub fn put_emitted<W: Sink, D: Desk>(
+    desk: &mut D,
+    writer: &mut W,
+    items: &[Item],
+    fates: Vec<Option<Fate>>,
+) -> Result<(), RunFault>
+    requires out { IsSome (D.slots desk.old Slot.Out).name }
+    requires as_many { length fates.items ≡ length items.now }
+    requires writable { All (λ o. IfSome o IsWritable) fates.items }
+    requires short { All (λ i. length i.packet.frame < 2 ^ 32) items.now }
+    ensures ok { OnOk result (Puts (emitted_all (W.spelled writer.old) (records_of items.now) (all_ended items.now fates.items)) [] (D.slots desk.old) (D.slots desk.new)) }
+    ensures err { IfErr result (Breaks (emitted_all (W.spelled writer.old) (records_of items.now) (all_ended items.now fates.items)) [] (D.slots desk.old) (D.slots desk.new)) }
+    ensures spelling { W.spelled writer.new ≡ W.spelled writer.old }
+    ensures others { (s : Slot) → s ≢ Slot.Out → D.slots desk.new s ≡ D.slots desk.old s }
+{
+    let mut index = 0;
+    'fates: for fate in fates {
+        match put_fate(desk, writer, &items[index].packet, fate) {
+            Ok(()) => index += 1,
+            Err(fault) => return Err(fault),
+        }
+    }
+    Ok(())
+}
+
+// Puts the record of a packet that passed; one that was dropped has none.
+fn put_fate<W: Sink, D: Desk>(
+    desk: &mut D,
+    writer: &mut W,
+    packet: &PcapRecord,
+    fate: Option<Fate>,
+) -> Result<(), RunFault>
+    requires out { IsSome (D.slots desk.old Slot.Out).name }
+    requires writable { IfSome fate IsWritable }
+    requires short { length packet.now.frame < 2 ^ 32 }
+    ensures ok { OnOk result (Puts (emitted (W.spelled writer.old) packet.now (ended packet.now fate)) [] (D.slots desk.old) (D.slots desk.new)) }
+    ensures err { IfErr result (Breaks (emitted (W.spelled writer.old) packet.now (ended packet.now fate)) [] (D.slots desk.old) (D.slots desk.new)) }
+    ensures spelling { W.spelled writer.new ≡ W.spelled writer.old }
+    ensures others { (s : Slot) → s ≢ Slot.Out → D.slots desk.new s ≡ D.slots desk.old s }
+{
+    match fate {
+        None => {
+            unchanged_is_sealed(packet.frame.bytes());
+            put_record(desk, writer, packet)
+        }
+        Some(Fate::Out(frame)) => put_record(desk, writer, &emitted_record(packet, frame)),
+        Some(Fate::Gone(_)) => Ok(()),
+    }
+}
+
+// The record as it goes out, with this frame, whose checksums are adjusted to what changed.
+fn emitted_record(packet: &PcapRecord, frame: Frame) -> PcapRecord
+    ensures record { result ≡ record packet.now { frame = sealed packet.now.frame frame } }
+    ensures length { length result.frame ≡ length frame }
+{
+    PcapRecord {
+        seconds: packet.seconds,
+        fraction: packet.fraction,
+        wire: packet.wire,
+        frame: seal_frame(packet.frame.bytes(), frame),
+    }
+}
+
+// The frame with its checksums adjusted to what changed.
+fn seal_frame(before: &[u8], frame: Frame) -> Frame
+    ensures sealed { result ≡ sealed before.now frame }
+    ensures length { length result ≡ length frame }
+{
+    let mut bytes = frame.into_bytes();
+    seal(before, &mut bytes);
+    Frame::new(bytes)
+}
+
+// A frame that didn't change stays as it is where it is sealed.
+fn unchanged_is_sealed(frame: &[u8])
+    ensures { sealed frame.now frame.now ≡ frame.now }
+{}
+
+/// How many of these packets were dropped.
+pub fn count_gone(items: &[Item], fates: &[Option<Fate>]) -> u64
+    requires { length fates.now ≡ length items.now }
+    ensures { result ≡ count_by is_gone (all_ended items.now fates.now) }
+{
+    fates.iter().filter(|fate| is_gone(fate)).count() as u64
+}
+
+fn is_gone(fate: &Option<Fate>) -> bool
+    ensures { result ≡ option_map_or is_gone fate.now false }
+{
+    matches!(fate, Some(Fate::Gone(_)))
+}

@@ -1,0 +1,33 @@
+//! What broke a run off.
+ghost use Rattle.std.specs.Prelude.{◌≡◌};
+ghost use Rattle.capture_run.specs.declared.fault.RunFault.TheVariants.{OutOfMemory};
+
+use nfp_outside::Slot;
+use std::alloc::{AllocError, AllocFailed};
+
+/// What broke a run off before the end of its capture, or before all was written.
+#[derive(Clone, Copy, Debug, PartialEq, Eq)]
+pub enum RunFault {
+    /// The capture couldn't be read further.
+    ReadFault,
+    /// This slot couldn't be written, or attached.
+    WriteFault(Slot),
+    /// There was no memory.
+    OutOfMemory,
+}
+
+impl From<AllocError> for RunFault {
+    ghost from_gives = { λ _ e. e ≡ OutOfMemory };
+
+    fn from(_: AllocError) -> Self {
+        RunFault::OutOfMemory
+    }
+}
+
+impl<T: Drop> From<AllocFailed<T>> for RunFault {
+    ghost from_gives = { λ _ e. e ≡ OutOfMemory };
+
+    fn from(_: AllocFailed<T>) -> Self {
+        RunFault::OutOfMemory
+    }
+}

@@ -1,0 +1,66 @@
+//! Runs a capture through the chains of a service.
+ghost use Rattle.std.specs.Prelude.{◌≡◌, ◌≢◌, true, IfErr, IfOk, IsSome};
+ghost use Rattle.nfp_outside.specs.declared.slot.Slot.{Slot};
+ghost use Rattle.chain_service.specs.Opening.{IsOpening, chains_of};
+ghost use Rattle.capture_run.specs.Running.{WritesAll, WriteBreaks};
+
+use crate::ended::{Ended, Totals};
+use crate::fault::RunFault;
+use crate::passage::Passage;
+use crate::records::run_records;
+use crate::report::{TITLE, summary};
+use crate::sink::Sink;
+use crate::source::Source;
+use crate::write::put_text;
+use chain_service::{NamedFunction, Service};
+use nfp_outside::Desk;
+use pcap_io::Unit;
+use service_walk::chains_walk_apart;
+use std::alloc::Global;
+use std::sync::Wait;
+
+/// Leads each packet of a capture through the chain that takes it, and puts those that pass into Out and the report into Report.
+///
+/// The heads were read and written, and the source stands behind the one, the sink behind the other. Packets are held until their
+/// burst is full or the capture ends, so a want of memory or a fault of a slot leaves those unwritten that were read since the
+/// last burst.
+pub fn run_capture<R: Wait, D: Desk, S: Source + Drop, W: Sink + Drop>(
+    rt: &R,
+    alloc: Global,
+    desk: &mut D,
+    service: Service,
+    unit: Unit,
+    source: S,
+    sink: W,
+) -> Result<Ended, RunFault>
+    requires capture { IsSome (D.slots desk.old Slot.Capture).name }
+    requires out { IsSome (D.slots desk.old Slot.Out).name }
+    requires report { IsSome (D.slots desk.old Slot.Report).name }
+    requires opening { IsOpening service }
+    requires fresh { S.given source ≡ 0 }
+    requires open { S.is_open source ≡ true }
+    ensures ok { IfOk result (WritesAll (W.spelled sink) (chains_of service.chains) unit (S.left source (D.slots desk.old Slot.Capture)) (D.slots desk.old) (D.slots desk.new)) }
+    ensures err { IfErr result (WriteBreaks (W.spelled sink) (chains_of service.chains) unit (S.left source (D.slots desk.old Slot.Capture)) (D.slots desk.old) (D.slots desk.new)) }
+    ensures capture_name { (D.slots desk.new Slot.Capture).name ≡ (D.slots desk.old Slot.Capture).name }
+    ensures others { (s : Slot) → s ≢ Slot.Out → s ≢ Slot.Report → s ≢ Slot.Capture → D.slots desk.new s ≡ D.slots desk.old s }
+{
+    chains_walk_apart::<NamedFunction>();
+    put_text(desk, TITLE)?;
+    let passage = Passage {
+        service,
+        unit,
+        writer: sink,
+        totals: Totals {
+            records: 0,
+            dropped: 0,
+        },
+    };
+    let (passage, fault) = run_records(rt, alloc, desk, source, passage)?;
+    let ended = Ended {
+        totals: passage.totals,
+        fault,
+    };
+    let text = summary(alloc, passage.service.chains.as_slice(), ended)?;
+    put_text(desk, &text)?;
+    Ok(ended)
+}

@@ -1,0 +1,51 @@
+//! Puts records and texts into Out and Report, and says why where that is refused.
+ghost use Rattle.std.specs.Prelude.{◌≡◌, ◌≢◌, ◌<◌, ◌^◌, [], IfErr, OnOk, IsSome, length};
+ghost use Rattle.nfp_outside.specs.declared.slot.Slot.{Slot};
+ghost use Rattle.capture_run.specs.Slots.{Puts, Breaks, fault_seen};
+
+use crate::fault::RunFault;
+use crate::sink::Sink;
+use nfp_outside::{Desk, OutsideFault, Slot, write_whole};
+use pcap_io::PcapRecord;
+
+/// Puts a record into Out.
+pub fn put_record<W: Sink, D: Desk>(
+    desk: &mut D,
+    writer: &mut W,
+    packet: &PcapRecord,
+) -> Result<(), RunFault>
+    requires attached { IsSome (D.slots desk.old Slot.Out).name }
+    requires short { length packet.now.frame < 2 ^ 32 }
+    ensures ok { OnOk result (Puts (W.spelled writer.old packet.now) [] (D.slots desk.old) (D.slots desk.new)) }
+    ensures err { IfErr result (Breaks (W.spelled writer.old packet.now) [] (D.slots desk.old) (D.slots desk.new)) }
+    ensures spelling { W.spelled writer.new ≡ W.spelled writer.old }
+    ensures others { (s : Slot) → s ≢ Slot.Out → D.slots desk.new s ≡ D.slots desk.old s }
+{
+    match writer.put(desk, packet) {
+        Ok(()) => Ok(()),
+        Err(fault) => Err(fault_of(Slot::Out, fault)),
+    }
+}
+
+/// Puts a text into Report.
+pub fn put_text<D: Desk>(desk: &mut D, text: &[u8]) -> Result<(), RunFault>
+    requires { IsSome (D.slots desk.old Slot.Report).name }
+    ensures ok { OnOk result (Puts [] text.now (D.slots desk.old) (D.slots desk.new)) }
+    ensures err { IfErr result (Breaks [] text.now (D.slots desk.old) (D.slots desk.new)) }
+    ensures others { (s : Slot) → s ≢ Slot.Report → D.slots desk.new s ≡ D.slots desk.old s }
+{
+    match write_whole(desk, Slot::Report, text) {
+        Ok(()) => Ok(()),
+        Err(fault) => Err(fault_of(Slot::Report, fault)),
+    }
+}
+
+// What a refused writing of a slot is answered with.
+fn fault_of(slot: Slot, fault: OutsideFault) -> RunFault
+    ensures { result ≡ fault_seen slot fault }
+{
+    match fault {
+        OutsideFault::WriteFault(_) => RunFault::WriteFault(slot),
+        _ => RunFault::OutOfMemory,
+    }
+}

@@ -1,0 +1,4 @@
+pub mod Chaining
+pub mod Opens
+pub mod Serving
+pub mod Taking

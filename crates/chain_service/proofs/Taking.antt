@@ -1,0 +1,79 @@
+-- No place of an order stands in it twice, so the function that was made for it is still there when its turn comes.
+use Rattle.std.proofs.Common.{◌≡◌, ◌≢◌, ℕ, suc, zero, ◌+◌, ◌<◌, ◌≤◌, List, [], ◌∷◌, ◌++◌, length, map, take, refl, ap, sym, ◌∙◌, arith, inl, inr}
+use Rattle.std.specs.Prelude.{◌==◌, ◌⊎◌, if◌then◌else◌, Option, Some, None, slice_get, slice_set, slice_index_or, IsPermutation}
+use Rattle.std.specs.List.{sum_by, range_with_len}
+use Rattle.std.specs.Option.{option_map, option_map_or}
+use Rattle.std.proofs.lemmas.List.{append-nil}
+use Rattle.std.proofs.lemmas.Option.{slice_get-get_or, slice_get-map}
+use Rattle.std.proofs.lemmas.List.Sums.{sum_by-cons, sum_by_more_le}
+use Rattle.std.proofs.lemmas.List.Sorted.{sum_by-IsPermutation}
+use Rattle.std.proofs.lemmas.Bool.Decides.{nat_tests}
+use Rattle.policy_text.specs.declared.policy.FunctionDecl.{FunctionDecl}
+use Rattle.net_functions.specs.Builds.{function_of}
+use Rattle.net_functions.specs.declared.net_function.NetFunction.{NetFunction}
+use Rattle.chain_service.specs.declared.named.NamedFunction.{NamedFunction}
+use Rattle.chain_service.specs.Services.{named, function_at}
+use Rattle.chain_service.specs.Taking.{without, without_all}
+
+-- 1 where the two places are one
+abbrev one_at : ℕ → ℕ → ℕ
+one_at p q = if q == p then 1 else 0
+
+-- how often a place stands among others
+abbrev times : ℕ → List ℕ → ℕ
+times p places = sum_by (one_at p) places
+
+same_or_other : (p q : ℕ) → ((q ≡ p) × (one_at p q ≡ 1)) ⊎ ((q ≢ p) × (one_at p q ≡ 0))
+same_or_other p q = grind (arith, nat_tests)
+
+one_here : (p : ℕ) → one_at p p ≡ 1
+one_here p = elim (same_or_other p p) [ inl s ↦ s.1 | inr o ↦ absurd (o.0 refl) ]
+
+none_before : (p a n : ℕ) → p < a → times p (range_with_len a n) ≡ 0
+none_before p a zero before = refl
+none_before p a (suc n) before =
+    let rest = none_before p (a + 1) n (omega arith) in
+    omega (arith, sum_by-cons (one_at p) a (range_with_len (a + 1) n), same_or_other p a, rest)
+
+once_at_most : (p a n : ℕ) → times p (range_with_len a n) ≤ 1
+once_at_most p a zero = omega arith
+once_at_most p a (suc n) =
+    elim (same_or_other p a) [
+      | inl s ↦ omega (arith, sum_by-cons (one_at p) a (range_with_len (a + 1) n), s.1, none_before p (a + 1) n (omega (arith, s.0)))
+      | inr o ↦ omega (arith, sum_by-cons (one_at p) a (range_with_len (a + 1) n), o.1, once_at_most p (a + 1) n)
+    ]
+
+-- another place is as it was
+slice_get-set_other : {A : Type 0} (xs : List A) (q p : ℕ) (x : A) → q ≢ p → slice_get (slice_set xs q x) p ≡ slice_get xs p
+slice_get-set_other [] q p x other = refl
+slice_get-set_other (y ∷ xs) zero zero x other = absurd (other refl)
+slice_get-set_other (y ∷ xs) zero (suc p) x other = refl
+slice_get-set_other (y ∷ xs) (suc q) zero x other = refl
+slice_get-set_other (y ∷ xs) (suc q) (suc p) x other = slice_get-set_other xs q p x (λ e. other (ap suc e))
+
+untouched : (places : List ℕ) (made : List (Option NetFunction)) (p : ℕ) → times p places ≡ 0 → slice_get (without_all made places) p ≡ slice_get made p
+untouched [] made p none = refl
+untouched (q ∷ places) made p none =
+    elim (same_or_other p q) [
+      | inl s ↦ absurd (omega (arith, sum_by-cons (one_at p) q places, s.1, none))
+      | inr o ↦ untouched places (without made q) p (omega (arith, sum_by-cons (one_at p) q places, none)) ∙ slice_get-set_other made q p None o.0
+    ]
+
+pub still_there : (n : ℕ) (places : List ℕ) (i d : ℕ) (made left : List (Option NetFunction)) → IsPermutation (range_with_len 0 n) places → i < length places → left ≡ without_all made (take i places) →
+    slice_get left (slice_index_or places i d) ≡ slice_get made (slice_index_or places i d)
+still_there n places i d made left once inside is =
+    let p : ℕ = slice_index_or places i d in
+    let before : times p (take i places) ≡ 0 = omega (arith, one_here p, sum_by_more_le (one_at p) places i d inside, sum_by-IsPermutation (one_at p) (range_with_len 0 n) places once, once_at_most p 0 n) in
+    ap (λ l. slice_get l p) is ∙ untouched (take i places) made p before
+
+-- where no function was made for a place, none is declared there
+pub nothing_added : (declared : List FunctionDecl) (made : List (Option NetFunction)) (place : ℕ) (d : Option NetFunction) (functions : List NamedFunction) →
+    slice_get made place ≡ slice_get (map function_of declared) place → place < length made → slice_index_or made place d ≡ None → functions ≡ functions ++ function_at declared place
+nothing_added declared made place d functions same inside none =
+    go (slice_get declared place) refl
+  where
+    go : (o : Option FunctionDecl) → slice_get declared place ≡ o → functions ≡ functions ++ option_map_or named o []
+    go None is = sym (append-nil functions)
+    go (Some decl) is =
+        let e : function_of decl ≡ None = cc (same, none, slice_get-get_or made place d inside, slice_get-map function_of declared place, ap (option_map function_of) is) in
+        sym (ap (λ o. functions ++ option_map_or (λ function. record { name = decl.name; function = function } ∷ []) o []) e ∙ append-nil functions)

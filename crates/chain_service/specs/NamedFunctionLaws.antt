@@ -1,0 +1,15 @@
+-- For proofs: functions with their names do what their profiles say, and no more.
+use Rattle.std.proofs.Common.{ap}
+use Rattle.chain_walk.specs.Laws.{KeepsProfile}
+use Rattle.net_functions.specs.NetFunctionLaws.{net_keeps}
+use Rattle.chain_service.specs.NamedFunctions.{named_behaviour}
+
+pub named_keeps : KeepsProfile named_behaviour
+named_keeps = record {
+  stays = λ fixed f v. net_keeps.stays fixed f.function v;
+  writes = λ fixed f v x h. net_keeps.writes fixed f.function v x h;
+  drops = λ fixed f v h. net_keeps.drops fixed f.function v h;
+  state = λ fixed f v h. ap (λ function. record f { function = function }) (net_keeps.state fixed f.function v h);
+  lengths = λ fixed f v x other formed. net_keeps.lengths fixed f.function v x other formed;
+  tags = λ fixed f v whole. net_keeps.tags fixed f.function v whole;
+}

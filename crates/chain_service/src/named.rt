@@ -1,0 +1,37 @@
+//! A function with its name.
+
+use action_profile::Profile;
+use net_functions::{Function, NetFunction};
+use packet_version::{Verdict, View};
+use policy_text::Name;
+use std::alloc::AllocError;
+
+/// A function with its name.
+#[derive(Debug, Drop)]
+pub struct NamedFunction {
+    pub name: Name,
+    pub function: NetFunction,
+}
+
+impl Function for NamedFunction {
+    ghost use Rattle.chain_service.specs.NamedFunctions.{named_behaviour, named_lines};
+    ghost use Rattle.chain_service.specs.NamedFunctionLaws.{named_keeps};
+
+    ghost behaviour = { named_behaviour };
+
+    ghost lines = { named_lines };
+
+    fn profile(&self) -> Profile {
+        self.function.profile()
+    }
+
+    fn step(&mut self, view: &mut View) -> Result<Verdict, AllocError> {
+        self.function.step(view)
+    }
+
+    fn state_lines(&self, out: &mut Vec<u8>) -> Result<(), AllocError> {
+        self.function.state_lines(out)
+    }
+
+    ghost keeps = { named_keeps };
+}

@@ -1,0 +1,52 @@
+//! Attaches the slots that are written, and puts the head of a capture into Out.
+ghost use Rattle.std.specs.Prelude.{◌≡◌, ◌≢◌, ◌≤◌, [], IfErr, IfOk, OnOk, IsSome, false};
+ghost use Rattle.nfp_outside.specs.declared.slot.Slot.{Slot};
+ghost use Rattle.nfp_outside.specs.Outside.{is_read, Attaches};
+ghost use Rattle.pcap_io.specs.Written.{head_bytes};
+ghost use Rattle.capture_run.specs.Slots.{Puts, Breaks, fault_seen};
+ghost use Rattle.nfp_run.specs.Attached.{RefusesAttaching};
+
+use capture_run::RunFault;
+use nfp_outside::{Desk, DeskFault, OutsideFault, Slot};
+use pcap_io::{CaptureHead, Writer};
+
+/// Attaches a slot that is written.
+pub fn attach_sink<D: Desk>(desk: &mut D, slot: Slot, name: &str) -> Result<(), RunFault>
+    requires write_slot { is_read slot ≡ false }
+    requires not_note { slot ≢ Slot.Note }
+    requires free { (D.slots desk.old slot).name ≡ None }
+    ensures ok { OnOk result (Attaches slot name.now (D.slots desk.old slot) (D.slots desk.new slot)) }
+    ensures err { IfErr result (RefusesAttaching slot (D.slots desk.old slot) (D.slots desk.new slot)) }
+    ensures later { (D.slots desk.old slot).faults ≤ (D.slots desk.new slot).faults }
+    ensures others { (s : Slot) → s ≢ slot → D.slots desk.new s ≡ D.slots desk.old s }
+{
+    match desk.attach(slot, name) {
+        Ok(()) => Ok(()),
+        Err(DeskFault::Failed) => Err(RunFault::WriteFault(slot)),
+        Err(DeskFault::NoMemory) => Err(RunFault::OutOfMemory),
+    }
+}
+
+/// Puts the head of a capture into Out.
+pub fn put_head<D: Desk>(desk: &mut D, head: &CaptureHead) -> Result<Writer, RunFault>
+    requires { IsSome (D.slots desk.old Slot.Out).name }
+    ensures ok { OnOk result (Puts (head_bytes head.now) [] (D.slots desk.old) (D.slots desk.new)) }
+    ensures err { IfErr result (Breaks (head_bytes head.now) [] (D.slots desk.old) (D.slots desk.new)) }
+    ensures order { IfOk result (λ writer. writer ≡ head.now.order) }
+    ensures others { (s : Slot) → s ≢ Slot.Out → D.slots desk.new s ≡ D.slots desk.old s }
+{
+    match Writer::begin(desk, head) {
+        Ok(writer) => Ok(writer),
+        Err(fault) => Err(fault_of(fault)),
+    }
+}
+
+// What a refused writing of Out is answered with.
+fn fault_of(fault: OutsideFault) -> RunFault
+    ensures { result ≡ fault_seen Slot.Out fault }
+{
+    match fault {
+        OutsideFault::WriteFault(_) => RunFault::WriteFault(Slot::Out),
+        _ => RunFault::OutOfMemory,
+    }
+}

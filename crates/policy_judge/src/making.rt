@@ -1,0 +1,80 @@
+//! Makes the functions of a policy's chains, each once.
+ghost use Rattle.std.specs.Prelude.{◌≡◌, IfOk, OnOk, Some};
+ghost use Rattle.net_functions.specs.Builds.{refused_line};
+ghost use Rattle.policy_judge.specs.Kept.{kept_of, kept_each, MakesAll};
+ghost use Rattle.policy_judge.specs.Settings.{lesser_of, least_among};
+
+use item_list::Items;
+use net_functions::{NetFunction, build, is_built};
+use policy_text::{BuildFault, ChainPolicy, FunctionDecl};
+use std::alloc::{AllocError, Global};
+
+/// The functions of each chain as they are declared, none for one whose kind isn't built, or the
+/// least line that a function of any chain refuses.
+pub fn functions_of(
+    alloc: Global,
+    chains: &[ChainPolicy],
+) -> Result<Items<Items<Option<NetFunction>>>, BuildFault>
+    ensures { MakesAll chains.now result }
+{
+    let mut least = None;
+    let mut functions = Vec::new(alloc);
+    'chains: for chain in chains {
+        let made = make_each(alloc, &mut least, chain.functions.as_slice())?;
+        functions.push(made)?;
+    }
+    match least {
+        None => Ok(Items::new(functions)),
+        Some(line) => Err(BuildFault::BadSetting(line)),
+    }
+}
+
+// Makes these functions, and takes the lines that they refuse into the least one.
+fn make_each(
+    alloc: Global,
+    least: &mut Option<u32>,
+    decls: &[FunctionDecl],
+) -> Result<Items<Option<NetFunction>>, AllocError>
+    ensures functions { IfOk result (λ functions. functions ≡ kept_each decls.now) }
+    ensures least { OnOk result (least.new ≡ least_among least.old decls.now) }
+{
+    let mut functions = Vec::new(alloc);
+    'decls: for decl in decls {
+        let function = make(alloc, least, decl)?;
+        functions.push(function)?;
+    }
+    Ok(Items::new(functions))
+}
+
+// Makes a function, and takes the line that it refuses into the least one. None stands for one whose
+// kind isn't built, of which no line is refused, and for one that is refused, which nobody gets.
+#[tactic(auto, using(crate::proofs::NoLineRefused::unbuilt, crate::proofs::NoLineRefused::never_made, crate::proofs::NoLineRefused::lesser_of_none))]
+fn make(
+    alloc: Global,
+    least: &mut Option<u32>,
+    decl: &FunctionDecl,
+) -> Result<Option<NetFunction>, AllocError>
+    ensures function { IfOk result (λ function. function ≡ kept_of decl.now) }
+    ensures least { OnOk result (least.new ≡ lesser_of least.old (refused_line decl.now)) }
+{
+    if !is_built(decl.kind) {
+        return Ok(None);
+    }
+    match build(alloc, decl) {
+        Ok(function) => Ok(Some(function)),
+        Err(BuildFault::BadSetting(line)) => {
+            *least = Some(lesser_of(*least, line));
+            Ok(None)
+        }
+        Err(BuildFault::OutOfMemory) => Err(AllocError),
+    }
+}
+
+fn lesser_of(least: Option<u32>, line: u32) -> u32
+    ensures { Some result ≡ lesser_of least (Some line) }
+{
+    match least {
+        Some(least) => least.min(line),
+        None => line,
+    }
+}

@@ -1,0 +1,23 @@
+-- Where there is no chain no function stands, and a packet passes as it is.
+use Rattle.std.proofs.Common.{◌≡◌, ◌≤◌, ℕ, zero, suc, List, [], ◌∷◌, length, ap, refl, sym, arith, get_or, set}
+use Rattle.std.proofs.lemmas.List.{get_or_past}
+use Rattle.chain_walk.specs.Packets.{Packet}
+use Rattle.chain_walk.specs.Step.{Behaviour}
+use Rattle.chain_walk.specs.Walk.{Walked, walk}
+use Rattle.chain_walk.specs.declared.walk.Fate.TheVariants.{Out}
+use Rattle.service_walk.specs.Service.{at_chain}
+
+-- a row that is put where there is no place is empty anyway
+put_anywhere : {A : Type 0} (rows : List (List A)) (place : ℕ) (row : List A) → (length rows ≤ place → row ≡ []) → get_or (set rows place row) place [] ≡ row
+put_anywhere [] place row h = sym (h (omega arith))
+put_anywhere (first ∷ rows) zero row h = refl
+put_anywhere (first ∷ rows) (suc place) row h = put_anywhere rows place row (λ le. h (omega arith))
+
+module _ {F : Type 0} (b : Behaviour F) (chains : List (List F)) (chain : ℕ) (p : Packet) where
+  pub walked_nowhere : length chains ≤ chain → ◌≡◌ {A = Walked F} (walk b p.time 1 (at_chain chains chain) p.frame) (record { functions = []; fate = Out p.frame })
+  unfolding walk
+  walked_nowhere le = ap (λ (functions : List F). walk b p.time 1 functions p.frame) (get_or_past chains chain [] le)
+
+  -- a chain is left as the walk leaves it, also where there is none
+  pub put_walked : at_chain (set chains chain (walk b p.time 1 (at_chain chains chain) p.frame).functions) chain ≡ (walk b p.time 1 (at_chain chains chain) p.frame).functions
+  put_walked = put_anywhere chains chain (walk b p.time 1 (at_chain chains chain) p.frame).functions (λ le. ap (λ (w : Walked F). w.functions) (walked_nowhere le))
