@@ -274,6 +274,77 @@ def servers():
     ]
 
 
+def miscounted(frame):
+    """The same frame with a wrong checksum in its IPv4 header, which stands behind one tag."""
+    at = 18 + 10
+    return frame[:at] + bytes([frame[at] ^ 0x5A]) + frame[at + 1 :]
+
+
+def tenants():
+    """What left a house of two tenants on one line, and how many bytes of it were captured."""
+    web, machine, relay, games = '192.0.2.80', '10.0.0.7', '10.0.0.25', '198.51.100.44'
+    lawyers, school, camera = tag(VLAN_TAG, 10), tag(VLAN_TAG, 20), tag(VLAN_TAG, 30)
+    carried = tag(SERVICE_TAG, 100) + lawyers
+
+    def syn(source, port, tags, to=web):
+        return plain(source, tcp(50123, port, SYN), to=to, tags=tags)
+
+    def query(source, tags):
+        return plain(source, udp(40001, 53, QUERY), to=RESOLVER, tags=tags)
+
+    def arp(tags):
+        return ethernet(TYPE_ARP, arp_request(machine, '10.0.0.1')[14:], tags=tags, to=BROADCAST)
+
+    return [
+        ('TCP SYN to port 443, in VLAN 10', syn(machine, 443, lawyers), None),
+        ('the same in VLAN 20', syn(machine, 443, school), None),
+        ('TCP SYN to port 22, in VLAN 10', syn(machine, 22, lawyers), None),
+        ('the same in VLAN 20', syn(machine, 22, school), None),
+        ('mail, TCP SYN to port 25, in VLAN 10', syn(machine, 25, lawyers), None),
+        ('mail of the relay, in VLAN 10', syn(relay, 25, lawyers), None),
+        ('mail of the same address, in VLAN 20', syn(relay, 25, school), None),
+        ('TCP SYN to port 443 of the scanner, in VLAN 10', syn(machine, 443, lawyers, to=SCANNER), None),
+        ('mail to the scanner, in VLAN 10', syn(machine, 25, lawyers, to=SCANNER), None),
+        ('TCP SYN to port 443 of the games, in VLAN 20', syn(machine, 443, school, to=games), None),
+        ('the same in VLAN 10', syn(machine, 443, lawyers, to=games), None),
+        ('ARP request, in VLAN 10', arp(lawyers), None),
+        ('the same in VLAN 20', arp(school), None),
+        ('DNS query in VLAN 20, with a wrong header checksum', miscounted(query(machine, school)), None),
+        ('the heating without a tag, TCP SYN to port 22 of the scanner', syn('192.168.1.9', 22, b'', to=SCANNER), None),
+        ('a camera in VLAN 30, with a wrong header checksum', miscounted(query('192.168.30.2', camera)), None),
+        ('TCP SYN to the scanner, in VLAN 10 inside service VLAN 100', syn(machine, 443, carried, to=SCANNER), None),
+        ('a runt that ends inside the tag of VLAN 10', syn(machine, 25, lawyers), 17),
+    ]
+
+
+def backups():
+    """What was seen on the line to a backup store, and how many bytes of it were captured."""
+    store, other, server, rsync = '192.0.2.200', '192.0.2.201', '10.1.0.10', 873
+
+    def syn(source, port, to=store, **fields):
+        return plain(source, tcp(50123, port, SYN), to=to, **fields)
+
+    return [
+        ('ARP request of a server', arp_request(server, '10.1.0.1'), None),
+        ('TCP SYN of a server to the store, port 873', syn(server, rsync), None),
+        ('a piece of the backup', plain(server, tcp(50123, rsync, PUSH_ACK, b'x' * 200), to=store), None),
+        ('the same in VLAN 99', plain(server, tcp(50123, rsync, PUSH_ACK, b'x' * 200), to=store, tags=tag(VLAN_TAG, 99)), None),
+        ('what the store answers', plain(store, tcp(rsync, 50123, ACK), to=server), None),
+        ('TCP SYN of a server to port 873 of another machine', syn(server, rsync, to=other), None),
+        ('TCP SYN of a server to the store, port 22', syn(server, 22), None),
+        ('TCP SYN of a server to the scanner, port 443', syn(server, 443, to=SCANNER), None),
+        ('TCP SYN of a guest to a web server, port 443', syn(GUEST, 443, to='192.0.2.80'), None),
+        ('TCP SYN of a guest to a web server, port 22', syn(GUEST, 22, to='192.0.2.80'), None),
+        ('TCP SYN of a guest to the scanner, port 443', syn(GUEST, 443, to=SCANNER), None),
+        ('TCP SYN of a guest to the store, port 873', syn(GUEST, rsync), None),
+        ('TCP SYN of the scanner to the store, port 873', syn(SCANNER, rsync), None),
+        ('first fragment to the store, port 873', plain(server, tcp(50123, rsync, PUSH_ACK, b'x' * 28), to=store, more=True), None),
+        ('a later fragment of it', plain(server, (TCP, lambda *_: b'x' * 24), to=store, offset=48), None),
+        ('a later fragment of the scanner', plain(SCANNER, (TCP, lambda *_: b'x' * 24), to=store, offset=48), None),
+        ('IPv6 ping', ipv6(), None),
+    ]
+
+
 class Example(typing.NamedTuple):
     order: str  # of the bytes in the capture's own numbers, as struct spells it
     magic: int
@@ -287,6 +358,8 @@ MADE = {
     'nanoseconds': Example('>', NANO, 65535, tap()),
     'cut-capture': Example('<', MICRO, 262144, full_disk(), room=4096),
     'two-firewalls': Example('<', MICRO, 262144, [(n * 180_503, *record) for n, record in enumerate(servers())]),
+    'two-tenants': Example('<', MICRO, 262144, [(n * 180_503, *record) for n, record in enumerate(tenants())]),
+    'pass-through': Example('<', MICRO, 262144, [(n * 180_503, *record) for n, record in enumerate(backups())]),
     'refused-policy': Example('<', MICRO, 262144, full_disk()[:2]),
     # This one is planned and not run.
     'plan': None,
@@ -342,14 +415,39 @@ def meets(lead, wanted, found):
     return found[lead] == wanted
 
 
-def dropped_by(walk, frame):
-    """The name of the first firewall of the walk whose first rule that matches denies, or None."""
-    found = seen(frame)
-    for name, firewall in walk:
-        verdicts = [allow for allow, clauses in firewall.rules if all(meets(*clause, found) for clause in clauses.items())]
+def meets_all(clauses, found):
+    return all(meets(*clause, found) for clause in clauses.items())
+
+
+class Chain(typing.NamedTuple):
+    name: str
+    clauses: dict
+    firewalls: dict  # by their names, as declared
+    order: list  # of names
+
+
+class Fate(typing.NamedTuple):
+    chain: typing.Optional[str]  # the chain that takes the packet, or None
+    drop: typing.Optional[str]  # the function that drops it, or None
+
+
+def dropped_by(chain, found):
+    """The name of the first firewall in the chain's order whose first rule that matches denies, or None."""
+    for name in chain.order:
+        firewall = chain.firewalls[name]
+        verdicts = [allow for allow, clauses in firewall.rules if meets_all(clauses, found)]
         if not [*verdicts, firewall.default][0]:
             return name
     return None
+
+
+def fate_of(chains, frame):
+    """The first chain of the text whose clauses the frame meets, as it was read, takes it; else it passes as it is."""
+    found = seen(frame)
+    for chain in chains:
+        if meets_all(chain.clauses, found):
+            return Fate(chain.name, dropped_by(chain, found))
+    return Fate(None, None)
 
 
 def read_capture(data):
@@ -369,26 +467,36 @@ def read_capture(data):
 
 class Answer(typing.NamedTuple):
     frames: list
-    fates: list  # for each record the name of the function that drops it, or None
+    fates: list  # of the records, in their order
     out: typing.Optional[bytes]  # None where nothing is written
     report: typing.Optional[str]
     note: str
     status: int
 
 
+def nothing_but(note, status):
+    return Answer([], [], None, None, note, status)
+
+
 def answer(policy, capture):
-    """What `nfp run` must write for a policy of one chain of firewalls, or for one that is refused."""
+    """What `nfp run` must write for a policy of firewalls, for one that is refused, or for one that it doesn't run yet."""
     try:
-        [(chain, order)] = policy_rules.check(policy)
+        checked = policy_rules.check(policy)
     except policy_rules.Refused as refused:
-        return Answer([], [], None, None, f'policy: {refused}', 2)
-    firewalls = {function.name: policy_rules.read_firewall(function) for function in chain.functions}
+        return nothing_but(f'policy: {refused}', 2)
+    if any(function.kind != 'firewall' for chain, _ in checked for function in chain.functions):
+        return nothing_but('not built: policy', 7)
+    chains = [
+        Chain(chain.name, chain.clauses, {function.name: policy_rules.read_firewall(function) for function in chain.functions}, order)
+        for chain, order in checked
+    ]
     head, made, fault = read_capture(capture)
-    fates = [dropped_by([(name, firewalls[name]) for name in order], frame) for _, frame in made]
-    out = head + b''.join(record + frame for (record, frame), fate in zip(made, fates) if fate is None)
-    drops = [f'drop {number} {chain.name} {fate}' for number, fate in enumerate(fates, 1) if fate is not None]
+    fates = [fate_of(chains, frame) for _, frame in made]
+    # A firewall changes nothing, so what goes out is what was read, whichever chain took it.
+    out = head + b''.join(record + frame for (record, frame), fate in zip(made, fates) if fate.drop is None)
+    drops = [f'drop {number} {fate.chain} {fate.drop}' for number, fate in enumerate(fates, 1) if fate.drop is not None]
     total = f'records {len(fates)} emitted {len(fates) - len(drops)} dropped {len(drops)}'
-    kinds = [f'function {chain.name} {name} firewall' for name in firewalls]
+    kinds = [f'function {chain.name} {name} firewall' for chain in chains for name in chain.firewalls]
     last = f'fault {fault}' if fault else 'end'
     report = '\n'.join(['nfp report 1', *drops, total, *kinds, last, ''])
     return Answer([frame for _, frame in made], fates, out, report, fault or f'done {total}', 3 if fault else 0)
@@ -425,8 +533,10 @@ def told_examples():
 
 def show(name):
     due = answer((EXAMPLES / name / 'policy').read_bytes(), written_capture(MADE[name]))
+    several = len({fate.chain for fate in due.fates}) > 1
     for number, ((_, what, _, _), frame, fate) in enumerate(zip(MADE[name].records, due.frames, due.fates), 1):
-        print(f'| {number} | {what} | {len(frame)} | {seen(frame).get("src", "none")} | {fate if fate else "passes"} |')
+        chain = [fate.chain or 'none'] if several else []
+        print('| ' + ' | '.join([str(number), what, str(len(frame)), str(seen(frame).get('src', 'none')), *chain, fate.drop or 'passes']) + ' |')
     print(due.note)
 
 
