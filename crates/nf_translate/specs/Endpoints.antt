@@ -1,0 +1,26 @@
+-- Believed: endpoints of flows, and the order in which they were first seen.
+use Rattle.std.specs.Prelude.{ℕ, List, [], ◌∷◌, ◌++◌, Bool, ◌==◌, ◌&&◌, if◌then◌else◌, Option, Some, None}
+use Rattle.std.specs.List.{list_any, position_or_len}
+use Rattle.policy_text.specs.declared.seen.Seen.{Seen}
+use Rattle.nf_translate.specs.declared.endpoint.Endpoint.{Endpoint}
+
+-- the same protocol, address and port
+abbrev pub is_same : Endpoint → Endpoint → Bool
+is_same a b = a.proto == b.proto && (a.address == b.address && a.port == b.port)
+
+-- the place of an endpoint, counted from 0; one that isn't known goes behind the others
+abbrev pub place_of : List Endpoint → Endpoint → ℕ
+place_of known endpoint = position_or_len (is_same endpoint) known
+
+-- the endpoints that are known once this one was seen
+abbrev pub with_endpoint : List Endpoint → Endpoint → List Endpoint
+with_endpoint known endpoint = if list_any (is_same endpoint) known then known else known ++ endpoint ∷ []
+
+-- an endpoint, where its protocol, its address and its port are there
+abbrev pub endpoint_of : Option ℕ → Option ℕ → Option ℕ → Option Endpoint
+endpoint_of (Some proto) (Some address) (Some port) = Some (record { proto = proto; address = address; port = port })
+endpoint_of proto address port = None
+
+-- where a packet comes from
+abbrev pub source_of : Seen → Option Endpoint
+source_of seen = endpoint_of seen.proto seen.src seen.sport

@@ -1,0 +1,5 @@
+pub mod Addresses
+pub mod Endpoints
+pub mod BalancerLines
+pub mod Balancers
+pub mod BalancerLaws
