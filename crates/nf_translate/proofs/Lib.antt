@@ -1,3 +1,5 @@
+pub mod BalancerRows
 pub mod Building
-pub mod Rows
+pub mod NatRows
+pub mod Places
 pub mod StateLines

@@ -1,6 +1,7 @@
 -- Believed: endpoints of flows, and the order in which they were first seen.
 use Rattle.std.specs.Prelude.{ℕ, List, [], ◌∷◌, ◌++◌, Bool, ◌==◌, ◌&&◌, if◌then◌else◌, Option, Some, None}
 use Rattle.std.specs.List.{list_any, position_or_len}
+use Rattle.std.specs.Option.{option_map, option_and_then}
 use Rattle.policy_text.specs.declared.seen.Seen.{Seen}
 use Rattle.nf_translate.specs.declared.endpoint.Endpoint.{Endpoint}
 
@@ -24,3 +25,11 @@ endpoint_of proto address port = None
 -- where a packet comes from
 abbrev pub source_of : Seen → Option Endpoint
 source_of seen = endpoint_of seen.proto seen.src seen.sport
+
+-- where a packet goes
+abbrev pub destination_of : Seen → Option Endpoint
+destination_of seen = endpoint_of seen.proto seen.dst seen.dport
+
+-- both, where both are there
+abbrev pub ends_of : Seen → Option (Endpoint × Endpoint)
+ends_of seen = option_and_then (λ source. option_map (λ destination. (source, destination)) (destination_of seen)) (source_of seen)

@@ -3,3 +3,7 @@ pub mod Endpoints
 pub mod BalancerLines
 pub mod Balancers
 pub mod BalancerLaws
+pub mod NatLines
+pub mod Nats
+pub mod NatViews
+pub mod NatLaws

@@ -50,4 +50,15 @@ impl Endpoints {
         let (place, _) = self.known.insert_full(endpoint)?;
         Ok(place)
     }
+
+    /// The place of an endpoint, counted from 0. That of one that isn't known is behind the others.
+    #[tactic(auto, using(crate::proofs::Places::behind_all))]
+    pub(crate) fn place(&self, endpoint: &Endpoint) -> usize
+        ensures { result ≡ place_of self.now endpoint.now }
+    {
+        match self.known.get_index_of(endpoint) {
+            Some(place) => place,
+            None => self.known.len(),
+        }
+    }
 }

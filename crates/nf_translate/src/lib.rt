@@ -1,18 +1,24 @@
 //! Network functions that give packets other addresses, flow by flow.
 //!
+//! A flow is told by where its packets come from, its [`Endpoint`]: the protocol, the source address and
+//! the source port (RFC 791, RFC 793, RFC 768).
+//!
 //! A [`Balancer`] sends what comes to its virtual address to one of its backends, all packets of a flow to
-//! the same. A flow is told by its [`Endpoint`]: the protocol, the source address and the source port of
-//! its packets (RFC 791, RFC 793, RFC 768). A balancer keeps the flows in the order of first sight, and the
-//! backends take turns. [`Balancer::build`] makes it of the lines that an operator wrote, or names the
-//! least line that is refused.
+//! the same. It keeps the flows in the order of first sight, and the backends take turns.
 //!
-//! As a function of a chain a balancer has one meaning, `balancer_behaviour` of `specs/Balancers.antt`. It
-//! sees a packet through a view of a version of it ([`Balancer::step`]); where memory runs out, the
-//! balancer and the view are as before. [`Balancer::state_lines`] tells its flows. That it keeps to its
-//! profile is `balancer_keeps` of `specs/BalancerLaws.antt`.
+//! A [`Nat`] lets the endpoints of a prefix share one public address (RFC 3022): each has a public port of
+//! its own, in the order of first sight, and what is sent to that port comes back to it. Where no port is
+//! left, and where nobody has the port, the packet is dropped.
 //!
-//! A flow is found by its key, not searched. Flows are never forgotten: how many there may be is left to
-//! the memory.
+//! [`Balancer::build`] and [`Nat::build`] make them of the lines that an operator wrote, or name the least
+//! line that is refused. As functions of a chain they have one meaning each, `balancer_behaviour` of
+//! `specs/Balancers.antt` and `nat_behaviour` of `specs/Nats.antt`. They see a packet through a view of a
+//! version of it (`step`); where memory runs out, the function and the view are as before. `state_lines`
+//! tells the flows or the mappings. That they keep to their profiles are `balancer_keeps` and `nat_keeps`
+//! of `specs/BalancerLaws.antt` and `specs/NatLaws.antt`.
+//!
+//! An endpoint is found by its key, and a mapping by its public port: nothing is searched. Flows and
+//! mappings are never forgotten, so memory alone limits the flows of a balancer.
 #![tactic(auto)]
 
 mod addresses;
@@ -21,6 +27,10 @@ mod balancer_build;
 mod balancer_lines;
 mod endpoint;
 mod endpoints;
+mod nat;
+mod nat_build;
+mod nat_lines;
 
 pub use balancer::{Balancer, BalancerSettings};
 pub use endpoint::Endpoint;
+pub use nat::{Nat, NatSettings};

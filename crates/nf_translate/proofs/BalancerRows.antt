@@ -1,4 +1,4 @@
--- Worked rows, computed by the definitions.
+-- Worked rows of a balancer, computed by the definitions.
 use Rattle.std.proofs.Common.{◌≡◌, ℕ, List, [], ◌∷◌, refl}
 use Rattle.std.specs.Prelude.{codes, Some, None}
 use Rattle.std.specs.Fmt.{digits}

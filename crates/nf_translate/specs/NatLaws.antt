@@ -1,0 +1,159 @@
+-- For proofs: a translation does what its profile says, and no more.
+use Rattle.std.specs.Prelude.{◌≡◌, ◌≤◌, ◌+◌, ℕ, List, Bool, true, false, ◌&&◌, ◌==◌, if◌then◌else◌, length, Option, Some, None, is_some, IfSome, IsSomeAnd, refl}
+use Rattle.std.specs.Option.{option_map}
+use Rattle.std.proofs.Common.{◌∙◌, sym, subst, true≢false}
+use Rattle.packet_fields.specs.Fields.{IsLengthOf}
+use Rattle.packet_fields.specs.Frames.{is_tag_list}
+use Rattle.packet_fields.specs.declared.field.Field.{Field}
+use Rattle.packet_fields.specs.declared.field.Field.TheVariants.{LinkDst, LinkSrc, Tag, Tos, Ttl, SrcIp, DstIp, SrcPort, DstPort, Payload}
+use Rattle.policy_text.specs.Meeting.{is_within}
+use Rattle.policy_text.specs.declared.seen.TagSeen.{TagSeen}
+use Rattle.policy_text.specs.declared.seen.TagSeen.TheVariants.{Absent}
+use Rattle.action_profile.specs.Profiles.{writes_of}
+use Rattle.chain_walk.specs.Shown.{Values}
+use Rattle.chain_walk.specs.Step.{Step, stepped}
+use Rattle.chain_walk.specs.Laws.{KeepsProfile}
+use Rattle.chain_walk.specs.declared.fixed.Fixed.{Fixed}
+use Rattle.nf_translate.specs.declared.endpoint.Endpoint.{Endpoint}
+use Rattle.nf_translate.specs.Endpoints.{place_of, ends_of}
+use Rattle.nf_translate.specs.Nats.{PlainNat, from, to, passed, port_at, leaving, coming, mapped, translated, nat_behaviour}
+
+-- a field of one of a packet's two ends
+abbrev is_end : Field → Bool
+is_end SrcIp = true
+is_end DstIp = true
+is_end SrcPort = true
+is_end DstPort = true
+is_end x = false
+
+-- nothing but the two ends is written, and each value has its field's length
+record IsTame (told : Step PlainNat) : Type 0 where
+  others : (x : Field) → is_end x ≡ false → told.written x ≡ None
+  lengths : (x : Field) → IfSome (told.written x) (λ new. IsLengthOf x (length new))
+
+from_others : (address port : ℕ) (x : Field) → is_end x ≡ false → from address port x ≡ None
+from_others address port LinkDst h = refl
+from_others address port LinkSrc h = refl
+from_others address port Tag h = refl
+from_others address port Tos h = refl
+from_others address port Ttl h = refl
+from_others address port SrcIp h = absurd (true≢false h)
+from_others address port DstIp h = refl
+from_others address port SrcPort h = absurd (true≢false h)
+from_others address port DstPort h = refl
+from_others address port Payload h = refl
+
+from_lengths : (address port : ℕ) (x : Field) → IfSome (from address port x) (λ new. IsLengthOf x (length new))
+from_lengths address port LinkDst = tt
+from_lengths address port LinkSrc = tt
+from_lengths address port Tag = tt
+from_lengths address port Tos = tt
+from_lengths address port Ttl = tt
+from_lengths address port SrcIp = refl
+from_lengths address port DstIp = tt
+from_lengths address port SrcPort = refl
+from_lengths address port DstPort = tt
+from_lengths address port Payload = tt
+
+to_others : (address port : ℕ) (x : Field) → is_end x ≡ false → to address port x ≡ None
+to_others address port LinkDst h = refl
+to_others address port LinkSrc h = refl
+to_others address port Tag h = refl
+to_others address port Tos h = refl
+to_others address port Ttl h = refl
+to_others address port SrcIp h = refl
+to_others address port DstIp h = absurd (true≢false h)
+to_others address port SrcPort h = refl
+to_others address port DstPort h = absurd (true≢false h)
+to_others address port Payload h = refl
+
+to_lengths : (address port : ℕ) (x : Field) → IfSome (to address port x) (λ new. IsLengthOf x (length new))
+to_lengths address port LinkDst = tt
+to_lengths address port LinkSrc = tt
+to_lengths address port Tag = tt
+to_lengths address port Tos = tt
+to_lengths address port Ttl = tt
+to_lengths address port SrcIp = tt
+to_lengths address port DstIp = refl
+to_lengths address port SrcPort = tt
+to_lengths address port DstPort = refl
+to_lengths address port Payload = tt
+
+passed_tame : (n : PlainNat) → IsTame (passed n)
+passed_tame n = record { others = λ x h. refl; lengths = λ x. tt }
+
+leaving_tame : (n : PlainNat) (source : Endpoint) (port : Option ℕ) → IsTame (leaving n source port)
+leaving_tame n source None = record { others = λ x h. refl; lengths = λ x. tt }
+leaving_tame n source (Some port) = record { others = from_others n.settings.public_address port; lengths = from_lengths n.settings.public_address port }
+
+coming_tame : (n : PlainNat) (inside : Option Endpoint) → IsTame (coming n inside)
+coming_tame n None = record { others = λ x h. refl; lengths = λ x. tt }
+coming_tame n (Some inside) = record { others = to_others inside.address inside.port; lengths = to_lengths inside.address inside.port }
+
+either : (b : Bool) (s t : Step PlainNat) → IsTame s → IsTame t → IsTame (if b then s else t)
+either true s t hs ht = hs
+either false s t hs ht = ht
+
+tame : (n : PlainNat) (ends : Option (Endpoint × Endpoint)) → IsTame (translated n ends)
+tame n None = passed_tame n
+tame n (Some ends) =
+    either (is_within n.settings.inside n.settings.inside_bits ends.0.address) _ _ (leaving_tame n ends.0 (port_at n.settings (place_of n.mappings ends.0)))
+    (either (ends.1.address == n.settings.public_address) _ _ (coming_tame n (mapped n ends.1)) (passed_tame n))
+
+-- Where an address or a port is absent, nothing is written.
+module _ (n : PlainNat) (tag : TagSeen) (address port : List ℕ → ℕ) where
+  -- what is done with a packet of these values
+  abbrev done : (proto : Option ℕ) (src dst sport dport : Option (List ℕ)) → Step PlainNat
+  done proto src dst sport dport = translated n (ends_of (record { tag = tag; src = option_map address src; dst = option_map address dst; sport = option_map port sport; dport = option_map port dport; proto = proto }))
+
+  quiet : (proto : Option ℕ) (src dst sport dport : Option (List ℕ)) → (is_some src ≡ true → is_some dst ≡ true → is_some sport ≡ true → is_some dport ≡ true → ⊥) → (x : Field) → (done proto src dst sport dport).written x ≡ None
+  quiet None src dst sport dport never x = refl
+  quiet (Some p) None dst sport dport never x = refl
+  quiet (Some p) (Some a) dst None dport never x = refl
+  quiet (Some p) (Some a) None (Some b) dport never x = refl
+  quiet (Some p) (Some a) (Some c) (Some b) None never x = refl
+  quiet (Some p) (Some a) (Some c) (Some b) (Some d) never x = absurd (never refl refl refl refl)
+
+-- a value that is written where one was, and has the field's length
+same_length : (old new : Option (List ℕ)) (len : ℕ) → (is_some old ≡ false → new ≡ None) → IfSome old (λ o. length o ≡ len) → IfSome new (λ w. length w ≡ len) → IfSome new (λ w. IsSomeAnd old (λ o. length w ≡ length o))
+same_length old None len absent was is = tt
+same_length None (Some w) len absent was is = absurd (let e : Some w ≡ None = absent refl in cc)
+same_length (Some o) (Some w) len absent was is = is ∙ sym was
+
+module _ (fixed : Fixed) (n : PlainNat) (v : Values) where
+  writes : (x : Field) → (writes_of (nat_behaviour.profile n) x && is_some (v x)) ≡ false → (stepped nat_behaviour fixed n v).written x ≡ None
+  writes LinkDst h = (tame n _).others LinkDst refl
+  writes LinkSrc h = (tame n _).others LinkSrc refl
+  writes Tag h = (tame n _).others Tag refl
+  writes Tos h = (tame n _).others Tos refl
+  writes Ttl h = (tame n _).others Ttl refl
+  writes SrcIp h = quiet n Absent _ _ fixed.proto (v SrcIp) (v DstIp) (v SrcPort) (v DstPort) (λ a b c d. true≢false (sym a ∙ h)) SrcIp
+  writes DstIp h = quiet n Absent _ _ fixed.proto (v SrcIp) (v DstIp) (v SrcPort) (v DstPort) (λ a b c d. true≢false (sym b ∙ h)) DstIp
+  writes SrcPort h = quiet n Absent _ _ fixed.proto (v SrcIp) (v DstIp) (v SrcPort) (v DstPort) (λ a b c d. true≢false (sym c ∙ h)) SrcPort
+  writes DstPort h = quiet n Absent _ _ fixed.proto (v SrcIp) (v DstIp) (v SrcPort) (v DstPort) (λ a b c d. true≢false (sym d ∙ h)) DstPort
+  writes Payload h = (tame n _).others Payload refl
+
+  other_lengths : (x : Field) → is_end x ≡ false → IfSome ((stepped nat_behaviour fixed n v).written x) (λ new. IsSomeAnd (v x) (λ old. length new ≡ length old))
+  other_lengths x other = subst (λ (w : Option (List ℕ)). IfSome w (λ new. IsSomeAnd (v x) (λ old. length new ≡ length old))) (sym ((tame n _).others x other)) tt
+
+  lengths : (x : Field) → IfSome (v x) (λ old. IsLengthOf x (length old)) → IfSome ((stepped nat_behaviour fixed n v).written x) (λ new. IsSomeAnd (v x) (λ old. length new ≡ length old))
+  lengths LinkDst h = other_lengths LinkDst refl
+  lengths LinkSrc h = other_lengths LinkSrc refl
+  lengths Tag h = other_lengths Tag refl
+  lengths Tos h = other_lengths Tos refl
+  lengths Ttl h = other_lengths Ttl refl
+  lengths SrcIp h = same_length (v SrcIp) _ 4 (writes SrcIp) h ((tame n _).lengths SrcIp)
+  lengths DstIp h = same_length (v DstIp) _ 4 (writes DstIp) h ((tame n _).lengths DstIp)
+  lengths SrcPort h = same_length (v SrcPort) _ 2 (writes SrcPort) h ((tame n _).lengths SrcPort)
+  lengths DstPort h = same_length (v DstPort) _ 2 (writes DstPort) h ((tame n _).lengths DstPort)
+  lengths Payload h = other_lengths Payload refl
+
+pub nat_keeps : KeepsProfile nat_behaviour
+nat_keeps = record {
+  stays = λ fixed n v. refl;
+  writes = λ fixed n v x h. writes fixed n v x h;
+  drops = λ fixed n v h. absurd (true≢false h);
+  state = λ fixed n v h. absurd (true≢false h);
+  lengths = λ fixed n v x other formed. lengths fixed n v x formed;
+  tags = λ fixed n v whole. subst (λ (w : Option (List ℕ)). IfSome w (λ new. (is_tag_list new ≡ true) × IsSomeAnd (v Tag) (λ old. length new ≤ length old + 0))) (sym (writes fixed n v Tag refl)) tt;
+}

@@ -1,0 +1,284 @@
+//! A translation of addresses and ports, and what it does with a packet.
+use crate::addresses::{is_within, push_address};
+use crate::endpoint::Endpoint;
+use crate::endpoints::Endpoints;
+use chain_walk::Verdict;
+use frame_seen::{seen_address, seen_port};
+use packet_fields::Field;
+use packet_version::{View, later_write_stands_over, unwritten_stays, written_is_one_value};
+use std::alloc::{AllocError, Global};
+use std::marker::Model;
+use text_lines::{Piece, push_line, push_pieces};
+
+/// How a translation is set up.
+#[derive(Clone, Copy, Debug, Drop)]
+pub struct NatSettings {
+    /// The prefix of the addresses inside, and how many of its bits count.
+    pub inside: u32,
+    pub inside_bits: u8,
+    /// The address that the outside sees.
+    pub public_address: u32,
+    /// The first and the last of the ports that the outside sees.
+    pub low: u16,
+    pub high: u16,
+}
+
+/// Lets many endpoints inside share one public address: each has a public port of its own (RFC 3022).
+#[derive(Debug, Drop)]
+pub struct Nat {
+    settings: NatSettings,
+    mappings: Endpoints,
+}
+
+impl Model for Nat {
+    ghost use Rattle.nf_translate.specs.Nats.{PlainNat};
+
+    ghost Value = { PlainNat };
+
+    ghost view = { λ n. record { settings = n.settings; mappings = n.mappings } };
+}
+
+impl Nat {
+    ghost use Rattle.std.specs.Prelude.{◌≡◌, ◌++◌, [], IfOk, OnOk, OnErr, Ok};
+    ghost use Rattle.std.specs.Option.{option_copied};
+    ghost use Rattle.packet_version.specs.Views.{viewed, wrote_all};
+    ghost use Rattle.nf_translate.specs.Endpoints.{place_of, with_endpoint};
+    ghost use Rattle.nf_translate.specs.NatViews.{HasSource, HasDestination};
+    ghost use Rattle.nf_translate.specs.Nats.{leaving, coming, mapped, mapping_lines, nat_behaviour, port_at};
+
+    /// A translation without a mapping.
+    pub(crate) fn new(alloc: Global, settings: NatSettings) -> Self
+        ensures { result ≡ record { settings = settings; mappings = [] } }
+    {
+        Nat {
+            settings,
+            mappings: Endpoints::new(alloc),
+        }
+    }
+
+    /// Translates one packet through a view of a translation's profile. One from inside leaves from the
+    /// public address and the port of its source, or is dropped where no port is left. One to the public
+    /// address comes to the endpoint that has the port, or is dropped where none has. Any other passes as
+    /// it is. Memory is taken for a mapping that is new; where it runs out, nothing has changed.
+    pub fn step(&mut self, view: &mut View) -> Result<Verdict, AllocError>
+        requires profile { view.old.profile ≡ nat_behaviour.profile self.old }
+        ensures after { OnOk result (self.new ≡ (viewed nat_behaviour self.old view.old).after) }
+        ensures verdict { IfOk result (λ verdict. verdict ≡ (viewed nat_behaviour self.old view.old).verdict) }
+        ensures view { OnOk result (view.new ≡ wrote_all (viewed nat_behaviour self.old view.old).written view.old) }
+        // Where memory runs out, nothing has changed.
+        ensures function_stays { OnErr result (self.new ≡ self.old) }
+        ensures view_stays { OnErr result (view.new ≡ view.old) }
+    {
+        let Some((source, destination)) = ends_in(view) else {
+            unwritten_stays(view);
+            return Ok(Verdict::Pass);
+        };
+        let settings = self.settings;
+        if is_within(settings.inside, settings.inside_bits, source.address) {
+            return self.let_out(source, view);
+        }
+        if destination.address == settings.public_address {
+            return Ok(self.let_in(destination, view));
+        }
+        unwritten_stays(view);
+        Ok(Verdict::Pass)
+    }
+
+    // A packet from inside.
+    fn let_out(&mut self, source: Endpoint, view: &mut View) -> Result<Verdict, AllocError>
+        requires profile { view.old.profile ≡ nat_behaviour.profile self.old }
+        requires there { HasSource view.old }
+        ensures after { OnOk result (self.new ≡ (leaving self.old source (port_at self.old.settings (place_of self.old.mappings source))).after) }
+        ensures verdict { IfOk result (λ verdict. verdict ≡ (leaving self.old source (port_at self.old.settings (place_of self.old.mappings source))).verdict) }
+        ensures view { OnOk result (view.new ≡ wrote_all (leaving self.old source (port_at self.old.settings (place_of self.old.mappings source))).written view.old) }
+        ensures function_stays { OnErr result (self.new ≡ self.old) }
+        ensures view_stays { OnErr result (view.new ≡ view.old) }
+    {
+        let place = self.mappings.place(&source);
+        let Some(port) = port_at(self.settings, place) else {
+            unwritten_stays(view);
+            return Ok(Verdict::Drop);
+        };
+        let address = self.settings.public_address;
+        self.mappings.see(source)?;
+        write_source(view, address, port);
+        Ok(Verdict::Pass)
+    }
+
+    // A packet to the public address.
+    fn let_in(&self, destination: Endpoint, view: &mut View) -> Verdict
+        requires profile { view.old.profile ≡ nat_behaviour.profile self.now }
+        requires there { HasDestination view.old }
+        ensures verdict { result ≡ (coming self.now (mapped self.now destination)).verdict }
+        ensures view { view.new ≡ wrote_all (coming self.now (mapped self.now destination)).written view.old }
+    {
+        match self.mapped(destination) {
+            Some(inside) => {
+                write_destination(view, inside.address, inside.port);
+                Verdict::Pass
+            }
+            None => {
+                unwritten_stays(view);
+                Verdict::Drop
+            }
+        }
+    }
+
+    // The endpoint that has this public port, where its protocol is this too.
+    fn mapped(&self, public: Endpoint) -> Option<Endpoint>
+        ensures { result ≡ mapped self.now public }
+    {
+        let place = place_at(self.settings, public.port)?;
+        let inside = *self.mappings.as_slice().get(place)?;
+        if inside.proto == public.proto {
+            Some(inside)
+        } else {
+            None
+        }
+    }
+
+    /// Appends the lines that tell its mappings, in the order of first sight. Where memory runs out, it
+    /// appends nothing.
+    #[tactic(auto, using(crate::proofs::StateLines::one_more))]
+    pub fn state_lines(&self, out: &mut Vec<u8>) -> Result<(), AllocError>
+        ensures lines { OnOk result (out.new.items ≡ out.old.items ++ mapping_lines self.now) }
+        ensures stays { OnErr result (out.new.items ≡ out.old.items) }
+    {
+        let alloc = *out.allocator();
+        let mut text = Vec::new(alloc);
+        'mappings: for (place, mapping) in self.mappings.as_slice().iter().enumerate() {
+            push_mapping(alloc, &mut text, &self.settings, place, mapping)?;
+        }
+        out.extend_from_slice(&text)
+    }
+}
+
+ghost use Rattle.std.specs.Prelude.{◌≡◌, ◌<◌, ◌^◌, ◌++◌, IsSome, OnOk};
+ghost use Rattle.action_profile.specs.Profiles.{profile_of};
+ghost use Rattle.action_profile.specs.declared.kind.Kind.{Kind};
+ghost use Rattle.frame_seen.specs.Seeing.{seen_by};
+ghost use Rattle.packet_version.specs.Views.{seen_values, wrote_all};
+ghost use Rattle.nf_translate.specs.Endpoints.{ends_of, source_of, destination_of};
+ghost use Rattle.nf_translate.specs.Nats.{from, to, mapping_line, public_port, port_at, place_at};
+ghost use Rattle.nf_translate.specs.NatViews.{HasSource, HasDestination};
+
+/// The public port of the mapping at a place, where it is one of those that are set.
+fn port_at(settings: NatSettings, place: usize) -> Option<u16>
+    ensures { result ≡ port_at settings place }
+{
+    let most = usize::from(settings.high).checked_sub(usize::from(settings.low))?;
+    if place <= most {
+        Some(settings.low + place as u16)
+    } else {
+        None
+    }
+}
+
+/// The public port of the mapping at a place.
+fn public_port(settings: NatSettings, place: usize) -> u64
+    requires { place < 2 ^ 63 }
+    ensures { result ≡ public_port settings place }
+{
+    u64::from(settings.low) + place as u64
+}
+
+/// The place of the mapping that has a public port.
+fn place_at(settings: NatSettings, port: u16) -> Option<usize>
+    ensures { result ≡ place_at settings port }
+{
+    usize::from(port).checked_sub(usize::from(settings.low))
+}
+
+/// Where the packet behind a view comes from and where it goes, where both are there.
+fn ends_in(view: &View) -> Option<(Endpoint, Endpoint)>
+    requires profile { view.now.profile ≡ profile_of Kind.Nat }
+    ensures ends { result ≡ ends_of (seen_by (seen_values view.now) view.now.version.fixed.proto) }
+    ensures source { IsSome result → HasSource view.now }
+    ensures destination { IsSome result → HasDestination view.now }
+{
+    let source = source_in(view)?;
+    let destination = destination_in(view)?;
+    Some((source, destination))
+}
+
+fn source_in(view: &View) -> Option<Endpoint>
+    requires profile { view.now.profile ≡ profile_of Kind.Nat }
+    ensures source { result ≡ source_of (seen_by (seen_values view.now) view.now.version.fixed.proto) }
+    ensures there { IsSome result → HasSource view.now }
+{
+    Some(Endpoint {
+        proto: view.proto()?,
+        address: seen_address(view.get(Field::SrcIp))?,
+        port: seen_port(view.get(Field::SrcPort))?,
+    })
+}
+
+fn destination_in(view: &View) -> Option<Endpoint>
+    requires profile { view.now.profile ≡ profile_of Kind.Nat }
+    ensures destination { result ≡ destination_of (seen_by (seen_values view.now) view.now.version.fixed.proto) }
+    ensures there { IsSome result → HasDestination view.now }
+{
+    Some(Endpoint {
+        proto: view.proto()?,
+        address: seen_address(view.get(Field::DstIp))?,
+        port: seen_port(view.get(Field::DstPort))?,
+    })
+}
+
+/// Writes where a packet comes from.
+fn write_source(view: &mut View, address: u32, port: u16)
+    requires profile { view.old.profile ≡ profile_of Kind.Nat }
+    requires there { HasSource view.old }
+    ensures { view.new ≡ wrote_all (from address port) view.old }
+{
+    view.set(Field::SrcIp, &address.to_be_bytes());
+    view.set(Field::SrcPort, &port.to_be_bytes());
+    written_is_one_value();
+    later_write_stands_over();
+}
+
+/// Writes where a packet goes.
+fn write_destination(view: &mut View, address: u32, port: u16)
+    requires profile { view.old.profile ≡ profile_of Kind.Nat }
+    requires there { HasDestination view.old }
+    ensures { view.new ≡ wrote_all (to address port) view.old }
+{
+    view.set(Field::DstIp, &address.to_be_bytes());
+    view.set(Field::DstPort, &port.to_be_bytes());
+    written_is_one_value();
+    later_write_stands_over();
+}
+
+/// Adds the line of the mapping at a place.
+#[tactic(auto, unfolding(crate::specs::Nats::mapping_line))]
+fn push_mapping(
+    alloc: Global,
+    text: &mut Vec<u8>,
+    settings: &NatSettings,
+    place: usize,
+    inside: &Endpoint,
+) -> Result<(), AllocError>
+    requires { place < 2 ^ 63 }
+    ensures { OnOk result (text.new.items ≡ text.old.items ++ mapping_line settings.now place inside.now) }
+{
+    push_pieces(
+        alloc,
+        text,
+        &[
+            Piece::Text(b"  map "),
+            Piece::Number(u64::from(inside.proto)),
+            Piece::Text(b" "),
+        ],
+    )?;
+    push_address(alloc, text, inside.address)?;
+    push_line(
+        alloc,
+        text,
+        &[
+            Piece::Text(b" "),
+            Piece::Number(u64::from(inside.port)),
+            Piece::Text(b" port "),
+            Piece::Number(public_port(*settings, place)),
+        ],
+    )
+}
