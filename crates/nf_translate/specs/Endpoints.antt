@@ -13,9 +13,13 @@ is_same a b = a.proto == b.proto && (a.address == b.address && a.port == b.port)
 abbrev pub place_of : List Endpoint → Endpoint → ℕ
 place_of known endpoint = position_or_len (is_same endpoint) known
 
+-- the endpoint is among these
+abbrev pub is_known : List Endpoint → Endpoint → Bool
+is_known known endpoint = list_any (is_same endpoint) known
+
 -- the endpoints that are known once this one was seen
 abbrev pub with_endpoint : List Endpoint → Endpoint → List Endpoint
-with_endpoint known endpoint = if list_any (is_same endpoint) known then known else known ++ endpoint ∷ []
+with_endpoint known endpoint = if is_known known endpoint then known else known ++ endpoint ∷ []
 
 -- an endpoint, where its protocol, its address and its port are there
 abbrev pub endpoint_of : Option ℕ → Option ℕ → Option ℕ → Option Endpoint

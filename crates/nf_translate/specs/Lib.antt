@@ -7,3 +7,4 @@ pub mod NatLines
 pub mod Nats
 pub mod NatViews
 pub mod NatLaws
+pub mod Standing

@@ -17,6 +17,9 @@
 //! tells the flows or the mappings. That they keep to their profiles are `balancer_keeps` and `nat_keeps`
 //! of `specs/BalancerLaws.antt` and `specs/NatLaws.antt`.
 //!
+//! In other words than the steps: [`flows_keep_their_backends`], [`packets_come_back`] and
+//! [`ports_run_out_once_all_are_taken`].
+//!
 //! An endpoint is found by its key, and a mapping by its public port: nothing is searched. Flows and
 //! mappings are never forgotten, so memory alone limits the flows of a balancer.
 #![tactic(auto)]
@@ -27,10 +30,12 @@ mod balancer_build;
 mod balancer_lines;
 mod endpoint;
 mod endpoints;
+mod laws;
 mod nat;
 mod nat_build;
 mod nat_lines;
 
 pub use balancer::{Balancer, BalancerSettings};
 pub use endpoint::Endpoint;
+pub use laws::{flows_keep_their_backends, packets_come_back, ports_run_out_once_all_are_taken};
 pub use nat::{Nat, NatSettings};

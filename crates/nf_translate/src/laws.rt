@@ -1,0 +1,33 @@
+//! What flows and mappings are worth, in other words than the steps.
+ghost use Rattle.std.specs.Prelude.{◌≡◌, ◌+◌, ℕ, true, false, length, Some, None};
+ghost use Rattle.chain_walk.specs.Shown.{Values};
+ghost use Rattle.chain_walk.specs.Step.{stepped};
+ghost use Rattle.chain_walk.specs.declared.fixed.Fixed.{Fixed};
+ghost use Rattle.nf_translate.specs.declared.endpoint.Endpoint.{Endpoint};
+ghost use Rattle.nf_translate.specs.Endpoints.{is_known, place_of};
+ghost use Rattle.nf_translate.specs.Balancers.{PlainBalancer, balanced, balancer_behaviour};
+ghost use Rattle.nf_translate.specs.Nats.{PlainNat, leaving, mapped, nat_behaviour, port_at};
+ghost use Rattle.nf_translate.specs.Standing.{KeepsBackend, HasPorts};
+
+/// Once a packet of a flow came, the balancer knows the flow, and the flow keeps its backend, whatever packets
+/// come.
+pub fn flows_keep_their_backends()
+    ensures known { (b : PlainBalancer) (flow : Endpoint) → is_known (balanced b (Some flow)).after.flows flow ≡ true }
+    ensures kept { (fixed : Fixed) (b : PlainBalancer) (v : Values) (flow : Endpoint) → is_known b.flows flow ≡ true → KeepsBackend flow b (stepped balancer_behaviour fixed b v).after }
+{}
+
+/// Once a packet left by a public port, what is sent to that port by the same protocol comes back to where the packet
+/// came from, whatever packets come.
+pub fn packets_come_back()
+    ensures back { (n : PlainNat) (source : Endpoint) (address port : ℕ) → port_at n.settings (place_of n.mappings source) ≡ Some port →
+        mapped (leaving n source (Some port)).after (record { proto = source.proto; address = address; port = port }) ≡ Some source }
+    ensures kept { (fixed : Fixed) (n : PlainNat) (v : Values) (public inside : Endpoint) → mapped n public ≡ Some inside → mapped (stepped nat_behaviour fixed n v).after public ≡ Some inside }
+{}
+
+/// There are never more mappings than ports, so no port is left only for an endpoint that is new, and only where all
+/// ports are taken.
+pub fn ports_run_out_once_all_are_taken()
+    ensures within { (fixed : Fixed) (n : PlainNat) (v : Values) → HasPorts n → HasPorts (stepped nat_behaviour fixed n v).after }
+    ensures new { (n : PlainNat) (source : Endpoint) → HasPorts n → port_at n.settings (place_of n.mappings source) ≡ None → is_known n.mappings source ≡ false }
+    ensures all_taken { (n : PlainNat) (source : Endpoint) → HasPorts n → port_at n.settings (place_of n.mappings source) ≡ None → n.settings.low + length n.mappings ≡ n.settings.high + 1 }
+{}
