@@ -1,12 +1,13 @@
 //! What flows and mappings are worth, in other words than the steps.
 ghost use Rattle.std.specs.Prelude.{◌≡◌, ◌+◌, ℕ, true, false, length, Some, None};
+ghost use Rattle.policy_text.specs.declared.policy.FunctionDecl.{FunctionDecl};
 ghost use Rattle.chain_walk.specs.Shown.{Values};
 ghost use Rattle.chain_walk.specs.Step.{stepped};
 ghost use Rattle.chain_walk.specs.declared.fixed.Fixed.{Fixed};
 ghost use Rattle.nf_translate.specs.declared.endpoint.Endpoint.{Endpoint};
 ghost use Rattle.nf_translate.specs.Endpoints.{is_known, place_of};
 ghost use Rattle.nf_translate.specs.Balancers.{PlainBalancer, balanced, balancer_behaviour};
-ghost use Rattle.nf_translate.specs.Nats.{PlainNat, leaving, mapped, nat_behaviour, port_at};
+ghost use Rattle.nf_translate.specs.Nats.{PlainNat, leaving, mapped, nat_behaviour, nat_of, port_at};
 ghost use Rattle.nf_translate.specs.Standing.{KeepsBackend, HasPorts};
 
 /// Once a packet of a flow came, the balancer knows the flow, and the flow keeps its backend, whatever packets
@@ -27,6 +28,7 @@ pub fn packets_come_back()
 /// There are never more mappings than ports, so no port is left only for an endpoint that is new, and only where all
 /// ports are taken.
 pub fn ports_run_out_once_all_are_taken()
+    ensures opens { (decl : FunctionDecl) → HasPorts (nat_of decl) }
     ensures within { (fixed : Fixed) (n : PlainNat) (v : Values) → HasPorts n → HasPorts (stepped nat_behaviour fixed n v).after }
     ensures new { (n : PlainNat) (source : Endpoint) → HasPorts n → port_at n.settings (place_of n.mappings source) ≡ None → is_known n.mappings source ≡ false }
     ensures all_taken { (n : PlainNat) (source : Endpoint) → HasPorts n → port_at n.settings (place_of n.mappings source) ≡ None → n.settings.low + length n.mappings ≡ n.settings.high + 1 }
