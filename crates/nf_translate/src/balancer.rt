@@ -2,6 +2,7 @@
 use crate::addresses::push_address;
 use crate::endpoint::Endpoint;
 use crate::endpoints::Endpoints;
+use crate::undoing::whole_or_nothing;
 use chain_walk::Verdict;
 use frame_seen::{seen_address, seen_port};
 use item_list::Items;
@@ -39,7 +40,7 @@ impl Model for Balancer {
 }
 
 impl Balancer {
-    ghost use Rattle.std.specs.Prelude.{◌≡◌, ◌<◌, ◌++◌, [], length, IfOk, OnOk, OnErr, Ok};
+    ghost use Rattle.std.specs.Prelude.{◌≡◌, ◌<◌, ◌++◌, [], length, take, IfOk, OnOk, OnErr};
     ghost use Rattle.packet_version.specs.Views.{viewed, wrote_all};
     ghost use Rattle.nf_translate.specs.Endpoints.{place_of, with_endpoint};
     ghost use Rattle.nf_translate.specs.Balancers.{backend_at, balancer_behaviour, flow_lines};
@@ -89,17 +90,29 @@ impl Balancer {
 
     /// Appends the lines that tell its flows, in the order of first sight. Where memory runs out, it
     /// appends nothing.
-    #[tactic(auto, using(crate::proofs::StateLines::one_more))]
     pub fn state_lines(&self, out: &mut Vec<u8>) -> Result<(), AllocError>
         ensures lines { OnOk result (out.new.items ≡ out.old.items ++ flow_lines self.now) }
         ensures stays { OnErr result (out.new.items ≡ out.old.items) }
     {
+        let len = out.len();
+        let done = self.push_flows(out);
+        whole_or_nothing(out, len, done)
+    }
+
+    // Adds the lines. Where memory runs out, some of them may stand behind what was there.
+    #[tactic(auto, using(crate::proofs::StateLines::one_more_behind, crate::proofs::StateLines::begun))]
+    fn push_flows(&self, out: &mut Vec<u8>) -> Result<(), AllocError>
+        ensures lines { OnOk result (out.new.items ≡ out.old.items ++ flow_lines self.now) }
+        ensures begun { take (length out.old.items) out.new.items ≡ out.old.items }
+    {
         let alloc = *out.allocator();
-        let mut text = Vec::new(alloc);
+        let mut line = Vec::new(alloc);
         'flows: for (place, flow) in self.flows.as_slice().iter().enumerate() {
-            push_flow(alloc, &mut text, &self.settings, place, flow)?;
+            line.clear();
+            push_flow(alloc, &mut line, &self.settings, place, flow)?;
+            out.extend_from_slice(&line)?;
         }
-        out.extend_from_slice(&text)
+        Ok(())
     }
 }
 

@@ -34,6 +34,7 @@ mod laws;
 mod nat;
 mod nat_build;
 mod nat_lines;
+mod undoing;
 
 pub use balancer::{Balancer, BalancerSettings};
 pub use endpoint::Endpoint;

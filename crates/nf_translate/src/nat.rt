@@ -2,6 +2,7 @@
 use crate::addresses::{is_within, push_address};
 use crate::endpoint::Endpoint;
 use crate::endpoints::Endpoints;
+use crate::undoing::whole_or_nothing;
 use chain_walk::Verdict;
 use frame_seen::{seen_address, seen_port};
 use packet_fields::Field;
@@ -39,8 +40,7 @@ impl Model for Nat {
 }
 
 impl Nat {
-    ghost use Rattle.std.specs.Prelude.{◌≡◌, ◌++◌, [], IfOk, OnOk, OnErr, Ok};
-    ghost use Rattle.std.specs.Option.{option_copied};
+    ghost use Rattle.std.specs.Prelude.{◌≡◌, ◌++◌, [], length, take, IfOk, OnOk, OnErr};
     ghost use Rattle.packet_version.specs.Views.{viewed, wrote_all};
     ghost use Rattle.nf_translate.specs.Endpoints.{place_of, with_endpoint};
     ghost use Rattle.nf_translate.specs.NatViews.{HasSource, HasDestination};
@@ -139,17 +139,29 @@ impl Nat {
 
     /// Appends the lines that tell its mappings, in the order of first sight. Where memory runs out, it
     /// appends nothing.
-    #[tactic(auto, using(crate::proofs::StateLines::one_more))]
     pub fn state_lines(&self, out: &mut Vec<u8>) -> Result<(), AllocError>
         ensures lines { OnOk result (out.new.items ≡ out.old.items ++ mapping_lines self.now) }
         ensures stays { OnErr result (out.new.items ≡ out.old.items) }
     {
+        let len = out.len();
+        let done = self.push_mappings(out);
+        whole_or_nothing(out, len, done)
+    }
+
+    // Adds the lines. Where memory runs out, some of them may stand behind what was there.
+    #[tactic(auto, using(crate::proofs::StateLines::one_more_behind, crate::proofs::StateLines::begun))]
+    fn push_mappings(&self, out: &mut Vec<u8>) -> Result<(), AllocError>
+        ensures lines { OnOk result (out.new.items ≡ out.old.items ++ mapping_lines self.now) }
+        ensures begun { take (length out.old.items) out.new.items ≡ out.old.items }
+    {
         let alloc = *out.allocator();
-        let mut text = Vec::new(alloc);
+        let mut line = Vec::new(alloc);
         'mappings: for (place, mapping) in self.mappings.as_slice().iter().enumerate() {
-            push_mapping(alloc, &mut text, &self.settings, place, mapping)?;
+            line.clear();
+            push_mapping(alloc, &mut line, &self.settings, place, mapping)?;
+            out.extend_from_slice(&line)?;
         }
-        out.extend_from_slice(&text)
+        Ok(())
     }
 }
 
