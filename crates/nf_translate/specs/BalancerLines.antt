@@ -1,4 +1,4 @@
--- Believed: the lines that set a balancer up: `set vip` with an address, and `rule backend` with an address, at least one of each.
+-- Believed: the lines that set a balancer up: `set vip` with an address, once, and `rule backend` with an address, at least once.
 use Rattle.std.specs.Prelude.{ℕ, List, [], ◌∷◌, Bool, true, false, if◌then◌else◌, Option, None, codes}
 use Rattle.std.specs.Option.{option_map}
 use Rattle.std.specs.Str.{bytes_eq}

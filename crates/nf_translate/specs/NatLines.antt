@@ -1,4 +1,4 @@
--- Believed: the lines that set a translation up: `set inside` with a prefix, `set public` with an address, and `set ports` with two ports and a dash between them, one of each.
+-- Believed: the lines that set a translation up: `set inside` with a prefix, `set public` with an address, and `set ports` with two ports and a dash between them, each once.
 use Rattle.std.specs.Prelude.{ℕ, List, [], ◌∷◌, Bool, true, false, if◌then◌else◌, ◌==◌, Option, Some, None, codes}
 use Rattle.std.specs.List.{list_any}
 use Rattle.std.specs.Option.{option_map, option_and_then}
