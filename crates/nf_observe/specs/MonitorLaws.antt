@@ -1,0 +1,14 @@
+-- For proofs: a monitor does what its profile says, and no more.
+use Rattle.std.specs.Prelude.{refl}
+use Rattle.chain_walk.specs.Laws.{KeepsProfile}
+use Rattle.nf_observe.specs.Monitors.{monitor_behaviour}
+
+pub monitor_keeps : KeepsProfile monitor_behaviour
+monitor_keeps = record {
+  stays = λ fixed m v. refl;
+  writes = λ fixed m v x h. refl;
+  drops = λ fixed m v h. refl;
+  state = λ fixed m v h. absurd cc;
+  lengths = λ fixed m v x other old. tt;
+  tags = λ fixed m v old. tt;
+}

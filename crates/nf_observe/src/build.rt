@@ -1,0 +1,45 @@
+//! Makes a monitor of the lines that declare it, of which there are none.
+
+use crate::first_seen::FirstSeen;
+use crate::monitor::Monitor;
+use function_lines::{FunctionLine, read_lines};
+use policy_text::{BuildFault, FunctionDecl, Word};
+use std::alloc::{AllocError, Global};
+
+/// A line of a monitor: there is none.
+#[derive(Debug, Drop)]
+pub enum MonitorLine {}
+
+impl FunctionLine for MonitorLine {
+    ghost use Rattle.nf_observe.specs.Monitors.{monitor_lines};
+
+    ghost kind_lines = { monitor_lines };
+
+    fn read(_alloc: Global, _words: &[Word]) -> Result<Option<MonitorLine>, AllocError> {
+        Ok(None)
+    }
+
+    // No line of a monitor has to be there.
+    fn lacks_one(_lines: &[MonitorLine]) -> bool {
+        false
+    }
+}
+
+impl Monitor {
+    ghost use Rattle.std.specs.Prelude.{◌≡◌};
+    ghost use Rattle.action_profile.specs.declared.kind.Kind.{Kind};
+    ghost use Rattle.function_lines.specs.Builds.{Builds};
+    ghost use Rattle.nf_observe.specs.Monitors.{monitor_lines, monitor_by};
+
+    /// Makes the monitor that is declared, which has seen no flow, or names the least line of the
+    /// declaration that is refused, as each is.
+    pub fn build(alloc: Global, decl: &FunctionDecl) -> Result<Monitor, BuildFault>
+        requires { decl.now.kind ≡ Kind.Monitor }
+        ensures { Builds monitor_lines monitor_by decl.now result }
+    {
+        read_lines::<MonitorLine>(alloc, decl)?;
+        Ok(Monitor {
+            flows: FirstSeen::new(alloc),
+        })
+    }
+}

@@ -1,0 +1,79 @@
+//! Flows, and what is counted of them.
+ghost use Rattle.std.specs.Cmp.{partial_equiv_from_equiv};
+ghost use Rattle.nf_observe.specs.SameFlow.{is_same_endpoint, is_same_flow};
+ghost use Rattle.nf_observe.specs.SameFlowLaws.{same_endpoint, same_flow};
+
+/// An address, and the port there. Numbers are read most significant byte first.
+#[derive(Clone, Copy, Hash, Debug)]
+pub struct Endpoint {
+    pub address: u32,
+    /// None where the packet has no ports, as a fragment that isn't the first.
+    pub port: Option<u16>,
+}
+
+impl PartialEq for Endpoint {
+    ghost eq = { is_same_endpoint };
+
+    ghost laws = { partial_equiv_from_equiv same_endpoint };
+
+    fn eq(&self, other: &Endpoint) -> bool {
+        self.address == other.address && self.port == other.port
+    }
+}
+
+impl Eq for Endpoint {
+    ghost laws = { same_endpoint };
+}
+
+/// What tells flows apart.
+#[derive(Clone, Copy, Hash, Debug)]
+pub struct FiveTuple {
+    /// The IPv4 header's protocol (RFC 791, 3.1).
+    pub proto: u8,
+    pub source: Endpoint,
+    pub destination: Endpoint,
+}
+
+impl PartialEq for FiveTuple {
+    ghost eq = { is_same_flow };
+
+    ghost laws = { partial_equiv_from_equiv same_flow };
+
+    fn eq(&self, other: &FiveTuple) -> bool {
+        self.proto == other.proto
+            && self.source == other.source
+            && self.destination == other.destination
+    }
+}
+
+impl Eq for FiveTuple {
+    ghost laws = { same_flow };
+}
+
+/// The packets of a flow, and their bytes.
+#[derive(Clone, Copy, PartialEq, Eq, Debug)]
+pub struct FlowCounts {
+    pub packets: u64,
+    pub bytes: u64,
+}
+
+impl FlowCounts {
+    ghost use Rattle.std.specs.Prelude.{◌≡◌};
+    ghost use Rattle.nf_observe.specs.Flows.{with_packet};
+
+    /// Before the first packet.
+    pub const NONE: FlowCounts = FlowCounts {
+        packets: 0,
+        bytes: 0,
+    };
+
+    /// With one more packet of so many bytes.
+    pub fn with_packet(self, bytes: u16) -> FlowCounts
+        ensures { result ≡ with_packet self bytes }
+    {
+        FlowCounts {
+            packets: self.packets.saturating_add(1),
+            bytes: self.bytes.saturating_add(u64::from(bytes)),
+        }
+    }
+}
