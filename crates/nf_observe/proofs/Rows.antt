@@ -1,12 +1,19 @@
--- Worked rows: what a monitor counts and tells of three packets of two flows.
+-- Worked rows: what a monitor counts and tells of a few packets, and how a limiter is set up and judges.
 use Rattle.std.proofs.Common.{◌≡◌, ◌-◌, ◌^◌, List, [], ◌∷◌, refl}
-use Rattle.std.specs.Prelude.{Some, None, codes}
+use Rattle.std.specs.Prelude.{ℕ, Some, None, codes, filter_map}
 use Rattle.std.specs.Fmt.{decimal}
 use Rattle.text_lines.specs.Texts.{joined}
 use Rattle.nf_observe.specs.Flows.{with_packet}
 use Rattle.nf_observe.specs.Monitors.{flows_after, monitor_by}
 use Rattle.nf_observe.specs.StateLines.{endpoint_text}
 use Rattle.nf_observe.specs.Addresses.{dotted}
+use Rattle.chain_walk.specs.Step.{nothing}
+use Rattle.chain_walk.specs.declared.verdict.Verdict.TheVariants.{Pass, Drop}
+use Rattle.nf_observe.specs.Buckets.{full, filled}
+use Rattle.nf_observe.specs.LimiterLines.{line_of}
+use Rattle.nf_observe.specs.Limiters.{limiter_by, limited, limited_by}
+use Rattle.nf_observe.specs.declared.limiter.Limiter.{Limiter}
+use Rattle.nf_observe.specs.declared.limiter.lines.LimiterLine.{LimiterLine}
 use Rattle.nf_observe.specs.declared.flow.FiveTuple.{FiveTuple}
 use Rattle.nf_observe.specs.declared.flow.FlowCounts.{FlowCounts}
 
@@ -45,3 +52,47 @@ tells_absent_port = refl
 tells_port : endpoint_text with_ports.destination ≡ joined (dotted 3232235775 ∷ codes " " ∷ decimal 0 ∷ [])
 unfolding endpoint_text
 tells_port = refl
+
+-- 1,000 bytes a second, and 1,500 at once
+abbrev limiter : Limiter
+limiter = record { rate = 1000; burst = 1500; sources = [] }
+
+-- the same, with one source
+abbrev with_bucket : ℕ → ℕ → Limiter
+with_bucket tokens moment = record limiter { sources = (9, record { tokens = tokens; moment = moment }) ∷ [] }
+
+abbrev said_lines : List ℕ → List ℕ → List LimiterLine
+said_lines rate burst = filter_map line_of ((codes "set" ∷ codes "rate" ∷ rate ∷ []) ∷ (codes "set" ∷ codes "burst" ∷ burst ∷ []) ∷ [])
+
+-- both settings are read; 0 and what is more than 32 bits are refused
+reads_settings : limiter_by (said_lines (codes "1000") (codes "01500")) ≡ limiter
+unfolding line_of
+reads_settings = refl
+
+refuses_zero : line_of (codes "set" ∷ codes "rate" ∷ codes "0" ∷ []) ≡ None
+unfolding line_of
+refuses_zero = refl
+
+refuses_wide : line_of (codes "set" ∷ codes "burst" ∷ codes "4294967296" ∷ []) ≡ None
+unfolding line_of
+refuses_wide = refl
+
+-- a new source may send its burst at once
+pays_burst : limited limiter 9 1500 5 ≡ record { after = with_bucket 0 5; verdict = Pass; written = nothing }
+pays_burst = refl
+
+-- in a millisecond comes one byte, which is not enough for two; the bucket is filled all the same
+drops_two : limited (with_bucket 0 5) 9 2 1000005 ≡ record { after = with_bucket 1000000000 1000005; verdict = Drop; written = nothing }
+drops_two = refl
+
+-- no time passes backwards
+stays_filled : limited (with_bucket 1000000000 1000005) 9 1 7 ≡ record { after = with_bucket 0 1000005; verdict = Pass; written = nothing }
+stays_filled = refl
+
+-- a source that was quiet for long has no more than its burst
+fills_up : filled 1000 1500 (2 ^ 64 - 1) (record { tokens = 3; moment = 0 }) ≡ full 1500 (2 ^ 64 - 1)
+fills_up = refl
+
+-- without an address or a length a packet passes, and nothing changes
+passes_others : limited_by limiter None (Some 20) 5 ≡ record { after = limiter; verdict = Pass; written = nothing }
+passes_others = refl

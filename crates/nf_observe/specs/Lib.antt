@@ -1,6 +1,10 @@
 pub mod Addresses
+pub mod Buckets
 pub mod FirstSight
 pub mod Flows
+pub mod LimiterLaws
+pub mod LimiterLines
+pub mod Limiters
 pub mod MonitorLaws
 pub mod Monitors
 pub mod SameFlow

@@ -12,7 +12,7 @@ use Rattle.function_lines.specs.KindLines.{KindLines}
 use Rattle.nf_observe.specs.FirstSight.{lines_by}
 use Rattle.nf_observe.specs.Flows.{counted}
 use Rattle.nf_observe.specs.StateLines.{flow_line}
-use Rattle.nf_observe.specs.declared.build.MonitorLine.{MonitorLine}
+use Rattle.nf_observe.specs.declared.monitor.build.MonitorLine.{MonitorLine}
 use Rattle.nf_observe.specs.declared.flow.Endpoint.{Endpoint}
 use Rattle.nf_observe.specs.declared.flow.FiveTuple.{FiveTuple}
 use Rattle.nf_observe.specs.declared.flow.FlowCounts.{FlowCounts}

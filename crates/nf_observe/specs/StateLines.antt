@@ -4,6 +4,7 @@ use Rattle.std.specs.Fmt.{decimal}
 use Rattle.std.specs.Option.{option_map_or}
 use Rattle.text_lines.specs.Texts.{joined, line_of}
 use Rattle.nf_observe.specs.Addresses.{dotted}
+use Rattle.nf_observe.specs.declared.bucket.TokenBucket.{TokenBucket}
 use Rattle.nf_observe.specs.declared.flow.Endpoint.{Endpoint}
 use Rattle.nf_observe.specs.declared.flow.FiveTuple.{FiveTuple}
 use Rattle.nf_observe.specs.declared.flow.FlowCounts.{FlowCounts}
@@ -21,3 +22,7 @@ unfoldable pub flow_line : FiveTuple → FlowCounts → List ℕ
 flow_line flow counts = line_of
     (codes "  flow " ∷ decimal flow.proto ∷ codes " " ∷ endpoint_text flow.source ∷ codes " " ∷ endpoint_text flow.destination
     ∷ codes " packets " ∷ decimal counts.packets ∷ codes " bytes " ∷ decimal counts.bytes ∷ [])
+
+-- `  source ADDRESS tokens N at MOMENT`
+unfoldable pub source_line : ℕ → TokenBucket → List ℕ
+source_line source bucket = line_of (codes "  source " ∷ dotted source ∷ codes " tokens " ∷ decimal bucket.tokens ∷ codes " at " ∷ decimal bucket.moment ∷ [])

@@ -2,25 +2,36 @@
 //!
 //! A [`Monitor`] counts the packets and bytes of each flow: packets of one protocol between the same
 //! addresses and ports (RFC 791, RFC 793, RFC 768). A packet's bytes are its IPv4 total length. Both counts
-//! stop at the largest number of 64 bits. It has no lines of its own: [`Monitor::build`] refuses any.
+//! stop at the largest number of 64 bits. No line sets a monitor up: [`Monitor::build`] refuses any.
 //!
-//! As a function of a chain a monitor has one meaning, `monitor_behaviour` of `specs/Monitors.antt`: it
-//! counts what it is shown, passes every packet and writes nothing. That it keeps to its profile is
-//! `monitor_keeps` of `specs/MonitorLaws.antt`.
+//! A [`Limiter`] drops what a source sends beyond a rate. Each source has a [`TokenBucket`], which is full
+//! at first, holds the tokens of a burst and fills by the rate; a packet passes where its bucket pays for it.
+//! A token is what a rate of one byte a second brings in one nanosecond, so no fraction is ever lost. What
+//! comes in a span is computed in 128 bits, and nothing wraps. `set rate` and `set burst` set a limiter up,
+//! and both have to be there: [`Limiter::build`] names the least line that is refused.
+//!
+//! As functions of a chain they have one meaning each, `monitor_behaviour` of `specs/Monitors.antt` and
+//! `limiter_behaviour` of `specs/Limiters.antt`: what they do by what they are shown. That they keep to
+//! their profiles is `monitor_keeps` of `specs/MonitorLaws.antt` and `limiter_keeps` of
+//! `specs/LimiterLaws.antt`.
 //!
 //! A state is a list in the order of first sight, and contracts see that list. The code finds a key by its
-//! hash ([`FirstSeen`]), so no packet waits for a search through the flows. Where memory runs out, function
-//! and packet are as they were.
+//! hash ([`FirstSeen`]), so no step searches through a state. Where memory runs out, function and packet are
+//! as they were; so is the text to which the lines of a state were to be appended.
+//!
+//! Nothing is ever forgotten: a state grows with each new flow or source.
 #![tactic(auto)]
 
 mod address;
-mod build;
+mod bucket;
 mod first_seen;
 mod flow;
+mod limiter;
 mod monitor;
 mod state_lines;
 
-pub use build::MonitorLine;
+pub use bucket::TokenBucket;
 pub use first_seen::{FirstSeen, StateLine};
 pub use flow::{Endpoint, FiveTuple, FlowCounts};
-pub use monitor::Monitor;
+pub use limiter::{Limiter, LimiterLine};
+pub use monitor::{Monitor, MonitorLine};

@@ -1,7 +1,10 @@
 //! A monitor, and what it counts.
 
+mod build;
+
 use crate::first_seen::FirstSeen;
 use crate::flow::{Endpoint, FiveTuple, FlowCounts};
+pub use build::MonitorLine;
 use chain_walk::Verdict;
 use frame_seen::{seen_address, seen_port};
 use packet_fields::Field;

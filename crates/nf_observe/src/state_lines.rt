@@ -3,6 +3,7 @@ ghost use Rattle.std.specs.Prelude.{◌≡◌, IfOk};
 ghost use Rattle.nf_observe.specs.StateLines.{port_text, endpoint_text};
 
 use crate::address::dotted;
+use crate::bucket::TokenBucket;
 use crate::first_seen::StateLine;
 use crate::flow::{Endpoint, FiveTuple, FlowCounts};
 use std::alloc::{AllocError, Global};
@@ -31,6 +32,28 @@ impl StateLine<FiveTuple> for FlowCounts {
                 Number(self.packets),
                 Text(b" bytes "),
                 Number(self.bytes),
+            ],
+        )
+    }
+}
+
+impl StateLine<u32> for TokenBucket {
+    ghost use Rattle.nf_observe.specs.StateLines.{source_line};
+
+    ghost line = { source_line };
+
+    #[tactic(auto, unfolding(crate::specs::StateLines::source_line))]
+    fn line(&self, alloc: Global, source: &u32) -> Result<Vec<u8>, AllocError> {
+        let address = dotted(alloc, *source)?;
+        line(
+            alloc,
+            &[
+                Text(b"  source "),
+                Text(&address),
+                Text(b" tokens "),
+                Number(self.tokens),
+                Text(b" at "),
+                Number(self.moment),
             ],
         )
     }

@@ -1,0 +1,103 @@
+//! A limiter, and what it lets pass.
+
+mod build;
+mod lines;
+
+use crate::bucket::TokenBucket;
+use crate::first_seen::FirstSeen;
+use chain_walk::Verdict;
+use frame_seen::seen_address;
+pub use lines::LimiterLine;
+use packet_fields::Field;
+use packet_version::{View, unwritten_stays};
+use std::alloc::AllocError;
+
+/// Drops what a source sends beyond a rate.
+#[derive(Debug, Drop)]
+pub struct Limiter {
+    /// In bytes a second.
+    pub rate: u32,
+    /// How many bytes a source may send at once that was quiet.
+    pub burst: u32,
+    /// The bucket of each source, in the order of first sight.
+    pub sources: FirstSeen<u32, TokenBucket>,
+}
+
+impl Limiter {
+    ghost use Rattle.std.specs.Prelude.{◌≡◌, ◌++◌, OnOk, OnErr, IfOk};
+    ghost use Rattle.packet_version.specs.Views.{viewed, wrote_all};
+    ghost use Rattle.nf_observe.specs.Limiters.{limiter_behaviour, limiter_text, bucket_of, limited};
+
+    /// Judges one packet, which it sees through a view of a limiter's profile. It writes nothing. Where there
+    /// is no memory for a new source, nothing changes.
+    pub fn step(&mut self, view: &mut View) -> Result<Verdict, AllocError>
+        requires profile { view.old.profile ≡ limiter_behaviour.profile self.old }
+        ensures after { OnOk result (self.new ≡ (viewed limiter_behaviour self.old view.old).after) }
+        ensures verdict { IfOk result (λ verdict. verdict ≡ (viewed limiter_behaviour self.old view.old).verdict) }
+        ensures view { OnOk result (view.new ≡ wrote_all (viewed limiter_behaviour self.old view.old).written view.old) }
+        // Where memory runs out, nothing has changed.
+        ensures function_stays { OnErr result (self.new ≡ self.old) }
+        ensures view_stays { OnErr result (view.new ≡ view.old) }
+    {
+        // Nothing is written, so the view is as it was.
+        unwritten_stays(view);
+        match (source_in(view), view.ip_len()) {
+            (Some(source), Some(bytes)) => self.charge(source, bytes, view.time()),
+            _ => Ok(Verdict::Pass),
+        }
+    }
+
+    /// Appends the lines of its state, one for each source. Where memory runs out, it appends nothing.
+    pub fn state_lines(&self, out: &mut Vec<u8>) -> Result<(), AllocError>
+        ensures lines { OnOk result (out.new.items ≡ out.old.items ++ limiter_text self.now) }
+        ensures stays { OnErr result (out.new.items ≡ out.old.items) }
+    {
+        self.sources.push_lines(out)
+    }
+
+    // Lets a packet of so many bytes pass where the source's bucket pays for it.
+    fn charge(&mut self, source: u32, bytes: u16, time: u64) -> Result<Verdict, AllocError>
+        ensures after { OnOk result (self.new ≡ (limited self.old source bytes time).after) }
+        ensures verdict { IfOk result (λ verdict. verdict ≡ (limited self.old source bytes time).verdict) }
+        ensures stays { OnErr result (self.new ≡ self.old) }
+    {
+        let bucket = self.bucket_of(source, time);
+        self.sources.note(source, bucket.paid(bytes))?;
+        Ok(verdict(bucket.affords(bytes)))
+    }
+
+    // The bucket of a source at this time: a new one is full.
+    fn bucket_of(&self, source: u32, time: u64) -> TokenBucket
+        ensures { result ≡ bucket_of self.now source time }
+    {
+        match self.sources.get(&source) {
+            Some(bucket) => bucket.filled(self.rate, self.burst, time),
+            None => TokenBucket::full(self.burst, time),
+        }
+    }
+}
+
+ghost use Rattle.std.specs.Prelude.{◌≡◌};
+ghost use Rattle.action_profile.specs.Profiles.{profile_of};
+ghost use Rattle.action_profile.specs.declared.kind.Kind.{Kind};
+ghost use Rattle.frame_seen.specs.Seeing.{seen_by};
+ghost use Rattle.packet_version.specs.Views.{seen_values};
+ghost use Rattle.nf_observe.specs.Limiters.{verdict_by};
+
+fn verdict(affords: bool) -> Verdict
+    ensures { result ≡ verdict_by affords }
+{
+    if affords {
+        Verdict::Pass
+    } else {
+        Verdict::Drop
+    }
+}
+
+/// The source of the packet behind a view.
+fn source_in(view: &View) -> Option<u32>
+    requires profile { view.now.profile ≡ profile_of Kind.Limiter }
+    ensures { result ≡ (seen_by (seen_values view.now) view.now.version.fixed.proto).src }
+{
+    seen_address(view.get(Field::SrcIp))
+}
