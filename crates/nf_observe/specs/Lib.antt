@@ -9,4 +9,5 @@ pub mod MonitorLaws
 pub mod Monitors
 pub mod SameFlow
 pub mod SameFlowLaws
+pub mod Spending
 pub mod StateLines

@@ -7,7 +7,8 @@
 //! A [`Limiter`] drops what a source sends beyond a rate. Each source has a [`TokenBucket`], which is full
 //! at first, holds the tokens of a burst and fills by the rate; a packet passes where its bucket pays for it.
 //! A token is what a rate of one byte a second brings in one nanosecond, so no fraction is ever lost. What
-//! comes in a span is computed in 128 bits, and nothing wraps. `set rate` and `set burst` set a limiter up,
+//! comes in a span is computed in 128 bits, and nothing wraps. [`buckets_keep_the_rate`] says that no bucket
+//! pays for more than a burst and what the rate brings. `set rate` and `set burst` set a limiter up,
 //! and both have to be there: [`Limiter::build`] names the least line that is refused.
 //!
 //! As functions of a chain they have one meaning each, `monitor_behaviour` of `specs/Monitors.antt` and
@@ -26,6 +27,7 @@ mod address;
 mod bucket;
 mod first_seen;
 mod flow;
+mod laws;
 mod limiter;
 mod monitor;
 mod state_lines;
@@ -33,5 +35,6 @@ mod state_lines;
 pub use bucket::TokenBucket;
 pub use first_seen::{FirstSeen, StateLine};
 pub use flow::{Endpoint, FiveTuple, FlowCounts};
+pub use laws::buckets_keep_the_rate;
 pub use limiter::{Limiter, LimiterLine};
 pub use monitor::{Monitor, MonitorLine};
