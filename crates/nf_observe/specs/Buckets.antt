@@ -10,7 +10,7 @@ tokens_of bytes = bytes * 1000000000
 abbrev pub full : ℕ → ℕ → TokenBucket
 full burst time = record { tokens = tokens_of burst; moment = time }
 
--- the bucket at a later time, with what came since its moment and no more than it holds
+-- The bucket at this time: with what came since its moment, and no more than it holds. An earlier time changes nothing.
 abbrev pub filled : ℕ → ℕ → ℕ → TokenBucket → TokenBucket
 filled rate burst time b =
     if nat_lt b.moment time then record { tokens = min (tokens_of burst) (b.tokens + (time - b.moment) * rate); moment = time } else b

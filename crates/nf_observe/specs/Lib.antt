@@ -1,5 +1,6 @@
 pub mod Addresses
 pub mod Buckets
+pub mod Counting
 pub mod FirstSight
 pub mod Flows
 pub mod LimiterLaws

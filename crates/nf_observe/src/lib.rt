@@ -2,7 +2,8 @@
 //!
 //! A [`Monitor`] counts the packets and bytes of each flow: packets of one protocol between the same
 //! addresses and ports (RFC 791, RFC 793, RFC 768). A packet's bytes are its IPv4 total length. Both counts
-//! stop at the largest number of 64 bits. No line sets a monitor up: [`Monitor::build`] refuses any.
+//! stop at the largest number of 64 bits. [`flows_count_their_packets`] says that each flow has the counts of
+//! its own packets. No line sets a monitor up: [`Monitor::build`] refuses any.
 //!
 //! A [`Limiter`] drops what a source sends beyond a rate. Each source has a [`TokenBucket`], which is full
 //! at first, holds the tokens of a burst and fills by the rate; a packet passes where its bucket pays for it.
@@ -35,6 +36,6 @@ mod state_lines;
 pub use bucket::TokenBucket;
 pub use first_seen::{FirstSeen, StateLine};
 pub use flow::{Endpoint, FiveTuple, FlowCounts};
-pub use laws::buckets_keep_the_rate;
+pub use laws::{buckets_keep_the_rate, flows_count_their_packets};
 pub use limiter::{Limiter, LimiterLine};
 pub use monitor::{Monitor, MonitorLine};
