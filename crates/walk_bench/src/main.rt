@@ -66,7 +66,10 @@ fn profiles_of(alloc: Global, functions: &[NetFunction]) -> Result<Vec<Profile>,
         .collect(alloc)
 }
 
-fn make_running(alloc: Global, functions: Vec<NetFunction>) -> Result<Running<NetFunction>, AllocError>
+fn make_running(
+    alloc: Global,
+    functions: Vec<NetFunction>,
+) -> Result<Running<NetFunction>, AllocError>
     requires { vec_len functions ≤ 64 }
 {
     let profiles = profiles_of(alloc, &functions)?;
