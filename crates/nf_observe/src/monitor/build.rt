@@ -7,7 +7,7 @@ use policy_text::{BuildFault, FunctionDecl, Word};
 use std::alloc::{AllocError, Global};
 
 /// A line of a monitor: there is none.
-#[derive(Debug, Drop)]
+#[derive(Drop)]
 pub enum MonitorLine {}
 
 impl FunctionLine for MonitorLine {
