@@ -1,6 +1,6 @@
 -- What is put of a burst is what comes next of its records.
 use Rattle.std.proofs.Common.{◌≡◌, ◌∙◌, ℕ, List, [], map, refl, ap}
-use Rattle.std.specs.Prelude.{All, Option}
+use Rattle.std.specs.Prelude.{Option}
 use Rattle.nfp_outside.specs.declared.slot.Slot.{Slot}
 use Rattle.nfp_outside.specs.Outside.{SlotView}
 use Rattle.pcap_io.specs.declared.capture.PcapRecord.{PcapRecord}
@@ -10,25 +10,24 @@ use Rattle.classifier.specs.declared.burst.Item.{Item}
 use Rattle.chain_service.specs.Opening.{chains_of}
 use Rattle.chain_service.specs.declared.service.ServiceChain.{ServiceChain}
 use Rattle.capture_run.specs.Emitted.{emitted_all}
-use Rattle.capture_run.specs.Leading.{IsClassed, LeadsEach, all_ended, records_of}
-use Rattle.capture_run.specs.Passing.{IsTold, PassBreaks, fates_next, lines_next, next_number, out_next, packets_next}
-use Rattle.capture_run.specs.Report.{drop_lines, names_among}
+use Rattle.burst_walk.specs.Leading.{LeadsEach, all_ended, records_of}
+use Rattle.capture_run.specs.Passing.{PassBreaks, fates_next, lines_next, next_number, out_next, packets_next}
+use Rattle.capture_report.specs.Report.{drop_lines, names_among}
 use Rattle.capture_run.specs.Slots.{Breaks, Puts}
 use Rattle.capture_run.specs.declared.fault.RunFault.{RunFault}
 use Rattle.capture_run.specs.declared.passage.Passage.{Passage}
-use Rattle.capture_run.proofs.Bursting.{classes_seen, packets_told}
 use Rattle.capture_run.proofs.Following.{each_names}
 use Rattle.capture_run.proofs.Passing.{records_refused}
 use Rattle.capture_run.proofs.Putting.{breaks_is, puts_is}
 
 -- the lines that are made are those that come next
-pub made_lines : {W : Type 0} (p : Passage W) (items items' : List Item) (after after' : List ServiceChain) (fates fates' : List (Option Fate)) (text text' : List ℕ) → IsTold p → All (IsClassed p.service.classes) items →
-    LeadsEach (packets_next p (records_of items)) 0 p.service.chains after → all_ended items fates ≡ fates_next p (records_of items) → items' ≡ items → after' ≡ after → fates' ≡ fates →
+pub made_lines : {W : Type 0} (p : Passage W) (items items' : List Item) (after after' : List ServiceChain) (fates fates' : List (Option Fate)) (text text' : List ℕ) →
+    map (λ (i : Item). i.class) items ≡ map (λ (x : Classed). x.class) (packets_next p (records_of items)) → LeadsEach (packets_next p (records_of items)) 0 p.service.chains after → all_ended items fates ≡ fates_next p (records_of items) → items' ≡ items → after' ≡ after → fates' ≡ fates →
     text ≡ drop_lines (names_among (chains_of after')) (next_number p) (map (λ i. i.class) items') (all_ended items' fates') → text' ≡ text → text' ≡ lines_next p (records_of items)
-made_lines p items items' after after' fates fates' text text' told held led end same same_chains same_fates made same_text =
+made_lines p items items' after after' fates fates' text text' by_record led end same same_chains same_fates made same_text =
     let names : names_among (chains_of after') ≡ names_among (chains_of p.service.chains) = ap (λ l. names_among (chains_of l)) same_chains ∙ each_names (packets_next p (records_of items)) 0 p.service.chains after led in
     let classes : map (λ (i : Item). i.class) items' ≡ map (λ (x : Classed). x.class) (packets_next p (records_of items)) =
-    ap (map (λ (i : Item). i.class)) same ∙ classes_seen p.unit items ∙ ap (map (λ (x : Classed). x.class)) (packets_told p.service.classes p.service.chains p.unit items told held) in
+    ap (map (λ (i : Item). i.class)) same ∙ by_record in
     let ends : all_ended items' fates' ≡ fates_next p (records_of items) = (λ i. all_ended (same i) (same_fates i)) ∙ end in
     same_text ∙ made ∙ (λ i. drop_lines (names i) (next_number p) (classes i) (ends i))
 

@@ -15,13 +15,14 @@ use Rattle.chain_service.specs.declared.named.NamedFunction.{NamedFunction}
 use Rattle.chain_service.specs.Opening.{IsOpening, chains_of}
 use Rattle.chain_service.specs.Services.{Chains}
 use Rattle.chain_service.specs.declared.service.Service.{Service}
-use Rattle.capture_run.specs.Emitted.{all_classed, emitted_all, fates_of}
+use Rattle.burst_walk.specs.Fates.{all_classed, fates_of}
+use Rattle.capture_run.specs.Emitted.{emitted_all}
 use Rattle.capture_run.specs.Passing.{IsFresh}
-use Rattle.capture_run.specs.Report.{copies_due, is_gone, summary, title}
+use Rattle.capture_report.specs.Report.{copies_due, is_gone, summary, title}
 use Rattle.capture_run.specs.Running.{Goes, PassesBody, RunBreaks, RunsAll, WriteBreaks, WritesAll}
 use Rattle.capture_run.specs.Slots.{Breaks, Puts}
-use Rattle.capture_run.specs.Telling.{told_text}
-use Rattle.capture_run.specs.declared.ended.Ended.{Ended}
+use Rattle.capture_report.specs.Telling.{told_text}
+use Rattle.capture_report.specs.declared.ended.Ended.{Ended}
 use Rattle.capture_run.specs.declared.fault.RunFault.{RunFault}
 use Rattle.capture_run.specs.declared.passage.Passage.{Passage}
 use Rattle.capture_run.proofs.Putting.{earlier_cause, later_more}

@@ -11,7 +11,7 @@ use Rattle.pcap_io.specs.declared.capture.PcapRecord.{PcapRecord}
 use Rattle.chain_walk.specs.declared.walk.Fate.{Fate}
 use Rattle.classifier.specs.declared.burst.Item.{Item}
 use Rattle.capture_run.specs.Emitted.{emitted, emitted_all}
-use Rattle.capture_run.specs.Leading.{IsWritable, all_ended, ended, records_of}
+use Rattle.burst_walk.specs.Leading.{IsWritable, all_ended, ended, records_of}
 use Rattle.capture_run.specs.Slots.{Puts, Breaks}
 use Rattle.capture_run.specs.declared.fault.RunFault.{RunFault}
 use Rattle.capture_run.proofs.Putting.{puts_none, puts_more, puts_is, breaks_more, breaks_longer, breaks_is}

@@ -3,14 +3,13 @@ use Rattle.std.proofs.Common.{◌≡◌, ◌+◌, ◌∙◌, ℕ, suc, List, [],
 use Rattle.packet_fields.specs.declared.field.Field.{Field}
 use Rattle.chain_walk.specs.Packets.{fates, functions_after}
 use Rattle.service_walk.specs.Service.{Classed, packets_in}
-use Rattle.service_walk.specs.Weaving.{each_after}
 use Rattle.packet_version.specs.Tallies.{count_of, raised}
 use Rattle.graph_run.specs.Counting.{copies_made}
 use Rattle.chain_service.specs.NamedFunctions.{named_behaviour, names_of}
 use Rattle.chain_service.specs.Opening.{chains_of, fits_of}
 use Rattle.chain_service.specs.declared.service.ServiceChain.{ServiceChain}
-use Rattle.capture_run.specs.Leading.{LeadsChain, LeadsEach}
-use Rattle.capture_run.specs.Report.{names_among}
+use Rattle.burst_walk.specs.Leading.{LeadsChain, LeadsEach}
+use Rattle.capture_report.specs.Report.{names_among}
 use Rattle.capture_run.proofs.Listing.{copies-append, no_copies}
 use Rattle.capture_run.proofs.Walking.{as_many, fates_more, functions_more, names_after, packets-append}
 
@@ -71,21 +70,7 @@ unfolding LeadsEach
 each_none n [] = tt
 each_none n (x ∷ a) = (chain_none n x, each_none (suc n) a)
 
--- what is left of the chains is what their own packets left of each
-pub each_functions : (xs : List Classed) (n : ℕ) (a b : List ServiceChain) → LeadsEach xs n a b → map (λ (c : ServiceChain). c.running.functions) b ≡ each_after named_behaviour xs n (map (λ (c : ServiceChain). c.running.functions) a)
-unfolding LeadsEach each_after
-each_functions xs n [] [] led = refl
-each_functions xs n [] (y ∷ b) led = absurd led
-each_functions xs n (x ∷ a) [] led = absurd led
-each_functions xs n (x ∷ a) (y ∷ b) led = λ i. led.0.functions i ∷ each_functions xs (suc n) a b led.1 i
-
-pub each_declared : (xs : List Classed) (n : ℕ) (a b : List ServiceChain) → LeadsEach xs n a b → map (λ (c : ServiceChain). c.declared) b ≡ map (λ (c : ServiceChain). c.declared) a
-unfolding LeadsEach
-each_declared xs n [] [] led = refl
-each_declared xs n [] (y ∷ b) led = absurd led
-each_declared xs n (x ∷ a) [] led = absurd led
-each_declared xs n (x ∷ a) (y ∷ b) led = λ i. led.0.same_chain i ∷ each_declared xs (suc n) a b led.1 i
-
+-- the clauses stay
 pub each_fits : (xs : List Classed) (n : ℕ) (a b : List ServiceChain) → LeadsEach xs n a b → fits_of b ≡ fits_of a
 unfolding LeadsEach
 each_fits xs n [] [] led = refl

@@ -1,16 +1,10 @@
 pub mod BurstLines
-pub mod Bursting
 pub mod Capturing
-pub mod Dropping
 pub mod Emitting
 pub mod Following
-pub mod Gone
-pub mod Growing
-pub mod Leading
 pub mod Listing
 pub mod Passing
 pub mod Putting
-pub mod Queues
 pub mod Refusing
 pub mod Running
 pub mod Sealing

@@ -11,7 +11,7 @@ use Rattle.chain_walk.specs.declared.walk.Fate.{Fate}
 use Rattle.graph_compile.specs.declared.graph.Stage.{Stage}
 use Rattle.graph_run.specs.Counting.{copies_made}
 use Rattle.capture_run.specs.Emitted.{emitted, emitted_all}
-use Rattle.capture_run.specs.Report.{ChainNames, drop_line, drop_lines, is_gone}
+use Rattle.capture_report.specs.Report.{ChainNames, drop_line, drop_lines, is_gone}
 
 zip-append : {X Y : Type 0} (xs xs' : List X) (ys ys' : List Y) → length ys ≡ length xs → zip (xs ++ xs') (ys ++ ys') ≡ zip xs ys ++ zip xs' ys'
 zip-append [] xs' [] ys' e = refl

@@ -6,10 +6,11 @@ use Rattle.nfp_outside.specs.declared.slot.Slot.{Slot}
 use Rattle.nfp_outside.specs.Outside.{SlotView}
 use Rattle.pcap_io.specs.declared.capture.PcapRecord.{PcapRecord}
 use Rattle.service_walk.specs.Service.{Classed}
-use Rattle.capture_run.specs.Emitted.{all_classed, chains_behind, emitted_all, fates_of}
-use Rattle.capture_run.specs.Leading.{LeadsEach}
+use Rattle.burst_walk.specs.Fates.{all_classed, chains_behind, fates_of}
+use Rattle.capture_run.specs.Emitted.{emitted_all}
+use Rattle.burst_walk.specs.Leading.{LeadsEach}
 use Rattle.capture_run.specs.Passing.{Advances, IsTold, PassBreaks, Passes, chains_in, fates_next, lines_next, next_number, out_next, packets_next}
-use Rattle.capture_run.specs.Report.{drop_lines, is_gone, names_among}
+use Rattle.capture_report.specs.Report.{drop_lines, is_gone, names_among}
 use Rattle.capture_run.specs.Slots.{Breaks, Puts}
 use Rattle.capture_run.specs.declared.fault.RunFault.{RunFault}
 use Rattle.capture_run.specs.declared.passage.Passage.{Passage}

@@ -1,8 +1,7 @@
 -- What the chains tell at the end is the summary that is due.
-use Rattle.std.proofs.Common.{◌≡◌, ◌≤◌, ◌∙◌, ℕ, suc, List, [], ◌∷◌, ◌++◌, length, map, refl, ap, sym, append_assoc, length-append, add-one, take, arith}
+use Rattle.std.proofs.Common.{◌≡◌, ◌∙◌, ℕ, suc, List, [], ◌∷◌, ◌++◌, length, map, refl, ap, sym, append_assoc, length-append, add-one, arith}
 use Rattle.std.specs.Prelude.{All}
 use Rattle.std.specs.List.{enumerate_from, flat_map, zip}
-use Rattle.std.proofs.lemmas.List.{take_all}
 use Rattle.std.proofs.lemmas.List.Elements.{All-head, All-tail}
 use Rattle.packet_fields.specs.declared.field.Field.{Field}
 use Rattle.chain_walk.specs.Packets.{fates}
@@ -15,24 +14,10 @@ use Rattle.chain_service.specs.Opening.{IsOpeningChain, chains_of}
 use Rattle.chain_service.specs.Services.{stages_of}
 use Rattle.chain_service.specs.declared.named.NamedFunction.{NamedFunction}
 use Rattle.chain_service.specs.declared.service.ServiceChain.{ServiceChain}
-use Rattle.capture_run.specs.Leading.{LeadsChain, LeadsEach}
-use Rattle.capture_run.specs.Report.{chain_lines, copies_due, copies_lines, last_line, summary, total_line}
-use Rattle.capture_run.specs.Telling.{told_text}
-use Rattle.capture_run.specs.declared.ended.Ended.{Ended}
-
--- the pieces of a summary, one behind the other
-pub told_so : (chains : List ServiceChain) (ended : Ended) (totals copies functions text : List ℕ) (m n : ℕ) → totals ≡ total_line ended.totals.records ended.totals.dropped →
-    copies ≡ totals ++ flat_map (λ c. copies_lines c.declared.name (count_of c.copies)) (take m chains) → length chains ≤ m →
-    functions ≡ copies ++ flat_map (λ c. chain_lines c.declared c.running.functions) (take n chains) → length chains ≤ n → text ≡ functions ++ last_line ended.fault → text ≡ told_text chains ended
-unfolding told_text
-told_so chains ended totals copies functions text m n is_totals is_copies all is_functions all' is_text =
-    let total = total_line ended.totals.records ended.totals.dropped in
-    let copied = flat_map (λ (c : ServiceChain). copies_lines c.declared.name (count_of c.copies)) chains in
-    let listed = flat_map (λ (c : ServiceChain). chain_lines c.declared c.running.functions) chains in
-    let last = last_line ended.fault in
-    let first : copies ≡ total ++ copied = is_copies ∙ (λ i. is_totals i ++ flat_map (λ (c : ServiceChain). copies_lines c.declared.name (count_of c.copies)) (take_all m chains all i)) in
-    let second : functions ≡ (total ++ copied) ++ listed = is_functions ∙ (λ i. first i ++ flat_map (λ (c : ServiceChain). chain_lines c.declared c.running.functions) (take_all n chains all' i)) in
-    is_text ∙ ap (λ l. l ++ last) second ∙ append_assoc (total ++ copied) listed last ∙ append_assoc total copied (listed ++ last)
+use Rattle.burst_walk.specs.Leading.{LeadsChain, LeadsEach}
+use Rattle.capture_report.specs.Report.{chain_lines, copies_due, copies_lines, last_line, summary, total_line}
+use Rattle.capture_report.specs.Telling.{told_text}
+use Rattle.capture_report.specs.declared.ended.Ended.{Ended}
 
 -- A chain's packets end as if there were no other chain.
 abbrev pub WalkApart : List (List NamedFunction) → List Classed → List Fate → Type 0

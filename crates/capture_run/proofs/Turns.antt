@@ -18,9 +18,9 @@ use Rattle.policy_text.specs.declared.clause.Match.{Match}
 use Rattle.classifier.specs.Classes.{class_of}
 use Rattle.classifier.specs.Cutting.{Cutting, with_packet, closes, after}
 use Rattle.classifier.specs.declared.burst.Item.{Item}
-use Rattle.capture_run.specs.Leading.{IsClassed, records_of}
+use Rattle.burst_walk.specs.Leading.{IsClassed, records_of}
 use Rattle.capture_run.specs.Passing.{Ends, IsFresh, IsTold, PassBreaks, Passes, StopBreaks, StopEnds, TakeBreaks, Takes, chains_in, fates_next}
-use Rattle.capture_run.specs.Report.{is_gone}
+use Rattle.capture_report.specs.Report.{is_gone}
 use Rattle.capture_run.specs.Running.{RunsAll, RunBreaks}
 use Rattle.capture_run.specs.Slots.{Puts}
 use Rattle.capture_run.specs.Sources.{GivesRecord, RefusesNext}

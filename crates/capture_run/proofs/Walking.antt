@@ -13,7 +13,7 @@ use Rattle.service_walk.specs.Service.{Classed, chains_after, fates_among, is_of
 use Rattle.chain_service.specs.NamedFunctions.{named_behaviour, names_of}
 use Rattle.chain_service.specs.Services.{Chains}
 use Rattle.chain_service.specs.declared.named.NamedFunction.{NamedFunction}
-use Rattle.capture_run.specs.Emitted.{all_classed, chains_behind, classed, fates_of}
+use Rattle.burst_walk.specs.Fates.{all_classed, chains_behind, classed, fates_of}
 
 -- more packets walk through the functions as those before them left them
 pub fates_more : {F : Type 0} (b : Behaviour F) (fs : List F) (xs ys : List Packet) → fates b fs (xs ++ ys) ≡ fates b fs xs ++ fates b (functions_after b fs xs) ys

@@ -8,8 +8,8 @@ use Rattle.pcap_io.specs.declared.capture.CaptureFault.{CaptureFault}
 use Rattle.pcap_io.specs.declared.capture.PcapRecord.{PcapRecord}
 use Rattle.pcap_io.specs.declared.capture.Unit.{Unit as TimeUnit}
 use Rattle.chain_service.specs.Services.{Chains}
-use Rattle.capture_run.specs.Emitted.{all_classed, chains_behind, fates_of}
-use Rattle.capture_run.specs.Report.{copies_due, drop_lines, is_gone, names_among, report_bytes, report_of, summary, title}
+use Rattle.burst_walk.specs.Fates.{all_classed, chains_behind, fates_of}
+use Rattle.capture_report.specs.Report.{copies_due, drop_lines, is_gone, names_among, report_bytes, report_of, summary, title}
 use Rattle.capture_run.specs.Slots.{Breaks, Puts}
 use Rattle.capture_run.specs.declared.fault.RunFault.{RunFault}
 use Rattle.capture_run.proofs.Putting.{breaks_is, breaks_longer, breaks_more, puts_is, puts_more}

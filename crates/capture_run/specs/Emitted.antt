@@ -1,35 +1,12 @@
 -- Believed: the capture that is written: the records whose packets passed, each with the frame that its chain left, sealed.
-use Rattle.std.specs.Prelude.{ℕ, List, [], ◌++◌, map}
+use Rattle.std.specs.Prelude.{ℕ, List, [], ◌++◌}
 use Rattle.std.specs.List.{flat_map, zip}
 use Rattle.packet_fields.specs.Checksums.{sealed}
-use Rattle.pcap_io.specs.Capture.{time_of}
 use Rattle.pcap_io.specs.Written.{head_bytes, record_bytes}
-use Rattle.pcap_io.specs.declared.capture.Unit.{Unit as TimeUnit}
 use Rattle.pcap_io.specs.declared.capture.PcapRecord.{PcapRecord}
 use Rattle.pcap_io.specs.declared.capture.CaptureHead.{CaptureHead}
 use Rattle.chain_walk.specs.declared.walk.Fate.{Fate}
 use Rattle.chain_walk.specs.declared.walk.Fate.TheVariants.{Out, Gone}
-use Rattle.service_walk.specs.Service.{Classed, fates_among, chains_after}
-use Rattle.policy_text.specs.declared.policy.ChainPolicy.{ChainPolicy}
-use Rattle.classifier.specs.Classes.{class_of}
-use Rattle.chain_service.specs.NamedFunctions.{named_behaviour}
-use Rattle.chain_service.specs.Services.{Chains}
-
--- the packet of a record, and the chain that takes it, by the frame as it was read
-abbrev pub classed : List ChainPolicy → TimeUnit → PcapRecord → Classed
-classed chains unit r = record { class = class_of (map (λ c. c.fit) chains) r.frame; packet = record { time = time_of unit r; frame = r.frame } }
-
--- the same for records, in their order
-abbrev pub all_classed : List ChainPolicy → TimeUnit → List PcapRecord → List Classed
-all_classed chains unit records = map (classed chains unit) records
-
--- where the packets of a capture end, each walking through its chain as the packet before left it
-unfoldable pub fates_of : Chains → TimeUnit → List PcapRecord → List Fate
-fates_of chains unit records = fates_among named_behaviour chains.functions (all_classed chains.declared unit records)
-
--- the chains as the last of these packets left them
-unfoldable pub chains_behind : Chains → TimeUnit → List PcapRecord → Chains
-chains_behind chains unit records = record { declared = chains.declared; functions = chains_after named_behaviour chains.functions (all_classed chains.declared unit records) }
 
 -- a record as it goes out, its checksums following what its chain changed, and nothing of one that was dropped
 abbrev pub emitted : (PcapRecord → List ℕ) → PcapRecord → Fate → List ℕ

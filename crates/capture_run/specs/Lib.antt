@@ -1,9 +1,5 @@
 pub mod Emitted
-pub mod FaultLines
-pub mod Leading
 pub mod Passing
-pub mod Report
 pub mod Running
 pub mod Slots
 pub mod Sources
-pub mod Telling

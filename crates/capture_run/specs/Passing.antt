@@ -12,9 +12,10 @@ use Rattle.classifier.specs.Cutting.{Cutting}
 use Rattle.classifier.specs.declared.burst.Item.{Item}
 use Rattle.chain_service.specs.Opening.{chains_of, fits_of, IsOpeningChain}
 use Rattle.chain_service.specs.Services.{Chains}
-use Rattle.capture_run.specs.Emitted.{all_classed, chains_behind, emitted_all, fates_of}
-use Rattle.capture_run.specs.Leading.{IsClassed, LeadsEach, records_of}
-use Rattle.capture_run.specs.Report.{drop_lines, is_gone, names_among}
+use Rattle.burst_walk.specs.Fates.{all_classed, chains_behind, fates_of}
+use Rattle.capture_run.specs.Emitted.{emitted_all}
+use Rattle.burst_walk.specs.Leading.{IsClassed, LeadsEach, records_of}
+use Rattle.capture_report.specs.Report.{drop_lines, is_gone, names_among}
 use Rattle.capture_run.specs.Slots.{Puts, Breaks}
 use Rattle.capture_run.specs.declared.fault.RunFault.{RunFault}
 use Rattle.capture_run.specs.declared.fault.RunFault.TheVariants as faults

@@ -9,11 +9,12 @@ use Rattle.pcap_io.specs.declared.capture.PcapRecord.{PcapRecord}
 use Rattle.pcap_io.specs.declared.capture.Unit.{Unit as TimeUnit}
 use Rattle.chain_walk.specs.declared.walk.Fate.{Fate}
 use Rattle.chain_service.specs.Services.{Chains}
-use Rattle.capture_run.specs.Emitted.{emitted_all, fates_of}
+use Rattle.burst_walk.specs.Fates.{fates_of}
+use Rattle.capture_run.specs.Emitted.{emitted_all}
 use Rattle.capture_run.specs.Passing.{Passes, out_next, lines_next}
-use Rattle.capture_run.specs.Report.{is_gone, report_of}
+use Rattle.capture_report.specs.Report.{is_gone, report_of}
 use Rattle.capture_run.specs.Slots.{IsLater, Puts, PutsPrefixes, IsBroken}
-use Rattle.capture_run.specs.declared.ended.Ended.{Ended}
+use Rattle.capture_report.specs.declared.ended.Ended.{Ended}
 use Rattle.capture_run.specs.declared.fault.RunFault.{RunFault}
 use Rattle.capture_run.specs.declared.passage.Passage.{Passage}
 

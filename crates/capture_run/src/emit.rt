@@ -1,11 +1,9 @@
 //! Writes the packets of a burst that passed.
-ghost use Rattle.std.specs.Prelude.{◌≡◌, ◌≢◌, ◌<◌, ◌^◌, false, [], All, IfErr, IfSome, OnOk, IsSome, count_by, length};
-ghost use Rattle.std.specs.Option.{option_map_or};
+ghost use Rattle.std.specs.Prelude.{◌≡◌, ◌≢◌, ◌<◌, ◌^◌, [], All, IfErr, IfSome, OnOk, IsSome, length};
 ghost use Rattle.nfp_outside.specs.declared.slot.Slot.{Slot};
 ghost use Rattle.packet_fields.specs.Checksums.{sealed};
 ghost use Rattle.capture_run.specs.Emitted.{emitted, emitted_all};
-ghost use Rattle.capture_run.specs.Leading.{IsWritable, records_of, ended, all_ended};
-ghost use Rattle.capture_run.specs.Report.{is_gone};
+ghost use Rattle.burst_walk.specs.Leading.{IsWritable, records_of, ended, all_ended};
 ghost use Rattle.capture_run.specs.Slots.{Puts, Breaks};
 
 use crate::fault::RunFault;
@@ -96,17 +94,3 @@ fn seal_frame(before: &[u8], frame: Frame) -> Frame
 fn unchanged_is_sealed(frame: &[u8])
     ensures { sealed frame.now frame.now ≡ frame.now }
 {}
-
-/// How many of these packets were dropped.
-pub fn count_gone(items: &[Item], fates: &[Option<Fate>]) -> u64
-    requires { length fates.now ≡ length items.now }
-    ensures { result ≡ count_by is_gone (all_ended items.now fates.now) }
-{
-    fates.iter().filter(|fate| is_gone(fate)).count() as u64
-}
-
-fn is_gone(fate: &Option<Fate>) -> bool
-    ensures { result ≡ option_map_or is_gone fate.now false }
-{
-    matches!(fate, Some(Fate::Gone(_)))
-}

@@ -3,28 +3,22 @@
 //! [`run_capture`] takes one record after another from a [`Source`], leads the packets through their chains burst by burst, and
 //! gives the record of each that passes to a [`Sink`], and the line of each that is dropped to the report, which ends with the
 //! totals, the copies that were made and the state of each function. Packets end and functions are left as if each packet
-//! walked through its chain after the ones before it, whatever the burst. `specs/Emitted.antt` and `specs/Report.antt` have what is written.
+//! walked through its chain after the ones before it, whatever the burst. `specs/Emitted.antt` has the capture that
+//! is written, and the crate `capture_report` the report.
 //!
 //! The head of a capture is the format's own, and left out here. What broke a run off is one small [`RunFault`].
 #![tactic(auto)]
 
 mod emit;
-mod ended;
 mod fault;
-mod lead;
-mod lines;
 mod passage;
 mod records;
-mod report;
 mod run;
 mod sink;
 mod source;
-mod weave;
 mod write;
 
-pub use ended::{Ended, Totals};
 pub use fault::RunFault;
-pub use lines::{capture_line, totals_line};
 pub use run::run_capture;
 pub use sink::Sink;
 pub use source::Source;

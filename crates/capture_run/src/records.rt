@@ -2,9 +2,8 @@
 ghost use Rattle.std.specs.Prelude.{◌≡◌, ◌≢◌, ◌≤◌, ◌<◌, ◌+◌, ◌-◌, ◌^◌, true, All, IfOk, IfErr, IsSome, length};
 ghost use Rattle.nfp_outside.specs.declared.slot.Slot.{Slot};
 ghost use Rattle.pcap_io.specs.Capture.{IsShort};
-ghost use Rattle.capture_run.specs.Leading.{IsClassed};
 ghost use Rattle.capture_run.specs.Passing.{Ends, IsFresh, IsTold, PassBreaks, StopBreaks, StopEnds, TakeBreaks, Takes};
-ghost use Rattle.capture_run.specs.Leading.{records_of};
+ghost use Rattle.burst_walk.specs.Leading.{IsClassed, records_of};
 ghost use Rattle.capture_run.specs.Running.{RunBreaks, RunsAll};
 
 use crate::fault::RunFault;

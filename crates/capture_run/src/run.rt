@@ -4,14 +4,13 @@ ghost use Rattle.nfp_outside.specs.declared.slot.Slot.{Slot};
 ghost use Rattle.chain_service.specs.Opening.{IsOpening, chains_of};
 ghost use Rattle.capture_run.specs.Running.{WritesAll, WriteBreaks};
 
-use crate::ended::{Ended, Totals};
 use crate::fault::RunFault;
 use crate::passage::Passage;
 use crate::records::run_records;
-use crate::report::{TITLE, summary};
 use crate::sink::Sink;
 use crate::source::Source;
 use crate::write::put_text;
+use capture_report::{Ended, TITLE, Totals, summary};
 use chain_service::{NamedFunction, Service};
 use nfp_outside::Desk;
 use pcap_io::Unit;

@@ -14,11 +14,11 @@ use Rattle.policy_judge.specs.declared.judged.Judged.{Judged}
 use Rattle.policy_judge.specs.Judging.{judged}
 use Rattle.command_words.specs.Words.{Names, Run}
 use Rattle.chain_service.specs.Services.{Chains, service_of}
-use Rattle.capture_run.specs.declared.ended.Ended.{Ended}
-use Rattle.capture_run.specs.declared.ended.Totals.{Totals}
+use Rattle.capture_report.specs.declared.ended.Ended.{Ended}
+use Rattle.capture_report.specs.declared.ended.Totals.{Totals}
 use Rattle.capture_run.specs.declared.fault.RunFault.{RunFault}
 use Rattle.capture_run.specs.declared.fault.RunFault.TheVariants as faults
-use Rattle.capture_run.specs.Emitted.{fates_of}
+use Rattle.burst_walk.specs.Fates.{fates_of}
 use Rattle.capture_run.specs.Slots.{IsBroken}
 use Rattle.nfp_run.specs.declared.ending.Ending.{Ending}
 use Rattle.nfp_run.specs.declared.outcome.Outcome.TheVariants.{WriteFault}

@@ -32,8 +32,9 @@ use Rattle.nfp_run.specs.declared.outcome.Outcome.TheVariants.{Done, Policy, Not
 use Rattle.command_words.specs.Words.{Command, Run, Plan}
 use Rattle.nfp_run.specs.Due.{due_of_policy, nothing_but}
 use Rattle.service_walk.specs.Service.{fates_among, chains_after}
-use Rattle.capture_run.specs.Emitted.{fates_of, chains_behind, emitted_all, out_bytes}
-use Rattle.capture_run.specs.FaultLines.{capture_text}
+use Rattle.burst_walk.specs.Fates.{fates_of, chains_behind}
+use Rattle.capture_run.specs.Emitted.{emitted_all, out_bytes}
+use Rattle.capture_report.specs.FaultLines.{capture_text}
 use Rattle.nfp_run.specs.Notes.{done_text}
 use Rattle.nfp_run.specs.Plan.{plan_text}
 use Rattle.packet_fields.specs.Writing.{written_in}
@@ -42,7 +43,7 @@ use Rattle.action_profile.specs.Modes.{mode_of, copies}
 use Rattle.graph_compile.specs.Parts.{branch_reads, branch_writes, touch_of, stage_parts}
 use Rattle.graph_compile.specs.Stages.{is_forbidden, holds_back, placed, graph_of}
 use Rattle.graph_run.specs.Counting.{copies_made}
-use Rattle.capture_run.specs.Report.{report_bytes, drop_text, drop_lines, total_line, copies_due, copies_text, copies_lines, function_text, chain_lines, last_line, summary}
+use Rattle.capture_report.specs.Report.{report_bytes, drop_text, drop_lines, total_line, copies_due, copies_text, copies_lines, function_text, chain_lines, last_line, summary}
 
 -- version 2.4, snaplen 65535, Ethernet
 head : List ℕ

@@ -9,10 +9,11 @@ use Rattle.pcap_io.specs.Written.{head_bytes, record_bytes}
 use Rattle.pcap_io.specs.declared.capture.CaptureHead.{CaptureHead}
 use Rattle.pcap_io.specs.declared.capture.PcapRecord.{PcapRecord}
 use Rattle.chain_service.specs.Services.{Chains}
-use Rattle.capture_run.specs.declared.ended.Ended.{Ended}
+use Rattle.capture_report.specs.declared.ended.Ended.{Ended}
 use Rattle.capture_run.specs.declared.fault.RunFault.{RunFault}
-use Rattle.capture_run.specs.Emitted.{emitted_all, fates_of, out_bytes}
-use Rattle.capture_run.specs.Report.{report_of}
+use Rattle.burst_walk.specs.Fates.{fates_of}
+use Rattle.capture_run.specs.Emitted.{emitted_all, out_bytes}
+use Rattle.capture_report.specs.Report.{report_of}
 use Rattle.capture_run.specs.Running.{PutsBody, PutsBodyPrefixes, WritesAll, WriteBreaks}
 use Rattle.capture_run.specs.Slots.{Puts, PutsPrefixes, Breaks}
 use Rattle.nfp_run.specs.Answers.{Leaves, LeavesPrefixes}

@@ -10,10 +10,10 @@ use Rattle.nfp_run.specs.declared.outcome.Outcome.{Outcome}
 use Rattle.nfp_run.specs.declared.outcome.Outcome.TheVariants.{Done, Usage, Policy, NotBuilt, Capture, ReadFault, WriteFault, OutOfMemory}
 use Rattle.nfp_run.specs.declared.ending.Ending.{Ending}
 use Rattle.nfp_run.specs.declared.ending.Ending.TheVariants.{Completed, Planned, Refused, Stopped}
-use Rattle.capture_run.specs.declared.ended.Totals.{Totals}
-use Rattle.capture_run.specs.declared.ended.Ended.{Ended}
+use Rattle.capture_report.specs.declared.ended.Totals.{Totals}
+use Rattle.capture_report.specs.declared.ended.Ended.{Ended}
 use Rattle.capture_run.specs.declared.fault.RunFault.{RunFault}
-use Rattle.capture_run.specs.FaultLines.{capture_text}
+use Rattle.capture_report.specs.FaultLines.{capture_text}
 use Rattle.capture_run.specs.Running.{Counts}
 use Rattle.nfp_run.specs.Notes.{usage_text, not_built_text, done_text, read_fault_text, write_fault_text}
 use Rattle.nfp_run.specs.Broken.{broken_by}

@@ -13,9 +13,10 @@ use Rattle.nfp_run.specs.declared.outcome.Outcome.TheVariants as outcomes
 use Rattle.command_words.specs.declared.usage.UsageFault.{UsageFault}
 use Rattle.command_words.specs.Words.{Command, Run, Plan, command_of}
 use Rattle.chain_service.specs.Services.{Chains, service_among}
-use Rattle.capture_run.specs.Emitted.{fates_of, out_bytes}
-use Rattle.capture_run.specs.FaultLines.{capture_text}
-use Rattle.capture_run.specs.Report.{report_of, is_gone}
+use Rattle.burst_walk.specs.Fates.{fates_of}
+use Rattle.capture_run.specs.Emitted.{out_bytes}
+use Rattle.capture_report.specs.FaultLines.{capture_text}
+use Rattle.capture_report.specs.Report.{report_of, is_gone}
 use Rattle.nfp_run.specs.Notes.{usage_text, not_built_text, done_text}
 use Rattle.nfp_run.specs.Plan.{plan_text}
 

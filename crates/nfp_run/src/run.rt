@@ -9,7 +9,7 @@ ghost use Rattle.nfp_run.specs.Answers.{IsFinal, WhereTold, LeavesPrefixes, HasN
 ghost use Rattle.nfp_run.specs.Attached.{RunLeavesAttached};
 ghost use Rattle.nfp_run.specs.Closing.{outcome_seen, closed, ending_of, Left, EndsDue, CountsWithin};
 ghost use Rattle.nfp_run.specs.Due.{due_of_command, written_of};
-ghost use Rattle.capture_run.specs.Emitted.{fates_of};
+ghost use Rattle.burst_walk.specs.Fates.{fates_of};
 ghost use Rattle.capture_run.specs.Slots.{IsBroken};
 ghost use Rattle.command_words.specs.Named.{names_seen};
 ghost use Rattle.chain_service.specs.Opening.{IsOpening, chains_of};
@@ -18,7 +18,8 @@ use crate::attach::{attach_sink, put_head};
 use crate::ending::Ending;
 use crate::outcome::Outcome;
 use crate::read::{open_capture, read_service};
-use capture_run::{Ended, RunFault, run_capture};
+use capture_report::Ended;
+use capture_run::{RunFault, run_capture};
 use chain_service::Service;
 use command_words::FileNames;
 use nfp_outside::{Desk, Slot};

@@ -1,0 +1,4 @@
+pub mod Bursting
+pub mod Growing
+pub mod Leading
+pub mod Queues

@@ -1,0 +1,76 @@
+//! The packets of a burst on their way through the chains, each chain with its own.
+ghost use Rattle.std.specs.Prelude.{◌≡◌, ◌≤◌, ◌<◌, ◌^◌, All, IfOk, length, map};
+ghost use Rattle.pcap_io.specs.Capture.{IsShort};
+ghost use Rattle.chain_walk.specs.Packets.{fates};
+ghost use Rattle.service_walk.specs.Service.{packets_in};
+ghost use Rattle.service_walk.specs.Weaving.{each_fates};
+ghost use Rattle.chain_service.specs.NamedFunctions.{named_behaviour};
+ghost use Rattle.burst_walk.specs.Leading.{IsWritable, LeadsChain, LeadsEach, classed_items};
+
+use chain_service::{NamedFunction, ServiceChain};
+use chain_walk::{Fate, frames_walk_as_fields, values_stay_well_formed};
+use classifier::Burst;
+use graph_run::run_plain;
+use item_list::Items;
+use pcap_io::Unit;
+use std::alloc::{AllocError, Global};
+use std::sync::Wait;
+
+/// Leads the packets of a burst through their chains, one chain after another, and gives the fates of each chain's packets.
+pub fn lead<R: Wait>(
+    rt: &R,
+    alloc: Global,
+    chains: Items<ServiceChain>,
+    burst: &Burst,
+    unit: Unit,
+) -> Result<(Items<ServiceChain>, Vec<Vec<Fate>>), AllocError>
+    requires few { length burst.now.items ≤ 65536 }
+    requires short { All (λ i. IsShort i.packet) burst.now.items }
+    requires few_chains { length chains < 2 ^ 32 }
+    ensures led { IfOk result (λ led. LeadsEach (classed_items unit burst.now.items) 0 chains led.0) }
+    ensures fates { IfOk result (λ led. map (λ v. v.items) led.1.items ≡ each_fates named_behaviour (classed_items unit burst.now.items) 0 (map (λ c. c.running.functions) chains)) }
+    ensures writable { IfOk result (λ led. All (λ v. All IsWritable v.items) led.1.items) }
+{
+    let mut led = Vec::new(alloc);
+    let mut rows = Vec::new(alloc);
+    let mut number = 0;
+    'chains: for chain in chains.into_vec() {
+        let (chain, fates) = lead_chain(rt, alloc, chain, burst, unit, number)?;
+        led.push(chain)?;
+        rows.push(fates)?;
+        number += 1;
+    }
+    Ok((Items::new(led), rows))
+}
+
+// Leads the packets of a burst through the chain with this number that takes them.
+fn lead_chain<R: Wait>(
+    rt: &R,
+    alloc: Global,
+    chain: ServiceChain,
+    burst: &Burst,
+    unit: Unit,
+    number: u32,
+) -> Result<(ServiceChain, Vec<Fate>), AllocError>
+    requires few { length burst.now.items ≤ 65536 }
+    requires short { All (λ i. IsShort i.packet) burst.now.items }
+    ensures led { IfOk result (λ led. LeadsChain (classed_items unit burst.now.items) number chain led.0) }
+    ensures fates { IfOk result (λ led. led.1.items ≡ fates named_behaviour chain.running.functions (packets_in number (classed_items unit burst.now.items))) }
+    ensures writable { IfOk result (λ led. All IsWritable led.1.items) }
+{
+    // Fields keep their lengths but for a few tags, so what goes out fits a record.
+    values_stay_well_formed::<NamedFunction>();
+    frames_walk_as_fields::<NamedFunction>();
+    let ServiceChain {
+        declared,
+        running,
+        mut copies,
+    } = chain;
+    let (running, fates) = run_plain(rt, alloc, running, burst, unit, number, &mut copies)?;
+    let chain = ServiceChain {
+        declared,
+        running,
+        copies,
+    };
+    Ok((chain, fates))
+}

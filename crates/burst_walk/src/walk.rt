@@ -1,0 +1,42 @@
+//! The way of a burst through a service.
+ghost use Rattle.std.specs.Prelude.{◌≡◌, ◌≤◌, All, IfOk, IfSome, length, map};
+ghost use Rattle.chain_service.specs.Opening.{chains_of, fits_of};
+ghost use Rattle.burst_walk.specs.Fates.{all_classed, chains_behind, fates_of};
+ghost use Rattle.burst_walk.specs.Leading.{IsClassed, IsWritable, LeadsEach, all_ended, records_of};
+
+use crate::lead::lead;
+use crate::weave::weave;
+use chain_service::{NamedFunction, Service};
+use chain_walk::Fate;
+use classifier::{Burst, class_is_the_first};
+use pcap_io::Unit;
+use service_walk::fates_are_woven;
+use std::alloc::{AllocError, Global};
+use std::sync::Wait;
+
+/// Leads the packets of a burst through their chains, and gives where each ended, none for one that no chain takes.
+pub fn walk_burst<R: Wait>(
+    rt: &R,
+    alloc: Global,
+    service: Service,
+    burst: &Burst,
+    unit: Unit,
+) -> Result<(Service, Vec<Option<Fate>>), AllocError>
+    requires few { length burst.now.items ≤ 65536 }
+    requires classed { All (IsClassed service.classes) burst.now.items }
+    requires told { service.classes ≡ fits_of service.chains }
+    ensures classes { IfOk result (λ walked. walked.0.classes ≡ service.classes) }
+    ensures led { IfOk result (λ walked. LeadsEach (all_classed (chains_of service.chains).declared unit (records_of burst.now.items)) 0 service.chains walked.0.chains) }
+    ensures chains { IfOk result (λ walked. chains_of walked.0.chains ≡ chains_behind (chains_of service.chains) unit (records_of burst.now.items)) }
+    ensures fates { IfOk result (λ walked. all_ended burst.now.items walked.1.items ≡ fates_of (chains_of service.chains) unit (records_of burst.now.items)) }
+    ensures as_many { IfOk result (λ walked. length walked.1.items ≡ length burst.now.items) }
+    ensures writable { IfOk result (λ walked. All (λ o. IfSome o IsWritable) walked.1.items) }
+    ensures by_record { map (λ i. i.class) burst.now.items ≡ map (λ x. x.class) (all_classed (chains_of service.chains).declared unit (records_of burst.now.items)) }
+{
+    class_is_the_first();
+    fates_are_woven::<NamedFunction>();
+    let Service { classes, chains } = service;
+    let (chains, rows) = lead(rt, alloc, chains, burst, unit)?;
+    let fates = weave(alloc, burst.items.as_slice(), rows)?;
+    Ok((Service { classes, chains }, fates))
+}

@@ -1,0 +1,306 @@
+//! The texts of the report.
+ghost use Rattle.std.specs.Prelude.{◌≡◌, ◌≤◌, ◌<◌, ◌+◌, ◌^◌, ◌++◌, IfOk, OnOk, Some, length, map};
+ghost use Rattle.packet_version.specs.Tallies.{count_of};
+ghost use Rattle.chain_service.specs.Opening.{chains_of};
+ghost use Rattle.burst_walk.specs.Leading.{all_ended, ended};
+ghost use Rattle.capture_report.specs.Report.{dropped_by, drop_text, drop_line, drop_lines, names_among, copies_text, copies_line, copies_lines, function_text, function_lines, chain_lines, state_text, last_line};
+ghost use Rattle.capture_report.specs.Telling.{names_in, told_text};
+
+use crate::ended::Ended;
+use crate::lines::{capture_line, totals_line};
+use action_profile::all_fields;
+use chain_service::{NamedFunction, ServiceChain};
+use chain_walk::Fate;
+use classifier::Item;
+use net_functions::Function;
+use packet_fields::Field;
+use packet_version::Tally;
+use pcap_io::CaptureFault;
+use policy_text::{ChainPolicy, FunctionDecl};
+use std::alloc::{AllocError, Global};
+use text_lines::Piece::{Number, Text};
+use text_lines::{join, push_pieces};
+
+/// The report's first line.
+pub const TITLE: &[u8] = b"nfp report 1\n";
+
+/// The lines of the packets of a burst that were dropped, where the first packet has this number.
+pub fn burst_lines(
+    alloc: Global,
+    chains: &[ServiceChain],
+    first: u64,
+    items: &[Item],
+    fates: &[Option<Fate>],
+) -> Result<Vec<u8>, AllocError>
+    requires room { first + length fates.now < 2 ^ 64 }
+    requires as_many { length fates.now ≡ length items.now }
+    ensures { IfOk result (λ v. v.items ≡ drop_lines (names_among (chains_of chains.now)) first (map (λ i. i.class) items.now) (all_ended items.now fates.now)) }
+{
+    let mut text = Vec::new(alloc);
+    'fates: for index in 0..fates.len() {
+        let number = first + index as u64;
+        push_drop_line(
+            alloc,
+            &mut text,
+            chains,
+            number,
+            &items[index],
+            &fates[index],
+        )?;
+    }
+    Ok(text)
+}
+
+// Adds the line of a packet that its chain dropped; any other has none.
+fn push_drop_line(
+    alloc: Global,
+    text: &mut Vec<u8>,
+    chains: &[ServiceChain],
+    number: u64,
+    item: &Item,
+    fate: &Option<Fate>,
+) -> Result<(), AllocError>
+    ensures { OnOk result (text.new.items ≡ text.old.items ++ drop_line (names_among (chains_of chains.now)) number item.now.class (ended item.now.packet fate.now)) }
+{
+    match (&item.class, fate) {
+        (Some(class), Some(Fate::Gone(position))) => {
+            push_gone(alloc, text, chains, number, *class, *position)
+        }
+        _ => Ok(()),
+    }
+}
+
+// Adds the line of a packet that this chain dropped.
+fn push_gone(
+    alloc: Global,
+    text: &mut Vec<u8>,
+    chains: &[ServiceChain],
+    number: u64,
+    class: u32,
+    position: u32,
+) -> Result<(), AllocError>
+    ensures { OnOk result (text.new.items ≡ text.old.items ++ drop_line (names_among (chains_of chains.now)) number (Some class) (Fate.Gone position)) }
+{
+    match chains.get(class as usize) {
+        Some(chain) => push_dropped(alloc, text, chain, number, position),
+        None => Ok(()),
+    }
+}
+
+// Adds the line of a packet that the function at this position of its chain dropped.
+fn push_dropped(
+    alloc: Global,
+    text: &mut Vec<u8>,
+    chain: &ServiceChain,
+    number: u64,
+    position: u32,
+) -> Result<(), AllocError>
+    ensures { OnOk result (text.new.items ≡ text.old.items ++ dropped_by number position (names_in chain.now)) }
+{
+    match chain
+        .running
+        .functions()
+        .get((position as usize).saturating_sub(1))
+    {
+        Some(function) => push_drop_text(
+            alloc,
+            text,
+            chain.declared.name.bytes(),
+            number,
+            function.name.bytes(),
+        ),
+        None => Ok(()),
+    }
+}
+
+#[tactic(auto, unfolding(crate::specs::Report::drop_text))]
+fn push_drop_text<'a>(
+    alloc: Global,
+    text: &mut Vec<u8>,
+    chain: &'a [u8],
+    number: u64,
+    name: &'a [u8],
+) -> Result<(), AllocError>
+    ensures { OnOk result (text.new.items ≡ text.old.items ++ drop_text chain.now number name.now) }
+{
+    push_pieces(
+        alloc,
+        text,
+        &[
+            Text(b"drop "),
+            Number(number),
+            Text(b" "),
+            Text(chain),
+            Text(b" "),
+            Text(name),
+            Text(b"\n"),
+        ],
+    )
+}
+
+/// What stands behind the lines of the dropped packets: the totals, the copies of each chain, its functions with their
+/// states, and the end or the capture's fault.
+pub fn summary(alloc: Global, chains: &[ServiceChain], ended: Ended) -> Result<Vec<u8>, AllocError>
+    requires { ended.totals.dropped ≤ ended.totals.records }
+    ensures { IfOk result (λ v. v.items ≡ told_text chains.now ended) }
+{
+    let mut text = totals_line(alloc, ended.totals)?;
+    'copies: for chain in chains {
+        push_copies_lines(alloc, &mut text, chain.declared.name.bytes(), &chain.copies)?;
+    }
+    'functions: for chain in chains {
+        push_chain_lines(alloc, &mut text, &chain.declared, chain.running.functions())?;
+    }
+    push_last_line(alloc, &mut text, ended.fault)?;
+    Ok(text)
+}
+
+#[tactic(auto, unfolding(crate::specs::Report::last_line))]
+fn push_last_line(
+    alloc: Global,
+    text: &mut Vec<u8>,
+    fault: Option<CaptureFault>,
+) -> Result<(), AllocError>
+    ensures { OnOk result (text.new.items ≡ text.old.items ++ last_line fault) }
+{
+    match fault {
+        None => text.extend_from_slice(b"end\n".as_slice()),
+        Some(fault) => {
+            let line = capture_line(alloc, fault)?;
+            push_pieces(alloc, text, &[Text(b"fault "), Text(&line)])
+        }
+    }
+}
+
+// The line of each field of which copies were made.
+#[tactic(auto, unfolding(crate::specs::Report::copies_lines))]
+fn push_copies_lines(
+    alloc: Global,
+    text: &mut Vec<u8>,
+    chain: &[u8],
+    copies: &Tally,
+) -> Result<(), AllocError>
+    ensures { OnOk result (text.new.items ≡ text.old.items ++ copies_lines chain.now (count_of copies.now)) }
+{
+    'fields: for field in all_fields() {
+        push_copies_line(alloc, text, chain, *field, copies.of(*field))?;
+    }
+    Ok(())
+}
+
+fn push_copies_line(
+    alloc: Global,
+    text: &mut Vec<u8>,
+    chain: &[u8],
+    field: Field,
+    count: u64,
+) -> Result<(), AllocError>
+    ensures { OnOk result (text.new.items ≡ text.old.items ++ copies_line chain.now field count) }
+{
+    if count == 0 {
+        return Ok(());
+    }
+    let line = copies_text(alloc, chain, field.name().as_bytes(), count)?;
+    text.extend_from_slice(&line)
+}
+
+#[tactic(auto, unfolding(crate::specs::Report::copies_text))]
+fn copies_text<'a>(
+    alloc: Global,
+    chain: &'a [u8],
+    field: &'a [u8],
+    count: u64,
+) -> Result<Vec<u8>, AllocError>
+    ensures { IfOk result (λ v. v.items ≡ copies_text chain.now field.now count) }
+{
+    join(
+        alloc,
+        &[
+            Text(b"copies "),
+            Text(chain),
+            Text(b" "),
+            Text(field),
+            Text(b" "),
+            Number(count),
+            Text(b"\n"),
+        ],
+    )
+}
+
+// The lines of a chain's functions, as they are declared.
+#[tactic(auto, unfolding(crate::specs::Report::chain_lines))]
+fn push_chain_lines(
+    alloc: Global,
+    text: &mut Vec<u8>,
+    chain: &ChainPolicy,
+    functions: &[NamedFunction],
+) -> Result<(), AllocError>
+    ensures { OnOk result (text.new.items ≡ text.old.items ++ chain_lines chain.now functions.now) }
+{
+    'functions: for declared in chain.functions.as_slice() {
+        push_function_lines(alloc, text, chain.name.bytes(), functions, declared)?;
+    }
+    Ok(())
+}
+
+// The line of a function, and those of its state.
+fn push_function_lines(
+    alloc: Global,
+    text: &mut Vec<u8>,
+    chain: &[u8],
+    functions: &[NamedFunction],
+    declared: &FunctionDecl,
+) -> Result<(), AllocError>
+    ensures { OnOk result (text.new.items ≡ text.old.items ++ function_lines chain.now functions.now declared.now) }
+{
+    push_function_text(
+        alloc,
+        text,
+        chain,
+        declared.name.bytes(),
+        declared.kind.name().as_bytes(),
+    )?;
+    push_state(text, functions, declared.name.bytes())
+}
+
+#[tactic(auto, unfolding(crate::specs::Report::function_text))]
+fn push_function_text<'a>(
+    alloc: Global,
+    text: &mut Vec<u8>,
+    chain: &'a [u8],
+    name: &'a [u8],
+    kind: &'a [u8],
+) -> Result<(), AllocError>
+    ensures { OnOk result (text.new.items ≡ text.old.items ++ function_text chain.now name.now kind.now) }
+{
+    push_pieces(
+        alloc,
+        text,
+        &[
+            Text(b"function "),
+            Text(chain),
+            Text(b" "),
+            Text(name),
+            Text(b" "),
+            Text(kind),
+            Text(b"\n"),
+        ],
+    )
+}
+
+// The lines of the state of the function with this name.
+fn push_state(
+    text: &mut Vec<u8>,
+    functions: &[NamedFunction],
+    name: &[u8],
+) -> Result<(), AllocError>
+    ensures { OnOk result (text.new.items ≡ text.old.items ++ state_text functions.now name.now) }
+{
+    match functions
+        .iter()
+        .find(|function| function.name.bytes() == name)
+    {
+        Some(function) => function.state_lines(text),
+        None => Ok(()),
+    }
+}

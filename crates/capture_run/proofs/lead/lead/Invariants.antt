@@ -1,6 +1,0 @@
-use Rattle.capture_run.specs.Leading.{classed_items}
-use Rattle.capture_run.proofs.Leading.{IsLeading}
-use Rattle.capture_run.proofs.lead.lead.Given as goal
-
-abbrev pub invariant-chains : goal.invariant-chains
-invariant-chains g l = IsLeading (λ v. v.items) (classed_items l.unit l.burst.items) l.fn.chains l.chain-iterator.rest.items l.led.items l.number l.rows.items
