@@ -1,5 +1,5 @@
 //! The way of a burst through a service.
-ghost use Rattle.std.specs.Prelude.{◌≡◌, ◌≤◌, All, IfOk, IfSome, length, map};
+ghost use Rattle.std.specs.Prelude.{◌≡◌, ◌≤◌, All, IfOk, IfSome, OnOk, length, map};
 ghost use Rattle.chain_service.specs.Opening.{chains_of, fits_of};
 ghost use Rattle.burst_walk.specs.Fates.{all_classed, chains_behind, fates_of};
 ghost use Rattle.burst_walk.specs.Leading.{IsClassed, IsWritable, LeadsEach, all_ended, records_of};
@@ -31,7 +31,7 @@ pub fn walk_burst<R: Wait>(
     ensures fates { IfOk result (λ walked. all_ended burst.now.items walked.1.items ≡ fates_of (chains_of service.chains) unit (records_of burst.now.items)) }
     ensures as_many { IfOk result (λ walked. length walked.1.items ≡ length burst.now.items) }
     ensures writable { IfOk result (λ walked. All (λ o. IfSome o IsWritable) walked.1.items) }
-    ensures by_record { map (λ i. i.class) burst.now.items ≡ map (λ x. x.class) (all_classed (chains_of service.chains).declared unit (records_of burst.now.items)) }
+    ensures by_record { OnOk result (map (λ i. i.class) burst.now.items ≡ map (λ x. x.class) (all_classed (chains_of service.chains).declared unit (records_of burst.now.items))) }
 {
     class_is_the_first();
     fates_are_woven::<NamedFunction>();

@@ -1,3 +1,3 @@
+pub mod Counted
 pub mod Dropping
-pub mod Gone
 pub mod Telling

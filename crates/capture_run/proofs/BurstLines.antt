@@ -1,6 +1,7 @@
 -- What is put of a burst is what comes next of its records.
-use Rattle.std.proofs.Common.{◌≡◌, ◌∙◌, ℕ, List, [], map, refl, ap}
+use Rattle.std.proofs.Common.{◌≡◌, ◌∙◌, ℕ, List, [], length, map, refl, ap}
 use Rattle.std.specs.Prelude.{Option}
+use Rattle.std.proofs.lemmas.List.{length-map}
 use Rattle.nfp_outside.specs.declared.slot.Slot.{Slot}
 use Rattle.nfp_outside.specs.Outside.{SlotView}
 use Rattle.pcap_io.specs.declared.capture.PcapRecord.{PcapRecord}
@@ -19,6 +20,7 @@ use Rattle.capture_run.specs.declared.passage.Passage.{Passage}
 use Rattle.capture_run.proofs.Following.{each_names}
 use Rattle.capture_run.proofs.Passing.{records_refused}
 use Rattle.capture_run.proofs.Putting.{breaks_is, puts_is}
+use Rattle.capture_run.proofs.Walking.{length-fates_of}
 
 -- the lines that are made are those that come next
 pub made_lines : {W : Type 0} (p : Passage W) (items items' : List Item) (after after' : List ServiceChain) (fates fates' : List (Option Fate)) (text text' : List ℕ) →
@@ -30,6 +32,11 @@ made_lines p items items' after after' fates fates' text text' by_record led end
     ap (map (λ (i : Item). i.class)) same ∙ by_record in
     let ends : all_ended items' fates' ≡ fates_next p (records_of items) = (λ i. all_ended (same i) (same_fates i)) ∙ end in
     same_text ∙ made ∙ (λ i. drop_lines (names i) (next_number p) (classes i) (ends i))
+
+-- each packet of a burst ended
+pub ended_many : {W : Type 0} (p : Passage W) (items items' : List Item) (fates fates' : List (Option Fate)) → items' ≡ items → fates' ≡ fates → all_ended items fates ≡ fates_next p (records_of items) → length (all_ended items' fates') ≡ length items
+ended_many p items items' fates fates' same same_fates end =
+    ap length ((λ i. all_ended (same i) (same_fates i)) ∙ end) ∙ length-fates_of (chains_of p.service.chains) p.unit (records_of items) ∙ length-map items (λ i. i.packet)
 
 -- the records that were put are those that come next
 pub puts_records : {W : Type 0} (spelled : W → PcapRecord → List ℕ) (p : Passage W) (items items' : List Item) (fates : List (Option Fate)) (old new : Slot → SlotView) → all_ended items fates ≡ fates_next p (records_of items) → items' ≡ items →

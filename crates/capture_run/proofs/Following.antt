@@ -1,5 +1,5 @@
 -- Chains that led packets, and then more of them, led them all.
-use Rattle.std.proofs.Common.{◌≡◌, ◌+◌, ◌∙◌, ℕ, suc, List, [], ◌∷◌, ◌++◌, map, max, min, refl, ap, sym, arith}
+use Rattle.std.proofs.Common.{◌≡◌, ◌+◌, ◌∙◌, ℕ, suc, List, [], ◌∷◌, ◌++◌, max, min, refl, ap, sym, arith}
 use Rattle.packet_fields.specs.declared.field.Field.{Field}
 use Rattle.chain_walk.specs.Packets.{fates, functions_after}
 use Rattle.service_walk.specs.Service.{Classed, packets_in}

@@ -2,7 +2,7 @@ use Rattle.std.proofs.Common.{◌≡◌, ◌∙◌, false, rules}
 use Rattle.std.specs.Prelude.{count_by}
 use Rattle.std.specs.Option.{option_map_or}
 use Rattle.capture_report.specs.Report.{is_gone}
-use Rattle.capture_report.proofs.Gone.{count-gone}
+use Rattle.capture_report.proofs.Counted.{count-gone}
 use Rattle.capture_report.proofs.gone.count_gone.Goals as goal
 
 pub returns : goal.returns

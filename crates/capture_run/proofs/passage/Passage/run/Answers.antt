@@ -7,11 +7,10 @@ use Rattle.capture_run.specs.Passing.{packets_next}
 use Rattle.capture_report.specs.Report.{is_gone}
 use Rattle.capture_run.specs.Slots.{Puts, Breaks}
 use Rattle.capture_run.specs.declared.fault.RunFault.TheVariants.{OutOfMemory}
-use Rattle.capture_run.proofs.BurstLines.{made_lines, puts_records, breaks_records}
+use Rattle.capture_run.proofs.BurstLines.{breaks_records, ended_many, made_lines, puts_records}
 use Rattle.capture_run.proofs.Following.{each_fits}
 use Rattle.capture_run.proofs.Passing.{burst_put, lines_refused}
 use Rattle.capture_run.proofs.Putting.{handed_on, no_memory}
-use Rattle.capture_run.proofs.Walking.{length-fates_of}
 use Rattle.capture_run.proofs.passage.Passage.run.Goals as goal
 
 pub returns-in_err-lines-clause-err : goal.returns-in_err-lines-clause-err
@@ -20,8 +19,7 @@ returns-in_err-lines-clause-err g c = handed_on c.from_residual-in_err-lines.res
 pub overflow_add-totals-3 : goal.overflow_add-totals-3
 overflow_add-totals-3 g c =
     let gone = count_by-le-length is_gone (all_ended c.as_slice-items.result.now c.deref-2.result.now) in
-    let few : length (all_ended c.as_slice-items.result.now c.deref-2.result.now) ≡ length c.args.burst.items =
-    ap length ((λ i. all_ended (c.as_slice-items.ensures i) (c.deref-2.ensures.value i)) ∙ c.in_ok-service.ensures.fates) ∙ length-fates_of _ c.args.self.unit (records_of c.args.burst.items) ∙ length-map c.args.burst.items (λ i. i.packet) in
+    let few = ended_many c.args.self c.args.burst.items c.as_slice-items.result.now c.in_ok-service.fates.items c.deref-2.result.now c.as_slice-items.ensures c.deref-2.ensures.value c.in_ok-service.ensures.fates in
     let many : length c.as_slice-items.result.now ≡ length c.args.burst.items = ap length c.as_slice-items.ensures in
     let room = c.requires.room in
     let within = c.requires.within in
@@ -37,7 +35,7 @@ returns-in_err-put_text-clause-err g c = handed_on c.from_residual-in_err-put_te
     (puts_records g.W.Sink.spelled c.args.self c.args.burst.items c.as_slice-items.result.now c.in_ok-service.fates.items _ _ c.in_ok-service.ensures.fates c.as_slice-items.ensures c.in_ok-put_emitted.ensures.ok)
     (subst (λ t. Breaks [] t (g.D.Desk.slots c.put_emitted.new.desk) (g.D.Desk.slots c.put_text.new.desk) c.in_err-put_text.field-0.0)
     (made_lines c.args.self c.args.burst.items c.as_slice-items.result.now c.in_ok-service.service.chains c.as_slice-chains.result.now c.in_ok-service.fates.items c.deref.result.now c.in_ok-lines.lines.items c.deref-3.result.now
-    c.walk_burst.ensures.by_record c.in_ok-service.ensures.led c.in_ok-service.ensures.fates c.as_slice-items.ensures c.as_slice-chains.ensures c.deref.ensures.value c.in_ok-lines.ensures c.deref-3.ensures.value)
+    c.in_ok-service.ensures.by_record c.in_ok-service.ensures.led c.in_ok-service.ensures.fates c.as_slice-items.ensures c.as_slice-chains.ensures c.deref.ensures.value c.in_ok-lines.ensures c.deref-3.ensures.value)
     c.in_err-put_text.ensures.err))
 
 pub returns-clause-told : goal.returns-clause-told
@@ -61,6 +59,6 @@ returns-clause-ok g c = record {
       (puts_records g.W.Sink.spelled c.args.self c.args.burst.items c.as_slice-items.result.now c.in_ok-service.fates.items _ _ c.in_ok-service.ensures.fates c.as_slice-items.ensures c.in_ok-put_emitted.ensures.ok)
       (subst (λ t. Puts [] t (g.D.Desk.slots c.put_emitted.new.desk) (g.D.Desk.slots c.put_text.new.desk))
       (made_lines c.args.self c.args.burst.items c.as_slice-items.result.now c.in_ok-service.service.chains c.as_slice-chains.result.now c.in_ok-service.fates.items c.deref.result.now c.in_ok-lines.lines.items c.deref-3.result.now
-      c.walk_burst.ensures.by_record c.in_ok-service.ensures.led c.in_ok-service.ensures.fates c.as_slice-items.ensures c.as_slice-chains.ensures c.deref.ensures.value c.in_ok-lines.ensures c.deref-3.ensures.value)
+      c.in_ok-service.ensures.by_record c.in_ok-service.ensures.led c.in_ok-service.ensures.fates c.as_slice-items.ensures c.as_slice-chains.ensures c.deref.ensures.value c.in_ok-lines.ensures c.deref-3.ensures.value)
       c.in_ok-put_text.ensures.ok);
 }
