@@ -1,14 +1,10 @@
 -- The counts of a flow are those of its packets.
-use Rattle.std.proofs.Common.{◌≡◌, ◌+◌, ◌-◌, ◌^◌, ◌∙◌, ℕ, List, [], ◌∷◌, ◌++◌, length, Bool, true, false, inl, inr, refl, sym, ap, arith}
-use Rattle.std.specs.Prelude.{min, if◌then◌else◌, Option, Some, is_some, unwrap_or, fold}
-use Rattle.std.proofs.lemmas.Bool.{cases_Bool}
+use Rattle.std.proofs.Common.{◌≡◌, ◌+◌, ◌-◌, ◌^◌, ◌∙◌, ℕ, List, [], ◌∷◌, length, Bool, true, false, refl, sym, ap, arith}
+use Rattle.std.specs.Prelude.{min, if◌then◌else◌, Option, Some, unwrap_or, fold}
 use Rattle.std.proofs.lemmas.List.Sums.{sum_by-cons}
-use Rattle.std.specs.Cmp.{IsEquivalence}
 use Rattle.std.specs.HashMap.Eq.{lookup_congr}
 use Rattle.std.specs.List.{sum_by}
-use Rattle.std.specs.Map.{lookup, keys_of}
-use Rattle.indexmap.specs.IndexMap.{insert_entry}
-use Rattle.nf_observe.specs.FirstSight.{belonging}
+use Rattle.first_sight.specs.FirstSight.{belonging, noted}
 use Rattle.nf_observe.specs.Flows.{count_up_to, no_packets, with_packet, counted}
 use Rattle.nf_observe.specs.SameFlow.{is_same_flow}
 use Rattle.nf_observe.specs.SameFlowLaws.{same_flow}
@@ -16,65 +12,21 @@ use Rattle.nf_observe.specs.Counting.{Sight, flows_with, counts_of, of_flow, tot
 use Rattle.nf_observe.specs.declared.flow.FiveTuple.{FiveTuple}
 use Rattle.nf_observe.specs.declared.flow.FlowCounts.{FlowCounts}
 
-module _ {V : Type 0} where
-  -- the entry of the key itself
-  own : (own_place asked : Bool) (new old : V) (later : Option V) → asked ≡ own_place → (if own_place then Some new else later) ≡ (if asked then Some new else (if own_place then Some old else later))
-  own true asked new old later e = rw e refl
-  own false asked new old later e = rw e refl
-
-  -- an entry before it
-  before : (here asked : Bool) (new old : V) (later : Option V) → (asked ≡ true → here ≡ false) →
-      (if here then Some old else (if asked then Some new else later)) ≡ (if asked then Some new else (if here then Some old else later))
-  before true true new old later h = absurd (let e : true ≡ false = h refl in cc)
-  before true false new old later h = refl
-  before false true new old later h = refl
-  before false false new old later h = refl
-
-behind : {A : Type 0} (a : A) (b : Bool) (xs ys : List A) → a ∷ (if b then xs else ys) ≡ (if b then a ∷ xs else a ∷ ys)
-behind a true xs ys = refl
-behind a false xs ys = refl
-
-module _ {K V : Type 0} (eq : K → K → Bool) (laws : IsEquivalence eq) where
-  -- what is found behind an insert
-  found : (es : List (K × V)) (k : K) (v : V) (q : K) → lookup (eq q) (insert_entry eq es k v) ≡ (if eq q k then Some v else lookup (eq q) es)
-  found [] k v q = refl
-  found (e ∷ es) k v q = elim (cases_Bool (eq k e.0)) [
-    | inl same ↦
-        ap (λ b. lookup (eq q) (if b then (e.0, v) ∷ es else e ∷ insert_entry eq es k v)) same
-        ∙ own (eq q e.0) (eq q k) v e.1 (lookup (eq q) es) (laws.symm q k ∙ laws.congr k e.0 q same ∙ laws.symm e.0 q)
-    | inr other ↦
-        ap (λ b. lookup (eq q) (if b then (e.0, v) ∷ es else e ∷ insert_entry eq es k v)) other
-        ∙ ap (λ o. if eq q e.0 then Some e.1 else o) (found es k v q)
-        ∙ before (eq q e.0) (eq q k) v e.1 (lookup (eq q) es) (λ asked. laws.congr q k e.0 asked ∙ other)
-  ]
-
-  -- a key that is there keeps its place, and a new one goes last
-  ordered : (es : List (K × V)) (k : K) (v : V) → keys_of (insert_entry eq es k v) ≡ (if is_some (lookup (eq k) es) then keys_of es else keys_of es ++ k ∷ [])
-  ordered [] k v = refl
-  ordered (e ∷ es) k v = elim (cases_Bool (eq k e.0)) [
-    | inl same ↦
-        ap (λ b. keys_of (if b then (e.0, v) ∷ es else e ∷ insert_entry eq es k v)) same
-        ∙ ap (λ b. if is_some (if b then Some e.1 else lookup (eq k) es) then e.0 ∷ keys_of es else e.0 ∷ keys_of es ++ k ∷ []) (sym same)
-    | inr other ↦
-        ap (λ b. keys_of (if b then (e.0, v) ∷ es else e ∷ insert_entry eq es k v)) other
-        ∙ ap (λ l. e.0 ∷ l) (ordered es k v)
-        ∙ behind e.0 (is_some (lookup (eq k) es)) (keys_of es) (keys_of es ++ k ∷ [])
-        ∙ ap (λ b. if is_some (if b then Some e.1 else lookup (eq k) es) then e.0 ∷ keys_of es else e.0 ∷ keys_of es ++ k ∷ []) (sym other)
-  ]
-
-pub keeps_order : (flows : List (FiveTuple × FlowCounts)) (flow : FiveTuple) (bytes : ℕ) → keys_of (counted flows flow bytes) ≡ (if is_some (belonging is_same_flow flows flow) then keys_of flows else keys_of flows ++ flow ∷ [])
-keeps_order flows flow bytes = ordered is_same_flow same_flow flows flow (with_packet (counts_of flows flow) bytes)
+-- what is noted of a flow is found
+abbrev IsFound : Type 0
+IsFound = (flows : List (FiveTuple × FlowCounts)) (flow asked : FiveTuple) (counts : FlowCounts) →
+    belonging is_same_flow (noted is_same_flow flows flow counts) asked ≡ (if is_same_flow asked flow then Some counts else belonging is_same_flow flows asked)
 
 pick : (b : Bool) (raised counts : FlowCounts) (o : Option FlowCounts) (n : ℕ) → (b ≡ true → raised ≡ with_packet counts n) → unwrap_or o no_packets ≡ counts →
     unwrap_or (if b then Some raised else o) no_packets ≡ (if b then with_packet counts n else counts)
 pick true raised counts o n h g = h refl
 pick false raised counts o n h g = g
 
-one_more : (flows : List (FiveTuple × FlowCounts)) (k : FiveTuple) (n : ℕ) (q : FiveTuple) →
+one_more : IsFound → (flows : List (FiveTuple × FlowCounts)) (k : FiveTuple) (n : ℕ) (q : FiveTuple) →
     counts_of (counted flows k n) q ≡ (if is_same_flow q k then with_packet (counts_of flows q) n else counts_of flows q)
-one_more flows k n q =
-    ap (λ o. unwrap_or o no_packets) (found is_same_flow same_flow flows k (with_packet (counts_of flows k) n) q)
-    ∙ pick (is_same_flow q k) (with_packet (counts_of flows k) n) (counts_of flows q) (lookup (is_same_flow q) flows) n
+one_more found flows k n q =
+    ap (λ o. unwrap_or o no_packets) (found flows k q (with_packet (counts_of flows k) n))
+    ∙ pick (is_same_flow q k) (with_packet (counts_of flows k) n) (counts_of flows q) (belonging is_same_flow flows q) n
     (λ same. ap (λ o. with_packet (unwrap_or o no_packets) n) (sym (lookup_congr is_same_flow same_flow.congr flows q k same))) refl
 
 -- counts with these packets, all of one flow
@@ -86,12 +38,12 @@ unfolding grown
 grows true counts p packets = refl
 grows false counts p packets = refl
 
-of_packets : (packets : List Sight) (flows : List (FiveTuple × FlowCounts)) (q : FiveTuple) → counts_of (flows_with flows packets) q ≡ grown (counts_of flows q) (of_flow q packets)
+of_packets : IsFound → (packets : List Sight) (flows : List (FiveTuple × FlowCounts)) (q : FiveTuple) → counts_of (flows_with flows packets) q ≡ grown (counts_of flows q) (of_flow q packets)
 unfolding grown
-of_packets [] flows q = refl
-of_packets (p ∷ packets) flows q =
-    of_packets packets (counted flows p.0 p.1) q
-    ∙ ap (λ c. grown c (of_flow q packets)) (one_more flows p.0 p.1 q)
+of_packets found [] flows q = refl
+of_packets found (p ∷ packets) flows q =
+    of_packets found packets (counted flows p.0 p.1) q
+    ∙ ap (λ c. grown c (of_flow q packets)) (one_more found flows p.0 p.1 q)
     ∙ grows (is_same_flow q p.0) (counts_of flows q) p (of_flow q packets)
 
 -- both counts, each up to the largest
@@ -127,7 +79,7 @@ none_counted : both 0 0 ≡ no_packets
 unfolding both
 none_counted = refl
 
-pub counts_packets : (packets : List Sight) (flow : FiveTuple) → counts_of (flows_with [] packets) flow ≡ totals (of_flow flow packets)
-counts_packets packets flow =
+pub counts_packets : IsFound → (packets : List Sight) (flow : FiveTuple) → counts_of (flows_with [] packets) flow ≡ totals (of_flow flow packets)
+counts_packets found packets flow =
     let own = of_flow flow packets in
-    of_packets packets [] flow ∙ ap (λ c. grown c own) (sym none_counted) ∙ sums own 0 0 ∙ alike (omega arith) (omega arith) ∙ as_totals own
+    of_packets found packets [] flow ∙ ap (λ c. grown c own) (sym none_counted) ∙ sums own 0 0 ∙ alike (omega arith) (omega arith) ∙ as_totals own

@@ -6,7 +6,7 @@ use Rattle.text_lines.specs.Texts.{joined}
 use Rattle.nf_observe.specs.Flows.{with_packet}
 use Rattle.nf_observe.specs.Monitors.{flows_after, monitor_by}
 use Rattle.nf_observe.specs.StateLines.{endpoint_text}
-use Rattle.nf_observe.specs.Addresses.{dotted}
+use Rattle.first_sight.specs.Addresses.{dotted}
 use Rattle.chain_walk.specs.Step.{nothing}
 use Rattle.chain_walk.specs.declared.verdict.Verdict.TheVariants.{Pass, Drop}
 use Rattle.nf_observe.specs.Buckets.{full, filled}
@@ -38,11 +38,6 @@ skips_others = refl
 -- both counts stop
 stops : with_packet (record { packets = 2 ^ 64 - 1; bytes = 2 ^ 64 - 2 }) 20 ≡ record { packets = 2 ^ 64 - 1; bytes = 2 ^ 64 - 1 }
 stops = refl
-
--- an address is told byte by byte
-tells_address : dotted 167838211 ≡ joined (decimal 10 ∷ codes "." ∷ decimal 1 ∷ codes "." ∷ decimal 2 ∷ codes "." ∷ decimal 3 ∷ [])
-unfolding dotted
-tells_address = refl
 
 -- an absent port is told as `-`, and port 0 as a number
 tells_absent_port : endpoint_text without_ports.source ≡ joined (dotted 167838211 ∷ codes " -" ∷ [])

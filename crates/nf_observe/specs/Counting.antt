@@ -1,7 +1,7 @@
 -- For proofs: what is counted of a flow, over packets in a row.
 use Rattle.std.specs.Prelude.{ℕ, List, length, filter, fold, unwrap_or}
 use Rattle.std.specs.List.{sum_by}
-use Rattle.nf_observe.specs.FirstSight.{belonging}
+use Rattle.first_sight.specs.FirstSight.{belonging}
 use Rattle.nf_observe.specs.Flows.{count_up_to, no_packets, counted}
 use Rattle.nf_observe.specs.SameFlow.{is_same_flow}
 use Rattle.nf_observe.specs.declared.flow.FiveTuple.{FiveTuple}

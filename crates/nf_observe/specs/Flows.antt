@@ -1,7 +1,7 @@
 -- Believed: what is counted of flows.
 use Rattle.std.specs.Prelude.{ℕ, ◌+◌, ◌-◌, ◌^◌, min, List}
 use Rattle.std.specs.Prelude.{unwrap_or}
-use Rattle.nf_observe.specs.FirstSight.{belonging, noted}
+use Rattle.first_sight.specs.FirstSight.{belonging, noted}
 use Rattle.nf_observe.specs.SameFlow.{is_same_flow}
 use Rattle.nf_observe.specs.declared.flow.FiveTuple.{FiveTuple}
 use Rattle.nf_observe.specs.declared.flow.FlowCounts.{FlowCounts}

@@ -1,7 +1,5 @@
-pub mod Addresses
 pub mod Buckets
 pub mod Counting
-pub mod FirstSight
 pub mod Flows
 pub mod LimiterLaws
 pub mod LimiterLines
@@ -12,3 +10,4 @@ pub mod SameFlow
 pub mod SameFlowLaws
 pub mod Spending
 pub mod StateLines
+pub mod StateRows

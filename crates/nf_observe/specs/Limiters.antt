@@ -9,7 +9,7 @@ use Rattle.chain_walk.specs.Step.{Step, Behaviour, nothing}
 use Rattle.chain_walk.specs.declared.verdict.Verdict.{Verdict}
 use Rattle.chain_walk.specs.declared.verdict.Verdict.TheVariants.{Pass, Drop}
 use Rattle.nf_observe.specs.Buckets.{full, filled, affords, paid}
-use Rattle.nf_observe.specs.FirstSight.{belonging, noted, lines_by}
+use Rattle.first_sight.specs.FirstSight.{belonging, noted, lines_by}
 use Rattle.nf_observe.specs.StateLines.{source_line}
 use Rattle.nf_observe.specs.declared.bucket.TokenBucket.{TokenBucket}
 use Rattle.nf_observe.specs.declared.limiter.Limiter.{Limiter}
@@ -61,4 +61,4 @@ limiter_behaviour = record { profile = λ l. profile_of kinds.Limiter; step = li
 
 -- a line for each source
 abbrev pub limiter_text : Limiter → List ℕ
-limiter_text l = lines_by source_line l.sources
+limiter_text l = lines_by (λ place source. source_line source.0 source.1) l.sources

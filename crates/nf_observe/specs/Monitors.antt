@@ -9,7 +9,7 @@ use Rattle.chain_walk.specs.Shown.{Shown}
 use Rattle.chain_walk.specs.Step.{Step, Behaviour, nothing}
 use Rattle.chain_walk.specs.declared.verdict.Verdict.TheVariants.{Pass}
 use Rattle.function_lines.specs.KindLines.{KindLines}
-use Rattle.nf_observe.specs.FirstSight.{lines_by}
+use Rattle.first_sight.specs.FirstSight.{lines_by}
 use Rattle.nf_observe.specs.Flows.{counted}
 use Rattle.nf_observe.specs.StateLines.{flow_line}
 use Rattle.nf_observe.specs.declared.monitor.build.MonitorLine.{MonitorLine}
@@ -58,4 +58,4 @@ monitor_behaviour = record { profile = λ m. profile_of kinds.Monitor; step = mo
 
 -- a line for each flow
 abbrev pub monitor_text : Monitor → List ℕ
-monitor_text m = lines_by flow_line m.flows
+monitor_text m = lines_by (λ place flow. flow_line flow.0 flow.1) m.flows

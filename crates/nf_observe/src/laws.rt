@@ -3,7 +3,7 @@ ghost use Rattle.std.specs.Prelude.{◌≡◌, ℕ, ◌+◌, ◌-◌, ◌*◌, �
 ghost use Rattle.std.specs.Map.{keys_of};
 ghost use Rattle.nf_observe.specs.Buckets.{tokens_of, full};
 ghost use Rattle.nf_observe.specs.Counting.{Sight, flows_with, counts_of, of_flow, totals};
-ghost use Rattle.nf_observe.specs.FirstSight.{belonging};
+ghost use Rattle.first_sight.specs.FirstSight.{belonging};
 ghost use Rattle.nf_observe.specs.Flows.{counted};
 ghost use Rattle.nf_observe.specs.SameFlow.{is_same_flow};
 ghost use Rattle.nf_observe.specs.Spending.{Arrival, left_by, bytes_paid, IsWithinRate};
@@ -11,13 +11,18 @@ ghost use Rattle.nf_observe.specs.declared.bucket.TokenBucket.{TokenBucket};
 ghost use Rattle.nf_observe.specs.declared.flow.FiveTuple.{FiveTuple};
 ghost use Rattle.nf_observe.specs.declared.flow.FlowCounts.{FlowCounts};
 
+use crate::flow::{FiveTuple, FlowCounts};
+use first_sight::noted_is_found;
+
 /// What is counted of each flow are its packets and their bytes, whatever comes in between. A flow that is
 /// known keeps its place, and a new one goes last.
 pub fn flows_count_their_packets()
     ensures counts { (packets : List Sight) (flow : FiveTuple) → counts_of (flows_with [] packets) flow ≡ totals (of_flow flow packets) }
     ensures order { (flows : List (FiveTuple × FlowCounts)) (flow : FiveTuple) (bytes : ℕ) →
         keys_of (counted flows flow bytes) ≡ (if is_some (belonging is_same_flow flows flow) then keys_of flows else keys_of flows ++ flow ∷ []) }
-{}
+{
+    noted_is_found::<FiveTuple, FlowCounts>();
+}
 
 /// What a bucket pays for in a row of packets, with what is left in it, is no more than what it held and
 /// what the rate brought meanwhile. So a source that is new sends no more than a burst and what the rate

@@ -18,15 +18,13 @@
 //! `specs/LimiterLaws.antt`.
 //!
 //! A state is a list in the order of first sight, and contracts see that list. The code finds a key by its
-//! hash ([`FirstSeen`]), so no step searches through a state. Where memory runs out, function and packet are
-//! as they were; so is the text to which the lines of a state were to be appended.
+//! hash (`first_sight::FirstSeen`), so no step searches through a state. Where memory runs out, function and
+//! packet are as they were; so is the text to which the lines of a state were to be appended.
 //!
 //! Nothing is ever forgotten: a state grows with each new flow or source.
 #![tactic(auto)]
 
-mod address;
 mod bucket;
-mod first_seen;
 mod flow;
 mod laws;
 mod limiter;
@@ -34,7 +32,6 @@ mod monitor;
 mod state_lines;
 
 pub use bucket::TokenBucket;
-pub use first_seen::{FirstSeen, StateLine};
 pub use flow::{Endpoint, FiveTuple, FlowCounts};
 pub use laws::{buckets_keep_the_rate, flows_count_their_packets};
 pub use limiter::{Limiter, LimiterLine};

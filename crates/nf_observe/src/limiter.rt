@@ -4,8 +4,8 @@ mod build;
 mod lines;
 
 use crate::bucket::TokenBucket;
-use crate::first_seen::FirstSeen;
 use chain_walk::Verdict;
+use first_sight::FirstSeen;
 use frame_seen::seen_address;
 pub use lines::LimiterLine;
 use packet_fields::Field;
@@ -24,9 +24,11 @@ pub struct Limiter {
 }
 
 impl Limiter {
-    ghost use Rattle.std.specs.Prelude.{◌≡◌, ◌++◌, OnOk, OnErr, IfOk};
+    ghost use Rattle.std.specs.Prelude.{◌≡◌, ◌<◌, ◌++◌, [], length, slice_index_or, OnOk, OnErr, IfOk};
+    ghost use Rattle.std.specs.List.{flat_map};
     ghost use Rattle.packet_version.specs.Views.{viewed, wrote_all};
     ghost use Rattle.nf_observe.specs.Limiters.{limiter_behaviour, limiter_text, bucket_of, limited};
+    ghost use Rattle.nf_observe.specs.StateRows.{limiter_rows};
 
     /// Judges one packet, which it sees through a view of a limiter's profile. It writes nothing. Where there
     /// is no memory for a new source, nothing changes.
@@ -52,7 +54,24 @@ impl Limiter {
         ensures lines { OnOk result (out.new.items ≡ out.old.items ++ limiter_text self.now) }
         ensures stays { OnErr result (out.new.items ≡ out.old.items) }
     {
-        self.sources.push_lines(out)
+        self.sources.push_lines(self, out)
+    }
+
+    /// How many lines its state has: one for each source.
+    pub fn state_count(&self) -> usize
+        ensures count { result ≡ length (limiter_rows self.now) }
+        ensures told { flat_map (λ row. row) (limiter_rows self.now) ≡ limiter_text self.now }
+    {
+        self.sources.line_count(self)
+    }
+
+    /// Appends the line of its state at a place, counted from 0. Where memory runs out, it appends nothing.
+    pub fn state_line(&self, place: usize, out: &mut Vec<u8>) -> Result<(), AllocError>
+        requires inside { place < length (limiter_rows self.now) }
+        ensures line { OnOk result (out.new.items ≡ out.old.items ++ slice_index_or (limiter_rows self.now) place []) }
+        ensures stays { OnErr result (out.new.items ≡ out.old.items) }
+    {
+        self.sources.push_line(self, place, out)
     }
 
     // Lets a packet of so many bytes pass where the source's bucket pays for it.

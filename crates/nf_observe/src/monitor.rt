@@ -2,10 +2,10 @@
 
 mod build;
 
-use crate::first_seen::FirstSeen;
 use crate::flow::{Endpoint, FiveTuple, FlowCounts};
 pub use build::MonitorLine;
 use chain_walk::Verdict;
+use first_sight::FirstSeen;
 use frame_seen::{seen_address, seen_port};
 use packet_fields::Field;
 use packet_version::{View, unwritten_stays};
@@ -19,10 +19,12 @@ pub struct Monitor {
 }
 
 impl Monitor {
-    ghost use Rattle.std.specs.Prelude.{◌≡◌, ◌++◌, OnOk, OnErr, IfOk};
+    ghost use Rattle.std.specs.Prelude.{◌≡◌, ◌<◌, ◌++◌, [], length, slice_index_or, OnOk, OnErr, IfOk};
+    ghost use Rattle.std.specs.List.{flat_map};
     ghost use Rattle.packet_version.specs.Views.{viewed, wrote_all};
     ghost use Rattle.nf_observe.specs.Flows.{counted};
     ghost use Rattle.nf_observe.specs.Monitors.{monitor_behaviour, monitor_text};
+    ghost use Rattle.nf_observe.specs.StateRows.{monitor_rows};
 
     /// Counts one packet, which it sees through a view of a monitor's profile. It passes every packet and
     /// writes nothing. Where there is no memory for a new flow, nothing changes.
@@ -48,7 +50,24 @@ impl Monitor {
         ensures lines { OnOk result (out.new.items ≡ out.old.items ++ monitor_text self.now) }
         ensures stays { OnErr result (out.new.items ≡ out.old.items) }
     {
-        self.flows.push_lines(out)
+        self.flows.push_lines(self, out)
+    }
+
+    /// How many lines its state has: one for each flow.
+    pub fn state_count(&self) -> usize
+        ensures count { result ≡ length (monitor_rows self.now) }
+        ensures told { flat_map (λ row. row) (monitor_rows self.now) ≡ monitor_text self.now }
+    {
+        self.flows.line_count(self)
+    }
+
+    /// Appends the line of its state at a place, counted from 0. Where memory runs out, it appends nothing.
+    pub fn state_line(&self, place: usize, out: &mut Vec<u8>) -> Result<(), AllocError>
+        requires inside { place < length (monitor_rows self.now) }
+        ensures line { OnOk result (out.new.items ≡ out.old.items ++ slice_index_or (monitor_rows self.now) place []) }
+        ensures stays { OnErr result (out.new.items ≡ out.old.items) }
+    {
+        self.flows.push_line(self, place, out)
     }
 
     // Counts a packet of this flow, which has so many bytes.
@@ -57,7 +76,8 @@ impl Monitor {
         ensures stays { OnErr result (self.new ≡ self.old) }
     {
         let counts = self.flows.get(&flow).unwrap_or(FlowCounts::NONE);
-        self.flows.note(flow, counts.with_packet(bytes))
+        self.flows.note(flow, counts.with_packet(bytes))?;
+        Ok(())
     }
 }
 

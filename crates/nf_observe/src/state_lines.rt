@@ -1,78 +1,94 @@
 //! The lines that tell a state.
-ghost use Rattle.std.specs.Prelude.{◌≡◌, IfOk};
+ghost use Rattle.std.specs.Prelude.{◌≡◌, ◌++◌, OnOk};
 ghost use Rattle.nf_observe.specs.StateLines.{port_text, endpoint_text};
 
-use crate::address::dotted;
 use crate::bucket::TokenBucket;
-use crate::first_seen::StateLine;
 use crate::flow::{Endpoint, FiveTuple, FlowCounts};
+use crate::limiter::Limiter;
+use crate::monitor::Monitor;
+use first_sight::{EntryLines, push_address};
 use std::alloc::{AllocError, Global};
 use text_lines::Piece::{Number, Text};
-use text_lines::{join, line};
+use text_lines::{push_line, push_pieces};
 
-impl StateLine<FiveTuple> for FlowCounts {
+impl EntryLines<FiveTuple, FlowCounts> for Monitor {
     ghost use Rattle.nf_observe.specs.StateLines.{flow_line};
 
-    ghost line = { flow_line };
+    ghost line = { λ monitor place flow. flow_line flow.0 flow.1 };
 
     #[tactic(auto, unfolding(crate::specs::StateLines::flow_line))]
-    fn line(&self, alloc: Global, flow: &FiveTuple) -> Result<Vec<u8>, AllocError> {
-        let source = endpoint_text(alloc, &flow.source)?;
-        let destination = endpoint_text(alloc, &flow.destination)?;
-        line(
+    fn push_entry(
+        &self,
+        alloc: Global,
+        text: &mut Vec<u8>,
+        _place: usize,
+        flow: &FiveTuple,
+        counts: &FlowCounts,
+    ) -> Result<(), AllocError> {
+        push_pieces(
             alloc,
+            text,
+            &[Text(b"  flow "), Number(flow.proto as u64), Text(b" ")],
+        )?;
+        push_endpoint(alloc, text, &flow.source)?;
+        push_pieces(alloc, text, &[Text(b" ")])?;
+        push_endpoint(alloc, text, &flow.destination)?;
+        push_line(
+            alloc,
+            text,
             &[
-                Text(b"  flow "),
-                Number(flow.proto as u64),
-                Text(b" "),
-                Text(&source),
-                Text(b" "),
-                Text(&destination),
                 Text(b" packets "),
-                Number(self.packets),
+                Number(counts.packets),
                 Text(b" bytes "),
-                Number(self.bytes),
+                Number(counts.bytes),
             ],
         )
     }
 }
 
-impl StateLine<u32> for TokenBucket {
+impl EntryLines<u32, TokenBucket> for Limiter {
     ghost use Rattle.nf_observe.specs.StateLines.{source_line};
 
-    ghost line = { source_line };
+    ghost line = { λ limiter place source. source_line source.0 source.1 };
 
     #[tactic(auto, unfolding(crate::specs::StateLines::source_line))]
-    fn line(&self, alloc: Global, source: &u32) -> Result<Vec<u8>, AllocError> {
-        let address = dotted(alloc, *source)?;
-        line(
+    fn push_entry(
+        &self,
+        alloc: Global,
+        text: &mut Vec<u8>,
+        _place: usize,
+        source: &u32,
+        bucket: &TokenBucket,
+    ) -> Result<(), AllocError> {
+        push_pieces(alloc, text, &[Text(b"  source ")])?;
+        push_address(alloc, text, *source)?;
+        push_line(
             alloc,
+            text,
             &[
-                Text(b"  source "),
-                Text(&address),
                 Text(b" tokens "),
-                Number(self.tokens),
+                Number(bucket.tokens),
                 Text(b" at "),
-                Number(self.moment),
+                Number(bucket.moment),
             ],
         )
     }
 }
 
 #[tactic(auto, unfolding(crate::specs::StateLines::endpoint_text))]
-fn endpoint_text(alloc: Global, endpoint: &Endpoint) -> Result<Vec<u8>, AllocError>
-    ensures { IfOk result (λ text. text.items ≡ endpoint_text endpoint.now) }
+fn push_endpoint(alloc: Global, text: &mut Vec<u8>, endpoint: &Endpoint) -> Result<(), AllocError>
+    ensures { OnOk result (text.new.items ≡ text.old.items ++ endpoint_text endpoint.now) }
 {
-    let address = dotted(alloc, endpoint.address)?;
-    let port = port_text(alloc, endpoint.port)?;
-    join(alloc, &[Text(&address), Text(b" "), Text(&port)])
+    push_address(alloc, text, endpoint.address)?;
+    push_pieces(alloc, text, &[Text(b" ")])?;
+    push_port(alloc, text, endpoint.port)
 }
 
-fn port_text(alloc: Global, port: Option<u16>) -> Result<Vec<u8>, AllocError>
-    ensures { IfOk result (λ text. text.items ≡ port_text port) }
+fn push_port(alloc: Global, text: &mut Vec<u8>, port: Option<u16>) -> Result<(), AllocError>
+    ensures { OnOk result (text.new.items ≡ text.old.items ++ port_text port) }
 {
     match port {
-        Some(port) => join(alloc, &[Number(port as u64)]),
-        None => join(alloc, &[Text(b"-")]),
+        Some(port) => push_pieces(alloc, text, &[Number(port as u64)]),
+        None => push_pieces(alloc, text, &[Text(b"-")]),
     }
 }

@@ -9,6 +9,7 @@ use Rattle.chain_walk.specs.Shown.{Values}
 use Rattle.chain_walk.specs.Step.{Step, stepped}
 use Rattle.chain_walk.specs.declared.fixed.Fixed.{Fixed}
 use Rattle.function_lines.specs.KindLines.{refused_line}
+use Rattle.first_sight.specs.Addresses.{dotted}
 use Rattle.nf_translate.specs.BalancerLines.{line_of, balancer_lines}
 use Rattle.nf_translate.specs.Balancers.{PlainBalancer, balancer_of, balancer_behaviour, flow_line, flow_lines}
 
@@ -82,5 +83,5 @@ unfolding line_of declared step once first packet tcp
 passed_by = refl
 
 two_lines : flow_lines twice ≡ codes "  flow 6 192.168.0.7 256 backend 10.0.1.1\n  flow 6 192.168.0.7 257 backend 10.0.1.2\n"
-unfolding line_of declared step twice once first other packet tcp flow_line digits
+unfolding line_of declared step twice once first other packet tcp flow_line dotted digits
 two_lines = refl

@@ -3,6 +3,4 @@ pub mod Building
 pub mod Known
 pub mod NatRows
 pub mod OrderedPorts
-pub mod Places
 pub mod Standing
-pub mod StateLines

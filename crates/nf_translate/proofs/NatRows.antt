@@ -10,6 +10,7 @@ use Rattle.chain_walk.specs.Step.{Step, stepped}
 use Rattle.chain_walk.specs.declared.fixed.Fixed.{Fixed}
 use Rattle.chain_walk.specs.declared.verdict.Verdict.TheVariants.{Drop}
 use Rattle.function_lines.specs.KindLines.{refused_line}
+use Rattle.first_sight.specs.Addresses.{dotted}
 use Rattle.nf_translate.specs.NatLines.{line_of, nat_lines}
 use Rattle.nf_translate.specs.Nats.{PlainNat, nat_of, nat_behaviour, mapping_line, mapping_lines}
 
@@ -118,5 +119,5 @@ unfolding line_of declared step returns packet with_protocol
 nobody_there = refl
 
 two_lines : mapping_lines twice ≡ codes "  map 6 10.0.0.5 256 port 4000\n  map 6 10.0.0.6 256 port 4001\n"
-unfolding line_of declared step twice once leaves packet with_protocol mapping_line digits
+unfolding line_of declared step twice once leaves packet with_protocol mapping_line dotted digits
 two_lines = refl

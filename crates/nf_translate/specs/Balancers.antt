@@ -1,6 +1,5 @@
 -- Believed: a balancer: how it is declared, what it does as a function of a chain, and the lines of its state.
 use Rattle.std.specs.Prelude.{ℕ, ◌%◌, List, [], ◌∷◌, ◌++◌, length, slice_index, ◌==◌, if◌then◌else◌, Option, Some, None, fold, codes}
-use Rattle.std.specs.List.{flat_map, enumerate_from}
 use Rattle.std.specs.Option.{option_and_then}
 use Rattle.std.specs.Fmt.{decimal}
 use Rattle.packet_fields.specs.declared.field.Field.TheVariants.{DstIp}
@@ -14,11 +13,13 @@ use Rattle.chain_walk.specs.Step.{Step, Behaviour, nothing}
 use Rattle.chain_walk.specs.declared.verdict.Verdict.TheVariants.{Pass}
 use Rattle.function_lines.specs.KindLines.{said_by}
 use Rattle.text_lines.specs.Texts.{line_of}
+use Rattle.first_sight.specs.Addresses.{dotted}
+use Rattle.first_sight.specs.FirstSight.{lines_by}
 use Rattle.nf_translate.specs.declared.endpoint.Endpoint.{Endpoint}
 use Rattle.nf_translate.specs.declared.balancer.BalancerSettings.{BalancerSettings}
 use Rattle.nf_translate.specs.declared.balancer_lines.BalancerLine.{BalancerLine}
 use Rattle.nf_translate.specs.declared.balancer_lines.BalancerLine.TheVariants as lines
-use Rattle.nf_translate.specs.Addresses.{address_bytes, dotted}
+use Rattle.nf_translate.specs.Addresses.{address_bytes}
 use Rattle.nf_translate.specs.Endpoints.{place_of, with_endpoint, source_of}
 use Rattle.nf_translate.specs.BalancerLines.{balancer_lines}
 
@@ -79,4 +80,4 @@ flow_line s place flow = line_of (codes "  flow " ∷ decimal flow.proto ∷ cod
 
 -- the lines in which a balancer tells its flows
 abbrev pub flow_lines : PlainBalancer → List ℕ
-flow_lines b = flat_map (λ flow. flow_line b.settings flow.0 flow.1) (enumerate_from 0 b.flows)
+flow_lines b = lines_by (flow_line b.settings) b.flows

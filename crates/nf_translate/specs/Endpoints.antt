@@ -1,7 +1,7 @@
 -- Believed: endpoints of flows, and the order in which they were first seen.
-use Rattle.std.specs.Prelude.{ℕ, List, [], ◌∷◌, ◌++◌, Bool, ◌==◌, ◌&&◌, if◌then◌else◌, Option, Some, None}
-use Rattle.std.specs.List.{list_any, position_or_len}
+use Rattle.std.specs.Prelude.{ℕ, List, Bool, ◌==◌, ◌&&◌, Option, Some, None}
 use Rattle.std.specs.Option.{option_map, option_and_then}
+use Rattle.first_sight.specs.FirstSight as sight
 use Rattle.policy_text.specs.declared.seen.Seen.{Seen}
 use Rattle.nf_translate.specs.declared.endpoint.Endpoint.{Endpoint}
 
@@ -11,15 +11,15 @@ is_same a b = a.proto == b.proto && (a.address == b.address && a.port == b.port)
 
 -- the place of an endpoint, counted from 0; one that isn't known goes behind the others
 abbrev pub place_of : List Endpoint → Endpoint → ℕ
-place_of known endpoint = position_or_len (is_same endpoint) known
+place_of known endpoint = sight.place_of is_same known endpoint
 
 -- the endpoint is among these
 abbrev pub is_known : List Endpoint → Endpoint → Bool
-is_known known endpoint = list_any (is_same endpoint) known
+is_known known endpoint = sight.is_seen is_same known endpoint
 
 -- the endpoints that are known once this one was seen
 abbrev pub with_endpoint : List Endpoint → Endpoint → List Endpoint
-with_endpoint known endpoint = if is_known known endpoint then known else known ++ endpoint ∷ []
+with_endpoint known endpoint = sight.seen_with is_same known endpoint
 
 -- an endpoint, where its protocol, its address and its port are there
 abbrev pub endpoint_of : Option ℕ → Option ℕ → Option ℕ → Option Endpoint

@@ -8,3 +8,4 @@ pub mod Nats
 pub mod NatViews
 pub mod NatLaws
 pub mod Standing
+pub mod StateRows

@@ -1,6 +1,5 @@
 -- Believed: a translation of addresses and ports (RFC 3022): how it is declared, what it does as a function of a chain, and the lines of its state.
 use Rattle.std.specs.Prelude.{ℕ, ◌+◌, ◌-◌, List, [], ◌∷◌, slice_get, ◌==◌, nat_le, if◌then◌else◌, Option, Some, None, fold, codes}
-use Rattle.std.specs.List.{flat_map, enumerate_from}
 use Rattle.std.specs.Option.{option_and_then}
 use Rattle.std.specs.Fmt.{decimal}
 use Rattle.packet_fields.specs.declared.field.Field.TheVariants.{SrcIp, DstIp, SrcPort, DstPort}
@@ -14,11 +13,13 @@ use Rattle.chain_walk.specs.Step.{Step, Behaviour, nothing}
 use Rattle.chain_walk.specs.declared.verdict.Verdict.TheVariants.{Pass, Drop}
 use Rattle.function_lines.specs.KindLines.{said_by}
 use Rattle.text_lines.specs.Texts.{line_of}
+use Rattle.first_sight.specs.Addresses.{dotted}
+use Rattle.first_sight.specs.FirstSight.{lines_by}
 use Rattle.nf_translate.specs.declared.endpoint.Endpoint.{Endpoint}
 use Rattle.nf_translate.specs.declared.nat.NatSettings.{NatSettings}
 use Rattle.nf_translate.specs.declared.nat_lines.NatLine.{NatLine}
 use Rattle.nf_translate.specs.declared.nat_lines.NatLine.TheVariants as lines
-use Rattle.nf_translate.specs.Addresses.{address_bytes, port_bytes, dotted}
+use Rattle.nf_translate.specs.Addresses.{address_bytes, port_bytes}
 use Rattle.nf_translate.specs.Endpoints.{place_of, with_endpoint, ends_of}
 use Rattle.nf_translate.specs.NatLines.{nat_lines}
 
@@ -117,4 +118,4 @@ mapping_line s place inside = line_of (codes "  map " ∷ decimal inside.proto �
 
 -- the lines in which a translation tells its mappings
 abbrev pub mapping_lines : PlainNat → List ℕ
-mapping_lines n = flat_map (λ mapping. mapping_line n.settings mapping.0 mapping.1) (enumerate_from 0 n.mappings)
+mapping_lines n = lines_by (mapping_line n.settings) n.mappings

@@ -1,34 +1,6 @@
-//! Addresses: within a prefix, and as text.
-ghost use Rattle.std.specs.Prelude.{◌≡◌, ◌++◌, OnOk};
+//! Addresses within a prefix.
+ghost use Rattle.std.specs.Prelude.{◌≡◌};
 ghost use Rattle.policy_text.specs.Meeting.{first_bits, is_within};
-ghost use Rattle.nf_translate.specs.Addresses.{dotted};
-
-use std::alloc::{AllocError, Global};
-use text_lines::{Piece, push_pieces};
-
-/// Adds an address as four decimal numbers parted by dots (RFC 791, 3.1), the highest byte first.
-pub(crate) fn push_address(
-    alloc: Global,
-    text: &mut Vec<u8>,
-    address: u32,
-) -> Result<(), AllocError>
-    ensures { OnOk result (text.new.items ≡ text.old.items ++ dotted address) }
-{
-    let [a, b, c, d] = address.to_be_bytes();
-    push_pieces(
-        alloc,
-        text,
-        &[
-            Piece::Number(u64::from(a)),
-            Piece::Text(b"."),
-            Piece::Number(u64::from(b)),
-            Piece::Text(b"."),
-            Piece::Number(u64::from(c)),
-            Piece::Text(b"."),
-            Piece::Number(u64::from(d)),
-        ],
-    )
-}
 
 /// Does an address begin with the prefix's first bits?
 pub(crate) fn is_within(prefix: u32, bits: u8, address: u32) -> bool

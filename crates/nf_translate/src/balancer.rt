@@ -1,9 +1,7 @@
 //! A balancer, and what it does with a packet.
-use crate::addresses::push_address;
 use crate::endpoint::Endpoint;
-use crate::endpoints::Endpoints;
-use crate::undoing::whole_or_nothing;
 use chain_walk::Verdict;
+use first_sight::{EntryLines, FirstSeen, lines_of_keys, push_address};
 use frame_seen::{seen_address, seen_port};
 use item_list::Items;
 use packet_fields::Field;
@@ -25,25 +23,29 @@ pub struct BalancerSettings {
 #[derive(Debug, Drop)]
 pub struct Balancer {
     settings: BalancerSettings,
-    flows: Endpoints,
+    // A flow's place is all that is kept of it.
+    flows: FirstSeen<Endpoint, ()>,
 }
 
 impl Model for Balancer {
     ghost use Rattle.std.specs.Prelude.{◌<◌, length};
+    ghost use Rattle.std.specs.Map.{keys_of};
     ghost use Rattle.nf_translate.specs.Balancers.{PlainBalancer};
 
     ghost Value = { PlainBalancer };
 
-    ghost view = { λ b. record { settings = b.settings; flows = b.flows } };
+    ghost view = { λ b. record { settings = b.settings; flows = keys_of b.flows } };
 
     ghost invariant = { λ b. 0 < length b.settings.backends };
 }
 
 impl Balancer {
-    ghost use Rattle.std.specs.Prelude.{◌≡◌, ◌<◌, ◌++◌, [], length, take, IfOk, OnOk, OnErr};
+    ghost use Rattle.std.specs.Prelude.{◌≡◌, ◌<◌, ◌++◌, [], length, slice_index_or, IfOk, OnOk, OnErr};
+    ghost use Rattle.std.specs.List.{flat_map};
     ghost use Rattle.packet_version.specs.Views.{viewed, wrote_all};
     ghost use Rattle.nf_translate.specs.Endpoints.{place_of, with_endpoint};
     ghost use Rattle.nf_translate.specs.Balancers.{backend_at, balancer_behaviour, flow_lines};
+    ghost use Rattle.nf_translate.specs.StateRows.{flow_rows};
 
     /// A balancer that has seen no flow.
     pub(crate) fn new(alloc: Global, settings: BalancerSettings) -> Self
@@ -52,7 +54,7 @@ impl Balancer {
     {
         Balancer {
             settings,
-            flows: Endpoints::new(alloc),
+            flows: FirstSeen::new(alloc),
         }
     }
 
@@ -84,7 +86,7 @@ impl Balancer {
         ensures after { OnOk result (self.new ≡ record self.old { flows = with_endpoint self.old.flows flow }) }
         ensures stays { OnErr result (self.new ≡ self.old) }
     {
-        let place = self.flows.see(flow)?;
+        let place = self.flows.note(flow, ())?;
         Ok(backend_at(&self.settings, place))
     }
 
@@ -94,35 +96,76 @@ impl Balancer {
         ensures lines { OnOk result (out.new.items ≡ out.old.items ++ flow_lines self.now) }
         ensures stays { OnErr result (out.new.items ≡ out.old.items) }
     {
-        let len = out.len();
-        let done = self.push_flows(out);
-        whole_or_nothing(out, len, done)
+        // A line tells of a flow its place and its key, and the list of the flows is that of the keys.
+        lines_of_keys::<Endpoint, ()>();
+        self.flows.push_lines(self, out)
     }
 
-    // Adds the lines. Where memory runs out, some of them may stand behind what was there.
-    #[tactic(auto, using(crate::proofs::StateLines::one_more_behind, crate::proofs::StateLines::begun))]
-    fn push_flows(&self, out: &mut Vec<u8>) -> Result<(), AllocError>
-        ensures lines { OnOk result (out.new.items ≡ out.old.items ++ flow_lines self.now) }
-        ensures begun { take (length out.old.items) out.new.items ≡ out.old.items }
+    /// How many lines its state has: one for each flow.
+    pub fn state_count(&self) -> usize
+        ensures count { result ≡ length (flow_rows self.now) }
+        ensures told { flat_map (λ row. row) (flow_rows self.now) ≡ flow_lines self.now }
     {
-        let alloc = *out.allocator();
-        let mut line = Vec::new(alloc);
-        'flows: for (place, flow) in self.flows.as_slice().iter().enumerate() {
-            line.clear();
-            push_flow(alloc, &mut line, &self.settings, place, flow)?;
-            out.extend_from_slice(&line)?;
-        }
-        Ok(())
+        lines_of_keys::<Endpoint, ()>();
+        self.flows.line_count(self)
+    }
+
+    /// Appends the line of its state at a place, counted from 0. Where memory runs out, it appends nothing.
+    pub fn state_line(&self, place: usize, out: &mut Vec<u8>) -> Result<(), AllocError>
+        requires inside { place < length (flow_rows self.now) }
+        ensures line { OnOk result (out.new.items ≡ out.old.items ++ slice_index_or (flow_rows self.now) place []) }
+        ensures stays { OnErr result (out.new.items ≡ out.old.items) }
+    {
+        lines_of_keys::<Endpoint, ()>();
+        self.flows.push_line(self, place, out)
     }
 }
 
-ghost use Rattle.std.specs.Prelude.{◌≡◌, ◌<◌, ◌++◌, length, IsSome, OnOk};
+impl EntryLines<Endpoint, ()> for Balancer {
+    ghost use Rattle.nf_translate.specs.Balancers.{flow_line};
+
+    ghost line = { λ b place flow. flow_line b.settings place flow.0 };
+
+    #[tactic(auto, unfolding(crate::specs::Balancers::flow_line))]
+    fn push_entry(
+        &self,
+        alloc: Global,
+        text: &mut Vec<u8>,
+        place: usize,
+        flow: &Endpoint,
+        _nothing: &(),
+    ) -> Result<(), AllocError> {
+        push_pieces(
+            alloc,
+            text,
+            &[
+                Piece::Text(b"  flow "),
+                Piece::Number(u64::from(flow.proto)),
+                Piece::Text(b" "),
+            ],
+        )?;
+        push_address(alloc, text, flow.address)?;
+        push_pieces(
+            alloc,
+            text,
+            &[
+                Piece::Text(b" "),
+                Piece::Number(u64::from(flow.port)),
+                Piece::Text(b" backend "),
+            ],
+        )?;
+        push_address(alloc, text, backend_at(&self.settings, place))?;
+        push_line(alloc, text, &[])
+    }
+}
+
+ghost use Rattle.std.specs.Prelude.{◌≡◌, ◌<◌, length, IsSome};
 ghost use Rattle.action_profile.specs.Profiles.{profile_of};
 ghost use Rattle.action_profile.specs.declared.kind.Kind.{Kind};
 ghost use Rattle.packet_fields.specs.declared.field.Field.{Field};
 ghost use Rattle.frame_seen.specs.Seeing.{seen_by};
 ghost use Rattle.packet_version.specs.Views.{seen_values, HasBytes};
-ghost use Rattle.nf_translate.specs.Balancers.{backend_at, flow_of, flow_line};
+ghost use Rattle.nf_translate.specs.Balancers.{backend_at, flow_of};
 
 /// The backend of the flow at a place.
 fn backend_at(settings: &BalancerSettings, place: usize) -> u32
@@ -148,39 +191,4 @@ fn flow_in(settings: &BalancerSettings, view: &View) -> Option<Endpoint>
         address: seen_address(view.get(Field::SrcIp))?,
         port: seen_port(view.get(Field::SrcPort))?,
     })
-}
-
-/// Adds the line of the flow at a place.
-#[tactic(auto, unfolding(crate::specs::Balancers::flow_line))]
-fn push_flow(
-    alloc: Global,
-    text: &mut Vec<u8>,
-    settings: &BalancerSettings,
-    place: usize,
-    flow: &Endpoint,
-) -> Result<(), AllocError>
-    requires { 0 < length settings.now.backends }
-    ensures { OnOk result (text.new.items ≡ text.old.items ++ flow_line settings.now place flow.now) }
-{
-    push_pieces(
-        alloc,
-        text,
-        &[
-            Piece::Text(b"  flow "),
-            Piece::Number(u64::from(flow.proto)),
-            Piece::Text(b" "),
-        ],
-    )?;
-    push_address(alloc, text, flow.address)?;
-    push_pieces(
-        alloc,
-        text,
-        &[
-            Piece::Text(b" "),
-            Piece::Number(u64::from(flow.port)),
-            Piece::Text(b" backend "),
-        ],
-    )?;
-    push_address(alloc, text, backend_at(settings, place))?;
-    push_line(alloc, text, &[])
 }

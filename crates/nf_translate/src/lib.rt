@@ -20,8 +20,8 @@
 //! In other words than the steps: [`flows_keep_their_backends`], [`packets_come_back`] and
 //! [`ports_run_out_once_all_are_taken`].
 //!
-//! An endpoint is found by its key, and a mapping by its public port: nothing is searched. Flows and
-//! mappings are never forgotten, so memory alone limits the flows of a balancer.
+//! An endpoint is found by its key (`first_sight::FirstSeen`), and a mapping by its public port: nothing is
+//! searched. Flows and mappings are never forgotten, so memory alone limits the flows of a balancer.
 #![tactic(auto)]
 
 mod addresses;
@@ -29,12 +29,10 @@ mod balancer;
 mod balancer_build;
 mod balancer_lines;
 mod endpoint;
-mod endpoints;
 mod laws;
 mod nat;
 mod nat_build;
 mod nat_lines;
-mod undoing;
 
 pub use balancer::{Balancer, BalancerSettings};
 pub use endpoint::Endpoint;

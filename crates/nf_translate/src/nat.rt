@@ -1,9 +1,8 @@
 //! A translation of addresses and ports, and what it does with a packet.
-use crate::addresses::{is_within, push_address};
+use crate::addresses::is_within;
 use crate::endpoint::Endpoint;
-use crate::endpoints::Endpoints;
-use crate::undoing::whole_or_nothing;
 use chain_walk::Verdict;
+use first_sight::{EntryLines, FirstSeen, lines_of_keys, push_address};
 use frame_seen::{seen_address, seen_port};
 use packet_fields::Field;
 use packet_version::{View, later_write_stands_over, unwritten_stays, written_is_one_value};
@@ -28,23 +27,27 @@ pub struct NatSettings {
 #[derive(Debug, Drop)]
 pub struct Nat {
     settings: NatSettings,
-    mappings: Endpoints,
+    // A mapping's place is all that is kept of it.
+    mappings: FirstSeen<Endpoint, ()>,
 }
 
 impl Model for Nat {
+    ghost use Rattle.std.specs.Map.{keys_of};
     ghost use Rattle.nf_translate.specs.Nats.{PlainNat};
 
     ghost Value = { PlainNat };
 
-    ghost view = { λ n. record { settings = n.settings; mappings = n.mappings } };
+    ghost view = { λ n. record { settings = n.settings; mappings = keys_of n.mappings } };
 }
 
 impl Nat {
-    ghost use Rattle.std.specs.Prelude.{◌≡◌, ◌++◌, [], length, take, IfOk, OnOk, OnErr};
+    ghost use Rattle.std.specs.Prelude.{◌≡◌, ◌<◌, ◌++◌, [], length, slice_index_or, IfOk, OnOk, OnErr};
+    ghost use Rattle.std.specs.List.{flat_map};
     ghost use Rattle.packet_version.specs.Views.{viewed, wrote_all};
     ghost use Rattle.nf_translate.specs.Endpoints.{place_of, with_endpoint};
     ghost use Rattle.nf_translate.specs.NatViews.{HasSource, HasDestination};
     ghost use Rattle.nf_translate.specs.Nats.{leaving, coming, mapped, mapping_lines, nat_behaviour, port_at};
+    ghost use Rattle.nf_translate.specs.StateRows.{mapping_rows};
 
     /// A translation without a mapping.
     pub(crate) fn new(alloc: Global, settings: NatSettings) -> Self
@@ -52,7 +55,7 @@ impl Nat {
     {
         Nat {
             settings,
-            mappings: Endpoints::new(alloc),
+            mappings: FirstSeen::new(alloc),
         }
     }
 
@@ -100,7 +103,7 @@ impl Nat {
             return Ok(Verdict::Drop);
         };
         let address = self.settings.public_address;
-        self.mappings.see(source)?;
+        self.mappings.note(source, ())?;
         write_source(view, address, port);
         Ok(Verdict::Pass)
     }
@@ -129,7 +132,7 @@ impl Nat {
         ensures { result ≡ mapped self.now public }
     {
         let place = place_at(self.settings, public.port)?;
-        let inside = *self.mappings.as_slice().get(place)?;
+        let inside = *self.mappings.keys().get(place)?;
         if inside.proto == public.proto {
             Some(inside)
         } else {
@@ -143,35 +146,75 @@ impl Nat {
         ensures lines { OnOk result (out.new.items ≡ out.old.items ++ mapping_lines self.now) }
         ensures stays { OnErr result (out.new.items ≡ out.old.items) }
     {
-        let len = out.len();
-        let done = self.push_mappings(out);
-        whole_or_nothing(out, len, done)
+        // A line tells of a mapping its place and its key, and the list of the mappings is that of the keys.
+        lines_of_keys::<Endpoint, ()>();
+        self.mappings.push_lines(self, out)
     }
 
-    // Adds the lines. Where memory runs out, some of them may stand behind what was there.
-    #[tactic(auto, using(crate::proofs::StateLines::one_more_behind, crate::proofs::StateLines::begun))]
-    fn push_mappings(&self, out: &mut Vec<u8>) -> Result<(), AllocError>
-        ensures lines { OnOk result (out.new.items ≡ out.old.items ++ mapping_lines self.now) }
-        ensures begun { take (length out.old.items) out.new.items ≡ out.old.items }
+    /// How many lines its state has: one for each mapping.
+    pub fn state_count(&self) -> usize
+        ensures count { result ≡ length (mapping_rows self.now) }
+        ensures told { flat_map (λ row. row) (mapping_rows self.now) ≡ mapping_lines self.now }
     {
-        let alloc = *out.allocator();
-        let mut line = Vec::new(alloc);
-        'mappings: for (place, mapping) in self.mappings.as_slice().iter().enumerate() {
-            line.clear();
-            push_mapping(alloc, &mut line, &self.settings, place, mapping)?;
-            out.extend_from_slice(&line)?;
-        }
-        Ok(())
+        lines_of_keys::<Endpoint, ()>();
+        self.mappings.line_count(self)
+    }
+
+    /// Appends the line of its state at a place, counted from 0. Where memory runs out, it appends nothing.
+    pub fn state_line(&self, place: usize, out: &mut Vec<u8>) -> Result<(), AllocError>
+        requires inside { place < length (mapping_rows self.now) }
+        ensures line { OnOk result (out.new.items ≡ out.old.items ++ slice_index_or (mapping_rows self.now) place []) }
+        ensures stays { OnErr result (out.new.items ≡ out.old.items) }
+    {
+        lines_of_keys::<Endpoint, ()>();
+        self.mappings.push_line(self, place, out)
     }
 }
 
-ghost use Rattle.std.specs.Prelude.{◌≡◌, ◌<◌, ◌^◌, ◌++◌, IsSome, OnOk};
+impl EntryLines<Endpoint, ()> for Nat {
+    ghost use Rattle.nf_translate.specs.Nats.{mapping_line};
+
+    ghost line = { λ n place mapping. mapping_line n.settings place mapping.0 };
+
+    #[tactic(auto, unfolding(crate::specs::Nats::mapping_line))]
+    fn push_entry(
+        &self,
+        alloc: Global,
+        text: &mut Vec<u8>,
+        place: usize,
+        inside: &Endpoint,
+        _nothing: &(),
+    ) -> Result<(), AllocError> {
+        push_pieces(
+            alloc,
+            text,
+            &[
+                Piece::Text(b"  map "),
+                Piece::Number(u64::from(inside.proto)),
+                Piece::Text(b" "),
+            ],
+        )?;
+        push_address(alloc, text, inside.address)?;
+        push_line(
+            alloc,
+            text,
+            &[
+                Piece::Text(b" "),
+                Piece::Number(u64::from(inside.port)),
+                Piece::Text(b" port "),
+                Piece::Number(public_port(self.settings, place)),
+            ],
+        )
+    }
+}
+
+ghost use Rattle.std.specs.Prelude.{◌≡◌, ◌<◌, ◌^◌, IsSome};
 ghost use Rattle.action_profile.specs.Profiles.{profile_of};
 ghost use Rattle.action_profile.specs.declared.kind.Kind.{Kind};
 ghost use Rattle.frame_seen.specs.Seeing.{seen_by};
 ghost use Rattle.packet_version.specs.Views.{seen_values, wrote_all};
 ghost use Rattle.nf_translate.specs.Endpoints.{ends_of, source_of, destination_of};
-ghost use Rattle.nf_translate.specs.Nats.{from, to, mapping_line, public_port, port_at, place_at};
+ghost use Rattle.nf_translate.specs.Nats.{from, to, public_port, port_at, place_at};
 ghost use Rattle.nf_translate.specs.NatViews.{HasSource, HasDestination};
 
 /// The public port of the mapping at a place, where it is one of those that are set.
@@ -259,38 +302,4 @@ fn write_destination(view: &mut View, address: u32, port: u16)
     view.set(Field::DstPort, &port.to_be_bytes());
     written_is_one_value();
     later_write_stands_over();
-}
-
-/// Adds the line of the mapping at a place.
-#[tactic(auto, unfolding(crate::specs::Nats::mapping_line))]
-fn push_mapping(
-    alloc: Global,
-    text: &mut Vec<u8>,
-    settings: &NatSettings,
-    place: usize,
-    inside: &Endpoint,
-) -> Result<(), AllocError>
-    requires { place < 2 ^ 63 }
-    ensures { OnOk result (text.new.items ≡ text.old.items ++ mapping_line settings.now place inside.now) }
-{
-    push_pieces(
-        alloc,
-        text,
-        &[
-            Piece::Text(b"  map "),
-            Piece::Number(u64::from(inside.proto)),
-            Piece::Text(b" "),
-        ],
-    )?;
-    push_address(alloc, text, inside.address)?;
-    push_line(
-        alloc,
-        text,
-        &[
-            Piece::Text(b" "),
-            Piece::Number(u64::from(inside.port)),
-            Piece::Text(b" port "),
-            Piece::Number(public_port(*settings, place)),
-        ],
-    )
 }

@@ -1,8 +1,8 @@
 //! Makes a limiter of the lines that declare it.
 
-use crate::first_seen::FirstSeen;
 use crate::limiter::Limiter;
 use crate::limiter::lines::LimiterLine;
+use first_sight::FirstSeen;
 use function_lines::read_lines;
 use item_list::Items;
 use policy_text::{BuildFault, FunctionDecl};

@@ -1,7 +1,7 @@
 //! Makes a monitor of the lines that declare it, of which there are none.
 
-use crate::first_seen::FirstSeen;
 use crate::monitor::Monitor;
+use first_sight::FirstSeen;
 use function_lines::{FunctionLine, read_lines};
 use policy_text::{BuildFault, FunctionDecl, Word};
 use std::alloc::{AllocError, Global};

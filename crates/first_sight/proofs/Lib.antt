@@ -1,0 +1,4 @@
+pub mod Noting
+pub mod Places
+pub mod Rows
+pub mod Telling

@@ -1,0 +1,81 @@
+//! A table in the order of first sight.
+
+use indexmap::IndexMap;
+use std::alloc::{AllocError, Global};
+use std::hash::Hash;
+use std::marker::Model;
+
+/// What belongs to each key, in the order in which the keys were first seen. A contract sees the list of the
+/// keys, each with what belongs to it. A key is found by its hash.
+#[derive(Debug, Drop)]
+pub struct FirstSeen<K: Eq + Hash, V> {
+    pub(crate) entries: IndexMap<K, V>,
+}
+
+impl<K: Eq + Hash, V> Model for FirstSeen<K, V> {
+    ghost use Rattle.std.specs.Prelude.{List};
+
+    ghost Value = { List (K × V) };
+
+    ghost view = { λ s. s.entries.entries };
+}
+
+impl<K: Eq + Hash, V> FirstSeen<K, V> {
+    ghost use Rattle.std.specs.Prelude.{◌≡◌, []};
+    ghost use Rattle.std.specs.Map.{keys_of};
+    ghost use Rattle.first_sight.specs.FirstSight.{place_of};
+
+    /// Has seen no key. Takes no memory.
+    pub fn new(alloc: Global) -> Self
+        ensures { result ≡ [] }
+    {
+        FirstSeen {
+            entries: IndexMap::new(alloc),
+        }
+    }
+
+    /// The keys, in the order of first sight.
+    pub fn keys(&self) -> &[K]
+        ensures { result.now ≡ keys_of self.now }
+    {
+        self.entries.keys().as_slice()
+    }
+
+    /// The place of a key, counted from 0. That of one that wasn't seen is behind the others.
+    #[tactic(auto, using(crate::proofs::Places::behind_all))]
+    pub fn place(&self, key: &K) -> usize
+        ensures { result ≡ place_of K.eq (keys_of self.now) key.now }
+    {
+        match self.entries.get_index_of(key) {
+            Some(place) => place,
+            None => self.entries.len(),
+        }
+    }
+}
+
+impl<K: Eq + Hash + Drop, V: Copy + Drop> FirstSeen<K, V> {
+    ghost use Rattle.std.specs.Prelude.{◌≡◌, None, IfOk, OnOk, OnErr};
+    ghost use Rattle.std.specs.Map.{keys_of};
+    ghost use Rattle.first_sight.specs.FirstSight.{belonging, noted, place_of, seen_with};
+
+    /// What belongs to a key that was seen.
+    pub fn get(&self, key: &K) -> Option<V>
+        ensures { result ≡ belonging K.eq self.now key.now }
+    {
+        self.entries.get(key).copied()
+    }
+
+    /// Gives this to a key, and answers the key's place, counted from 0. A key that was seen keeps its place, and
+    /// a new one goes last; where there is no memory for it, nothing changes.
+    pub fn note(&mut self, key: K, value: V) -> Result<usize, AllocError>
+        ensures noted { OnOk result (self.new ≡ noted K.eq self.old key value) }
+        ensures keys { OnOk result (keys_of self.new ≡ seen_with K.eq (keys_of self.old) key) }
+        ensures place { IfOk result (λ place. place ≡ place_of K.eq (keys_of self.old) key) }
+        // Only a new key takes memory.
+        ensures stays { OnErr result (self.new ≡ self.old) }
+        ensures absent { OnErr result (belonging K.eq self.old key ≡ None) }
+    {
+        let (place, _) = self.entries.insert_full(key, value)?;
+        Ok(place)
+    }
+}
