@@ -1,5 +1,5 @@
 -- Believed: a firewall: how it is declared, what it decides, and what it does as a function of a chain.
-use Rattle.std.specs.Prelude.{List, [], ◌∷◌, ◌++◌, Bool, true, false, fold}
+use Rattle.std.specs.Prelude.{List, [], ◌∷◌, ◌++◌, Bool, true, fold}
 use Rattle.std.specs.Option.{option_map_or}
 use Rattle.policy_text.specs.declared.policy.FunctionDecl.{FunctionDecl}
 use Rattle.policy_text.specs.declared.seen.Seen.{Seen}
@@ -8,14 +8,13 @@ use Rattle.action_profile.specs.Profiles.{profile_of}
 use Rattle.action_profile.specs.declared.kind.Kind.TheVariants as kinds
 use Rattle.chain_walk.specs.Shown.{Shown}
 use Rattle.chain_walk.specs.Step.{Step, Behaviour, nothing}
-use Rattle.chain_walk.specs.declared.verdict.Verdict.{Verdict}
-use Rattle.chain_walk.specs.declared.verdict.Verdict.TheVariants.{Pass, Drop}
 use Rattle.function_lines.specs.KindLines.{said_by}
 use Rattle.function_lines.specs.Rules.{first_met}
 use Rattle.nf_filter.specs.declared.firewall.Firewall.{Firewall}
 use Rattle.nf_filter.specs.declared.lines.FirewallLine.{FirewallLine}
 use Rattle.nf_filter.specs.declared.lines.FirewallLine.TheVariants as lines
 use Rattle.nf_filter.specs.Lines.{firewall_lines}
+use Rattle.nf_filter.specs.Verdicts.{verdict_by}
 
 -- without any line, every packet passes
 abbrev pub open_firewall : Firewall
@@ -37,11 +36,6 @@ firewall_of decl = firewall_by (said_by firewall_lines decl.settings)
 -- the first rule whose clauses are all met decides, and else the default
 unfoldable pub passes : Firewall → Seen → Bool
 passes f seen = option_map_or (λ rule. rule.allow) (first_met (λ rule. rule.fit) seen f.rules) f.default
-
--- a packet that doesn't pass is dropped
-abbrev pub verdict_by : Bool → Verdict
-verdict_by true = Pass
-verdict_by false = Drop
 
 -- a firewall judges by what it is shown, writes nothing, and stays as it is
 abbrev pub firewall_step : Firewall → Shown → Step Firewall

@@ -1,3 +1,6 @@
 pub mod Firewalls
 pub mod FirewallLaws
 pub mod Lines
+pub mod Signatures
+pub mod SignatureLaws
+pub mod Verdicts

@@ -1,4 +1,5 @@
 //! A firewall, and what it decides.
+use crate::verdict::verdict;
 use chain_walk::Verdict;
 use frame_seen::{seen_address, seen_port, seen_tags};
 use function_lines::{Fitting, first_met};
@@ -78,13 +79,6 @@ ghost use Rattle.action_profile.specs.Profiles.{profile_of};
 ghost use Rattle.action_profile.specs.declared.kind.Kind.{Kind};
 ghost use Rattle.frame_seen.specs.Seeing.{seen_by};
 ghost use Rattle.packet_version.specs.Views.{seen_values};
-ghost use Rattle.nf_filter.specs.Firewalls.{verdict_by};
-
-fn verdict(passes: bool) -> Verdict
-    ensures { result ≡ verdict_by passes }
-{
-    if passes { Verdict::Pass } else { Verdict::Drop }
-}
 
 /// What clauses see of the packet behind a view.
 fn seen_in(view: &View) -> Seen

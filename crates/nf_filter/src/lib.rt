@@ -11,11 +11,18 @@
 //! packet through a view of a version of it ([`Firewall::step`]). That it keeps to its profile is
 //! `firewall_keeps` of `specs/FirewallLaws.antt`.
 //!
-//! Patterns in a packet's data are not here yet.
+//! A [`Signature`] is a list of patterns, each of 1 to 256 bytes. It drops a packet exactly where one of them occurs in the packet's
+//! data, and writes nothing. The search for a pattern is made once, when the signature is built ([`Signature::build`]); a step
+//! searches the bytes that the view lends ([`Signature::step`]), and takes no memory. Its meaning is `signature_behaviour` of
+//! `specs/Signatures.antt`, and that it keeps to its profile is `signature_keeps` of `specs/SignatureLaws.antt`. A pattern that
+//! begins in one packet and ends in another is not found: no packet is remembered.
 #![tactic(auto)]
 
 mod build;
 mod firewall;
 mod lines;
+mod signature;
+mod verdict;
 
 pub use firewall::{Firewall, Rule};
+pub use signature::Signature;

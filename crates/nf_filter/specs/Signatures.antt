@@ -1,0 +1,34 @@
+-- For proofs: a signature: how it is declared, what it decides, and what it does as a function of a chain.
+use Rattle.std.specs.Prelude.{ℕ, List, Bool, false, not, Option, Some, None}
+use Rattle.packet_fields.specs.declared.field.Field.TheVariants.{Payload}
+use Rattle.policy_text.specs.declared.policy.FunctionDecl.{FunctionDecl}
+use Rattle.action_profile.specs.Profiles.{profile_of}
+use Rattle.action_profile.specs.declared.kind.Kind.TheVariants as kinds
+use Rattle.chain_walk.specs.Shown.{Shown}
+use Rattle.chain_walk.specs.Step.{Step, Behaviour, nothing}
+use Rattle.function_lines.specs.KindLines.{said_by}
+use Rattle.patterns.specs.Lines.{pattern_lines}
+use Rattle.patterns.specs.Occurrences.{some_occurs}
+use Rattle.nf_filter.specs.Verdicts.{verdict_by}
+use Rattle.nf_filter.specs.declared.signature.Signature.{Signature}
+
+-- the signature of these patterns
+abbrev pub signature_by : List (List ℕ) → Signature
+signature_by patterns = record { patterns = patterns }
+
+-- the signature that is declared
+abbrev pub signature_of : FunctionDecl → Signature
+signature_of decl = signature_by (said_by pattern_lines decl.settings)
+
+-- one of the patterns occurs in the payload, where there is one
+abbrev pub is_found : List (List ℕ) → Option (List ℕ) → Bool
+is_found patterns (Some payload) = some_occurs patterns payload
+is_found patterns None = false
+
+-- a signature drops what it finds a pattern in, writes nothing, and stays as it is
+abbrev pub signature_step : Signature → Shown → Step Signature
+signature_step s shown = record { after = s; verdict = verdict_by (not (is_found s.patterns (shown.values Payload))); written = nothing }
+
+-- how signatures behave
+abbrev pub signature_behaviour : Behaviour Signature
+signature_behaviour = record { profile = λ s. profile_of kinds.Signature; step = signature_step }

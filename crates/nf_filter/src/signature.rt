@@ -1,0 +1,72 @@
+//! A signature, and what it decides.
+use crate::verdict::verdict;
+use chain_walk::Verdict;
+use function_lines::read_lines;
+use item_list::Items;
+use packet_fields::Field;
+use packet_version::{View, unwritten_stays};
+use patterns::{Pattern, first_occurring};
+use policy_text::{BuildFault, FunctionDecl};
+use std::alloc::{AllocError, Global};
+
+/// Patterns, of which none may occur in a packet's data.
+#[derive(Debug, Drop)]
+pub struct Signature {
+    /// Each with the search for it, which was made when the signature was.
+    pub patterns: Items<Pattern>,
+}
+
+impl Signature {
+    ghost use Rattle.std.specs.Prelude.{◌≡◌, Ok, true, is_ok};
+    ghost use Rattle.action_profile.specs.declared.kind.Kind.{Kind};
+    ghost use Rattle.packet_version.specs.Views.{viewed, wrote_all};
+    ghost use Rattle.function_lines.specs.Builds.{Builds};
+    ghost use Rattle.patterns.specs.Lines.{pattern_lines};
+    ghost use Rattle.nf_filter.specs.Signatures.{signature_by, signature_behaviour};
+
+    /// Makes the signature that is declared, or names the least line of the declaration that is refused: one that is no
+    /// `rule` with a pattern.
+    pub fn build(alloc: Global, decl: &FunctionDecl) -> Result<Signature, BuildFault>
+        requires { decl.now.kind ≡ Kind.Signature }
+        ensures { Builds pattern_lines signature_by decl.now result }
+    {
+        let patterns = read_lines::<Pattern>(alloc, decl)?;
+        Ok(Signature { patterns })
+    }
+
+    /// Judges one packet through a view of a signature's profile, by the bytes that the view lends. It writes nothing
+    /// and takes no memory.
+    pub fn step(&mut self, view: &mut View) -> Result<Verdict, AllocError>
+        requires profile { view.old.profile ≡ signature_behaviour.profile self.old }
+        ensures after { self.new ≡ (viewed signature_behaviour self.old view.old).after }
+        ensures verdict { result ≡ Ok (viewed signature_behaviour self.old view.old).verdict }
+        ensures view { view.new ≡ wrote_all (viewed signature_behaviour self.old view.old).written view.old }
+    {
+        // Nothing is written, so the view is as it was.
+        unwritten_stays(view);
+        let passes = !is_found(self.patterns.as_slice(), view.get(Field::Payload));
+        Ok(verdict(passes))
+    }
+
+    /// Appends the lines of its state, of which a signature has none.
+    pub fn state_lines(&self, _out: &mut Vec<u8>) -> Result<(), AllocError>
+        ensures none { _out.new ≡ _out.old }
+        ensures never_fails { is_ok result ≡ true }
+    {
+        Ok(())
+    }
+}
+
+ghost use Rattle.std.specs.Prelude.{◌≡◌};
+ghost use Rattle.std.specs.Option.{option_copied};
+ghost use Rattle.nf_filter.specs.Signatures.{is_found};
+
+/// Does one of the patterns occur in the payload, where there is one?
+fn is_found(patterns: &[Pattern], payload: Option<&[u8]>) -> bool
+    ensures { result ≡ is_found patterns.now (option_copied payload.entry) }
+{
+    match payload {
+        Some(payload) => first_occurring(patterns, payload).is_some(),
+        None => false,
+    }
+}

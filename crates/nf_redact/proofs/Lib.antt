@@ -1,0 +1,2 @@
+pub mod RedactorRows
+pub mod Writing

@@ -1,0 +1,40 @@
+-- Believed: a redactor: how it is declared, and what it does as a function of a chain.
+use Rattle.std.specs.Prelude.{ℕ, List, if◌then◌else◌, Option, Some, None}
+use Rattle.packet_fields.specs.declared.field.Field.TheVariants.{Payload}
+use Rattle.policy_text.specs.declared.policy.FunctionDecl.{FunctionDecl}
+use Rattle.action_profile.specs.Profiles.{profile_of}
+use Rattle.action_profile.specs.declared.kind.Kind.TheVariants as kinds
+use Rattle.chain_walk.specs.Shown.{Shown, Values}
+use Rattle.chain_walk.specs.Step.{Step, Behaviour}
+use Rattle.chain_walk.specs.declared.verdict.Verdict.TheVariants.{Pass}
+use Rattle.function_lines.specs.KindLines.{said_by}
+use Rattle.patterns.specs.Lines.{pattern_lines}
+use Rattle.patterns.specs.Occurrences.{some_occurs}
+use Rattle.patterns.specs.Overwriting.{redacted}
+use Rattle.nf_redact.specs.declared.redactor.Redactor.{Redactor}
+
+-- the redactor of these patterns
+abbrev pub redactor_by : List (List ℕ) → Redactor
+redactor_by patterns = record { patterns = patterns }
+
+-- the redactor that is declared
+abbrev pub redactor_of : FunctionDecl → Redactor
+redactor_of decl = redactor_by (said_by pattern_lines decl.settings)
+
+-- the payload with the patterns overwritten, none where none of them occurs in it
+abbrev pub redacted_payload : List (List ℕ) → Option (List ℕ) → Option (List ℕ)
+redacted_payload patterns (Some payload) = if some_occurs patterns payload then Some (redacted patterns payload) else None
+redacted_payload patterns None = None
+
+-- this is written as the payload, where there is something to write, and nothing else
+abbrev pub to_payload : Option (List ℕ) → Values
+to_payload new Payload = new
+to_payload new f = None
+
+-- a redactor overwrites its patterns in the payload, lets every packet pass, and stays as it is
+abbrev pub redactor_step : Redactor → Shown → Step Redactor
+redactor_step r shown = record { after = r; verdict = Pass; written = to_payload (redacted_payload r.patterns (shown.values Payload)) }
+
+-- how redactors behave
+abbrev pub redactor_behaviour : Behaviour Redactor
+redactor_behaviour = record { profile = λ r. profile_of kinds.Redactor; step = redactor_step }

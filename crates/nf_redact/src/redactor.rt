@@ -1,0 +1,106 @@
+//! A redactor, and what it overwrites.
+use chain_walk::Verdict;
+use function_lines::read_lines;
+use item_list::Items;
+use packet_fields::Field;
+use packet_version::{View, unwritten_stays, written_is_one_value};
+use patterns::{Pattern, first_occurring, redact};
+use policy_text::{BuildFault, FunctionDecl};
+use std::alloc::{AllocError, Global};
+
+/// Patterns that are overwritten in a packet's data, in this order.
+#[derive(Debug, Drop)]
+pub struct Redactor {
+    /// Each with the search for it, which was made when the redactor was.
+    pub patterns: Items<Pattern>,
+}
+
+impl Redactor {
+    ghost use Rattle.std.specs.Prelude.{◌≡◌, Ok, true, is_ok};
+    ghost use Rattle.action_profile.specs.Profiles.{profile_of};
+    ghost use Rattle.action_profile.specs.declared.kind.Kind.{Kind};
+    ghost use Rattle.packet_fields.specs.declared.field.Field.{Field};
+    ghost use Rattle.packet_version.specs.Views.{seen_values, viewed, wrote_all};
+    ghost use Rattle.function_lines.specs.Builds.{Builds};
+    ghost use Rattle.patterns.specs.Lines.{pattern_lines};
+    ghost use Rattle.nf_redact.specs.Redactors.{redactor_by, redactor_behaviour, redacted_payload, to_payload};
+
+    /// Makes the redactor that is declared, or names the least line of the declaration that is refused: one that is no
+    /// `rule` with a pattern.
+    pub fn build(alloc: Global, decl: &FunctionDecl) -> Result<Redactor, BuildFault>
+        requires { decl.now.kind ≡ Kind.Redactor }
+        ensures { Builds pattern_lines redactor_by decl.now result }
+    {
+        let patterns = read_lines::<Pattern>(alloc, decl)?;
+        Ok(Redactor { patterns })
+    }
+
+    /// Overwrites the patterns in the data of one packet, through a view of a redactor's profile, in the bytes that the view
+    /// lends. It takes no memory.
+    pub fn step(&mut self, view: &mut View) -> Result<Verdict, AllocError>
+        requires profile { view.old.profile ≡ redactor_behaviour.profile self.old }
+        ensures after { self.new ≡ (viewed redactor_behaviour self.old view.old).after }
+        ensures verdict { result ≡ Ok (viewed redactor_behaviour self.old view.old).verdict }
+        ensures view { view.new ≡ wrote_all (viewed redactor_behaviour self.old view.old).written view.old }
+    {
+        self.overwrite(view);
+        Ok(Verdict::Pass)
+    }
+
+    // Writes the payload where one of the patterns occurs in it, and else nothing.
+    #[tactic(auto, using(crate::proofs::Writing::nothing_found, crate::proofs::Writing::found))]
+    fn overwrite(&self, view: &mut View)
+        requires profile { view.old.profile ≡ profile_of Kind.Redactor }
+        ensures { view.new ≡ wrote_all (to_payload (redacted_payload self.now.patterns (seen_values view.old Field.Payload))) view.old }
+    {
+        let patterns = self.patterns.as_slice();
+        let found = first_found(patterns, view.get(Field::Payload));
+        let Some(place) = found else {
+            unwritten_stays(view);
+            return;
+        };
+        let (_, patterns) = patterns.split_at(place);
+        overwrite_payload(patterns, view);
+    }
+
+    /// Appends the lines of its state, of which a redactor has none.
+    pub fn state_lines(&self, _out: &mut Vec<u8>) -> Result<(), AllocError>
+        ensures none { _out.new ≡ _out.old }
+        ensures never_fails { is_ok result ≡ true }
+    {
+        Ok(())
+    }
+}
+
+ghost use Rattle.std.specs.Prelude.{◌≡◌, option_map, IsSome};
+ghost use Rattle.std.specs.Option.{option_copied};
+ghost use Rattle.action_profile.specs.Profiles.{profile_of};
+ghost use Rattle.action_profile.specs.declared.kind.Kind.{Kind};
+ghost use Rattle.packet_fields.specs.declared.field.Field.{Field};
+ghost use Rattle.packet_version.specs.Views.{seen_values, wrote_all};
+ghost use Rattle.patterns.specs.Overwriting.{redacted};
+ghost use Rattle.nf_redact.specs.Redactors.{to_payload};
+ghost use Rattle.nf_redact.specs.Found.{Finds};
+
+/// The place of the first pattern that occurs in the payload, where there is one.
+#[tactic(auto, using(crate::proofs::Writing::finds))]
+fn first_found(patterns: &[Pattern], payload: Option<&[u8]>) -> Option<usize>
+    ensures { Finds patterns.now (option_copied payload.entry) result }
+{
+    match payload {
+        Some(payload) => first_occurring(patterns, payload),
+        None => None,
+    }
+}
+
+/// Overwrites the patterns in a payload that is there.
+#[tactic(auto, using(crate::proofs::Writing::is_there))]
+fn overwrite_payload(patterns: &[Pattern], view: &mut View)
+    requires profile { view.old.profile ≡ profile_of Kind.Redactor }
+    requires present { IsSome (seen_values view.old Field.Payload) }
+    ensures { view.new ≡ wrote_all (to_payload (option_map (redacted patterns.now) (seen_values view.old Field.Payload))) view.old }
+{
+    let payload = view.edit(Field::Payload);
+    redact(patterns, payload);
+    written_is_one_value();
+}

@@ -1,0 +1,6 @@
+pub mod Becoming
+pub mod OneByOne
+pub mod Overwriting
+pub mod Reading
+pub mod Rows
+pub mod Standing

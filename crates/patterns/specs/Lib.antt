@@ -1,0 +1,6 @@
+pub mod Laws
+pub mod Lengths
+pub mod Lines
+pub mod Occurrences
+pub mod Overwriting
+pub mod Steps

@@ -1,0 +1,29 @@
+//! Patterns: bytes that are found in a packet's data, and overwritten there.
+//!
+//! A [`Pattern`] has 1 to 256 bytes. An operator writes it as `rule text` with a word, or as `rule hex` with pairs of hexadecimal digits;
+//! it is read as a [`function_lines::FunctionLine`], so that a kind whose lines are patterns needs no more than the rule of the least
+//! refused line. The search for a pattern (`memchr`'s, of which the time is linear) is made once, when the pattern is, and takes
+//! no memory.
+//!
+//! A pattern occurs in a payload where at some place of it the pattern's bytes stand. [`first_occurring`] gives the first of several
+//! patterns that occurs. [`Pattern::overwrite`] overwrites each leftmost occurrence that doesn't overlap one before it, byte by
+//! byte with a small x, in place; [`redact`] takes patterns one after another, each in the payload as those before it left it. What
+//! they give is pinned by `occurs` of `specs/Occurrences.antt` and `redacted` of `specs/Overwriting.antt`.
+//!
+//! In other words than these: [`a_pattern_occurs_where_it_stands`], [`overwriting_goes_from_occurrence_to_occurrence`] and
+//! [`overwritten_patterns_are_gone`].
+//!
+//! A pattern that begins in one payload and ends in another is not found.
+#![tactic(auto)]
+
+mod laws;
+mod line;
+mod pattern;
+mod several;
+
+pub use laws::{
+    a_pattern_occurs_where_it_stands, overwriting_goes_from_occurrence_to_occurrence,
+    overwritten_patterns_are_gone,
+};
+pub use pattern::Pattern;
+pub use several::{first_occurring, redact};
