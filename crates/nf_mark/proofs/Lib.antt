@@ -1,0 +1,6 @@
+pub mod FieldsThere
+pub mod HopRows
+pub mod MarkerRows
+pub mod NewTags
+pub mod NexthopRows
+pub mod TagRows

@@ -1,0 +1,43 @@
+-- Believed: a marker: how it is declared, and what it does as a function of a chain.
+use Rattle.std.specs.Prelude.{ℕ, List, [], ◌∷◌, if◌then◌else◌, Option, None}
+use Rattle.std.specs.Option.{option_map}
+use Rattle.packet_fields.specs.declared.field.Field.TheVariants.{Tos}
+use Rattle.policy_text.specs.declared.policy.FunctionDecl.{FunctionDecl}
+use Rattle.policy_text.specs.declared.seen.Seen.{Seen}
+use Rattle.frame_seen.specs.Seeing.{seen_by}
+use Rattle.action_profile.specs.Profiles.{profile_of}
+use Rattle.action_profile.specs.declared.kind.Kind.TheVariants as kinds
+use Rattle.chain_walk.specs.Shown.{Shown}
+use Rattle.chain_walk.specs.Step.{Step, Behaviour}
+use Rattle.chain_walk.specs.declared.verdict.Verdict.TheVariants.{Pass}
+use Rattle.function_lines.specs.KindLines.{said_by}
+use Rattle.function_lines.specs.Rules.{first_met}
+use Rattle.nf_mark.specs.declared.marker.MarkRule.{MarkRule}
+use Rattle.nf_mark.specs.declared.marker.Marker.{Marker}
+use Rattle.nf_mark.specs.MarkerLines.{marker_lines}
+use Rattle.nf_mark.specs.OneField.{only}
+
+-- each line is a rule
+abbrev pub marker_by : List MarkRule → Marker
+marker_by said = record { rules = said }
+
+-- the marker that is declared
+abbrev pub marker_of : FunctionDecl → Marker
+marker_of decl = marker_by (said_by marker_lines decl.settings)
+
+-- the type of service of the first rule whose clauses are all met
+unfoldable pub tos_for : Marker → Seen → Option ℕ
+tos_for m seen = option_map (λ rule. rule.tos) (first_met (λ rule. rule.fit) seen m.rules)
+
+-- the type of service that a packet gets which has one, none where it keeps its own
+abbrev pub new_tos : Marker → Shown → Option ℕ
+new_tos m shown = if shown.has Tos then tos_for m (seen_by shown.values shown.fixed.proto) else None
+
+-- The type of service is one byte, the second of the IPv4 header (RFC 791, 3.1), whose high six bits are the DSCP
+-- (RFC 2474, 3). Nothing else is written, every packet passes, and a marker stays as it is.
+abbrev pub marker_step : Marker → Shown → Step Marker
+marker_step m shown = record { after = m; verdict = Pass; written = only Tos (option_map (λ tos. tos ∷ []) (new_tos m shown)) }
+
+-- how markers behave
+abbrev pub marker_behaviour : Behaviour Marker
+marker_behaviour = record { profile = λ m. profile_of kinds.Marker; step = marker_step }

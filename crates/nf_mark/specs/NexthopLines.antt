@@ -1,0 +1,32 @@
+-- Believed: the lines that set a nexthop up: `rule` with a prefix, `to` with a link address and `from` with a link address.
+use Rattle.std.specs.Prelude.{ℕ, List, [], ◌∷◌, ◌&&◌, if◌then◌else◌, Option, Some, None, codes}
+use Rattle.std.specs.Option.{option_map}
+use Rattle.std.specs.Str.{bytes_eq}
+use Rattle.policy_text.specs.Values.{prefix_of}
+use Rattle.policy_text.specs.Bytes.{mac_of}
+use Rattle.policy_text.specs.declared.clause.Clause.TheVariants.{Dst}
+use Rattle.policy_text.specs.declared.clause.Match.{Match}
+use Rattle.function_lines.specs.KindLines.{KindLines}
+use Rattle.nf_mark.specs.declared.link_address.LinkAddress.{LinkAddress}
+use Rattle.nf_mark.specs.declared.nexthop.NexthopRule.{NexthopRule}
+use Rattle.nf_mark.specs.Links.{link_of}
+
+-- a prefix asks for packets with a destination in it
+abbrev pub fit_to : ℕ × ℕ → Match
+fit_to prefix = record { clauses = Dst prefix.0 prefix.1 ∷ [] }
+
+-- a rule of a prefix and two addresses, where the words spell all three
+abbrev pub rule_of : Option (ℕ × ℕ) → Option LinkAddress → Option LinkAddress → Option NexthopRule
+rule_of (Some prefix) (Some to) (Some from) = Some (record { fit = fit_to prefix; link_dst = to; link_src = from })
+rule_of prefix to from = None
+
+-- what a line says, none where it is no line of a nexthop
+unfoldable pub line_of : List (List ℕ) → Option NexthopRule
+line_of (lead ∷ prefix ∷ to ∷ dst ∷ from ∷ src ∷ []) =
+    if bytes_eq lead (codes "rule") && (bytes_eq to (codes "to") && bytes_eq from (codes "from"))
+    then rule_of (prefix_of prefix) (option_map link_of (mac_of dst)) (option_map link_of (mac_of src)) else None
+line_of words = None
+
+-- the lines of a nexthop, none of which has to be there
+abbrev pub nexthop_lines : KindLines NexthopRule
+nexthop_lines = record { line_of = line_of; required = [] }

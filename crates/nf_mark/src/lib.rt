@@ -1,0 +1,44 @@
+//! Network functions that rewrite the heads of packets and their tags, and keep nothing of them.
+//!
+//! A [`Marker`] writes the IPv4 type of service (RFC 791, 3.1), whose high six bits are the DSCP (RFC 2474, 3): that of the first
+//! rule whose clauses a packet meets. A [`Nexthop`] sends a packet over another link: by the first rule whose prefix holds its
+//! destination it writes both link addresses (IEEE 802.3, 3.1.1). A [`Hop`] takes one off the time to live, and drops a packet for
+//! which nothing would be left (RFC 791, 3.2). A [`Tagger`] puts a customer tag before the tags that a packet has, and an
+//! [`Untagger`] takes the outermost tag off (IEEE 802.1Q, 9.3). Where a packet lacks the field that would be written, it stays as
+//! it is.
+//!
+//! `build` of each makes it of the lines that an operator wrote, or names the least line that is refused. No line sets a hop or an
+//! untagger up ([`NoLine`]). A rule asks for what its function sees: a marker's for anything but tags, a tagger's for the source
+//! alone.
+//!
+//! As functions of a chain they have one meaning each: `marker_behaviour` of `specs/Markers.antt`, `nexthop_behaviour` of
+//! `specs/Nexthops.antt`, `hop_behaviour` of `specs/Hops.antt`, `tagger_behaviour` of `specs/Taggers.antt` and
+//! `untagger_behaviour` of `specs/Untaggers.antt`. They see a packet through a view of a version of it (`step`), and take no
+//! memory there. That they keep to their profiles are `marker_keeps`, `nexthop_keeps`, `hop_keeps`, `tagger_keeps` and
+//! `untagger_keeps`, each in a file of `specs/` of its own. None has a state, so none has lines that tell it.
+//!
+//! In other words than the steps, [`new_tag_is_outermost`] says that clauses see the VLAN id of a new tag, and that an untagger takes
+//! it off again.
+//!
+//! Checksums are not adjusted here: that is done once, when a packet leaves (`packet_fields::seal`).
+#![tactic(auto)]
+
+mod asking;
+mod hop;
+mod laws;
+mod link_address;
+mod marker;
+mod nexthop;
+mod no_lines;
+mod present;
+mod tagger;
+mod untagger;
+
+pub use hop::Hop;
+pub use laws::new_tag_is_outermost;
+pub use link_address::LinkAddress;
+pub use marker::{MarkRule, Marker};
+pub use nexthop::{Nexthop, NexthopRule};
+pub use no_lines::NoLine;
+pub use tagger::{TagRule, Tagger};
+pub use untagger::Untagger;

@@ -1,0 +1,115 @@
+//! A marker, and what it writes.
+
+mod build;
+mod lines;
+
+use crate::present::has_field;
+use chain_walk::Verdict;
+use frame_seen::{seen_address, seen_port};
+use function_lines::{Fitting, first_met};
+use item_list::Items;
+use packet_fields::Field;
+use packet_version::{View, unwritten_stays, written_is_one_value};
+use policy_text::{Match, Seen, TagSeen};
+use std::alloc::AllocError;
+
+/// A rule: the type of service that a packet gets that meets all its clauses.
+#[derive(Debug, Drop)]
+pub struct MarkRule {
+    /// The second byte of the IPv4 header (RFC 791, 3.1).
+    pub tos: u8,
+    pub fit: Match,
+}
+
+impl Fitting for MarkRule {
+    ghost fit = { λ rule. rule.fit };
+
+    fn fit(&self) -> &Match {
+        &self.fit
+    }
+}
+
+/// Rules, of which the first that a packet meets says its type of service.
+#[derive(Debug, Drop)]
+pub struct Marker {
+    pub rules: Items<MarkRule>,
+}
+
+impl Marker {
+    ghost use Rattle.std.specs.Prelude.{◌≡◌, Ok, length, true, is_ok, IsSome};
+    ghost use Rattle.action_profile.specs.Profiles.{profile_of};
+    ghost use Rattle.action_profile.specs.declared.kind.Kind.{Kind};
+    ghost use Rattle.packet_fields.specs.declared.field.Field.{Field};
+    ghost use Rattle.packet_version.specs.Views.{viewed, wrote_all, HasBytes};
+    ghost use Rattle.nf_mark.specs.Seeing.{shown_in};
+    ghost use Rattle.nf_mark.specs.Markers.{marker_behaviour, tos_for, new_tos};
+
+    /// Marks one packet through a view of a marker's profile: where the packet has a type of service and
+    /// meets a rule, it gets that of the first such rule. It takes no memory.
+    pub fn step(&mut self, view: &mut View) -> Result<Verdict, AllocError>
+        requires profile { view.old.profile ≡ marker_behaviour.profile self.old }
+        ensures after { self.new ≡ (viewed marker_behaviour self.old view.old).after }
+        ensures verdict { result ≡ Ok (viewed marker_behaviour self.old view.old).verdict }
+        ensures view { view.new ≡ wrote_all (viewed marker_behaviour self.old view.old).written view.old }
+    {
+        let Some(tos) = self.new_tos(view) else {
+            unwritten_stays(view);
+            return Ok(Verdict::Pass);
+        };
+        view.set(Field::Tos, &[tos]);
+        written_is_one_value();
+        Ok(Verdict::Pass)
+    }
+
+    // The type of service that is to be written.
+    fn new_tos(&self, view: &View) -> Option<u8>
+        requires profile { view.now.profile ≡ profile_of Kind.Marker }
+        ensures tos { result ≡ new_tos self.now (shown_in view.now) }
+        ensures there { IsSome result → HasBytes view.now Field.Tos (λ old. length old ≡ 1) }
+    {
+        if !has_field(view, Field::Tos) {
+            return None;
+        }
+        self.tos_for(&seen_in(view))
+    }
+
+    // The type of service by what is seen of a packet.
+    #[tactic(auto, unfolding(crate::specs::Markers::tos_for))]
+    fn tos_for(&self, seen: &Seen) -> Option<u8>
+        ensures { result ≡ tos_for self.now seen.now }
+    {
+        match first_met(self.rules.as_slice(), seen) {
+            Some(rule) => Some(rule.tos),
+            None => None,
+        }
+    }
+
+    /// Appends the lines of its state, of which a marker has none.
+    pub fn state_lines(&self, _out: &mut Vec<u8>) -> Result<(), AllocError>
+        ensures none { _out.new ≡ _out.old }
+        ensures never_fails { is_ok result ≡ true }
+    {
+        Ok(())
+    }
+}
+
+ghost use Rattle.std.specs.Prelude.{◌≡◌};
+ghost use Rattle.action_profile.specs.Profiles.{profile_of};
+ghost use Rattle.action_profile.specs.declared.kind.Kind.{Kind};
+ghost use Rattle.frame_seen.specs.Seeing.{seen_by};
+ghost use Rattle.nf_mark.specs.Seeing.{shown_in};
+
+/// What a marker's clauses see of the packet behind a view.
+fn seen_in(view: &View) -> Seen
+    requires profile { view.now.profile ≡ profile_of Kind.Marker }
+    ensures { result ≡ seen_by (shown_in view.now).values view.now.version.fixed.proto }
+{
+    Seen {
+        tag: TagSeen::Absent,
+        src: seen_address(view.get(Field::SrcIp)),
+        dst: seen_address(view.get(Field::DstIp)),
+        sport: seen_port(view.get(Field::SrcPort)),
+        dport: seen_port(view.get(Field::DstPort)),
+        proto: view.proto(),
+    }
+}

@@ -1,0 +1,127 @@
+//! A nexthop, and which link addresses it writes.
+
+mod build;
+mod lines;
+
+use crate::link_address::LinkAddress;
+use crate::present::has_field;
+use chain_walk::Verdict;
+use frame_seen::seen_address;
+use function_lines::{Fitting, first_met};
+use item_list::Items;
+use packet_fields::Field;
+use packet_version::{View, later_write_stands_over, unwritten_stays, written_is_one_value};
+use policy_text::{Match, Seen, TagSeen};
+use std::alloc::AllocError;
+
+/// A rule: the link addresses of a packet whose destination lies in a prefix.
+#[derive(Debug, Drop)]
+pub struct NexthopRule {
+    /// One clause: the prefix of the IPv4 destination.
+    pub fit: Match,
+    /// The interface that the frame goes to.
+    pub link_dst: LinkAddress,
+    /// The interface that it comes from.
+    pub link_src: LinkAddress,
+}
+
+impl Fitting for NexthopRule {
+    ghost fit = { λ rule. rule.fit };
+
+    fn fit(&self) -> &Match {
+        &self.fit
+    }
+}
+
+/// Rules, of which the first whose prefix holds a packet's destination says over which link it goes.
+#[derive(Debug, Drop)]
+pub struct Nexthop {
+    pub rules: Items<NexthopRule>,
+}
+
+impl Nexthop {
+    ghost use Rattle.std.specs.Prelude.{◌≡◌, Ok, true, is_ok, IsSome};
+    ghost use Rattle.std.specs.Option.{option_copied};
+    ghost use Rattle.action_profile.specs.Profiles.{profile_of};
+    ghost use Rattle.action_profile.specs.declared.kind.Kind.{Kind};
+    ghost use Rattle.packet_version.specs.Views.{viewed, wrote_all};
+    ghost use Rattle.nf_mark.specs.Seeing.{shown_in};
+    ghost use Rattle.nf_mark.specs.NexthopViews.{HasLinks};
+    ghost use Rattle.nf_mark.specs.Nexthops.{nexthop_behaviour, rule_for};
+
+    /// Sends one packet on over a link, through a view of a nexthop's profile: where the packet has both link
+    /// addresses and a rule's prefix holds its destination, it gets those of the first such rule. It takes no
+    /// memory.
+    pub fn step(&mut self, view: &mut View) -> Result<Verdict, AllocError>
+        requires profile { view.old.profile ≡ nexthop_behaviour.profile self.old }
+        ensures after { self.new ≡ (viewed nexthop_behaviour self.old view.old).after }
+        ensures verdict { result ≡ Ok (viewed nexthop_behaviour self.old view.old).verdict }
+        ensures view { view.new ≡ wrote_all (viewed nexthop_behaviour self.old view.old).written view.old }
+    {
+        let Some(rule) = self.rule_for(view) else {
+            unwritten_stays(view);
+            return Ok(Verdict::Pass);
+        };
+        write_links(view, rule.link_dst, rule.link_src);
+        Ok(Verdict::Pass)
+    }
+
+    // The rule by which a packet goes.
+    fn rule_for(&self, view: &View) -> Option<&NexthopRule>
+        requires profile { view.now.profile ≡ profile_of Kind.Nexthop }
+        ensures rule { option_copied result ≡ rule_for self.now (shown_in view.now) }
+        ensures there { IsSome result → HasLinks view.now }
+    {
+        if !has_field(view, Field::LinkDst) {
+            return None;
+        }
+        if !has_field(view, Field::LinkSrc) {
+            return None;
+        }
+        first_met(self.rules.as_slice(), &seen_in(view))
+    }
+
+    /// Appends the lines of its state, of which a nexthop has none.
+    pub fn state_lines(&self, _out: &mut Vec<u8>) -> Result<(), AllocError>
+        ensures none { _out.new ≡ _out.old }
+        ensures never_fails { is_ok result ≡ true }
+    {
+        Ok(())
+    }
+}
+
+ghost use Rattle.std.specs.Prelude.{◌≡◌};
+ghost use Rattle.action_profile.specs.Profiles.{profile_of};
+ghost use Rattle.action_profile.specs.declared.kind.Kind.{Kind};
+ghost use Rattle.frame_seen.specs.Seeing.{seen_by};
+ghost use Rattle.packet_version.specs.Views.{wrote_all};
+ghost use Rattle.nf_mark.specs.Seeing.{shown_in};
+ghost use Rattle.nf_mark.specs.NexthopViews.{HasLinks};
+ghost use Rattle.nf_mark.specs.Nexthops.{links};
+
+/// What a nexthop's prefixes see of the packet behind a view.
+fn seen_in(view: &View) -> Seen
+    requires profile { view.now.profile ≡ profile_of Kind.Nexthop }
+    ensures { result ≡ seen_by (shown_in view.now).values view.now.version.fixed.proto }
+{
+    Seen {
+        tag: TagSeen::Absent,
+        src: None,
+        dst: seen_address(view.get(Field::DstIp)),
+        sport: None,
+        dport: None,
+        proto: view.proto(),
+    }
+}
+
+/// Writes where a frame goes and where it comes from.
+fn write_links(view: &mut View, to: LinkAddress, from: LinkAddress)
+    requires profile { view.old.profile ≡ profile_of Kind.Nexthop }
+    requires there { HasLinks view.old }
+    ensures { view.new ≡ wrote_all (links to from) view.old }
+{
+    view.set(Field::LinkDst, &to.bytes());
+    view.set(Field::LinkSrc, &from.bytes());
+    written_is_one_value();
+    later_write_stands_over();
+}

@@ -1,0 +1,70 @@
+//! The lines that set a nexthop up.
+ghost use Rattle.std.specs.Prelude.{◌≡◌, IfOk};
+ghost use Rattle.nf_mark.specs.NexthopLines.{rule_of, fit_to};
+
+use crate::link_address::{LinkAddress, read_link};
+use crate::nexthop::NexthopRule;
+use function_lines::FunctionLine;
+use item_list::Items;
+use policy_text::{Clause, Match, Word, prefix};
+use std::alloc::{AllocError, Global};
+
+impl FunctionLine for NexthopRule {
+    ghost use Rattle.nf_mark.specs.NexthopLines.{nexthop_lines};
+
+    ghost kind_lines = { nexthop_lines };
+
+    #[tactic(auto, unfolding(crate::specs::NexthopLines::line_of))]
+    fn read(alloc: Global, words: &[Word]) -> Result<Option<NexthopRule>, AllocError> {
+        if words.len() == 6
+            && words[0].bytes() == b"rule".as_slice()
+            && words[2].bytes() == b"to".as_slice()
+            && words[4].bytes() == b"from".as_slice()
+        {
+            let link_dst = read_link(words[3].bytes());
+            let link_src = read_link(words[5].bytes());
+            rule_of(alloc, prefix(words[1].bytes()), link_dst, link_src)
+        } else {
+            Ok(None)
+        }
+    }
+
+    // No line of a nexthop has to be there.
+    fn lacks_one(_lines: &[NexthopRule]) -> bool {
+        false
+    }
+}
+
+fn rule_of(
+    alloc: Global,
+    prefix: Option<(u32, u8)>,
+    link_dst: Option<LinkAddress>,
+    link_src: Option<LinkAddress>,
+) -> Result<Option<NexthopRule>, AllocError>
+    ensures { IfOk result (λ rule. rule ≡ rule_of prefix link_dst link_src) }
+{
+    let Some((address, bits)) = prefix else {
+        return Ok(None);
+    };
+    let Some(link_dst) = link_dst else {
+        return Ok(None);
+    };
+    let Some(link_src) = link_src else {
+        return Ok(None);
+    };
+    let fit = fit_to(alloc, address, bits)?;
+    Ok(Some(NexthopRule {
+        fit,
+        link_dst,
+        link_src,
+    }))
+}
+
+/// Asks for packets with a destination in a prefix.
+fn fit_to(alloc: Global, address: u32, bits: u8) -> Result<Match, AllocError>
+    ensures { IfOk result (λ fit. fit ≡ fit_to (address, bits)) }
+{
+    let mut clauses = Items::new(Vec::new(alloc));
+    clauses.push(Clause::Dst(address, bits))?;
+    Ok(Match { clauses })
+}

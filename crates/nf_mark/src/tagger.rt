@@ -1,0 +1,127 @@
+//! A tagger, and which tag it puts on.
+
+mod build;
+mod lines;
+
+use crate::present::has_field;
+use chain_walk::Verdict;
+use frame_seen::{seen_address, seen_tags};
+use function_lines::{Fitting, first_met};
+use item_list::Items;
+use packet_fields::Field;
+use packet_version::{View, unwritten_stays, written_is_one_value};
+use policy_text::{Match, Seen};
+use std::alloc::AllocError;
+
+/// A rule: the tag that a packet gets that meets all its clauses.
+#[derive(Debug, Drop)]
+pub struct TagRule {
+    /// The tag's control information (IEEE 802.1Q, 9.6): three bits of priority, one that is 0, and twelve of
+    /// the VLAN id.
+    pub control: u16,
+    pub fit: Match,
+}
+
+impl Fitting for TagRule {
+    ghost fit = { λ rule. rule.fit };
+
+    fn fit(&self) -> &Match {
+        &self.fit
+    }
+}
+
+/// Rules, of which the first that a packet meets says which tag it gets.
+#[derive(Debug, Drop)]
+pub struct Tagger {
+    pub rules: Items<TagRule>,
+}
+
+impl Tagger {
+    ghost use Rattle.std.specs.Prelude.{◌≡◌, Ok, true, is_ok, IsSome};
+    ghost use Rattle.action_profile.specs.Profiles.{profile_of};
+    ghost use Rattle.action_profile.specs.declared.kind.Kind.{Kind};
+    ghost use Rattle.packet_fields.specs.declared.field.Field.{Field};
+    ghost use Rattle.packet_version.specs.Views.{viewed, wrote_all, seen_parts, HasTagRoom};
+    ghost use Rattle.nf_mark.specs.Seeing.{shown_in};
+    ghost use Rattle.nf_mark.specs.Taggers.{tagger_behaviour, control_for, new_control};
+
+    /// Tags one packet through a view of a tagger's profile, in which there is room for a tag more: where the
+    /// packet meets a rule, it gets the tag of the first such rule, before the tags that it has. It takes no
+    /// memory.
+    pub fn step(&mut self, view: &mut View) -> Result<Verdict, AllocError>
+        requires profile { view.old.profile ≡ tagger_behaviour.profile self.old }
+        requires room { IsSome (seen_parts view.old Field.Tag) → HasTagRoom view.old }
+        ensures after { self.new ≡ (viewed tagger_behaviour self.old view.old).after }
+        ensures verdict { result ≡ Ok (viewed tagger_behaviour self.old view.old).verdict }
+        ensures view { view.new ≡ wrote_all (viewed tagger_behaviour self.old view.old).written view.old }
+    {
+        let Some(control) = self.new_control(view) else {
+            unwritten_stays(view);
+            return Ok(Verdict::Pass);
+        };
+        view.push_tag(tag_of(control));
+        written_is_one_value();
+        Ok(Verdict::Pass)
+    }
+
+    // The control information of the tag that is to be put on.
+    fn new_control(&self, view: &View) -> Option<u16>
+        requires profile { view.now.profile ≡ profile_of Kind.Tagger }
+        ensures control { result ≡ new_control self.now (shown_in view.now) }
+        ensures there { IsSome result → IsSome (seen_parts view.now Field.Tag) }
+    {
+        if !has_field(view, Field::Tag) {
+            return None;
+        }
+        self.control_for(&seen_in(view))
+    }
+
+    // The control information by what is seen of a packet.
+    #[tactic(auto, unfolding(crate::specs::Taggers::control_for))]
+    fn control_for(&self, seen: &Seen) -> Option<u16>
+        ensures { result ≡ control_for self.now seen.now }
+    {
+        match first_met(self.rules.as_slice(), seen) {
+            Some(rule) => Some(rule.control),
+            None => None,
+        }
+    }
+
+    /// Appends the lines of its state, of which a tagger has none.
+    pub fn state_lines(&self, _out: &mut Vec<u8>) -> Result<(), AllocError>
+        ensures none { _out.new ≡ _out.old }
+        ensures never_fails { is_ok result ≡ true }
+    {
+        Ok(())
+    }
+}
+
+ghost use Rattle.std.specs.Prelude.{◌≡◌};
+ghost use Rattle.action_profile.specs.Profiles.{profile_of};
+ghost use Rattle.action_profile.specs.declared.kind.Kind.{Kind};
+ghost use Rattle.frame_seen.specs.Seeing.{seen_by};
+ghost use Rattle.nf_mark.specs.Seeing.{shown_in};
+ghost use Rattle.nf_mark.specs.Taggers.{tag_of};
+
+/// A customer tag (IEEE 802.1Q, 9.5) with this control information, as it stands in a frame.
+fn tag_of(control: u16) -> [u8; 4]
+    ensures { result ≡ tag_of control }
+{
+    let bytes = control.to_be_bytes();
+    [0x81, 0x00, bytes[0], bytes[1]]
+}
+
+/// What a tagger's clauses see of the packet behind a view.
+fn seen_in(view: &View) -> Seen
+    requires profile { view.now.profile ≡ profile_of Kind.Tagger }
+    ensures { result ≡ seen_by (shown_in view.now).values view.now.version.fixed.proto }
+{
+    Seen {
+        tag: seen_tags(view.get(Field::Tag)),
+        src: seen_address(view.get(Field::SrcIp)),
+        dst: None,
+        sport: None,
+        dport: None,
+        proto: view.proto(),
+    }
+}
