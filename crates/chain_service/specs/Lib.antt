@@ -2,4 +2,5 @@ pub mod NamedFunctionLaws
 pub mod NamedFunctions
 pub mod Opening
 pub mod Services
+pub mod StateRows
 pub mod Taking

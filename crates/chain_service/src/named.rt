@@ -16,10 +16,13 @@ pub struct NamedFunction {
 impl Function for NamedFunction {
     ghost use Rattle.chain_service.specs.NamedFunctions.{named_behaviour, named_lines};
     ghost use Rattle.chain_service.specs.NamedFunctionLaws.{named_keeps};
+    ghost use Rattle.chain_service.specs.StateRows.{named_rows};
 
     ghost behaviour = { named_behaviour };
 
     ghost lines = { named_lines };
+
+    ghost rows = { named_rows };
 
     fn profile(&self) -> Profile {
         self.function.profile()
@@ -31,6 +34,14 @@ impl Function for NamedFunction {
 
     fn state_lines(&self, out: &mut Vec<u8>) -> Result<(), AllocError> {
         self.function.state_lines(out)
+    }
+
+    fn state_count(&self) -> usize {
+        self.function.state_count()
+    }
+
+    fn state_line(&self, place: usize, out: &mut Vec<u8>) -> Result<(), AllocError> {
+        self.function.state_line(place, out)
     }
 
     ghost keeps = { named_keeps };

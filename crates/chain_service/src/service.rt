@@ -6,7 +6,6 @@ ghost use Rattle.graph_run.specs.Running.{profiles_of};
 ghost use Rattle.net_functions.specs.Builds.{function_of};
 ghost use Rattle.policy_judge.specs.Making.{functions_made};
 ghost use Rattle.policy_judge.specs.Orders.{IsOrdered};
-ghost use Rattle.chain_service.specs.NamedFunctions.{named_behaviour};
 ghost use Rattle.chain_service.specs.Opening.{IsOpening, IsOpeningChain, chains_of};
 ghost use Rattle.chain_service.specs.Services.{function_at, functions_at, functions_by, is_ready, service_among, stages_of};
 ghost use Rattle.chain_service.specs.Taking.{without};
@@ -137,13 +136,13 @@ fn running(
     ensures functions { IfOk result (λ running. running.functions ≡ functions.items) }
     ensures compiled { IfOk result (λ running. running.graph.stages ≡ stages_of functions.items) }
 {
-    let profiles = profiles(alloc, &functions)?;
+    let profiles = profiles(alloc, functions.as_slice())?;
     let graph = compile(alloc, &profiles)?;
     Ok(Running::new(functions, graph))
 }
 
-fn profiles(alloc: Global, functions: &[NamedFunction]) -> Result<Vec<Profile>, AllocError>
-    ensures { IfOk result (λ profiles. profiles.items ≡ profiles_of named_behaviour functions.now) }
+fn profiles<F: Function>(alloc: Global, functions: &[F]) -> Result<Vec<Profile>, AllocError>
+    ensures { IfOk result (λ profiles. profiles.items ≡ profiles_of F.behaviour functions.now) }
 {
     functions
         .iter()

@@ -19,7 +19,10 @@ pub fn built(rt: &impl Abort, alloc: Global, text: &str) -> Result<NetFunction, 
 fn a_firewall_is_made_of_its_lines(rt: HostRuntime) {
     let text =
         "nfp 1\nchain c\nfn f firewall\nset default deny\nrule allow proto udp dport 50-60\nrule deny\n";
-    let NetFunction::Firewall(firewall) = built(&rt, rt.alloc(), text).expect(&rt, "a firewall");
+    let NetFunction::Firewall(firewall) = built(&rt, rt.alloc(), text).expect(&rt, "a firewall")
+    else {
+        rt.abort()
+    };
     assert!(rt; !firewall.default);
     let [first, second] = firewall.rules.as_slice() else {
         rt.abort()
@@ -30,7 +33,7 @@ fn a_firewall_is_made_of_its_lines(rt: HostRuntime) {
 
 #[test]
 fn a_refused_line_of_a_firewall_is_named(rt: HostRuntime) {
-    assert!(rt; is_built(Kind::Firewall) && !is_built(Kind::Nat));
+    assert!(rt; is_built(Kind::Firewall) && !is_built(Kind::Signature));
     for (text, line) in [
         ("nfp 1\nchain c\nfn f firewall\nrule pass\n", 4),
         (
@@ -40,6 +43,43 @@ fn a_refused_line_of_a_firewall_is_named(rt: HostRuntime) {
         (
             "nfp 1\nchain c\nfn f firewall\nset size 1\nrule allow src\n",
             4,
+        ),
+    ] {
+        assert!(rt;
+            built(&rt, rt.alloc(), text).is_err_and(|fault| fault == BuildFault::BadSetting(line))
+        );
+    }
+}
+
+// A line that is missing, or stands and can't be read, is told by the line of its function.
+#[test]
+fn a_refused_line_of_a_function_with_a_state_is_named(rt: HostRuntime) {
+    for (text, line) in [
+        (
+            "nfp 1\nchain c\nfn n nat\nset inside 10.0.0.0/8\nset ports 40000-40000\n",
+            3,
+        ),
+        (
+            "nfp 1\nchain c\nfn n nat\nset inside 10.0.0.0/8\nset public 192.0.2.1\nset ports 80\n",
+            3,
+        ),
+        (
+            "nfp 1\nchain c\nfn n nat\nset inside 10.0.0.0/8\nset public 192.0.2.1\nset ports 1-2\nset ports 1-2\n",
+            7,
+        ),
+        ("nfp 1\nchain c\nfn b balancer\nset vip 10.0.0.2\n", 3),
+        (
+            "nfp 1\nchain c\nfn b balancer\nrule backend 10.9.0.1\nrule 10.9.0.2\nset vip 10.0.0.2\n",
+            5,
+        ),
+        ("nfp 1\nchain c\nfn m monitor\nset default allow\n", 4),
+        (
+            "nfp 1\nchain c\nfn l limiter\nset rate 0\nset burst 28\n",
+            3,
+        ),
+        (
+            "nfp 1\nchain c\nfn l limiter\nset rate 14\nset burst 28\nset size 1\nset rate 14\n",
+            6,
         ),
     ] {
         assert!(rt;

@@ -20,6 +20,8 @@ impl Function for Painter {
 
     ghost lines = { λ f. f.count ∷ [] };
 
+    ghost rows = { λ f. (f.count ∷ []) ∷ [] };
+
     fn profile(&self) -> Profile {
         Profile {
             reads: FieldSet::NONE,
@@ -48,6 +50,14 @@ impl Function for Painter {
     }
 
     fn state_lines(&self, out: &mut Vec<u8>) -> Result<(), AllocError> {
+        Ok(out.push(self.count)?)
+    }
+
+    fn state_count(&self) -> usize {
+        1
+    }
+
+    fn state_line(&self, _place: usize, out: &mut Vec<u8>) -> Result<(), AllocError> {
         Ok(out.push(self.count)?)
     }
 

@@ -1,38 +1,62 @@
 -- Believed: which kinds are built, which function a policy declares, and what making it answers.
-use Rattle.std.specs.Prelude.{◌≡◌, ℕ, Bool, true, false, Option, Some, None, Result, Ok, Err}
+use Rattle.std.specs.Prelude.{◌≡◌, ℕ, List, Bool, Option, Some, None, is_some, Result, Ok, Err}
 use Rattle.action_profile.specs.declared.kind.Kind.{Kind}
 use Rattle.action_profile.specs.declared.kind.Kind.TheVariants as kinds
 use Rattle.policy_text.specs.declared.fault.BuildFault.{BuildFault}
 use Rattle.policy_text.specs.declared.fault.BuildFault.TheVariants.{BadSetting, OutOfMemory}
 use Rattle.policy_text.specs.declared.policy.FunctionDecl.{FunctionDecl}
-use Rattle.function_lines.specs.KindLines.{refused_line as refused_line_of}
+use Rattle.function_lines.specs.KindLines.{KindLines, said_by, refused_line as refused_line_of}
 use Rattle.nf_filter.specs.Lines.{firewall_lines}
-use Rattle.nf_filter.specs.Firewalls.{firewall_of}
+use Rattle.nf_filter.specs.Firewalls.{firewall_by}
+use Rattle.nf_translate.specs.NatLines.{nat_lines}
+use Rattle.nf_translate.specs.Nats.{nat_by}
+use Rattle.nf_translate.specs.BalancerLines.{balancer_lines}
+use Rattle.nf_translate.specs.Balancers.{balancer_by}
+use Rattle.nf_observe.specs.Monitors.{monitor_lines, monitor_by}
+use Rattle.nf_observe.specs.LimiterLines.{limiter_lines}
+use Rattle.nf_observe.specs.Limiters.{limiter_by}
 use Rattle.net_functions.specs.declared.net_function.NetFunction.{NetFunction}
-use Rattle.net_functions.specs.declared.net_function.NetFunction.TheVariants.{Firewall}
+use Rattle.net_functions.specs.declared.net_function.NetFunction.TheVariants.{Firewall, Nat, Balancer, Monitor, Limiter}
+
+-- What is made of the declarations of a kind: the least line that one refuses, and the function that it declares.
+pub record Making : Type 0 where
+  pub refused : FunctionDecl → Option ℕ
+  pub made : FunctionDecl → NetFunction
+
+-- a kind with these lines, whose functions are made of what the lines say
+abbrev pub of_lines : {L F : Type 0} → KindLines L → (List L → F) → (F → NetFunction) → Option Making
+of_lines lines by make = Some (record { refused = λ decl. refused_line_of lines decl; made = λ decl. make (by (said_by lines decl.settings)) })
+
+-- how the functions of a kind are made, none of one that isn't built
+unfoldable pub making_of : Kind → Option Making
+making_of kinds.Firewall = of_lines firewall_lines firewall_by Firewall
+making_of kinds.Nat = of_lines nat_lines nat_by Nat
+making_of kinds.Balancer = of_lines balancer_lines balancer_by Balancer
+making_of kinds.Monitor = of_lines monitor_lines monitor_by Monitor
+making_of kinds.Limiter = of_lines limiter_lines limiter_by Limiter
+making_of kind = None
 
 -- functions of this kind are built
 abbrev pub is_built : Kind → Bool
-is_built kinds.Firewall = true
-is_built kind = false
+is_built kind = is_some (making_of kind)
 
--- the function that a declaration of this kind makes, none of a kind that isn't built
-abbrev pub made_by : Kind → FunctionDecl → Option NetFunction
-made_by kinds.Firewall decl = Some (Firewall (firewall_of decl))
-made_by kind decl = None
+-- the function that a declaration makes, none of a kind that isn't built
+abbrev pub made_by : Option Making → FunctionDecl → Option NetFunction
+made_by None decl = None
+made_by (Some making) decl = Some (making.made decl)
 
--- the least line that a declaration of this kind refuses; of a kind that isn't built, no line is
-abbrev pub refused_by : Kind → FunctionDecl → Option ℕ
-refused_by kinds.Firewall decl = refused_line_of firewall_lines decl
-refused_by kind decl = None
+-- the least line that it refuses; of a kind that isn't built, no line is
+abbrev pub refused_by : Option Making → FunctionDecl → Option ℕ
+refused_by None decl = None
+refused_by (Some making) decl = making.refused decl
 
 -- the function that is declared
 abbrev pub function_of : FunctionDecl → Option NetFunction
-function_of decl = made_by decl.kind decl
+function_of decl = made_by (making_of decl.kind) decl
 
 -- the least line of a declaration that is refused, none where each may stand
 abbrev pub refused_line : FunctionDecl → Option ℕ
-refused_line decl = refused_by decl.kind decl
+refused_line decl = refused_by (making_of decl.kind) decl
 
 -- the function that is declared, where no line is refused, or the least refused line; memory may run out
 abbrev pub Builds : FunctionDecl → Result NetFunction BuildFault → Type 0

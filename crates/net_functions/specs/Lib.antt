@@ -1,3 +1,4 @@
 pub mod NetFunctions
 pub mod NetFunctionLaws
 pub mod Builds
+pub mod StateRows

@@ -13,9 +13,17 @@ use Rattle.chain_walk.specs.Laws.{KeepsProfile}
 use Rattle.chain_walk.specs.declared.fixed.Fixed.{Fixed}
 use Rattle.nf_filter.specs.Firewalls.{firewall_behaviour}
 use Rattle.nf_filter.specs.FirewallLaws.{firewall_keeps}
-use Rattle.net_functions.specs.NetFunctions.{as_any, net_behaviour}
+use Rattle.nf_translate.specs.Nats.{nat_behaviour}
+use Rattle.nf_translate.specs.NatLaws.{nat_keeps}
+use Rattle.nf_translate.specs.Balancers.{balancer_behaviour}
+use Rattle.nf_translate.specs.BalancerLaws.{balancer_keeps}
+use Rattle.nf_observe.specs.Monitors.{monitor_behaviour}
+use Rattle.nf_observe.specs.MonitorLaws.{monitor_keeps}
+use Rattle.nf_observe.specs.Limiters.{limiter_behaviour}
+use Rattle.nf_observe.specs.LimiterLaws.{limiter_keeps}
+use Rattle.net_functions.specs.NetFunctions.{as_any, net_behaviour, profile_by, step_by}
 use Rattle.net_functions.specs.declared.net_function.NetFunction.{NetFunction}
-use Rattle.net_functions.specs.declared.net_function.NetFunction.TheVariants.{Firewall}
+use Rattle.net_functions.specs.declared.net_function.NetFunction.TheVariants.{Firewall, Nat, Balancer, Monitor, Limiter}
 
 -- the functions of one kind behave among all as they do by themselves
 record IsKind {F : Type 0} (b : Behaviour F) (make : F → NetFunction) : Type 0 where
@@ -53,8 +61,32 @@ kind_keeps {F = F} b make is keeps f = record {
     same fixed v = same_step b make is fixed f v
 
 -- kind by kind
+firewall_is : IsKind firewall_behaviour Firewall
+unfolding profile_by step_by
+firewall_is = record { profile = λ f. refl; step = λ f shown. refl }
+
+nat_is : IsKind nat_behaviour Nat
+unfolding profile_by step_by
+nat_is = record { profile = λ f. refl; step = λ f shown. refl }
+
+balancer_is : IsKind balancer_behaviour Balancer
+unfolding profile_by step_by
+balancer_is = record { profile = λ f. refl; step = λ f shown. refl }
+
+monitor_is : IsKind monitor_behaviour Monitor
+unfolding profile_by step_by
+monitor_is = record { profile = λ f. refl; step = λ f shown. refl }
+
+limiter_is : IsKind limiter_behaviour Limiter
+unfolding profile_by step_by
+limiter_is = record { profile = λ f. refl; step = λ f shown. refl }
+
 each_keeps : (f : NetFunction) → Keeps f
-each_keeps (Firewall f) = kind_keeps firewall_behaviour Firewall (record { profile = λ g. refl; step = λ g shown. refl }) firewall_keeps f
+each_keeps (Firewall f) = kind_keeps firewall_behaviour Firewall firewall_is firewall_keeps f
+each_keeps (Nat f) = kind_keeps nat_behaviour Nat nat_is nat_keeps f
+each_keeps (Balancer f) = kind_keeps balancer_behaviour Balancer balancer_is balancer_keeps f
+each_keeps (Monitor f) = kind_keeps monitor_behaviour Monitor monitor_is monitor_keeps f
+each_keeps (Limiter f) = kind_keeps limiter_behaviour Limiter limiter_is limiter_keeps f
 
 pub net_keeps : KeepsProfile net_behaviour
 net_keeps = record {

@@ -4,23 +4,39 @@ use Rattle.action_profile.specs.declared.rights.Profile.{Profile}
 use Rattle.chain_walk.specs.Shown.{Shown}
 use Rattle.chain_walk.specs.Step.{Step, Behaviour}
 use Rattle.nf_filter.specs.Firewalls.{firewall_behaviour}
+use Rattle.nf_translate.specs.Nats.{nat_behaviour, mapping_lines}
+use Rattle.nf_translate.specs.Balancers.{balancer_behaviour, flow_lines}
+use Rattle.nf_observe.specs.Monitors.{monitor_behaviour, monitor_text}
+use Rattle.nf_observe.specs.Limiters.{limiter_behaviour, limiter_text}
 use Rattle.net_functions.specs.declared.net_function.NetFunction.{NetFunction}
-use Rattle.net_functions.specs.declared.net_function.NetFunction.TheVariants.{Firewall}
+use Rattle.net_functions.specs.declared.net_function.NetFunction.TheVariants.{Firewall, Nat, Balancer, Monitor, Limiter}
 
 -- the step of a function of one kind, as that of a function of any
 abbrev pub as_any : {F G : Type 0} → (F → G) → Step F → Step G
 as_any make told = record { after = make told.after; verdict = told.verdict; written = told.written }
 
-abbrev pub profile_by : NetFunction → Profile
+unfoldable pub profile_by : NetFunction → Profile
 profile_by (Firewall f) = firewall_behaviour.profile f
+profile_by (Nat n) = nat_behaviour.profile n
+profile_by (Balancer b) = balancer_behaviour.profile b
+profile_by (Monitor m) = monitor_behaviour.profile m
+profile_by (Limiter l) = limiter_behaviour.profile l
 
-abbrev pub step_by : NetFunction → Shown → Step NetFunction
+unfoldable pub step_by : NetFunction → Shown → Step NetFunction
 step_by (Firewall f) shown = as_any Firewall (firewall_behaviour.step f shown)
+step_by (Nat n) shown = as_any Nat (nat_behaviour.step n shown)
+step_by (Balancer b) shown = as_any Balancer (balancer_behaviour.step b shown)
+step_by (Monitor m) shown = as_any Monitor (monitor_behaviour.step m shown)
+step_by (Limiter l) shown = as_any Limiter (limiter_behaviour.step l shown)
 
 -- how functions of any kind behave
 abbrev pub net_behaviour : Behaviour NetFunction
 net_behaviour = record { profile = profile_by; step = step_by }
 
 -- the lines in which a function tells its state
-abbrev pub lines_of : NetFunction → List ℕ
+unfoldable pub lines_of : NetFunction → List ℕ
 lines_of (Firewall f) = []
+lines_of (Nat n) = mapping_lines n
+lines_of (Balancer b) = flow_lines b
+lines_of (Monitor m) = monitor_text m
+lines_of (Limiter l) = limiter_text l

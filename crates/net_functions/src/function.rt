@@ -1,5 +1,6 @@
 //! A network function that sees a packet through a view.
-ghost use Rattle.std.specs.Prelude.{◌≡◌, ◌++◌, ℕ, List, true, IfOk, OnOk, OnErr, IsSome};
+ghost use Rattle.std.specs.Prelude.{◌≡◌, ◌<◌, ◌++◌, ℕ, List, [], length, slice_index_or, true, IfOk, OnOk, OnErr, IsSome};
+ghost use Rattle.std.specs.List.{flat_map};
 ghost use Rattle.packet_fields.specs.declared.field.Field.{Field};
 ghost use Rattle.chain_walk.specs.Step.{Behaviour};
 ghost use Rattle.chain_walk.specs.Laws.{KeepsProfile};
@@ -16,6 +17,9 @@ pub trait Function {
 
     /// The lines that show its state.
     ghost lines: { Self → List ℕ };
+
+    /// The same, each by itself.
+    ghost rows: { Self → List (List ℕ) };
 
     /// What it may do.
     fn profile(&self) -> Profile
@@ -36,6 +40,18 @@ pub trait Function {
     /// Appends the lines that show its state. Where memory runs out, it appends nothing.
     fn state_lines(&self, out: &mut Vec<u8>) -> Result<(), AllocError>
         ensures lines { OnOk result (out.new.items ≡ out.old.items ++ lines self.now) }
+        ensures stays { OnErr result (out.new.items ≡ out.old.items) };
+
+    /// How many lines show its state.
+    fn state_count(&self) -> usize
+        ensures count { result ≡ length (rows self.now) }
+        ensures told { flat_map (λ row. row) (rows self.now) ≡ lines self.now };
+
+    /// Appends the line at a place among those that show its state, counted from 0. Where memory runs out, it appends
+    /// nothing.
+    fn state_line(&self, place: usize, out: &mut Vec<u8>) -> Result<(), AllocError>
+        requires inside { place < length (rows self.now) }
+        ensures line { OnOk result (out.new.items ≡ out.old.items ++ slice_index_or (rows self.now) place []) }
         ensures stays { OnErr result (out.new.items ≡ out.old.items) };
 
     /// It does what its profile says, and no more.

@@ -7,7 +7,7 @@
 //! declares, or names the least line of the declaration that is refused. `frame_walk` leads whole frames
 //! through functions of any kind, with the same behaviour.
 //!
-//! Today firewalls are built ([`is_built`]). How functions are put into stages, and which of them see a
+//! Today firewalls, translations, balancers, monitors and limiters are built ([`is_built`]). How functions are put into stages, and which of them see a
 //! packet, is left out.
 #![tactic(auto)]
 

@@ -5,24 +5,35 @@ ghost use Rattle.net_functions.specs.Builds.{is_built, Builds};
 use crate::net_function::NetFunction;
 use action_profile::Kind;
 use nf_filter::Firewall;
+use nf_observe::{Limiter, Monitor};
+use nf_translate::{Balancer, Nat};
 use policy_text::{BuildFault, FunctionDecl};
 use std::alloc::Global;
 
 /// Are functions of this kind built?
+#[tactic(auto, unfolding(crate::specs::Builds::making_of))]
 pub fn is_built(kind: Kind) -> bool
     ensures { result ≡ is_built kind }
 {
-    matches!(kind, Kind::Firewall)
+    matches!(
+        kind,
+        Kind::Firewall | Kind::Nat | Kind::Balancer | Kind::Monitor | Kind::Limiter
+    )
 }
 
 /// Makes the function that is declared, whose kind is built, or names the least line of the declaration
 /// that is refused.
+#[tactic(auto, unfolding(crate::specs::Builds::making_of))]
 pub fn build(alloc: Global, decl: &FunctionDecl) -> Result<NetFunction, BuildFault>
     requires { is_built decl.now.kind ≡ true }
     ensures { Builds decl.now result }
 {
     match decl.kind {
         Kind::Firewall => Ok(NetFunction::Firewall(Firewall::build(alloc, decl)?)),
+        Kind::Nat => Ok(NetFunction::Nat(Nat::build(alloc, decl)?)),
+        Kind::Balancer => Ok(NetFunction::Balancer(Balancer::build(alloc, decl)?)),
+        Kind::Monitor => Ok(NetFunction::Monitor(Monitor::build(alloc, decl)?)),
+        Kind::Limiter => Ok(NetFunction::Limiter(Limiter::build(alloc, decl)?)),
         _ => unreachable!(),
     }
 }

@@ -25,8 +25,13 @@ use Rattle.policy_judge.specs.declared.fault.Refusal.{Refusal}
 use Rattle.policy_judge.specs.declared.judged.Judged.{Judged}
 use Rattle.policy_judge.specs.Judging.{judged_text, orders_from}
 use Rattle.policy_judge.specs.Lines.{text_line, setting_line, check_line, priority_line}
+use Rattle.net_functions.specs.Builds.{making_of}
+use Rattle.net_functions.specs.NetFunctions.{profile_by, step_by, lines_of}
 use Rattle.nf_filter.specs.Firewalls.{passes}
 use Rattle.nf_filter.specs.Lines.{line_of}
+use Rattle.nf_translate.specs.NatLines.{line_of as nat_line_of}
+use Rattle.nf_observe.specs.StateLines.{flow_line, endpoint_text}
+use Rattle.first_sight.specs.Addresses.{dotted}
 use Rattle.chain_walk.specs.Walk.{walk}
 use Rattle.nfp_run.specs.declared.outcome.Outcome.TheVariants.{Done, Policy, NotBuilt, Capture}
 use Rattle.command_words.specs.Words.{Command, Run, Plan}
@@ -79,7 +84,7 @@ deny_written : due_of_policy run_command (worth deny) capture ≡ record {
   });
   note = codes "done records 3 emitted 2 dropped 1\n";
 }
-unfolding run_command worth deny policy_of_utf8 after_line orders_from answer_of edges_of taken stuck named_cycle from_earliest cycle_back first_refusal head first ninth capture body_of head_bytes record_head tags_len is_ipv4 walk fates_among chains_after fates_of chains_behind emitted_all out_bytes report_bytes drop_text drop_lines total_line last_line summary done_text digits words is_changed change_sum has_same_places has_transport passes line_of function_text chain_lines copies_due copies_lines copies_made written_in graph_of placed holds_back is_forbidden branch_reads branch_writes touch_of stage_parts mode_of copies pair_of first_forbidden pairs actions all_actions is_copied copied
+unfolding run_command worth making_of profile_by step_by lines_of deny policy_of_utf8 after_line orders_from answer_of edges_of taken stuck named_cycle from_earliest cycle_back first_refusal head first ninth capture body_of head_bytes record_head tags_len is_ipv4 walk fates_among chains_after fates_of chains_behind emitted_all out_bytes report_bytes drop_text drop_lines total_line last_line summary done_text digits words is_changed change_sum has_same_places has_transport passes line_of function_text chain_lines copies_due copies_lines copies_made written_in graph_of placed holds_back is_forbidden branch_reads branch_writes touch_of stage_parts mode_of copies pair_of first_forbidden pairs actions all_actions is_copied copied
 deny_written = refl
 
 -- b stands before a, and denies what no rule of its own allows: only the second packet passes it, and a drops that
@@ -94,7 +99,7 @@ two_written : due_of_policy run_command (worth two) capture ≡ record {
   });
   note = codes "done records 3 emitted 0 dropped 3\n";
 }
-unfolding run_command worth two policy_of_utf8 after_line orders_from answer_of edges_of taken stuck named_cycle from_earliest cycle_back first_refusal head first ninth capture body_of head_bytes record_head tags_len is_ipv4 walk fates_among chains_after fates_of chains_behind emitted_all out_bytes report_bytes drop_text drop_lines total_line last_line summary done_text digits words is_changed change_sum has_same_places has_transport passes line_of function_text chain_lines copies_due copies_lines copies_made written_in graph_of placed holds_back is_forbidden branch_reads branch_writes touch_of stage_parts mode_of copies pair_of first_forbidden pairs actions all_actions is_copied copied
+unfolding run_command worth making_of profile_by step_by lines_of two policy_of_utf8 after_line orders_from answer_of edges_of taken stuck named_cycle from_earliest cycle_back first_refusal head first ninth capture body_of head_bytes record_head tags_len is_ipv4 walk fates_among chains_after fates_of chains_behind emitted_all out_bytes report_bytes drop_text drop_lines total_line last_line summary done_text digits words is_changed change_sum has_same_places has_transport passes line_of function_text chain_lines copies_due copies_lines copies_made written_in graph_of placed holds_back is_forbidden branch_reads branch_writes touch_of stage_parts mode_of copies pair_of first_forbidden pairs actions all_actions is_copied copied
 two_written = refl
 
 -- cut inside the third record: the two before it are done, and the report ends with the fault
@@ -106,7 +111,7 @@ cut_written : due_of_policy run_command (worth deny) (head ++ (first ++ (ninth +
   });
   note = codes "capture: cut record 3\n";
 }
-unfolding run_command worth deny capture_text policy_of_utf8 after_line orders_from answer_of edges_of taken stuck named_cycle from_earliest cycle_back first_refusal head first ninth capture body_of head_bytes record_head tags_len is_ipv4 walk fates_among chains_after fates_of chains_behind emitted_all out_bytes report_bytes drop_text drop_lines total_line last_line summary done_text digits words is_changed change_sum has_same_places has_transport passes line_of function_text chain_lines copies_due copies_lines copies_made written_in graph_of placed holds_back is_forbidden branch_reads branch_writes touch_of stage_parts mode_of copies pair_of first_forbidden pairs actions all_actions is_copied copied
+unfolding run_command worth making_of profile_by step_by lines_of deny capture_text policy_of_utf8 after_line orders_from answer_of edges_of taken stuck named_cycle from_earliest cycle_back first_refusal head first ninth capture body_of head_bytes record_head tags_len is_ipv4 walk fates_among chains_after fates_of chains_behind emitted_all out_bytes report_bytes drop_text drop_lines total_line last_line summary done_text digits words is_changed change_sum has_same_places has_transport passes line_of function_text chain_lines copies_due copies_lines copies_made written_in graph_of placed holds_back is_forbidden branch_reads branch_writes touch_of stage_parts mode_of copies pair_of first_forbidden pairs actions all_actions is_copied copied
 cut_written = refl
 
 -- the second packet is dropped by the first function, which stands beside the other, and the others by that
@@ -121,8 +126,23 @@ beside_written : due_of_policy run_command (worth beside) capture ≡ record {
   });
   note = codes "done records 3 emitted 0 dropped 3\n";
 }
-unfolding run_command worth beside policy_of_utf8 after_line orders_from answer_of edges_of taken stuck named_cycle from_earliest cycle_back first_refusal head first ninth capture body_of head_bytes record_head tags_len is_ipv4 walk fates_among chains_after fates_of chains_behind emitted_all out_bytes report_bytes drop_text drop_lines total_line last_line summary done_text digits words is_changed change_sum has_same_places has_transport passes line_of function_text chain_lines copies_due copies_lines copies_made written_in graph_of placed holds_back is_forbidden branch_reads branch_writes touch_of stage_parts mode_of copies pair_of first_forbidden pairs actions all_actions is_copied copied
+unfolding run_command worth making_of profile_by step_by lines_of beside policy_of_utf8 after_line orders_from answer_of edges_of taken stuck named_cycle from_earliest cycle_back first_refusal head first ninth capture body_of head_bytes record_head tags_len is_ipv4 walk fates_among chains_after fates_of chains_behind emitted_all out_bytes report_bytes drop_text drop_lines total_line last_line summary done_text digits words is_changed change_sum has_same_places has_transport passes line_of function_text chain_lines copies_due copies_lines copies_made written_in graph_of placed holds_back is_forbidden branch_reads branch_writes touch_of stage_parts mode_of copies pair_of first_forbidden pairs actions all_actions is_copied copied
 beside_written = refl
+
+-- A monitor in front of a firewall counts what that drops, too, and the report tells its flows in the order of first sight.
+counting : List ℕ
+counting = codes "nfp 1\nchain main\nfn mon monitor\nfn fw firewall\nrule deny src 10.0.0.9\norder mon before fw\n"
+
+counting_written : due_of_policy run_command (worth counting) capture ≡ record {
+  outcome = Done;
+  written = Some (record {
+    out = head ++ (first ++ first);
+    report = codes "nfp report 1\ndrop 2 main fw\nrecords 3 emitted 2 dropped 1\nfunction main mon monitor\n  flow 17 10.0.0.1 1000 10.0.0.2 53 packets 2 bytes 56\n  flow 17 10.0.0.9 1000 10.0.0.2 53 packets 1 bytes 28\nfunction main fw firewall\nend\n";
+  });
+  note = codes "done records 3 emitted 2 dropped 1\n";
+}
+unfolding run_command worth making_of profile_by step_by lines_of counting policy_of_utf8 after_line orders_from answer_of edges_of taken stuck named_cycle from_earliest cycle_back first_refusal head first ninth capture body_of head_bytes record_head tags_len is_ipv4 walk fates_among chains_after fates_of chains_behind emitted_all out_bytes report_bytes drop_text drop_lines total_line last_line summary done_text digits words is_changed change_sum has_same_places has_transport passes line_of function_text chain_lines copies_due copies_lines copies_made written_in graph_of placed holds_back is_forbidden branch_reads branch_writes touch_of stage_parts mode_of copies pair_of first_forbidden pairs actions all_actions is_copied copied flow_line endpoint_text dotted
+counting_written = refl
 
 -- The clauses of both chains are met by the second packet, and the first chain takes it. The others meet the second chain's alone.
 overlapping : List ℕ
@@ -136,7 +156,7 @@ overlapping_written : due_of_policy run_command (worth overlapping) capture ≡ 
   });
   note = codes "done records 3 emitted 0 dropped 3\n";
 }
-unfolding run_command worth overlapping policy_of_utf8 after_line orders_from answer_of edges_of taken stuck named_cycle from_earliest cycle_back first_refusal head first ninth capture body_of head_bytes record_head tags_len is_ipv4 walk fates_among chains_after fates_of chains_behind emitted_all out_bytes report_bytes drop_text drop_lines total_line last_line summary done_text digits words is_changed change_sum has_same_places has_transport passes line_of function_text chain_lines copies_due copies_lines copies_made written_in graph_of placed holds_back is_forbidden branch_reads branch_writes touch_of stage_parts mode_of copies pair_of first_forbidden pairs actions all_actions is_copied copied
+unfolding run_command worth making_of profile_by step_by lines_of overlapping policy_of_utf8 after_line orders_from answer_of edges_of taken stuck named_cycle from_earliest cycle_back first_refusal head first ninth capture body_of head_bytes record_head tags_len is_ipv4 walk fates_among chains_after fates_of chains_behind emitted_all out_bytes report_bytes drop_text drop_lines total_line last_line summary done_text digits words is_changed change_sum has_same_places has_transport passes line_of function_text chain_lines copies_due copies_lines copies_made written_in graph_of placed holds_back is_forbidden branch_reads branch_writes touch_of stage_parts mode_of copies pair_of first_forbidden pairs actions all_actions is_copied copied
 overlapping_written = refl
 
 -- a frame of 14 bytes that is no IPv4, and its record
@@ -155,7 +175,7 @@ untaken_written : due_of_policy run_command (worth untaken) (head ++ (first ++ (
   });
   note = codes "done records 3 emitted 2 dropped 1\n";
 }
-unfolding run_command worth untaken other policy_of_utf8 after_line orders_from answer_of edges_of taken stuck named_cycle from_earliest cycle_back first_refusal head first ninth capture body_of head_bytes record_head tags_len is_ipv4 walk fates_among chains_after fates_of chains_behind emitted_all out_bytes report_bytes drop_text drop_lines total_line last_line summary done_text digits words is_changed change_sum has_same_places has_transport passes line_of function_text chain_lines copies_due copies_lines copies_made written_in graph_of placed holds_back is_forbidden branch_reads branch_writes touch_of stage_parts mode_of copies pair_of first_forbidden pairs actions all_actions is_copied copied
+unfolding run_command worth making_of profile_by step_by lines_of untaken other policy_of_utf8 after_line orders_from answer_of edges_of taken stuck named_cycle from_earliest cycle_back first_refusal head first ninth capture body_of head_bytes record_head tags_len is_ipv4 walk fates_among chains_after fates_of chains_behind emitted_all out_bytes report_bytes drop_text drop_lines total_line last_line summary done_text digits words is_changed change_sum has_same_places has_transport passes line_of function_text chain_lines copies_due copies_lines copies_made written_in graph_of placed holds_back is_forbidden branch_reads branch_writes touch_of stage_parts mode_of copies pair_of first_forbidden pairs actions all_actions is_copied copied
 untaken_written = refl
 
 -- a chain without functions lets its packets pass
@@ -183,7 +203,7 @@ copies_told = refl
 
 -- a capture of no bytes has no head, and nothing is written
 no_head : due_of_policy run_command (worth deny) [] ≡ nothing_but (Capture CutHead) (codes "capture: cut head\n")
-unfolding run_command worth deny capture_text line_of policy_of_utf8 after_line orders_from answer_of edges_of taken stuck named_cycle from_earliest cycle_back first_refusal
+unfolding run_command worth making_of deny capture_text line_of policy_of_utf8 after_line orders_from answer_of edges_of taken stuck named_cycle from_earliest cycle_back first_refusal
 no_head = refl
 
 -- a policy without chains has an empty plan, which doesn't look at the capture
@@ -191,15 +211,20 @@ plan_shown : due_of_policy (Plan (codes "p")) (worth (codes "nfp 1\n")) [] ≡ n
 unfolding worth plan_text policy_of_utf8 after_line orders_from
 plan_shown = refl
 
--- another kind than firewall doesn't run yet, and that counts before the capture
-monitor_unbuilt : due_of_policy run_command (worth (codes "nfp 1\nchain main\nfn m monitor\n")) [] ≡ nothing_but (NotBuilt PolicySlot) (codes "not built: policy\n")
-unfolding run_command worth policy_of_utf8 after_line orders_from answer_of edges_of taken stuck named_cycle from_earliest cycle_back first_refusal
-monitor_unbuilt = refl
+-- a function of a kind that isn't built doesn't run, and that counts before the capture
+marker_unbuilt : due_of_policy run_command (worth (codes "nfp 1\nchain main\nfn m marker\n")) [] ≡ nothing_but (NotBuilt PolicySlot) (codes "not built: policy\n")
+unfolding run_command worth making_of policy_of_utf8 after_line orders_from answer_of edges_of taken stuck named_cycle from_earliest cycle_back first_refusal
+marker_unbuilt = refl
 
 -- no text at all has no version line
 no_policy : due_of_policy run_command (worth []) [] ≡ nothing_but (Policy (Text BadVersionLine)) (codes "policy: bad version line\n")
 unfolding run_command worth text_line policy_of_utf8
 no_policy = refl
+
+-- a translation without a public address is told by its own line
+no_public : due_of_policy run_command (worth (codes "nfp 1\nchain main\nfn n nat\nset inside 10.0.0.0/8\nset ports 40000-40000\n")) [] ≡ nothing_but (Policy (BadSetting 3)) (codes "policy: line 3: bad setting\n")
+unfolding run_command worth making_of setting_line digits nat_line_of policy_of_utf8 after_line
+no_public = refl
 
 -- bytes that are no UTF-8
 no_text : due_of_policy run_command (judged_text (Err (NotUtf8 0))) [] ≡ nothing_but (Policy (Text (NotUtf8 0))) (codes "policy: not utf-8 at 0\n")
@@ -208,16 +233,16 @@ no_text = refl
 
 -- a line that a function refuses counts before a cycle
 bad_setting : due_of_policy run_command (worth (codes "nfp 1\nchain a\nfn f firewall\nrule pass\norder f before f\n")) [] ≡ nothing_but (Policy (BadSetting 4)) (codes "policy: line 4: bad setting\n")
-unfolding run_command worth setting_line digits line_of policy_of_utf8 after_line
+unfolding run_command worth making_of setting_line digits line_of policy_of_utf8 after_line
 bad_setting = refl
 
 cycle : due_of_policy run_command (worth (codes "nfp 1\nchain main\nfn a monitor\nfn b monitor\norder a before b\npriority a > b\n")) []
     ≡ nothing_but (Policy (Check 0 (Cycle (0 ∷ 1 ∷ [])))) (codes "policy: cycle a b\n")
-unfolding run_command worth check_line policy_of_utf8 after_line orders_from answer_of edges_of taken stuck named_cycle from_earliest cycle_back first_refusal
+unfolding run_command worth making_of check_line policy_of_utf8 after_line orders_from answer_of edges_of taken stuck named_cycle from_earliest cycle_back first_refusal
 cycle = refl
 
--- a monitor over a nat, whose settings are not looked at yet
-forbidden : due_of_policy run_command (worth (codes "nfp 1\nchain main\nfn mon monitor\nfn n nat\n\n\n\npriority mon > n\n")) []
+-- a monitor over a translation
+forbidden : due_of_policy run_command (worth (codes "nfp 1\nchain main\nfn mon monitor\nfn n nat\nset inside 10.0.0.0/8\nset public 192.0.2.1\nset ports 40000-40009\npriority mon > n\n")) []
     ≡ nothing_but (Policy (Check 0 (PriorityForbidden 0 1 8 (Write SrcIp) (Read SrcIp)))) (codes "policy: line 8: priority mon over n forbidden: write src before read src\n")
-unfolding run_command worth check_line priority_line digits pair_of first_forbidden pairs actions all_actions is_copied copied policy_of_utf8 after_line orders_from answer_of edges_of taken stuck named_cycle from_earliest cycle_back first_refusal
+unfolding run_command worth making_of nat_line_of check_line priority_line digits pair_of first_forbidden pairs actions all_actions is_copied copied policy_of_utf8 after_line orders_from answer_of edges_of taken stuck named_cycle from_earliest cycle_back first_refusal
 forbidden = refl

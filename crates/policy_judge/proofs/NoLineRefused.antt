@@ -1,13 +1,11 @@
 -- Where no line is the least that is refused, no function refuses one, and each is made.
 use Rattle.std.proofs.Common.{◌≡◌, ◌≤◌, ◌∙◌, ℕ, List, [], ◌∷◌, length, map, take, false, refl, ap, sym}
-use Rattle.std.specs.Prelude.{All, Option, Some, None, fold}
+use Rattle.std.specs.Prelude.{All, Option, Some, None, is_some, fold}
 use Rattle.std.proofs.lemmas.List.{take_all}
 use Rattle.std.proofs.lemmas.List.Elements.{All-nil, All-cons, All-head, All-tail}
-use Rattle.action_profile.specs.declared.kind.Kind.{Kind}
-use Rattle.action_profile.specs.declared.kind.Kind.TheVariants.{Firewall, Signature, Nat, Balancer, Monitor, Limiter, Marker, Nexthop, Hop, Redactor, Tagger, Untagger}
 use Rattle.policy_text.specs.declared.policy.ChainPolicy.{ChainPolicy}
 use Rattle.policy_text.specs.declared.policy.FunctionDecl.{FunctionDecl}
-use Rattle.net_functions.specs.Builds.{is_built, made_by, refused_by, refused_line, function_of}
+use Rattle.net_functions.specs.Builds.{Making, made_by, refused_by, refused_line, function_of}
 use Rattle.net_functions.specs.declared.net_function.NetFunction.{NetFunction}
 use Rattle.policy_judge.specs.Kept.{kept_where, kept_of, kept_each}
 use Rattle.policy_judge.specs.Making.{functions_made}
@@ -72,31 +70,11 @@ lesser_of_none None = refl
 lesser_of_none (Some line) = refl
 
 -- of a kind that isn't built no function is made
-pub never_made : (kind : Kind) (decl : FunctionDecl) → is_built kind ≡ false → made_by kind decl ≡ None
-never_made Firewall decl not = absurd cc
-never_made Signature decl not = refl
-never_made Nat decl not = refl
-never_made Balancer decl not = refl
-never_made Monitor decl not = refl
-never_made Limiter decl not = refl
-never_made Marker decl not = refl
-never_made Nexthop decl not = refl
-never_made Hop decl not = refl
-never_made Redactor decl not = refl
-never_made Tagger decl not = refl
-never_made Untagger decl not = refl
+pub never_made : (making : Option Making) (decl : FunctionDecl) → is_some making ≡ false → made_by making decl ≡ None
+never_made None decl not = refl
+never_made (Some making) decl not = absurd cc
 
 -- nor is a line refused
-pub unbuilt : (kind : Kind) (decl : FunctionDecl) → is_built kind ≡ false → refused_by kind decl ≡ None
-unbuilt Firewall decl not = absurd cc
-unbuilt Signature decl not = refl
-unbuilt Nat decl not = refl
-unbuilt Balancer decl not = refl
-unbuilt Monitor decl not = refl
-unbuilt Limiter decl not = refl
-unbuilt Marker decl not = refl
-unbuilt Nexthop decl not = refl
-unbuilt Hop decl not = refl
-unbuilt Redactor decl not = refl
-unbuilt Tagger decl not = refl
-unbuilt Untagger decl not = refl
+pub unbuilt : (making : Option Making) (decl : FunctionDecl) → is_some making ≡ false → refused_by making decl ≡ None
+unbuilt None decl not = refl
+unbuilt (Some making) decl not = absurd cc

@@ -13,7 +13,7 @@ const TWO: &[u8] =
     b"nfp 1\nchain main\nfn a firewall\nrule deny src 10.0.0.1\nfn b firewall\nset default deny\nrule allow proto udp dport 50-60 src 10.0.0.0/30\norder b before a\n";
 
 // Version 2.4, snaplen 65535, Ethernet.
-const HEAD: [u8; 24] = [
+pub const HEAD: [u8; 24] = [
     0xd4, 0xc3, 0xb2, 0xa1, 2, 0, 4, 0, 0, 0, 0, 0, 0, 0, 0, 0, 0xff, 0xff, 0, 0, 1, 0, 0, 0,
 ];
 
@@ -65,7 +65,7 @@ fn push_record(capture: &mut Vec<u8>, host: u8) -> Result<(), AllocError> {
 }
 
 // A capture with a packet from each of these hosts.
-fn capture_from(alloc: Global, hosts: &[u8]) -> Result<Vec<u8>, AllocError> {
+pub fn capture_from(alloc: Global, hosts: &[u8]) -> Result<Vec<u8>, AllocError> {
     let mut capture = HEAD.to_vec(alloc)?;
     for host in hosts {
         push_record(&mut capture, *host)?;
@@ -73,11 +73,11 @@ fn capture_from(alloc: Global, hosts: &[u8]) -> Result<Vec<u8>, AllocError> {
     Ok(capture)
 }
 
-fn capture(alloc: Global) -> Result<Vec<u8>, AllocError> {
+pub fn capture(alloc: Global) -> Result<Vec<u8>, AllocError> {
     capture_from(alloc, &[1, 9, 1])
 }
 
-fn words(alloc: Global, texts: &[&str]) -> Result<Vec<String>, AllocError> {
+pub fn words(alloc: Global, texts: &[&str]) -> Result<Vec<String>, AllocError> {
     let mut words = Vec::new(alloc);
     for text in texts {
         words.push(String::from_str(alloc, text)?)?;
@@ -198,6 +198,10 @@ fn a_policy_is_refused_for_its_first_fault(rt: HostRuntime) -> Result<(), Fail> 
             b"policy: line 4: bad setting\n",
         ),
         (
+            b"nfp 1\nchain main\nfn n nat\nset inside 10.0.0.0/8\nset ports 40000-40000\n",
+            b"policy: line 3: bad setting\n",
+        ),
+        (
             b"nfp 1\nchain main\nfn a monitor\nfn b monitor\norder a before b\npriority a > b\n",
             b"policy: cycle a b\n",
         ),
@@ -218,7 +222,7 @@ fn a_policy_is_refused_for_its_first_fault(rt: HostRuntime) -> Result<(), Fail> 
 fn a_policy_of_another_kind_is_not_run(rt: HostRuntime) -> Result<(), Fail> {
     let alloc = rt.alloc();
     let run = words(alloc, &["run", "p", "c", "o", "r"])?;
-    let policy = b"nfp 1\nchain main\nfn m monitor\n";
+    let policy = b"nfp 1\nchain main\nfn m marker\n";
     let mut desk = FixedDesk::new(alloc, policy.to_vec(alloc)?, Vec::new(alloc), 7);
     let outcome = nfp(&rt, alloc, &run, &mut desk, &OpenGate);
     assert!(rt; matches!(outcome, Outcome::NotBuilt(Slot::Policy)));

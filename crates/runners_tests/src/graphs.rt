@@ -30,7 +30,10 @@ fn open_and_shut(alloc: Global) -> Result<Vec<NetFunction>, AllocError>
 }
 
 /// A firewall without rules.
-fn firewall(alloc: Global, default: bool) -> NetFunction {
+#[tactic(auto, unfolding(net_functions::specs::NetFunctions::profile_by))]
+fn firewall(alloc: Global, default: bool) -> NetFunction
+    ensures { net_behaviour.profile result ≡ profile_of Kind.Firewall }
+{
     NetFunction::Firewall(Firewall {
         default,
         rules: Items::new(Vec::new(alloc)),

@@ -6,7 +6,6 @@
 mod frames;
 
 ghost use Rattle.std.specs.Prelude.{◌≡◌, ◌≤◌, length, map, IfOk, OnOk, vec_len};
-ghost use Rattle.net_functions.specs.NetFunctions.{net_behaviour};
 
 use action_profile::{Profile, all_fields};
 use chain_walk::Fate;
@@ -57,8 +56,8 @@ fn push_function(
     Ok(())
 }
 
-fn profiles_of(alloc: Global, functions: &[NetFunction]) -> Result<Vec<Profile>, AllocError>
-    ensures { IfOk result (λ profiles. profiles.items ≡ map net_behaviour.profile functions.now) }
+fn profiles_of<F: Function>(alloc: Global, functions: &[F]) -> Result<Vec<Profile>, AllocError>
+    ensures { IfOk result (λ profiles. profiles.items ≡ map F.behaviour.profile functions.now) }
 {
     functions
         .iter()
@@ -72,7 +71,7 @@ fn make_running(
 ) -> Result<Running<NetFunction>, AllocError>
     requires { vec_len functions ≤ 64 }
 {
-    let profiles = profiles_of(alloc, &functions)?;
+    let profiles = profiles_of(alloc, functions.as_slice())?;
     let graph = compile(alloc, &profiles)?;
     Ok(Running::new(functions, graph))
 }
