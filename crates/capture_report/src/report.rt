@@ -3,20 +3,20 @@ ghost use Rattle.std.specs.Prelude.{◌≡◌, ◌≤◌, ◌<◌, ◌+◌, ◌^
 ghost use Rattle.packet_version.specs.Tallies.{count_of};
 ghost use Rattle.chain_service.specs.Opening.{chains_of};
 ghost use Rattle.burst_walk.specs.Leading.{all_ended, ended};
-ghost use Rattle.capture_report.specs.Report.{dropped_by, drop_text, drop_line, drop_lines, names_among, copies_text, copies_line, copies_lines, function_text, function_lines, chain_lines, state_text, last_line};
-ghost use Rattle.capture_report.specs.Telling.{names_in, told_text};
+ghost use Rattle.action_profile.specs.Kinds.{kind_name};
+ghost use Rattle.capture_report.specs.Report.{dropped_by, drop_text, drop_line, drop_lines, names_among, total_line, copies_text, copies_line, copies_lines, function_text, last_line};
+ghost use Rattle.capture_report.specs.Telling.{names_in};
 
-use crate::ended::Ended;
+use crate::ended::Totals;
 use crate::lines::{capture_line, totals_line};
 use action_profile::all_fields;
-use chain_service::{NamedFunction, ServiceChain};
+use chain_service::ServiceChain;
 use chain_walk::Fate;
 use classifier::Item;
-use net_functions::Function;
 use packet_fields::Field;
 use packet_version::Tally;
 use pcap_io::CaptureFault;
-use policy_text::{ChainPolicy, FunctionDecl};
+use policy_text::FunctionDecl;
 use std::alloc::{AllocError, Global};
 use text_lines::Piece::{Number, Text};
 use text_lines::{join, push_pieces};
@@ -138,25 +138,18 @@ fn push_drop_text<'a>(
     )
 }
 
-/// What stands behind the lines of the dropped packets: the totals, the copies of each chain, its functions with their
-/// states, and the end or the capture's fault.
-pub fn summary(alloc: Global, chains: &[ServiceChain], ended: Ended) -> Result<Vec<u8>, AllocError>
-    requires { ended.totals.dropped ≤ ended.totals.records }
-    ensures { IfOk result (λ v. v.items ≡ told_text chains.now ended) }
+/// Adds the line of the totals.
+pub fn push_totals_line(alloc: Global, text: &mut Vec<u8>, totals: Totals) -> Result<(), AllocError>
+    requires { totals.dropped ≤ totals.records }
+    ensures { OnOk result (text.new.items ≡ text.old.items ++ total_line totals.records totals.dropped) }
 {
-    let mut text = totals_line(alloc, ended.totals)?;
-    'copies: for chain in chains {
-        push_copies_lines(alloc, &mut text, chain.declared.name.bytes(), &chain.copies)?;
-    }
-    'functions: for chain in chains {
-        push_chain_lines(alloc, &mut text, &chain.declared, chain.running.functions())?;
-    }
-    push_last_line(alloc, &mut text, ended.fault)?;
-    Ok(text)
+    let line = totals_line(alloc, totals)?;
+    text.extend_from_slice(&line)
 }
 
+/// Adds the last line: the end, or the capture's fault.
 #[tactic(auto, unfolding(crate::specs::Report::last_line))]
-fn push_last_line(
+pub fn push_last_line(
     alloc: Global,
     text: &mut Vec<u8>,
     fault: Option<CaptureFault>,
@@ -172,9 +165,9 @@ fn push_last_line(
     }
 }
 
-// The line of each field of which copies were made.
+/// Adds the line of each field of which copies were made for the packets of the chain with this name.
 #[tactic(auto, unfolding(crate::specs::Report::copies_lines))]
-fn push_copies_lines(
+pub fn push_copies_lines(
     alloc: Global,
     text: &mut Vec<u8>,
     chain: &[u8],
@@ -227,31 +220,14 @@ fn copies_text<'a>(
     )
 }
 
-// The lines of a chain's functions, as they are declared.
-#[tactic(auto, unfolding(crate::specs::Report::chain_lines))]
-fn push_chain_lines(
-    alloc: Global,
-    text: &mut Vec<u8>,
-    chain: &ChainPolicy,
-    functions: &[NamedFunction],
-) -> Result<(), AllocError>
-    ensures { OnOk result (text.new.items ≡ text.old.items ++ chain_lines chain.now functions.now) }
-{
-    'functions: for declared in chain.functions.as_slice() {
-        push_function_lines(alloc, text, chain.name.bytes(), functions, declared)?;
-    }
-    Ok(())
-}
-
-// The line of a function, and those of its state.
-fn push_function_lines(
+/// Adds the line of a function itself, with the name of its chain.
+pub fn push_function_line(
     alloc: Global,
     text: &mut Vec<u8>,
     chain: &[u8],
-    functions: &[NamedFunction],
     declared: &FunctionDecl,
 ) -> Result<(), AllocError>
-    ensures { OnOk result (text.new.items ≡ text.old.items ++ function_lines chain.now functions.now declared.now) }
+    ensures { OnOk result (text.new.items ≡ text.old.items ++ function_text chain.now declared.now.name (kind_name declared.now.kind)) }
 {
     push_function_text(
         alloc,
@@ -259,8 +235,7 @@ fn push_function_lines(
         chain,
         declared.name.bytes(),
         declared.kind.name().as_bytes(),
-    )?;
-    push_state(text, functions, declared.name.bytes())
+    )
 }
 
 #[tactic(auto, unfolding(crate::specs::Report::function_text))]
@@ -286,21 +261,4 @@ fn push_function_text<'a>(
             Text(b"\n"),
         ],
     )
-}
-
-// The lines of the state of the function with this name.
-fn push_state(
-    text: &mut Vec<u8>,
-    functions: &[NamedFunction],
-    name: &[u8],
-) -> Result<(), AllocError>
-    ensures { OnOk result (text.new.items ≡ text.old.items ++ state_text functions.now name.now) }
-{
-    match functions
-        .iter()
-        .find(|function| function.name.bytes() == name)
-    {
-        Some(function) => function.state_lines(text),
-        None => Ok(()),
-    }
 }

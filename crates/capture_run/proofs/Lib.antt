@@ -2,6 +2,7 @@ pub mod BurstLines
 pub mod Capturing
 pub mod Emitting
 pub mod Following
+pub mod Gathering
 pub mod Listing
 pub mod Passing
 pub mod Putting

@@ -1,5 +1,5 @@
 -- For proofs: what a run puts into Out and Report, step by step.
-use Rattle.std.specs.Prelude.{◌≤◌, ℕ, List}
+use Rattle.std.specs.Prelude.{◌≡◌, ◌≤◌, ℕ, List, [], ◌++◌}
 use Rattle.nfp_outside.specs.declared.slot.Slot.{Slot}
 use Rattle.nfp_outside.specs.declared.slot.Slot.TheVariants.{Policy, Capture, Out, Report, Note}
 use Rattle.nfp_outside.specs.declared.slot.OutsideFault.{OutsideFault}
@@ -40,6 +40,12 @@ IsBroken old new faults.OutOfMemory = Unit {0}
 pub record Breaks (out report : List ℕ) (old new : Slot → SlotView) (fault : RunFault) : Type 0 where
   pub prefixes : PutsPrefixes out report old new
   pub cause : IsBroken old new fault
+
+-- A text was told through a buffer: this of what was held and of the text is put into Report, and the buffer holds the rest.
+pub record Gathers (text held held' : List ℕ) (old new : Slot → SlotView) : Type 0 where
+  pub put : List ℕ
+  pub puts : Puts [] put old new
+  pub parts : put ++ held' ≡ held ++ text
 
 -- what a refused writing of a slot is answered with
 abbrev pub fault_seen : Slot → OutsideFault → RunFault

@@ -6,6 +6,9 @@
 //! walked through its chain after the ones before it, whatever the burst. `specs/Emitted.antt` has the capture that
 //! is written, and the crate `capture_report` the report.
 //!
+//! What stands behind the lines of the dropped packets goes through one buffer, piece by piece, and each state line by line: a
+//! report of any length takes no more memory than a short one.
+//!
 //! The head of a capture is the format's own, and left out here. What broke a run off is one small [`RunFault`].
 #![tactic(auto)]
 
@@ -16,6 +19,7 @@ mod records;
 mod run;
 mod sink;
 mod source;
+mod summary;
 mod write;
 
 pub use fault::RunFault;

@@ -9,8 +9,9 @@ use crate::passage::Passage;
 use crate::records::run_records;
 use crate::sink::Sink;
 use crate::source::Source;
+use crate::summary::put_summary;
 use crate::write::put_text;
-use capture_report::{Ended, TITLE, Totals, summary};
+use capture_report::{Ended, TITLE, Totals};
 use chain_service::{NamedFunction, Service};
 use nfp_outside::Desk;
 use pcap_io::Unit;
@@ -59,7 +60,6 @@ pub fn run_capture<R: Wait, D: Desk, S: Source + Drop, W: Sink + Drop>(
         totals: passage.totals,
         fault,
     };
-    let text = summary(alloc, passage.service.chains.as_slice(), ended)?;
-    put_text(desk, &text)?;
+    put_summary(alloc, desk, passage.service.chains.as_slice(), ended)?;
     Ok(ended)
 }

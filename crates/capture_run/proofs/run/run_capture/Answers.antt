@@ -1,11 +1,10 @@
-use Rattle.std.proofs.Common.{◌∙◌, [], ap, subst}
+use Rattle.std.proofs.Common.{[], subst}
 use Rattle.nfp_outside.specs.declared.slot.Slot.TheVariants.{Capture}
 use Rattle.capture_run.specs.Running.{RunBreaks, RunsAll}
 use Rattle.capture_run.specs.Slots.{Breaks, Puts}
 use Rattle.capture_report.specs.Telling.{told_text}
-use Rattle.capture_run.specs.declared.fault.RunFault.TheVariants.{OutOfMemory}
 use Rattle.capture_run.proofs.Capturing.{breaks_at_records, breaks_at_summary, breaks_at_title, ended_so, started, walks_apart, writes_all}
-use Rattle.capture_run.proofs.Putting.{capture_is_not_report, handed_on, no_memory}
+use Rattle.capture_run.proofs.Putting.{capture_is_not_report, handed_on}
 use Rattle.capture_run.proofs.run.run_capture.Goals as goal
 
 pub returns-in_err-put_text-clause-err : goal.returns-in_err-put_text-clause-err
@@ -17,28 +16,20 @@ returns-in_err-passage-clause-err g c = handed_on c.from_residual-in_err-passage
     (subst (λ v. RunBreaks g.W.Sink.spelled (started c.args.service c.args.unit c.args.sink) (g.S.Source.left c.args.source v) (g.D.Desk.slots c.put_text.new.desk) (g.D.Desk.slots c.run_records.new.desk) c.in_err-passage.field-0.0)
     (c.put_text.ensures.others Capture capture_is_not_report) c.in_err-passage.ensures.err))
 
-pub returns-in_err-text-clause-err : goal.returns-in_err-text-clause-err
-returns-in_err-text-clause-err g c = handed_on c.from_residual-in_err-text.result OutOfMemory _ c.from_residual-in_err-text.ensures.1
-    (breaks_at_summary g.W.Sink.spelled c.args.service c.args.unit c.args.sink (c.in_ok-passage.passage, c.in_ok-passage.fault) _ (g.D.Desk.slots c.args.desk.now) (g.D.Desk.slots c.put_text.new.desk) (g.D.Desk.slots c.run_records.new.desk) (g.D.Desk.slots c.run_records.new.desk) OutOfMemory
+pub returns-in_err-put_summary-clause-err : goal.returns-in_err-put_summary-clause-err
+returns-in_err-put_summary-clause-err g c = handed_on c.from_residual-in_err-put_summary.result c.in_err-put_summary.field-0.0 _ c.from_residual-in_err-put_summary.ensures.1
+    (breaks_at_summary g.W.Sink.spelled c.args.service c.args.unit c.args.sink (c.in_ok-passage.passage, c.in_ok-passage.fault) _ (g.D.Desk.slots c.args.desk.now) (g.D.Desk.slots c.put_text.new.desk) (g.D.Desk.slots c.run_records.new.desk) (g.D.Desk.slots c.put_summary.new.desk) c.in_err-put_summary.field-0.0
     c.requires.opening (walks_apart c.args.service c.chains_walk_apart.ensures.fates) c.in_ok-put_text.ensures.ok
     (subst (λ v. RunsAll g.W.Sink.spelled (started c.args.service c.args.unit c.args.sink) (g.S.Source.left c.args.source v) (g.D.Desk.slots c.put_text.new.desk) (g.D.Desk.slots c.run_records.new.desk) (c.in_ok-passage.passage, c.in_ok-passage.fault))
     (c.put_text.ensures.others Capture capture_is_not_report) c.in_ok-passage.ensures.ok)
-    (no_memory _ _ (g.D.Desk.slots c.run_records.new.desk)))
-
-pub returns-in_err-put_text-2-clause-err : goal.returns-in_err-put_text-2-clause-err
-returns-in_err-put_text-2-clause-err g c = handed_on c.from_residual-in_err-put_text-2.result c.in_err-put_text-2.field-0.0 _ c.from_residual-in_err-put_text-2.ensures.1
-    (breaks_at_summary g.W.Sink.spelled c.args.service c.args.unit c.args.sink (c.in_ok-passage.passage, c.in_ok-passage.fault) _ (g.D.Desk.slots c.args.desk.now) (g.D.Desk.slots c.put_text.new.desk) (g.D.Desk.slots c.run_records.new.desk) (g.D.Desk.slots c.put_text-2.new.desk) c.in_err-put_text-2.field-0.0
-    c.requires.opening (walks_apart c.args.service c.chains_walk_apart.ensures.fates) c.in_ok-put_text.ensures.ok
-    (subst (λ v. RunsAll g.W.Sink.spelled (started c.args.service c.args.unit c.args.sink) (g.S.Source.left c.args.source v) (g.D.Desk.slots c.put_text.new.desk) (g.D.Desk.slots c.run_records.new.desk) (c.in_ok-passage.passage, c.in_ok-passage.fault))
-    (c.put_text.ensures.others Capture capture_is_not_report) c.in_ok-passage.ensures.ok)
-    (subst (λ t. Breaks [] t (g.D.Desk.slots c.run_records.new.desk) (g.D.Desk.slots c.put_text-2.new.desk) c.in_err-put_text-2.field-0.0)
-    (c.deref.ensures.value ∙ c.in_ok-text.ensures ∙ ap (λ l. told_text l (ended_so (c.in_ok-passage.passage, c.in_ok-passage.fault))) c.as_slice.ensures) c.in_err-put_text-2.ensures.err))
+    (subst (λ l. Breaks [] (told_text l (ended_so (c.in_ok-passage.passage, c.in_ok-passage.fault))) (g.D.Desk.slots c.run_records.new.desk) (g.D.Desk.slots c.put_summary.new.desk) c.in_err-put_summary.field-0.0)
+    c.as_slice.ensures c.in_err-put_summary.ensures.err))
 
 pub returns-clause-ok : goal.returns-clause-ok
 returns-clause-ok g c =
-    writes_all g.W.Sink.spelled c.args.service c.args.unit c.args.sink (c.in_ok-passage.passage, c.in_ok-passage.fault) _ (g.D.Desk.slots c.args.desk.now) (g.D.Desk.slots c.put_text.new.desk) (g.D.Desk.slots c.run_records.new.desk) (g.D.Desk.slots c.put_text-2.new.desk)
+    writes_all g.W.Sink.spelled c.args.service c.args.unit c.args.sink (c.in_ok-passage.passage, c.in_ok-passage.fault) _ (g.D.Desk.slots c.args.desk.now) (g.D.Desk.slots c.put_text.new.desk) (g.D.Desk.slots c.run_records.new.desk) (g.D.Desk.slots c.put_summary.new.desk)
     c.requires.opening (walks_apart c.args.service c.chains_walk_apart.ensures.fates) c.in_ok-put_text.ensures.ok
     (subst (λ v. RunsAll g.W.Sink.spelled (started c.args.service c.args.unit c.args.sink) (g.S.Source.left c.args.source v) (g.D.Desk.slots c.put_text.new.desk) (g.D.Desk.slots c.run_records.new.desk) (c.in_ok-passage.passage, c.in_ok-passage.fault))
     (c.put_text.ensures.others Capture capture_is_not_report) c.in_ok-passage.ensures.ok)
-    (subst (λ t. Puts [] t (g.D.Desk.slots c.run_records.new.desk) (g.D.Desk.slots c.put_text-2.new.desk))
-    (c.deref.ensures.value ∙ c.in_ok-text.ensures ∙ ap (λ l. told_text l (ended_so (c.in_ok-passage.passage, c.in_ok-passage.fault))) c.as_slice.ensures) c.in_ok-put_text-2.ensures.ok)
+    (subst (λ l. Puts [] (told_text l (ended_so (c.in_ok-passage.passage, c.in_ok-passage.fault))) (g.D.Desk.slots c.run_records.new.desk) (g.D.Desk.slots c.put_summary.new.desk))
+    c.as_slice.ensures c.in_ok-put_summary.ensures.ok)

@@ -1,0 +1,41 @@
+//! The function with a name.
+ghost use Rattle.std.specs.Prelude.{◌≡◌};
+ghost use Rattle.std.specs.List.{find};
+ghost use Rattle.std.specs.Option.{option_copied};
+ghost use Rattle.std.specs.Str.{bytes_eq};
+
+use chain_service::NamedFunction;
+
+/// The function with this name, where there is one.
+pub fn function_named<'a>(functions: &'a [NamedFunction], name: &[u8]) -> Option<&'a NamedFunction>
+    ensures { option_copied result ≡ find (λ f. bytes_eq f.name name.now) functions.now }
+{
+    with_name(functions, name)
+}
+
+// What has a name.
+trait Named {
+    ghost use Rattle.std.specs.Prelude.{◌≡◌, ℕ, List};
+
+    ghost name_of: { Self → List ℕ };
+
+    fn name_bytes(&self) -> &[u8]
+        ensures { result.now ≡ name_of self.now };
+}
+
+impl Named for NamedFunction {
+    ghost name_of = { λ f. f.name };
+
+    fn name_bytes(&self) -> &[u8] {
+        self.name.bytes()
+    }
+}
+
+// The first of these with this name, of any type, so that no kind of function is looked into.
+fn with_name<'a, F: Named>(functions: &'a [F], name: &[u8]) -> Option<&'a F>
+    ensures { option_copied result ≡ find (λ f. bytes_eq (F.name_of f) name.now) functions.now }
+{
+    functions
+        .iter()
+        .find(|function| function.name_bytes() == name)
+}
