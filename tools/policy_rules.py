@@ -40,6 +40,7 @@ class Misfit(Exception):
 
 class Function(typing.NamedTuple):
     name: str
+    line: int
     kind: str
     settings: list  # line and words
 
@@ -82,12 +83,16 @@ def numeral(word, greatest, digits=20):
     return int(word)
 
 
-def prefix(word):
-    address, slash, bits = word.partition('/')
-    parts = [numeral(part, 255, 3) for part in address.split('.')]
+def address(word):
+    parts = [numeral(part, 255, 3) for part in word.split('.')]
     if len(parts) != 4:
         raise ValueError(word)
-    return ipaddress.IPv4Network((bytes(parts), numeral(bits, 32, 2) if slash else 32), strict=False)
+    return ipaddress.IPv4Address(bytes(parts))
+
+
+def prefix(word):
+    begin, slash, bits = word.partition('/')
+    return ipaddress.IPv4Network((address(begin).packed, numeral(bits, 32, 2) if slash else 32), strict=False)
 
 
 def port_range(word):
@@ -176,7 +181,7 @@ def read_function_line(chains, line):
         raise line.fault('duplicate name')
     if kind not in KINDS:
         raise line.fault('unknown kind')
-    chains[-1].functions.append(Function(name, kind, []))
+    chains[-1].functions.append(Function(name, line.number, kind, []))
 
 
 def read_setting_line(chains, line):
@@ -227,31 +232,77 @@ def read_text(text):
     return chains
 
 
-# The settings of firewalls.
+# The settings of the kinds that are built.
 
 
-class Firewall(typing.NamedTuple):
-    default: bool
-    rules: list  # allow, and the clauses
+def verdict(word):
+    if word not in ('allow', 'deny'):
+        raise ValueError(word)
+    return word == 'allow'
 
 
-def read_firewall(function):
-    """The firewall that a function's lines set up, or the least line that it refuses."""
-    default, rules, keys = True, [], set()
-    verdicts = {'allow': True, 'deny': False}
+def public_ports(word):
+    """Two ports with a dash between them, from 1 on."""
+    low, high = port_range(word)
+    if '-' not in word or low == 0:
+        raise ValueError(word)
+    return low, high
+
+
+def amount(word):
+    """A number that isn't 0, of 32 bits."""
+    number = numeral(word, 4294967295)
+    if number == 0:
+        raise ValueError(word)
+    return number
+
+
+def clauses_of(words):
+    return read_clauses(words, 0)
+
+
+def one(read):
+    """One word is due, which is read so."""
+
+    def value(words):
+        if len(words) != 1:
+            raise ValueError(words)
+        return read(words[0])
+
+    return value
+
+
+# The lines of each kind that is built, by their first two words, with how the words behind these are read.
+LINES = {
+    'firewall': {('set', 'default'): one(verdict), ('rule', 'allow'): clauses_of, ('rule', 'deny'): clauses_of},
+    'nat': {('set', 'inside'): one(prefix), ('set', 'public'): one(address), ('set', 'ports'): one(public_ports)},
+    'balancer': {('set', 'vip'): one(address), ('rule', 'backend'): one(address)},
+    'monitor': {},
+    'limiter': {('set', 'rate'): one(amount), ('set', 'burst'): one(amount)},
+}
+
+# The kinds each of whose lines has to stand in a declaration once or more.
+COMPLETE = {'nat', 'balancer', 'limiter'}
+
+
+def read_settings(function):
+    """What the lines of a function say, each as its first two words and its value, or the least line that it refuses."""
+    forms = LINES[function.kind]
+    said, refused, keys = [], [], set()
     for number, words in function.settings:
+        lead = tuple(words[:2])
         try:
-            if words[0] == 'rule':
-                rules.append((verdicts[words[1]], read_clauses(words, 2)))
-                continue
-            _, key, verdict = words
-            if key != 'default' or key in keys:
-                raise Misfit(1)
-            default = verdicts[verdict]
-            keys.add(key)
+            said.append((lead, forms[lead](words[2:])))
         except (KeyError, ValueError, Misfit):
-            raise Refused(f'line {number}: bad setting') from None
-    return Firewall(default, rules)
+            refused.append(number)
+        if words[0] == 'set':
+            refused += [number] if lead in keys else []
+            keys.add(lead)
+    if function.kind in COMPLETE and {lead for lead, _ in said} != set(forms):
+        refused.append(function.line)
+    if refused:
+        raise Refused(f'line {min(refused)}: bad setting')
+    return said
 
 
 # The order of a chain.
@@ -319,8 +370,8 @@ def check(text):
     chains = read_text(text)
     for chain in chains:
         for function in chain.functions:
-            if function.kind == 'firewall':
-                read_firewall(function)
+            if function.kind in LINES:
+                read_settings(function)
     return [(chain, order_of(chain)) for chain in chains]
 
 

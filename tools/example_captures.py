@@ -1,0 +1,363 @@
+"""What the captures of the examples hold, record by record: each is a story that an operator would tell."""
+
+from frames import (
+    ACK,
+    BROADCAST,
+    MICRO,
+    NANO,
+    PUSH_ACK,
+    SERVICE_TAG,
+    STATION,
+    SYN,
+    TAGGED_IPV4_SUM,
+    TCP,
+    TCP_SUM,
+    TYPE_ARP,
+    TYPE_IPV4,
+    TYPE_PPPOE,
+    UDP,
+    VLAN_TAG,
+    Capture,
+    arp_request,
+    echo,
+    ethernet,
+    ipv4,
+    ipv6,
+    miscounted,
+    plain,
+    tag,
+    tcp,
+    udp,
+    uncounted,
+)
+
+QUESTION = b'\x07example\x03com\0\0\x01\0\x01'
+QUERY = bytes.fromhex('2a2a01000001000000000000') + QUESTION
+ANSWER = bytes.fromhex('2a2a81830001000000000000') + QUESTION
+DISCOVER = bytes.fromhex('01010600 2b2b2b2b') + b'\0' * 20 + STATION + b'\0' * 202 + bytes.fromhex('63825363 350101 ff')
+RECORD_ROUTE = bytes.fromhex('070b04') + b'\0' * 8 + b'\0'
+ROUTER_ALERT = bytes.fromhex('94040000')
+OFFICE, NEIGHBOUR, OTHER_TEN, GUEST, SCREEN, SCANNER = '10.1.4.20', '10.1.4.21', '10.2.4.20', '192.168.20.31', '192.168.20.10', '203.0.113.66'
+RESOLVER, CUSTOMER, PROBE = '192.0.2.53', '198.51.100.200', '203.0.113.9'
+
+
+def page(port):
+    """A piece of a web page, which makes a frame of 1,500 bytes."""
+    return tcp(80, port, PUSH_ACK, b'HTTP/1.1 200 OK\r\n\r\n' + b'.' * 1427)
+
+
+def uplink():
+    """What was seen on the uplink of an office, and how many bytes of it were captured (None: up to the snaplen)."""
+    long_page = page(50123)
+    service = tag(SERVICE_TAG, 100) + tag(VLAN_TAG, 20)
+    return [
+        ('ARP request of an office machine', arp_request(OFFICE, '10.1.0.1'), None),
+        ('DNS query of an office machine', plain(OFFICE, udp(40001, 53, QUERY), to=RESOLVER), None),
+        ('TCP SYN of an office machine', plain(OFFICE, tcp(50123, 443, SYN)), None),
+        ('TCP SYN of the scanner', plain(SCANNER, tcp(4444, 22, SYN)), None),
+        ('ping of the scanner', plain(SCANNER, echo(1)), None),
+        ('TCP SYN of the scanner\'s neighbour', plain('203.0.113.67', tcp(4444, 22, SYN)), None),
+        ('DNS query of a guest', plain(GUEST, udp(40002, 53, QUERY), to=RESOLVER), None),
+        ('TCP of the meeting-room screen', plain(SCREEN, tcp(50124, 443, PUSH_ACK, b'hello')), None),
+        ('TCP of a guest in VLAN 20', plain(GUEST, tcp(50125, 80, SYN), tags=tag(VLAN_TAG, 20)), None),
+        ('the screen in VLAN 20', plain(SCREEN, tcp(50126, 80, SYN), tags=tag(VLAN_TAG, 20, 5)), None),
+        ('ping of a guest in VLAN 20 inside service VLAN 100', plain(GUEST, echo(2), tags=service), None),
+        ('an office machine in VLAN 20 inside service VLAN 100', plain(OFFICE, udp(40003, 53, QUERY), to=RESOLVER, tags=service), None),
+        ('the scanner behind three tags', plain(SCANNER, echo(3), tags=tag(SERVICE_TAG, 100) + tag(SERVICE_TAG, 7) + tag(VLAN_TAG, 20)), None),
+        ('the scanner behind a priority tag of VLAN 0', plain(SCANNER, echo(4), tags=tag(VLAN_TAG, 0, 7)), None),
+        ('the scanner behind a tag of type 0x9100', plain(SCANNER, echo(5), tags=tag(0x9100, 20)), None),
+        ('a machine of 10.0.0.0/8 that is no office', plain(OTHER_TEN, udp(40004, 123, b'\x23' + b'\0' * 47)), None),
+        ('the last address of the offices', plain('10.1.255.255', echo(6)), None),
+        ('the first address behind the offices', plain('10.2.0.0', echo(7)), None),
+        ('the first address of 172.16.0.0/12', plain('172.16.0.0', echo(8)), None),
+        ('the last address of 172.16.0.0/12', plain('172.31.255.255', echo(9)), None),
+        ('the first address behind 172.16.0.0/12', plain('172.32.0.0', echo(10)), None),
+        ('a loopback address on the wire', plain('127.0.0.1', udp(40005, 53, QUERY), to=RESOLVER), None),
+        ('the lower half of 198.51.100.0/24', plain('198.51.100.127', tcp(4445, 25, SYN)), None),
+        ('the upper half of 198.51.100.0/24', plain('198.51.100.128', tcp(4446, 25, SYN)), None),
+        ('IPv6 ping', ipv6(), None),
+        ('a guest with a route to be recorded', plain(GUEST, echo(11), options=RECORD_ROUTE), None),
+        ('an office machine with a router alert', plain(OFFICE, echo(12), options=ROUTER_ALERT), None),
+        ('a later fragment of a guest', plain(GUEST, (UDP, lambda *_: b'x' * 24), offset=1480), None),
+        ('a web page of 1,500 bytes, cut by the snaplen', plain('192.0.2.80', long_page, to=OFFICE), None),
+        ('the scanner, 1,500 bytes, cut by the snaplen', plain(SCANNER, long_page, to=OFFICE), None),
+        ('the scanner, cut right behind its address', plain(SCANNER, echo(13)), 30),
+        ('the scanner, cut inside its address', plain(SCANNER, echo(14)), 29),
+        ('the scanner in VLAN 20, cut inside its address', plain(SCANNER, echo(15), tags=tag(VLAN_TAG, 20)), 33),
+        ('the scanner with a header length of 4 words', plain(SCANNER, echo(16), lead=0x44), None),
+        ('the scanner as version 6 under the type of IPv4', plain(SCANNER, echo(17), lead=0x65), None),
+        ('the scanner inside a PPPoE session', ethernet(TYPE_PPPOE, bytes.fromhex('110000010030 0021') + ipv4(SCANNER, '192.0.2.80', echo(18))), None),
+        ('a runt that ends inside its tag', plain(GUEST, echo(19), tags=tag(VLAN_TAG, 20)), 17),
+        ('a runt of 13 bytes', plain(GUEST, echo(20)), 13),
+        ('a runt of 6 bytes', plain(GUEST, echo(21)), 6),
+        ('a record of no bytes', plain(GUEST, echo(22)), 0),
+        ('DHCP discover of a machine without an address', ethernet(TYPE_IPV4, ipv4('0.0.0.0', '255.255.255.255', udp(68, 67, DISCOVER)), to=BROADCAST), None),
+        ('DNS answer to an office machine', plain(RESOLVER, udp(53, 40001, ANSWER), to=OFFICE), None),
+    ]
+
+
+def tap():
+    """What an appliance at the line of a name server saw, with the nanoseconds since FIRST_SECOND."""
+
+    def query(source, port):
+        return plain(source, udp(port, 53, QUERY), to=RESOLVER)
+
+    fragment = plain('10.66.0.1', (UDP, lambda *_: b'x' * 24), to=RESOLVER, offset=1480)
+    probe = plain(PROBE, echo(1), to=RESOLVER, tags=tag(VLAN_TAG, 30))
+    return [
+        (999_999_105, 'DNS query of a customer', query(CUSTOMER, 40001), None),
+        (999_999_777, 'DNS query of the flood', query('203.0.113.5', 53000), None),
+        (999_999_999, 'the last nanosecond of a second, the flood', query('203.0.113.77', 53000), None),
+        (1_000_000_000, 'the first of the next, DNS query of a customer', query('198.51.100.7', 40002), None),
+        (1_000_000_672, 'ping of the probe in VLAN 30', probe, None),
+        (1_000_000_518, 'DNS answer, from the appliance\'s other port', plain(RESOLVER, udp(53, 40001, ANSWER), to=CUSTOMER), None),
+        (1_000_001_344, 'DNS query with a private source', query('192.168.1.5', 53000), None),
+        (1_000_001_344, 'DNS query with a loopback source, at the same moment', query('127.0.0.1', 53000), None),
+        (1_000_002_016, 'a later fragment with a private source', fragment, None),
+        (1_000_002_688, 'the flood in VLAN 30', plain('203.0.113.200', udp(53000, 53, QUERY), to=RESOLVER, tags=tag(VLAN_TAG, 30)), None),
+        (1_000_003_360, 'a web page of 1,500 bytes, whole', plain('192.0.2.80', page(50127), to=CUSTOMER), None),
+        (1_000_004_032, 'IPv6 ping', ipv6(), None),
+    ]
+
+
+def full_disk():
+    """What a gateway wrote until its disk was full, with the microseconds since FIRST_SECOND."""
+    made = [
+        ('ARP request of an office machine', arp_request(OFFICE, '10.1.0.1')),
+        ('TCP SYN of an office machine', plain(OFFICE, tcp(50123, 80, SYN))),
+        ('a web page of 1,500 bytes', plain('192.0.2.80', page(50123), to=OFFICE)),
+        ('TCP SYN of the scanner', plain(SCANNER, tcp(4444, 22, SYN))),
+        ('DNS query of a guest', plain(GUEST, udp(40002, 53, QUERY), to=RESOLVER)),
+        ('the same page, sent once more', plain('192.0.2.80', page(50123), to=OFFICE)),
+        ('ping of the scanner', plain(SCANNER, echo(1))),
+        ('DNS query of an office machine', plain(OFFICE, udp(40001, 53, QUERY), to=RESOLVER)),
+        ('a page of the scanner, whose record is cut', plain(SCANNER, page(50124), to=OFFICE)),
+    ]
+    return [(number * 180_503, what, frame, None) for number, (what, frame) in enumerate(made)]
+
+
+def servers():
+    """What was seen on the line to the servers of a site, and how many bytes of it were captured."""
+    web, name_server, operator = '192.0.2.80', '192.0.2.53', '198.51.100.20'
+
+    def syn(source, port, to=web, **fields):
+        return plain(source, tcp(50123, port, SYN), to=to, **fields)
+
+    def query(source, port):
+        return plain(source, udp(port, 53, QUERY), to=name_server)
+
+    in_99, in_service = tag(VLAN_TAG, 99), tag(SERVICE_TAG, 100) + tag(VLAN_TAG, 99)
+    return [
+        ('ARP request of the gateway', arp_request('192.0.2.1', web), None),
+        ('TCP SYN of a customer to the web server, port 443', syn(CUSTOMER, 443), None),
+        ('the same to port 80', syn(CUSTOMER, 80), None),
+        ('the same to port 22', syn(CUSTOMER, 22), None),
+        ('UDP of a customer to the web server, port 443', plain(CUSTOMER, udp(50124, 443, b'quic'), to=web), None),
+        ('TCP SYN to port 443 of the machine beside it', syn(CUSTOMER, 443, to='192.0.2.81'), None),
+        ('DNS query of a customer', query(CUSTOMER, 40001), None),
+        ('DNS query from port 1023', query(CUSTOMER, 1023), None),
+        ('DNS query from port 1024', query(CUSTOMER, 1024), None),
+        ('TCP SYN of the scanner to port 443', syn(SCANNER, 443), None),
+        ('TCP SYN of the scanner to port 22', syn(SCANNER, 22), None),
+        ('TCP SYN of the scanner in VLAN 99', syn(SCANNER, 443, tags=in_99), None),
+        ('ping of the monitoring', plain(operator, echo(1), to=web), None),
+        ('ping of a stranger', plain('198.51.101.1', echo(2), to=web), None),
+        ('TCP SYN to port 22 in VLAN 99, from a private address', syn('10.9.0.1', 22, tags=in_99), None),
+        ('the same without the tag', syn('10.9.0.1', 22), None),
+        ('TCP SYN to port 443 without a tag, from a private address', syn('10.9.0.1', 443), None),
+        ('TCP SYN to port 22 in VLAN 99 inside service VLAN 100', syn(operator, 22, tags=in_service), None),
+        ('TCP SYN to port 443 in the same two', syn(operator, 443, tags=in_service), None),
+        ('TCP SYN to port 443 behind IP options', syn(CUSTOMER, 443, options=RECORD_ROUTE), None),
+        ('first fragment to port 443', plain(CUSTOMER, tcp(50123, 443, PUSH_ACK, b'x' * 28), to=web, more=True), None),
+        ('a later fragment of it', plain(CUSTOMER, (TCP, lambda *_: b'x' * 24), to=web, offset=48), None),
+        ('TCP SYN to port 443, cut behind the destination port', syn(CUSTOMER, 443), 38),
+        ('TCP SYN to port 443, cut inside the destination port', syn(CUSTOMER, 443), 37),
+        ('IPv6 ping', ipv6(), None),
+        ('ARP request in VLAN 99', ethernet(TYPE_ARP, arp_request('192.0.2.1', web)[14:], tags=in_99, to=BROADCAST), None),
+        ('a runt of 13 bytes', syn(CUSTOMER, 443), 13),
+    ]
+
+
+def tenants():
+    """What left a house of two tenants on one line, and how many bytes of it were captured."""
+    web, machine, relay, games = '192.0.2.80', '10.0.0.7', '10.0.0.25', '198.51.100.44'
+    lawyers, school, camera = tag(VLAN_TAG, 10), tag(VLAN_TAG, 20), tag(VLAN_TAG, 30)
+    carried = tag(SERVICE_TAG, 100) + lawyers
+
+    def syn(source, port, tags, to=web):
+        return plain(source, tcp(50123, port, SYN), to=to, tags=tags)
+
+    def query(source, tags):
+        return plain(source, udp(40001, 53, QUERY), to=RESOLVER, tags=tags)
+
+    def arp(tags):
+        return ethernet(TYPE_ARP, arp_request(machine, '10.0.0.1')[14:], tags=tags, to=BROADCAST)
+
+    return [
+        ('TCP SYN to port 443, in VLAN 10', syn(machine, 443, lawyers), None),
+        ('the same in VLAN 20', syn(machine, 443, school), None),
+        ('TCP SYN to port 22, in VLAN 10', syn(machine, 22, lawyers), None),
+        ('the same in VLAN 20', syn(machine, 22, school), None),
+        ('mail, TCP SYN to port 25, in VLAN 10', syn(machine, 25, lawyers), None),
+        ('mail of the relay, in VLAN 10', syn(relay, 25, lawyers), None),
+        ('mail of the same address, in VLAN 20', syn(relay, 25, school), None),
+        ('TCP SYN to port 443 of the scanner, in VLAN 10', syn(machine, 443, lawyers, to=SCANNER), None),
+        ('mail to the scanner, in VLAN 10', syn(machine, 25, lawyers, to=SCANNER), None),
+        ('TCP SYN to port 443 of the games, in VLAN 20', syn(machine, 443, school, to=games), None),
+        ('the same in VLAN 10', syn(machine, 443, lawyers, to=games), None),
+        ('ARP request, in VLAN 10', arp(lawyers), None),
+        ('the same in VLAN 20', arp(school), None),
+        ('DNS query in VLAN 20, with a wrong header checksum', miscounted(query(machine, school), TAGGED_IPV4_SUM), None),
+        ('the heating without a tag, TCP SYN to port 22 of the scanner', syn('192.168.1.9', 22, b'', to=SCANNER), None),
+        ('a camera in VLAN 30, with a wrong header checksum', miscounted(query('192.168.30.2', camera), TAGGED_IPV4_SUM), None),
+        ('TCP SYN to the scanner, in VLAN 10 inside service VLAN 100', syn(machine, 443, carried, to=SCANNER), None),
+        ('a runt that ends inside the tag of VLAN 10', syn(machine, 25, lawyers), 17),
+    ]
+
+
+def backups():
+    """What was seen on the line to a backup store, and how many bytes of it were captured."""
+    store, other, server, rsync = '192.0.2.200', '192.0.2.201', '10.1.0.10', 873
+
+    def syn(source, port, to=store, **fields):
+        return plain(source, tcp(50123, port, SYN), to=to, **fields)
+
+    return [
+        ('ARP request of a server', arp_request(server, '10.1.0.1'), None),
+        ('TCP SYN of a server to the store, port 873', syn(server, rsync), None),
+        ('a piece of the backup', plain(server, tcp(50123, rsync, PUSH_ACK, b'x' * 200), to=store), None),
+        ('the same in VLAN 99', plain(server, tcp(50123, rsync, PUSH_ACK, b'x' * 200), to=store, tags=tag(VLAN_TAG, 99)), None),
+        ('what the store answers', plain(store, tcp(rsync, 50123, ACK), to=server), None),
+        ('TCP SYN of a server to port 873 of another machine', syn(server, rsync, to=other), None),
+        ('TCP SYN of a server to the store, port 22', syn(server, 22), None),
+        ('TCP SYN of a server to the scanner, port 443', syn(server, 443, to=SCANNER), None),
+        ('TCP SYN of a guest to a web server, port 443', syn(GUEST, 443, to='192.0.2.80'), None),
+        ('TCP SYN of a guest to a web server, port 22', syn(GUEST, 22, to='192.0.2.80'), None),
+        ('TCP SYN of a guest to the scanner, port 443', syn(GUEST, 443, to=SCANNER), None),
+        ('TCP SYN of a guest to the store, port 873', syn(GUEST, rsync), None),
+        ('TCP SYN of the scanner to the store, port 873', syn(SCANNER, rsync), None),
+        ('first fragment to the store, port 873', plain(server, tcp(50123, rsync, PUSH_ACK, b'x' * 28), to=store, more=True), None),
+        ('a later fragment of it', plain(server, (TCP, lambda *_: b'x' * 24), to=store, offset=48), None),
+        ('a later fragment of the scanner', plain(SCANNER, (TCP, lambda *_: b'x' * 24), to=store, offset=48), None),
+        ('IPv6 ping', ipv6(), None),
+    ]
+
+
+def edge():
+    """What was seen at the edge of a site with four public ports, from both sides, and how many bytes of it were captured."""
+    web, other_web, resolver, public = '198.51.100.80', '198.51.100.81', '198.51.100.53', '192.0.2.1'
+    third, lab = '10.1.4.22', '10.2.4.20'
+
+    def out(source, port, flags=ACK, to=web, **fields):
+        return plain(source, tcp(port, 443, flags), to=to, **fields)
+
+    def back(source, source_port, port, flags=ACK):
+        return plain(source, tcp(source_port, port, flags), to=public)
+
+    voice, fragment = udp(50123, 3478, b'voice'), (UDP, lambda *_: b'x' * 24)
+    return [
+        ('ARP request of a machine', arp_request(OFFICE, '10.1.0.1'), None),
+        ('TCP SYN of a machine to a web server', out(OFFICE, 50123, SYN), None),
+        ('the answer of the web server', back(web, 443, 40000, SYN | ACK), None),
+        ('DNS query of the same machine', plain(OFFICE, udp(40001, 53, QUERY), to=resolver), None),
+        ('its answer', plain(resolver, udp(53, 40001, ANSWER), to=public), None),
+        ('TCP SYN from the first port to another web server', out(OFFICE, 50123, SYN, to=other_web), None),
+        ('TCP SYN of another machine, from a port of the same number', out(NEIGHBOUR, 50123, SYN), None),
+        ('UDP without a checksum, from the first machine\'s port of the same number', uncounted(plain(OFFICE, voice, to=web)), None),
+        ('TCP SYN of a third machine', out(third, 50124, SYN), None),
+        ('the second machine goes on', out(NEIGHBOUR, 50123), None),
+        ('the first one goes on, with a wrong TCP checksum', miscounted(out(OFFICE, 50123), TCP_SUM), None),
+        ('the same in VLAN 10', out(OFFICE, 50123, tags=tag(VLAN_TAG, 10)), None),
+        ('UDP of the scanner to a port that is taken', plain(SCANNER, udp(4444, 40003, b'hello'), to=public), None),
+        ('TCP SYN of the scanner to a port that is taken for UDP', back(SCANNER, 4444, 40003, SYN), None),
+        ('TCP SYN of the scanner to the port behind the last', back(SCANNER, 4444, 40004, SYN), None),
+        ('TCP SYN of the scanner to port 22', back(SCANNER, 4444, 22, SYN), None),
+        ('ping of the scanner', plain(SCANNER, echo(1), to=public), None),
+        ('ping of a machine', plain(OFFICE, echo(2), to=web), None),
+        ('first fragment of the UDP', plain(OFFICE, udp(50123, 3478, b'x' * 16), to=web, more=True), None),
+        ('a later fragment of it', plain(OFFICE, fragment, to=web, offset=24), None),
+        ('TCP SYN of a machine that is not inside', out(lab, 50123, SYN), None),
+        ('DNS query to another machine of the provider', plain(SCANNER, udp(4444, 53, QUERY), to='192.0.2.53'), None),
+        ('TCP of the second machine to the public address itself', plain(NEIGHBOUR, tcp(50123, 40000, SYN), to=public), None),
+        ('the first machine, cut behind the ports', out(OFFICE, 50123), 38),
+        ('the first machine, cut inside the destination port', out(OFFICE, 50123), 37),
+    ]
+
+
+def shop():
+    """What was seen on the line to two servers behind one address, and how many bytes of it were captured."""
+    shared, first_server, archive = '192.0.2.1', '10.9.0.1', '192.0.2.80'
+    ann, bob = '198.51.100.7', '198.51.100.8'
+
+    def to_shop(source, port, flags=ACK, service=443, **fields):
+        return plain(source, tcp(port, service, flags), to=shared, **fields)
+
+    def upload(port):
+        return plain(bob, tcp(port, 443, PUSH_ACK, b'.' * 1446), to=shared)
+
+    return [
+        ('ARP request of the gateway', arp_request('192.0.2.254', shared), None),
+        ('TCP SYN of a customer', to_shop(ann, 50001, SYN), None),
+        ('TCP SYN of a second customer, from a port of the same number', to_shop(bob, 50001, SYN), None),
+        ('the first customer goes on', to_shop(ann, 50001), None),
+        ('and goes on', to_shop(ann, 50001, PUSH_ACK), None),
+        ('TCP SYN of the first customer from another port', to_shop(ann, 50002, SYN), None),
+        ('UDP of the first customer from the first port', plain(ann, udp(50001, 443, b'quic'), to=shared), None),
+        ('TCP SYN of the first customer from the first port to port 80', to_shop(ann, 50001, SYN, service=80), None),
+        ('the second customer in VLAN 10', to_shop(bob, 50001, tags=tag(VLAN_TAG, 10)), None),
+        ('an upload of the second customer, cut by the snaplen', upload(50001), None),
+        ('first fragment of the second customer', plain(bob, tcp(50001, 443, PUSH_ACK, b'x' * 28), to=shared, more=True), None),
+        ('a later fragment of it', plain(bob, (TCP, lambda *_: b'x' * 24), to=shared, offset=48), None),
+        ('ping of the second customer', plain(bob, echo(1), to=shared), None),
+        ('what a server answers', plain(first_server, tcp(443, 50001, SYN | ACK), to=ann), None),
+        ('TCP SYN of the first customer to another machine', plain(ann, tcp(50003, 443, SYN), to=archive), None),
+        ('a third customer, cut behind the source port', to_shop(CUSTOMER, 50001, SYN), 36),
+        ('the same, cut inside the source port', to_shop(CUSTOMER, 50001, SYN), 35),
+        ('IPv6 ping', ipv6(), None),
+    ]
+
+
+def slow_line():
+    """What was seen on a line with a source that sends too much, with the microseconds since FIRST_SECOND."""
+    backup, camera, server = '10.1.0.10', '10.1.0.30', '192.0.2.80'
+
+    def upload(length):
+        return plain(backup, udp(40000, 9000, b'.' * (length - 28)), to=server)
+
+    query = plain(OFFICE, udp(40001, 53, QUERY), to=RESOLVER)
+    picture = plain(camera, udp(40000, 9000, b'.' * 1973), to=server)
+    return [
+        (0, 'a piece of the backup', upload(1000), None),
+        (100_000, 'the next piece', upload(1000), None),
+        (200_000, 'the next piece', upload(1000), None),
+        (300_000, 'DNS query of an office machine', query, None),
+        (400_000, 'a small piece of the backup', upload(300), None),
+        (500_000, 'a piece of the backup', upload(1000), None),
+        (1_300_000, 'the same once more', upload(1000), None),
+        (1_250_000, 'a small piece that was written late', upload(300), None),
+        (1_350_000, 'ping of the backup machine', plain(backup, echo(1), to=server), None),
+        (1_400_000, 'ARP request of the backup machine', arp_request(backup, '10.1.0.1'), None),
+        (10_000_000, 'a piece of the backup', upload(1000), None),
+        (10_000_000, 'the next piece, in the same moment', upload(1000), None),
+        (10_000_000, 'the next piece, in the same moment', upload(1000), None),
+        (10_050_000, 'ping of the backup machine in VLAN 10', plain(backup, echo(2), to=server, tags=tag(VLAN_TAG, 10)), None),
+        (10_060_000, 'a picture of 2,001 bytes from a camera', picture, None),
+        (10_070_000, 'a piece of the backup, cut inside its address', upload(1000), 29),
+        (10_080_000, 'IPv6 ping', ipv6(), None),
+    ]
+
+
+# By the names of the folders. The example without a capture is planned and not run.
+MADE = {
+    'first-path': Capture('<', MICRO, 96, [(n * 180_503, *record) for n, record in enumerate(uplink())]),
+    'nanoseconds': Capture('>', NANO, 65535, tap()),
+    'cut-capture': Capture('<', MICRO, 262144, full_disk(), room=4096),
+    'two-firewalls': Capture('<', MICRO, 262144, [(n * 180_503, *record) for n, record in enumerate(servers())]),
+    'two-tenants': Capture('<', MICRO, 262144, [(n * 180_503, *record) for n, record in enumerate(tenants())]),
+    'pass-through': Capture('<', MICRO, 262144, [(n * 180_503, *record) for n, record in enumerate(backups())]),
+    'refused-policy': Capture('<', MICRO, 262144, full_disk()[:2]),
+    'site-edge': Capture('<', MICRO, 262144, [(n * 180_503, *record) for n, record in enumerate(edge())]),
+    'two-servers': Capture('<', MICRO, 96, [(n * 180_503, *record) for n, record in enumerate(shop())]),
+    'slowed-source': Capture('<', MICRO, 96, slow_line()),
+    'plan': None,
+}

@@ -1,0 +1,137 @@
+"""Frames and captures, made byte by byte with Python's standard library alone: what the examples are captures of."""
+
+import ipaddress
+import struct
+import typing
+
+# The classic capture file: magic of microseconds or nanoseconds, version 2.4, time zone, accuracy, snaplen, link type.
+MICRO, NANO, LINK_ETHERNET = 0xA1B2C3D4, 0xA1B23C4D, 1
+PER_SECOND = {MICRO: 1_000_000, NANO: 1_000_000_000}
+FIRST_SECOND = 1_700_000_000
+
+VLAN_TAG, SERVICE_TAG = 0x8100, 0x88A8
+TYPE_IPV4, TYPE_ARP, TYPE_IPV6, TYPE_PPPOE = 0x0800, 0x0806, 0x86DD, 0x8864
+ICMP, TCP, UDP = 1, 6, 17
+
+GATEWAY, STATION = bytes.fromhex('020000000001'), bytes.fromhex('020000000002')
+BROADCAST = b'\xff' * 6
+
+
+def address(text):
+    return ipaddress.IPv4Address(text).packed
+
+
+def internet_checksum(data):
+    """The ones' complement sum of RFC 1071."""
+    if len(data) % 2:
+        data += b'\0'
+    total = sum(struct.unpack(f'>{len(data) // 2}H', data))
+    while total >> 16:
+        total = (total & 0xFFFF) + (total >> 16)
+    return ~total & 0xFFFF
+
+
+def transport_checksum(source, destination, protocol, segment):
+    return internet_checksum(source + destination + struct.pack('>BBH', 0, protocol, len(segment)) + segment)
+
+
+def udp(source_port, destination_port, payload):
+    def segment(source, destination):
+        head = struct.pack('>HHH', source_port, destination_port, 8 + len(payload))
+        total = transport_checksum(source, destination, UDP, head + b'\0\0' + payload)
+        return head + struct.pack('>H', total or 0xFFFF) + payload
+
+    return UDP, segment
+
+
+def tcp(source_port, destination_port, flags, payload=b''):
+    def segment(source, destination):
+        head = struct.pack('>HHIIBBH', source_port, destination_port, 1000, 2000 if flags & 0x10 else 0, 0x50, flags, 8192)
+        total = transport_checksum(source, destination, TCP, head + b'\0\0\0\0' + payload)
+        return head + struct.pack('>HH', total, 0) + payload
+
+    return TCP, segment
+
+
+def echo(number):
+    def segment(source, destination):
+        text = bytes(range(16))
+        total = internet_checksum(struct.pack('>BBHHH', 8, 0, 0, 7, number) + text)
+        return struct.pack('>BBHHH', 8, 0, total, 7, number) + text
+
+    return ICMP, segment
+
+
+SYN, ACK, PUSH_ACK = 0x02, 0x10, 0x18
+
+
+def ipv4(source, destination, content, options=b'', offset=0, more=False, lead=None):
+    """A whole packet, RFC 791. `lead` stands in the place of the first byte, which is version and header length."""
+    protocol, segment = content
+    source, destination = address(source), address(destination)
+    body = segment(source, destination)
+    words = 5 + len(options) // 4
+    first = 0x40 + words if lead is None else lead
+    fragment = offset // 8 + (0x2000 if more else 0)
+    head = struct.pack('>BBHHHBB', first, 0, 4 * words + len(body), 0x1234, fragment, 64, protocol)
+    total = internet_checksum(head + b'\0\0' + source + destination + options)
+    return head + struct.pack('>H', total) + source + destination + options + body
+
+
+def tag(kind, vlan, priority=0):
+    return struct.pack('>HH', kind, (priority << 13) + vlan)
+
+
+def ethernet(ether_type, body, tags=b'', to=GATEWAY):
+    frame = to + STATION + tags + struct.pack('>H', ether_type) + body
+    # 60 bytes are the least that Ethernet sends, without the frame's checksum.
+    return frame + b'\0' * (60 - len(frame))
+
+
+def plain(source, content, to='192.0.2.80', tags=b'', **fields):
+    return ethernet(TYPE_IPV4, ipv4(source, to, content, **fields), tags)
+
+
+def arp_request(source, target):
+    body = struct.pack('>HHBBH', 1, TYPE_IPV4, 6, 4, 1) + STATION + address(source) + b'\0' * 6 + address(target)
+    return ethernet(TYPE_ARP, body, to=BROADCAST)
+
+
+def ipv6():
+    source, destination = ipaddress.IPv6Address('2001:db8::66').packed, ipaddress.IPv6Address('2001:db8::1').packed
+    segment = struct.pack('>BBHHH', 128, 0, 0, 7, 1)
+    total = internet_checksum(source + destination + struct.pack('>II', len(segment), 58) + segment)
+    body = struct.pack('>IHBB', 6 << 28, len(segment), 58, 64) + source + destination
+    return ethernet(TYPE_IPV6, body + struct.pack('>BBHHH', 128, 0, total, 7, 1))
+
+
+# Where checksums stand in a frame: in an IPv4 header behind one tag, and in TCP and UDP behind a header of five words.
+TAGGED_IPV4_SUM, TCP_SUM, UDP_SUM = 18 + 10, 34 + 16, 34 + 6
+
+
+def miscounted(frame, at):
+    """The same frame with a wrong checksum."""
+    return frame[:at] + bytes([frame[at] ^ 0x5A]) + frame[at + 1 :]
+
+
+def uncounted(frame):
+    """The same frame of UDP without a checksum, which is written as 0."""
+    return frame[:UDP_SUM] + b'\0\0' + frame[UDP_SUM + 2 :]
+
+
+class Capture(typing.NamedTuple):
+    order: str  # of the bytes in the capture's own numbers, as struct spells it
+    magic: int
+    snaplen: int
+    records: list  # moment, what it is, frame as it was sent, bytes of it that were captured (None: up to the snaplen)
+    room: typing.Optional[int] = None  # on the disk that the capture was written to, in bytes
+
+
+def written(capture):
+    parts = [struct.pack(capture.order + 'IHHiIII', capture.magic, 2, 4, 0, 0, capture.snaplen, LINK_ETHERNET)]
+    for moment, _, frame, kept in capture.records:
+        captured = frame[: capture.snaplen if kept is None else kept]
+        seconds, fraction = divmod(moment, PER_SECOND[capture.magic])
+        parts.append(struct.pack(capture.order + 'IIII', FIRST_SECOND + seconds, fraction, len(captured), len(frame)))
+        parts.append(captured)
+    return b''.join(parts)[: capture.room]

@@ -1,0 +1,121 @@
+"""The examples of docs/POLICY.md: what the page says is printed, and what it says becomes of packets.
+
+Each block of a policy, or of a command that prints one, has behind it what `nfp plan` prints for it. Behind that may stand a table
+of packets with the head `| record | ..`, and a block of the report that they give. A packet is spelled as in `UDP from
+10.1.4.20:40000 to 198.51.100.5:53`, with `, 500 bytes` behind it where its IPv4 length counts.
+"""
+
+import re
+import subprocess
+import typing
+
+import frames
+import packet_rules
+import policy_rules
+
+BLOCK, TABLE = r'^```(policy|sh|plan|order|report)\n(.*?)^```$', r'^\| record \|([^\n]*)\n\|[-|]+\n((?:\|[^\n]*\n)+)'
+PART = re.compile(f'{BLOCK}|{TABLE}', re.MULTILINE | re.DOTALL)
+END = r'([0-9.]+)(?::(\d+))?'
+PACKET = re.compile(f'(UDP|TCP|ping) from {END} to {END}(?:, ([0-9,]+) bytes)?')
+
+
+class Planned(typing.NamedTuple):
+    policy: bytes
+    told: str  # what the page says is printed
+    orders: bool  # of which these are the lines of the chains and their orders
+
+
+class Led(typing.NamedTuple):
+    """Packets that are led through a policy."""
+
+    policy: bytes
+    capture: bytes
+    told: list  # what the page says becomes of each
+    report: str  # and the report that it shows
+
+
+def frame_of(text):
+    if text == 'ARP':
+        return frames.arp_request('10.1.4.20', '10.1.0.1')
+    spelled = PACKET.fullmatch(text)
+    if spelled is None:
+        raise ValueError(f'no packet: {text}')
+    what, source, source_port, destination, port, length = spelled.groups()
+    if what == 'ping':
+        return frames.plain(source, frames.echo(1), to=destination)
+    if what == 'TCP':
+        content, header = lambda data: frames.tcp(int(source_port), int(port), frames.PUSH_ACK, data), 40
+    else:
+        content, header = lambda data: frames.udp(int(source_port), int(port), data), 28
+    size = int(length.replace(',', '')) - header if length else 0
+    return frames.plain(source, content(b'.' * size), to=destination)
+
+
+def microseconds(text):
+    """A moment in seconds, with a point where there is a fraction."""
+    whole, _, fraction = text.partition('.')
+    return int(whole) * 1_000_000 + int(fraction.ljust(6, '0'))
+
+
+def led(policy, head, rows, report):
+    """The packets of a table, the capture that they make, and what the table says of them."""
+    names = [name.strip() for name in f'record |{head}'.strip('| ').split('|')]
+    cells = [dict(zip(names, (cell.strip() for cell in row.strip('|').split('|')), strict=True)) for row in rows.splitlines()]
+    if [row['record'] for row in cells] != [str(at) for at in range(1, len(cells) + 1)]:
+        raise ValueError(f'records that do not count from 1: {rows}')
+    records = [(microseconds(row.get('second', str(at))), '', frame_of(row['packet']), None) for at, row in enumerate(cells)]
+    capture = frames.written(frames.Capture('<', frames.MICRO, 65535, records))
+    return Led(policy, capture, [row['what happens'].replace('*', '') for row in cells], report)
+
+
+def printed(command):
+    return subprocess.run(['bash', '-c', command], capture_output=True, check=True).stdout
+
+
+def examples_of(page):
+    """All examples of the page, in their order."""
+    policy, answered, table = None, True, None
+    for kind, text, head, rows in PART.findall(page):
+        if kind in ('policy', 'sh'):
+            if not answered or table:
+                raise ValueError(f'an example without what is printed: {policy}')
+            policy, answered = printed(text) if kind == 'sh' else text.encode('ascii'), False
+        elif kind in ('plan', 'order'):
+            if answered:
+                raise ValueError(f'what is printed without an example: {text}')
+            answered = True
+            yield Planned(policy, text, kind == 'order')
+        elif kind == 'report':
+            yield led(policy, *table, text)
+            table = None
+        else:
+            table = head, rows
+    if not answered or table:
+        raise ValueError(f'an example without what is printed: {policy}')
+
+
+def untrue(example):
+    """What the rules say in place of what the page says, or nothing where both say the same."""
+    if isinstance(example, Planned):
+        due = policy_rules.plan(example.policy)[0]
+        due = policy_rules.order_lines(due) if example.orders else due
+        return '' if due == example.told else due
+    answer = packet_rules.answer(example.policy, example.capture)
+    told = [fate_text(frame, fate) for frame, fate in zip(answer.frames, answer.fates, strict=True)]
+    faults = [f'record {at}: {due}' for at, (due, said) in enumerate(zip(told, example.told, strict=True), 1) if due != said]
+    return '\n'.join(faults + ([] if answer.report == example.report else [answer.report]))
+
+
+def fate_text(frame, fate):
+    """What becomes of a packet, as the page spells it."""
+    if fate.drop is not None:
+        return 'is dropped'
+    return 'passes' if fate.frame == frame else ends_text(fate.frame)
+
+
+def ends_text(frame):
+    """Where a frame comes from and where it goes, with the ports that it has."""
+    packet = packet_rules.Packet(frame, 0)
+    ends = [(packet.address(address), packet.port(port)) for address, port in (('src', 'sport'), ('dst', 'dport'))]
+    source, destination = (f'{address}' if port is None else f'{address}:{port}' for address, port in ends)
+    return f'from {source} to {destination}'
