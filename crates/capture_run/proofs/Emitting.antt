@@ -10,7 +10,7 @@ use Rattle.packet_fields.specs.Checksums.{sealed}
 use Rattle.pcap_io.specs.declared.capture.PcapRecord.{PcapRecord}
 use Rattle.chain_walk.specs.declared.walk.Fate.{Fate}
 use Rattle.classifier.specs.declared.burst.Item.{Item}
-use Rattle.capture_run.specs.Emitted.{emitted, emitted_all}
+use Rattle.capture_run.specs.Emitted.{emitted, emitted_all, wire_after}
 use Rattle.burst_walk.specs.Leading.{IsWritable, all_ended, ended, records_of}
 use Rattle.capture_run.specs.Slots.{Puts, Breaks}
 use Rattle.capture_run.specs.declared.fault.RunFault.{RunFault}
@@ -30,8 +30,9 @@ unfolding emitted_all all_ended
 put_of-cons spelled item items fate fates = refl
 
 -- a packet that no chain took goes out as it was read
-pub untaken : (spelled : PcapRecord → List ℕ) (packet : PcapRecord) (fate : Option Fate) → fate ≡ None → sealed packet.frame packet.frame ≡ packet.frame → emitted spelled packet (ended packet fate) ≡ spelled packet
-untaken spelled packet fate none own = ap (λ o. emitted spelled packet (ended packet o)) none ∙ ap (λ frame. spelled (record packet { frame = frame })) own
+pub untaken : (spelled : PcapRecord → List ℕ) (packet : PcapRecord) (fate : Option Fate) → fate ≡ None → sealed packet.frame packet.frame ≡ packet.frame →
+    wire_after packet.wire (length packet.frame) (length packet.frame) ≡ packet.wire → emitted spelled packet (ended packet fate) ≡ spelled packet
+untaken spelled packet fate none own as_long = ap (λ o. emitted spelled packet (ended packet o)) none ∙ (λ i. spelled (record packet { wire = as_long i; frame = own i }))
 
 -- The records of some packets were put, and these fates are left.
 pub record IsEmitting (spelled spelled' : PcapRecord → List ℕ) (items : List Item) (fates left : List (Option Fate)) (index : ℕ) (old now : Slot → SlotView) : Type 0 where

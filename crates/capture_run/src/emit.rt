@@ -2,7 +2,7 @@
 ghost use Rattle.std.specs.Prelude.{◌≡◌, ◌≢◌, ◌<◌, ◌^◌, [], All, IfErr, IfSome, OnOk, IsSome, length};
 ghost use Rattle.nfp_outside.specs.declared.slot.Slot.{Slot};
 ghost use Rattle.packet_fields.specs.Checksums.{sealed};
-ghost use Rattle.capture_run.specs.Emitted.{emitted, emitted_all};
+ghost use Rattle.capture_run.specs.Emitted.{emitted, emitted_all, wire_after};
 ghost use Rattle.burst_walk.specs.Leading.{IsWritable, records_of, ended, all_ended};
 ghost use Rattle.capture_run.specs.Slots.{Puts, Breaks};
 
@@ -59,7 +59,9 @@ fn put_fate<W: Sink, D: Desk>(
 {
     match fate {
         None => {
-            unchanged_is_sealed(packet.frame.bytes());
+            let frame = packet.frame.bytes();
+            unchanged_is_sealed(frame);
+            unchanged_is_as_long(packet.wire, frame.len());
             put_record(desk, writer, packet)
         }
         Some(Fate::Out(frame)) => put_record(desk, writer, &emitted_record(packet, frame)),
@@ -67,17 +69,29 @@ fn put_fate<W: Sink, D: Desk>(
     }
 }
 
-// The record as it goes out, with this frame, whose checksums are adjusted to what changed.
+// The record as it goes out, with this frame, whose checksums are adjusted to what changed, and with its length on the wire.
 fn emitted_record(packet: &PcapRecord, frame: Frame) -> PcapRecord
-    ensures record { result ≡ record packet.now { frame = sealed packet.now.frame frame } }
+    requires short { length packet.now.frame < 2 ^ 32 }
+    requires writable { length frame < 2 ^ 32 }
+    ensures record { result ≡ record packet.now { wire = wire_after packet.now.wire (length packet.now.frame) (length frame); frame = sealed packet.now.frame frame } }
     ensures length { length result.frame ≡ length frame }
 {
+    let before = packet.frame.bytes();
     PcapRecord {
         seconds: packet.seconds,
         fraction: packet.fraction,
-        wire: packet.wire,
-        frame: seal_frame(packet.frame.bytes(), frame),
+        wire: wire_after(packet.wire, before.len(), frame.bytes().len()),
+        frame: seal_frame(before, frame),
     }
+}
+
+// The length on the wire of a frame that went from one length to another: tags that were put in or taken off count there too.
+fn wire_after(wire: u32, before: usize, after: usize) -> u32
+    requires after { after < 2 ^ 32 }
+    ensures { result ≡ wire_after wire before after }
+{
+    let longer = u64::from(wire) + after as u64;
+    u32::try_from(longer.saturating_sub(before as u64)).unwrap_or(u32::MAX)
 }
 
 // The frame with its checksums adjusted to what changed.
@@ -89,6 +103,11 @@ fn seal_frame(before: &[u8], frame: Frame) -> Frame
     seal(before, &mut bytes);
     Frame::new(bytes)
 }
+
+// A frame that is as long as before is as long on the wire.
+fn unchanged_is_as_long(wire: u32, length: usize)
+    ensures { wire_after wire length length ≡ wire }
+{}
 
 // A frame that didn't change stays as it is where it is sealed.
 fn unchanged_is_sealed(frame: &[u8])
