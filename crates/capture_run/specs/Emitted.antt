@@ -8,11 +8,11 @@ use Rattle.pcap_io.specs.declared.capture.CaptureHead.{CaptureHead}
 use Rattle.chain_walk.specs.declared.walk.Fate.{Fate}
 use Rattle.chain_walk.specs.declared.walk.Fate.TheVariants.{Out, Gone}
 
--- the length on the wire of a frame that went from one length to another: as much longer or shorter, cut at both ends of its 32 bits
+-- the original length of a frame that went from one length to another: as much longer or shorter, cut at both ends of its 32 bits
 abbrev pub wire_after : ℕ → ℕ → ℕ → ℕ
 wire_after wire before after = min (wire + after - before) 4294967295
 
--- a record as it goes out, its checksums and its length on the wire following what its chain changed, and nothing of one that was dropped
+-- a record as it goes out, its checksums and its original length following what its chain changed, and nothing of one that was dropped
 abbrev pub emitted : (PcapRecord → List ℕ) → PcapRecord → Fate → List ℕ
 emitted spelled r (Out frame) = spelled (record r { wire = wire_after r.wire (length r.frame) (length frame); frame = sealed r.frame frame })
 emitted spelled r (Gone position) = []

@@ -1,5 +1,5 @@
 -- For proofs: how a capture passes through a service, burst by burst.
-use Rattle.std.specs.Prelude.{◌≡◌, ◌+◌, ℕ, List, ◌∷◌, [], ◌++◌, All, length, map, count_by, Option, Some}
+use Rattle.std.specs.Prelude.{◌≡◌, ◌<◌, ◌≤◌, ◌+◌, ℕ, List, ◌∷◌, [], ◌++◌, All, length, map, count_by, Option, Some}
 use Rattle.nfp_outside.specs.declared.slot.Slot.{Slot}
 use Rattle.nfp_outside.specs.Outside.{SlotView}
 use Rattle.pcap_io.specs.declared.capture.CaptureFault.{CaptureFault}
@@ -73,6 +73,14 @@ pub record IsFresh {W : Type 0} (p : Passage W) : Type 0 where
   pub dropped : p.totals.dropped ≡ 0
   pub opening : All IsOpeningChain p.service.chains
   pub told : IsTold p
+
+-- The open burst may run: its packets are told by the chains' own clauses, and all that were read are counted.
+pub record IsReady {W : Type 0} (p : Passage W) (cut : Cutting) : Type 0 where
+  pub classed : All (IsClassed p.service.classes) cut.held
+  pub told : IsTold p
+  pub number : cut.added ≡ p.totals.records + length cut.held
+  pub room : cut.added < 4294967296
+  pub within : p.totals.dropped ≤ p.totals.records
 
 -- One more packet was added: those that were held and this one ran, up to those that are held now.
 pub record Takes {W : Type 0} (spelled : W → PcapRecord → List ℕ) (cut cut' : Cutting) (packet : PcapRecord) (before after : Passage W) (old new : Slot → SlotView) : Type 0 where

@@ -69,7 +69,7 @@ fn put_fate<W: Sink, D: Desk>(
     }
 }
 
-// The record as it goes out, with this frame, whose checksums are adjusted to what changed, and with its length on the wire.
+// The record as it goes out, with this frame, whose checksums are adjusted to what changed, and with its original length.
 fn emitted_record(packet: &PcapRecord, frame: Frame) -> PcapRecord
     requires short { length packet.now.frame < 2 ^ 32 }
     requires writable { length frame < 2 ^ 32 }
@@ -85,7 +85,7 @@ fn emitted_record(packet: &PcapRecord, frame: Frame) -> PcapRecord
     }
 }
 
-// The length on the wire of a frame that went from one length to another: tags that were put in or taken off count there too.
+// The original length of a frame that went from one length to another: tags that were put in or taken off count there too.
 fn wire_after(wire: u32, before: usize, after: usize) -> u32
     requires after { after < 2 ^ 32 }
     ensures { result ≡ wire_after wire before after }
@@ -104,7 +104,7 @@ fn seal_frame(before: &[u8], frame: Frame) -> Frame
     Frame::new(bytes)
 }
 
-// A frame that is as long as before is as long on the wire.
+// A frame that is as long as before keeps its original length.
 fn unchanged_is_as_long(wire: u32, length: usize)
     ensures { wire_after wire length length ≡ wire }
 {}

@@ -2,7 +2,7 @@
 ghost use Rattle.std.specs.Prelude.{◌≡◌, ◌≢◌, ◌≤◌, ◌<◌, ◌+◌, ◌-◌, ◌^◌, true, All, IfOk, IfErr, IsSome, length};
 ghost use Rattle.nfp_outside.specs.declared.slot.Slot.{Slot};
 ghost use Rattle.pcap_io.specs.Capture.{IsShort};
-ghost use Rattle.capture_run.specs.Passing.{Ends, IsFresh, IsTold, PassBreaks, StopBreaks, StopEnds, TakeBreaks, Takes};
+ghost use Rattle.capture_run.specs.Passing.{Ends, IsFresh, IsReady, IsTold, PassBreaks, StopBreaks, StopEnds, TakeBreaks, Takes};
 ghost use Rattle.burst_walk.specs.Leading.{IsClassed, records_of};
 ghost use Rattle.capture_run.specs.Running.{RunBreaks, RunsAll};
 
@@ -66,12 +66,9 @@ fn take<R: Wait, D: Desk, W: Sink + Drop>(
 ) -> Result<Passage<W>, RunFault>
     requires out { IsSome (D.slots desk.old Slot.Out).name }
     requires report { IsSome (D.slots desk.old Slot.Report).name }
-    requires classed { All (IsClassed passage.service.classes) cutter.old.held }
-    requires told { IsTold passage }
+    requires ready { IsReady passage cutter.old }
     requires short { IsShort packet }
-    requires number { cutter.old.added ≡ passage.totals.records + length cutter.old.held }
     requires room { cutter.old.added < 2 ^ 32 - 1 }
-    requires within { passage.totals.dropped ≤ passage.totals.records }
     ensures ok { IfOk result (λ after. Takes W.spelled cutter.old cutter.new packet passage after (D.slots desk.old) (D.slots desk.new)) }
     ensures err { IfErr result (TakeBreaks W.spelled cutter.old packet passage (D.slots desk.old) (D.slots desk.new)) }
     ensures others { (s : Slot) → s ≢ Slot.Out → s ≢ Slot.Report → D.slots desk.new s ≡ D.slots desk.old s }
@@ -95,11 +92,7 @@ fn end<R: Wait, D: Desk, W: Sink + Drop>(
 ) -> Result<(Passage<W>, Option<CaptureFault>), RunFault>
     requires out { IsSome (D.slots desk.old Slot.Out).name }
     requires report { IsSome (D.slots desk.old Slot.Report).name }
-    requires classed { All (IsClassed passage.service.classes) cutter.held }
-    requires told { IsTold passage }
-    requires number { cutter.added ≡ passage.totals.records + length cutter.held }
-    requires room { cutter.added < 2 ^ 32 }
-    requires within { passage.totals.dropped ≤ passage.totals.records }
+    requires ready { IsReady passage cutter }
     ensures ok { IfOk result (Ends W.spelled cutter.held passage fault (D.slots desk.old) (D.slots desk.new)) }
     ensures err { IfErr result (PassBreaks W.spelled (records_of cutter.held) passage (D.slots desk.old) (D.slots desk.new)) }
     ensures others { (s : Slot) → s ≢ Slot.Out → s ≢ Slot.Report → D.slots desk.new s ≡ D.slots desk.old s }
@@ -119,11 +112,7 @@ fn stop<R: Wait, D: Desk, W: Sink + Drop>(
 ) -> Result<(Passage<W>, Option<CaptureFault>), RunFault>
     requires out { IsSome (D.slots desk.old Slot.Out).name }
     requires report { IsSome (D.slots desk.old Slot.Report).name }
-    requires classed { All (IsClassed passage.service.classes) cutter.held }
-    requires told { IsTold passage }
-    requires number { cutter.added ≡ passage.totals.records + length cutter.held }
-    requires room { cutter.added < 2 ^ 32 }
-    requires within { passage.totals.dropped ≤ passage.totals.records }
+    requires ready { IsReady passage cutter }
     ensures ok { IfOk result (StopEnds W.spelled cutter.held passage refusal (D.slots desk.old) (D.slots desk.new)) }
     ensures err { IfErr result (StopBreaks W.spelled cutter.held passage refusal (D.slots desk.old) (D.slots desk.new)) }
     ensures others { (s : Slot) → s ≢ Slot.Out → s ≢ Slot.Report → D.slots desk.new s ≡ D.slots desk.old s }
