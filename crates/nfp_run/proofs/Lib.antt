@@ -2,6 +2,7 @@ pub mod CallAnswers
 pub mod CallCauses
 pub mod EndedRuns
 pub mod GoodCalls
+pub mod GrownHeads
 pub mod HeldBytes
 pub mod NotedLines
 pub mod OtherSlots

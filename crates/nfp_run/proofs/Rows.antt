@@ -1,9 +1,11 @@
 -- Worked rows, computed by the definitions.
-use Rattle.std.specs.Prelude.{◌≡◌, ℕ, List, [], ◌∷◌, ◌++◌, refl, take, slice_index, Some, Result, Err, codes}
+use Rattle.std.specs.Prelude.{◌≡◌, ℕ, List, [], ◌∷◌, ◌++◌, refl, take, slice_index, Some, Result, Ok, Err, codes}
 use Rattle.std.specs.Fmt.{digits}
 use Rattle.nfp_outside.specs.declared.slot.Slot.TheVariants.{Policy as PolicySlot}
 use Rattle.pcap_io.specs.declared.capture.CaptureFault.TheVariants.{CutRecord, CutHead}
 use Rattle.pcap_io.specs.Capture.{body_of}
+use Rattle.pcap_io.specs.declared.capture.Endian.TheVariants.{Little}
+use Rattle.pcap_io.specs.declared.capture.Unit.TheVariants.{Micro}
 use Rattle.pcap_io.specs.Written.{head_bytes, record_head}
 use Rattle.packet_fields.specs.Frames.{tags_len}
 use Rattle.packet_fields.specs.Packets.{is_ipv4, has_transport}
@@ -13,6 +15,8 @@ use Rattle.dependency_table.specs.Table.{pairs, first_forbidden, is_copied, copi
 use Rattle.dependency_table.specs.declared.action.Action.TheVariants.{Read, Write}
 use Rattle.packet_fields.specs.declared.field.Field.TheVariants.{SrcIp}
 use Rattle.policy_text.specs.Grammar.{policy_of_utf8, after_line}
+use Rattle.policy_text.specs.declared.policy.Policy.{Policy as PolicyRead}
+use Rattle.policy_text.specs.declared.fault.TextFault.{TextFault}
 use Rattle.policy_text.specs.declared.fault.TextFault.TheVariants.{BadVersionLine, NotUtf8}
 use Rattle.policy_check.specs.declared.fault.CheckFault.TheVariants.{Cycle, PriorityForbidden}
 use Rattle.policy_check.specs.Checked.{answer_of}
@@ -40,6 +44,7 @@ use Rattle.service_walk.specs.Service.{fates_among, chains_after}
 use Rattle.burst_walk.specs.Fates.{fates_of, chains_behind}
 use Rattle.capture_run.specs.Emitted.{emitted_all, out_bytes}
 use Rattle.capture_report.specs.FaultLines.{capture_text}
+use Rattle.nfp_run.specs.Heads.{written_head}
 use Rattle.nfp_run.specs.Notes.{done_text}
 use Rattle.nfp_run.specs.Plan.{plan_text}
 use Rattle.packet_fields.specs.Writing.{written_in}
@@ -195,6 +200,30 @@ no_chains_written : due_of_policy run_command (worth (codes "nfp 1\n")) capture 
 }
 unfolding run_command worth policy_of_utf8 after_line orders_from answer_of edges_of taken stuck named_cycle from_earliest cycle_back first_refusal head first ninth capture body_of head_bytes record_head tags_len is_ipv4 walk fates_among chains_after fates_of chains_behind emitted_all out_bytes report_bytes drop_text drop_lines total_line last_line summary done_text digits words is_changed change_sum has_same_places has_transport passes line_of function_text chain_lines copies_due copies_lines copies_made written_in graph_of placed holds_back is_forbidden branch_reads branch_writes touch_of stage_parts mode_of copies pair_of first_forbidden pairs actions all_actions is_copied copied
 no_chains_written = refl
+
+-- the snaplen that is written where a capture with this snaplen runs through the chains of a text; 0 of a text that is refused
+grown_snaplen : ℕ → Result PolicyRead TextFault → ℕ
+grown_snaplen snaplen (Ok policy) = (written_head (record { declared = policy.chains; functions = [] }) (record { order = Little; unit = Micro; zone = 0; sigfigs = 0; snaplen = snaplen })).snaplen
+grown_snaplen snaplen (Err fault) = 0
+
+-- a frame of 65535 bytes and a tag more fit
+one_tagger : grown_snaplen 65535 (policy_of_utf8 (codes "nfp 1\nchain main\nfn fw firewall\nfn t tagger\n")) ≡ 65539
+unfolding grown_snaplen policy_of_utf8 after_line
+one_tagger = refl
+
+-- the taggers of all chains count, and what takes a tag away doesn't
+taggers_of_both : grown_snaplen 0 (policy_of_utf8 (codes "nfp 1\nchain a\nfn t tagger\nfn u untagger\nfn v tagger\nchain b\nfn w tagger\n")) ≡ 12
+unfolding grown_snaplen policy_of_utf8 after_line
+taggers_of_both = refl
+
+no_tagger : grown_snaplen 65535 (policy_of_utf8 (codes "nfp 1\nchain main\nfn fw firewall\nfn u untagger\n")) ≡ 65535
+unfolding grown_snaplen policy_of_utf8 after_line
+no_tagger = refl
+
+-- there is no larger number of 32 bits
+largest_snaplen : grown_snaplen 4294967293 (policy_of_utf8 (codes "nfp 1\nchain main\nfn t tagger\n")) ≡ 4294967295
+unfolding grown_snaplen policy_of_utf8 after_line
+largest_snaplen = refl
 
 -- a field has a line where copies of it were made, in the order of the fields
 copies_told : copies_lines (codes "main") (λ f. slice_index (0 ∷ 0 ∷ 3 ∷ 0 ∷ 0 ∷ 12 ∷ 0 ∷ 0 ∷ 0 ∷ 18446744073709551615 ∷ []) (number_of f)) ≡ codes "copies main tag 3\ncopies main src 12\ncopies main payload 18446744073709551615\n"

@@ -17,6 +17,7 @@ use Rattle.burst_walk.specs.Fates.{fates_of}
 use Rattle.capture_run.specs.Emitted.{out_bytes}
 use Rattle.capture_report.specs.FaultLines.{capture_text}
 use Rattle.capture_report.specs.Report.{report_of, is_gone}
+use Rattle.nfp_run.specs.Heads.{written_head}
 use Rattle.nfp_run.specs.Notes.{usage_text, not_built_text, done_text}
 use Rattle.nfp_run.specs.Plan.{plan_text}
 
@@ -37,7 +38,7 @@ nothing_but outcome note = record { outcome = outcome; written = None; note = no
 
 -- what these chains write of a capture: each packet walks through the chain that takes it, after those before it
 abbrev pub written_of : Chains → CaptureHead → Body → Written
-written_of chains head body = record { out = out_bytes head body.records (fates_of chains head.unit body.records); report = report_of chains head.unit body.records body.fault }
+written_of chains head body = record { out = out_bytes (written_head chains head) body.records (fates_of chains head.unit body.records); report = report_of chains head.unit body.records body.fault }
 
 -- a capture without a fault is done
 abbrev pub outcome_of : Option CaptureFault → Outcome

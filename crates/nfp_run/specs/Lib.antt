@@ -3,6 +3,7 @@ pub mod Attached
 pub mod Broken
 pub mod Closing
 pub mod Due
+pub mod Heads
 pub mod Notes
 pub mod Plan
 pub mod Ran

@@ -3,10 +3,14 @@ ghost use Rattle.std.specs.Prelude.{◌≡◌, ◌≢◌, ◌≤◌, [], IfErr, 
 ghost use Rattle.nfp_outside.specs.declared.slot.Slot.{Slot};
 ghost use Rattle.nfp_outside.specs.Outside.{is_read, Attaches};
 ghost use Rattle.pcap_io.specs.Written.{head_bytes};
+ghost use Rattle.chain_service.specs.Opening.{chains_of};
 ghost use Rattle.capture_run.specs.Slots.{Puts, Breaks, fault_seen};
 ghost use Rattle.nfp_run.specs.Attached.{RefusesAttaching};
+ghost use Rattle.nfp_run.specs.Heads.{written_head};
 
+use crate::head::written_head;
 use capture_run::RunFault;
+use chain_service::Service;
 use nfp_outside::{Desk, DeskFault, OutsideFault, Slot};
 use pcap_io::{CaptureHead, Writer};
 
@@ -27,15 +31,19 @@ pub fn attach_sink<D: Desk>(desk: &mut D, slot: Slot, name: &str) -> Result<(), 
     }
 }
 
-/// Puts the head of a capture into Out.
-pub fn put_head<D: Desk>(desk: &mut D, head: &CaptureHead) -> Result<Writer, RunFault>
+/// Puts the head into Out that is written where a capture with this head runs through the chains.
+pub fn put_head<D: Desk>(
+    desk: &mut D,
+    head: &CaptureHead,
+    service: &Service,
+) -> Result<Writer, RunFault>
     requires { IsSome (D.slots desk.old Slot.Out).name }
-    ensures ok { OnOk result (Puts (head_bytes head.now) [] (D.slots desk.old) (D.slots desk.new)) }
-    ensures err { IfErr result (Breaks (head_bytes head.now) [] (D.slots desk.old) (D.slots desk.new)) }
+    ensures ok { OnOk result (Puts (head_bytes (written_head (chains_of service.now.chains) head.now)) [] (D.slots desk.old) (D.slots desk.new)) }
+    ensures err { IfErr result (Breaks (head_bytes (written_head (chains_of service.now.chains) head.now)) [] (D.slots desk.old) (D.slots desk.new)) }
     ensures order { IfOk result (λ writer. writer ≡ head.now.order) }
     ensures others { (s : Slot) → s ≢ Slot.Out → D.slots desk.new s ≡ D.slots desk.old s }
 {
-    match Writer::begin(desk, head) {
+    match Writer::begin(desk, &written_head(head, service)) {
         Ok(writer) => Ok(writer),
         Err(fault) => Err(fault_of(fault)),
     }

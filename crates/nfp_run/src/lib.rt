@@ -10,6 +10,7 @@ mod attach;
 mod call;
 mod commands;
 mod ending;
+mod head;
 mod laws;
 mod note;
 mod outcome;

@@ -77,7 +77,7 @@ fn closed(ended: Ended) -> Ending
     }
 }
 
-// Attaches Out and Report, puts the head of the capture into Out, and runs the capture into both.
+// Attaches Out and Report, puts the head that is written into Out, and runs the capture into both.
 fn attach_and_run<R: Wait, D: Desk>(
     rt: &R,
     alloc: Global,
@@ -105,6 +105,6 @@ fn attach_and_run<R: Wait, D: Desk>(
 {
     attach_sink(desk, Slot::Out, names.out)?;
     attach_sink(desk, Slot::Report, names.report)?;
-    let writer = put_head(desk, head)?;
+    let writer = put_head(desk, head, &service)?;
     run_capture(rt, alloc, desk, service, head.unit, reader, writer)
 }
