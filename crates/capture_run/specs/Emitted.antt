@@ -21,6 +21,6 @@ emitted spelled r (Gone position) = []
 unfoldable pub emitted_all : (PcapRecord → List ℕ) → List PcapRecord → List Fate → List ℕ
 emitted_all spelled records fates = flat_map (λ x. emitted spelled x.0 x.1) (zip records fates)
 
--- the head as it was read, and the emitted records
+-- a head, and the emitted records
 unfoldable pub out_bytes : CaptureHead → List PcapRecord → List Fate → List ℕ
 out_bytes head records fates = head_bytes head ++ emitted_all (record_bytes head.order) records fates
