@@ -3,7 +3,7 @@ use Rattle.std.proofs.Common.{◌≡◌, ◌≢◌, ℕ, suc, zero, ◌+◌, ◌
 use Rattle.std.specs.Prelude.{◌==◌, ◌⊎◌, if◌then◌else◌, Option, Some, None, slice_get, slice_set, slice_index_or, IsPermutation}
 use Rattle.std.specs.List.{sum_by, range_with_len}
 use Rattle.std.specs.Option.{option_map, option_map_or}
-use Rattle.std.proofs.lemmas.List.{append-nil}
+use Rattle.std.proofs.lemmas.List.{append-nil, length-set}
 use Rattle.std.proofs.lemmas.Option.{slice_get-get_or, slice_get-map}
 use Rattle.std.proofs.lemmas.List.Sums.{sum_by-cons, sum_by_more_le}
 use Rattle.std.proofs.lemmas.List.Sorted.{sum_by-IsPermutation}
@@ -58,6 +58,11 @@ untouched (q ∷ places) made p none =
       | inl s ↦ absurd (omega (arith, sum_by-cons (one_at p) q places, s.1, none))
       | inr o ↦ untouched places (without made q) p (omega (arith, sum_by-cons (one_at p) q places, none)) ∙ slice_get-set_other made q p None o.0
     ]
+
+-- taking leaves as many places as before
+pub as_many_left : (made : List (Option NetFunction)) (places : List ℕ) → length (without_all made places) ≡ length made
+as_many_left made [] = refl
+as_many_left made (place ∷ places) = as_many_left (without made place) places ∙ length-set made place None
 
 pub still_there : (n : ℕ) (places : List ℕ) (i d : ℕ) (made left : List (Option NetFunction)) → IsPermutation (range_with_len 0 n) places → i < length places → left ≡ without_all made (take i places) →
     slice_get left (slice_index_or places i d) ≡ slice_get made (slice_index_or places i d)

@@ -15,8 +15,20 @@ use Rattle.nf_translate.specs.Balancers.{balancer_by}
 use Rattle.nf_observe.specs.Monitors.{monitor_lines, monitor_by}
 use Rattle.nf_observe.specs.LimiterLines.{limiter_lines}
 use Rattle.nf_observe.specs.Limiters.{limiter_by}
+use Rattle.nf_mark.specs.NoLines.{no_lines}
+use Rattle.nf_mark.specs.MarkerLines.{marker_lines}
+use Rattle.nf_mark.specs.Markers.{marker_by}
+use Rattle.nf_mark.specs.Hops.{hop_by}
+use Rattle.nf_mark.specs.TaggerLines.{tagger_lines}
+use Rattle.nf_mark.specs.Taggers.{tagger_by}
+use Rattle.nf_mark.specs.Untaggers.{untagger_by}
+use Rattle.patterns.specs.Lines.{pattern_lines}
+use Rattle.nf_filter.specs.Signatures.{signature_by}
+use Rattle.nf_mark.specs.NexthopLines.{nexthop_lines}
+use Rattle.nf_mark.specs.Nexthops.{nexthop_by}
+use Rattle.nf_mark.specs.Redactors.{redactor_by}
 use Rattle.net_functions.specs.declared.net_function.NetFunction.{NetFunction}
-use Rattle.net_functions.specs.declared.net_function.NetFunction.TheVariants.{Firewall, Nat, Balancer, Monitor, Limiter}
+use Rattle.net_functions.specs.declared.net_function.NetFunction.TheVariants.{Firewall, Nat, Balancer, Monitor, Limiter, Marker, Hop, Tagger, Untagger, Signature, Nexthop, Redactor}
 
 -- What is made of the declarations of a kind: the least line that one refuses, and the function that it declares.
 pub record Making : Type 0 where
@@ -34,7 +46,13 @@ making_of kinds.Nat = of_lines nat_lines nat_by Nat
 making_of kinds.Balancer = of_lines balancer_lines balancer_by Balancer
 making_of kinds.Monitor = of_lines monitor_lines monitor_by Monitor
 making_of kinds.Limiter = of_lines limiter_lines limiter_by Limiter
-making_of kind = None
+making_of kinds.Marker = of_lines marker_lines marker_by Marker
+making_of kinds.Hop = of_lines no_lines hop_by Hop
+making_of kinds.Tagger = of_lines tagger_lines tagger_by Tagger
+making_of kinds.Untagger = of_lines no_lines untagger_by Untagger
+making_of kinds.Signature = of_lines pattern_lines signature_by Signature
+making_of kinds.Nexthop = of_lines nexthop_lines nexthop_by Nexthop
+making_of kinds.Redactor = of_lines pattern_lines redactor_by Redactor
 
 -- functions of this kind are built
 abbrev pub is_built : Kind → Bool

@@ -21,9 +21,23 @@ use Rattle.nf_observe.specs.Monitors.{monitor_behaviour}
 use Rattle.nf_observe.specs.MonitorLaws.{monitor_keeps}
 use Rattle.nf_observe.specs.Limiters.{limiter_behaviour}
 use Rattle.nf_observe.specs.LimiterLaws.{limiter_keeps}
+use Rattle.nf_mark.specs.Markers.{marker_behaviour}
+use Rattle.nf_mark.specs.MarkerLaws.{marker_keeps}
+use Rattle.nf_mark.specs.Hops.{hop_behaviour}
+use Rattle.nf_mark.specs.HopLaws.{hop_keeps}
+use Rattle.nf_mark.specs.Taggers.{tagger_behaviour}
+use Rattle.nf_mark.specs.TaggerLaws.{tagger_keeps}
+use Rattle.nf_mark.specs.Untaggers.{untagger_behaviour}
+use Rattle.nf_mark.specs.UntaggerLaws.{untagger_keeps}
+use Rattle.nf_filter.specs.Signatures.{signature_behaviour}
+use Rattle.nf_filter.specs.SignatureLaws.{signature_keeps}
+use Rattle.nf_mark.specs.Nexthops.{nexthop_behaviour}
+use Rattle.nf_mark.specs.NexthopLaws.{nexthop_keeps}
+use Rattle.nf_mark.specs.Redactors.{redactor_behaviour}
+use Rattle.nf_mark.specs.RedactorLaws.{redactor_keeps}
 use Rattle.net_functions.specs.NetFunctions.{as_any, net_behaviour, profile_by, step_by}
 use Rattle.net_functions.specs.declared.net_function.NetFunction.{NetFunction}
-use Rattle.net_functions.specs.declared.net_function.NetFunction.TheVariants.{Firewall, Nat, Balancer, Monitor, Limiter}
+use Rattle.net_functions.specs.declared.net_function.NetFunction.TheVariants.{Firewall, Nat, Balancer, Monitor, Limiter, Marker, Hop, Tagger, Untagger, Signature, Nexthop, Redactor}
 
 -- the functions of one kind behave among all as they do by themselves
 record IsKind {F : Type 0} (b : Behaviour F) (make : F → NetFunction) : Type 0 where
@@ -81,12 +95,47 @@ limiter_is : IsKind limiter_behaviour Limiter
 unfolding profile_by step_by
 limiter_is = record { profile = λ f. refl; step = λ f shown. refl }
 
+marker_is : IsKind marker_behaviour Marker
+unfolding profile_by step_by
+marker_is = record { profile = λ f. refl; step = λ f shown. refl }
+
+hop_is : IsKind hop_behaviour Hop
+unfolding profile_by step_by
+hop_is = record { profile = λ f. refl; step = λ f shown. refl }
+
+tagger_is : IsKind tagger_behaviour Tagger
+unfolding profile_by step_by
+tagger_is = record { profile = λ f. refl; step = λ f shown. refl }
+
+untagger_is : IsKind untagger_behaviour Untagger
+unfolding profile_by step_by
+untagger_is = record { profile = λ f. refl; step = λ f shown. refl }
+
+signature_is : IsKind signature_behaviour Signature
+unfolding profile_by step_by
+signature_is = record { profile = λ f. refl; step = λ f shown. refl }
+
+nexthop_is : IsKind nexthop_behaviour Nexthop
+unfolding profile_by step_by
+nexthop_is = record { profile = λ f. refl; step = λ f shown. refl }
+
+redactor_is : IsKind redactor_behaviour Redactor
+unfolding profile_by step_by
+redactor_is = record { profile = λ f. refl; step = λ f shown. refl }
+
 each_keeps : (f : NetFunction) → Keeps f
 each_keeps (Firewall f) = kind_keeps firewall_behaviour Firewall firewall_is firewall_keeps f
 each_keeps (Nat f) = kind_keeps nat_behaviour Nat nat_is nat_keeps f
 each_keeps (Balancer f) = kind_keeps balancer_behaviour Balancer balancer_is balancer_keeps f
 each_keeps (Monitor f) = kind_keeps monitor_behaviour Monitor monitor_is monitor_keeps f
 each_keeps (Limiter f) = kind_keeps limiter_behaviour Limiter limiter_is limiter_keeps f
+each_keeps (Marker f) = kind_keeps marker_behaviour Marker marker_is marker_keeps f
+each_keeps (Hop f) = kind_keeps hop_behaviour Hop hop_is hop_keeps f
+each_keeps (Tagger f) = kind_keeps tagger_behaviour Tagger tagger_is tagger_keeps f
+each_keeps (Untagger f) = kind_keeps untagger_behaviour Untagger untagger_is untagger_keeps f
+each_keeps (Signature f) = kind_keeps signature_behaviour Signature signature_is signature_keeps f
+each_keeps (Nexthop f) = kind_keeps nexthop_behaviour Nexthop nexthop_is nexthop_keeps f
+each_keeps (Redactor f) = kind_keeps redactor_behaviour Redactor redactor_is redactor_keeps f
 
 pub net_keeps : KeepsProfile net_behaviour
 net_keeps = record {

@@ -8,8 +8,15 @@ use Rattle.nf_translate.specs.Nats.{nat_behaviour, mapping_lines}
 use Rattle.nf_translate.specs.Balancers.{balancer_behaviour, flow_lines}
 use Rattle.nf_observe.specs.Monitors.{monitor_behaviour, monitor_text}
 use Rattle.nf_observe.specs.Limiters.{limiter_behaviour, limiter_text}
+use Rattle.nf_mark.specs.Markers.{marker_behaviour}
+use Rattle.nf_mark.specs.Hops.{hop_behaviour}
+use Rattle.nf_mark.specs.Taggers.{tagger_behaviour}
+use Rattle.nf_mark.specs.Untaggers.{untagger_behaviour}
+use Rattle.nf_filter.specs.Signatures.{signature_behaviour}
+use Rattle.nf_mark.specs.Nexthops.{nexthop_behaviour}
+use Rattle.nf_mark.specs.Redactors.{redactor_behaviour}
 use Rattle.net_functions.specs.declared.net_function.NetFunction.{NetFunction}
-use Rattle.net_functions.specs.declared.net_function.NetFunction.TheVariants.{Firewall, Nat, Balancer, Monitor, Limiter}
+use Rattle.net_functions.specs.declared.net_function.NetFunction.TheVariants.{Firewall, Nat, Balancer, Monitor, Limiter, Marker, Hop, Tagger, Untagger, Signature, Nexthop, Redactor}
 
 -- the step of a function of one kind, as that of a function of any
 abbrev pub as_any : {F G : Type 0} → (F → G) → Step F → Step G
@@ -21,6 +28,13 @@ profile_by (Nat n) = nat_behaviour.profile n
 profile_by (Balancer b) = balancer_behaviour.profile b
 profile_by (Monitor m) = monitor_behaviour.profile m
 profile_by (Limiter l) = limiter_behaviour.profile l
+profile_by (Marker f) = marker_behaviour.profile f
+profile_by (Hop f) = hop_behaviour.profile f
+profile_by (Tagger f) = tagger_behaviour.profile f
+profile_by (Untagger f) = untagger_behaviour.profile f
+profile_by (Signature f) = signature_behaviour.profile f
+profile_by (Nexthop f) = nexthop_behaviour.profile f
+profile_by (Redactor f) = redactor_behaviour.profile f
 
 unfoldable pub step_by : NetFunction → Shown → Step NetFunction
 step_by (Firewall f) shown = as_any Firewall (firewall_behaviour.step f shown)
@@ -28,6 +42,13 @@ step_by (Nat n) shown = as_any Nat (nat_behaviour.step n shown)
 step_by (Balancer b) shown = as_any Balancer (balancer_behaviour.step b shown)
 step_by (Monitor m) shown = as_any Monitor (monitor_behaviour.step m shown)
 step_by (Limiter l) shown = as_any Limiter (limiter_behaviour.step l shown)
+step_by (Marker f) shown = as_any Marker (marker_behaviour.step f shown)
+step_by (Hop f) shown = as_any Hop (hop_behaviour.step f shown)
+step_by (Tagger f) shown = as_any Tagger (tagger_behaviour.step f shown)
+step_by (Untagger f) shown = as_any Untagger (untagger_behaviour.step f shown)
+step_by (Signature f) shown = as_any Signature (signature_behaviour.step f shown)
+step_by (Nexthop f) shown = as_any Nexthop (nexthop_behaviour.step f shown)
+step_by (Redactor f) shown = as_any Redactor (redactor_behaviour.step f shown)
 
 -- how functions of any kind behave
 abbrev pub net_behaviour : Behaviour NetFunction
@@ -40,3 +61,10 @@ lines_of (Nat n) = mapping_lines n
 lines_of (Balancer b) = flow_lines b
 lines_of (Monitor m) = monitor_text m
 lines_of (Limiter l) = limiter_text l
+lines_of (Marker f) = []
+lines_of (Hop f) = []
+lines_of (Tagger f) = []
+lines_of (Untagger f) = []
+lines_of (Signature f) = []
+lines_of (Nexthop f) = []
+lines_of (Redactor f) = []

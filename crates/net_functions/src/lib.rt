@@ -3,12 +3,11 @@
 //! A [`Function`] acts on one packet after another through a [`packet_version::View`] of its own profile. What
 //! it does is its `behaviour` (of `chain_walk`), a function of what it is shown alone: whoever runs it
 //! sees the same step whether the packet is whole or in parts. `keeps` says that it keeps to its profile.
-//! [`NetFunction`] is a function of any kind that is built, and [`build`] makes the one that a policy
+//! [`NetFunction`] is a function of any kind, and [`build`] makes the one that a policy
 //! declares, or names the least line of the declaration that is refused. `frame_walk` leads whole frames
 //! through functions of any kind, with the same behaviour.
 //!
-//! Today firewalls, translations, balancers, monitors and limiters are built ([`is_built`]). How functions are put into stages, and which of them see a
-//! packet, is left out.
+//! All twelve kinds are built. How functions are put into stages, and which of them see a packet, is left out.
 #![tactic(auto)]
 
 mod function;

@@ -4,7 +4,8 @@ ghost use Rattle.net_functions.specs.Builds.{is_built, Builds};
 
 use crate::net_function::NetFunction;
 use action_profile::Kind;
-use nf_filter::Firewall;
+use nf_filter::{Firewall, Signature};
+use nf_mark::{Hop, Marker, Nexthop, Redactor, Tagger, Untagger};
 use nf_observe::{Limiter, Monitor};
 use nf_translate::{Balancer, Nat};
 use policy_text::{BuildFault, FunctionDecl};
@@ -17,7 +18,18 @@ pub fn is_built(kind: Kind) -> bool
 {
     matches!(
         kind,
-        Kind::Firewall | Kind::Nat | Kind::Balancer | Kind::Monitor | Kind::Limiter
+        Kind::Firewall
+            | Kind::Nat
+            | Kind::Balancer
+            | Kind::Monitor
+            | Kind::Limiter
+            | Kind::Marker
+            | Kind::Hop
+            | Kind::Tagger
+            | Kind::Untagger
+            | Kind::Signature
+            | Kind::Nexthop
+            | Kind::Redactor
     )
 }
 
@@ -34,6 +46,12 @@ pub fn build(alloc: Global, decl: &FunctionDecl) -> Result<NetFunction, BuildFau
         Kind::Balancer => Ok(NetFunction::Balancer(Balancer::build(alloc, decl)?)),
         Kind::Monitor => Ok(NetFunction::Monitor(Monitor::build(alloc, decl)?)),
         Kind::Limiter => Ok(NetFunction::Limiter(Limiter::build(alloc, decl)?)),
-        _ => unreachable!(),
+        Kind::Marker => Ok(NetFunction::Marker(Marker::build(alloc, decl)?)),
+        Kind::Hop => Ok(NetFunction::Hop(Hop::build(alloc, decl)?)),
+        Kind::Tagger => Ok(NetFunction::Tagger(Tagger::build(alloc, decl)?)),
+        Kind::Untagger => Ok(NetFunction::Untagger(Untagger::build(alloc, decl)?)),
+        Kind::Signature => Ok(NetFunction::Signature(Signature::build(alloc, decl)?)),
+        Kind::Nexthop => Ok(NetFunction::Nexthop(Nexthop::build(alloc, decl)?)),
+        Kind::Redactor => Ok(NetFunction::Redactor(Redactor::build(alloc, decl)?)),
     }
 }

@@ -2,7 +2,8 @@
 
 use crate::function::Function;
 use action_profile::{Kind, Profile, profile};
-use nf_filter::Firewall;
+use nf_filter::{Firewall, Signature};
+use nf_mark::{Hop, Marker, Nexthop, Redactor, Tagger, Untagger};
 use nf_observe::{Limiter, Monitor};
 use nf_translate::{Balancer, Nat};
 use packet_version::{Verdict, View};
@@ -21,6 +22,20 @@ pub enum NetFunction {
     Monitor(Monitor),
     /// Drops what a source sends beyond a rate.
     Limiter(Limiter),
+    /// Writes the type of service, whose high six bits are the DSCP (RFC 2474).
+    Marker(Marker),
+    /// Takes one off the time to live, and drops what would have none left (RFC 791).
+    Hop(Hop),
+    /// Puts a tag before the tags that are there (IEEE 802.1Q).
+    Tagger(Tagger),
+    /// Takes the outermost tag off.
+    Untagger(Untagger),
+    /// Drops packets in whose data one of its patterns occurs.
+    Signature(Signature),
+    /// Sends packets to another link address by their destination.
+    Nexthop(Nexthop),
+    /// Overwrites its patterns in a packet's data.
+    Redactor(Redactor),
 }
 
 impl Function for NetFunction {
@@ -42,6 +57,13 @@ impl Function for NetFunction {
             NetFunction::Balancer(_) => profile(Kind::Balancer),
             NetFunction::Monitor(_) => profile(Kind::Monitor),
             NetFunction::Limiter(_) => profile(Kind::Limiter),
+            NetFunction::Marker(_) => profile(Kind::Marker),
+            NetFunction::Hop(_) => profile(Kind::Hop),
+            NetFunction::Tagger(_) => profile(Kind::Tagger),
+            NetFunction::Untagger(_) => profile(Kind::Untagger),
+            NetFunction::Signature(_) => profile(Kind::Signature),
+            NetFunction::Nexthop(_) => profile(Kind::Nexthop),
+            NetFunction::Redactor(_) => profile(Kind::Redactor),
         }
     }
 
@@ -53,6 +75,13 @@ impl Function for NetFunction {
             NetFunction::Balancer(balancer) => balancer.step(view),
             NetFunction::Monitor(monitor) => monitor.step(view),
             NetFunction::Limiter(limiter) => limiter.step(view),
+            NetFunction::Marker(marker) => marker.step(view),
+            NetFunction::Hop(hop) => hop.step(view),
+            NetFunction::Tagger(tagger) => tagger.step(view),
+            NetFunction::Untagger(untagger) => untagger.step(view),
+            NetFunction::Signature(signature) => signature.step(view),
+            NetFunction::Nexthop(nexthop) => nexthop.step(view),
+            NetFunction::Redactor(redactor) => redactor.step(view),
         }
     }
 
@@ -64,29 +93,36 @@ impl Function for NetFunction {
             NetFunction::Balancer(balancer) => balancer.state_lines(out),
             NetFunction::Monitor(monitor) => monitor.state_lines(out),
             NetFunction::Limiter(limiter) => limiter.state_lines(out),
+            NetFunction::Marker(marker) => marker.state_lines(out),
+            NetFunction::Hop(hop) => hop.state_lines(out),
+            NetFunction::Tagger(tagger) => tagger.state_lines(out),
+            NetFunction::Untagger(untagger) => untagger.state_lines(out),
+            NetFunction::Signature(signature) => signature.state_lines(out),
+            NetFunction::Nexthop(nexthop) => nexthop.state_lines(out),
+            NetFunction::Redactor(redactor) => redactor.state_lines(out),
         }
     }
 
     #[tactic(auto, unfolding(crate::specs::NetFunctions::lines_of, crate::specs::StateRows::rows_of))]
     fn state_count(&self) -> usize {
         match self {
-            // The state of a firewall has no line.
-            NetFunction::Firewall(_) => 0,
             NetFunction::Nat(nat) => nat.state_count(),
             NetFunction::Balancer(balancer) => balancer.state_count(),
             NetFunction::Monitor(monitor) => monitor.state_count(),
             NetFunction::Limiter(limiter) => limiter.state_count(),
+            // The others keep no state.
+            _ => 0,
         }
     }
 
     #[tactic(auto, unfolding(crate::specs::StateRows::rows_of))]
     fn state_line(&self, place: usize, out: &mut Vec<u8>) -> Result<(), AllocError> {
         match self {
-            NetFunction::Firewall(_) => unreachable!(),
             NetFunction::Nat(nat) => nat.state_line(place, out),
             NetFunction::Balancer(balancer) => balancer.state_line(place, out),
             NetFunction::Monitor(monitor) => monitor.state_line(place, out),
             NetFunction::Limiter(limiter) => limiter.state_line(place, out),
+            _ => unreachable!(),
         }
     }
 

@@ -1,4 +1,4 @@
--- For proofs: a signature: how it is declared, what it decides, and what it does as a function of a chain.
+-- Believed: a signature: how it is declared, what it decides, and what it does as a function of a chain.
 use Rattle.std.specs.Prelude.{ℕ, List, Bool, false, not, Option, Some, None}
 use Rattle.packet_fields.specs.declared.field.Field.TheVariants.{Payload}
 use Rattle.policy_text.specs.declared.policy.FunctionDecl.{FunctionDecl}

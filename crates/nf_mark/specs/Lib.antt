@@ -1,4 +1,5 @@
 pub mod Clauses
+pub mod FoundPatterns
 pub mod HopLaws
 pub mod Hops
 pub mod Keeping
@@ -12,6 +13,8 @@ pub mod NexthopViews
 pub mod Nexthops
 pub mod NoLines
 pub mod OneField
+pub mod RedactorLaws
+pub mod Redactors
 pub mod Seeing
 pub mod TaggerLaws
 pub mod TaggerLines

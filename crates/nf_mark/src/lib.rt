@@ -1,4 +1,4 @@
-//! Network functions that rewrite the heads of packets and their tags, and keep nothing of them.
+//! Network functions that rewrite packets and keep nothing of them: their heads, their tags and their data.
 //!
 //! A [`Marker`] writes the IPv4 type of service (RFC 791, 3.1), whose high six bits are the DSCP (RFC 2474, 3): that of the first
 //! rule whose clauses a packet meets. A [`Nexthop`] sends a packet over another link: by the first rule whose prefix holds its
@@ -7,15 +7,21 @@
 //! [`Untagger`] takes the outermost tag off (IEEE 802.1Q, 9.3). Where a packet lacks the field that would be written, it stays as
 //! it is.
 //!
+//! A [`Redactor`] overwrites what must not be read on: in a packet's data each of its patterns of 1 to 256 bytes, one after another in
+//! the listed order, each leftmost occurrence that doesn't overlap one before it, byte by byte with a small x, so that the length
+//! stays. Where no pattern occurs, nothing is written. The search for a pattern is made once, when the redactor is built; a step searches
+//! and overwrites the bytes that the view lends, without a copy. A pattern that begins in one packet and ends in another is not
+//! found: no packet is remembered.
+//!
 //! `build` of each makes it of the lines that an operator wrote, or names the least line that is refused. No line sets a hop or an
 //! untagger up ([`NoLine`]). A rule asks for what its function sees: a marker's for anything but tags, a tagger's for the source
 //! alone.
 //!
 //! As functions of a chain they have one meaning each: `marker_behaviour` of `specs/Markers.antt`, `nexthop_behaviour` of
-//! `specs/Nexthops.antt`, `hop_behaviour` of `specs/Hops.antt`, `tagger_behaviour` of `specs/Taggers.antt` and
-//! `untagger_behaviour` of `specs/Untaggers.antt`. They see a packet through a view of a version of it (`step`), and take no
-//! memory there. That they keep to their profiles are `marker_keeps`, `nexthop_keeps`, `hop_keeps`, `tagger_keeps` and
-//! `untagger_keeps`, each in a file of `specs/` of its own. None has a state, so none has lines that tell it.
+//! `specs/Nexthops.antt`, `hop_behaviour` of `specs/Hops.antt`, `tagger_behaviour` of `specs/Taggers.antt`,
+//! `untagger_behaviour` of `specs/Untaggers.antt` and `redactor_behaviour` of `specs/Redactors.antt`. They see a packet through a view
+//! of a version of it (`step`), and take no memory there. That they keep to their profiles are `marker_keeps`, `nexthop_keeps`, `hop_keeps`, `tagger_keeps`,
+//! `untagger_keeps` and `redactor_keeps`, each in a file of `specs/` of its own. None has a state, so none has lines that tell it.
 //!
 //! In other words than the steps, [`new_tag_is_outermost`] says that clauses see the VLAN id of a new tag, and that an untagger takes
 //! it off again.
@@ -31,6 +37,7 @@ mod marker;
 mod nexthop;
 mod no_lines;
 mod present;
+mod redactor;
 mod tagger;
 mod untagger;
 
@@ -40,5 +47,6 @@ pub use link_address::LinkAddress;
 pub use marker::{MarkRule, Marker};
 pub use nexthop::{Nexthop, NexthopRule};
 pub use no_lines::NoLine;
+pub use redactor::Redactor;
 pub use tagger::{TagRule, Tagger};
 pub use untagger::Untagger;

@@ -1,4 +1,4 @@
--- For proofs: a line with a pattern: `rule text` with a word, or `rule hex` with digits.
+-- Believed: a line with a pattern: `rule text` with a word, or `rule hex` with digits.
 use Rattle.std.specs.Prelude.{ℕ, List, [], ◌∷◌, if◌then◌else◌, Option, None, codes}
 use Rattle.std.specs.Str.{bytes_eq}
 use Rattle.policy_text.specs.Bytes.{pattern_of}

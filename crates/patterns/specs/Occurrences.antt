@@ -1,4 +1,4 @@
--- For proofs: whether a pattern occurs in a payload.
+-- Believed: whether a pattern occurs in a payload.
 use Rattle.std.specs.Prelude.{ℕ, List, [], ◌∷◌, Bool, true, false, ◌==◌, ◌&&◌, ◌||◌}
 use Rattle.std.specs.List.{list_any}
 

@@ -1,4 +1,4 @@
--- For proofs: a payload in which patterns are overwritten.
+-- Believed: a payload in which patterns are overwritten.
 use Rattle.std.specs.Prelude.{ℕ, zero, suc, ◌-◌, List, [], ◌∷◌, length, if◌then◌else◌, fold}
 use Rattle.patterns.specs.Occurrences.{begins}
 

@@ -1,4 +1,4 @@
--- For proofs: the values of settings that spell bytes: link addresses and patterns.
+-- Believed: the values of settings that spell bytes: link addresses and patterns.
 use Rattle.std.specs.Prelude.{ℕ, ◌+◌, ◌*◌, List, [], ◌∷◌, length, if◌then◌else◌, nat_lt, nat_le, ◌==◌, ◌&&◌, Option, Some, None, codes}
 use Rattle.std.specs.Option.{option_map, option_and_then}
 use Rattle.std.specs.List.{slice_split}

@@ -11,7 +11,7 @@ use Rattle.function_lines.specs.KindLines.{said_by}
 use Rattle.patterns.specs.Lines.{pattern_lines}
 use Rattle.patterns.specs.Occurrences.{some_occurs}
 use Rattle.patterns.specs.Overwriting.{redacted}
-use Rattle.nf_redact.specs.declared.redactor.Redactor.{Redactor}
+use Rattle.nf_mark.specs.declared.redactor.Redactor.{Redactor}
 
 -- the redactor of these patterns
 abbrev pub redactor_by : List (List ℕ) → Redactor

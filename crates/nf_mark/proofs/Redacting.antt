@@ -13,8 +13,8 @@ use Rattle.patterns.specs.Occurrences.{some_occurs}
 use Rattle.patterns.specs.Overwriting.{redacted}
 use Rattle.patterns.specs.Lengths.{same_length}
 use Rattle.patterns.specs.Steps.{BeginsAt}
-use Rattle.nf_redact.specs.Redactors.{redacted_payload, to_payload}
-use Rattle.nf_redact.specs.Found.{Finds, IsFoundAt}
+use Rattle.nf_mark.specs.Redactors.{redacted_payload, to_payload}
+use Rattle.nf_mark.specs.FoundPatterns.{Finds, IsFoundAt}
 
 -- a search through a payload that is there
 pub finds : (patterns : List (List ℕ)) (payload : List ℕ) (r : Option ℕ) → BeginsAt patterns payload r → Finds patterns (Some payload) r

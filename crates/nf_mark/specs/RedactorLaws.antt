@@ -12,8 +12,8 @@ use Rattle.chain_walk.specs.declared.fixed.Fixed.{Fixed}
 use Rattle.patterns.specs.Occurrences.{some_occurs}
 use Rattle.patterns.specs.Overwriting.{redacted}
 use Rattle.patterns.specs.Lengths.{same_length}
-use Rattle.nf_redact.specs.declared.redactor.Redactor.{Redactor}
-use Rattle.nf_redact.specs.Redactors.{redacted_payload, redactor_behaviour}
+use Rattle.nf_mark.specs.declared.redactor.Redactor.{Redactor}
+use Rattle.nf_mark.specs.Redactors.{redacted_payload, redactor_behaviour}
 
 module _ (patterns : List (List ℕ)) where
   -- where there is no payload nothing is written

@@ -23,7 +23,7 @@ impl Redactor {
     ghost use Rattle.packet_version.specs.Views.{seen_values, viewed, wrote_all};
     ghost use Rattle.function_lines.specs.Builds.{Builds};
     ghost use Rattle.patterns.specs.Lines.{pattern_lines};
-    ghost use Rattle.nf_redact.specs.Redactors.{redactor_by, redactor_behaviour, redacted_payload, to_payload};
+    ghost use Rattle.nf_mark.specs.Redactors.{redactor_by, redactor_behaviour, redacted_payload, to_payload};
 
     /// Makes the redactor that is declared, or names the least line of the declaration that is refused: one that is no
     /// `rule` with a pattern.
@@ -48,7 +48,7 @@ impl Redactor {
     }
 
     // Writes the payload where one of the patterns occurs in it, and else nothing.
-    #[tactic(auto, using(crate::proofs::Writing::nothing_found, crate::proofs::Writing::found))]
+    #[tactic(auto, using(crate::proofs::Redacting::nothing_found, crate::proofs::Redacting::found))]
     fn overwrite(&self, view: &mut View)
         requires profile { view.old.profile ≡ profile_of Kind.Redactor }
         ensures { view.new ≡ wrote_all (to_payload (redacted_payload self.now.patterns (seen_values view.old Field.Payload))) view.old }
@@ -79,11 +79,11 @@ ghost use Rattle.action_profile.specs.declared.kind.Kind.{Kind};
 ghost use Rattle.packet_fields.specs.declared.field.Field.{Field};
 ghost use Rattle.packet_version.specs.Views.{seen_values, wrote_all};
 ghost use Rattle.patterns.specs.Overwriting.{redacted};
-ghost use Rattle.nf_redact.specs.Redactors.{to_payload};
-ghost use Rattle.nf_redact.specs.Found.{Finds};
+ghost use Rattle.nf_mark.specs.Redactors.{to_payload};
+ghost use Rattle.nf_mark.specs.FoundPatterns.{Finds};
 
 /// The place of the first pattern that occurs in the payload, where there is one.
-#[tactic(auto, using(crate::proofs::Writing::finds))]
+#[tactic(auto, using(crate::proofs::Redacting::finds))]
 fn first_found(patterns: &[Pattern], payload: Option<&[u8]>) -> Option<usize>
     ensures { Finds patterns.now (option_copied payload.entry) result }
 {
@@ -94,7 +94,7 @@ fn first_found(patterns: &[Pattern], payload: Option<&[u8]>) -> Option<usize>
 }
 
 /// Overwrites the patterns in a payload that is there.
-#[tactic(auto, using(crate::proofs::Writing::is_there))]
+#[tactic(auto, using(crate::proofs::Redacting::is_there))]
 fn overwrite_payload(patterns: &[Pattern], view: &mut View)
     requires profile { view.old.profile ≡ profile_of Kind.Redactor }
     requires present { IsSome (seen_values view.old Field.Payload) }

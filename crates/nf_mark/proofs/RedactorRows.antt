@@ -10,7 +10,7 @@ use Rattle.chain_walk.specs.Step.{stepped}
 use Rattle.chain_walk.specs.declared.fixed.Fixed.{Fixed}
 use Rattle.function_lines.specs.KindLines.{refused_line}
 use Rattle.patterns.specs.Lines.{line_of, pattern_lines}
-use Rattle.nf_redact.specs.Redactors.{redactor_of, redactor_behaviour}
+use Rattle.nf_mark.specs.Redactors.{redactor_of, redactor_behaviour}
 
 declared : List Setting → FunctionDecl
 declared settings = record { name = codes "red"; line = 3; kind = kinds.Redactor; settings = settings }

@@ -1,6 +1,6 @@
 use Rattle.packet_fields.specs.declared.field.Field.TheVariants.{Payload}
-use Rattle.nf_redact.proofs.Writing.{left_behind}
-use Rattle.nf_redact.proofs.redactor.overwrite_payload.Goals as goal
+use Rattle.nf_mark.proofs.Redacting.{left_behind}
+use Rattle.nf_mark.proofs.redactor.overwrite_payload.Goals as goal
 
 pub returns : goal.returns
 returns c =

@@ -1,7 +1,7 @@
 -- For proofs: a pattern that is found in a payload, and what is overwritten then.
 use Rattle.std.specs.Prelude.{◌≡◌, ◌<◌, ℕ, List, length, drop, Option, Some, None, option_map, IsSome}
 use Rattle.patterns.specs.Overwriting.{redacted}
-use Rattle.nf_redact.specs.Redactors.{redacted_payload}
+use Rattle.nf_mark.specs.Redactors.{redacted_payload}
 
 -- There is a payload, in which the pattern at this place occurs: it is overwritten by this pattern and those behind it.
 pub record IsFoundAt (patterns : List (List ℕ)) (payload : Option (List ℕ)) (place : ℕ) : Type 0 where

@@ -1,2 +1,0 @@
-pub mod RedactorRows
-pub mod Writing
