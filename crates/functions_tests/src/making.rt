@@ -1,6 +1,5 @@
 //! Functions are made of what a policy declares.
 
-use action_profile::Kind;
 use net_functions::{NetFunction, build, is_built};
 use policy_text::{BuildFault, Policy, parse};
 use std::alloc::Global;
@@ -33,7 +32,6 @@ fn a_firewall_is_made_of_its_lines(rt: HostRuntime) {
 
 #[test]
 fn a_refused_line_of_a_firewall_is_named(rt: HostRuntime) {
-    assert!(rt; is_built(Kind::Firewall) && !is_built(Kind::Signature));
     for (text, line) in [
         ("nfp 1\nchain c\nfn f firewall\nrule pass\n", 4),
         (

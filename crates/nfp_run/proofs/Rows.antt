@@ -1,7 +1,6 @@
 -- Worked rows, computed by the definitions.
 use Rattle.std.specs.Prelude.{◌≡◌, ℕ, List, [], ◌∷◌, ◌++◌, refl, take, slice_index, Some, Result, Ok, Err, codes}
 use Rattle.std.specs.Fmt.{digits}
-use Rattle.nfp_outside.specs.declared.slot.Slot.TheVariants.{Policy as PolicySlot}
 use Rattle.pcap_io.specs.declared.capture.CaptureFault.TheVariants.{CutRecord, CutHead}
 use Rattle.pcap_io.specs.Capture.{body_of}
 use Rattle.pcap_io.specs.declared.capture.Endian.TheVariants.{Little}
@@ -37,7 +36,7 @@ use Rattle.nf_translate.specs.NatLines.{line_of as nat_line_of}
 use Rattle.nf_observe.specs.StateLines.{flow_line, endpoint_text}
 use Rattle.first_sight.specs.Addresses.{dotted}
 use Rattle.chain_walk.specs.Walk.{walk}
-use Rattle.nfp_run.specs.declared.outcome.Outcome.TheVariants.{Done, Policy, NotBuilt, Capture}
+use Rattle.nfp_run.specs.declared.outcome.Outcome.TheVariants.{Done, Policy, Capture}
 use Rattle.command_words.specs.Words.{Command, Run, Plan}
 use Rattle.nfp_run.specs.Due.{due_of_policy, nothing_but}
 use Rattle.service_walk.specs.Service.{fates_among, chains_after}
@@ -239,11 +238,6 @@ no_head = refl
 plan_shown : due_of_policy (Plan (codes "p")) (worth (codes "nfp 1\n")) [] ≡ nothing_but Done []
 unfolding worth plan_text policy_of_utf8 after_line orders_from
 plan_shown = refl
-
--- a function of a kind that isn't built doesn't run, and that counts before the capture
-marker_unbuilt : due_of_policy run_command (worth (codes "nfp 1\nchain main\nfn m marker\n")) [] ≡ nothing_but (NotBuilt PolicySlot) (codes "not built: policy\n")
-unfolding run_command worth making_of policy_of_utf8 after_line orders_from answer_of edges_of taken stuck named_cycle from_earliest cycle_back first_refusal
-marker_unbuilt = refl
 
 -- no text at all has no version line
 no_policy : due_of_policy run_command (worth []) [] ≡ nothing_but (Policy (Text BadVersionLine)) (codes "policy: bad version line\n")

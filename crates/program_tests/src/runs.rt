@@ -218,19 +218,6 @@ fn a_policy_is_refused_for_its_first_fault(rt: HostRuntime) -> Result<(), Fail> 
     Ok(())
 }
 
-#[test]
-fn a_policy_of_another_kind_is_not_run(rt: HostRuntime) -> Result<(), Fail> {
-    let alloc = rt.alloc();
-    let run = words(alloc, &["run", "p", "c", "o", "r"])?;
-    let policy = b"nfp 1\nchain main\nfn m marker\n";
-    let mut desk = FixedDesk::new(alloc, policy.to_vec(alloc)?, Vec::new(alloc), 7);
-    let outcome = nfp(&rt, alloc, &run, &mut desk, &OpenGate);
-    assert!(rt; matches!(outcome, Outcome::NotBuilt(Slot::Policy)));
-    assert_eq!(rt; outcome.status(), 7);
-    assert_eq!(rt; desk.put(Slot::Note), b"not built: policy\n".as_slice());
-    Ok(())
-}
-
 // The capture of three records, cut inside the last: two are done, and the report says why it ends.
 #[test]
 fn a_cut_capture_is_done_up_to_its_fault(rt: HostRuntime) -> Result<(), Fail> {
