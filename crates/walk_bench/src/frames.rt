@@ -14,7 +14,8 @@ const HEADERS: [u8; 42] = [
     0, 0, 1, 10, 0, 0, 2, 0x03, 0xe8, 0, 53, 0, 8, 0, 0,
 ];
 
-/// Packets of so many bytes, at least 42 and below 65,536 each, from the sources 10.0.0.0 to 10.0.0.255 in turn.
+/// Packets of so many bytes, at least 42 and below 65,536 each, from the sources 10.0.0.0 to 10.0.0.255 in turn. Their data are
+/// small letters.
 pub fn burst_of(alloc: Global, size: u16) -> Result<Burst, AllocError> {
     let mut items = Vec::new(alloc);
     for number in 0..BURST {
@@ -48,6 +49,14 @@ fn frame(alloc: Global, number: u32, size: u16) -> Result<Vec<u8>, AllocError> {
     headers[38] = high;
     headers[39] = low;
     let mut bytes = Vec::from_slice(alloc, &headers)?;
-    bytes.resize(usize::from(size.max(42)), 7)?;
+    for place in 42..size.max(42) {
+        bytes.push(letter(number, place))?;
+    }
     Ok(bytes)
+}
+
+// One of 26 letters, by the bits of a product, so that no short word comes again and again.
+fn letter(number: u32, place: u16) -> u8 {
+    let mixed = (number ^ u32::from(place)).wrapping_mul(2_654_435_761);
+    b'a' + (mixed >> 24) as u8 % 26
 }

@@ -1,9 +1,11 @@
 //! Leads the same burst of packets through the chain of a policy again and again, through the graph or by the walk of
-//! whole frames: what `bench/walk` measures. Its words are `graph`, `walk` or `none`, how often, the length of each frame in
-//! bytes, and the policy. The functions of the first chain are taken as declared.
+//! whole frames, or looks for the patterns of its functions alone, or reads the same bytes: what `bench/walk` and `bench/payload`
+//! measure. Its words are `graph`, `walk`, `search`, `pass` or `none`, how often, the length of each frame in bytes, and the policy.
+//! The functions of the first chain are taken as declared.
 #![tactic(auto)]
 
 mod frames;
+mod search;
 
 ghost use Rattle.std.specs.Prelude.{◌≡◌, ◌≤◌, length, map, IfOk, OnOk, vec_len};
 
@@ -19,6 +21,7 @@ use packet_fields::Frame;
 use packet_version::Tally;
 use pcap_io::Unit;
 use policy_text::{BuildFault, ChainPolicy, FunctionDecl, parse};
+use search::{pass, search};
 use std::alloc::{AllocError, Global};
 use std::rt::Files;
 use std::sync::Wait;
@@ -169,6 +172,8 @@ fn lead(
             let out = by_walk(rt, alloc, &mut functions, &burst, rounds)?;
             println!(rt; "out {out}")
         }
+        "search" => println!(rt; "found {}", search(&functions, &burst, rounds)),
+        "pass" => println!(rt; "sum {}", pass(&burst, rounds)),
         _ => println!(rt; "none"),
     }
 }
