@@ -65,7 +65,7 @@ def echo(number):
 SYN, ACK, PUSH_ACK = 0x02, 0x10, 0x18
 
 
-def ipv4(source, destination, content, options=b'', offset=0, more=False, lead=None):
+def ipv4(source, destination, content, options=b'', offset=0, more=False, lead=None, tos=0, ttl=64):
     """A whole packet, RFC 791. `lead` stands in the place of the first byte, which is version and header length."""
     protocol, segment = content
     source, destination = address(source), address(destination)
@@ -73,7 +73,7 @@ def ipv4(source, destination, content, options=b'', offset=0, more=False, lead=N
     words = 5 + len(options) // 4
     first = 0x40 + words if lead is None else lead
     fragment = offset // 8 + (0x2000 if more else 0)
-    head = struct.pack('>BBHHHBB', first, 0, 4 * words + len(body), 0x1234, fragment, 64, protocol)
+    head = struct.pack('>BBHHHBB', first, tos, 4 * words + len(body), 0x1234, fragment, ttl, protocol)
     total = internet_checksum(head + b'\0\0' + source + destination + options)
     return head + struct.pack('>H', total) + source + destination + options + body
 

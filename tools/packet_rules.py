@@ -15,6 +15,8 @@ MICRO, NANO = 0xA1B2C3D4, 0xA1B23C4D
 NANOSECONDS = {MICRO: 1_000, NANO: 1}  # of one unit of a fraction
 
 TCP, UDP = 6, 17
+VLAN_TAG, SERVICE_TAG = 0x8100, 0x88A8
+LONGEST_FRAME = 262_144
 
 
 # Frames and their fields.
@@ -37,7 +39,7 @@ def type_place(frame):
     if len(frame) < 14:
         return None
     place = 12
-    while frame[place : place + 2] in (b'\x81\x00', b'\x88\xa8') and place + 6 <= len(frame):
+    while number(frame[place : place + 2]) in (VLAN_TAG, SERVICE_TAG) and place + 6 <= len(frame):
         place += 4
     return place
 
@@ -92,10 +94,11 @@ def payload_place(frame, header):
 
 
 class Packet:
-    """A frame as functions see it, which they may write, and what none of them writes."""
+    """A frame as functions see it, which they may write, and what none of them writes. Its tags are held beside the rest."""
 
     def __init__(self, frame, time):
         self.frame, self.places, self.time = bytearray(frame), fields_of(frame), time
+        self.tags = frame[slice(*self.places['tag'])] if 'tag' in self.places else None
         header = header_of(frame)
         self.proto = frame[header.begin + 9] if header and len(frame) >= header.begin + 10 else None
         self.length = number(frame[header.begin + 2 : header.begin + 4]) if header and len(frame) >= header.begin + 4 else None
@@ -105,12 +108,23 @@ class Packet:
 
     def get(self, field):
         begin, end = self.places[field]
-        return bytes(self.frame[begin:end])
+        return self.tags if field == 'tag' else bytes(self.frame[begin:end])
 
     def put(self, field, value):
+        """Writes a field in its place, which for all but the tags has a fixed length."""
         begin, end = self.places[field]
-        assert len(value) == end - begin
-        self.frame[begin:end] = value
+        if field == 'tag':
+            self.tags = value
+        else:
+            assert len(value) == end - begin
+            self.frame[begin:end] = value
+
+    def whole(self):
+        """The frame with its tags as they are now."""
+        if not self.has('tag'):
+            return bytes(self.frame)
+        begin, end = self.places['tag']
+        return bytes(self.frame[:begin] + self.tags + self.frame[end:])
 
     def address(self, field):
         return ipaddress.IPv4Address(self.get(field)) if self.has(field) else None
@@ -156,22 +170,26 @@ def adjusted(old, before, after):
 
 
 def words_of(data):
-    return struct.unpack(f'>{len(data) // 2}H', data)
+    """Words of 16 bits. A last odd byte is the high one of a word whose low one is 0."""
+    return struct.unpack(f'>{(len(data) + 1) // 2}H', data + b'\0' * (len(data) % 2))
 
 
 def seal(before, packet):
-    """Adjusts the checksums of a packet that was this frame. No kind that is built writes the data."""
+    """Adjusts the checksums of a packet that was this frame, but for its tags, of which no checksum knows."""
     after, header = packet.frame, header_of(before)
-    if bytes(after) == before:
+    if header is None:
         return
-    ends = [slice(*packet.places[field]) for field in ('src', 'dst', 'sport', 'dport') if packet.has(field)]
-    was, now = (b''.join(frame[end] for end in ends) for frame in (before, bytes(after)))
-    addresses = slice(header.begin + 12, header.begin + 20)
-    put_sum(after, header.begin + 10, adjusted(sum_at(before, header.begin + 10), before[addresses], bytes(after[addresses])))
+    if header.begin + 12 <= len(before):
+        fixed = slice(header.begin, header.begin + 20)
+        put_sum(after, header.begin + 10, adjusted(sum_at(before, header.begin + 10), before[fixed], bytes(after[fixed])))
+    if header.transport is None:
+        return
     at = header.transport + (6 if packet.proto == UDP else 16)
     old = sum_at(before, at)
     if at + 2 > header.end or (packet.proto == UDP and old == 0):
         return
+    covered = [slice(*packet.places[field]) for field in ('src', 'dst', 'sport', 'dport', 'payload') if packet.has(field)]
+    was, now = (b''.join(frame[part] for part in covered) for frame in (before, bytes(after)))
     new = adjusted(old, was, now)
     put_sum(after, at, 0xFFFF if packet.proto == UDP and new == 0 and was != now else new)
 
@@ -184,8 +202,8 @@ def put_sum(frame, at, value):
     frame[at : at + 2] = value.to_bytes(2, 'big')
 
 
-# The kinds that are built. Each is made of what its lines say. Its step is true where the packet passes, and its lines tell
-# its state in the order of first sight.
+# The kinds. Each is made of what its lines say. Its step is true where the packet passes, and its lines tell its state in
+# the order of first sight.
 
 
 def all_of(said, *lead):
@@ -306,7 +324,90 @@ class Limiter:
         return [f'source {source} tokens {tokens} at {moment}' for source, (tokens, moment) in self.buckets.items()]
 
 
-KINDS = {'firewall': Firewall, 'nat': Nat, 'balancer': Balancer, 'monitor': Monitor, 'limiter': Limiter}
+class Stateless:
+    """A kind that remembers nothing, made of its rules."""
+
+    def __init__(self, said):
+        self.rules = [value for lead, value in said if lead[0] == 'rule']
+
+    def lines(self):
+        return []
+
+
+class Signature(Stateless):
+    def step(self, packet):
+        return not packet.has('payload') or not any(pattern in packet.get('payload') for pattern in self.rules)
+
+
+class Marker(Stateless):
+    def step(self, packet):
+        value = next((value for value, clauses in self.rules if meets_all(clauses, packet.seen())), None)
+        if packet.has('tos') and value is not None:
+            packet.put('tos', bytes([value]))
+        return True
+
+
+class Nexthop(Stateless):
+    def step(self, packet):
+        if packet.has('dst', 'link-dst', 'link-src'):
+            for prefix, to, sender in self.rules:
+                if packet.address('dst') in prefix:
+                    packet.put('link-dst', to)
+                    packet.put('link-src', sender)
+                    break
+        return True
+
+
+class Hop(Stateless):
+    def step(self, packet):
+        if not packet.has('ttl'):
+            return True
+        left = number(packet.get('ttl'))
+        if left > 1:
+            packet.put('ttl', bytes([left - 1]))
+        return left > 1
+
+
+class Redactor(Stateless):
+    def step(self, packet):
+        if packet.has('payload'):
+            payload = packet.get('payload')
+            for pattern in self.rules:
+                payload = payload.replace(pattern, b'x' * len(pattern))
+            packet.put('payload', payload)
+        return True
+
+
+class Tagger(Stateless):
+    def step(self, packet):
+        rule = next((rule for rule in self.rules if meets_all(rule[2], packet.seen())), None)
+        if packet.has('tag') and rule is not None:
+            vlan, priority, _ = rule
+            packet.put('tag', struct.pack('>HH', VLAN_TAG, priority * 8192 + vlan) + packet.get('tag'))
+        return True
+
+
+class Untagger(Stateless):
+    def step(self, packet):
+        if packet.has('tag'):
+            packet.put('tag', packet.get('tag')[4:])
+        return True
+
+
+KINDS = {
+    'firewall': Firewall,
+    'signature': Signature,
+    'nat': Nat,
+    'balancer': Balancer,
+    'monitor': Monitor,
+    'limiter': Limiter,
+    'marker': Marker,
+    'nexthop': Nexthop,
+    'hop': Hop,
+    'redactor': Redactor,
+    'tagger': Tagger,
+    'untagger': Untagger,
+}
 
 
 # Chains of them, and what is written.
@@ -357,13 +458,21 @@ def fate_of(chains, frame, time):
             drop = chain.walk(packet)
             chain.count_copies(packet, drop)
             seal(frame, packet)
-            return Fate(chain.name, drop, bytes(packet.frame))
+            return Fate(chain.name, drop, packet.whole())
     return Fate(None, None, frame)
 
 
+class Record(typing.NamedTuple):
+    stamp: bytes  # seconds and fraction as they stand in the capture
+    time: int  # the same in nanoseconds
+    original: int  # the length of the frame as it was sent
+    frame: bytes
+
+
 class Capture(typing.NamedTuple):
+    order: str  # of the bytes in the capture's own numbers, as struct spells it
     head: bytes
-    records: list  # head, time in nanoseconds, frame
+    records: list
     fault: typing.Optional[str]  # what is wrong behind the whole records
 
 
@@ -373,13 +482,31 @@ def read_capture(data):
     records, place = [], 24
     while place < len(data):
         head = data[place : place + 16]
-        seconds, fraction, captured, _ = struct.unpack(order + 'IIII', head) if len(head) == 16 else (0, 0, 0, 0)
+        seconds, fraction, captured, original = struct.unpack(order + 'IIII', head) if len(head) == 16 else (0, 0, 0, 0)
+        if captured > LONGEST_FRAME:
+            return Capture(order, data[:24], records, f'capture: frame too long {len(records) + 1} {captured}')
         frame = data[place + 16 : place + 16 + captured]
         if len(head) < 16 or len(frame) < captured:
-            return Capture(data[:24], records, f'capture: cut record {len(records) + 1}')
-        records.append((head, seconds * 1_000_000_000 + fraction * unit, frame))
+            return Capture(order, data[:24], records, f'capture: cut record {len(records) + 1}')
+        records.append(Record(head[:8], seconds * 1_000_000_000 + fraction * unit, original, frame))
         place += 16 + captured
-    return Capture(data[:24], records, None)
+    return Capture(order, data[:24], records, None)
+
+
+def in_32_bits(value):
+    return min(max(value, 0), 0xFFFFFFFF)
+
+
+def written_head(capture, taggers):
+    """The snaplen has room for a tag of each tagger in the policy, whether or not it pushes one."""
+    (snaplen,) = struct.unpack(capture.order + 'I', capture.head[16:20])
+    return capture.head[:16] + struct.pack(capture.order + 'I', in_32_bits(snaplen + 4 * taggers)) + capture.head[20:]
+
+
+def written_record(capture, record, frame):
+    """The original length changes by what tags change of the frame's, which nothing else does."""
+    original = in_32_bits(record.original + len(frame) - len(record.frame))
+    return record.stamp + struct.pack(capture.order + 'II', len(frame), original) + frame
 
 
 class Answer(typing.NamedTuple):
@@ -406,18 +533,17 @@ def report_of(chains, fates, total, fault):
 
 
 def answer(policy, capture):
-    """What `nfp run` must write for a policy of kinds that are built, one that is refused, or one that it doesn't run yet."""
+    """What `nfp run` must write for a policy and a capture with a good head."""
     try:
         checked = policy_rules.check(policy)
     except policy_rules.Refused as refused:
         return nothing_but(f'policy: {refused}', 2)
-    if any(function.kind not in KINDS for chain, _ in checked for function in chain.functions):
-        return nothing_but('not built: policy', 7)
     chains = [Chain(chain, order) for chain, order in checked]
-    head, records, fault = read_capture(capture)
-    fates = [fate_of(chains, frame, time) for _, time, frame in records]
-    emitted = [record + fate.frame for (record, _, _), fate in zip(records, fates) if fate.drop is None]
+    taggers = [function.kind for chain, _ in checked for function in chain.functions].count('tagger')
+    read = read_capture(capture)
+    fates = [fate_of(chains, record.frame, record.time) for record in read.records]
+    emitted = [written_record(read, record, fate.frame) for record, fate in zip(read.records, fates) if fate.drop is None]
     total = f'records {len(fates)} emitted {len(emitted)} dropped {len(fates) - len(emitted)}'
-    report = ''.join(f'{line}\n' for line in report_of(chains, fates, total, fault))
-    frames = [frame for _, _, frame in records]
-    return Answer(frames, fates, head + b''.join(emitted), report, fault or f'done {total}', 3 if fault else 0)
+    report = ''.join(f'{line}\n' for line in report_of(chains, fates, total, read.fault))
+    out = written_head(read, taggers) + b''.join(emitted)
+    return Answer([record.frame for record in read.records], fates, out, report, read.fault or f'done {total}', 3 if read.fault else 0)

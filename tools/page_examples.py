@@ -2,10 +2,13 @@
 
 Each block of a policy, or of a command that prints one, has behind it what `nfp plan` prints for it. Behind that may stand a table
 of packets with the head `| record | ..`, and a block of the report that they give. A packet is spelled as in `UDP from
-10.1.4.20:40000 to 198.51.100.5:53`, with `, 500 bytes` behind it where its IPv4 length counts.
+10.1.4.20:40000 to 198.51.100.5:53`, with more behind it where that counts: `, 500 bytes` for its IPv4 length, `, tos 184`, `, ttl 1`,
+`, data ..` for what UDP or TCP carry, `, tags 100 and 7 pcp 5` for the VLAN ids of its tags from the outermost on, with priorities
+that aren't 0, and `, cut to 20 bytes` for what was captured of the frame. What becomes of it is told in the same words.
 """
 
 import re
+import struct
 import subprocess
 import typing
 
@@ -16,7 +19,16 @@ import policy_rules
 BLOCK, TABLE = r'^```(policy|sh|plan|order|report)\n(.*?)^```$', r'^\| record \|([^\n]*)\n\|[-|]+\n((?:\|[^\n]*\n)+)'
 PART = re.compile(f'{BLOCK}|{TABLE}', re.MULTILINE | re.DOTALL)
 END = r'([0-9.]+)(?::(\d+))?'
-PACKET = re.compile(f'(UDP|TCP|ping) from {END} to {END}(?:, ([0-9,]+) bytes)?')
+PACKET = re.compile(f'(UDP|TCP|ping) from {END} to {END}')
+TAG = r'(\d+)(?: pcp (\d))?'
+MORE = {
+    'length': re.compile('([0-9,]+) bytes'),
+    'cut': re.compile(r'cut to (\d+) bytes'),
+    'tos': re.compile(r'tos (\d+)'),
+    'ttl': re.compile(r'ttl (\d+)'),
+    'tags': re.compile(f'tags? ({TAG}(?: and {TAG})*)'),
+    'data': re.compile('data `(.*)`'),
+}
 
 
 class Planned(typing.NamedTuple):
@@ -34,21 +46,41 @@ class Led(typing.NamedTuple):
     report: str  # and the report that it shows
 
 
+def more_of(parts):
+    """What is said of a packet behind its ends."""
+    said = {name: form.fullmatch(part)[1] for part in parts for name, form in MORE.items() if form.fullmatch(part)}
+    if len(said) != len(parts):
+        raise ValueError(f'not said of a packet: {parts}')
+    return said
+
+
 def frame_of(text):
-    if text == 'ARP':
-        return frames.arp_request('10.1.4.20', '10.1.0.1')
+    what, *parts = text.split(', ')
+    said = more_of(parts)
+    tags = b''.join(frames.tag(frames.VLAN_TAG, int(vlan), int(priority or 0)) for vlan, priority in re.findall(TAG, said.get('tags', '')))
+    whole = arp(tags) if what == 'ARP' else packet_of(what, said, tags)
+    return whole[: int(said['cut'])] if 'cut' in said else whole
+
+
+def arp(tags):
+    request = frames.arp_request('10.1.4.20', '10.1.0.1')
+    return frames.ethernet(frames.TYPE_ARP, request[14:], tags=tags, to=frames.BROADCAST)
+
+
+def packet_of(text, said, tags):
     spelled = PACKET.fullmatch(text)
     if spelled is None:
         raise ValueError(f'no packet: {text}')
-    what, source, source_port, destination, port, length = spelled.groups()
+    what, source, source_port, destination, port = spelled.groups()
+    fields = {name: int(said[name]) for name in ('tos', 'ttl') if name in said}
     if what == 'ping':
-        return frames.plain(source, frames.echo(1), to=destination)
+        return frames.plain(source, frames.echo(1), to=destination, tags=tags, **fields)
     if what == 'TCP':
         content, header = lambda data: frames.tcp(int(source_port), int(port), frames.PUSH_ACK, data), 40
     else:
         content, header = lambda data: frames.udp(int(source_port), int(port), data), 28
-    size = int(length.replace(',', '')) - header if length else 0
-    return frames.plain(source, content(b'.' * size), to=destination)
+    size = int(said['length'].replace(',', '')) - header if 'length' in said else 0
+    return frames.plain(source, content(said.get('data', '.' * size).encode('ascii')), to=destination, tags=tags, **fields)
 
 
 def microseconds(text):
@@ -110,7 +142,22 @@ def fate_text(frame, fate):
     """What becomes of a packet, as the page spells it."""
     if fate.drop is not None:
         return 'is dropped'
-    return 'passes' if fate.frame == frame else ends_text(fate.frame)
+    before, after = (packet_rules.Packet(each, 0) for each in (frame, fate.frame))
+    changed = {field for field in before.places if before.get(field) != after.get(field)}
+    parts = [ends_text(fate.frame)] if changed & {'src', 'dst', 'sport', 'dport'} else []
+    if changed & {'link-dst', 'link-src'}:
+        parts.append('to {} from {}'.format(*(after.get(field).hex(':') for field in ('link-dst', 'link-src'))))
+    parts += [f'{field} {packet_rules.number(after.get(field))}' for field in ('tos', 'ttl') if field in changed]
+    parts += [tags_text(after.get('tag'))] if 'tag' in changed else []
+    parts += ['data `{}`'.format(after.get('payload').decode('ascii'))] if 'payload' in changed else []
+    return ', '.join(parts) or 'passes'
+
+
+def tags_text(tags):
+    told = []
+    for _, control in struct.iter_unpack('>HH', tags):
+        told.append(f'{control % 4096}' + (f' pcp {control >> 13}' if control >> 13 else ''))
+    return f"tag{'s' if len(told) > 1 else ''} {' and '.join(told)}" if told else 'no tag'
 
 
 def ends_text(frame):

@@ -232,7 +232,7 @@ def read_text(text):
     return chains
 
 
-# The settings of the kinds that are built.
+# The settings of the kinds.
 
 
 def verdict(word):
@@ -257,8 +257,30 @@ def amount(word):
     return number
 
 
-def clauses_of(words):
-    return read_clauses(words, 0)
+def link_address(word):
+    """Six pairs of hexadecimal digits."""
+    if re.fullmatch('[0-9a-fA-F]{2}(:[0-9a-fA-F]{2}){5}', word) is None:
+        raise ValueError(word)
+    return bytes.fromhex(word.replace(':', ''))
+
+
+def pattern(data):
+    if not 1 <= len(data) <= 256:
+        raise ValueError(data)
+    return data
+
+
+def text_pattern(word):
+    return pattern(word.encode())
+
+
+def hex_pattern(word):
+    if re.fullmatch('([0-9a-fA-F]{2})+', word) is None:
+        raise ValueError(word)
+    return pattern(bytes.fromhex(word))
+
+
+# How the words behind the first of a line are read. Each raises ValueError or Misfit where they aren't such.
 
 
 def one(read):
@@ -272,13 +294,52 @@ def one(read):
     return value
 
 
-# The lines of each kind that is built, by their first two words, with how the words behind these are read.
+def with_clauses(*leads):
+    """Clauses are due that begin with these words, none or more."""
+
+    def value(words):
+        clauses = read_clauses(words, 0)
+        if not set(clauses) <= set(leads):
+            raise ValueError(words)
+        return clauses
+
+    return value
+
+
+def mark(words):
+    if not words:
+        raise ValueError(words)
+    return numeral(words[0], 255), with_clauses('src', 'dst', 'sport', 'dport', 'proto')(words[1:])
+
+
+def next_hop(words):
+    if len(words) != 5 or words[1] != 'to' or words[3] != 'from':
+        raise ValueError(words)
+    return prefix(words[0]), link_address(words[2]), link_address(words[4])
+
+
+def pushed_tag(words):
+    if len(words) < 3 or words[1] != 'pcp':
+        raise ValueError(words)
+    return numeral(words[0], 4095), numeral(words[2], 7), with_clauses('src')(words[3:])
+
+
+# The lines of each kind, by the words with which they begin, with how the words behind these are read.
+FIREWALL_CLAUSES = with_clauses(*CLAUSES)
+PATTERNS = {('rule', 'text'): one(text_pattern), ('rule', 'hex'): one(hex_pattern)}
 LINES = {
-    'firewall': {('set', 'default'): one(verdict), ('rule', 'allow'): clauses_of, ('rule', 'deny'): clauses_of},
+    'firewall': {('set', 'default'): one(verdict), ('rule', 'allow'): FIREWALL_CLAUSES, ('rule', 'deny'): FIREWALL_CLAUSES},
+    'signature': PATTERNS,
     'nat': {('set', 'inside'): one(prefix), ('set', 'public'): one(address), ('set', 'ports'): one(public_ports)},
     'balancer': {('set', 'vip'): one(address), ('rule', 'backend'): one(address)},
     'monitor': {},
     'limiter': {('set', 'rate'): one(amount), ('set', 'burst'): one(amount)},
+    'marker': {('rule', 'tos'): mark},
+    'nexthop': {('rule',): next_hop},
+    'hop': {},
+    'redactor': PATTERNS,
+    'tagger': {('rule', 'vid'): pushed_tag},
+    'untagger': {},
 }
 
 # The kinds each of whose lines has to stand in a declaration once or more.
@@ -286,18 +347,18 @@ COMPLETE = {'nat', 'balancer', 'limiter'}
 
 
 def read_settings(function):
-    """What the lines of a function say, each as its first two words and its value, or the least line that it refuses."""
+    """What the lines of a function say, each as the words with which it begins and its value, or the least line that it refuses."""
     forms = LINES[function.kind]
     said, refused, keys = [], [], set()
     for number, words in function.settings:
-        lead = tuple(words[:2])
+        lead = tuple(words[:2]) if tuple(words[:2]) in forms else tuple(words[:1])
         try:
-            said.append((lead, forms[lead](words[2:])))
+            said.append((lead, forms[lead](words[len(lead) :])))
         except (KeyError, ValueError, Misfit):
             refused.append(number)
         if words[0] == 'set':
-            refused += [number] if lead in keys else []
-            keys.add(lead)
+            refused += [number] if words[1] in keys else []
+            keys.add(words[1])
     if function.kind in COMPLETE and {lead for lead, _ in said} != set(forms):
         refused.append(function.line)
     if refused:
@@ -370,8 +431,7 @@ def check(text):
     chains = read_text(text)
     for chain in chains:
         for function in chain.functions:
-            if function.kind in LINES:
-                read_settings(function)
+            read_settings(function)
     return [(chain, order_of(chain)) for chain in chains]
 
 
