@@ -3,6 +3,7 @@
 from frames import (
     ACK,
     BROADCAST,
+    IPV4_SUM,
     MICRO,
     NANO,
     PUSH_ACK,
@@ -347,6 +348,115 @@ def slow_line():
     ]
 
 
+def calls():
+    """What was seen on the line of an office with telephones, and how many bytes of it were captured."""
+    phone, provider, named, spoken = '10.1.8.21', '198.51.100.60', 5060, 16384
+
+    def voice(source=phone, to=provider, port=spoken, size=172, **fields):
+        return plain(source, udp(port, 20000 if source == phone else spoken, b'.' * size), to=to, **fields)
+
+    call = plain(phone, udp(named, named, b'REGISTER sip:198.51.100.60 SIP/2.0'), to=provider)
+    fragment = (UDP, lambda *_: b'.' * 24)
+    return [
+        ('ARP request of a telephone', arp_request(phone, '10.1.8.1'), None),
+        ('a telephone asks for its calls', call, None),
+        ('voice of a telephone', voice(), None),
+        ('voice that comes back, which the provider has marked', voice(provider, phone, port=20000, tos=184), None),
+        ('voice that comes back without a mark', voice(provider, phone, port=20000), None),
+        ('TCP SYN of an office machine', plain(OFFICE, tcp(50123, 443, SYN)), None),
+        ('the same, marked as voice', plain(OFFICE, tcp(50123, 443, SYN), tos=184), None),
+        ('UDP of an office machine from a port of voice, marked as voice', voice(OFFICE, tos=184), None),
+        ('DNS query of a telephone, marked as video', plain(phone, udp(40001, 53, QUERY), to=RESOLVER, tos=136), None),
+        ('voice in VLAN 20', voice(tags=tag(VLAN_TAG, 20)), None),
+        ('voice with the field ECN in use', voice(tos=2), None),
+        ('voice with a wrong header checksum', miscounted(voice(), IPV4_SUM), None),
+        ('voice behind IP options', voice(options=ROUTER_ALERT), None),
+        ('ping of a telephone, marked as voice', plain(phone, echo(1), to=provider, tos=184), None),
+        ('first fragment of a long piece of voice', voice(size=176, more=True), None),
+        ('a later fragment of it, marked as voice', plain(phone, fragment, to=provider, offset=184, tos=184), None),
+        ('voice, cut behind the source port', voice(), 36),
+        ('voice with a mark, cut inside the source port', voice(tos=184), 35),
+        ('voice with a mark, cut behind that', voice(tos=184), 16),
+        ('voice with a mark, cut before it', voice(tos=184), 15),
+        ('IPv6 ping', ipv6(), None),
+    ]
+
+
+def logins():
+    """What was seen on the line to a test server, and how many bytes of it were captured."""
+    server, collector = '192.0.2.80', '192.0.2.90'
+
+    def said(text, port=50123, to=server, **fields):
+        return plain(OFFICE, tcp(port, 80, PUSH_ACK, text), to=to, **fields)
+
+    def logged(text):
+        return plain(OFFICE, udp(40000, 514, text), to=collector)
+
+    login, fragment = b'user=ann&word=hunter2', (TCP, lambda *_: b'&word=hunter2&more=1&end')
+    return [
+        ('TCP SYN of an office machine', plain(OFFICE, tcp(50123, 80, SYN), to=server), None),
+        ('a segment with the password', said(login), None),
+        ('what the server answers', plain(server, tcp(80, 50123, PUSH_ACK, b'hello ann'), to=OFFICE), None),
+        ('a later segment of this flow, with the password twice', said(b'old=hunter2&new=hunter2'), None),
+        ('the first segment of another flow, which ends inside the password', said(login[:-4], 50124), None),
+        ('its next segment, which begins with the rest', said(login[-4:], 50124), None),
+        ('both sent once more in one segment', said(login, 50124), None),
+        ('name and password in base64', said(b'Authorization: Basic YW5uOmh1bnRlcjI=', 50125), None),
+        ('another name and the password in base64', said(b'Authorization: Basic Ym9iOmh1bnRlcjI=', 50125), None),
+        ('the password with an escaped digit', said(b'user=ann&word=hunter%32', 50125), None),
+        ('the password with a capital', said(b'user=ann&word=Hunter2', 50125), None),
+        ('a line of a log, UDP', logged(b'login of ann with hunter2 failed'), None),
+        ('the same without a UDP checksum', uncounted(logged(b'login of ann with hunter2 failed')), None),
+        ('a segment with the password and a wrong TCP checksum', miscounted(said(login), TCP_SUM), None),
+        ('the same in VLAN 10', said(login, tags=tag(VLAN_TAG, 10)), None),
+        ('first fragment of a long segment, with the password', said(login + b'&keep=1', more=True), None),
+        ('a later fragment of it, with the password too', plain(OFFICE, fragment, to=server, offset=48), None),
+        ('a segment whose capture ends behind the password', said(login + b'&keep=1'), 75),
+        ('a segment whose capture ends inside the password', said(login), 74),
+        ('a segment without data', plain(OFFICE, tcp(50123, 80, ACK), to=server), None),
+        ('ARP request of the office machine', arp_request(OFFICE, '10.1.0.1'), None),
+    ]
+
+
+def provider_edge():
+    """What was seen at a provider's edge, from two customers and back from its core, and how many bytes of it were captured."""
+    first, second, stranger, web = '10.1.4.20', '10.2.4.20', '10.3.4.20', '192.0.2.80'
+    to_first, to_second, office = tag(VLAN_TAG, 101), tag(VLAN_TAG, 102, 3), tag(VLAN_TAG, 20)
+
+    def query(source, tags=b''):
+        return plain(source, udp(40001, 53, QUERY), to=RESOLVER, tags=tags)
+
+    def answer(to, tags):
+        return plain(RESOLVER, udp(53, 40001, ANSWER), to=to, tags=tags)
+
+    def arp(tags):
+        return ethernet(TYPE_ARP, arp_request('10.2.0.1', second)[14:], tags=tags, to=BROADCAST)
+
+    return [
+        ('DNS query of the first customer', query(first), None),
+        ('its answer from the core', answer(first, to_first), None),
+        ('DNS query of the second customer', query(second), None),
+        ('its answer from the core', answer(second, to_second), None),
+        ('the first customer in its own VLAN 20', query(first, office), None),
+        ('its answer from the core', answer(first, to_first + office), None),
+        ('the second customer in VLAN 20 inside service VLAN 100', query(second, tag(SERVICE_TAG, 100) + office), None),
+        ('a web page of 1,500 bytes of the second customer, cut by the snaplen', plain(second, page(50123), to=CUSTOMER), None),
+        ('one from the core for this customer, cut by the snaplen', plain(web, page(50123), to=second, tags=to_second), None),
+        ('TCP of 60 bytes from the core to the first customer', plain(web, tcp(443, 50123, ACK), to=first, tags=to_first), None),
+        ('ARP request from the core, in VLAN 102', arp(to_second), None),
+        ('ARP request of the second customer', arp(b''), None),
+        ('DNS query of a stranger', query(stranger), None),
+        ('IPv6 ping', ipv6(), None),
+        ('DNS query of the first customer with a wrong header checksum', miscounted(query(first), IPV4_SUM), None),
+        ('the first customer with a tag of VLAN 101 that it has put on itself', query(first, to_first), None),
+        ('the same inside its VLAN 20', query(first, office + to_first), None),
+        ('the first customer, cut behind its address', query(first), 30),
+        ('the first customer, cut inside its address', query(first), 29),
+        ('a runt from the core that ends inside its tag', answer(first, to_first), 17),
+        ('a runt of 13 bytes', query(first), 13),
+    ]
+
+
 # By the names of the folders. The example without a capture is planned and not run.
 MADE = {
     'first-path': Capture('<', MICRO, 96, [(n * 180_503, *record) for n, record in enumerate(uplink())]),
@@ -359,5 +469,8 @@ MADE = {
     'site-edge': Capture('<', MICRO, 262144, [(n * 180_503, *record) for n, record in enumerate(edge())]),
     'two-servers': Capture('<', MICRO, 96, [(n * 180_503, *record) for n, record in enumerate(shop())]),
     'slowed-source': Capture('<', MICRO, 96, slow_line()),
+    'voice-marking': Capture('<', MICRO, 262144, [(n * 180_503, *record) for n, record in enumerate(calls())]),
+    'redacted-secret': Capture('<', MICRO, 262144, [(n * 180_503, *record) for n, record in enumerate(logins())]),
+    'tenant-tags': Capture('<', MICRO, 96, [(n * 180_503, *record) for n, record in enumerate(provider_edge())]),
     'plan': None,
 }

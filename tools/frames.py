@@ -105,8 +105,8 @@ def ipv6():
     return ethernet(TYPE_IPV6, body + struct.pack('>BBHHH', 128, 0, total, 7, 1))
 
 
-# Where checksums stand in a frame: in an IPv4 header behind one tag, and in TCP and UDP behind a header of five words.
-TAGGED_IPV4_SUM, TCP_SUM, UDP_SUM = 18 + 10, 34 + 16, 34 + 6
+# Where checksums stand in a frame: in an IPv4 header without a tag and behind one, and in TCP and UDP behind a header of five words.
+IPV4_SUM, TAGGED_IPV4_SUM, TCP_SUM, UDP_SUM = 14 + 10, 18 + 10, 34 + 16, 34 + 6
 
 
 def miscounted(frame, at):

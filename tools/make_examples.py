@@ -77,7 +77,8 @@ def show(name):
     for number, ((_, what, _, _), frame, fate) in enumerate(zip(MADE[name].records, due.frames, due.fates), 1):
         chain = [fate.chain or 'none'] if several else []
         end = f'**{fate.drop}**' if fate.drop else page_examples.fate_text(frame, fate)
-        print('| ' + ' | '.join([str(number), what, str(len(frame)), page_examples.ends_text(frame), *chain, end]) + ' |')
+        size = f'{len(frame)}' + (f' to {len(fate.frame)}' if len(frame) != len(fate.frame) and not fate.drop else '')
+        print('| ' + ' | '.join([str(number), what, size, page_examples.ends_text(frame), *chain, end]) + ' |')
     print(due.note)
 
 
