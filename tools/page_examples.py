@@ -55,11 +55,11 @@ def more_of(parts):
 
 
 def frame_of(text):
+    """A packet's frame, and how many bytes of it were captured (None: all)."""
     what, *parts = text.split(', ')
     said = more_of(parts)
     tags = b''.join(frames.tag(frames.VLAN_TAG, int(vlan), int(priority or 0)) for vlan, priority in re.findall(TAG, said.get('tags', '')))
-    whole = arp(tags) if what == 'ARP' else packet_of(what, said, tags)
-    return whole[: int(said['cut'])] if 'cut' in said else whole
+    return arp(tags) if what == 'ARP' else packet_of(what, said, tags), int(said['cut']) if 'cut' in said else None
 
 
 def arp(tags):
@@ -95,7 +95,7 @@ def led(policy, head, rows, report):
     cells = [dict(zip(names, (cell.strip() for cell in row.strip('|').split('|')), strict=True)) for row in rows.splitlines()]
     if [row['record'] for row in cells] != [str(at) for at in range(1, len(cells) + 1)]:
         raise ValueError(f'records that do not count from 1: {rows}')
-    records = [(microseconds(row.get('second', str(at))), '', frame_of(row['packet']), None) for at, row in enumerate(cells)]
+    records = [(microseconds(row.get('second', str(at))), '', *frame_of(row['packet'])) for at, row in enumerate(cells)]
     capture = frames.written(frames.Capture('<', frames.MICRO, 65535, records))
     return Led(policy, capture, [row['what happens'].replace('*', '') for row in cells], report)
 
