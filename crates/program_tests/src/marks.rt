@@ -5,7 +5,9 @@ use nfp_outside::{FixedDesk, OpenGate, Slot};
 use nfp_run::{Outcome, nfp};
 use std::alloc::{AllocError, Global};
 use std::process::Abort;
+use std::sync::Wait;
 use std::test::Fail;
+use std::thread::Threads;
 
 const MARKED: &[u8] =
     b"nfp 1\nchain main\nfn m1 marker\nrule tos 8\nfn m2 marker\nrule tos 16 src 10.0.0.9\n";
@@ -90,7 +92,7 @@ fn push_datagram(
 
 // Leads a capture through a policy, and compares what it gives.
 fn compare(
-    rt: &HostRuntime,
+    rt: &(impl Abort + AllocGlobal + Threads + Wait),
     policy: &[u8],
     capture: Vec<u8>,
     out: &[u8],
