@@ -45,9 +45,7 @@ fn functions_stand_where_they_are_declared(rt: HostRuntime) {
             assert_eq!(rt; chains.len(), 2);
             let functions = chains[0].as_slice();
             assert_eq!(rt; functions.len(), 2);
-            // Signatures aren't built.
-            assert!(rt; functions[0].is_none());
-            assert!(rt; functions[1].is_some());
+            assert!(rt; functions.iter().all(Option::is_some));
             assert!(rt; chains[1].as_slice().is_empty());
         }
         Err(_) => rt.abort(),
