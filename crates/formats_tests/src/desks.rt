@@ -1,5 +1,7 @@
 // Whole texts through desks, with ample memory.
-use nfp_outside::{Desk, FileDesk, FixedDesk, MemDesk, OutsideFault, Slot, read_all, write_whole};
+use nfp_outside::{
+    Desk, FileDesk, FixedDesk, MemDesk, OutsideFault, Scales, Slot, Weight, read_all, write_whole,
+};
 use std::fs;
 use std::test::Fail;
 
@@ -32,6 +34,18 @@ fn a_write_ends_at_the_listed_call(rt: HostRuntime) -> Result<(), Fail> {
     assert!(rt; desk.put(Slot::Note) == b"abc".as_slice());
     assert_eq!(rt; write_whole(&mut desk, Slot::Note, TEXT), Ok(()));
     assert!(rt; desk.put(Slot::Note) == b"abcabcdefgh".as_slice());
+    Ok(())
+}
+
+#[test]
+fn what_is_put_is_weighed(rt: HostRuntime) -> Result<(), Fail> {
+    let mut desk = Scales::new(rt.alloc());
+    assert_eq!(rt; write_whole(&mut desk, Slot::Out, b"ab"), Ok(()));
+    assert_eq!(rt; write_whole(&mut desk, Slot::Report, b"c"), Ok(()));
+    assert_eq!(rt; write_whole(&mut desk, Slot::Out, b"c"), Ok(()));
+    // 1 * 97 + 2 * 98 + 3 * 99
+    assert_eq!(rt; desk.weight(Slot::Out), Weight { bytes: 3, sum: 590 });
+    assert_eq!(rt; desk.weight(Slot::Report), Weight { bytes: 1, sum: 99 });
     Ok(())
 }
 

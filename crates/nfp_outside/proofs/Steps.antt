@@ -5,7 +5,10 @@ use Rattle.std.specs.Option.{option_map}
 use Rattle.std.proofs.Math.Seq.{drop-append_seam}
 use Rattle.std.proofs.lemmas.List.{length-take-le, append-nil, take-append-drop}
 use Rattle.nfp_outside.specs.declared.slot.Slot.{Slot}
+use Rattle.nfp_outside.specs.declared.weight.Weight.{Weight}
+use Rattle.nfp_outside.specs.Weights.{heavier}
 use Rattle.nfp_outside.specs.Outside.{SlotView, Appends, AppendsPrefix, TakesFront, Reads, Takes, Writes, KeepsSlot}
+use Rattle.nfp_outside.proofs.Weighing.{heavier_more}
 
 map_empty : (o : Option (List ℕ)) → o ≡ option_map (λ before. before ++ []) o
 map_empty None = refl
@@ -15,13 +18,23 @@ map_twice : (a b : List ℕ) (o : Option (List ℕ)) → option_map (λ before. 
 map_twice a b None = refl
 map_twice a b (Some bytes) = ap (λ x. Some x) (append_assoc bytes a b)
 
+weighs_none : (o : Option Weight) → o ≡ option_map (heavier []) o
+unfolding heavier
+weighs_none None = refl
+weighs_none (Some w) = refl
+
+weighs_twice : (a b : List ℕ) (o : Option Weight) → option_map (heavier b) (option_map (heavier a) o) ≡ option_map (heavier (a ++ b)) o
+weighs_twice a b None = refl
+weighs_twice a b (Some w) = ap (λ x. Some x) (heavier_more a b w)
+
 pub appends_none : (v : SlotView) → Appends [] v v
-appends_none v = record { same_name = refl; content = map_empty v.bytes }
+appends_none v = record { same_name = refl; content = map_empty v.bytes; weighs = weighs_none v.weight }
 
 pub appends_more : (a b : List ℕ) (x y z : SlotView) → Appends a x y → Appends b y z → Appends (a ++ b) x z
 appends_more a b x y z first second = record {
   same_name = second.same_name ∙ first.same_name;
   content = second.content ∙ ap (option_map (λ before. before ++ b)) first.content ∙ map_twice a b x.bytes;
+  weighs = second.weighs ∙ ap (option_map (heavier b)) first.weighs ∙ weighs_twice a b x.weight;
 }
 
 -- what a run of calls that append to one slot keeps: these bytes were put there, and all else stays
@@ -104,7 +117,7 @@ has_prefix slots slot bytes rest old mid new so_far keeps = record {
   done = so_far.done;
   rest = rest;
   parts = so_far.parts;
-  appended = record { same_name = keeps.same_name ∙ so_far.puts.appended.same_name; content = keeps.same_bytes ∙ so_far.puts.appended.content };
+  appended = record { same_name = keeps.same_name ∙ so_far.puts.appended.same_name; content = keeps.same_bytes ∙ so_far.puts.appended.content; weighs = keeps.same_weight ∙ so_far.puts.appended.weighs };
 }
 
 taken_more : (all buffer : List ℕ) (k : ℕ) (before : Option (List ℕ)) (mid new : SlotView) → Taken all before mid.bytes → Reads k buffer mid new → Taken (all ++ take k buffer) before new.bytes
@@ -145,4 +158,4 @@ pub read_front : {D : Type 0} (slots : D → Slot → SlotView) (slot : Slot) (a
     TakesFront (max + 1) (slots old slot) (slots new slot)
 read_front slots slot all buffer max k old mid new so_far reads room later others =
     taken_front slots slot (all ++ take k buffer) max old new (slots new slot)
-    (has_read_more slots slot all buffer max k old mid new so_far reads room later others) (record { same_name = refl; same_bytes = refl })
+    (has_read_more slots slot all buffer max k old mid new so_far reads room later others) (record { same_name = refl; same_bytes = refl; same_weight = refl })

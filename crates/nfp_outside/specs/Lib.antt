@@ -1,4 +1,6 @@
 pub mod Memory
 pub mod Outside
 pub mod Port
+pub mod Scales
 pub mod Slots
+pub mod Weights

@@ -1,5 +1,5 @@
 -- For proofs: what the desks in memory show: the bytes of each slot, the step, and the calls.
-use Rattle.std.specs.Prelude.{◌≡◌, ◌≢◌, ◌↔◌, ℕ, List, drop, length, min, Contains, Option, Some, Result, IsErrOf}
+use Rattle.std.specs.Prelude.{◌≡◌, ◌≢◌, ◌↔◌, ℕ, List, drop, length, min, Contains, Option, Some, None, Result, IsErrOf}
 use Rattle.std.specs.Option.{option_map}
 use Rattle.std.specs.String.{string_bytes}
 use Rattle.nfp_outside.specs.declared.slot.Slot.{Slot}
@@ -23,11 +23,11 @@ left_in s = drop s.taken s.bytes.items
 
 -- a read slot in memory shows what is left, and never fails
 abbrev pub source_view : Source → SlotView
-source_view s = record { name = option_map string_bytes s.name; bytes = Some (left_in s); faults = 0 }
+source_view s = record { name = option_map string_bytes s.name; bytes = Some (left_in s); weight = None; faults = 0 }
 
 -- a write slot in memory shows what was put, and never fails
 abbrev pub sink_view : Sink → SlotView
-sink_view s = record { name = option_map string_bytes s.name; bytes = Some s.bytes.items; faults = 0 }
+sink_view s = record { name = option_map string_bytes s.name; bytes = Some s.bytes.items; weight = None; faults = 0 }
 
 -- the name that a slot is attached with
 abbrev pub name_in : FixedDesk → Slot → Option (List ℕ)
@@ -43,7 +43,7 @@ step_of d = d.step
 
 -- the desk that never fails shows its names and its bytes, and no fault in any slot
 abbrev pub fixed_slots : FixedDesk → Slot → SlotView
-fixed_slots d s = record { name = name_in d s; bytes = Some (contents d s); faults = 0 }
+fixed_slots d s = record { name = name_in d s; bytes = Some (contents d s); weight = None; faults = 0 }
 
 -- the calls on a slot of the desk that fails where it is told to
 abbrev pub call_counts : MemDesk → Slot → CallCounts
@@ -67,7 +67,7 @@ mem_step d = step_of d.held
 
 -- the desk that fails where it is told to shows its names, its bytes and its counts
 abbrev pub mem_slots : MemDesk → Slot → SlotView
-mem_slots d s = record { name = name_in d.held s; bytes = Some (mem_contents d s); faults = (call_counts d s).faults }
+mem_slots d s = record { name = name_in d.held s; bytes = Some (mem_contents d s); weight = None; faults = (call_counts d s).faults }
 
 -- a call on a slot is counted there alone; it failed exactly where its number was listed, and only
 -- then did the count of faults rise

@@ -7,17 +7,21 @@ use Rattle.nfp_outside.specs.declared.slot.DeskFault.{DeskFault}
 use Rattle.nfp_outside.specs.declared.slot.DeskFault.TheVariants.{Failed, NoMemory}
 use Rattle.nfp_outside.specs.declared.slot.OutsideFault.{OutsideFault}
 use Rattle.nfp_outside.specs.declared.slot.OutsideFault.TheVariants.{ReadFault, WriteFault, TooLong}
+use Rattle.nfp_outside.specs.declared.weight.Weight.{Weight}
+use Rattle.nfp_outside.specs.Weights.{no_weight, heavier}
 
 -- A slot as contracts see it: the name it is attached with, the bytes that are left in a read slot
--- or were put into a write slot (where the desk tells them), and how often it has failed.
+-- or were put into a write slot (where the desk tells them), what the bytes weigh that were put
+-- (where it tells that), and how often it has failed.
 pub record SlotView : Type 0 where
   pub name : Option (List ℕ)
   pub bytes : Option (List ℕ)
+  pub weight : Option Weight
   pub faults : ℕ
 
--- a slot that has no name yet, and didn't fail
+-- a slot that has no name yet, didn't fail, and tells no weight
 abbrev pub fresh_slot : Option (List ℕ) → SlotView
-fresh_slot bytes = record { name = None; bytes = bytes; faults = 0 }
+fresh_slot bytes = record { name = None; bytes = bytes; weight = None; faults = 0 }
 
 abbrev pub is_read : Slot → Bool
 is_read Policy = true
@@ -40,15 +44,17 @@ CountsFailure before now (Ok _) = now ≡ before
 CountsFailure before now (Err Failed) = now ≡ one_more before
 CountsFailure before now (Err NoMemory) = now ≡ before
 
--- the name and the bytes of a slot stay
+-- the name of a slot stays, its bytes and their weight
 pub record KeepsSlot (old new : SlotView) : Type 0 where
   pub same_name : new.name ≡ old.name
   pub same_bytes : new.bytes ≡ old.bytes
+  pub same_weight : new.weight ≡ old.weight
 
 -- the slot has this name now; a write slot is made empty
 pub record Attaches (slot : Slot) (text : List ℕ) (old new : SlotView) : Type 0 where
   pub named : new.name ≡ Some text
   pub content : new.bytes ≡ (if is_read slot then old.bytes else option_map (λ _. []) old.bytes)
+  pub weighs : new.weight ≡ (if is_read slot then old.weight else option_map (λ _. no_weight) old.weight)
 
 -- the first k bytes that were left are at the front of the buffer, and the rest is left
 pub record Takes (k : ℕ) (bytes : List ℕ) (buffer : List ℕ) (new : SlotView) : Type 0 where
@@ -61,12 +67,14 @@ pub record Takes (k : ℕ) (bytes : List ℕ) (buffer : List ℕ) (new : SlotVie
 pub record Reads (k : ℕ) (buffer : List ℕ) (old new : SlotView) : Type 0 where
   pub within : k ≤ length buffer
   pub same_name : new.name ≡ old.name
+  pub same_weight : new.weight ≡ old.weight
   pub told : MatchOption old.bytes (new.bytes ≡ None) (λ bytes. Takes k bytes buffer new)
 
 -- the bytes are put behind those that were put before
 pub record Appends (bytes : List ℕ) (old new : SlotView) : Type 0 where
   pub same_name : new.name ≡ old.name
   pub content : new.bytes ≡ option_map (λ before. before ++ bytes) old.bytes
+  pub weighs : new.weight ≡ option_map (heavier bytes) old.weight
 
 -- a write took the first k bytes of a piece, at least one if there is one
 pub record Writes (k : ℕ) (piece : List ℕ) (old new : SlotView) : Type 0 where

@@ -6,8 +6,8 @@ use Rattle.nfp_outside.specs.declared.port.Port.{Port}
 use Rattle.nfp_outside.specs.Outside.{SlotView}
 
 abbrev pub port_view : {F : Type 0} → Port F → SlotView
-port_view p = record { name = option_map string_bytes p.name; bytes = None; faults = p.faults }
+port_view p = record { name = option_map string_bytes p.name; bytes = None; weight = None; faults = p.faults }
 
 -- a slot over standard output has no name
 abbrev pub stream_view : ℕ → SlotView
-stream_view faults = record { name = None; bytes = None; faults = faults }
+stream_view faults = record { name = None; bytes = None; weight = None; faults = faults }

@@ -10,10 +10,11 @@
 //! slot rose in that call, or stands at the end of its type; and that no call changes a slot that
 //! it doesn't name.
 //!
-//! Three desks are here. [`FixedDesk`] is in memory and never fails. [`MemDesk`] is in memory and
+//! Four desks are here. [`FixedDesk`] is in memory and never fails. [`MemDesk`] is in memory and
 //! fails exactly at the calls that it is given a list of. [`FileDesk`] is over files and standard
 //! output; what the system gives or keeps can't be told by a contract, so it tells names and
-//! counts, and no bytes.
+//! counts, and no bytes. [`Scales`] keeps no byte, and tells what was put into each slot by its
+//! [`Weight`].
 //!
 //! Left out: that a file was kept by the system, locks on files, and any wait for a reader.
 #![tactic(auto)]
@@ -26,7 +27,9 @@ mod gate;
 mod held;
 mod memory;
 mod port;
+mod scales;
 mod slot;
+mod weight;
 mod whole;
 
 pub use desk::Desk;
@@ -34,5 +37,7 @@ pub use files::FileDesk;
 pub use fixed::FixedDesk;
 pub use gate::{Gate, OpenGate};
 pub use memory::MemDesk;
+pub use scales::Scales;
 pub use slot::{DeskFault, OutsideFault, Slot};
+pub use weight::{Weight, weights_add_up};
 pub use whole::{read_all, write_whole};
