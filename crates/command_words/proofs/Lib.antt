@@ -1,2 +1,10 @@
-pub mod Naming
+mod Agreement
+mod Answering
+mod Digits
+mod Givens
+mod Looks
+mod Matching
+mod Placing
 mod Rows
+mod Table
+mod Walking

@@ -1,36 +1,301 @@
 -- Worked rows, computed by the definitions.
-use Rattle.std.specs.Prelude.{◌≡◌, ℕ, List, [], ◌∷◌, refl, Ok, Err, codes}
-use Rattle.command_words.specs.declared.usage.UsageFault.TheVariants.{NoCommand, UnknownCommand, Words, SameName}
-use Rattle.command_words.specs.Words.{Command, Run, Plan, command_of}
+use Rattle.std.specs.Prelude.{◌≡◌, ℕ, List, [], ◌∷◌, refl, ◌==◌, Ok, Err, codes}
+use Rattle.std.specs.List.{slice_split}
+use Rattle.command_words.specs.declared.requests.RunOptions.{RunOptions}
+use Rattle.command_words.specs.declared.usage.Option4.TheVariants.{Mergers, Burst, Seed, Count}
+use Rattle.command_words.specs.declared.usage.UsageFault.TheVariants.{NoCommand, UnknownCommand, Words, Number, SameName}
+use Rattle.command_words.specs.Given.{given_by}
+use Rattle.command_words.specs.Words.{Answer, Demo, Plan, Run, command_of}
 
-run_command : Command
-run_command = Run (record { policy = codes "p"; capture = codes "c"; out = codes "o"; report = codes "r" })
+-- the answer to a line whose words are parted by blanks
+abbrev read : List ℕ → Answer
+read line = command_of (slice_split (λ c. c == 32) line)
 
-four : List (List ℕ)
-four = codes "p" ∷ codes "c" ∷ codes "o" ∷ codes "r" ∷ []
+abbrev options : ℕ → ℕ → RunOptions
+options mergers burst = record { mergers = mergers; burst = burst }
 
-run_read : command_of (codes "run" ∷ four) ≡ Ok run_command
-unfolding four run_command
-run_read = refl
+-- `run p c o r` with these options
+abbrev runs : ℕ → ℕ → Answer
+runs mergers burst = Ok (Run (record { policy = codes "p"; capture = codes "c"; out = codes "o"; report = codes "r" }) (options mergers burst))
 
-plan_read : command_of (codes "plan" ∷ codes "p" ∷ []) ≡ Ok (Plan (codes "p"))
-plan_read = refl
+abbrev demo : ℕ → ℕ → RunOptions → Answer
+demo seed count given = Ok (Demo (record { seed = seed; count = count }) given)
 
-no_words : command_of [] ≡ Err NoCommand
-no_words = refl
+no_word : command_of [] ≡ Err NoCommand
+no_word = refl
 
-other_word : command_of (codes "walk" ∷ four) ≡ Err UnknownCommand
-unfolding four
-other_word = refl
+-- ---- the commands, with the numbers that stand for options that aren't given
 
-three_names : command_of (codes "run" ∷ codes "a" ∷ codes "b" ∷ codes "c" ∷ []) ≡ Err Words
+a_run : read (codes "run p c o r") ≡ runs 2 1024
+unfolding given_by
+a_run = refl
+
+a_plan : read (codes "plan p") ≡ Ok (Plan (codes "p"))
+unfolding given_by
+a_plan = refl
+
+a_demo : read (codes "demo 7 20000") ≡ demo 7 20000 (options 2 1024)
+unfolding given_by
+a_demo = refl
+
+no_run : read (codes "Run p c o r") ≡ Err UnknownCommand
+unfolding given_by
+no_run = refl
+
+dashed_command : read (codes "--help") ≡ Err UnknownCommand
+unfolding given_by
+dashed_command = refl
+
+empty_command : read (codes "") ≡ Err UnknownCommand
+unfolding given_by
+empty_command = refl
+
+-- ---- options before, between and behind the names, in both forms
+
+options_first : read (codes "run --mergers 3 --burst=7 p c o r") ≡ runs 3 7
+unfolding given_by
+options_first = refl
+
+options_between : read (codes "run p --burst 7 c o --mergers=3 r") ≡ runs 3 7
+unfolding given_by
+options_between = refl
+
+options_last : read (codes "run p c o r --burst=7 --mergers 3") ≡ runs 3 7
+unfolding given_by
+options_last = refl
+
+options_of_demo : read (codes "demo --mergers 16 7 --burst 65536 20000") ≡ demo 7 20000 (options 16 65536)
+unfolding given_by
+options_of_demo = refl
+
+options_of_plan : read (codes "plan p --burst 7") ≡ Err Words
+unfolding given_by
+options_of_plan = refl
+
+-- ---- behind `--` each word is a name
+
+dashed_names : read (codes "run --burst 7 -- -p --burst=9 -- r") ≡ Ok (Run (record { policy = codes "-p"; capture = codes "--burst=9"; out = codes "--"; report = codes "r" }) (options 2 7))
+unfolding given_by
+dashed_names = refl
+
+separator_last : read (codes "run p c o r --") ≡ runs 2 1024
+unfolding given_by
+separator_last = refl
+
+option_behind : read (codes "run p c o r -- --burst 7") ≡ Err Words
+unfolding given_by
+option_behind = refl
+
+dash_behind : read (codes "plan -- -") ≡ Err Words
+unfolding given_by
+dash_behind = refl
+
+empty_behind : read (codes "plan -- ") ≡ Err Words
+unfolding given_by
+empty_behind = refl
+
+-- ---- faults of words
+
+no_names : read (codes "run") ≡ Err Words
+unfolding given_by
+no_names = refl
+
+three_names : read (codes "run p c o") ≡ Err Words
+unfolding given_by
 three_names = refl
 
-equal_names : command_of (codes "run" ∷ codes "p" ∷ codes "c" ∷ codes "c" ∷ codes "r" ∷ []) ≡ Err SameName
+five_names : read (codes "run p c o r x") ≡ Err Words
+unfolding given_by
+five_names = refl
+
+no_policy : read (codes "plan") ≡ Err Words
+unfolding given_by
+no_policy = refl
+
+one_number : read (codes "demo 7") ≡ Err Words
+unfolding given_by
+one_number = refl
+
+empty_name : read (codes "run p c  r") ≡ Err Words
+unfolding given_by
+empty_name = refl
+
+dash_as_name : read (codes "run p c - r") ≡ Err Words
+unfolding given_by
+dash_as_name = refl
+
+short_option : read (codes "run p c o r -b") ≡ Err Words
+unfolding given_by
+short_option = refl
+
+short_with_value : read (codes "run p c o r -b=7") ≡ Err Words
+unfolding given_by
+short_with_value = refl
+
+unknown_option : read (codes "run p c o r --help") ≡ Err Words
+unfolding given_by
+unknown_option = refl
+
+merge_is_unknown : read (codes "run p c o r --merge board") ≡ Err Words
+unfolding given_by
+merge_is_unknown = refl
+
+shortened_option : read (codes "run p c o r --burs 7") ≡ Err Words
+unfolding given_by
+shortened_option = refl
+
+long_option : read (codes "run p c o r --bursts 7") ≡ Err Words
+unfolding given_by
+long_option = refl
+
+nameless_option : read (codes "run p c o r --=7") ≡ Err Words
+unfolding given_by
+nameless_option = refl
+
+twice : read (codes "run p c o r --burst 7 --burst 7") ≡ Err Words
+unfolding given_by
+twice = refl
+
+twice_in_both_forms : read (codes "run --burst 7 p c o r --burst=7") ≡ Err Words
+unfolding given_by
+twice_in_both_forms = refl
+
+no_value : read (codes "run p c o r --burst") ≡ Err Words
+unfolding given_by
+no_value = refl
+
+empty_value : read (codes "run p c o r --burst ") ≡ Err Words
+unfolding given_by
+empty_value = refl
+
+empty_value_attached : read (codes "run p c o r --burst=") ≡ Err Words
+unfolding given_by
+empty_value_attached = refl
+
+dash_as_value : read (codes "run p c o r --burst -") ≡ Err Words
+unfolding given_by
+dash_as_value = refl
+
+dash_as_value_attached : read (codes "run p c o r --burst=-") ≡ Err Words
+unfolding given_by
+dash_as_value_attached = refl
+
+dashed_value : read (codes "run p c o r --burst -7") ≡ Err Words
+unfolding given_by
+dashed_value = refl
+
+separator_as_value : read (codes "run --burst -- p c o r") ≡ Err Words
+unfolding given_by
+separator_as_value = refl
+
+option_as_value : read (codes "run p c o r --burst --mergers 3") ≡ Err Words
+unfolding given_by
+option_as_value = refl
+
+-- ---- numbers, at both ends of their ranges
+
+dashed_value_attached : read (codes "run p c o r --mergers=-1") ≡ Err (Number Mergers)
+unfolding given_by
+dashed_value_attached = refl
+
+value_with_equals : read (codes "run p c o r --burst==7") ≡ Err (Number Burst)
+unfolding given_by
+value_with_equals = refl
+
+signed : read (codes "run p c o r --burst +7") ≡ Err (Number Burst)
+unfolding given_by
+signed = refl
+
+no_digit : read (codes "run p c o r --burst 7x") ≡ Err (Number Burst)
+unfolding given_by
+no_digit = refl
+
+zeros_lead : read (codes "run p c o r --mergers 00000000000000000016") ≡ runs 16 1024
+unfolding given_by
+zeros_lead = refl
+
+too_many_zeros : read (codes "run p c o r --mergers 000000000000000000016") ≡ Err (Number Mergers)
+unfolding given_by
+too_many_zeros = refl
+
+least : read (codes "run p c o r --mergers 1 --burst 1") ≡ runs 1 1
+unfolding given_by
+least = refl
+
+greatest : read (codes "run p c o r --mergers 16 --burst 65536") ≡ runs 16 65536
+unfolding given_by
+greatest = refl
+
+no_mergers : read (codes "run p c o r --mergers 0") ≡ Err (Number Mergers)
+unfolding given_by
+no_mergers = refl
+
+too_many_mergers : read (codes "run p c o r --mergers 17") ≡ Err (Number Mergers)
+unfolding given_by
+too_many_mergers = refl
+
+no_burst : read (codes "run p c o r --burst 0") ≡ Err (Number Burst)
+unfolding given_by
+no_burst = refl
+
+too_long_a_burst : read (codes "run p c o r --burst 65537") ≡ Err (Number Burst)
+unfolding given_by
+too_long_a_burst = refl
+
+least_demo : read (codes "demo 0 1") ≡ demo 0 1 (options 2 1024)
+unfolding given_by
+least_demo = refl
+
+greatest_demo : read (codes "demo 18446744073709551615 1000000") ≡ demo 18446744073709551615 1000000 (options 2 1024)
+unfolding given_by
+greatest_demo = refl
+
+too_great_a_seed : read (codes "demo 18446744073709551616 1") ≡ Err (Number Seed)
+unfolding given_by
+too_great_a_seed = refl
+
+twenty_digits : read (codes "demo 99999999999999999999 1") ≡ Err (Number Seed)
+unfolding given_by
+twenty_digits = refl
+
+no_count : read (codes "demo 0 0") ≡ Err (Number Count)
+unfolding given_by
+no_count = refl
+
+too_great_a_count : read (codes "demo 0 1000001") ≡ Err (Number Count)
+unfolding given_by
+too_great_a_count = refl
+
+-- ---- the first fault: words, then numbers in their order, then equal names
+
+words_before_numbers : read (codes "run p c o r --mergers 0 -b") ≡ Err Words
+unfolding given_by
+words_before_numbers = refl
+
+words_before_names : read (codes "run p c c r --burst") ≡ Err Words
+unfolding given_by
+words_before_names = refl
+
+mergers_before_burst : read (codes "run p c o r --burst 0 --mergers 0") ≡ Err (Number Mergers)
+unfolding given_by
+mergers_before_burst = refl
+
+burst_before_seed : read (codes "demo x 0 --burst 0") ≡ Err (Number Burst)
+unfolding given_by
+burst_before_seed = refl
+
+seed_before_count : read (codes "demo x 0") ≡ Err (Number Seed)
+unfolding given_by
+seed_before_count = refl
+
+numbers_before_names : read (codes "run p c c r --burst 0") ≡ Err (Number Burst)
+unfolding given_by
+numbers_before_names = refl
+
+equal_names : read (codes "run p c c r") ≡ Err SameName
+unfolding given_by
 equal_names = refl
 
-dashed_name : command_of (codes "run" ∷ codes "a" ∷ codes "b" ∷ codes "-" ∷ codes "d" ∷ []) ≡ Err Words
-dashed_name = refl
-
-empty_name : command_of (codes "plan" ∷ [] ∷ []) ≡ Err Words
-empty_name = refl
+equal_ends : read (codes "run p c o p") ≡ Err SameName
+unfolding given_by
+equal_ends = refl

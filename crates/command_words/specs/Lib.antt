@@ -1,2 +1,6 @@
+pub mod Apps
+pub mod Given
+pub mod Matched
 pub mod Named
+pub mod Roles
 pub mod Words

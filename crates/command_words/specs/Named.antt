@@ -1,19 +1,49 @@
 -- For proofs: a command without where its names lie in memory.
-use Rattle.std.specs.Prelude.{◌≡◌, Result, Ok, Err}
+use Rattle.std.specs.Prelude.{◌≡◌, ◌≤◌, ⊤, Option, Result, Ok, Err, option_map}
+use Rattle.std.specs.Borrow.{Bor}
+use Rattle.command_words.specs.declared.requests.Command.{Command as Asked}
+use Rattle.command_words.specs.declared.requests.Command.TheVariants as asked
+use Rattle.command_words.specs.declared.requests.FileNames.{FileNames}
+use Rattle.command_words.specs.declared.requests.RunOptions.{RunOptions}
 use Rattle.command_words.specs.declared.usage.UsageFault.{UsageFault}
-use Rattle.command_words.specs.declared.words.FileNames.{FileNames}
-use Rattle.command_words.specs.declared.words.Command.{Command as Asked}
-use Rattle.command_words.specs.declared.words.Command.TheVariants as asked
-use Rattle.command_words.specs.Words.{Names, Command, Run, Plan}
+use Rattle.command_words.specs.declared.usage.WordsFault.{WordsFault}
+use Rattle.command_words.specs.declared.usage.WordsFault.TheVariants.{Usage, OutOfMemory}
+use Rattle.command_words.specs.Given.{Word}
+use Rattle.command_words.specs.Words.{Answer, Command, Demo, Names, Plan, Run}
+
+abbrev pub word_in : Option (Bor Word) → Option Word
+word_in = option_map (λ word. word.now)
 
 abbrev pub names_seen : FileNames → Names
 names_seen n = record { policy = n.policy.now; capture = n.capture.now; out = n.out.now; report = n.report.now }
 
 abbrev pub command_seen : Asked → Command
-command_seen (asked.Run names) = Run (names_seen names)
+command_seen (asked.Run names options) = Run (names_seen names) options
 command_seen (asked.Plan name) = Plan name.now
+command_seen (asked.Demo input options) = Demo input options
 
--- the words were read to this
-abbrev pub ReadsWords : Result Asked UsageFault → Result Command UsageFault → Type 0
+abbrev pub answer_seen : Result Asked UsageFault → Answer
+answer_seen (Ok command) = Ok (command_seen command)
+answer_seen (Err fault) = Err fault
+
+abbrev pub distinct_seen : Result FileNames UsageFault → Result Names UsageFault
+distinct_seen (Ok names) = Ok (names_seen names)
+distinct_seen (Err fault) = Err fault
+
+-- the words were read to this, or memory ran out
+abbrev pub ReadsWords : Result Asked WordsFault → Answer → Type 0
 ReadsWords (Ok command) due = due ≡ Ok (command_seen command)
-ReadsWords (Err fault) due = due ≡ Err fault
+ReadsWords (Err (Usage fault)) due = due ≡ Err fault
+ReadsWords (Err OutOfMemory) due = ⊤
+
+-- the numbers lie in their ranges
+pub record IsInRange (options : RunOptions) : Type 0 where
+  pub some_mergers : 1 ≤ options.mergers
+  pub few_mergers : options.mergers ≤ 16
+  pub some_packets : 1 ≤ options.burst
+  pub few_packets : options.burst ≤ 65536
+
+abbrev pub HasRanges : Asked → Type 0
+HasRanges (asked.Run names options) = IsInRange options
+HasRanges (asked.Plan name) = ⊤
+HasRanges (asked.Demo input options) = (1 ≤ input.count) × (input.count ≤ 1000000) × IsInRange options

@@ -1,47 +1,113 @@
--- Believed: the words of the command line: `run POLICY CAPTURE OUT REPORT` or `plan POLICY`.
-use Rattle.std.specs.Prelude.{ℕ, List, [], ◌∷◌, length, Bool, true, if◌then◌else◌, ◌==◌, nat_le, ◌&&◌, not, slice_index, Result, Ok, Err, codes}
+-- Believed: the words of the command line: the commands with their names, options and numbers, and the first fault of the words.
+use Rattle.std.specs.Prelude.{ℕ, List, [], ◌∷◌, length, Bool, if◌then◌else◌, nat_le, ◌&&◌, Option, Some, None, Result, Ok, Err, codes}
+use Rattle.std.specs.Char.{is_ascii_digit}
 use Rattle.std.specs.List.{list_all}
 use Rattle.std.specs.Str.{bytes_eq}
+use Rattle.std.specs.Str.Parse.{digits_value}
+use Rattle.command_words.specs.declared.requests.DemoInput.{DemoInput}
+use Rattle.command_words.specs.declared.requests.RunOptions.{RunOptions}
+use Rattle.command_words.specs.declared.usage.Option4.{Option4}
+use Rattle.command_words.specs.declared.usage.Option4.TheVariants.{Mergers, Burst, Seed, Count}
 use Rattle.command_words.specs.declared.usage.UsageFault.{UsageFault}
-use Rattle.command_words.specs.declared.usage.UsageFault.TheVariants.{NoCommand, UnknownCommand, Words, SameName}
+use Rattle.command_words.specs.declared.usage.UsageFault.TheVariants.{NoCommand, UnknownCommand, Words, Number, SameName}
+use Rattle.command_words.specs.Given.{Given, Word, all_differ, given_by, is_sound, value_given}
 
--- The names of the four files.
+-- ---- numbers
+
+-- the fault, or else what follows
+abbrev pub after : {X Y : Type 0} → Result X UsageFault → (X → Result Y UsageFault) → Result Y UsageFault
+after (Err fault) next = Err fault
+after (Ok x) next = next x
+
+-- 1 to 20 digits
+abbrev pub is_numeral : Word → Bool
+is_numeral word = nat_le 1 (length word) && (nat_le (length word) 20 && list_all is_ascii_digit word)
+
+-- such a number that lies in its range
+abbrev pub number_of : Option4 → ℕ → ℕ → Word → Result ℕ UsageFault
+number_of which low high word =
+    if is_numeral word && (nat_le low (digits_value 10 word) && nat_le (digits_value 10 word) high) then Ok (digits_value 10 word)
+    else Err (Number which)
+
+abbrev pub mergers_of : Option Word → Result ℕ UsageFault
+mergers_of None = Ok 2
+mergers_of (Some word) = number_of Mergers 1 16 word
+
+abbrev pub burst_of : Option Word → Result ℕ UsageFault
+burst_of None = Ok 1024
+burst_of (Some word) = number_of Burst 1 65536 word
+
+abbrev pub seed_of : Word → Result ℕ UsageFault
+seed_of word = number_of Seed 0 18446744073709551615 word
+
+abbrev pub count_of : Word → Result ℕ UsageFault
+count_of word = number_of Count 1 1000000 word
+
+-- ---- the commands
+
+-- The names of the four files of `run`.
 pub record Names : Type 0 where
-  pub policy : List ℕ
-  pub capture : List ℕ
-  pub out : List ℕ
-  pub report : List ℕ
+  pub policy : Word
+  pub capture : Word
+  pub out : Word
+  pub report : Word
 
--- What is asked for: to run a policy over a capture, or to show the plan of a policy with this name.
+-- What is asked for: to run a policy over a capture, to show the plan of a policy with this name, or to run the demonstration.
 pub data Command : Type 0 where
-  Run : Names → Command
-  Plan : List ℕ → Command
+  Run : Names → RunOptions → Command
+  Plan : Word → Command
+  Demo : DemoInput → RunOptions → Command
 
--- a word that may stand as a name: it isn't empty, and begins with no dash
-abbrev pub is_word : List ℕ → Bool
-is_word w = nat_le 1 (length w) && not (slice_index w 0 == 45)
+abbrev pub Answer : Type 0
+Answer = Result Command UsageFault
 
--- no two of the words are equal
-abbrev pub all_differ : List (List ℕ) → Bool
-all_differ [] = true
-all_differ (w ∷ ws) = list_all (λ v. not (bytes_eq w v)) ws && all_differ ws
+abbrev pub distinct : Names → Result Names UsageFault
+distinct n = if all_differ (n.policy ∷ n.capture ∷ n.out ∷ n.report ∷ []) then Ok n else Err SameName
 
--- four names that may stand as such, and then that differ
-abbrev pub run_of : List (List ℕ) → Result Command UsageFault
-run_of (policy ∷ capture ∷ out ∷ report ∷ []) =
-    if list_all is_word (policy ∷ capture ∷ out ∷ report ∷ [])
-    then (if all_differ (policy ∷ capture ∷ out ∷ report ∷ []) then Ok (Run (record { policy = policy; capture = capture; out = out; report = report })) else Err SameName)
-    else Err Words
-run_of names = Err Words
+-- the numbers in their order, and then the names
+abbrev pub run_with : Names → Option Word → Option Word → Answer
+run_with names mergers burst = after (mergers_of mergers) (λ m. after (burst_of burst) (λ b. after (distinct names) (λ n.
+    Ok (Run n (record { mergers = m; burst = b })))))
 
--- one name
-abbrev pub plan_of : List (List ℕ) → Result Command UsageFault
-plan_of (policy ∷ []) = if is_word policy then Ok (Plan policy) else Err Words
-plan_of names = Err Words
+abbrev pub demo_with : Word → Word → Option Word → Option Word → Answer
+demo_with seed count mergers burst = after (mergers_of mergers) (λ m. after (burst_of burst) (λ b. after (seed_of seed) (λ s. after (count_of count) (λ c.
+    Ok (Demo (record { seed = s; count = c }) (record { mergers = m; burst = b }))))))
 
--- the command, or why the words are refused
-abbrev pub command_of : List (List ℕ) → Result Command UsageFault
+abbrev pub run_by : List Word → List (Word × Word) → Answer
+run_by (policy ∷ capture ∷ out ∷ report ∷ []) options = run_with (record { policy = policy; capture = capture; out = out; report = report })
+    (value_given (codes "mergers") options) (value_given (codes "burst") options)
+run_by names options = Err Words
+
+abbrev pub plan_by : List Word → List (Word × Word) → Answer
+plan_by (policy ∷ []) options = Ok (Plan policy)
+plan_by names options = Err Words
+
+abbrev pub demo_by : List Word → List (Word × Word) → Answer
+demo_by (seed ∷ count ∷ []) options = demo_with seed count (value_given (codes "mergers") options) (value_given (codes "burst") options)
+demo_by names options = Err Words
+
+-- the answer to what the words behind a command come to
+abbrev pub answer_by : (List Word → List (Word × Word) → Answer) → Option Given → Answer
+answer_by answer None = Err Words
+answer_by answer (Some given) = if is_sound given then answer given.names given.options else Err Words
+
+-- the options of `run` and of `demo`
+abbrev pub run_options : List Word
+run_options = codes "mergers" ∷ codes "burst" ∷ []
+
+abbrev pub run_of : List Word → Answer
+run_of words = answer_by run_by (given_by run_options None words)
+
+abbrev pub plan_of : List Word → Answer
+plan_of words = answer_by plan_by (given_by [] None words)
+
+abbrev pub demo_of : List Word → Answer
+demo_of words = answer_by demo_by (given_by run_options None words)
+
+-- the command, or the first fault of the words
+abbrev pub command_of : List Word → Answer
 command_of [] = Err NoCommand
-command_of (word ∷ names) =
-    if bytes_eq word (codes "run") then run_of names else
-    if bytes_eq word (codes "plan") then plan_of names else Err UnknownCommand
+command_of (word ∷ words) =
+    if bytes_eq word (codes "run") then run_of words else
+    if bytes_eq word (codes "plan") then plan_of words else
+    if bytes_eq word (codes "demo") then demo_of words else Err UnknownCommand

@@ -1,14 +1,51 @@
 //! Why words are refused.
+ghost use Rattle.std.specs.Prelude.{◌≡◌};
+ghost use Rattle.command_words.specs.declared.usage.WordsFault.TheVariants.{OutOfMemory};
 
-/// Why the words of the command line are refused.
+use std::alloc::AllocError;
+
+/// A number among the words of a command.
+#[derive(Clone, Copy, Debug, PartialEq, Eq)]
+pub enum Option4 {
+    /// The value of `--mergers`.
+    Mergers,
+    /// The value of `--burst`.
+    Burst,
+    /// The first name of `demo`.
+    Seed,
+    /// The second name of `demo`.
+    Count,
+}
+
+/// Why the words of the command line are refused: the first fault, in this order.
 #[derive(Clone, Copy, Debug, PartialEq, Eq)]
 pub enum UsageFault {
     /// There is no word.
     NoCommand,
     /// The first word is no command.
     UnknownCommand,
-    /// The names are too few or too many, or one is empty or begins with a dash.
+    /// A name is missing or one is too many; an option is unknown, is given twice or has no value; a word that begins with a
+    /// dash stands where a name or a value is due; or a name or a value is empty or a single dash.
     Words,
+    /// This number isn't 1 to 20 digits, or lies outside of its range.
+    Number(Option4),
     /// Two of the names of `run` are equal.
     SameName,
+}
+
+/// Why no command was read.
+#[derive(Clone, Copy, Debug, PartialEq, Eq)]
+pub enum WordsFault {
+    /// The words are refused.
+    Usage(UsageFault),
+    /// There was no memory.
+    OutOfMemory,
+}
+
+impl From<AllocError> for WordsFault {
+    ghost from_gives = { λ _ e. e ≡ OutOfMemory };
+
+    fn from(_: AllocError) -> Self {
+        WordsFault::OutOfMemory
+    }
 }

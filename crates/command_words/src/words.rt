@@ -1,117 +1,61 @@
 //! The words of the command line.
-ghost use Rattle.std.specs.Prelude.{◌≡◌, map, string_bytes, ◌∷◌, []};
-ghost use Rattle.std.specs.List.{list_all};
-ghost use Rattle.command_words.specs.Named.{ReadsWords};
-ghost use Rattle.command_words.specs.Words.{is_word, all_differ, run_of, plan_of, command_of};
+ghost use Rattle.std.specs.Prelude.{IfOk, map, string_bytes};
+ghost use Rattle.command_words.specs.Named.{HasRanges, ReadsWords};
+ghost use Rattle.command_words.specs.Words.{command_of, demo_of, plan_of, run_of};
 
-use crate::usage::UsageFault;
+use crate::answers::{demo_answer, plan_answer, run_answer};
+use crate::matches::{demo_matches, plan_matches, run_matches};
+use crate::requests::Command;
+use crate::usage::{UsageFault, WordsFault};
+use std::alloc::Global;
 
-/// The names of the four files.
-#[derive(Clone, Copy, Debug)]
-pub struct FileNames<'a> {
-    pub policy: &'a str,
-    pub capture: &'a str,
-    pub out: &'a str,
-    pub report: &'a str,
-}
-
-/// What is asked for.
-#[derive(Clone, Copy, Debug)]
-pub enum Command<'a> {
-    /// `run POLICY CAPTURE OUT REPORT`
-    Run(FileNames<'a>),
-    /// `plan POLICY`
-    Plan(&'a str),
-}
-
-/// Reads the words of a command, or says why they are refused.
-#[tactic(auto, using(crate::proofs::Naming::no_word, crate::proofs::Naming::first_word))]
-pub fn read_command(words: &[String]) -> Result<Command<'_>, UsageFault>
-    ensures { ReadsWords result (command_of (map string_bytes words.now)) }
+/// Reads the words of a command, or says why they are refused. Want of memory may come whatever the words are.
+pub fn read_command<'a>(alloc: Global, words: &'a [String]) -> Result<Command<'a>, WordsFault>
+    ensures reads { ReadsWords result (command_of (map string_bytes words.entry.now)) }
+    // Each number lies in its range.
+    ensures ranges { IfOk result HasRanges }
 {
     if words.is_empty() {
-        return Err(UsageFault::NoCommand);
+        return Err(WordsFault::Usage(UsageFault::NoCommand));
     }
-    let names = &words[1..];
+    let rest = &words[1..];
     match words[0].as_str() {
-        "run" => run_of(names),
-        "plan" => plan_of(names),
-        _ => Err(UsageFault::UnknownCommand),
+        "run" => read_run(alloc, rest),
+        "plan" => read_plan(alloc, rest),
+        "demo" => read_demo(alloc, rest),
+        _ => Err(WordsFault::Usage(UsageFault::UnknownCommand)),
     }
 }
 
-#[tactic(auto, using(crate::proofs::Naming::run_none, crate::proofs::Naming::four_names))]
-fn run_of(names: &[String]) -> Result<Command<'_>, UsageFault>
-    ensures { ReadsWords result (run_of (map string_bytes names.now)) }
+fn read_run<'a>(alloc: Global, words: &'a [String]) -> Result<Command<'a>, WordsFault>
+    ensures reads { ReadsWords result (run_of (map string_bytes words.entry.now)) }
+    ensures ranges { IfOk result HasRanges }
 {
-    if names.len() != 4 {
-        return Err(UsageFault::Words);
-    }
-    run_from(
-        names[0].as_str(),
-        names[1].as_str(),
-        names[2].as_str(),
-        names[3].as_str(),
-    )
-}
-
-fn run_from<'a>(
-    policy: &'a str,
-    capture: &'a str,
-    out: &'a str,
-    report: &'a str,
-) -> Result<Command<'a>, UsageFault>
-    ensures { ReadsWords result (run_of (policy.now ∷ capture.now ∷ out.now ∷ report.now ∷ [])) }
-{
-    if !are_words(policy, capture, out, report) {
-        return Err(UsageFault::Words);
-    }
-    if !all_differ(policy, capture, out, report) {
-        return Err(UsageFault::SameName);
-    }
-    Ok(Command::Run(FileNames {
-        policy,
-        capture,
-        out,
-        report,
-    }))
-}
-
-#[tactic(auto, using(crate::proofs::Naming::plan_none, crate::proofs::Naming::one_name))]
-fn plan_of(names: &[String]) -> Result<Command<'_>, UsageFault>
-    ensures { ReadsWords result (plan_of (map string_bytes names.now)) }
-{
-    if names.len() != 1 {
-        return Err(UsageFault::Words);
-    }
-    let policy = names[0].as_str();
-    if is_word(policy) {
-        Ok(Command::Plan(policy))
-    } else {
-        Err(UsageFault::Words)
+    let matches = run_matches(alloc, words)?;
+    match run_answer(&matches) {
+        Ok(command) => Ok(command),
+        Err(fault) => Err(WordsFault::Usage(fault)),
     }
 }
 
-fn are_words(policy: &str, capture: &str, out: &str, report: &str) -> bool
-    ensures { result ≡ list_all is_word (policy.now ∷ capture.now ∷ out.now ∷ report.now ∷ []) }
+fn read_plan<'a>(alloc: Global, words: &'a [String]) -> Result<Command<'a>, WordsFault>
+    ensures reads { ReadsWords result (plan_of (map string_bytes words.entry.now)) }
+    ensures ranges { IfOk result HasRanges }
 {
-    is_word(policy) && is_word(capture) && is_word(out) && is_word(report)
+    let matches = plan_matches(alloc, words)?;
+    match plan_answer(&matches) {
+        Ok(command) => Ok(command),
+        Err(fault) => Err(WordsFault::Usage(fault)),
+    }
 }
 
-fn all_differ(policy: &str, capture: &str, out: &str, report: &str) -> bool
-    ensures { result ≡ all_differ (policy.now ∷ capture.now ∷ out.now ∷ report.now ∷ []) }
+fn read_demo<'a>(alloc: Global, words: &'a [String]) -> Result<Command<'a>, WordsFault>
+    ensures reads { ReadsWords result (demo_of (map string_bytes words.entry.now)) }
+    ensures ranges { IfOk result HasRanges }
 {
-    policy != capture
-        && policy != out
-        && policy != report
-        && capture != out
-        && capture != report
-        && out != report
-}
-
-// May this word stand as a name?
-fn is_word(word: &str) -> bool
-    ensures { result ≡ is_word word.now }
-{
-    !word.is_empty() && word.as_bytes()[0] != b'-'
+    let matches = demo_matches(alloc, words)?;
+    match demo_answer(&matches) {
+        Ok(command) => Ok(command),
+        Err(fault) => Err(WordsFault::Usage(fault)),
+    }
 }

@@ -1,0 +1,44 @@
+-- For proofs: what `clap` is told of the commands.
+use Rattle.std.specs.Prelude.{List, [], ◌∷◌, ◌++◌, map, Some, true, codes}
+use Rattle.clap.specs.declared.builder.action.ArgAction.TheVariants.{Set}
+use Rattle.clap.specs.Simple.{App, new_rule, new_shape}
+use Rattle.clap.specs.Walk.{Rule, Text}
+use Rattle.command_words.specs.Words.{run_options}
+
+-- a name that has to be there
+abbrev pub name_rule : Text → Rule
+name_rule id = record (new_rule id) { required = true; action = Some Set }
+
+-- an option with a value
+abbrev pub option_rule : Text → Rule
+option_rule id = record (new_rule id) { long = Some id; action = Some Set }
+
+-- a command with these names and options, and with no flags of `clap`'s own
+abbrev pub app : Text → List Text → List Text → App
+app name names options = record {
+  top = record (new_shape name) {
+    rules = map name_rule names ++ map option_rule options;
+    no_binary_name = true;
+    disable_help_flag = true;
+    disable_version_flag = true;
+  };
+  subs = [];
+}
+
+abbrev pub run_names : List Text
+run_names = codes "policy" ∷ codes "capture" ∷ codes "out" ∷ codes "report" ∷ []
+
+abbrev pub plan_names : List Text
+plan_names = codes "policy" ∷ []
+
+abbrev pub demo_names : List Text
+demo_names = codes "seed" ∷ codes "count" ∷ []
+
+abbrev pub run_app : App
+run_app = app (codes "run") run_names run_options
+
+abbrev pub plan_app : App
+plan_app = app (codes "plan") plan_names []
+
+abbrev pub demo_app : App
+demo_app = app (codes "demo") demo_names run_options

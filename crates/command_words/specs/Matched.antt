@@ -1,0 +1,63 @@
+-- For proofs: what `clap` makes of the words behind a command, and the answer by it.
+use Rattle.std.specs.Prelude.{◌≡◌, ◌&&◌, Bool, true, false, List, [], ◌∷◌, map, length, Option, Some}
+use Rattle.std.specs.Prelude.{None, Ok, Err, if◌then◌else◌}
+use Rattle.std.specs.List.{list_all}
+use Rattle.clap.specs.declared.parser.matches.ArgMatches.{ArgMatches}
+use Rattle.clap.specs.Words.{Text, first_value, found_of}
+use Rattle.command_words.specs.declared.usage.UsageFault.TheVariants as fault
+use Rattle.command_words.specs.Roles.{Role, anything, is_whole, names_in, options_in, roles}
+use Rattle.command_words.specs.Given.{Word, contains, has_text, value_given}
+use Rattle.command_words.specs.Words.{Answer, Names, Plan, demo_with, run_with}
+
+-- the names that the words give, in order
+abbrev pub GivesNames : List Text → List Role → ArgMatches → Type 0
+GivesNames names rs m = map (first_value (found_of m)) names ≡ map Some (names_in rs)
+
+-- and the value of each option
+abbrev pub GivesOptions : List Text → List Role → ArgMatches → Type 0
+GivesOptions options rs m =
+    (x : Text) → contains x options ≡ true → first_value (found_of m) x ≡ value_given x (options_in rs)
+
+-- the matches of words whose roles make up a command with these names and options
+pub record Matches (names options words : List Text) (m : ArgMatches) : Type 0 where
+  pub whole : is_whole (length names) (roles options anything words) ≡ true
+  pub gives_names : GivesNames names (roles options anything words) m
+  pub gives_options : GivesOptions options (roles options anything words) m
+
+-- the roles of the words do not make up a command
+abbrev pub IsUnfit : List Text → List Text → List Text → Type 0
+IsUnfit names options words = is_whole (length names) (roles options anything words) ≡ false
+
+-- ---- from the words that were matched
+
+abbrev pub names_of : Names → List Word
+names_of n = n.policy ∷ n.capture ∷ n.out ∷ n.report ∷ []
+
+abbrev pub four_names : Option Word → Option Word → Option Word → Option Word → Option Names
+four_names (Some p) (Some c) (Some o) (Some r) =
+    Some (record { policy = p; capture = c; out = o; report = r })
+four_names p c o r = None
+
+-- a value that is given has text
+abbrev pub given_has_text : Option Word → Bool
+given_has_text None = true
+given_has_text (Some word) = has_text word
+
+abbrev pub options_have_text : Option Word → Option Word → Bool
+options_have_text mergers burst = given_has_text mergers && given_has_text burst
+
+abbrev pub run_read : Option Names → Option Word → Option Word → Answer
+run_read None mergers burst = Err fault.Words
+run_read (Some names) mergers burst =
+    if list_all has_text (names_of names) && options_have_text mergers burst
+    then run_with names mergers burst else Err fault.Words
+
+abbrev pub plan_read : Option Word → Answer
+plan_read None = Err fault.Words
+plan_read (Some policy) = if has_text policy then Ok (Plan policy) else Err fault.Words
+
+abbrev pub demo_read : Option Word → Option Word → Option Word → Option Word → Answer
+demo_read (Some seed) (Some count) mergers burst =
+    if (has_text seed && has_text count) && options_have_text mergers burst
+    then demo_with seed count mergers burst else Err fault.Words
+demo_read seed count mergers burst = Err fault.Words

@@ -1,0 +1,173 @@
+//! The command that the matched words are.
+ghost use Rattle.std.specs.Prelude.{◌≡◌, IfOk, codes, option_map};
+ghost use Rattle.std.specs.List.{list_all};
+ghost use Rattle.clap.specs.Words.{first_value, found_of};
+ghost use Rattle.command_words.specs.Matched.{demo_read, four_names, given_has_text as given_spells, names_of, options_have_text as options_spell, plan_read, run_read};
+ghost use Rattle.command_words.specs.Named.{HasRanges, answer_seen, distinct_seen, names_seen, word_in};
+ghost use Rattle.command_words.specs.Given.{all_differ, has_text as spells};
+ghost use Rattle.command_words.specs.Words.{demo_with, distinct as distinct_names, run_with};
+
+use crate::numbers::{burst, count, mergers, seed};
+use crate::requests::{Command, DemoInput, FileNames, RunOptions};
+use crate::usage::UsageFault;
+use clap::ArgMatches;
+
+// The values of the options that are given.
+#[derive(Clone, Copy)]
+struct OptionWords<'a> {
+    mergers: Option<&'a str>,
+    burst: Option<&'a str>,
+}
+
+fn has_text(word: &str) -> bool
+    ensures { result ≡ spells word.now }
+{
+    !word.is_empty() && word != "-"
+}
+
+fn given_has_text(word: Option<&str>) -> bool
+    ensures { result ≡ given_spells (word_in word.entry) }
+{
+    match word {
+        Some(text) => has_text(text),
+        None => true,
+    }
+}
+
+fn options_have_text(options: &OptionWords<'_>) -> bool
+    ensures { result ≡ options_spell (word_in options.now.mergers) (word_in options.now.burst) }
+{
+    given_has_text(options.mergers) && given_has_text(options.burst)
+}
+
+fn names_have_text(names: &FileNames<'_>) -> bool
+    ensures { result ≡ list_all spells (names_of (names_seen names.now)) }
+{
+    has_text(names.policy)
+        && has_text(names.capture)
+        && has_text(names.out)
+        && has_text(names.report)
+}
+
+fn are_distinct(names: &FileNames<'_>) -> bool
+    ensures { result ≡ all_differ (names_of (names_seen names.now)) }
+{
+    let first = names.capture == names.policy
+        || names.out == names.policy
+        || names.report == names.policy;
+    let second = names.out == names.capture || names.report == names.capture;
+    !first && !second && names.report != names.out
+}
+
+fn distinct<'a>(names: FileNames<'a>) -> Result<FileNames<'a>, UsageFault>
+    ensures { distinct_seen result ≡ distinct_names (names_seen names.entry) }
+{
+    if are_distinct(&names) {
+        Ok(names)
+    } else {
+        Err(UsageFault::SameName)
+    }
+}
+
+fn run_from<'a>(names: FileNames<'a>, options: &OptionWords<'_>) -> Result<Command<'a>, UsageFault>
+    ensures answer { answer_seen result ≡ run_with (names_seen names.entry) (word_in options.now.mergers) (word_in options.now.burst) }
+    ensures ranges { IfOk result HasRanges }
+{
+    let mergers = mergers(options.mergers)?;
+    let burst = burst(options.burst)?;
+    let names = distinct(names)?;
+    Ok(Command::Run(names, RunOptions { mergers, burst }))
+}
+
+fn demo_from<'a>(
+    seed_word: &str,
+    count_word: &str,
+    options: &OptionWords<'_>,
+) -> Result<Command<'a>, UsageFault>
+    ensures answer { answer_seen result ≡ demo_with seed_word.now count_word.now (word_in options.now.mergers) (word_in options.now.burst) }
+    ensures ranges { IfOk result HasRanges }
+{
+    let mergers = mergers(options.mergers)?;
+    let burst = burst(options.burst)?;
+    let seed = seed(seed_word)?;
+    let count = count(count_word)?;
+    Ok(Command::Demo(DemoInput { seed, count }, RunOptions { mergers, burst }))
+}
+
+fn option_words<'a>(matches: &ArgMatches<'a>) -> OptionWords<'a>
+    ensures mergers { word_in result.mergers ≡ first_value (found_of matches.now) (codes "mergers") }
+    ensures burst { word_in result.burst ≡ first_value (found_of matches.now) (codes "burst") }
+{
+    OptionWords {
+        mergers: matches.get_str("mergers"),
+        burst: matches.get_str("burst"),
+    }
+}
+
+fn file_names<'a>(matches: &ArgMatches<'a>) -> Option<FileNames<'a>>
+    ensures { option_map names_seen result ≡ four_names (first_value (found_of matches.now) (codes "policy"))
+        (first_value (found_of matches.now) (codes "capture")) (first_value (found_of matches.now) (codes "out"))
+        (first_value (found_of matches.now) (codes "report")) }
+{
+    let policy = matches.get_str("policy")?;
+    let capture = matches.get_str("capture")?;
+    let out = matches.get_str("out")?;
+    let report = matches.get_str("report")?;
+    Some(FileNames {
+        policy,
+        capture,
+        out,
+        report,
+    })
+}
+
+/// The command `run` of words that `clap` matched.
+pub fn run_answer<'a>(matches: &ArgMatches<'a>) -> Result<Command<'a>, UsageFault>
+    ensures answer { answer_seen result ≡ run_read (four_names (first_value (found_of matches.now) (codes "policy"))
+        (first_value (found_of matches.now) (codes "capture")) (first_value (found_of matches.now) (codes "out"))
+        (first_value (found_of matches.now) (codes "report"))) (first_value (found_of matches.now) (codes "mergers"))
+        (first_value (found_of matches.now) (codes "burst")) }
+    ensures ranges { IfOk result HasRanges }
+{
+    let options = option_words(matches);
+    let Some(names) = file_names(matches) else {
+        return Err(UsageFault::Words);
+    };
+    if names_have_text(&names) && options_have_text(&options) {
+        run_from(names, &options)
+    } else {
+        Err(UsageFault::Words)
+    }
+}
+
+/// The command `plan` of words that `clap` matched.
+pub fn plan_answer<'a>(matches: &ArgMatches<'a>) -> Result<Command<'a>, UsageFault>
+    ensures answer { answer_seen result ≡ plan_read (first_value (found_of matches.now) (codes "policy")) }
+    ensures ranges { IfOk result HasRanges }
+{
+    match matches.get_str("policy") {
+        Some(policy) if has_text(policy) => Ok(Command::Plan(policy)),
+        _ => Err(UsageFault::Words),
+    }
+}
+
+/// The command `demo` of words that `clap` matched.
+pub fn demo_answer<'a>(matches: &ArgMatches<'a>) -> Result<Command<'a>, UsageFault>
+    ensures answer { answer_seen result ≡ demo_read (first_value (found_of matches.now) (codes "seed"))
+        (first_value (found_of matches.now) (codes "count")) (first_value (found_of matches.now) (codes "mergers"))
+        (first_value (found_of matches.now) (codes "burst")) }
+    ensures ranges { IfOk result HasRanges }
+{
+    let options = option_words(matches);
+    let Some(seed) = matches.get_str("seed") else {
+        return Err(UsageFault::Words);
+    };
+    let Some(count) = matches.get_str("count") else {
+        return Err(UsageFault::Words);
+    };
+    if has_text(seed) && has_text(count) && options_have_text(&options) {
+        demo_from(seed, count, &options)
+    } else {
+        Err(UsageFault::Words)
+    }
+}

@@ -1,0 +1,60 @@
+//! The words behind each command, matched by `clap`.
+ghost use Rattle.std.specs.Prelude.{◌≡◌, ◌≢◌, ◌⊎◌, MatchResult, map, string_bytes, []};
+ghost use Rattle.clap.specs.Words.{kind_of};
+ghost use Rattle.command_words.specs.Apps.{demo_names, plan_names, run_names};
+ghost use Rattle.command_words.specs.Matched.{IsUnfit, Matches};
+ghost use Rattle.command_words.specs.Words.{run_options};
+
+use crate::commands::{demo_command, plan_command, run_command};
+use crate::usage::{UsageFault, WordsFault};
+use clap::error::ErrorKind;
+use clap::{ArgMatches, Error};
+use std::alloc::Global;
+
+// Whatever `clap` has against the words is one fault.
+fn refusal(error: Error) -> WordsFault
+    ensures { (result ≡ WordsFault.OutOfMemory) ⊎ ((result ≡ WordsFault.Usage UsageFault.Words)
+        × (kind_of error ≢ ErrorKind.OutOfMemory)) }
+{
+    if error.kind() == ErrorKind::OutOfMemory {
+        WordsFault::OutOfMemory
+    } else {
+        WordsFault::Usage(UsageFault::Words)
+    }
+}
+
+pub fn run_matches<'a>(alloc: Global, words: &'a [String]) -> Result<ArgMatches<'a>, WordsFault>
+    ensures { MatchResult result (Matches run_names run_options (map string_bytes words.entry.now))
+        (λ e. (e ≡ WordsFault.OutOfMemory) ⊎ ((e ≡ WordsFault.Usage UsageFault.Words)
+        × IsUnfit run_names run_options (map string_bytes words.entry.now))) }
+{
+    let command = run_command(alloc)?;
+    match command.try_get_matches_from(words) {
+        Ok(matches) => Ok(matches),
+        Err(error) => Err(refusal(error)),
+    }
+}
+
+pub fn plan_matches<'a>(alloc: Global, words: &'a [String]) -> Result<ArgMatches<'a>, WordsFault>
+    ensures { MatchResult result (Matches plan_names [] (map string_bytes words.entry.now))
+        (λ e. (e ≡ WordsFault.OutOfMemory) ⊎ ((e ≡ WordsFault.Usage UsageFault.Words)
+        × IsUnfit plan_names [] (map string_bytes words.entry.now))) }
+{
+    let command = plan_command(alloc)?;
+    match command.try_get_matches_from(words) {
+        Ok(matches) => Ok(matches),
+        Err(error) => Err(refusal(error)),
+    }
+}
+
+pub fn demo_matches<'a>(alloc: Global, words: &'a [String]) -> Result<ArgMatches<'a>, WordsFault>
+    ensures { MatchResult result (Matches demo_names run_options (map string_bytes words.entry.now))
+        (λ e. (e ≡ WordsFault.OutOfMemory) ⊎ ((e ≡ WordsFault.Usage UsageFault.Words)
+        × IsUnfit demo_names run_options (map string_bytes words.entry.now))) }
+{
+    let command = demo_command(alloc)?;
+    match command.try_get_matches_from(words) {
+        Ok(matches) => Ok(matches),
+        Err(error) => Err(refusal(error)),
+    }
+}

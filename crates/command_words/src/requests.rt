@@ -1,0 +1,39 @@
+//! What the words of a command line ask for.
+
+/// The names of the four files.
+#[derive(Clone, Copy, Debug)]
+pub struct FileNames<'a> {
+    pub policy: &'a str,
+    pub capture: &'a str,
+    pub out: &'a str,
+    pub report: &'a str,
+}
+
+/// How a capture is to be run. Where an option isn't given, its field has the number that stands for it.
+#[derive(Clone, Copy, Debug, PartialEq, Eq)]
+pub struct RunOptions {
+    /// `--mergers`: how many mergers put packets together again, 1 to 16, else 2.
+    pub mergers: u32,
+    /// `--burst`: the most packets of a burst, 1 to 65,536, else 1,024.
+    pub burst: u32,
+}
+
+/// What the capture of the demonstration is made from.
+#[derive(Clone, Copy, Debug, PartialEq, Eq)]
+pub struct DemoInput {
+    /// What its draws begin with.
+    pub seed: u64,
+    /// How many packets it has, 1 to 1,000,000.
+    pub count: u32,
+}
+
+/// What is asked for.
+#[derive(Clone, Copy, Debug)]
+pub enum Command<'a> {
+    /// `run POLICY CAPTURE OUT REPORT [--mergers N] [--burst N]`
+    Run(FileNames<'a>, RunOptions),
+    /// `plan POLICY`
+    Plan(&'a str),
+    /// `demo SEED COUNT [--mergers N] [--burst N]`
+    Demo(DemoInput, RunOptions),
+}
