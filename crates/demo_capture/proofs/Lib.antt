@@ -1,0 +1,7 @@
+mod Rows
+pub mod Lengths
+pub mod Drawing
+pub mod Sums
+pub mod Putting
+pub mod Counting
+pub mod RightSums

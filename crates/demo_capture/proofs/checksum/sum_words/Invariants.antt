@@ -1,0 +1,9 @@
+use Rattle.std.proofs.Common.{length}
+use Rattle.demo_capture.proofs.Sums.{IsAtSum}
+use Rattle.demo_capture.proofs.checksum.sum_words.Given as goal
+
+abbrev pub invariant-words : goal.invariant-words
+invariant-words l = IsAtSum l.sum l.bytes l.rest
+
+abbrev pub decreases-words : goal.decreases-words
+decreases-words l = length l.rest
