@@ -1,45 +1,15 @@
 -- How what is put into Out and Report adds up.
-use Rattle.std.proofs.Common.{◌≡◌, ◌≢◌, ◌≤◌, ◌∙◌, inl, inr, ℕ, List, [], ◌++◌, refl, ap, sym, subst, append_assoc, arith}
-use Rattle.std.specs.Prelude.{Option, Some, None, Result, Ok, Err, IfErr, IsErrAnd}
-use Rattle.std.specs.Option.{option_map}
-use Rattle.std.proofs.lemmas.List.{append-nil}
+use Rattle.std.proofs.Common.{◌≡◌, ◌≢◌, ◌≤◌, inl, inr, ℕ, List, [], ◌++◌, ap, sym, subst, arith}
+use Rattle.std.specs.Prelude.{Result, Ok, Err, IfErr, IsErrAnd}
 use Rattle.nfp_outside.specs.declared.slot.Slot.{Slot}
 use Rattle.nfp_outside.specs.declared.slot.Slot.TheVariants.{Policy, Capture, Out, Report, Note}
 use Rattle.nfp_outside.specs.declared.slot.OutsideFault.{OutsideFault}
 use Rattle.nfp_outside.specs.declared.slot.OutsideFault.TheVariants as outside
 use Rattle.nfp_outside.specs.Outside.{SlotView, IsRisen, Appends, AppendsPrefix, WriteCause}
+use Rattle.nfp_outside.proofs.Steps.{appends_none, appends_more, prefix_longer, prefix_more, prefix_none, prefix_whole}
 use Rattle.capture_run.specs.Slots.{IsLater, Puts, IsBroken, Breaks, fault_seen}
 use Rattle.capture_run.specs.declared.fault.RunFault.{RunFault}
 use Rattle.capture_run.specs.declared.fault.RunFault.TheVariants as faults
-
-map_empty : (o : Option (List ℕ)) → o ≡ option_map (λ before. before ++ []) o
-map_empty None = refl
-map_empty (Some bytes) = ap (λ x. Some x) (sym (append-nil bytes))
-
-map_twice : (a b : List ℕ) (o : Option (List ℕ)) → option_map (λ before. before ++ b) (option_map (λ before. before ++ a) o) ≡ option_map (λ before. before ++ (a ++ b)) o
-map_twice a b None = refl
-map_twice a b (Some bytes) = ap (λ x. Some x) (append_assoc bytes a b)
-
-appends_none : (v : SlotView) → Appends [] v v
-appends_none v = record { same_name = refl; content = map_empty v.bytes }
-
-appends_more : (a b : List ℕ) (x y z : SlotView) → Appends a x y → Appends b y z → Appends (a ++ b) x z
-appends_more a b x y z first second = record {
-  same_name = second.same_name ∙ first.same_name;
-  content = second.content ∙ ap (option_map (λ before. before ++ b)) first.content ∙ map_twice a b x.bytes;
-}
-
-prefix_longer : (a b : List ℕ) (x y : SlotView) → AppendsPrefix a x y → AppendsPrefix (a ++ b) x y
-prefix_longer a b x y p = record { done = p.done; rest = p.rest ++ b; parts = ap (λ l. l ++ b) p.parts ∙ append_assoc p.done p.rest b; appended = p.appended }
-
-prefix_more : (a b : List ℕ) (x y z : SlotView) → Appends a x y → AppendsPrefix b y z → AppendsPrefix (a ++ b) x z
-prefix_more a b x y z first p = record { done = a ++ p.done; rest = p.rest; parts = ap (λ l. a ++ l) p.parts ∙ sym (append_assoc a p.done p.rest); appended = appends_more a p.done x y z first p.appended }
-
-prefix_whole : (a : List ℕ) (x y : SlotView) → Appends a x y → AppendsPrefix a x y
-prefix_whole a x y appended = record { done = a; rest = []; parts = sym (append-nil a); appended = appended }
-
-prefix_none : (a : List ℕ) (x : SlotView) → AppendsPrefix a x x
-prefix_none a x = record { done = []; rest = a; parts = refl; appended = appends_none x }
 
 -- a count that rose in the later of two calls rose in both
 pub risen_earlier : (a b c : ℕ) → a ≤ b → IsRisen b c → IsRisen a c

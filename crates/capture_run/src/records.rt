@@ -16,17 +16,18 @@ use pcap_io::{CaptureFault, PcapFault, PcapRecord};
 use std::alloc::Global;
 use std::sync::Wait;
 
-// How many packets run together.
-const BURST: u32 = 1024;
-
-/// Takes the records of the capture one after another, and runs each burst where its last packet was read.
+/// Takes the records of the capture one after another, and runs each burst, of `burst` packets at most, where its last packet
+/// was read.
 pub fn run_records<R: Wait, D: Desk, S: Source + Drop, W: Sink + Drop>(
     rt: &R,
     alloc: Global,
     desk: &mut D,
+    burst: u32,
     source: S,
     passage: Passage<W>,
 ) -> Result<(Passage<W>, Option<CaptureFault>), RunFault>
+    requires some { 0 < burst }
+    requires few { burst ≤ 65536 }
     requires capture { IsSome (D.slots desk.old Slot.Capture).name }
     requires out { IsSome (D.slots desk.old Slot.Out).name }
     requires report { IsSome (D.slots desk.old Slot.Report).name }
@@ -39,7 +40,7 @@ pub fn run_records<R: Wait, D: Desk, S: Source + Drop, W: Sink + Drop>(
     ensures others { (s : Slot) → s ≢ Slot.Out → s ≢ Slot.Report → s ≢ Slot.Capture → D.slots desk.new s ≡ D.slots desk.old s }
 {
     let mut source = source;
-    let mut cutter = Cutter::new(alloc, BURST)?;
+    let mut cutter = Cutter::new(alloc, burst)?;
     let mut passage = passage;
     'records: loop {
         match source.next(alloc, desk) {

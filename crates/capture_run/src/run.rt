@@ -1,5 +1,5 @@
 //! Runs a capture through the chains of a service.
-ghost use Rattle.std.specs.Prelude.{◌≡◌, ◌≢◌, true, IfErr, IfOk, IsSome};
+ghost use Rattle.std.specs.Prelude.{◌≡◌, ◌≢◌, ◌≤◌, ◌<◌, true, IfErr, IfOk, IsSome};
 ghost use Rattle.nfp_outside.specs.declared.slot.Slot.{Slot};
 ghost use Rattle.chain_service.specs.Opening.{IsOpening, chains_of};
 ghost use Rattle.capture_run.specs.Running.{WritesAll, WriteBreaks};
@@ -22,17 +22,20 @@ use std::sync::Wait;
 /// Leads each packet of a capture through the chain that takes it, and puts those that pass into Out and the report into Report.
 ///
 /// The heads were read and written, and the source stands behind the one, the sink behind the other. Packets are held until their
-/// burst is full or the capture ends, so a want of memory or a fault of a slot leaves those unwritten that were read since the
-/// last burst.
+/// burst is full, which is of `burst` packets at most, or the capture ends. What is put of a whole capture doesn't depend on that;
+/// but a want of memory or a fault of a slot leaves those unwritten that were read since the last burst.
 pub fn run_capture<R: Wait, D: Desk, S: Source + Drop, W: Sink + Drop>(
     rt: &R,
     alloc: Global,
     desk: &mut D,
     service: Service,
     unit: Unit,
+    burst: u32,
     source: S,
     sink: W,
 ) -> Result<Ended, RunFault>
+    requires some { 0 < burst }
+    requires few { burst ≤ 65536 }
     requires capture { IsSome (D.slots desk.old Slot.Capture).name }
     requires out { IsSome (D.slots desk.old Slot.Out).name }
     requires report { IsSome (D.slots desk.old Slot.Report).name }
@@ -55,7 +58,7 @@ pub fn run_capture<R: Wait, D: Desk, S: Source + Drop, W: Sink + Drop>(
             dropped: 0,
         },
     };
-    let (passage, fault) = run_records(rt, alloc, desk, source, passage)?;
+    let (passage, fault) = run_records(rt, alloc, desk, burst, source, passage)?;
     let ended = Ended {
         totals: passage.totals,
         fault,

@@ -1,10 +1,13 @@
 use Rattle.std.proofs.Common.{ap, Err}
 use Rattle.std.proofs.lemmas.Result.{IfOk-weaker, IfErr-weaker}
+use Rattle.capture_run.specs.declared.fault.RunFault.TheVariants.{OutOfMemory}
+use Rattle.capture_run.proofs.Putting.{handed_on}
+use Rattle.capture_run.proofs.Running.{no_run}
 use Rattle.capture_run.proofs.Turns.{at_begins, at_goes_on, at_end, at_stop, at_end_break, at_stop_break, at_take_break}
 use Rattle.capture_run.proofs.records.run_records.Goals as goal
 
 pub records-init : goal.records-init
-records-init g c = at_begins _ _ _ _ _ _ 1024 _ _ c.requires.new c.in_ok-cutter.ensures c.requires.fresh c.requires.open
+records-init g c = at_begins _ _ _ _ _ _ c.args.burst _ _ c.requires.new c.in_ok-cutter.ensures c.requires.fresh c.requires.open
 
 pub records-preserved : goal.records-preserved
 records-preserved g c = at_goes_on _ _ _ _ _ _ _ _ _ _ _ _ c.in-Ok-Some.packet _ (g.D.Desk.slots c.records.desk) (g.D.Desk.slots c.next.new.desk) _ c.records.invariant
@@ -33,3 +36,6 @@ pub returns-in-Err-clause-err : goal.returns-in-Err-clause-err
 returns-in-Err-clause-err g c = IfErr-weaker c.stop.result _ _
     (λ fault broken. at_stop_break _ _ _ _ _ _ _ _ _ c.in-Err.refusal fault _ (g.D.Desk.slots c.records.desk) (g.D.Desk.slots c.next.new.desk) _ c.records.invariant (λ slot is. (c.in-Err.ensures.cause.read_fault slot (ap Err is)).1) c.next.ensures.cause.later c.next.ensures.others broken)
     c.stop.ensures.err
+
+pub returns-in_err-cutter-clause-err : goal.returns-in_err-cutter-clause-err
+returns-in_err-cutter-clause-err g c = handed_on c.from_residual.result OutOfMemory _ c.from_residual.ensures.1 (no_run _ c.args.passage _ (g.D.Desk.slots c.args.desk.now))

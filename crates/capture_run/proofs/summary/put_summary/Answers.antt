@@ -47,3 +47,9 @@ returns-clause-err g c =
     (gather_breaks (listed c.args.chains.now) last held c.tell_functions.new.held.items _ (g.D.Desk.slots c.tell_functions.new.desk) _ e c.in_ok-tell_functions.ensures.ok
     (subst (λ t. Breaks [] t (g.D.Desk.slots c.tell_functions.new.desk) (g.D.Desk.slots c.put_text.new.desk) e) (c.deref.ensures.value ∙ c.in_ok-push_last_line.ensures) broken)))
     c.put_text.ensures.err
+
+pub returns-in_err-held-clause-err : goal.returns-in_err-held-clause-err
+returns-in_err-held-clause-err g c = handed_on c.from_residual.result OutOfMemory _ c.from_residual.ensures.1 (no_memory _ _ (g.D.Desk.slots c.args.desk.now))
+
+pub returns-in_err-push_head-clause-err : goal.returns-in_err-push_head-clause-err
+returns-in_err-push_head-clause-err g c = handed_on c.from_residual-in_err-push_head.result OutOfMemory _ c.from_residual-in_err-push_head.ensures.1 (no_memory _ _ (g.D.Desk.slots c.args.desk.now))

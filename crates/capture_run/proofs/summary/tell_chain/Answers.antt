@@ -1,7 +1,7 @@
 use Rattle.std.proofs.Common.{◌<◌, [], ◌++◌, length, subst, arith}
 use Rattle.capture_report.specs.Report.{function_lines}
 use Rattle.capture_run.specs.Slots.{Breaks, Gathers}
-use Rattle.capture_run.proofs.Gathering.{chain_told, telling_breaks, telling_ends, telling_goes_on}
+use Rattle.capture_run.proofs.Gathering.{chain_told, telling_begins, telling_breaks, telling_ends, telling_goes_on}
 use Rattle.capture_run.proofs.Putting.{handed_on}
 use Rattle.capture_run.proofs.summary.tell_chain.Goals as goal
 
@@ -33,3 +33,6 @@ returns-clause-ok g c =
     subst (λ t. Gathers t c.args.held.now.items c.functions.held.items (g.D.Desk.slots c.args.desk.now) (g.D.Desk.slots c.functions.desk))
     (chain_told c.args.chain.now c.args.functions.now items c.as_slice-declared-items.ensures)
     (telling_ends (function_lines c.args.chain.now.name c.args.functions.now) items c.functions.declared-index c.args.held.now.items c.functions.held.items (g.D.Desk.slots c.args.desk.now) (g.D.Desk.slots c.functions.desk) c.functions.invariant (omega (arith, c.functions-test.false)))
+
+pub functions-init : goal.functions-init
+functions-init g c = telling_begins (function_lines c.args.chain.now.name c.args.functions.now) c.as_slice-declared-items.result.now c.args.held.now.items (g.D.Desk.slots c.args.desk.now)

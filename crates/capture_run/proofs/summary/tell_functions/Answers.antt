@@ -1,7 +1,7 @@
 use Rattle.std.proofs.Common.{◌<◌, [], ◌++◌, length, subst, arith}
 use Rattle.capture_report.specs.Report.{chain_lines}
 use Rattle.capture_run.specs.Slots.{Breaks, Gathers}
-use Rattle.capture_run.proofs.Gathering.{telling_breaks, telling_goes_on}
+use Rattle.capture_run.proofs.Gathering.{telling_begins, telling_breaks, telling_goes_on}
 use Rattle.capture_run.proofs.Putting.{handed_on}
 use Rattle.capture_run.proofs.summary.tell_functions.Goals as goal
 
@@ -22,3 +22,6 @@ chains-preserved g c =
     (subst (λ f. Gathers (chain_lines c.chain-item.result.declared f) c.chains.held.items c.tell_chain.new.held.items (g.D.Desk.slots c.chains.desk) (g.D.Desk.slots c.tell_chain.new.desk)) c.functions.ensures
     c.in_ok-tell_chain.ensures.ok)
     c.tell_chain.ensures.others
+
+pub chains-init : goal.chains-init
+chains-init g c = telling_begins (λ x. chain_lines x.declared x.running.functions) c.args.chains.now c.args.held.now.items (g.D.Desk.slots c.args.desk.now)

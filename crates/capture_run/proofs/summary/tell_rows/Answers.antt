@@ -2,7 +2,7 @@ use Rattle.std.proofs.Common.{◌<◌, [], ◌++◌, length, refl, subst, arith}
 use Rattle.std.specs.Prelude.{slice_index_or}
 use Rattle.chain_service.specs.StateRows.{named_rows}
 use Rattle.capture_run.specs.Slots.{Breaks}
-use Rattle.capture_run.proofs.Gathering.{telling_breaks, telling_goes_on}
+use Rattle.capture_run.proofs.Gathering.{telling_begins, telling_breaks, telling_goes_on}
 use Rattle.capture_run.proofs.Putting.{handed_on}
 use Rattle.capture_run.proofs.summary.tell_rows.Goals as goal
 
@@ -21,3 +21,6 @@ rows-preserved g c =
     let inside : c.rows.place < length rows = omega (arith, c.rows-test.true, c.state_count-count.ensures.count) in
     telling_goes_on (λ row. row) rows c.rows.place (slice_index_or rows c.rows.place []) [] c.args.held.now.items c.rows.held.items c.tell_row.new.held.items (g.D.Desk.slots c.args.desk.now) (g.D.Desk.slots c.rows.desk) (g.D.Desk.slots c.tell_row.new.desk)
     c.rows.invariant inside refl c.in_ok-tell_row.ensures.ok c.tell_row.ensures.others
+
+pub rows-init : goal.rows-init
+rows-init g c = telling_begins (λ row. row) (named_rows c.args.function.now) c.args.held.now.items (g.D.Desk.slots c.args.desk.now)

@@ -62,3 +62,6 @@ returns-clause-ok g c = record {
       c.in_ok-service.ensures.by_record c.in_ok-service.ensures.led c.in_ok-service.ensures.fates c.as_slice-items.ensures c.as_slice-chains.ensures c.deref.ensures.value c.in_ok-lines.ensures c.deref-3.ensures.value)
       c.in_ok-put_text.ensures.ok);
 }
+
+pub returns-in_err-service-clause-err : goal.returns-in_err-service-clause-err
+returns-in_err-service-clause-err g c = handed_on c.from_residual.result OutOfMemory _ c.from_residual.ensures.1 (no_memory _ _ (g.D.Desk.slots c.args.desk.now))
