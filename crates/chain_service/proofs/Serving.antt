@@ -10,24 +10,15 @@ use Rattle.policy_check.specs.declared.fault.Order.{Order}
 use Rattle.policy_text.specs.declared.policy.ChainPolicy.{ChainPolicy}
 use Rattle.policy_text.specs.declared.policy.FunctionDecl.{FunctionDecl}
 use Rattle.policy_judge.specs.Orders.{IsOrdered}
-use Rattle.net_functions.specs.Builds.{function_of}
-use Rattle.net_functions.specs.declared.net_function.NetFunction.{NetFunction}
 use Rattle.chain_service.specs.Services.{named, function_at, functions_at}
 use Rattle.chain_service.specs.declared.named.NamedFunction.{NamedFunction}
-
-one_named : (decl : FunctionDecl) → length (named decl) ≤ 1
-one_named decl = go (function_of decl)
-  where
-    go : (o : Option NetFunction) → length {A = NamedFunction} (option_map_or (λ function. record { name = decl.name; function = function } ∷ []) o []) ≤ 1
-    go None = omega arith
-    go (Some function) = omega arith
 
 one_at_most : (declared : List FunctionDecl) (place : ℕ) → length (function_at declared place) ≤ 1
 one_at_most declared place = go (slice_get declared place)
   where
-    go : (o : Option FunctionDecl) → length (option_map_or named o []) ≤ 1
+    go : (o : Option FunctionDecl) → length {A = NamedFunction} (option_map_or (λ decl. named decl ∷ []) o []) ≤ 1
     go None = omega arith
-    go (Some decl) = one_named decl
+    go (Some decl) = omega arith
 
 few_at : (declared : List FunctionDecl) (places : List ℕ) → length (functions_at declared places) ≤ length places
 few_at declared [] = omega arith

@@ -9,10 +9,8 @@ use Rattle.std.proofs.lemmas.List.Sums.{sum_by-cons, sum_by_more_le}
 use Rattle.std.proofs.lemmas.List.Sorted.{sum_by-IsPermutation}
 use Rattle.std.proofs.lemmas.Bool.Decides.{nat_tests}
 use Rattle.policy_text.specs.declared.policy.FunctionDecl.{FunctionDecl}
-use Rattle.net_functions.specs.Builds.{function_of}
 use Rattle.net_functions.specs.declared.net_function.NetFunction.{NetFunction}
-use Rattle.chain_service.specs.declared.named.NamedFunction.{NamedFunction}
-use Rattle.chain_service.specs.Services.{named, function_at}
+use Rattle.policy_judge.specs.Making.{place_of}
 use Rattle.chain_service.specs.Taking.{without, without_all}
 
 -- 1 where the two places are one
@@ -71,14 +69,11 @@ still_there n places i d made left once inside is =
     let before : times p (take i places) ≡ 0 = omega (arith, one_here p, sum_by_more_le (one_at p) places i d inside, sum_by-IsPermutation (one_at p) (range_with_len 0 n) places once, once_at_most p 0 n) in
     ap (λ l. slice_get l p) is ∙ untouched (take i places) made p before
 
--- where no function was made for a place, none is declared there
-pub nothing_added : (declared : List FunctionDecl) (made : List (Option NetFunction)) (place : ℕ) (d : Option NetFunction) (functions : List NamedFunction) →
-    slice_get made place ≡ slice_get (map function_of declared) place → place < length made → slice_index_or made place d ≡ None → functions ≡ functions ++ function_at declared place
-nothing_added declared made place d functions same inside none =
-    go (slice_get declared place) refl
+-- the place of a function that is declared holds one
+pub is_there : (declared : List FunctionDecl) (made : List (Option NetFunction)) (place : ℕ) (d : Option NetFunction) →
+    slice_get made place ≡ slice_get (map place_of declared) place → place < length made → place < length declared → slice_index_or made place d ≡ None → ⊥
+is_there declared made place d same inside declared_there none = go (slice_get declared place) refl
   where
-    go : (o : Option FunctionDecl) → slice_get declared place ≡ o → functions ≡ functions ++ option_map_or named o []
-    go None is = sym (append-nil functions)
-    go (Some decl) is =
-        let e : function_of decl ≡ None = cc (same, none, slice_get-get_or made place d inside, slice_get-map function_of declared place, ap (option_map function_of) is) in
-        sym (ap (λ o. functions ++ option_map_or (λ function. record { name = decl.name; function = function } ∷ []) o []) e ∙ append-nil functions)
+    go : (o : Option FunctionDecl) → slice_get declared place ≡ o → ⊥
+    go None is = absurd (cc (same, none, slice_get-get_or made place d inside, slice_get-map place_of declared place, ap (option_map place_of) is))
+    go (Some decl) is = absurd (cc (same, none, slice_get-get_or made place d inside, slice_get-map place_of declared place, ap (option_map place_of) is))

@@ -1,13 +1,11 @@
 //! The chains of a policy, ready to run.
-ghost use Rattle.std.specs.Prelude.{◌≡◌, ◌<◌, ◌≤◌, ◌++◌, All, IfOk, IfSome, OnOk, IsPermutation, length, map, slice_get};
-ghost use Rattle.std.specs.List.{AllZip, list_all, range_with_len};
-ghost use Rattle.std.specs.Option.{option_map};
+ghost use Rattle.std.specs.Prelude.{◌≡◌, ◌<◌, ◌≤◌, ◌++◌, All, IfOk, OnOk, IsPermutation, length, map, slice_get};
+ghost use Rattle.std.specs.List.{AllZip, range_with_len};
 ghost use Rattle.graph_run.specs.Running.{profiles_of};
-ghost use Rattle.net_functions.specs.Builds.{function_of};
-ghost use Rattle.policy_judge.specs.Making.{functions_made};
+ghost use Rattle.policy_judge.specs.Making.{functions_made, place_of};
 ghost use Rattle.policy_judge.specs.Orders.{IsOrdered};
 ghost use Rattle.chain_service.specs.Opening.{IsOpening, IsOpeningChain, chains_of};
-ghost use Rattle.chain_service.specs.Services.{function_at, functions_at, functions_by, is_ready, service_among, stages_of};
+ghost use Rattle.chain_service.specs.Services.{function_at, functions_at, functions_by, service_among, stages_of};
 ghost use Rattle.chain_service.specs.Taking.{without};
 
 use crate::named::NamedFunction;
@@ -16,7 +14,7 @@ use classifier::ClassTable;
 use graph_compile::compile;
 use graph_run::Running;
 use item_list::Items;
-use net_functions::{Function, NetFunction, is_built};
+use net_functions::{Function, NetFunction};
 use packet_version::Tally;
 use policy_check::Order;
 use policy_judge::Judged;
@@ -39,44 +37,24 @@ pub struct Service {
     pub chains: Items<ServiceChain>,
 }
 
-/// What a policy without fault runs, or `None` where it doesn't run yet, since a function of some chain is of a kind that
-/// isn't built.
+/// What a policy without fault runs.
 #[tactic(auto, using(crate::proofs::Opens::opens))]
-pub fn make_service(alloc: Global, judged: Judged) -> Result<Option<Service>, AllocError>
+pub fn make_service(alloc: Global, judged: Judged) -> Result<Service, AllocError>
     requires ordered { AllZip IsOrdered judged.policy.chains judged.orders }
     requires made { judged.functions ≡ functions_made judged.policy.chains }
     requires few { length judged.policy.chains ≤ 16 }
-    ensures runs { IfOk result (λ o. option_map (λ s. chains_of s.chains) o ≡ service_among judged.policy.chains judged.orders) }
-    ensures opening { IfOk result (λ o. IfSome o IsOpening) }
+    ensures runs { IfOk result (λ s. chains_of s.chains ≡ service_among judged.policy.chains judged.orders) }
+    ensures opening { IfOk result IsOpening }
 {
     let Judged {
         policy,
         orders,
         functions,
     } = judged;
-    if !are_ready(policy.chains.as_slice()) {
-        return Ok(None);
-    }
     let classes = ClassTable::new(alloc, &policy)?;
     let Policy { chains } = policy;
     let chains = service_chains(alloc, chains, orders, functions)?;
-    Ok(Some(Service { classes, chains }))
-}
-
-fn are_ready(chains: &[ChainPolicy]) -> bool
-    ensures { result ≡ list_all is_ready chains.now }
-{
-    chains.iter().all(is_ready)
-}
-
-fn is_ready(chain: &ChainPolicy) -> bool
-    ensures { result ≡ is_ready chain.now }
-{
-    chain
-        .functions
-        .as_slice()
-        .iter()
-        .all(|function| is_built(function.kind))
+    Ok(Service { classes, chains })
 }
 
 // The chains, each with its order and the functions that were made for it.
@@ -109,7 +87,7 @@ fn service_chain(
     made: Items<Option<NetFunction>>,
 ) -> Result<ServiceChain, AllocError>
     requires ordered { IsOrdered chain order.now }
-    requires made { made ≡ map function_of chain.functions }
+    requires made { made ≡ map place_of chain.functions }
     ensures declared { IfOk result (λ c. c.declared ≡ chain) }
     ensures functions { IfOk result (λ c. c.running.functions ≡ functions_at chain.functions order.now.positions) }
     ensures opening { IfOk result IsOpeningChain }
@@ -160,7 +138,7 @@ fn functions_at(
 ) -> Result<Vec<NamedFunction>, AllocError>
     requires each_once { IsPermutation (range_with_len 0 (length declared.now)) places.now }
     requires inside { All (λ p. p < length declared.now) places.now }
-    requires made { made.items ≡ map function_of declared.now }
+    requires made { made.items ≡ map place_of declared.now }
     ensures { IfOk result (λ functions. functions.items ≡ functions_at declared.now places.now) }
 {
     let mut made = made;
@@ -171,8 +149,8 @@ fn functions_at(
     Ok(functions)
 }
 
-// Takes the function that was made for a place, if one was, and adds it with its name.
-#[tactic(auto, using(crate::proofs::Taking::nothing_added))]
+// Takes the function that was made for a place, and adds it with its name.
+#[tactic(auto, using(crate::proofs::Taking::is_there))]
 fn push_function(
     alloc: Global,
     functions: &mut Vec<NamedFunction>,
@@ -182,7 +160,7 @@ fn push_function(
 ) -> Result<(), AllocError>
     requires inside { place < length declared.now }
     requires as_long { length made.old ≡ length declared.now }
-    requires untaken { slice_get made.old place ≡ slice_get (map function_of declared.now) place }
+    requires untaken { slice_get made.old place ≡ slice_get (map place_of declared.now) place }
     ensures pushed { OnOk result (functions.new.items ≡ functions.old.items ++ function_at declared.now place) }
     ensures taken { OnOk result (made.new ≡ without made.old place) }
 {
@@ -191,7 +169,7 @@ fn push_function(
             let name = Name::new(declared[place].name.bytes().to_vec(alloc)?);
             functions.push(NamedFunction { name, function })?;
         }
-        None => {}
+        None => unreachable!(),
     }
     Ok(())
 }

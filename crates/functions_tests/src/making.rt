@@ -1,6 +1,6 @@
 //! Functions are made of what a policy declares.
 
-use net_functions::{NetFunction, build, is_built};
+use net_functions::{NetFunction, build};
 use policy_text::{BuildFault, Policy, parse};
 use std::alloc::Global;
 use std::process::Abort;
@@ -10,7 +10,6 @@ pub fn built(rt: &impl Abort, alloc: Global, text: &str) -> Result<NetFunction, 
     let policy: Policy = parse(alloc, text.as_bytes()).expect(rt, "a policy");
     let chain = policy.chains.as_slice().first().expect(rt, "a chain");
     let decl = chain.functions.as_slice().first().expect(rt, "a function");
-    assert!(rt; is_built(decl.kind));
     build(alloc, decl)
 }
 

@@ -1,5 +1,5 @@
--- Believed: which kinds are built, which function a policy declares, and what making it answers.
-use Rattle.std.specs.Prelude.{◌≡◌, ℕ, List, Bool, Option, Some, None, is_some, Result, Ok, Err}
+-- Believed: which function a policy declares, and what making it answers.
+use Rattle.std.specs.Prelude.{◌≡◌, ℕ, List, Option, Some, None, Result, Ok, Err}
 use Rattle.action_profile.specs.declared.kind.Kind.{Kind}
 use Rattle.action_profile.specs.declared.kind.Kind.TheVariants as kinds
 use Rattle.policy_text.specs.declared.fault.BuildFault.{BuildFault}
@@ -36,11 +36,11 @@ pub record Making : Type 0 where
   pub made : FunctionDecl → NetFunction
 
 -- a kind with these lines, whose functions are made of what the lines say
-abbrev pub of_lines : {L F : Type 0} → KindLines L → (List L → F) → (F → NetFunction) → Option Making
-of_lines lines by make = Some (record { refused = λ decl. refused_line_of lines decl; made = λ decl. make (by (said_by lines decl.settings)) })
+abbrev pub of_lines : {L F : Type 0} → KindLines L → (List L → F) → (F → NetFunction) → Making
+of_lines lines by make = record { refused = λ decl. refused_line_of lines decl; made = λ decl. make (by (said_by lines decl.settings)) }
 
--- how the functions of a kind are made, none of one that isn't built
-unfoldable pub making_of : Kind → Option Making
+-- how the functions of a kind are made
+unfoldable pub making_of : Kind → Making
 making_of kinds.Firewall = of_lines firewall_lines firewall_by Firewall
 making_of kinds.Nat = of_lines nat_lines nat_by Nat
 making_of kinds.Balancer = of_lines balancer_lines balancer_by Balancer
@@ -54,30 +54,16 @@ making_of kinds.Signature = of_lines pattern_lines signature_by Signature
 making_of kinds.Nexthop = of_lines nexthop_lines nexthop_by Nexthop
 making_of kinds.Redactor = of_lines pattern_lines redactor_by Redactor
 
--- functions of this kind are built
-abbrev pub is_built : Kind → Bool
-is_built kind = is_some (making_of kind)
-
--- the function that a declaration makes, none of a kind that isn't built
-abbrev pub made_by : Option Making → FunctionDecl → Option NetFunction
-made_by None decl = None
-made_by (Some making) decl = Some (making.made decl)
-
--- the least line that it refuses; of a kind that isn't built, no line is
-abbrev pub refused_by : Option Making → FunctionDecl → Option ℕ
-refused_by None decl = None
-refused_by (Some making) decl = making.refused decl
-
 -- the function that is declared
-abbrev pub function_of : FunctionDecl → Option NetFunction
-function_of decl = made_by (making_of decl.kind) decl
+abbrev pub function_of : FunctionDecl → NetFunction
+function_of decl = (making_of decl.kind).made decl
 
 -- the least line of a declaration that is refused, none where each may stand
 abbrev pub refused_line : FunctionDecl → Option ℕ
-refused_line decl = refused_by (making_of decl.kind) decl
+refused_line decl = (making_of decl.kind).refused decl
 
 -- the function that is declared, where no line is refused, or the least refused line; memory may run out
 abbrev pub Builds : FunctionDecl → Result NetFunction BuildFault → Type 0
-Builds decl (Ok f) = (refused_line decl ≡ None) × (function_of decl ≡ Some f)
+Builds decl (Ok f) = (refused_line decl ≡ None) × (f ≡ function_of decl)
 Builds decl (Err (BadSetting line)) = refused_line decl ≡ Some line
 Builds decl (Err OutOfMemory) = Unit {0}

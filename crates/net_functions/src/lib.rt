@@ -15,5 +15,5 @@ mod making;
 mod net_function;
 
 pub use function::Function;
-pub use making::{build, is_built};
+pub use making::build;
 pub use net_function::NetFunction;

@@ -1,6 +1,5 @@
 //! Makes the function that a policy declares.
-ghost use Rattle.std.specs.Prelude.{◌≡◌, true};
-ghost use Rattle.net_functions.specs.Builds.{is_built, Builds};
+ghost use Rattle.net_functions.specs.Builds.{Builds};
 
 use crate::net_function::NetFunction;
 use action_profile::Kind;
@@ -11,33 +10,9 @@ use nf_translate::{Balancer, Nat};
 use policy_text::{BuildFault, FunctionDecl};
 use std::alloc::Global;
 
-/// Are functions of this kind built?
-#[tactic(auto, unfolding(crate::specs::Builds::making_of))]
-pub fn is_built(kind: Kind) -> bool
-    ensures { result ≡ is_built kind }
-{
-    matches!(
-        kind,
-        Kind::Firewall
-            | Kind::Nat
-            | Kind::Balancer
-            | Kind::Monitor
-            | Kind::Limiter
-            | Kind::Marker
-            | Kind::Hop
-            | Kind::Tagger
-            | Kind::Untagger
-            | Kind::Signature
-            | Kind::Nexthop
-            | Kind::Redactor
-    )
-}
-
-/// Makes the function that is declared, whose kind is built, or names the least line of the declaration
-/// that is refused.
+/// Makes the function that is declared, or names the least line of the declaration that is refused.
 #[tactic(auto, unfolding(crate::specs::Builds::making_of))]
 pub fn build(alloc: Global, decl: &FunctionDecl) -> Result<NetFunction, BuildFault>
-    requires { is_built decl.now.kind ≡ true }
     ensures { Builds decl.now result }
 {
     match decl.kind {

@@ -1,14 +1,14 @@
--- Where no line is the least that is refused, no function refuses one, and each is made.
-use Rattle.std.proofs.Common.{◌≡◌, ◌≤◌, ◌∙◌, ℕ, List, [], ◌∷◌, length, map, take, false, refl, ap, sym}
-use Rattle.std.specs.Prelude.{All, Option, Some, None, is_some, fold}
+-- Where no line is the least that is refused, no function refuses one, and each is kept.
+use Rattle.std.proofs.Common.{◌≡◌, ◌≤◌, ◌∙◌, ℕ, List, [], ◌∷◌, length, map, take, refl, ap, sym}
+use Rattle.std.specs.Prelude.{All, Option, Some, None, fold}
 use Rattle.std.proofs.lemmas.List.{take_all}
 use Rattle.std.proofs.lemmas.List.Elements.{All-nil, All-cons, All-head, All-tail}
 use Rattle.policy_text.specs.declared.policy.ChainPolicy.{ChainPolicy}
 use Rattle.policy_text.specs.declared.policy.FunctionDecl.{FunctionDecl}
-use Rattle.net_functions.specs.Builds.{Making, made_by, refused_by, refused_line, function_of}
+use Rattle.net_functions.specs.Builds.{refused_line, function_of}
 use Rattle.net_functions.specs.declared.net_function.NetFunction.{NetFunction}
 use Rattle.policy_judge.specs.Kept.{kept_where, kept_of, kept_each}
-use Rattle.policy_judge.specs.Making.{functions_made}
+use Rattle.policy_judge.specs.Making.{place_of, functions_made}
 use Rattle.policy_judge.specs.Settings.{lesser_of, least_among, least_refused, IsSettled}
 
 first_none : (a b : Option ℕ) → lesser_of a b ≡ None → a ≡ None
@@ -44,17 +44,17 @@ pub all_settled : (cs : List ChainPolicy) → least_refused cs ≡ None → All 
 all_settled cs e = settled_from None cs e
 
 -- where no line is refused, each function is kept
-kept_here : (fs : List FunctionDecl) → All (λ f. refused_line f ≡ None) fs → kept_each fs ≡ map function_of fs
+kept_here : (fs : List FunctionDecl) → All (λ f. refused_line f ≡ None) fs → kept_each fs ≡ map place_of fs
 kept_here [] settled = refl
 kept_here (f ∷ fs) settled =
-    let here : kept_of f ≡ function_of f = ap (λ o. kept_where o (function_of f)) (All-head (λ g. refused_line g ≡ None) f fs settled) in
-    ap (λ o. o ∷ kept_each fs) here ∙ ap (λ l. function_of f ∷ l) (kept_here fs (All-tail (λ g. refused_line g ≡ None) f fs settled))
+    let here : kept_of f ≡ place_of f = ap (λ o. kept_where o (function_of f)) (All-head (λ g. refused_line g ≡ None) f fs settled) in
+    ap (λ o. o ∷ kept_each fs) here ∙ ap (λ l. place_of f ∷ l) (kept_here fs (All-tail (λ g. refused_line g ≡ None) f fs settled))
 
 kept_in : (cs : List ChainPolicy) → All IsSettled cs → map (λ c. kept_each c.functions) cs ≡ functions_made cs
 kept_in [] settled = refl
 kept_in (c ∷ cs) settled =
     ap (λ l. l ∷ map (λ d. kept_each d.functions) cs) (kept_here c.functions (All-head IsSettled c cs settled))
-    ∙ ap (λ l. map function_of c.functions ∷ l) (kept_in cs (All-tail IsSettled c cs settled))
+    ∙ ap (λ l. map place_of c.functions ∷ l) (kept_in cs (All-tail IsSettled c cs settled))
 
 -- past the last chain all functions are made, where no line was refused
 pub all_made : (cs : List ChainPolicy) (index : ℕ) (least : Option ℕ) (functions made : List (List (Option NetFunction))) → length cs ≤ index →
@@ -68,13 +68,3 @@ all_made cs index least functions made past least_is functions_are none made_are
 pub lesser_of_none : (line : Option ℕ) → lesser_of line None ≡ line
 lesser_of_none None = refl
 lesser_of_none (Some line) = refl
-
--- of a kind that isn't built no function is made
-pub never_made : (making : Option Making) (decl : FunctionDecl) → is_some making ≡ false → made_by making decl ≡ None
-never_made None decl not = refl
-never_made (Some making) decl not = absurd cc
-
--- nor is a line refused
-pub unbuilt : (making : Option Making) (decl : FunctionDecl) → is_some making ≡ false → refused_by making decl ≡ None
-unbuilt None decl not = refl
-unbuilt (Some making) decl not = absurd cc

@@ -10,8 +10,8 @@ use Rattle.policy_judge.specs.Making.{functions_made}
 use Rattle.policy_judge.specs.Settings.{least_refused}
 
 -- the function, where it refuses no line
-abbrev pub kept_where : Option ℕ → Option NetFunction → Option NetFunction
-kept_where None function = function
+abbrev pub kept_where : Option ℕ → NetFunction → Option NetFunction
+kept_where None function = Some function
 kept_where (Some line) function = None
 
 abbrev pub kept_of : FunctionDecl → Option NetFunction

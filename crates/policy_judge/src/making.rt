@@ -5,12 +5,11 @@ ghost use Rattle.policy_judge.specs.Kept.{kept_of, kept_each, MakesAll};
 ghost use Rattle.policy_judge.specs.Settings.{lesser_of, least_among};
 
 use item_list::Items;
-use net_functions::{NetFunction, build, is_built};
+use net_functions::{NetFunction, build};
 use policy_text::{BuildFault, ChainPolicy, FunctionDecl};
 use std::alloc::{AllocError, Global};
 
-/// The functions of each chain as they are declared, none for one whose kind isn't built, or the
-/// least line that a function of any chain refuses.
+/// The functions of each chain as they are declared, or the least line that a function of any chain refuses.
 pub fn functions_of(
     alloc: Global,
     chains: &[ChainPolicy],
@@ -46,9 +45,8 @@ fn make_each(
     Ok(Items::new(functions))
 }
 
-// Makes a function, and takes the line that it refuses into the least one. None stands for one whose
-// kind isn't built, of which no line is refused, and for one that is refused, which nobody gets.
-#[tactic(auto, using(crate::proofs::NoLineRefused::unbuilt, crate::proofs::NoLineRefused::never_made, crate::proofs::NoLineRefused::lesser_of_none))]
+// Makes a function, and takes the line that it refuses into the least one. None stands for one that is refused, which nobody gets.
+#[tactic(auto, using(crate::proofs::NoLineRefused::lesser_of_none))]
 fn make(
     alloc: Global,
     least: &mut Option<u32>,
@@ -57,9 +55,6 @@ fn make(
     ensures function { IfOk result (λ function. function ≡ kept_of decl.now) }
     ensures least { OnOk result (least.new ≡ lesser_of least.old (refused_line decl.now)) }
 {
-    if !is_built(decl.kind) {
-        return Ok(None);
-    }
     match build(alloc, decl) {
         Ok(function) => Ok(Some(function)),
         Err(BuildFault::BadSetting(line)) => {

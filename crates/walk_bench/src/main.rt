@@ -16,7 +16,7 @@ use frame_walk::walk_chain;
 use frames::burst_of;
 use graph_compile::compile;
 use graph_run::{Running, run_plain};
-use net_functions::{Function, NetFunction, build, is_built};
+use net_functions::{Function, NetFunction, build};
 use packet_fields::Frame;
 use packet_version::Tally;
 use pcap_io::Unit;
@@ -50,11 +50,9 @@ fn push_function(
     functions: &mut Vec<NetFunction>,
     decl: &FunctionDecl,
 ) -> Result<(), BuildFault> {
-    if is_built(decl.kind) {
-        let function = build(alloc, decl)?;
-        if functions.push(function).is_err() {
-            return Err(BuildFault::OutOfMemory);
-        }
+    let function = build(alloc, decl)?;
+    if functions.push(function).is_err() {
+        return Err(BuildFault::OutOfMemory);
     }
     Ok(())
 }
