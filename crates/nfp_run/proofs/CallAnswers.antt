@@ -5,16 +5,17 @@ use Rattle.nfp_outside.specs.declared.slot.Slot.{Slot}
 use Rattle.nfp_outside.specs.declared.slot.Slot.TheVariants as slots
 use Rattle.nfp_outside.specs.Outside.{SlotView, IsRisen, Appends, AppendsPrefix}
 use Rattle.nfp_run.specs.declared.outcome.Outcome.{Outcome}
-use Rattle.nfp_run.specs.declared.outcome.Outcome.TheVariants.{Done, Usage, Policy, NotBuilt, Capture, ReadFault, WriteFault, OutOfMemory}
+use Rattle.nfp_run.specs.declared.outcome.Outcome.TheVariants.{Done, Usage, Policy, Capture, ReadFault, WriteFault, OutOfMemory}
 use Rattle.nfp_run.specs.declared.ending.Ending.{Ending}
-use Rattle.nfp_run.specs.declared.ending.Ending.TheVariants.{Completed, Planned, Refused, Stopped}
+use Rattle.nfp_run.specs.declared.ending.Ending.TheVariants.{Completed, Shown, Refused, Stopped}
 use Rattle.command_words.specs.declared.usage.UsageFault.{UsageFault}
 use Rattle.command_words.specs.Words.{Command}
-use Rattle.nfp_run.specs.Due.{Due, Written, due_of_command}
+use Rattle.nfp_run.specs.Due.{Due, due_of_command}
+use Rattle.nfp_run.specs.Written.{Written}
 use Rattle.nfp_run.specs.Closing.{outcome_seen, untold, text_of, EndsDue, Notes}
 use Rattle.nfp_run.specs.Ran.{Ran}
 use Rattle.nfp_run.specs.Answers.{IsDue, IsFinal, NoneRose, WhereTold, Leaves, LeavesPrefixes, IsUntouched, Holds, HoldsPrefix, ReadFaultCause, WriteFaultCause, note_due}
-use Rattle.nfp_run.proofs.PutInSteps.{prefix_whole}
+use Rattle.nfp_outside.proofs.Steps.{prefix_whole}
 
 -- a call: what ran, and then the line in Note
 pub record Called (command : Result Command UsageFault) (old mid new : Slot → SlotView) (ended : Ending) (result : Outcome) : Type 0 where
@@ -62,7 +63,6 @@ untold_final : (outcome : Outcome) → IsFinal (untold outcome) → untold outco
 untold_final Done final = search rules
 untold_final (Usage fault) final = refl
 untold_final (Policy fault) final = refl
-untold_final (NotBuilt s) final = refl
 untold_final (Capture fault) final = refl
 untold_final (ReadFault s) final = refl
 untold_final (WriteFault s) final = refl
@@ -119,7 +119,6 @@ no_fault command old mid new ended ran beside none = go (outcome_seen ended) ref
     go Done e = inl (subst IsFinal (sym e) tt)
     go (Usage fault) e = inl (subst IsFinal (sym e) tt)
     go (Policy fault) e = inl (subst IsFinal (sym e) tt)
-    go (NotBuilt s) e = inl (subst IsFinal (sym e) tt)
     go (Capture fault) e = inl (subst IsFinal (sym e) tt)
     go (ReadFault s) e = absurd (reading s (ran.read_faults s e))
     go (WriteFault s) e = absurd (writing s e (ran.write_faults s e))
@@ -151,12 +150,11 @@ called_answers command old mid new ended result called none = by_notes called.no
 seen_text : (command : Result Command UsageFault) (old mid : Slot → SlotView) (ended : Ending) → Ran command old mid ended → outcome_seen ended ≢ OutOfMemory →
     WhereTold old (λ p c. text_of ended ≡ note_due (outcome_seen ended) (due_of_command command p c).note)
 seen_text command old mid (Completed totals) ran some = if_told (old slots.Policy).bytes (old slots.Capture).bytes _ _ (λ p c ends. ends.note) (ran.due tt)
-seen_text command old mid (Planned text) ran some = if_told (old slots.Policy).bytes (old slots.Capture).bytes _ _ (λ p c ends. ends.note) (ran.due tt)
+seen_text command old mid (Shown text) ran some = if_told (old slots.Policy).bytes (old slots.Capture).bytes _ _ (λ p c ends. ends.note) (ran.due tt)
 seen_text command old mid (Refused refusal) ran some = if_told (old slots.Policy).bytes (old slots.Capture).bytes _ _ (λ p c ends. ends.note) (ran.due tt)
 seen_text command old mid (Stopped Done) ran some = if_told (old slots.Policy).bytes (old slots.Capture).bytes _ _ (λ p c ends. ends.note) (ran.due tt)
 seen_text command old mid (Stopped (Usage fault)) ran some = if_told (old slots.Policy).bytes (old slots.Capture).bytes _ _ (λ p c ends. ends.note) (ran.due tt)
 seen_text command old mid (Stopped (Policy fault)) ran some = if_told (old slots.Policy).bytes (old slots.Capture).bytes _ _ (λ p c ends. ends.note) (ran.due tt)
-seen_text command old mid (Stopped (NotBuilt s)) ran some = if_told (old slots.Policy).bytes (old slots.Capture).bytes _ _ (λ p c ends. ends.note) (ran.due tt)
 seen_text command old mid (Stopped (Capture fault)) ran some = if_told (old slots.Policy).bytes (old slots.Capture).bytes _ _ (λ p c ends. ends.note) (ran.due tt)
 seen_text command old mid (Stopped (ReadFault s)) ran some = told_always (old slots.Policy).bytes (old slots.Capture).bytes _ (λ p c. refl)
 seen_text command old mid (Stopped (WriteFault slots.Out)) ran some = told_always (old slots.Policy).bytes (old slots.Capture).bytes _ (λ p c. refl)
@@ -181,7 +179,6 @@ unnoted_text command old mid ended ran some = go (outcome_seen ended) refl
     go Done e = subst (λ o. WhereTold old (λ p c. text_of ended ≡ note_due (untold o) (due_of_command command p c).note)) (sym e) (done e)
     go (Usage fault) e = same (ap untold e ∙ sym e)
     go (Policy fault) e = same (ap untold e ∙ sym e)
-    go (NotBuilt s) e = same (ap untold e ∙ sym e)
     go (Capture fault) e = same (ap untold e ∙ sym e)
     go (ReadFault s) e = same (ap untold e ∙ sym e)
     go (WriteFault s) e = same (ap untold e ∙ sym e)

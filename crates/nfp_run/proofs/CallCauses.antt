@@ -7,14 +7,14 @@ use Rattle.nfp_outside.specs.Outside.{SlotView, IsRisen}
 use Rattle.pcap_io.specs.declared.capture.CaptureFault.{CaptureFault}
 use Rattle.pcap_io.specs.declared.capture.CaptureFault.TheVariants.{BadMagic, BadVersion, BadLink, CutHead, CutRecord, FrameTooLong, TooManyRecords}
 use Rattle.nfp_run.specs.declared.outcome.Outcome.{Outcome}
-use Rattle.nfp_run.specs.declared.outcome.Outcome.TheVariants.{Done, Usage, Policy, NotBuilt, Capture, ReadFault, WriteFault, OutOfMemory}
+use Rattle.nfp_run.specs.declared.outcome.Outcome.TheVariants.{Done, Usage, Policy, Capture, ReadFault, WriteFault, OutOfMemory}
 use Rattle.policy_judge.specs.declared.fault.PolicyFault.{PolicyFault}
 use Rattle.nfp_run.specs.declared.ending.Ending.{Ending}
 use Rattle.command_words.specs.declared.usage.UsageFault.{UsageFault}
-use Rattle.command_words.specs.Words.{Command, Run, Plan}
+use Rattle.command_words.specs.Words.{Command, Run, Plan, Demo}
 use Rattle.nfp_run.specs.Closing.{outcome_seen, untold, Notes}
 use Rattle.nfp_run.specs.Due.{due_of_command}
-use Rattle.nfp_run.specs.Answers.{IsDue, WhereTold, HasNames, name_of, BothAttached, NoneAttached, FaultAttaches, RunAttaches, AttachesDue, ReachesCapture, PolicyCause, NotBuiltCause, ReadFaultCause, WriteFaultCause}
+use Rattle.nfp_run.specs.Answers.{IsDue, WhereTold, HasNames, name_of, BothAttached, NoneAttached, FaultAttaches, RunAttaches, AttachesDue, ReachesCapture, PolicyCause, ReadFaultCause, WriteFaultCause}
 use Rattle.nfp_run.proofs.CallAnswers.{Called, called_done, policy_beside, capture_beside, out_beside, report_beside}
 
 -- the names of Out and Report stay while the line is put into Note
@@ -40,7 +40,6 @@ run_to : (outcome : Outcome) (mid new : Slot → SlotView) → new slots.Out ≡
 run_to Done mid new p q h = both_to mid new p q h
 run_to (Usage fault) mid new p q h = none_to mid new p q h
 run_to (Policy fault) mid new p q h = none_to mid new p q h
-run_to (NotBuilt s) mid new p q h = none_to mid new p q h
 run_to (Capture fault) mid new p q h = fault_to fault mid new p q h
 run_to (ReadFault slots.Policy) mid new p q h = none_to mid new p q h
 run_to (ReadFault slots.Capture) mid new p q h = tt
@@ -55,47 +54,50 @@ run_to (WriteFault slots.Capture) mid new p q h = tt
 run_to OutOfMemory mid new p q h = tt
 
 attaches_to : (command : Result Command UsageFault) (outcome : Outcome) (mid new : Slot → SlotView) → new slots.Out ≡ mid slots.Out → new slots.Report ≡ mid slots.Report → AttachesDue command outcome mid → AttachesDue command outcome new
-attaches_to (Ok (Run names)) outcome mid new p q h = run_to outcome mid new p q h
+attaches_to (Ok (Run names options)) outcome mid new p q h = run_to outcome mid new p q h
 attaches_to (Ok (Plan name)) outcome mid new p q h = none_to mid new p q h
+attaches_to (Ok (Demo input options)) outcome mid new p q h = none_to mid new p q h
 attaches_to (Err fault) outcome mid new p q h = none_to mid new p q h
 
 -- the same where memory ran out, or the line couldn't be put
 attaches_unmade : (command : Result Command UsageFault) (outcome : Outcome) (new : Slot → SlotView) → AttachesDue command outcome new → AttachesDue command OutOfMemory new
-attaches_unmade (Ok (Run names)) outcome new h = tt
+attaches_unmade (Ok (Run names options)) outcome new h = tt
 attaches_unmade (Ok (Plan name)) outcome new h = h
+attaches_unmade (Ok (Demo input options)) outcome new h = h
 attaches_unmade (Err fault) outcome new h = h
 
 run_untold : (outcome : Outcome) (new : Slot → SlotView) → RunAttaches outcome new → RunAttaches (untold outcome) new
 run_untold Done new h = h
 run_untold (Usage fault) new h = h
 run_untold (Policy fault) new h = h
-run_untold (NotBuilt s) new h = h
 run_untold (Capture fault) new h = h
 run_untold (ReadFault s) new h = h
 run_untold (WriteFault s) new h = h
 run_untold OutOfMemory new h = h
 
 attaches_untold : (command : Result Command UsageFault) (outcome : Outcome) (new : Slot → SlotView) → AttachesDue command outcome new → AttachesDue command (untold outcome) new
-attaches_untold (Ok (Run names)) outcome new h = run_untold outcome new h
+attaches_untold (Ok (Run names options)) outcome new h = run_untold outcome new h
 attaches_untold (Ok (Plan name)) outcome new h = h
+attaches_untold (Ok (Demo input options)) outcome new h = h
 attaches_untold (Err fault) outcome new h = h
 
 -- what is known of the policy where memory ran out, or the line couldn't be put
-reaches_unmade : (command : Result Command UsageFault) (old : Slot → SlotView) → ReachesCapture command OutOfMemory old
-reaches_unmade (Ok (Run names)) old = tt
+pub reaches_unmade : (command : Result Command UsageFault) (old : Slot → SlotView) → ReachesCapture command OutOfMemory old
+reaches_unmade (Ok (Run names options)) old = tt
 reaches_unmade (Ok (Plan name)) old = tt
+reaches_unmade (Ok (Demo input options)) old = tt
 reaches_unmade (Err fault) old = tt
 
 reaches_note : (command : Result Command UsageFault) (old : Slot → SlotView) → ReachesCapture command (WriteFault slots.Note) old
-reaches_note (Ok (Run names)) old = tt
+reaches_note (Ok (Run names options)) old = tt
 reaches_note (Ok (Plan name)) old = tt
+reaches_note (Ok (Demo input options)) old = tt
 reaches_note (Err fault) old = tt
 
 reaches_untold : (command : Result Command UsageFault) (outcome : Outcome) (old : Slot → SlotView) → ReachesCapture command outcome old → ReachesCapture command (untold outcome) old
 reaches_untold command Done old h = reaches_note command old
 reaches_untold command (Usage fault) old h = h
 reaches_untold command (Policy fault) old h = h
-reaches_untold command (NotBuilt s) old h = h
 reaches_untold command (Capture fault) old h = h
 reaches_untold command (ReadFault s) old h = h
 reaches_untold command (WriteFault s) old h = h
@@ -129,7 +131,6 @@ untold_seen : (seen o : Outcome) → untold seen ≡ o → o ≢ WriteFault slot
 untold_seen Done o e other = absurd (other (sym e))
 untold_seen (Usage fault) o e other = e
 untold_seen (Policy fault) o e other = e
-untold_seen (NotBuilt s) o e other = e
 untold_seen (Capture fault) o e other = e
 untold_seen (ReadFault s) o e other = e
 untold_seen (WriteFault s) o e other = e
@@ -140,6 +141,18 @@ seen_before ended result o old new (inl (is, a)) e some other = sym is ∙ e
 seen_before ended result o old new (inr (inl (is, a))) e some other = absurd (some (sym e ∙ is))
 seen_before ended result o old new (inr (inr (is, r, a))) e some other = untold_seen (outcome_seen ended) o (sym is ∙ e) other
 
+pub called_usage_always : (command : Result Command UsageFault) (old mid new : Slot → SlotView) (ended : Ending) (result : Outcome) → Called command old mid new ended result →
+    (fault : UsageFault) → command ≡ Err fault → (result ≡ Usage fault) ⊎ (result ≡ OutOfMemory)
+called_usage_always command old mid new ended result called fault e = by_notes called.notes
+  where
+    seen : (outcome_seen ended ≡ Usage fault) ⊎ (outcome_seen ended ≡ OutOfMemory)
+    seen = called.ran.usage_always fault e
+
+    by_notes : Notes ended (mid slots.Note) (new slots.Note) result → (result ≡ Usage fault) ⊎ (result ≡ OutOfMemory)
+    by_notes (inl (is, a)) = elim seen [ inl u ↦ inl (is ∙ u) | inr m ↦ inr (is ∙ m) ]
+    by_notes (inr (inl (is, a))) = inr is
+    by_notes (inr (inr (is, r, a))) = elim seen [ inl u ↦ inl (is ∙ ap untold u) | inr m ↦ inr (is ∙ ap untold m) ]
+
 capture_name : (mid new : Slot → SlotView) → new slots.Capture ≡ mid slots.Capture → (mid slots.Capture).name ≡ None → (new slots.Capture).name ≡ None
 capture_name mid new p h = ap (λ v. v.name) p ∙ h
 
@@ -148,18 +161,6 @@ pub called_refused : (command : Result Command UsageFault) (old mid new : Slot �
 called_refused command old mid new ended result called fault e =
     let cause = called.ran.refused fault (seen_before ended result (Policy fault) (mid slots.Note) (new slots.Note) called.notes e (λ h. cc) (λ h. cc)) in
     (cause.0, cause.1, capture_name mid new (called.beside slots.Capture capture_beside) cause.2)
-
-built_to : (command : Result Command UsageFault) (old mid new : Slot → SlotView) (s : Slot) → new slots.Capture ≡ mid slots.Capture → NotBuiltCause command old mid s → NotBuiltCause command old new s
-built_to command old mid new slots.Policy p h = (h.0, h.1, capture_name mid new p h.2)
-built_to command old mid new slots.Capture p h = h
-built_to command old mid new slots.Out p h = h
-built_to command old mid new slots.Report p h = h
-built_to command old mid new slots.Note p h = h
-
-pub called_not_built : (command : Result Command UsageFault) (old mid new : Slot → SlotView) (ended : Ending) (result : Outcome) → Called command old mid new ended result →
-    (s : Slot) → result ≡ NotBuilt s → NotBuiltCause command old new s
-called_not_built command old mid new ended result called s e = built_to command old mid new s (called.beside slots.Capture capture_beside)
-    (called.ran.not_built s (seen_before ended result (NotBuilt s) (mid slots.Note) (new slots.Note) called.notes e (λ h. cc) (λ h. cc)))
 
 read_to : (command : Result Command UsageFault) (old mid new : Slot → SlotView) (s : Slot) → ((x : Slot) → x ≢ slots.Note → new x ≡ mid x) → ReadFaultCause command old mid s → ReadFaultCause command old new s
 read_to command old mid new slots.Policy beside h = (h.0, subst (λ v. IsRisen (old slots.Policy).faults v.faults) (sym (beside slots.Policy policy_beside)) h.1, capture_name mid new (beside slots.Capture capture_beside) h.2)
@@ -178,7 +179,6 @@ untold_done : (seen : Outcome) → untold seen ≡ WriteFault slots.Note → (se
 untold_done Done e none = refl
 untold_done (Usage fault) e none = absurd (none e)
 untold_done (Policy fault) e none = absurd (none e)
-untold_done (NotBuilt s) e none = absurd (none e)
 untold_done (Capture fault) e none = absurd (none e)
 untold_done (ReadFault s) e none = absurd (none e)
 untold_done (WriteFault s) e none = absurd (none e)

@@ -1,5 +1,8 @@
+mod Rows
 pub mod CallAnswers
 pub mod CallCauses
+pub mod DemoRows
+pub mod DemoRuns
 pub mod EndedRuns
 pub mod GoodCalls
 pub mod GrownHeads
@@ -9,5 +12,5 @@ pub mod OtherSlots
 pub mod PolicyEnds
 pub mod PutInSteps
 pub mod ShownPlans
+pub mod UnreadWords
 pub mod WrittenSlots
-mod Rows

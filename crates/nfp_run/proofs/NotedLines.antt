@@ -5,9 +5,9 @@ use Rattle.nfp_outside.specs.declared.slot.Slot.{Slot}
 use Rattle.nfp_outside.specs.declared.slot.Slot.TheVariants as slots
 use Rattle.nfp_outside.specs.Outside.{SlotView, Appends, AppendsPrefix}
 use Rattle.nfp_run.specs.declared.outcome.Outcome.{Outcome}
-use Rattle.nfp_run.specs.declared.outcome.Outcome.TheVariants.{Done, Usage, Policy, NotBuilt, Capture, ReadFault, WriteFault, OutOfMemory}
+use Rattle.nfp_run.specs.declared.outcome.Outcome.TheVariants.{Done, Usage, Policy, Capture, ReadFault, WriteFault, OutOfMemory}
 use Rattle.nfp_run.specs.declared.ending.Ending.{Ending}
-use Rattle.nfp_run.specs.declared.ending.Ending.TheVariants.{Completed, Planned, Refused, Stopped}
+use Rattle.nfp_run.specs.declared.ending.Ending.TheVariants.{Completed, Shown, Refused, Stopped}
 use Rattle.command_words.specs.declared.usage.UsageFault.{UsageFault}
 use Rattle.command_words.specs.Words.{Command}
 use Rattle.nfp_run.specs.Notes.{read_fault_text, write_fault_text}
@@ -15,14 +15,13 @@ use Rattle.nfp_run.specs.Due.{due_of_command}
 use Rattle.nfp_run.specs.Closing.{outcome_seen, untold, text_of, Notes}
 use Rattle.nfp_run.specs.Ran.{Ran}
 use Rattle.nfp_run.specs.Answers.{IsFinal, WhereTold, NotesPrefix}
-use Rattle.nfp_run.proofs.PutInSteps.{prefix_whole}
+use Rattle.nfp_outside.proofs.Steps.{prefix_whole}
 use Rattle.nfp_run.proofs.CallAnswers.{Called, if_told, told_always, whole_here}
 
 untold_is_not_done : (outcome : Outcome) → untold outcome ≢ Done
 untold_is_not_done Done e = cc
 untold_is_not_done (Usage fault) e = cc
 untold_is_not_done (Policy fault) e = cc
-untold_is_not_done (NotBuilt s) e = cc
 untold_is_not_done (Capture fault) e = cc
 untold_is_not_done (ReadFault s) e = cc
 untold_is_not_done (WriteFault s) e = cc
@@ -48,12 +47,11 @@ due_told command old mid ended ran final = if_told (old slots.Policy).bytes (old
 
 told_text : (command : Result Command UsageFault) (old mid : Slot → SlotView) (ended : Ending) → Ran command old mid ended → WhereTold old (λ p c. IsTold (due_of_command command p c).note (text_of ended))
 told_text command old mid (Completed totals) ran = due_told command old mid (Completed totals) ran tt
-told_text command old mid (Planned text) ran = due_told command old mid (Planned text) ran tt
+told_text command old mid (Shown text) ran = due_told command old mid (Shown text) ran tt
 told_text command old mid (Refused refusal) ran = due_told command old mid (Refused refusal) ran tt
 told_text command old mid (Stopped Done) ran = due_told command old mid (Stopped Done) ran tt
 told_text command old mid (Stopped (Usage fault)) ran = due_told command old mid (Stopped (Usage fault)) ran tt
 told_text command old mid (Stopped (Policy fault)) ran = due_told command old mid (Stopped (Policy fault)) ran tt
-told_text command old mid (Stopped (NotBuilt s)) ran = due_told command old mid (Stopped (NotBuilt s)) ran tt
 told_text command old mid (Stopped (Capture fault)) ran = due_told command old mid (Stopped (Capture fault)) ran tt
 told_text command old mid (Stopped (ReadFault s)) ran = told_always (old slots.Policy).bytes (old slots.Capture).bytes _ (λ p c. inr (inl (s, refl)))
 told_text command old mid (Stopped (WriteFault s)) ran = told_always (old slots.Policy).bytes (old slots.Capture).bytes _ (λ p c. inr (inr (inl (s, refl))))

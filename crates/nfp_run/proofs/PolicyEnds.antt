@@ -3,7 +3,6 @@ use Rattle.std.proofs.Common.{◌≡◌, ◌<◌, ◌∙◌, inl, inr, ℕ, List
 use Rattle.std.specs.Prelude.{Option, Some, None, IfSome, nat_lt, if◌then◌else◌, Ok}
 use Rattle.std.proofs.lemmas.Bool.Decides.{nat_tests}
 use Rattle.policy_judge.specs.declared.judged.Judged.{Judged}
-use Rattle.nfp_run.specs.Answers.{IsUnbuilt}
 use Rattle.nfp_run.specs.Plan.{plan_text}
 use Rattle.chain_service.specs.Services.{Chains, service_among, service_of}
 use Rattle.nfp_outside.specs.Outside.{SlotView}
@@ -14,11 +13,11 @@ use Rattle.policy_judge.specs.declared.fault.PolicyFault.TheVariants as policies
 use Rattle.policy_judge.specs.Judging.{judged, judged_text, told, Judges}
 use Rattle.policy_judge.specs.Lines.{too_long_line}
 use Rattle.nfp_run.specs.declared.ending.Ending.{Ending}
-use Rattle.nfp_run.specs.declared.ending.Ending.TheVariants.{Completed, Planned, Refused, Stopped}
-use Rattle.nfp_run.specs.declared.outcome.Outcome.TheVariants.{Done, Usage, Policy, NotBuilt, Capture, ReadFault, WriteFault, OutOfMemory}
+use Rattle.nfp_run.specs.declared.ending.Ending.TheVariants.{Completed, Shown, Refused, Stopped}
+use Rattle.nfp_run.specs.declared.outcome.Outcome.TheVariants.{Done, Usage, Policy, Capture, ReadFault, WriteFault, OutOfMemory}
 use Rattle.nfp_run.specs.declared.read.Unread.{Unread}
 use Rattle.nfp_run.specs.declared.read.Unread.TheVariants.{TooLong, Failed, NoMemory}
-use Rattle.nfp_run.specs.Reading.{IsUnread, UnreadEnds, refused_by, EndsAtPolicy, EndsBeforeCapture, IsPlanOf, PlanEnds}
+use Rattle.nfp_run.specs.Reading.{IsUnread, UnreadEnds, refused_by, EndsAtPolicy, IsPlanOf, PlanEnds}
 
 judged_long : (bytes : List ℕ) → 1048576 < length bytes → judged bytes ≡ Err (told policies.TooLong too_long_line)
 unfolding judged
@@ -40,33 +39,16 @@ pub refused_ends : (old new : SlotView) (read : List ℕ) (fault : JudgeFault) �
 refused_ends old new read (faults.Refused refusal) is due = if_told old.bytes _ _ (λ bytes e. ap judged e ∙ due) is
 refused_ends old new read faults.OutOfMemory is due = tt
 
--- what ends a call at its policy ends it before the capture
-pub policy_ends : (old new : SlotView) (ending : Ending) → EndsAtPolicy old new ending → EndsBeforeCapture old new ending
-policy_ends old new (Refused refusal) ends = ends
-policy_ends old new (Stopped (ReadFault s)) ends = ends
-policy_ends old new (Stopped OutOfMemory) ends = tt
-policy_ends old new (Stopped Done) ends = ends
-policy_ends old new (Stopped (Usage fault)) ends = ends
-policy_ends old new (Stopped (Policy fault)) ends = ends
-policy_ends old new (Stopped (NotBuilt s)) ends = absurd ends
-policy_ends old new (Stopped (Capture fault)) ends = ends
-policy_ends old new (Stopped (WriteFault s)) ends = ends
-policy_ends old new (Completed totals) ends = ends
-policy_ends old new (Planned text) ends = ends
-
 pub plan_ends : (old new : SlotView) (ending : Ending) → EndsAtPolicy old new ending → PlanEnds old new ending
 plan_ends old new (Refused refusal) ends = ends
 plan_ends old new (Stopped outcome) ends = ends
 plan_ends old new (Completed totals) ends = ends
-plan_ends old new (Planned text) ends = absurd ends
+plan_ends old new (Shown text) ends = absurd ends
 
 pub plan_shown : (o : Option (List ℕ)) (policy : Judged) (text : List ℕ) → IfSome o (λ bytes. judged bytes ≡ Ok policy) → text ≡ plan_text policy → IfSome o (λ bytes. IsPlanOf text (judged bytes))
 plan_shown o policy text told is = if_told o _ _ (λ bytes e. subst (IsPlanOf text) (sym e) is) told
 
 -- what the policy runs
-pub served : (o : Option (List ℕ)) (policy : Judged) (chains : Chains) → IfSome o (λ bytes. judged bytes ≡ Ok policy) → Some chains ≡ service_among policy.policy.chains policy.orders →
+pub served : (o : Option (List ℕ)) (policy : Judged) (chains : Chains) → IfSome o (λ bytes. judged bytes ≡ Ok policy) → chains ≡ service_among policy.policy.chains policy.orders →
     IfSome o (λ bytes. service_of (judged bytes) ≡ Some chains)
-served o policy chains told is = if_told o _ _ (λ bytes e. ap service_of e ∙ sym is) told
-
-pub unbuilt : (o : Option (List ℕ)) (policy : Judged) → IfSome o (λ bytes. judged bytes ≡ Ok policy) → None ≡ service_among policy.policy.chains policy.orders → IfSome o (λ bytes. IsUnbuilt (judged bytes))
-unbuilt o policy told is = if_told o _ _ (λ bytes e. subst IsUnbuilt (sym e) (sym is)) told
+served o policy chains told is = if_told o _ _ (λ bytes e. ap service_of e ∙ ap Some (sym is)) told

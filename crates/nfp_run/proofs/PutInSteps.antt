@@ -1,32 +1,10 @@
--- How what is put into a slot, and into Out and Report, in two steps adds up.
-use Rattle.std.proofs.Common.{◌≡◌, ◌∙◌, ℕ, List, [], ◌++◌, refl, ap, sym, append_assoc, arith}
-use Rattle.std.specs.Prelude.{Option, Some, None}
-use Rattle.std.specs.Option.{option_map}
-use Rattle.std.proofs.lemmas.List.{append-nil}
+-- How what is put into Out and Report in two steps adds up.
+use Rattle.std.proofs.Common.{ℕ, List, ◌++◌, arith}
 use Rattle.nfp_outside.specs.declared.slot.Slot.{Slot}
 use Rattle.nfp_outside.specs.declared.slot.Slot.TheVariants.{Out, Report}
-use Rattle.nfp_outside.specs.Outside.{SlotView, Appends, AppendsPrefix}
+use Rattle.nfp_outside.specs.Outside.{SlotView}
+use Rattle.nfp_outside.proofs.Steps.{appends_more, prefix_longer, prefix_more}
 use Rattle.capture_run.specs.Slots.{IsLater, Puts, PutsPrefixes}
-
-map_twice : (a b : List ℕ) (o : Option (List ℕ)) → option_map (λ before. before ++ b) (option_map (λ before. before ++ a) o) ≡ option_map (λ before. before ++ (a ++ b)) o
-map_twice a b None = refl
-map_twice a b (Some bytes) = ap (λ x. Some x) (append_assoc bytes a b)
-
-appends_more : (a b : List ℕ) (x y z : SlotView) → Appends a x y → Appends b y z → Appends (a ++ b) x z
-appends_more a b x y z first second = record {
-  same_name = second.same_name ∙ first.same_name;
-  content = second.content ∙ ap (option_map (λ before. before ++ b)) first.content ∙ map_twice a b x.bytes;
-}
-
-prefix_more : (a b : List ℕ) (x y z : SlotView) → Appends a x y → AppendsPrefix b y z → AppendsPrefix (a ++ b) x z
-prefix_more a b x y z first p = record { done = a ++ p.done; rest = p.rest; parts = ap (λ l. a ++ l) p.parts ∙ sym (append_assoc a p.done p.rest); appended = appends_more a p.done x y z first p.appended }
-
-prefix_longer : (a b : List ℕ) (x y : SlotView) → AppendsPrefix a x y → AppendsPrefix (a ++ b) x y
-prefix_longer a b x y p = record { done = p.done; rest = p.rest ++ b; parts = ap (λ l. l ++ b) p.parts ∙ append_assoc p.done p.rest b; appended = p.appended }
-
--- the whole is a front part
-pub prefix_whole : (a : List ℕ) (x y : SlotView) → Appends a x y → AppendsPrefix a x y
-prefix_whole a x y appended = record { done = a; rest = []; parts = sym (append-nil a); appended = appended }
 
 later_more : (old mid new : Slot → SlotView) → IsLater old mid → IsLater mid new → IsLater old new
 later_more old mid new a b = record {

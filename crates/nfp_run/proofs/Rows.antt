@@ -37,8 +37,7 @@ use Rattle.nf_observe.specs.StateLines.{flow_line, endpoint_text}
 use Rattle.first_sight.specs.Addresses.{dotted}
 use Rattle.chain_walk.specs.Walk.{walk}
 use Rattle.nfp_run.specs.declared.outcome.Outcome.TheVariants.{Done, Policy, Capture}
-use Rattle.command_words.specs.Words.{Command, Run, Plan}
-use Rattle.nfp_run.specs.Due.{due_of_policy, nothing_but}
+use Rattle.nfp_run.specs.Due.{due_of_plan, due_of_run, nothing_but}
 use Rattle.service_walk.specs.Service.{fates_among, chains_after}
 use Rattle.burst_walk.specs.Fates.{fates_of, chains_behind}
 use Rattle.capture_run.specs.Emitted.{emitted_all, out_bytes}
@@ -69,9 +68,6 @@ ninth = 0 ∷ 0 ∷ 0 ∷ 0 ∷ 0 ∷ 0 ∷ 0 ∷ 0 ∷ 42 ∷ 0 ∷ 0 ∷ 0 ∷
 capture : List ℕ
 capture = head ++ (first ++ (ninth ++ first))
 
-run_command : Command
-run_command = Run (record { policy = codes "p"; capture = codes "c"; out = codes "o"; report = codes "r" })
-
 -- what a text of ASCII characters is worth
 worth : List ℕ → Result Judged Refusal
 worth text = judged_text (policy_of_utf8 text)
@@ -80,7 +76,7 @@ deny : List ℕ
 deny = codes "nfp 1\nchain main\nfn fw firewall\nrule deny src 10.0.0.9\n"
 
 -- the second packet is dropped
-deny_written : due_of_policy run_command (worth deny) capture ≡ record {
+deny_written : due_of_run (worth deny) capture ≡ record {
   outcome = Done;
   written = Some (record {
     out = head ++ (first ++ first);
@@ -88,14 +84,14 @@ deny_written : due_of_policy run_command (worth deny) capture ≡ record {
   });
   note = codes "done records 3 emitted 2 dropped 1\n";
 }
-unfolding run_command worth making_of profile_by step_by lines_of deny policy_of_utf8 after_line orders_from answer_of edges_of taken stuck named_cycle from_earliest cycle_back first_refusal head first ninth capture body_of head_bytes record_head tags_len is_ipv4 walk fates_among chains_after fates_of chains_behind emitted_all out_bytes report_bytes drop_text drop_lines total_line last_line summary done_text digits words is_changed change_sum has_same_places has_transport passes line_of function_text chain_lines copies_due copies_lines copies_made written_in graph_of placed holds_back is_forbidden branch_reads branch_writes touch_of stage_parts mode_of copies pair_of first_forbidden pairs actions all_actions is_copied copied
+unfolding worth making_of profile_by step_by lines_of deny policy_of_utf8 after_line orders_from answer_of edges_of taken stuck named_cycle from_earliest cycle_back first_refusal head first ninth capture body_of head_bytes record_head tags_len is_ipv4 walk fates_among chains_after fates_of chains_behind emitted_all out_bytes report_bytes drop_text drop_lines total_line last_line summary done_text digits words is_changed change_sum has_same_places has_transport passes line_of function_text chain_lines copies_due copies_lines copies_made written_in graph_of placed holds_back is_forbidden branch_reads branch_writes touch_of stage_parts mode_of copies pair_of first_forbidden pairs actions all_actions is_copied copied
 deny_written = refl
 
 -- b stands before a, and denies what no rule of its own allows: only the second packet passes it, and a drops that
 two : List ℕ
 two = codes "nfp 1\nchain main\nfn a firewall\nrule deny src 10.0.0.9\nfn b firewall\nset default deny\nrule allow proto udp dport 50-60 src 10.0.0.8/30\norder b before a\n"
 
-two_written : due_of_policy run_command (worth two) capture ≡ record {
+two_written : due_of_run (worth two) capture ≡ record {
   outcome = Done;
   written = Some (record {
     out = head;
@@ -103,11 +99,11 @@ two_written : due_of_policy run_command (worth two) capture ≡ record {
   });
   note = codes "done records 3 emitted 0 dropped 3\n";
 }
-unfolding run_command worth making_of profile_by step_by lines_of two policy_of_utf8 after_line orders_from answer_of edges_of taken stuck named_cycle from_earliest cycle_back first_refusal head first ninth capture body_of head_bytes record_head tags_len is_ipv4 walk fates_among chains_after fates_of chains_behind emitted_all out_bytes report_bytes drop_text drop_lines total_line last_line summary done_text digits words is_changed change_sum has_same_places has_transport passes line_of function_text chain_lines copies_due copies_lines copies_made written_in graph_of placed holds_back is_forbidden branch_reads branch_writes touch_of stage_parts mode_of copies pair_of first_forbidden pairs actions all_actions is_copied copied
+unfolding worth making_of profile_by step_by lines_of two policy_of_utf8 after_line orders_from answer_of edges_of taken stuck named_cycle from_earliest cycle_back first_refusal head first ninth capture body_of head_bytes record_head tags_len is_ipv4 walk fates_among chains_after fates_of chains_behind emitted_all out_bytes report_bytes drop_text drop_lines total_line last_line summary done_text digits words is_changed change_sum has_same_places has_transport passes line_of function_text chain_lines copies_due copies_lines copies_made written_in graph_of placed holds_back is_forbidden branch_reads branch_writes touch_of stage_parts mode_of copies pair_of first_forbidden pairs actions all_actions is_copied copied
 two_written = refl
 
 -- cut inside the third record: the two before it are done, and the report ends with the fault
-cut_written : due_of_policy run_command (worth deny) (head ++ (first ++ (ninth ++ take 30 first))) ≡ record {
+cut_written : due_of_run (worth deny) (head ++ (first ++ (ninth ++ take 30 first))) ≡ record {
   outcome = Capture (CutRecord 3);
   written = Some (record {
     out = head ++ first;
@@ -115,14 +111,14 @@ cut_written : due_of_policy run_command (worth deny) (head ++ (first ++ (ninth +
   });
   note = codes "capture: cut record 3\n";
 }
-unfolding run_command worth making_of profile_by step_by lines_of deny capture_text policy_of_utf8 after_line orders_from answer_of edges_of taken stuck named_cycle from_earliest cycle_back first_refusal head first ninth capture body_of head_bytes record_head tags_len is_ipv4 walk fates_among chains_after fates_of chains_behind emitted_all out_bytes report_bytes drop_text drop_lines total_line last_line summary done_text digits words is_changed change_sum has_same_places has_transport passes line_of function_text chain_lines copies_due copies_lines copies_made written_in graph_of placed holds_back is_forbidden branch_reads branch_writes touch_of stage_parts mode_of copies pair_of first_forbidden pairs actions all_actions is_copied copied
+unfolding worth making_of profile_by step_by lines_of deny capture_text policy_of_utf8 after_line orders_from answer_of edges_of taken stuck named_cycle from_earliest cycle_back first_refusal head first ninth capture body_of head_bytes record_head tags_len is_ipv4 walk fates_among chains_after fates_of chains_behind emitted_all out_bytes report_bytes drop_text drop_lines total_line last_line summary done_text digits words is_changed change_sum has_same_places has_transport passes line_of function_text chain_lines copies_due copies_lines copies_made written_in graph_of placed holds_back is_forbidden branch_reads branch_writes touch_of stage_parts mode_of copies pair_of first_forbidden pairs actions all_actions is_copied copied
 cut_written = refl
 
 -- the second packet is dropped by the first function, which stands beside the other, and the others by that
 beside : List ℕ
 beside = codes "nfp 1\nchain main\nfn f1 firewall\nrule deny src 10.0.0.9\nfn f2 firewall\nrule deny src 10.0.0.0/8\n"
 
-beside_written : due_of_policy run_command (worth beside) capture ≡ record {
+beside_written : due_of_run (worth beside) capture ≡ record {
   outcome = Done;
   written = Some (record {
     out = head;
@@ -130,14 +126,14 @@ beside_written : due_of_policy run_command (worth beside) capture ≡ record {
   });
   note = codes "done records 3 emitted 0 dropped 3\n";
 }
-unfolding run_command worth making_of profile_by step_by lines_of beside policy_of_utf8 after_line orders_from answer_of edges_of taken stuck named_cycle from_earliest cycle_back first_refusal head first ninth capture body_of head_bytes record_head tags_len is_ipv4 walk fates_among chains_after fates_of chains_behind emitted_all out_bytes report_bytes drop_text drop_lines total_line last_line summary done_text digits words is_changed change_sum has_same_places has_transport passes line_of function_text chain_lines copies_due copies_lines copies_made written_in graph_of placed holds_back is_forbidden branch_reads branch_writes touch_of stage_parts mode_of copies pair_of first_forbidden pairs actions all_actions is_copied copied
+unfolding worth making_of profile_by step_by lines_of beside policy_of_utf8 after_line orders_from answer_of edges_of taken stuck named_cycle from_earliest cycle_back first_refusal head first ninth capture body_of head_bytes record_head tags_len is_ipv4 walk fates_among chains_after fates_of chains_behind emitted_all out_bytes report_bytes drop_text drop_lines total_line last_line summary done_text digits words is_changed change_sum has_same_places has_transport passes line_of function_text chain_lines copies_due copies_lines copies_made written_in graph_of placed holds_back is_forbidden branch_reads branch_writes touch_of stage_parts mode_of copies pair_of first_forbidden pairs actions all_actions is_copied copied
 beside_written = refl
 
 -- A monitor in front of a firewall counts what that drops, too, and the report tells its flows in the order of first sight.
 counting : List ℕ
 counting = codes "nfp 1\nchain main\nfn mon monitor\nfn fw firewall\nrule deny src 10.0.0.9\norder mon before fw\n"
 
-counting_written : due_of_policy run_command (worth counting) capture ≡ record {
+counting_written : due_of_run (worth counting) capture ≡ record {
   outcome = Done;
   written = Some (record {
     out = head ++ (first ++ first);
@@ -145,14 +141,14 @@ counting_written : due_of_policy run_command (worth counting) capture ≡ record
   });
   note = codes "done records 3 emitted 2 dropped 1\n";
 }
-unfolding run_command worth making_of profile_by step_by lines_of counting policy_of_utf8 after_line orders_from answer_of edges_of taken stuck named_cycle from_earliest cycle_back first_refusal head first ninth capture body_of head_bytes record_head tags_len is_ipv4 walk fates_among chains_after fates_of chains_behind emitted_all out_bytes report_bytes drop_text drop_lines total_line last_line summary done_text digits words is_changed change_sum has_same_places has_transport passes line_of function_text chain_lines copies_due copies_lines copies_made written_in graph_of placed holds_back is_forbidden branch_reads branch_writes touch_of stage_parts mode_of copies pair_of first_forbidden pairs actions all_actions is_copied copied flow_line endpoint_text dotted
+unfolding worth making_of profile_by step_by lines_of counting policy_of_utf8 after_line orders_from answer_of edges_of taken stuck named_cycle from_earliest cycle_back first_refusal head first ninth capture body_of head_bytes record_head tags_len is_ipv4 walk fates_among chains_after fates_of chains_behind emitted_all out_bytes report_bytes drop_text drop_lines total_line last_line summary done_text digits words is_changed change_sum has_same_places has_transport passes line_of function_text chain_lines copies_due copies_lines copies_made written_in graph_of placed holds_back is_forbidden branch_reads branch_writes touch_of stage_parts mode_of copies pair_of first_forbidden pairs actions all_actions is_copied copied flow_line endpoint_text dotted
 counting_written = refl
 
 -- The clauses of both chains are met by the second packet, and the first chain takes it. The others meet the second chain's alone.
 overlapping : List ℕ
 overlapping = codes "nfp 1\nchain ninth match src 10.0.0.9\nfn n firewall\nset default deny\nchain all match src 10.0.0.0/8\nfn a firewall\nrule deny src 10.0.0.1\n"
 
-overlapping_written : due_of_policy run_command (worth overlapping) capture ≡ record {
+overlapping_written : due_of_run (worth overlapping) capture ≡ record {
   outcome = Done;
   written = Some (record {
     out = head;
@@ -160,7 +156,7 @@ overlapping_written : due_of_policy run_command (worth overlapping) capture ≡ 
   });
   note = codes "done records 3 emitted 0 dropped 3\n";
 }
-unfolding run_command worth making_of profile_by step_by lines_of overlapping policy_of_utf8 after_line orders_from answer_of edges_of taken stuck named_cycle from_earliest cycle_back first_refusal head first ninth capture body_of head_bytes record_head tags_len is_ipv4 walk fates_among chains_after fates_of chains_behind emitted_all out_bytes report_bytes drop_text drop_lines total_line last_line summary done_text digits words is_changed change_sum has_same_places has_transport passes line_of function_text chain_lines copies_due copies_lines copies_made written_in graph_of placed holds_back is_forbidden branch_reads branch_writes touch_of stage_parts mode_of copies pair_of first_forbidden pairs actions all_actions is_copied copied
+unfolding worth making_of profile_by step_by lines_of overlapping policy_of_utf8 after_line orders_from answer_of edges_of taken stuck named_cycle from_earliest cycle_back first_refusal head first ninth capture body_of head_bytes record_head tags_len is_ipv4 walk fates_among chains_after fates_of chains_behind emitted_all out_bytes report_bytes drop_text drop_lines total_line last_line summary done_text digits words is_changed change_sum has_same_places has_transport passes line_of function_text chain_lines copies_due copies_lines copies_made written_in graph_of placed holds_back is_forbidden branch_reads branch_writes touch_of stage_parts mode_of copies pair_of first_forbidden pairs actions all_actions is_copied copied
 overlapping_written = refl
 
 -- a frame of 14 bytes that is no IPv4, and its record
@@ -171,7 +167,7 @@ other = 0 ∷ 0 ∷ 0 ∷ 0 ∷ 0 ∷ 0 ∷ 0 ∷ 0 ∷ 14 ∷ 0 ∷ 0 ∷ 0 ∷
 untaken : List ℕ
 untaken = codes "nfp 1\nchain one match src 10.0.0.1\nfn fw firewall\nset default deny\n"
 
-untaken_written : due_of_policy run_command (worth untaken) (head ++ (first ++ (other ++ ninth))) ≡ record {
+untaken_written : due_of_run (worth untaken) (head ++ (first ++ (other ++ ninth))) ≡ record {
   outcome = Done;
   written = Some (record {
     out = head ++ (other ++ ninth);
@@ -179,25 +175,25 @@ untaken_written : due_of_policy run_command (worth untaken) (head ++ (first ++ (
   });
   note = codes "done records 3 emitted 2 dropped 1\n";
 }
-unfolding run_command worth making_of profile_by step_by lines_of untaken other policy_of_utf8 after_line orders_from answer_of edges_of taken stuck named_cycle from_earliest cycle_back first_refusal head first ninth capture body_of head_bytes record_head tags_len is_ipv4 walk fates_among chains_after fates_of chains_behind emitted_all out_bytes report_bytes drop_text drop_lines total_line last_line summary done_text digits words is_changed change_sum has_same_places has_transport passes line_of function_text chain_lines copies_due copies_lines copies_made written_in graph_of placed holds_back is_forbidden branch_reads branch_writes touch_of stage_parts mode_of copies pair_of first_forbidden pairs actions all_actions is_copied copied
+unfolding worth making_of profile_by step_by lines_of untaken other policy_of_utf8 after_line orders_from answer_of edges_of taken stuck named_cycle from_earliest cycle_back first_refusal head first ninth capture body_of head_bytes record_head tags_len is_ipv4 walk fates_among chains_after fates_of chains_behind emitted_all out_bytes report_bytes drop_text drop_lines total_line last_line summary done_text digits words is_changed change_sum has_same_places has_transport passes line_of function_text chain_lines copies_due copies_lines copies_made written_in graph_of placed holds_back is_forbidden branch_reads branch_writes touch_of stage_parts mode_of copies pair_of first_forbidden pairs actions all_actions is_copied copied
 untaken_written = refl
 
 -- a chain without functions lets its packets pass
-idle_written : due_of_policy run_command (worth (codes "nfp 1\nchain idle match src 10.0.0.9\n")) capture ≡ record {
+idle_written : due_of_run (worth (codes "nfp 1\nchain idle match src 10.0.0.9\n")) capture ≡ record {
   outcome = Done;
   written = Some (record { out = capture; report = codes "nfp report 1\nrecords 3 emitted 3 dropped 0\nend\n" });
   note = codes "done records 3 emitted 3 dropped 0\n";
 }
-unfolding run_command worth policy_of_utf8 after_line orders_from answer_of edges_of taken stuck named_cycle from_earliest cycle_back first_refusal head first ninth capture body_of head_bytes record_head tags_len is_ipv4 walk fates_among chains_after fates_of chains_behind emitted_all out_bytes report_bytes drop_text drop_lines total_line last_line summary done_text digits words is_changed change_sum has_same_places has_transport passes line_of function_text chain_lines copies_due copies_lines copies_made written_in graph_of placed holds_back is_forbidden branch_reads branch_writes touch_of stage_parts mode_of copies pair_of first_forbidden pairs actions all_actions is_copied copied
+unfolding worth policy_of_utf8 after_line orders_from answer_of edges_of taken stuck named_cycle from_earliest cycle_back first_refusal head first ninth capture body_of head_bytes record_head tags_len is_ipv4 walk fates_among chains_after fates_of chains_behind emitted_all out_bytes report_bytes drop_text drop_lines total_line last_line summary done_text digits words is_changed change_sum has_same_places has_transport passes line_of function_text chain_lines copies_due copies_lines copies_made written_in graph_of placed holds_back is_forbidden branch_reads branch_writes touch_of stage_parts mode_of copies pair_of first_forbidden pairs actions all_actions is_copied copied
 idle_written = refl
 
 -- without chains every packet passes, and the report has the totals and the end alone
-no_chains_written : due_of_policy run_command (worth (codes "nfp 1\n")) capture ≡ record {
+no_chains_written : due_of_run (worth (codes "nfp 1\n")) capture ≡ record {
   outcome = Done;
   written = Some (record { out = capture; report = codes "nfp report 1\nrecords 3 emitted 3 dropped 0\nend\n" });
   note = codes "done records 3 emitted 3 dropped 0\n";
 }
-unfolding run_command worth policy_of_utf8 after_line orders_from answer_of edges_of taken stuck named_cycle from_earliest cycle_back first_refusal head first ninth capture body_of head_bytes record_head tags_len is_ipv4 walk fates_among chains_after fates_of chains_behind emitted_all out_bytes report_bytes drop_text drop_lines total_line last_line summary done_text digits words is_changed change_sum has_same_places has_transport passes line_of function_text chain_lines copies_due copies_lines copies_made written_in graph_of placed holds_back is_forbidden branch_reads branch_writes touch_of stage_parts mode_of copies pair_of first_forbidden pairs actions all_actions is_copied copied
+unfolding worth policy_of_utf8 after_line orders_from answer_of edges_of taken stuck named_cycle from_earliest cycle_back first_refusal head first ninth capture body_of head_bytes record_head tags_len is_ipv4 walk fates_among chains_after fates_of chains_behind emitted_all out_bytes report_bytes drop_text drop_lines total_line last_line summary done_text digits words is_changed change_sum has_same_places has_transport passes line_of function_text chain_lines copies_due copies_lines copies_made written_in graph_of placed holds_back is_forbidden branch_reads branch_writes touch_of stage_parts mode_of copies pair_of first_forbidden pairs actions all_actions is_copied copied
 no_chains_written = refl
 
 -- the snaplen that is written where a capture with this snaplen runs through the chains of a text; 0 of a text that is refused
@@ -230,42 +226,42 @@ unfolding copies_lines copies_text digits
 copies_told = refl
 
 -- a capture of no bytes has no head, and nothing is written
-no_head : due_of_policy run_command (worth deny) [] ≡ nothing_but (Capture CutHead) (codes "capture: cut head\n")
-unfolding run_command worth making_of deny capture_text line_of policy_of_utf8 after_line orders_from answer_of edges_of taken stuck named_cycle from_earliest cycle_back first_refusal
+no_head : due_of_run (worth deny) [] ≡ nothing_but (Capture CutHead) (codes "capture: cut head\n")
+unfolding worth making_of deny capture_text line_of policy_of_utf8 after_line orders_from answer_of edges_of taken stuck named_cycle from_earliest cycle_back first_refusal
 no_head = refl
 
 -- a policy without chains has an empty plan, which doesn't look at the capture
-plan_shown : due_of_policy (Plan (codes "p")) (worth (codes "nfp 1\n")) [] ≡ nothing_but Done []
+plan_shown : due_of_plan (worth (codes "nfp 1\n")) ≡ nothing_but Done []
 unfolding worth plan_text policy_of_utf8 after_line orders_from
 plan_shown = refl
 
 -- no text at all has no version line
-no_policy : due_of_policy run_command (worth []) [] ≡ nothing_but (Policy (Text BadVersionLine)) (codes "policy: bad version line\n")
-unfolding run_command worth text_line policy_of_utf8
+no_policy : due_of_run (worth []) [] ≡ nothing_but (Policy (Text BadVersionLine)) (codes "policy: bad version line\n")
+unfolding worth text_line policy_of_utf8
 no_policy = refl
 
 -- a translation without a public address is told by its own line
-no_public : due_of_policy run_command (worth (codes "nfp 1\nchain main\nfn n nat\nset inside 10.0.0.0/8\nset ports 40000-40000\n")) [] ≡ nothing_but (Policy (BadSetting 3)) (codes "policy: line 3: bad setting\n")
-unfolding run_command worth making_of setting_line digits nat_line_of policy_of_utf8 after_line
+no_public : due_of_run (worth (codes "nfp 1\nchain main\nfn n nat\nset inside 10.0.0.0/8\nset ports 40000-40000\n")) [] ≡ nothing_but (Policy (BadSetting 3)) (codes "policy: line 3: bad setting\n")
+unfolding worth making_of setting_line digits nat_line_of policy_of_utf8 after_line
 no_public = refl
 
 -- bytes that are no UTF-8
-no_text : due_of_policy run_command (judged_text (Err (NotUtf8 0))) [] ≡ nothing_but (Policy (Text (NotUtf8 0))) (codes "policy: not utf-8 at 0\n")
-unfolding run_command text_line digits
+no_text : due_of_run (judged_text (Err (NotUtf8 0))) [] ≡ nothing_but (Policy (Text (NotUtf8 0))) (codes "policy: not utf-8 at 0\n")
+unfolding text_line digits
 no_text = refl
 
 -- a line that a function refuses counts before a cycle
-bad_setting : due_of_policy run_command (worth (codes "nfp 1\nchain a\nfn f firewall\nrule pass\norder f before f\n")) [] ≡ nothing_but (Policy (BadSetting 4)) (codes "policy: line 4: bad setting\n")
-unfolding run_command worth making_of setting_line digits line_of policy_of_utf8 after_line
+bad_setting : due_of_run (worth (codes "nfp 1\nchain a\nfn f firewall\nrule pass\norder f before f\n")) [] ≡ nothing_but (Policy (BadSetting 4)) (codes "policy: line 4: bad setting\n")
+unfolding worth making_of setting_line digits line_of policy_of_utf8 after_line
 bad_setting = refl
 
-cycle : due_of_policy run_command (worth (codes "nfp 1\nchain main\nfn a monitor\nfn b monitor\norder a before b\npriority a > b\n")) []
+cycle : due_of_run (worth (codes "nfp 1\nchain main\nfn a monitor\nfn b monitor\norder a before b\npriority a > b\n")) []
     ≡ nothing_but (Policy (Check 0 (Cycle (0 ∷ 1 ∷ [])))) (codes "policy: cycle a b\n")
-unfolding run_command worth making_of check_line policy_of_utf8 after_line orders_from answer_of edges_of taken stuck named_cycle from_earliest cycle_back first_refusal
+unfolding worth making_of check_line policy_of_utf8 after_line orders_from answer_of edges_of taken stuck named_cycle from_earliest cycle_back first_refusal
 cycle = refl
 
 -- a monitor over a translation
-forbidden : due_of_policy run_command (worth (codes "nfp 1\nchain main\nfn mon monitor\nfn n nat\nset inside 10.0.0.0/8\nset public 192.0.2.1\nset ports 40000-40009\npriority mon > n\n")) []
+forbidden : due_of_run (worth (codes "nfp 1\nchain main\nfn mon monitor\nfn n nat\nset inside 10.0.0.0/8\nset public 192.0.2.1\nset ports 40000-40009\npriority mon > n\n")) []
     ≡ nothing_but (Policy (Check 0 (PriorityForbidden 0 1 8 (Write SrcIp) (Read SrcIp)))) (codes "policy: line 8: priority mon over n forbidden: write src before read src\n")
-unfolding run_command worth making_of nat_line_of check_line priority_line digits pair_of first_forbidden pairs actions all_actions is_copied copied policy_of_utf8 after_line orders_from answer_of edges_of taken stuck named_cycle from_earliest cycle_back first_refusal
+unfolding worth making_of nat_line_of check_line priority_line digits pair_of first_forbidden pairs actions all_actions is_copied copied policy_of_utf8 after_line orders_from answer_of edges_of taken stuck named_cycle from_earliest cycle_back first_refusal
 forbidden = refl

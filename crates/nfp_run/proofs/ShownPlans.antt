@@ -1,4 +1,4 @@
--- The plan of a policy, chain by chain, and what a call that shows it leaves.
+-- The plan of a policy, chain by chain, and what a call leaves that shows it, or shows a demo.
 use Rattle.std.proofs.Common.{◌≡◌, ◌≢◌, ◌<◌, ◌≤◌, ◌⊎◌, ◌∙◌, inl, ℕ, List, [], ◌∷◌, ◌++◌, length, drop, get_or, zero, suc, ◌+◌, append_assoc, refl, ap, sym, subst, arith}
 use Rattle.std.specs.Prelude.{Option, Some, None, IfSome, IsOk, Result, Ok, Err}
 use Rattle.std.specs.List.{AllZip, range_with_len}
@@ -17,16 +17,18 @@ use Rattle.policy_judge.specs.declared.fault.Refusal.{Refusal}
 use Rattle.policy_judge.specs.declared.judged.Judged.{Judged}
 use Rattle.policy_judge.specs.Judging.{judged}
 use Rattle.nfp_run.specs.declared.ending.Ending.{Ending}
-use Rattle.nfp_run.specs.declared.ending.Ending.TheVariants.{Completed, Planned, Refused, Stopped}
-use Rattle.nfp_run.specs.declared.outcome.Outcome.TheVariants.{Done, Usage, Policy, NotBuilt, Capture, ReadFault, WriteFault, OutOfMemory}
+use Rattle.nfp_run.specs.declared.ending.Ending.TheVariants.{Completed, Shown, Refused, Stopped}
+use Rattle.nfp_run.specs.declared.outcome.Outcome.TheVariants.{Done, Usage, Policy, Capture, ReadFault, WriteFault, OutOfMemory}
 use Rattle.command_words.specs.declared.usage.UsageFault.{UsageFault}
-use Rattle.command_words.specs.Words.{Command, Plan}
-use Rattle.nfp_run.specs.Due.{due_of_policy, due_of_command}
+use Rattle.command_words.specs.declared.requests.DemoInput.{DemoInput}
+use Rattle.command_words.specs.declared.requests.RunOptions.{RunOptions}
+use Rattle.command_words.specs.Words.{Command, Plan, Demo}
+use Rattle.nfp_run.specs.Due.{due_of_plan, due_of_command}
 use Rattle.nfp_run.specs.Answers.{IsUntouched, LeavesPrefixes, WhereTold, HasNames, IsFaultOf, NoneAttached, ReadFaultCause}
 use Rattle.nfp_run.specs.Closing.{EndsDue}
 use Rattle.plan_text.specs.Plan.{chain_plan}
 use Rattle.nfp_run.specs.Ran.{Ran}
-use Rattle.nfp_run.specs.Reading.{IsPlanOf, PlanEnds}
+use Rattle.nfp_run.specs.Reading.{DemoEnds, IsPlanOf, PlanEnds}
 use Rattle.nfp_run.proofs.HeldBytes.{untouched_same}
 use Rattle.nfp_run.proofs.PolicyEnds.{if_told}
 
@@ -46,25 +48,25 @@ both_told None b P Q f h = tt
 both_told (Some p) None P Q f h = tt
 both_told (Some p) (Some c) P Q f h = f p c h
 
-both_always : (a b : Option (List ℕ)) (Q : List ℕ → List ℕ → Type 0) → ((p c : List ℕ) → Q p c) → IfSome a (λ p. IfSome b (Q p))
+pub both_always : (a b : Option (List ℕ)) (Q : List ℕ → List ℕ → Type 0) → ((p c : List ℕ) → Q p c) → IfSome a (λ p. IfSome b (Q p))
 both_always None b Q f = tt
 both_always (Some p) None Q f = tt
 both_always (Some p) (Some c) Q f = f p c
 
 -- a plan writes nothing
-no_written : (name : List ℕ) (r : Result Judged Refusal) (c : List ℕ) (old new : Slot → SlotView) → Beside old new → LeavesPrefixes (due_of_policy (Plan name) r c).written old new
-no_written name (Ok policy) c old new b = leaves_both old new b
-no_written name (Err refusal) c old new b = leaves_both old new b
+no_written : (r : Result Judged Refusal) (old new : Slot → SlotView) → Beside old new → LeavesPrefixes (due_of_plan r).written old new
+no_written (Ok policy) old new b = leaves_both old new b
+no_written (Err refusal) old new b = leaves_both old new b
 
 prefixes_none : (name : List ℕ) (old new : Slot → SlotView) → Beside old new → WhereTold old (λ p c. LeavesPrefixes (due_of_command (Ok (Plan name)) p c).written old new)
-prefixes_none name old new b = both_always (old slots.Policy).bytes (old slots.Capture).bytes _ (λ p c. no_written name (judged p) c old new b)
+prefixes_none name old new b = both_always (old slots.Policy).bytes (old slots.Capture).bytes _ (λ p c. no_written (judged p) old new b)
 
-plan_due : (name text : List ℕ) (r : Result Judged Refusal) (c : List ℕ) (old new : Slot → SlotView) → Beside old new → IsPlanOf text r → EndsDue (due_of_policy (Plan name) r c) old new (Planned text)
-plan_due name text (Ok policy) c old new b is = record { answer = refl; left = leaves_both old new b; note = is }
-plan_due name text (Err refusal) c old new b is = absurd is
+plan_due : (text : List ℕ) (r : Result Judged Refusal) (old new : Slot → SlotView) → Beside old new → IsPlanOf text r → EndsDue (due_of_plan r) old new (Shown text)
+plan_due text (Ok policy) old new b is = record { answer = refl; left = leaves_both old new b; note = is }
+plan_due text (Err refusal) old new b is = absurd is
 
-fault_due : (command : Command) (refusal : Refusal) (r : Result Judged Refusal) (c : List ℕ) (old new : Slot → SlotView) → Beside old new → r ≡ Err refusal → EndsDue (due_of_policy command r c) old new (Refused refusal)
-fault_due command refusal r c old new b is = subst (λ x. EndsDue (due_of_policy command x c) old new (Refused refusal)) (sym is) (record { answer = refl; left = leaves_both old new b; note = refl })
+fault_due : (refusal : Refusal) (r : Result Judged Refusal) (old new : Slot → SlotView) → Beside old new → r ≡ Err refusal → EndsDue (due_of_plan r) old new (Refused refusal)
+fault_due refusal r old new b is = subst (λ x. EndsDue (due_of_plan x) old new (Refused refusal)) (sym is) (record { answer = refl; left = leaves_both old new b; note = refl })
 
 plan_names : (name : List ℕ) (old new : Slot → SlotView) → Beside old new → ((new slots.Policy).name ≡ None) ⊎ ((new slots.Policy).name ≡ Some name) → HasNames (Ok (Plan name)) new
 plan_names name old new b policy slots.Policy = policy
@@ -101,8 +103,8 @@ plan_ran name old new ending free named others ends = go ending ends
     no_capture = beside_name old new b slots.Capture (λ h. cc)
 
     go : (e : Ending) → PlanEnds (old slots.Policy) (new slots.Policy) e → Ran (Ok (Plan name)) old new e
-    go (Planned text) h = record {
-      due = λ f. both_told (old slots.Policy).bytes (old slots.Capture).bytes _ _ (λ p c is. plan_due name text (judged p) c old new b is) h;
+    go (Shown text) h = record {
+      due = λ f. both_told (old slots.Policy).bytes (old slots.Capture).bytes _ _ (λ p c is. plan_due text (judged p) old new b is) h;
       prefixes = prefixes_none name old new b;
       within = tt;
       names_are = plan_names name old new b named;
@@ -111,14 +113,13 @@ plan_ran name old new ending free named others ends = go ending ends
       usage = λ fault x. absurd cc;
       usage_always = λ fault x. absurd cc;
       refused = λ fault x. absurd cc;
-      not_built = λ s x. absurd cc;
       policy = if_told (old slots.Policy).bytes _ _ (λ p is. planned_ok text (judged p) is) h;
       read_faults = λ s x. absurd cc;
       write_faults = λ s x. absurd cc;
       no_note_fault = λ x. cc;
     }
     go (Refused refusal) h = record {
-      due = λ f. both_told (old slots.Policy).bytes (old slots.Capture).bytes _ _ (λ p c is. fault_due (Plan name) refusal (judged p) c old new b is) h;
+      due = λ f. both_told (old slots.Policy).bytes (old slots.Capture).bytes _ _ (λ p c is. fault_due refusal (judged p) old new b is) h;
       prefixes = prefixes_none name old new b;
       within = tt;
       names_are = plan_names name old new b named;
@@ -126,8 +127,7 @@ plan_ran name old new ending free named others ends = go ending ends
       note_stays = others slots.Note (λ x. cc);
       usage = λ fault x. absurd cc;
       usage_always = λ fault x. absurd cc;
-      refused = λ fault x. (refl, if_told (old slots.Policy).bytes _ _ (λ p is. told_fault fault refusal (judged p) is (same_fault refusal.fault fault x)) h, no_capture);
-      not_built = λ s x. absurd cc;
+      refused = λ fault x. (tt, if_told (old slots.Policy).bytes _ _ (λ p is. told_fault fault refusal (judged p) is (same_fault refusal.fault fault x)) h, no_capture);
       policy = tt;
       read_faults = λ s x. absurd cc;
       write_faults = λ s x. absurd cc;
@@ -143,9 +143,8 @@ plan_ran name old new ending free named others ends = go ending ends
       usage = λ fault x. absurd cc;
       usage_always = λ fault x. absurd cc;
       refused = λ fault x. absurd cc;
-      not_built = λ t x. absurd cc;
       policy = tt;
-      read_faults = λ t x. subst (ReadFaultCause (Ok (Plan name)) old new) (sym h.0 ∙ same_slot s t x) (refl, h.1, no_capture);
+      read_faults = λ t x. subst (ReadFaultCause (Ok (Plan name)) old new) (sym h.0 ∙ same_slot s t x) (tt, h.1, no_capture);
       write_faults = λ t x. absurd cc;
       no_note_fault = λ x. cc;
     }
@@ -159,7 +158,6 @@ plan_ran name old new ending free named others ends = go ending ends
       usage = λ fault x. absurd cc;
       usage_always = λ fault x. absurd cc;
       refused = λ fault x. absurd cc;
-      not_built = λ t x. absurd cc;
       policy = tt;
       read_faults = λ t x. absurd cc;
       write_faults = λ t x. absurd cc;
@@ -168,9 +166,55 @@ plan_ran name old new ending free named others ends = go ending ends
     go (Stopped Done) h = absurd h
     go (Stopped (Usage fault)) h = absurd h
     go (Stopped (Policy fault)) h = absurd h
-    go (Stopped (NotBuilt s)) h = absurd h
     go (Stopped (Capture fault)) h = absurd h
     go (Stopped (WriteFault s)) h = absurd h
+    go (Completed totals) h = absurd h
+
+-- what stands after a demo
+pub demo_ran : (input : DemoInput) (options : RunOptions) (old : Slot → SlotView) (ending : Ending) → ((s : Slot) → (old s).name ≡ None) → DemoEnds input ending → Ran (Ok (Demo input options)) old old ending
+demo_ran input options old ending free ends = go ending ends
+  where
+    left : IsUntouched (old slots.Out) (old slots.Out) × IsUntouched (old slots.Report) (old slots.Report)
+    left = (untouched_same (old slots.Out) (old slots.Out) (free slots.Out) refl, untouched_same (old slots.Report) (old slots.Report) (free slots.Report) refl)
+
+    go : (e : Ending) → DemoEnds input e → Ran (Ok (Demo input options)) old old e
+    go (Shown text) h = record {
+      due = λ f. both_always (old slots.Policy).bytes (old slots.Capture).bytes _ (λ p c. record { answer = refl; left = left; note = h });
+      prefixes = both_always (old slots.Policy).bytes (old slots.Capture).bytes _ (λ p c. left);
+      within = tt;
+      names_are = λ s. inl (free s);
+      attached = (free slots.Out, free slots.Report);
+      note_stays = refl;
+      usage = λ fault x. absurd cc;
+      usage_always = λ fault x. absurd cc;
+      refused = λ fault x. absurd cc;
+      policy = tt;
+      read_faults = λ s x. absurd cc;
+      write_faults = λ s x. absurd cc;
+      no_note_fault = λ x. cc;
+    }
+    go (Stopped OutOfMemory) h = record {
+      due = λ f. absurd f;
+      prefixes = both_always (old slots.Policy).bytes (old slots.Capture).bytes _ (λ p c. left);
+      within = tt;
+      names_are = λ s. inl (free s);
+      attached = (free slots.Out, free slots.Report);
+      note_stays = refl;
+      usage = λ fault x. absurd cc;
+      usage_always = λ fault x. absurd cc;
+      refused = λ fault x. absurd cc;
+      policy = tt;
+      read_faults = λ s x. absurd cc;
+      write_faults = λ s x. absurd cc;
+      no_note_fault = λ x. cc;
+    }
+    go (Stopped (ReadFault s)) h = absurd h
+    go (Stopped Done) h = absurd h
+    go (Stopped (Usage fault)) h = absurd h
+    go (Stopped (Policy fault)) h = absurd h
+    go (Stopped (Capture fault)) h = absurd h
+    go (Stopped (WriteFault s)) h = absurd h
+    go (Refused refusal) h = absurd h
     go (Completed totals) h = absurd h
 
 -- what stands after words that are refused
@@ -183,9 +227,8 @@ usage_ran fault old free = record {
   attached = (free slots.Out, free slots.Report);
   note_stays = refl;
   usage = λ f x. ap Err (same_usage fault f x);
-  usage_always = λ f x. ap (λ y. Usage y) (same_err fault f x);
+  usage_always = λ f x. inl (ap (λ y. Usage y) (same_err fault f x));
   refused = λ f x. absurd cc;
-  not_built = λ s x. absurd cc;
   policy = tt;
   read_faults = λ s x. absurd cc;
   write_faults = λ s x. absurd cc;

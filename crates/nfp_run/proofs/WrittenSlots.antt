@@ -18,7 +18,7 @@ use Rattle.capture_run.specs.Running.{PutsBody, PutsBodyPrefixes, WritesAll, Wri
 use Rattle.capture_run.specs.Slots.{Puts, PutsPrefixes, Breaks}
 use Rattle.nfp_run.specs.Answers.{Leaves, LeavesPrefixes}
 use Rattle.nfp_run.specs.Closing.{Left}
-use Rattle.nfp_run.specs.Due.{Written, written_of}
+use Rattle.nfp_run.specs.Written.{Written, written_of}
 use Rattle.nfp_run.specs.Heads.{written_head}
 use Rattle.nfp_run.proofs.HeldBytes.{holds_all, holds_prefix}
 use Rattle.nfp_run.proofs.PutInSteps.{prefixes_longer, puts_more, puts_more_partly}

@@ -12,12 +12,12 @@ use Rattle.policy_judge.specs.declared.fault.Refusal.{Refusal}
 use Rattle.policy_judge.specs.declared.judged.Judged.{Judged}
 use Rattle.policy_judge.specs.Judging.{judged}
 use Rattle.nfp_run.specs.declared.outcome.Outcome.{Outcome}
-use Rattle.nfp_run.specs.declared.outcome.Outcome.TheVariants.{Done, Usage, Policy, NotBuilt, Capture, ReadFault, WriteFault, OutOfMemory}
+use Rattle.nfp_run.specs.declared.outcome.Outcome.TheVariants.{Done, Usage, Policy, Capture, ReadFault, WriteFault, OutOfMemory}
 use Rattle.command_words.specs.declared.usage.UsageFault.{UsageFault}
-use Rattle.chain_service.specs.Services.{service_of, service_among}
-use Rattle.command_words.specs.Words.{Command, Run, Plan}
+use Rattle.command_words.specs.Words.{Command, Run, Plan, Demo}
 use Rattle.nfp_run.specs.Notes.{read_fault_text, write_fault_text}
-use Rattle.nfp_run.specs.Due.{Due, Written}
+use Rattle.nfp_run.specs.Due.{Due}
+use Rattle.nfp_run.specs.Written.{Written}
 
 -- A slot that was never attached: it has no name, and its bytes are those before.
 pub record IsUntouched (old new : SlotView) : Type 0 where
@@ -58,7 +58,6 @@ abbrev pub IsFinal : Outcome → Type 0
 IsFinal Done = Unit {0}
 IsFinal (Usage fault) = Unit {0}
 IsFinal (Policy fault) = Unit {0}
-IsFinal (NotBuilt slot) = Unit {0}
 IsFinal (Capture fault) = Unit {0}
 IsFinal (ReadFault slot) = ⊥
 IsFinal (WriteFault slot) = ⊥
@@ -86,13 +85,14 @@ NotesPrefix note old new = AppendsPrefix note old new ⊎ ((s : Slot) × Appends
 
 -- the name that a command gives a slot
 abbrev pub name_of : Command → Slot → Option (List ℕ)
-name_of (Run names) slots.Policy = Some names.policy
-name_of (Run names) slots.Capture = Some names.capture
-name_of (Run names) slots.Out = Some names.out
-name_of (Run names) slots.Report = Some names.report
-name_of (Run names) slots.Note = None
+name_of (Run names options) slots.Policy = Some names.policy
+name_of (Run names options) slots.Capture = Some names.capture
+name_of (Run names options) slots.Out = Some names.out
+name_of (Run names options) slots.Report = Some names.report
+name_of (Run names options) slots.Note = None
 name_of (Plan name) slots.Policy = Some name
 name_of (Plan name) slot = None
+name_of (Demo input options) slot = None
 
 -- each slot has no name or the one that the words give it, and none where the words are refused
 abbrev pub HasNames : Result Command UsageFault → (Slot → SlotView) → Type 0
@@ -102,10 +102,6 @@ HasNames (Ok command) new = (s : Slot) → ((new s).name ≡ None) ⊎ ((new s).
 -- the policy has no fault, where the desk tells it
 abbrev pub HasPolicy : (Slot → SlotView) → Type 0
 HasPolicy old = IfSome (old slots.Policy).bytes (λ bytes. IsOk (judged bytes))
-
--- it has none, and what it asks for runs today
-abbrev pub HasService : (Slot → SlotView) → Type 0
-HasService old = IfSome (old slots.Policy).bytes (λ bytes. IsSome (service_of (judged bytes)))
 
 -- the head of the capture has no fault, where the desk tells it
 abbrev pub HasHead : (Slot → SlotView) → Type 0
@@ -137,7 +133,6 @@ abbrev pub RunAttaches : Outcome → (Slot → SlotView) → Type 0
 RunAttaches Done new = BothAttached new
 RunAttaches (Usage fault) new = NoneAttached new
 RunAttaches (Policy fault) new = NoneAttached new
-RunAttaches (NotBuilt slot) new = NoneAttached new
 RunAttaches (Capture fault) new = FaultAttaches fault new
 RunAttaches (ReadFault slots.Policy) new = NoneAttached new
 RunAttaches (ReadFault slot) new = Unit {0}
@@ -146,19 +141,21 @@ RunAttaches (WriteFault slots.Report) new = IsSome (new slots.Out).name
 RunAttaches (WriteFault slot) new = Unit {0}
 RunAttaches OutOfMemory new = Unit {0}
 
--- a plan attaches neither, nor do words that are refused
+-- a plan attaches neither, nor does a demo, nor do words that are refused
 abbrev pub AttachesDue : Result Command UsageFault → Outcome → (Slot → SlotView) → Type 0
-AttachesDue (Ok (Run names)) outcome new = RunAttaches outcome new
+AttachesDue (Ok (Run names options)) outcome new = RunAttaches outcome new
 AttachesDue (Ok (Plan name)) outcome new = NoneAttached new
+AttachesDue (Ok (Demo input options)) outcome new = NoneAttached new
 AttachesDue (Err fault) outcome new = NoneAttached new
 
--- what is known of the words and the policy where work was done, or a slot was written: `run` needs a policy that runs,
--- and `plan` one without fault, and then it tells nothing of a capture
+-- what is known of the words and the policy where work was done, or a slot was written: `run` and `plan` need a policy without fault,
+-- and `run` alone tells a fault of a capture
 abbrev pub ReachesCapture : Result Command UsageFault → Outcome → (Slot → SlotView) → Type 0
-ReachesCapture (Ok (Run names)) Done old = HasService old
+ReachesCapture (Ok (Run names options)) Done old = HasPolicy old
 ReachesCapture (Ok (Plan name)) Done old = HasPolicy old
+ReachesCapture (Ok (Demo input options)) Done old = Unit {0}
 ReachesCapture (Err fault) Done old = ⊥
-ReachesCapture (Ok (Run names)) (Capture fault) old = HasService old
+ReachesCapture (Ok (Run names options)) (Capture fault) old = HasPolicy old
 ReachesCapture command (Capture fault) old = ⊥
 ReachesCapture command outcome old = Unit {0}
 
@@ -167,40 +164,38 @@ abbrev pub IsFaultOf : PolicyFault → Result Judged Refusal → Type 0
 IsFaultOf fault (Ok policy) = ⊥
 IsFaultOf fault (Err refusal) = refusal.fault ≡ fault
 
--- why a policy was refused: the words are a command, its first fault is this, and the capture wasn't attached
+-- the words are a command that reads a policy
+abbrev pub ReadsPolicy : Result Command UsageFault → Type 0
+ReadsPolicy (Ok (Run names options)) = Unit {0}
+ReadsPolicy (Ok (Plan name)) = Unit {0}
+ReadsPolicy (Ok (Demo input options)) = ⊥
+ReadsPolicy (Err fault) = ⊥
+
+-- why a policy was refused: the words are a command that reads one, its first fault is this, and the capture wasn't attached
 abbrev pub PolicyCause : Result Command UsageFault → (Slot → SlotView) → (Slot → SlotView) → PolicyFault → Type 0
-PolicyCause command old new fault = IsOk command × IfSome (old slots.Policy).bytes (λ bytes. IsFaultOf fault (judged bytes)) × ((new slots.Capture).name ≡ None)
+PolicyCause command old new fault = ReadsPolicy command × IfSome (old slots.Policy).bytes (λ bytes. IsFaultOf fault (judged bytes)) × ((new slots.Capture).name ≡ None)
 
 -- the words are `run`
 abbrev pub IsRun : Result Command UsageFault → Type 0
-IsRun (Ok (Run names)) = Unit {0}
+IsRun (Ok (Run names options)) = Unit {0}
 IsRun (Ok (Plan name)) = ⊥
+IsRun (Ok (Demo input options)) = ⊥
 IsRun (Err fault) = ⊥
 
--- a policy without fault that doesn't run yet
-abbrev pub IsUnbuilt : Result Judged Refusal → Type 0
-IsUnbuilt (Ok policy) = service_among policy.policy.chains policy.orders ≡ None
-IsUnbuilt (Err refusal) = ⊥
-
--- why a policy without fault wasn't run: the words are `run`, it doesn't run yet, and the capture wasn't attached
-abbrev pub NotBuiltCause : Result Command UsageFault → (Slot → SlotView) → (Slot → SlotView) → Slot → Type 0
-NotBuiltCause command old new slots.Policy = IsRun command × IfSome (old slots.Policy).bytes (λ bytes. IsUnbuilt (judged bytes)) × ((new slots.Capture).name ≡ None)
-NotBuiltCause command old new slot = ⊥
-
 -- why a slot that is read gave a fault: its count rose; for the policy, before the capture was attached, and for the
--- capture, behind a policy that runs
+-- capture, behind a policy without fault
 abbrev pub ReadFaultCause : Result Command UsageFault → (Slot → SlotView) → (Slot → SlotView) → Slot → Type 0
-ReadFaultCause command old new slots.Policy = IsOk command × IsRisen (old slots.Policy).faults (new slots.Policy).faults × ((new slots.Capture).name ≡ None)
-ReadFaultCause command old new slots.Capture = IsRun command × IsRisen (old slots.Capture).faults (new slots.Capture).faults × HasService old
+ReadFaultCause command old new slots.Policy = ReadsPolicy command × IsRisen (old slots.Policy).faults (new slots.Policy).faults × ((new slots.Capture).name ≡ None)
+ReadFaultCause command old new slots.Capture = IsRun command × IsRisen (old slots.Capture).faults (new slots.Capture).faults × HasPolicy old
 ReadFaultCause command old new slots.Out = ⊥
 ReadFaultCause command old new slots.Report = ⊥
 ReadFaultCause command old new slots.Note = ⊥
 
--- why a slot that is written gave a fault: its count rose, for Out and Report behind a policy that runs and a good head,
+-- why a slot that is written gave a fault: its count rose, for Out and Report behind a policy without fault and a good head,
 -- and for Note where the work was done
 abbrev pub WriteFaultCause : Result Command UsageFault → (Slot → SlotView) → (Slot → SlotView) → Slot → Type 0
-WriteFaultCause command old new slots.Out = IsRun command × IsRisen (old slots.Out).faults (new slots.Out).faults × HasService old × HasHead old
-WriteFaultCause command old new slots.Report = IsRun command × IsRisen (old slots.Report).faults (new slots.Report).faults × HasService old × HasHead old
+WriteFaultCause command old new slots.Out = IsRun command × IsRisen (old slots.Out).faults (new slots.Out).faults × HasPolicy old × HasHead old
+WriteFaultCause command old new slots.Report = IsRun command × IsRisen (old slots.Report).faults (new slots.Report).faults × HasPolicy old × HasHead old
 WriteFaultCause command old new slots.Note = IsRisen (old slots.Note).faults (new slots.Note).faults × ReachesCapture command Done old
 WriteFaultCause command old new slots.Policy = ⊥
 WriteFaultCause command old new slots.Capture = ⊥

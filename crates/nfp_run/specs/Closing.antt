@@ -7,17 +7,18 @@ use Rattle.pcap_io.specs.Capture.{Body}
 use Rattle.pcap_io.specs.declared.capture.CaptureFault.{CaptureFault}
 use Rattle.chain_walk.specs.declared.walk.Fate.{Fate}
 use Rattle.nfp_run.specs.declared.outcome.Outcome.{Outcome}
-use Rattle.nfp_run.specs.declared.outcome.Outcome.TheVariants.{Done, Usage, Policy, NotBuilt, Capture, ReadFault, WriteFault, OutOfMemory}
+use Rattle.nfp_run.specs.declared.outcome.Outcome.TheVariants.{Done, Usage, Policy, Capture, ReadFault, WriteFault, OutOfMemory}
 use Rattle.nfp_run.specs.declared.ending.Ending.{Ending}
-use Rattle.nfp_run.specs.declared.ending.Ending.TheVariants.{Completed, Planned, Refused, Stopped}
+use Rattle.nfp_run.specs.declared.ending.Ending.TheVariants.{Completed, Shown, Refused, Stopped}
 use Rattle.capture_report.specs.declared.ended.Totals.{Totals}
 use Rattle.capture_report.specs.declared.ended.Ended.{Ended}
 use Rattle.capture_run.specs.declared.fault.RunFault.{RunFault}
 use Rattle.capture_report.specs.FaultLines.{capture_text}
 use Rattle.capture_run.specs.Running.{Counts}
-use Rattle.nfp_run.specs.Notes.{usage_text, not_built_text, done_text, read_fault_text, write_fault_text}
+use Rattle.nfp_run.specs.Notes.{usage_text, done_text, read_fault_text, write_fault_text}
 use Rattle.nfp_run.specs.Broken.{broken_by}
-use Rattle.nfp_run.specs.Due.{Due, Written}
+use Rattle.nfp_run.specs.Due.{Due}
+use Rattle.nfp_run.specs.Written.{Written}
 use Rattle.nfp_run.specs.Answers.{Leaves, LeavesPrefixes}
 
 -- a capture that ended with a fault is answered by it
@@ -33,7 +34,7 @@ ending_of (Err fault) = Stopped (broken_by fault)
 -- the outcome of what ended so
 abbrev pub outcome_seen : Ending → Outcome
 outcome_seen (Completed totals) = Done
-outcome_seen (Planned text) = Done
+outcome_seen (Shown text) = Done
 outcome_seen (Refused refusal) = Policy refusal.fault
 outcome_seen (Stopped outcome) = outcome
 
@@ -42,7 +43,6 @@ abbrev pub stop_text : Outcome → List ℕ
 stop_text Done = []
 stop_text (Usage fault) = usage_text fault
 stop_text (Policy fault) = []
-stop_text (NotBuilt slot) = not_built_text
 stop_text (Capture fault) = capture_text fault
 stop_text (ReadFault slot) = read_fault_text slot
 stop_text (WriteFault slot) = write_fault_text slot
@@ -51,7 +51,7 @@ stop_text OutOfMemory = []
 -- what is put into Note for what ended so
 abbrev pub text_of : Ending → List ℕ
 text_of (Completed totals) = done_text totals.records totals.dropped
-text_of (Planned text) = text
+text_of (Shown text) = text
 text_of (Refused refusal) = refusal.line
 text_of (Stopped outcome) = stop_text outcome
 

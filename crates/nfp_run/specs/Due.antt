@@ -1,6 +1,5 @@
 -- Believed: the result: what words, a policy and a capture are to be answered with.
 use Rattle.std.specs.Prelude.{ℕ, List, length, count_by, Option, Some, None, Result, Ok, Err}
-use Rattle.nfp_outside.specs.declared.slot.Slot.TheVariants.{Policy}
 use Rattle.pcap_io.specs.Capture.{Body, capture_of}
 use Rattle.pcap_io.specs.declared.capture.CaptureHead.{CaptureHead}
 use Rattle.pcap_io.specs.declared.capture.CaptureFault.{CaptureFault}
@@ -11,20 +10,15 @@ use Rattle.policy_judge.specs.Judging.{judged}
 use Rattle.nfp_run.specs.declared.outcome.Outcome.{Outcome}
 use Rattle.nfp_run.specs.declared.outcome.Outcome.TheVariants as outcomes
 use Rattle.command_words.specs.declared.usage.UsageFault.{UsageFault}
-use Rattle.command_words.specs.Words.{Command, Run, Plan, command_of}
+use Rattle.command_words.specs.Words.{Command, Run, Plan, Demo, command_of}
 use Rattle.chain_service.specs.Services.{Chains, service_among}
 use Rattle.burst_walk.specs.Fates.{fates_of}
-use Rattle.capture_run.specs.Emitted.{out_bytes}
 use Rattle.capture_report.specs.FaultLines.{capture_text}
-use Rattle.capture_report.specs.Report.{report_of, is_gone}
-use Rattle.nfp_run.specs.Heads.{written_head}
-use Rattle.nfp_run.specs.Notes.{usage_text, not_built_text, done_text}
+use Rattle.capture_report.specs.Report.{is_gone}
+use Rattle.nfp_run.specs.Written.{Written, written_of}
+use Rattle.nfp_run.specs.DemoNote.{demo_text}
+use Rattle.nfp_run.specs.Notes.{usage_text, done_text}
 use Rattle.nfp_run.specs.Plan.{plan_text}
-
--- What is written: the bytes of Out and of Report.
-pub record Written : Type 0 where
-  pub out : List ℕ
-  pub report : List ℕ
 
 -- The outcome, what is written, none where Out and Report aren't attached, and the line in Note.
 pub record Due : Type 0 where
@@ -35,10 +29,6 @@ pub record Due : Type 0 where
 -- an outcome that writes nothing but its line
 abbrev pub nothing_but : Outcome → List ℕ → Due
 nothing_but outcome note = record { outcome = outcome; written = None; note = note }
-
--- what these chains write of a capture: each packet walks through the chain that takes it, after those before it
-abbrev pub written_of : Chains → CaptureHead → Body → Written
-written_of chains head body = record { out = out_bytes (written_head chains head) body.records (fates_of chains head.unit body.records); report = report_of chains head.unit body.records body.fault }
 
 -- a capture without a fault is done
 abbrev pub outcome_of : Option CaptureFault → Outcome
@@ -58,20 +48,25 @@ due_of_capture chains (Ok capture) = record {
   note = note_of capture.1.fault (fates_of chains capture.0.unit capture.1.records);
 }
 
--- a policy without fault that doesn't run yet counts before the capture
-abbrev pub due_of_service : Option Chains → List ℕ → Due
-due_of_service None capture = nothing_but (outcomes.NotBuilt Policy) not_built_text
-due_of_service (Some chains) capture = due_of_capture chains (capture_of capture)
+-- a policy with a fault is told by it, whatever is asked for
+abbrev pub due_of_refusal : Refusal → Due
+due_of_refusal refusal = nothing_but (outcomes.Policy refusal.fault) refusal.line
 
--- a policy with a fault is told by it, whatever is asked for; a plan doesn't look at the capture
-abbrev pub due_of_policy : Command → Result Judged Refusal → List ℕ → Due
-due_of_policy command (Err refusal) capture = nothing_but (outcomes.Policy refusal.fault) refusal.line
-due_of_policy (Plan name) (Ok policy) capture = nothing_but outcomes.Done (plan_text policy)
-due_of_policy (Run names) (Ok policy) capture = due_of_service (service_among policy.policy.chains policy.orders) capture
+abbrev pub due_of_run : Result Judged Refusal → List ℕ → Due
+due_of_run (Err refusal) capture = due_of_refusal refusal
+due_of_run (Ok policy) capture = due_of_capture (service_among policy.policy.chains policy.orders) (capture_of capture)
 
+-- a plan doesn't look at the capture
+abbrev pub due_of_plan : Result Judged Refusal → Due
+due_of_plan (Err refusal) = due_of_refusal refusal
+due_of_plan (Ok policy) = nothing_but outcomes.Done (plan_text policy)
+
+-- a demo looks at neither, and no option changes what is due
 abbrev pub due_of_command : Result Command UsageFault → List ℕ → List ℕ → Due
 due_of_command (Err fault) policy capture = nothing_but (outcomes.Usage fault) (usage_text fault)
-due_of_command (Ok command) policy capture = due_of_policy command (judged policy) capture
+due_of_command (Ok (Run names options)) policy capture = due_of_run (judged policy) capture
+due_of_command (Ok (Plan name)) policy capture = due_of_plan (judged policy)
+due_of_command (Ok (Demo input options)) policy capture = nothing_but outcomes.Done (demo_text input)
 
 -- the result of a call with these words, where the policy and the capture have these bytes
 abbrev pub due : List (List ℕ) → List ℕ → List ℕ → Due

@@ -2,6 +2,7 @@ pub mod Answers
 pub mod Attached
 pub mod Broken
 pub mod Closing
+pub mod DemoNote
 pub mod Due
 pub mod Heads
 pub mod Notes
@@ -9,3 +10,4 @@ pub mod Plan
 pub mod Ran
 pub mod Reading
 pub mod Status
+pub mod Written

@@ -4,18 +4,25 @@ use Rattle.nfp_outside.specs.declared.slot.Slot.{Slot}
 use Rattle.nfp_outside.specs.declared.slot.Slot.TheVariants.{Policy, Capture, Out, Report, Note}
 use Rattle.text_lines.specs.Texts.{joined}
 use Rattle.capture_report.specs.Report.{total_line}
+use Rattle.command_words.specs.declared.usage.Option4.{Option4}
+use Rattle.command_words.specs.declared.usage.Option4.TheVariants.{Mergers, Burst, Seed, Count}
 use Rattle.command_words.specs.declared.usage.UsageFault.{UsageFault}
-use Rattle.command_words.specs.declared.usage.UsageFault.TheVariants.{NoCommand, UnknownCommand, Words, SameName}
+use Rattle.command_words.specs.declared.usage.UsageFault.TheVariants.{NoCommand, UnknownCommand, Words, Number, SameName}
+
+-- which number is refused
+abbrev pub number_text : Option4 → List ℕ
+number_text Mergers = codes "usage: number mergers\n"
+number_text Burst = codes "usage: number burst\n"
+number_text Seed = codes "usage: number seed\n"
+number_text Count = codes "usage: number count\n"
 
 -- why the words are refused
 abbrev pub usage_text : UsageFault → List ℕ
 usage_text NoCommand = codes "usage: no command\n"
 usage_text UnknownCommand = codes "usage: unknown command\n"
 usage_text Words = codes "usage: words\n"
+usage_text (Number which) = number_text which
 usage_text SameName = codes "usage: same name\n"
-
-abbrev pub not_built_text : List ℕ
-not_built_text = codes "not built: policy\n"
 
 -- `done records N emitted E dropped D`
 unfoldable pub done_text : ℕ → ℕ → List ℕ

@@ -1,16 +1,16 @@
 -- For proofs: what stands after the words were done, before their line is put into Note.
-use Rattle.std.specs.Prelude.{◌≡◌, Result, Err}
+use Rattle.std.specs.Prelude.{◌≡◌, ◌⊎◌, Result, Err}
 use Rattle.nfp_outside.specs.declared.slot.Slot.{Slot}
 use Rattle.nfp_outside.specs.declared.slot.Slot.TheVariants as slots
 use Rattle.nfp_outside.specs.Outside.{SlotView}
 use Rattle.policy_judge.specs.declared.fault.PolicyFault.{PolicyFault}
 use Rattle.nfp_run.specs.declared.ending.Ending.{Ending}
-use Rattle.nfp_run.specs.declared.outcome.Outcome.TheVariants.{Usage, Policy, NotBuilt, ReadFault, WriteFault}
+use Rattle.nfp_run.specs.declared.outcome.Outcome.TheVariants.{Usage, Policy, ReadFault, WriteFault, OutOfMemory}
 use Rattle.command_words.specs.declared.usage.UsageFault.{UsageFault}
 use Rattle.command_words.specs.Words.{Command}
 use Rattle.nfp_run.specs.Due.{due_of_command}
 use Rattle.nfp_run.specs.Closing.{outcome_seen, EndsDue, CountsWithin}
-use Rattle.nfp_run.specs.Answers.{IsFinal, WhereTold, LeavesPrefixes, HasNames, AttachesDue, ReachesCapture, PolicyCause, NotBuiltCause, ReadFaultCause, WriteFaultCause}
+use Rattle.nfp_run.specs.Answers.{IsFinal, WhereTold, LeavesPrefixes, HasNames, AttachesDue, ReachesCapture, PolicyCause, ReadFaultCause, WriteFaultCause}
 
 pub record Ran (command : Result Command UsageFault) (old new : Slot → SlotView) (ending : Ending) : Type 0 where
   pub due : IsFinal (outcome_seen ending) → WhereTold old (λ p c. EndsDue (due_of_command command p c) old new ending)
@@ -20,9 +20,8 @@ pub record Ran (command : Result Command UsageFault) (old new : Slot → SlotVie
   pub attached : AttachesDue command (outcome_seen ending) new
   pub note_stays : new slots.Note ≡ old slots.Note
   pub usage : (fault : UsageFault) → outcome_seen ending ≡ Usage fault → command ≡ Err fault
-  pub usage_always : (fault : UsageFault) → command ≡ Err fault → outcome_seen ending ≡ Usage fault
+  pub usage_always : (fault : UsageFault) → command ≡ Err fault → (outcome_seen ending ≡ Usage fault) ⊎ (outcome_seen ending ≡ OutOfMemory)
   pub refused : (fault : PolicyFault) → outcome_seen ending ≡ Policy fault → PolicyCause command old new fault
-  pub not_built : (s : Slot) → outcome_seen ending ≡ NotBuilt s → NotBuiltCause command old new s
   pub policy : ReachesCapture command (outcome_seen ending) old
   pub read_faults : (s : Slot) → outcome_seen ending ≡ ReadFault s → ReadFaultCause command old new s
   pub write_faults : (s : Slot) → outcome_seen ending ≡ WriteFault s → WriteFaultCause command old new s

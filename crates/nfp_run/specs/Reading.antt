@@ -1,4 +1,4 @@
--- For proofs: how the reading of the policy ends, and the opening of the capture.
+-- For proofs: how the reading of the policy ends, a demo, and the opening of the capture.
 use Rattle.std.specs.Prelude.{◌≡◌, ◌<◌, ◌⊎◌, ℕ, List, length, Some, IfSome, Result, Ok, Err}
 use Rattle.std.specs.Option.{option_map}
 use Rattle.nfp_outside.specs.declared.slot.Slot.TheVariants as slots
@@ -12,13 +12,14 @@ use Rattle.policy_judge.specs.Judging.{judged, told}
 use Rattle.policy_judge.specs.Lines.{too_long_line}
 use Rattle.policy_judge.specs.declared.fault.PolicyFault.TheVariants as policies
 use Rattle.nfp_run.specs.declared.ending.Ending.{Ending}
-use Rattle.nfp_run.specs.declared.ending.Ending.TheVariants.{Completed, Planned, Refused, Stopped}
-use Rattle.nfp_run.specs.Answers.{IsUnbuilt}
+use Rattle.nfp_run.specs.declared.ending.Ending.TheVariants.{Completed, Shown, Refused, Stopped}
+use Rattle.command_words.specs.declared.requests.DemoInput.{DemoInput}
+use Rattle.nfp_run.specs.DemoNote.{demo_text}
 use Rattle.nfp_run.specs.Plan.{plan_text}
 use Rattle.policy_judge.specs.declared.fault.Refusal.{Refusal}
 use Rattle.policy_judge.specs.declared.judged.Judged.{Judged}
 use Rattle.nfp_run.specs.declared.outcome.Outcome.{Outcome}
-use Rattle.nfp_run.specs.declared.outcome.Outcome.TheVariants.{Done, Usage, Policy, NotBuilt, Capture, ReadFault, WriteFault, OutOfMemory}
+use Rattle.nfp_run.specs.declared.outcome.Outcome.TheVariants.{Done, Usage, Policy, Capture, ReadFault, WriteFault, OutOfMemory}
 use Rattle.nfp_run.specs.declared.read.Unread.{Unread}
 use Rattle.nfp_run.specs.declared.read.Unread.TheVariants.{TooLong, Failed, NoMemory}
 
@@ -47,11 +48,10 @@ EndsAtPolicy old new (Stopped OutOfMemory) = Unit {0}
 EndsAtPolicy old new (Stopped Done) = ⊥
 EndsAtPolicy old new (Stopped (Usage fault)) = ⊥
 EndsAtPolicy old new (Stopped (Policy fault)) = ⊥
-EndsAtPolicy old new (Stopped (NotBuilt s)) = ⊥
 EndsAtPolicy old new (Stopped (Capture fault)) = ⊥
 EndsAtPolicy old new (Stopped (WriteFault s)) = ⊥
 EndsAtPolicy old new (Completed totals) = ⊥
-EndsAtPolicy old new (Planned text) = ⊥
+EndsAtPolicy old new (Shown text) = ⊥
 
 -- this is the plan of a policy that was judged so
 abbrev pub IsPlanOf : List ℕ → Result Judged Refusal → Type 0
@@ -60,22 +60,21 @@ IsPlanOf text (Err refusal) = ⊥
 
 -- How a call ends that shows a plan: with the plan, or at the policy.
 abbrev pub PlanEnds : SlotView → SlotView → Ending → Type 0
-PlanEnds old new (Planned text) = IfSome old.bytes (λ bytes. IsPlanOf text (judged bytes))
+PlanEnds old new (Shown text) = IfSome old.bytes (λ bytes. IsPlanOf text (judged bytes))
 PlanEnds old new ending = EndsAtPolicy old new ending
 
--- Why a call ends before the capture: at the policy, or it has no fault and doesn't run yet.
-abbrev pub EndsBeforeCapture : SlotView → SlotView → Ending → Type 0
-EndsBeforeCapture old new (Refused refusal) = IfSome old.bytes (λ bytes. judged bytes ≡ Err refusal)
-EndsBeforeCapture old new (Stopped (NotBuilt s)) = (s ≡ slots.Policy) × IfSome old.bytes (λ bytes. IsUnbuilt (judged bytes))
-EndsBeforeCapture old new (Stopped (ReadFault s)) = (s ≡ slots.Policy) × IsRisen old.faults new.faults
-EndsBeforeCapture old new (Stopped OutOfMemory) = Unit {0}
-EndsBeforeCapture old new (Stopped Done) = ⊥
-EndsBeforeCapture old new (Stopped (Usage fault)) = ⊥
-EndsBeforeCapture old new (Stopped (Policy fault)) = ⊥
-EndsBeforeCapture old new (Stopped (Capture fault)) = ⊥
-EndsBeforeCapture old new (Stopped (WriteFault s)) = ⊥
-EndsBeforeCapture old new (Completed totals) = ⊥
-EndsBeforeCapture old new (Planned text) = ⊥
+-- How a demo ends: with its text, or memory ran out.
+abbrev pub DemoEnds : DemoInput → Ending → Type 0
+DemoEnds input (Shown text) = text ≡ demo_text input
+DemoEnds input (Stopped OutOfMemory) = Unit {0}
+DemoEnds input (Stopped Done) = ⊥
+DemoEnds input (Stopped (Usage fault)) = ⊥
+DemoEnds input (Stopped (Policy fault)) = ⊥
+DemoEnds input (Stopped (Capture fault)) = ⊥
+DemoEnds input (Stopped (ReadFault s)) = ⊥
+DemoEnds input (Stopped (WriteFault s)) = ⊥
+DemoEnds input (Refused refusal) = ⊥
+DemoEnds input (Completed totals) = ⊥
 
 -- The head of the capture was read, and the reader stands behind it.
 pub record Opens (name : List ℕ) (head : CaptureHead) (reader : ReaderState) (old new : SlotView) : Type 0 where
@@ -88,7 +87,6 @@ abbrev pub RefusedOpening : SlotView → SlotView → Outcome → Type 0
 RefusedOpening old new (Capture fault) = IsHeadFault fault × IfSome old.bytes (λ bytes. capture_of bytes ≡ Err fault)
 RefusedOpening old new (ReadFault s) = (s ≡ slots.Capture) × IsRisen old.faults new.faults
 RefusedOpening old new OutOfMemory = Unit {0}
-RefusedOpening old new (NotBuilt s) = ⊥
 RefusedOpening old new Done = ⊥
 RefusedOpening old new (Usage fault) = ⊥
 RefusedOpening old new (Policy fault) = ⊥

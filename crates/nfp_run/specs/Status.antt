@@ -1,7 +1,7 @@
 -- Believed: the exit status of each outcome.
 use Rattle.std.specs.Prelude.{ℕ}
 use Rattle.nfp_run.specs.declared.outcome.Outcome.{Outcome}
-use Rattle.nfp_run.specs.declared.outcome.Outcome.TheVariants.{Done, Usage, Policy, NotBuilt, Capture, ReadFault, WriteFault, OutOfMemory}
+use Rattle.nfp_run.specs.declared.outcome.Outcome.TheVariants.{Done, Usage, Policy, Capture, ReadFault, WriteFault, OutOfMemory}
 
 abbrev pub status_of : Outcome → ℕ
 status_of Done = 0
@@ -11,4 +11,3 @@ status_of (Capture fault) = 3
 status_of (ReadFault slot) = 4
 status_of (WriteFault slot) = 5
 status_of OutOfMemory = 6
-status_of (NotBuilt slot) = 7

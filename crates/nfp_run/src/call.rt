@@ -4,7 +4,7 @@ ghost use Rattle.nfp_outside.specs.declared.slot.Slot.{Slot};
 ghost use Rattle.nfp_outside.specs.Outside.{Appends, AppendsPrefix, IsRisen};
 ghost use Rattle.policy_judge.specs.declared.fault.PolicyFault.{PolicyFault};
 ghost use Rattle.command_words.specs.declared.usage.UsageFault.{UsageFault};
-ghost use Rattle.nfp_run.specs.Answers.{IsDue, IsFinal, HasNames, NoneRose, WhereTold, LeavesPrefixes, AttachesDue, ReachesCapture, PolicyCause, NotBuiltCause, ReadFaultCause, WriteFaultCause, NotesPrefix, note_due};
+ghost use Rattle.nfp_run.specs.Answers.{IsDue, IsFinal, HasNames, NoneRose, WhereTold, LeavesPrefixes, AttachesDue, ReachesCapture, PolicyCause, ReadFaultCause, WriteFaultCause, NotesPrefix, note_due};
 ghost use Rattle.nfp_run.specs.Due.{due};
 ghost use Rattle.command_words.specs.Words.{command_of};
 
@@ -16,14 +16,15 @@ use std::alloc::Global;
 use std::sync::Wait;
 use std::thread::Threads;
 
-/// Runs the chains of a policy over a capture, as the words `run POLICY CAPTURE OUT REPORT` say, or shows the plan of a
-/// policy, as the words `plan POLICY` say.
+/// Runs the chains of a policy over a capture, as the words `run POLICY CAPTURE OUT REPORT` say, shows the plan of a policy, as
+/// the words `plan POLICY` say, or runs a demo, as the words `demo SEED COUNT` say.
 ///
 /// The policy is checked whole before anything else is touched. `run` leads each packet through the first chain whose clauses
 /// it meets, and lets one that no chain takes pass as it was read. It puts the capture of the packets that passed into Out, and
 /// into Report the line of each that was dropped, the totals, the copies that the graph of each chain made of each field, the
 /// functions of each chain, and the capture's fault where it has one. The capture is read record by record, and written burst
-/// by burst, each of at most 1,024 packets. Last, one line goes into Note, or the plan. The gate is passed by nothing yet, since
+/// by burst, each of at most as many packets as `--burst` says. `demo` makes its own capture, runs it through its own policy, and touches
+/// no slot but Note. Last, one line goes into Note, or the plan, or the demo's summary. The gate is passed by nothing yet, since
 /// a burst runs on one thread.
 pub fn nfp<R: Threads + Wait, D: Desk, G: Gate + Sync>(
     rt: &R,
@@ -71,9 +72,8 @@ pub fn nfp<R: Threads + Wait, D: Desk, G: Gate + Sync>(
     ensures usage { (f : UsageFault) → result ≡ Outcome.Usage f → command_of (map string_bytes words.now) ≡ Err f }
     ensures usage_always { (f : UsageFault) → command_of (map string_bytes words.now) ≡ Err f → (result ≡ Outcome.Usage f) ⊎ (result ≡ Outcome.OutOfMemory) }
     // A policy is refused only for its first fault, and taken only where it has none, also where the desk tells the policy
-    // alone. One without fault is not run only where it doesn't run yet.
+    // alone.
     ensures refused { (f : PolicyFault) → result ≡ Outcome.Policy f → PolicyCause (command_of (map string_bytes words.now)) (D.slots desk.old) (D.slots desk.new) f }
-    ensures not_built { (s : Slot) → result ≡ Outcome.NotBuilt s → NotBuiltCause (command_of (map string_bytes words.now)) (D.slots desk.old) (D.slots desk.new) s }
     ensures policy { ReachesCapture (command_of (map string_bytes words.now)) result (D.slots desk.old) }
     // Each fault comes only where the count of its own slot rose, and not before the slots that are due earlier were good.
     ensures read_faults { (s : Slot) → result ≡ Outcome.ReadFault s → ReadFaultCause (command_of (map string_bytes words.now)) (D.slots desk.old) (D.slots desk.new) s }

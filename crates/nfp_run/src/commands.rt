@@ -4,24 +4,27 @@ ghost use Rattle.nfp_outside.specs.declared.slot.Slot.{Slot};
 ghost use Rattle.nfp_run.specs.Ran.{Ran};
 ghost use Rattle.command_words.specs.Words.{command_of};
 
+use crate::demo::demo;
 use crate::ending::Ending;
 use crate::outcome::Outcome;
 use crate::plan::plan;
 use crate::run::run;
-use command_words::{Command, read_command};
+use command_words::{Command, WordsFault, read_command};
 use nfp_outside::Desk;
 use std::alloc::Global;
 use std::sync::Wait;
 
 /// Does what the words ask for.
-#[tactic(auto, using(crate::proofs::ShownPlans::plan_ran, crate::proofs::ShownPlans::usage_ran))]
+#[tactic(auto, using(crate::proofs::ShownPlans::plan_ran, crate::proofs::ShownPlans::demo_ran, crate::proofs::ShownPlans::usage_ran, crate::proofs::UnreadWords::unread_ran))]
 pub fn run_words<R: Wait, D: Desk>(rt: &R, alloc: Global, words: &[String], desk: &mut D) -> Ending
     requires { (s : Slot) → (D.slots desk.old s).name ≡ None }
     ensures ran { Ran (command_of (map string_bytes words.now)) (D.slots desk.old) (D.slots desk.new) result }
 {
-    match read_command(words) {
-        Ok(Command::Run(names)) => run(rt, alloc, &names, desk),
+    match read_command(alloc, words) {
+        Ok(Command::Run(names, options)) => run(rt, alloc, &names, options, desk),
         Ok(Command::Plan(name)) => plan(alloc, name, desk),
-        Err(fault) => Ending::Stopped(Outcome::Usage(fault)),
+        Ok(Command::Demo(input, options)) => demo(rt, alloc, input, options.burst),
+        Err(WordsFault::Usage(fault)) => Ending::Stopped(Outcome::Usage(fault)),
+        Err(WordsFault::OutOfMemory) => Ending::Stopped(Outcome::OutOfMemory),
     }
 }

@@ -10,8 +10,8 @@ use policy_judge::Refusal;
 pub enum Ending {
     /// A capture without fault went through the chains.
     Completed(Totals),
-    /// The plan of a policy was made.
-    Planned(Items<u8>),
+    /// What is to be shown was made: the plan of a policy, or the summary of a demo.
+    Shown(Items<u8>),
     /// The policy has a fault.
     Refused(Refusal),
     /// Any other end, which its outcome alone tells.

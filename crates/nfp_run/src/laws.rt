@@ -1,5 +1,5 @@
 //! What a call without any fault comes to.
-ghost use Rattle.std.specs.Prelude.{◌≡◌, ℕ, List, None, Some, Ok};
+ghost use Rattle.std.specs.Prelude.{◌≡◌, ℕ, List, None, Ok};
 ghost use Rattle.pcap_io.specs.Capture.{capture_of};
 ghost use Rattle.pcap_io.specs.declared.capture.CaptureHead.{CaptureHead};
 ghost use Rattle.pcap_io.specs.declared.capture.PcapRecord.{PcapRecord};
@@ -7,15 +7,17 @@ ghost use Rattle.policy_judge.specs.declared.judged.Judged.{Judged};
 ghost use Rattle.policy_judge.specs.Judging.{judged};
 ghost use Rattle.nfp_run.specs.declared.outcome.Outcome.{Outcome};
 ghost use Rattle.nfp_run.specs.Due.{due};
-ghost use Rattle.chain_service.specs.Services.{Chains, service_of};
-ghost use Rattle.command_words.specs.Words.{Names, command_of, Run, Plan};
+ghost use Rattle.command_words.specs.declared.requests.DemoInput.{DemoInput};
+ghost use Rattle.command_words.specs.declared.requests.RunOptions.{RunOptions};
+ghost use Rattle.command_words.specs.Words.{Names, command_of, Run, Plan, Demo};
 
-/// A law: words that are a command, a policy without fault, which for `run` runs today, and for `run` a capture without
-/// fault are done. With the clause `answers` of [`crate::nfp`], such a call answers Done or want of memory wherever no
+/// A law: words that are a command, a policy without fault, and for `run` a capture without fault
+/// are done; a demo needs neither. With the clause `answers` of [`crate::nfp`], such a call answers Done or want of memory wherever no
 /// slot failed.
-#[tactic(auto, using(crate::proofs::GoodCalls::run_is_done, crate::proofs::GoodCalls::plan_is_done))]
+#[tactic(auto, using(crate::proofs::GoodCalls::run_is_done, crate::proofs::GoodCalls::plan_is_done, crate::proofs::GoodCalls::demo_is_done))]
 pub fn a_good_call_is_done()
-    ensures run { (words : List (List ℕ)) → (names : Names) → (p c : List ℕ) → (chains : Chains) → (head : CaptureHead) → (records : List PcapRecord) →
-        command_of words ≡ Ok (Run names) → service_of (judged p) ≡ Some chains → capture_of c ≡ Ok (head, record { records = records; fault = None }) → (due words p c).outcome ≡ Outcome.Done }
+    ensures run { (words : List (List ℕ)) → (names : Names) → (options : RunOptions) → (p c : List ℕ) → (policy : Judged) → (head : CaptureHead) → (records : List PcapRecord) →
+        command_of words ≡ Ok (Run names options) → judged p ≡ Ok policy → capture_of c ≡ Ok (head, record { records = records; fault = None }) → (due words p c).outcome ≡ Outcome.Done }
     ensures plan { (words : List (List ℕ)) → (name p c : List ℕ) → (policy : Judged) → command_of words ≡ Ok (Plan name) → judged p ≡ Ok policy → (due words p c).outcome ≡ Outcome.Done }
+    ensures demo { (words : List (List ℕ)) → (input : DemoInput) → (options : RunOptions) → (p c : List ℕ) → command_of words ≡ Ok (Demo input options) → (due words p c).outcome ≡ Outcome.Done }
 {}

@@ -1,4 +1,4 @@
-//! The top call of `nfp`, which runs the chains of a policy over a capture, and shows the plan of a policy.
+//! The top call of `nfp`, which runs the chains of a policy over a capture, shows the plan of a policy, and runs a demo of its own.
 //!
 //! What [`nfp()`] promises is the program's theorem: its contract says it, and `specs/Due.antt` has the result that it is
 //! measured against. [`a_good_call_is_done`] says of that result that words, policy and capture without fault are Done. The
@@ -9,6 +9,8 @@
 mod attach;
 mod call;
 mod commands;
+mod demo;
+mod demo_source;
 mod ending;
 mod head;
 mod laws;
@@ -19,6 +21,6 @@ mod read;
 mod run;
 
 pub use call::nfp;
-pub use command_words::UsageFault;
+pub use command_words::{Option4, UsageFault};
 pub use laws::a_good_call_is_done;
 pub use outcome::Outcome;

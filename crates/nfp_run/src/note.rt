@@ -1,13 +1,13 @@
 //! The one line that is put into Note for each outcome.
 ghost use Rattle.std.specs.Prelude.{◌≡◌, ◌≢◌, ◌≤◌, IfOk};
 ghost use Rattle.nfp_outside.specs.declared.slot.Slot.{Slot};
-ghost use Rattle.nfp_run.specs.Notes.{usage_text, done_text, slot_word, read_fault_text, write_fault_text};
+ghost use Rattle.nfp_run.specs.Notes.{number_text, usage_text, done_text, slot_word, read_fault_text, write_fault_text};
 ghost use Rattle.nfp_run.specs.Closing.{outcome_seen, stop_text, text_of, untold, CountsWithin, Notes};
 
 use crate::ending::Ending;
 use crate::outcome::Outcome;
 use capture_report::{Totals, capture_line, totals_line};
-use command_words::UsageFault;
+use command_words::{Option4, UsageFault};
 use item_list::Items;
 use nfp_outside::{Desk, OutsideFault, Slot, write_whole};
 use policy_judge::Refusal;
@@ -60,7 +60,7 @@ fn tell(alloc: Global, ending: Ending) -> Result<Told, AllocError>
             outcome: Outcome::Done,
             line: Items::new(done_text(alloc, totals)?),
         }),
-        Ending::Planned(text) => Ok(Told {
+        Ending::Shown(text) => Ok(Told {
             outcome: Outcome::Done,
             line: text,
         }),
@@ -81,7 +81,6 @@ fn stop_text(alloc: Global, outcome: &Outcome) -> Result<Vec<u8>, AllocError>
 {
     match outcome {
         Outcome::Usage(fault) => Vec::from_slice(alloc, usage_text(*fault)),
-        Outcome::NotBuilt(_) => Vec::from_slice(alloc, b"not built: policy\n".as_slice()),
         Outcome::Capture(fault) => capture_line(alloc, *fault),
         Outcome::ReadFault(slot) => read_fault_text(alloc, *slot),
         Outcome::WriteFault(slot) => write_fault_text(alloc, *slot),
@@ -97,7 +96,20 @@ fn usage_text(fault: UsageFault) -> &'static [u8]
         UsageFault::NoCommand => b"usage: no command\n",
         UsageFault::UnknownCommand => b"usage: unknown command\n",
         UsageFault::Words => b"usage: words\n",
+        UsageFault::Number(which) => number_text(which),
         UsageFault::SameName => b"usage: same name\n",
+    }
+}
+
+// Which number is refused.
+fn number_text(which: Option4) -> &'static [u8]
+    ensures { result.now ≡ number_text which }
+{
+    match which {
+        Option4::Mergers => b"usage: number mergers\n",
+        Option4::Burst => b"usage: number burst\n",
+        Option4::Seed => b"usage: number seed\n",
+        Option4::Count => b"usage: number count\n",
     }
 }
 

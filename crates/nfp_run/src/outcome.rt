@@ -20,8 +20,6 @@ pub enum Outcome {
     Usage(UsageFault),
     /// The policy has this first fault.
     Policy(PolicyFault),
-    /// The policy has no fault, and what it asks for doesn't run yet; the slot is Policy.
-    NotBuilt(Slot),
     /// The capture has this first fault. What stood before it went through the chains.
     Capture(CaptureFault),
     /// This slot couldn't be read.
@@ -45,7 +43,6 @@ impl Outcome {
             Outcome::ReadFault(_) => 4,
             Outcome::WriteFault(_) => 5,
             Outcome::OutOfMemory => 6,
-            Outcome::NotBuilt(_) => 7,
         }
     }
 }

@@ -31,7 +31,7 @@ pub fn plan<D: Desk>(alloc: Global, name: &str, desk: &mut D) -> Ending
         Err(ending) => return ending,
     };
     match plan_text(alloc, &judged) {
-        Ok(text) => Ending::Planned(text),
+        Ok(text) => Ending::Shown(text),
         Err(_) => Ending::Stopped(Outcome::OutOfMemory),
     }
 }

@@ -6,7 +6,7 @@ ghost use Rattle.policy_judge.specs.Judging.{judged};
 ghost use Rattle.policy_judge.specs.Making.{functions_made};
 ghost use Rattle.policy_judge.specs.Orders.{IsOrdered};
 ghost use Rattle.policy_judge.specs.Settings.{IsSettled};
-ghost use Rattle.nfp_run.specs.Reading.{IsUnread, UnreadEnds, refused_by, EndsAtPolicy, EndsBeforeCapture, Opens, RefusedOpening};
+ghost use Rattle.nfp_run.specs.Reading.{IsUnread, UnreadEnds, refused_by, EndsAtPolicy, Opens, RefusedOpening};
 ghost use Rattle.chain_service.specs.Opening.{IsOpening, chains_of};
 ghost use Rattle.chain_service.specs.Services.{service_of};
 
@@ -53,12 +53,12 @@ pub fn read_policy<D: Desk>(alloc: Global, desk: &mut D, name: &str) -> Result<J
 }
 
 /// Reads the policy, judges it, and makes ready the chains that it runs.
-#[tactic(auto, using(crate::proofs::PolicyEnds::policy_ends, crate::proofs::PolicyEnds::served, crate::proofs::PolicyEnds::unbuilt))]
+#[tactic(auto, using(crate::proofs::PolicyEnds::served))]
 pub fn read_service<D: Desk>(alloc: Global, desk: &mut D, name: &str) -> Result<Service, Ending>
     requires { (D.slots desk.old Slot.Policy).name ≡ None }
     ensures read { MatchResult result
         (λ s. IfSome (D.slots desk.old Slot.Policy).bytes (λ bytes. service_of (judged bytes) ≡ Some (chains_of s.chains)))
-        (EndsBeforeCapture (D.slots desk.old Slot.Policy) (D.slots desk.new Slot.Policy)) }
+        (EndsAtPolicy (D.slots desk.old Slot.Policy) (D.slots desk.new Slot.Policy)) }
     ensures opening { IfOk result IsOpening }
     ensures name { ((D.slots desk.new Slot.Policy).name ≡ None) ⊎ ((D.slots desk.new Slot.Policy).name ≡ Some name.now) }
     ensures others { (s : Slot) → s ≢ Slot.Policy → D.slots desk.new s ≡ D.slots desk.old s }
@@ -68,8 +68,7 @@ pub fn read_service<D: Desk>(alloc: Global, desk: &mut D, name: &str) -> Result<
         Err(ending) => return Err(ending),
     };
     match make_service(alloc, judged) {
-        Ok(Some(service)) => Ok(service),
-        Ok(None) => Err(Ending::Stopped(Outcome::NotBuilt(Slot::Policy))),
+        Ok(service) => Ok(service),
         Err(_) => Err(Ending::Stopped(Outcome::OutOfMemory)),
     }
 }

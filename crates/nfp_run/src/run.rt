@@ -5,13 +5,14 @@ ghost use Rattle.pcap_io.specs.Reader.{reader_at, body_left};
 ghost use Rattle.policy_judge.specs.declared.fault.PolicyFault.{PolicyFault};
 ghost use Rattle.command_words.specs.declared.usage.UsageFault.{UsageFault};
 ghost use Rattle.command_words.specs.Words.{Run};
-ghost use Rattle.nfp_run.specs.Answers.{IsFinal, WhereTold, LeavesPrefixes, HasNames, RunAttaches, ReachesCapture, PolicyCause, NotBuiltCause, ReadFaultCause, WriteFaultCause, IsBodyFault};
+ghost use Rattle.nfp_run.specs.Answers.{IsFinal, WhereTold, LeavesPrefixes, HasNames, RunAttaches, ReachesCapture, PolicyCause, ReadFaultCause, WriteFaultCause, IsBodyFault};
 ghost use Rattle.nfp_run.specs.Attached.{RunLeavesAttached};
 ghost use Rattle.nfp_run.specs.Closing.{outcome_seen, closed, ending_of, Left, EndsDue, CountsWithin};
-ghost use Rattle.nfp_run.specs.Due.{due_of_command, written_of};
+ghost use Rattle.nfp_run.specs.Due.{due_of_command};
+ghost use Rattle.nfp_run.specs.Written.{written_of};
 ghost use Rattle.burst_walk.specs.Fates.{fates_of};
 ghost use Rattle.capture_run.specs.Slots.{IsBroken};
-ghost use Rattle.command_words.specs.Named.{names_seen};
+ghost use Rattle.command_words.specs.Named.{IsInRange, names_seen};
 ghost use Rattle.chain_service.specs.Opening.{IsOpening, chains_of};
 
 use crate::attach::{attach_sink, put_head};
@@ -21,29 +22,35 @@ use crate::read::{open_capture, read_service};
 use capture_report::Ended;
 use capture_run::{RunFault, run_capture};
 use chain_service::Service;
-use command_words::FileNames;
+use command_words::{FileNames, RunOptions};
 use nfp_outside::{Desk, Slot};
 use pcap_io::{CaptureHead, Reader};
 use std::alloc::Global;
 use std::sync::Wait;
 
 /// Runs the chains of the policy over the capture. The words are accepted, and nothing is put into Note.
-pub fn run<R: Wait, D: Desk>(rt: &R, alloc: Global, names: &FileNames<'_>, desk: &mut D) -> Ending
-    requires { (s : Slot) → (D.slots desk.old s).name ≡ None }
+pub fn run<R: Wait, D: Desk>(
+    rt: &R,
+    alloc: Global,
+    names: &FileNames<'_>,
+    options: RunOptions,
+    desk: &mut D,
+) -> Ending
+    requires ranges { IsInRange options }
+    requires free { (s : Slot) → (D.slots desk.old s).name ≡ None }
     ensures due { IsFinal (outcome_seen result) → WhereTold (D.slots desk.old) (λ p c.
-        EndsDue (due_of_command (Ok (Run (names_seen names.now))) p c) (D.slots desk.old) (D.slots desk.new) result) }
+        EndsDue (due_of_command (Ok (Run (names_seen names.now) options)) p c) (D.slots desk.old) (D.slots desk.new) result) }
     ensures prefixes { WhereTold (D.slots desk.old) (λ p c.
-        LeavesPrefixes (due_of_command (Ok (Run (names_seen names.now))) p c).written (D.slots desk.old) (D.slots desk.new)) }
+        LeavesPrefixes (due_of_command (Ok (Run (names_seen names.now) options)) p c).written (D.slots desk.old) (D.slots desk.new)) }
     ensures within { CountsWithin result }
-    ensures names { HasNames (Ok (Run (names_seen names.now))) (D.slots desk.new) }
+    ensures names { HasNames (Ok (Run (names_seen names.now) options)) (D.slots desk.new) }
     ensures attached { RunAttaches (outcome_seen result) (D.slots desk.new) }
     ensures note_stays { D.slots desk.new Slot.Note ≡ D.slots desk.old Slot.Note }
     ensures no_usage { (f : UsageFault) → outcome_seen result ≡ Outcome.Usage f → ⊥ }
-    ensures refused { (f : PolicyFault) → outcome_seen result ≡ Outcome.Policy f → PolicyCause (Ok (Run (names_seen names.now))) (D.slots desk.old) (D.slots desk.new) f }
-    ensures not_built { (s : Slot) → outcome_seen result ≡ Outcome.NotBuilt s → NotBuiltCause (Ok (Run (names_seen names.now))) (D.slots desk.old) (D.slots desk.new) s }
-    ensures policy { ReachesCapture (Ok (Run (names_seen names.now))) (outcome_seen result) (D.slots desk.old) }
-    ensures read_faults { (s : Slot) → outcome_seen result ≡ Outcome.ReadFault s → ReadFaultCause (Ok (Run (names_seen names.now))) (D.slots desk.old) (D.slots desk.new) s }
-    ensures write_faults { (s : Slot) → outcome_seen result ≡ Outcome.WriteFault s → WriteFaultCause (Ok (Run (names_seen names.now))) (D.slots desk.old) (D.slots desk.new) s }
+    ensures refused { (f : PolicyFault) → outcome_seen result ≡ Outcome.Policy f → PolicyCause (Ok (Run (names_seen names.now) options)) (D.slots desk.old) (D.slots desk.new) f }
+    ensures policy { ReachesCapture (Ok (Run (names_seen names.now) options)) (outcome_seen result) (D.slots desk.old) }
+    ensures read_faults { (s : Slot) → outcome_seen result ≡ Outcome.ReadFault s → ReadFaultCause (Ok (Run (names_seen names.now) options)) (D.slots desk.old) (D.slots desk.new) s }
+    ensures write_faults { (s : Slot) → outcome_seen result ≡ Outcome.WriteFault s → WriteFaultCause (Ok (Run (names_seen names.now) options)) (D.slots desk.old) (D.slots desk.new) s }
     ensures no_note_fault { outcome_seen result ≡ Outcome.WriteFault Slot.Note → ⊥ }
 {
     let service = match read_service(alloc, desk, names.policy) {
@@ -54,7 +61,16 @@ pub fn run<R: Wait, D: Desk>(rt: &R, alloc: Global, names: &FileNames<'_>, desk:
         Ok(opened) => opened,
         Err(outcome) => return Ending::Stopped(outcome),
     };
-    ending_of(attach_and_run(rt, alloc, desk, names, service, &head, reader))
+    ending_of(attach_and_run(
+        rt,
+        alloc,
+        desk,
+        names,
+        service,
+        options.burst,
+        &head,
+        reader,
+    ))
 }
 
 // How the work of a call ended that ran a capture.
@@ -84,6 +100,7 @@ fn attach_and_run<R: Wait, D: Desk>(
     desk: &mut D,
     names: &FileNames<'_>,
     service: Service,
+    burst: u32,
     head: &CaptureHead,
     reader: Reader,
 ) -> Result<Ended, RunFault>
@@ -91,6 +108,8 @@ fn attach_and_run<R: Wait, D: Desk>(
     requires out_free { (D.slots desk.old Slot.Out).name ≡ None }
     requires report_free { (D.slots desk.old Slot.Report).name ≡ None }
     requires opening { IsOpening service }
+    requires some_packets { 1 ≤ burst }
+    requires few_packets { burst ≤ 65536 }
     requires fresh { reader ≡ reader_at head.now.order 0 }
     ensures left { IfSome (body_left reader (D.slots desk.old Slot.Capture)) (λ body.
         Left (written_of (chains_of service.chains) head.now body) body (fates_of (chains_of service.chains) head.now.unit body.records) (D.slots desk.old) (D.slots desk.new) result) }
@@ -106,5 +125,5 @@ fn attach_and_run<R: Wait, D: Desk>(
     attach_sink(desk, Slot::Out, names.out)?;
     attach_sink(desk, Slot::Report, names.report)?;
     let writer = put_head(desk, head, &service)?;
-    run_capture(rt, alloc, desk, service, head.unit, reader, writer)
+    run_capture(rt, alloc, desk, service, head.unit, burst, reader, writer)
 }

@@ -4,6 +4,8 @@
 #[cfg(test)]
 mod marks;
 #[cfg(test)]
+mod options;
+#[cfg(test)]
 mod runs;
 #[cfg(test)]
 mod states;

@@ -90,21 +90,24 @@ fn push_datagram(
     capture.extend_from_slice(datagram.data)
 }
 
-// Leads a capture through a policy, and compares what it gives.
+// Leads a capture through a policy, with one merger and with many, and compares what it gives.
 fn compare(
     rt: &(impl Abort + AllocGlobal + Threads + Wait),
     policy: &[u8],
-    capture: Vec<u8>,
+    capture: &[u8],
     out: &[u8],
     report: &[u8],
 ) -> Result<(), Fail> {
     let alloc = rt.alloc();
-    let run = words(alloc, &["run", "p", "c", "o", "r"])?;
-    let mut desk = FixedDesk::new(alloc, policy.to_vec(alloc)?, capture, 7);
-    let outcome = nfp(rt, alloc, &run, &mut desk, &OpenGate);
-    assert!(rt; matches!(outcome, Outcome::Done));
-    assert_eq!(rt; desk.put(Slot::Out), out);
-    assert_eq!(rt; desk.put(Slot::Report), report);
+    for mergers in ["1", "16"] {
+        let run = words(alloc, &["run", "p", "c", "o", "r", "--mergers", mergers])?;
+        let capture = capture.to_vec(alloc)?;
+        let mut desk = FixedDesk::new(alloc, policy.to_vec(alloc)?, capture, 7);
+        let outcome = nfp(rt, alloc, &run, &mut desk, &OpenGate);
+        assert!(rt; matches!(outcome, Outcome::Done));
+        assert_eq!(rt; desk.put(Slot::Out), out);
+        assert_eq!(rt; desk.put(Slot::Report), report);
+    }
     Ok(())
 }
 
@@ -127,7 +130,7 @@ fn the_later_marker_is_the_one_that_is_seen(rt: HostRuntime) -> Result<(), Fail>
     ];
     let capture = capture_of(&rt, rt.alloc(), &[first, ninth])?;
     let out = capture_of(&rt, rt.alloc(), &marked)?;
-    compare(&rt, MARKED, capture, out.as_slice(), MARKED_REPORT)
+    compare(&rt, MARKED, &capture, out.as_slice(), MARKED_REPORT)
 }
 
 // The signature sees the payload as it came, and the redactor beside it writes a copy of its own.
@@ -141,14 +144,14 @@ fn a_payload_is_searched_and_redacted_side_by_side(rt: HostRuntime) -> Result<()
     };
     let capture = capture_of(&rt, rt.alloc(), &[secret, evil])?;
     let out = capture_of(&rt, rt.alloc(), &[redacted])?;
-    compare(&rt, SEARCHED, capture, out.as_slice(), SEARCHED_REPORT)
+    compare(&rt, SEARCHED, &capture, out.as_slice(), SEARCHED_REPORT)
 }
 
 #[test]
 fn of_two_drops_the_first_in_the_chain_is_told(rt: HostRuntime) -> Result<(), Fail> {
     let evil = Datagram::new(9, [0x66, 0xc3], b"evil");
     let capture = capture_of(&rt, rt.alloc(), &[evil])?;
-    compare(&rt, DENIED, capture, HEAD.as_slice(), DENIED_REPORT)
+    compare(&rt, DENIED, &capture, HEAD.as_slice(), DENIED_REPORT)
 }
 
 // A record of a frame that begins with these bytes and goes on with zeros, to this length.
@@ -194,7 +197,7 @@ fn a_tag_is_put_before_the_others(rt: HostRuntime) -> Result<(), Fail> {
         ],
         40,
     )?;
-    compare(&rt, TAGGED, capture, out.as_slice(), TAGGED_REPORT)
+    compare(&rt, TAGGED, &capture, out.as_slice(), TAGGED_REPORT)
 }
 
 // The last hop of a packet is the one that would leave it no time to live.
@@ -213,5 +216,5 @@ fn a_packet_at_its_last_hop_is_dropped(rt: HostRuntime) -> Result<(), Fail> {
     };
     let capture = capture_of(&rt, rt.alloc(), &[first, last])?;
     let out = capture_of(&rt, rt.alloc(), &[passed])?;
-    compare(&rt, LIVED, capture, out.as_slice(), LIVED_REPORT)
+    compare(&rt, LIVED, &capture, out.as_slice(), LIVED_REPORT)
 }

@@ -1,7 +1,7 @@
 //! Runs over desks in memory, with the capture and the answers written down by hand.
 
 use nfp_outside::{FixedDesk, MemDesk, OpenGate, Slot};
-use nfp_run::{Outcome, UsageFault, nfp};
+use nfp_run::{Option4, Outcome, UsageFault, nfp};
 use pcap_io::CaptureFault;
 use std::alloc::{AllocError, Global};
 use std::test::Fail;
@@ -166,6 +166,16 @@ fn words_that_are_no_command_are_told(rt: HostRuntime) -> Result<(), Fail> {
             b"usage: words\n",
         ),
         (&["plan", "-p"], UsageFault::Words, b"usage: words\n"),
+        (
+            &["run", "p", "c", "o", "r", "--burst", "65537"],
+            UsageFault::Number(Option4::Burst),
+            b"usage: number burst\n",
+        ),
+        (
+            &["demo", "x", "0"],
+            UsageFault::Number(Option4::Seed),
+            b"usage: number seed\n",
+        ),
         (
             &["run", "p", "c", "c", "r"],
             UsageFault::SameName,

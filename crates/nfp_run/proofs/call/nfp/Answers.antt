@@ -3,7 +3,7 @@ use Rattle.std.specs.Prelude.{string_bytes}
 use Rattle.command_words.specs.Words.{command_of}
 use Rattle.nfp_run.proofs.CallAnswers.{called_exact, called_prefixes, called_answers, called_noted, called_noted_whole}
 use Rattle.nfp_run.proofs.NotedLines.{called_done_noted, called_noted_short}
-use Rattle.nfp_run.proofs.CallCauses.{called_names, called_note_fault, called_attached, called_policy, called_refused, called_not_built, called_read_faults, called_write_faults}
+use Rattle.nfp_run.proofs.CallCauses.{called_names, called_usage_always, called_note_fault, called_attached, called_policy, called_refused, called_read_faults, called_write_faults}
 use Rattle.nfp_run.proofs.call.nfp.Goals as goal
 
 pub returns-clause-answers : goal.returns-clause-answers
@@ -34,10 +34,6 @@ pub returns-clause-refused : goal.returns-clause-refused
 returns-clause-refused g c = called_refused (command_of (map string_bytes c.args.words.now)) (g.D.Desk.slots c.args.desk.now) (g.D.Desk.slots c.run_words-ending.new.desk) (g.D.Desk.slots c.put_note.new.desk) c.run_words-ending.result c.put_note.result
     (record { ran = c.run_words-ending.ensures.ran; notes = c.put_note.ensures.notes; beside = c.put_note.ensures.others })
 
-pub returns-clause-not_built : goal.returns-clause-not_built
-returns-clause-not_built g c = called_not_built (command_of (map string_bytes c.args.words.now)) (g.D.Desk.slots c.args.desk.now) (g.D.Desk.slots c.run_words-ending.new.desk) (g.D.Desk.slots c.put_note.new.desk) c.run_words-ending.result c.put_note.result
-    (record { ran = c.run_words-ending.ensures.ran; notes = c.put_note.ensures.notes; beside = c.put_note.ensures.others })
-
 pub returns-clause-read_faults : goal.returns-clause-read_faults
 returns-clause-read_faults g c = called_read_faults (command_of (map string_bytes c.args.words.now)) (g.D.Desk.slots c.args.desk.now) (g.D.Desk.slots c.run_words-ending.new.desk) (g.D.Desk.slots c.put_note.new.desk) c.run_words-ending.result c.put_note.result
     (record { ran = c.run_words-ending.ensures.ran; notes = c.put_note.ensures.notes; beside = c.put_note.ensures.others })
@@ -64,4 +60,8 @@ returns-clause-done_noted g c = called_done_noted (command_of (map string_bytes 
 
 pub returns-clause-noted_short : goal.returns-clause-noted_short
 returns-clause-noted_short g c = called_noted_short (command_of (map string_bytes c.args.words.now)) (g.D.Desk.slots c.args.desk.now) (g.D.Desk.slots c.run_words-ending.new.desk) (g.D.Desk.slots c.put_note.new.desk) c.run_words-ending.result c.put_note.result
+    (record { ran = c.run_words-ending.ensures.ran; notes = c.put_note.ensures.notes; beside = c.put_note.ensures.others })
+
+pub returns-clause-usage_always : goal.returns-clause-usage_always
+returns-clause-usage_always g c = called_usage_always (command_of (map string_bytes c.args.words.now)) (g.D.Desk.slots c.args.desk.now) (g.D.Desk.slots c.run_words-ending.new.desk) (g.D.Desk.slots c.put_note.new.desk) c.run_words-ending.result c.put_note.result
     (record { ran = c.run_words-ending.ensures.ran; notes = c.put_note.ensures.notes; beside = c.put_note.ensures.others })

@@ -7,7 +7,7 @@ use Rattle.nfp_run.proofs.commands.run_words.Goals as goal
 pub returns-in-Ok-Run : goal.returns-in-Ok-Run
 returns-in-Ok-Run g c = record {
   ran = subst (λ command. Ran command (g.D.Desk.slots c.args.desk.now) (g.D.Desk.slots c.run.new.desk) c.run.result)
-      (sym (c.in-Ok-Run.ensures ∙ ap (λ x. Ok (command_seen x)) c.in-Ok-Run.field-0-is))
+      (sym (c.in-Ok-Run.ensures.reads ∙ ap (λ x. Ok (command_seen x)) c.in-Ok-Run.field-0-is))
       (record {
         due = c.run.ensures.due;
         prefixes = c.run.ensures.prefixes;
@@ -18,7 +18,6 @@ returns-in-Ok-Run g c = record {
         usage = λ fault x. absurd (c.run.ensures.no_usage fault x);
         usage_always = λ fault x. absurd cc;
         refused = c.run.ensures.refused;
-        not_built = c.run.ensures.not_built;
         policy = c.run.ensures.policy;
         read_faults = c.run.ensures.read_faults;
         write_faults = c.run.ensures.write_faults;

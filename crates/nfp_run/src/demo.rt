@@ -1,0 +1,150 @@
+//! Runs a demo: a capture that is made, through the chains of its own policy, told by what comes out.
+ghost use Rattle.std.specs.Prelude.{◌≡◌, ◌≤◌, ◌-◌, IfOk, IsSome, Some};
+ghost use Rattle.nfp_outside.specs.declared.slot.Slot.{Slot};
+ghost use Rattle.policy_judge.specs.Judging.{judged};
+ghost use Rattle.chain_service.specs.Opening.{IsOpening, chains_of};
+ghost use Rattle.chain_service.specs.Services.{service_of};
+ghost use Rattle.demo_capture.specs.DemoCapture.{policy_text, demo_head, demo_records, whole_body};
+ghost use Rattle.burst_walk.specs.Fates.{fates_of};
+ghost use Rattle.capture_run.specs.Running.{Counts};
+ghost use Rattle.capture_run.specs.Slots.{Puts};
+ghost use Rattle.nfp_run.specs.DemoNote.{demo_summary, demo_text};
+ghost use Rattle.nfp_run.specs.Reading.{DemoEnds};
+ghost use Rattle.nfp_run.specs.Written.{written_of};
+
+use crate::attach::put_head;
+use crate::demo_source::DemoSource;
+use crate::ending::Ending;
+use crate::outcome::Outcome;
+use capture_report::{Ended, Totals};
+use capture_run::{RunFault, run_capture};
+use chain_service::{Service, make_service};
+use command_words::DemoInput;
+use demo_capture::{Summary, Weighed, head, policy, push_summary};
+use item_list::Items;
+use nfp_outside::{Desk, Scales, Slot, Weight, weights_add_up};
+use policy_judge::judge;
+use std::alloc::{AllocError, Global};
+use std::sync::Wait;
+
+/// Leads the capture of this seed and count through the demo's policy, in bursts of at most so many packets, and tells how many packets
+/// came out, and how long and heavy the texts are that a run would write. No slot is touched.
+pub fn demo<R: Wait>(rt: &R, alloc: Global, input: DemoInput, burst: u32) -> Ending
+    requires some_packets { 1 ≤ burst }
+    requires few_packets { burst ≤ 65536 }
+    ensures { DemoEnds input result }
+{
+    match text(rt, alloc, input, burst) {
+        Ok(text) => Ending::Shown(Items::new(text)),
+        Err(_) => Ending::Stopped(Outcome::OutOfMemory),
+    }
+}
+
+fn text<R: Wait>(rt: &R, alloc: Global, input: DemoInput, burst: u32) -> Result<Vec<u8>, AllocError>
+    requires some_packets { 1 ≤ burst }
+    requires few_packets { burst ≤ 65536 }
+    ensures { IfOk result (λ v. v.items ≡ demo_text input) }
+{
+    let service = demo_service(alloc)?;
+    let summary = weigh(rt, alloc, service, input, burst)?;
+    let mut text = Vec::new(alloc);
+    push_summary(alloc, &mut text, &summary)?;
+    Ok(text)
+}
+
+// The chains of the demo's policy, which has no fault: where none is made, there was no memory.
+#[tactic(auto, using(crate::proofs::DemoRuns::served_demo))]
+fn demo_service(alloc: Global) -> Result<Service, AllocError>
+    ensures serves { IfOk result (λ s. service_of (judged policy_text) ≡ Some (chains_of s.chains)) }
+    ensures opening { IfOk result IsOpening }
+{
+    match judge(alloc, policy()) {
+        Ok(judged) => make_service(alloc, judged),
+        Err(_) => Err(AllocError),
+    }
+}
+
+// The numbers of the summary. Scales never fail, so where the run broke off there was no memory.
+#[tactic(auto, using(crate::proofs::DemoRuns::summed_demo))]
+fn weigh<R: Wait>(
+    rt: &R,
+    alloc: Global,
+    service: Service,
+    input: DemoInput,
+    burst: u32,
+) -> Result<Summary, AllocError>
+    requires opening { IsOpening service }
+    requires some_packets { 1 ≤ burst }
+    requires few_packets { burst ≤ 65536 }
+    ensures { IfOk result (λ summary. summary ≡ demo_summary input (chains_of service.chains)) }
+{
+    weights_add_up();
+    let mut scales = Scales::new(alloc);
+    match lead(rt, alloc, &mut scales, service, input, burst) {
+        Ok(ended) => Ok(summary_by(
+            input,
+            ended.totals,
+            scales.weight(Slot::Out),
+            scales.weight(Slot::Report),
+        )),
+        Err(_) => Err(AllocError),
+    }
+}
+
+// Leads the demo's capture through these chains, and puts what is written of it into the slots of a desk.
+fn lead<R: Wait, D: Desk>(
+    rt: &R,
+    alloc: Global,
+    desk: &mut D,
+    service: Service,
+    input: DemoInput,
+    burst: u32,
+) -> Result<Ended, RunFault>
+    requires capture { IsSome (D.slots desk.old Slot.Capture).name }
+    requires out { IsSome (D.slots desk.old Slot.Out).name }
+    requires report { IsSome (D.slots desk.old Slot.Report).name }
+    requires opening { IsOpening service }
+    requires some_packets { 1 ≤ burst }
+    requires few_packets { burst ≤ 65536 }
+    ensures puts { IfOk result (λ ended. Puts (written_of (chains_of service.chains) demo_head (whole_body (demo_records input.seed input.count))).out
+        (written_of (chains_of service.chains) demo_head (whole_body (demo_records input.seed input.count))).report (D.slots desk.old) (D.slots desk.new)) }
+    ensures counts { IfOk result (Counts (whole_body (demo_records input.seed input.count)) (fates_of (chains_of service.chains) demo_head.unit (demo_records input.seed input.count))) }
+    ensures within { IfOk result (λ ended. ended.totals.dropped ≤ ended.totals.records) }
+{
+    let head = head();
+    let writer = put_head(desk, &head, &service)?;
+    let records = DemoSource::new(input);
+    run_capture(rt, alloc, desk, service, head.unit, burst, records, writer)
+}
+
+fn summary_by(input: DemoInput, totals: Totals, out: Weight, report: Weight) -> Summary
+    requires { totals.dropped ≤ totals.records }
+    ensures { result ≡ record {
+      seed = input.seed;
+      count = input.count;
+      records = totals.records;
+      emitted = totals.records - totals.dropped;
+      dropped = totals.dropped;
+      out = record { bytes = out.bytes; weight = out.sum };
+      report = record { bytes = report.bytes; weight = report.sum };
+    } }
+{
+    Summary {
+        seed: input.seed,
+        count: input.count,
+        records: totals.records,
+        emitted: totals.records - totals.dropped,
+        dropped: totals.dropped,
+        out: weighed(out),
+        report: weighed(report),
+    }
+}
+
+fn weighed(weight: Weight) -> Weighed
+    ensures { result ≡ record { bytes = weight.bytes; weight = weight.sum } }
+{
+    Weighed {
+        bytes: weight.bytes,
+        weight: weight.sum,
+    }
+}

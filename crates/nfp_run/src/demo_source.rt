@@ -1,0 +1,47 @@
+//! The records of a demo, as those of a capture.
+ghost use Rattle.std.specs.Prelude.{◌≡◌, Some, true};
+ghost use Rattle.demo_capture.specs.DemoCapture.{demo_records, whole_body};
+
+use capture_run::Source;
+use command_words::DemoInput;
+use demo_capture::DemoRecords;
+use nfp_outside::Desk;
+use pcap_io::{PcapFault, PcapRecord};
+use std::alloc::Global;
+
+/// The records of a demo. They are made, whatever the slot Capture holds.
+#[derive(Drop)]
+pub struct DemoSource {
+    pub records: DemoRecords,
+}
+
+impl DemoSource {
+    /// The records of this seed and count, from the first on.
+    pub fn new(input: DemoInput) -> DemoSource
+        ensures given { result.records.given ≡ 0 }
+        ensures records { result.records.records ≡ demo_records input.seed input.count }
+    {
+        DemoSource {
+            records: DemoRecords::new(input.seed, input.count),
+        }
+    }
+}
+
+impl Source for DemoSource {
+    ghost left = { λ source slot. Some (whole_body source.records.records) };
+
+    ghost given = { λ source. source.records.given };
+
+    ghost is_open = { λ source. true };
+
+    fn next<D: Desk>(
+        &mut self,
+        alloc: Global,
+        _desk: &mut D,
+    ) -> Result<Option<PcapRecord>, PcapFault> {
+        match self.records.next(alloc) {
+            Ok(record) => Ok(record),
+            Err(_) => Err(PcapFault::OutOfMemory),
+        }
+    }
+}
