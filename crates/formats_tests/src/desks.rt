@@ -51,10 +51,13 @@ fn what_is_put_is_weighed(rt: HostRuntime) -> Result<(), Fail> {
 
 #[test]
 fn a_written_file_reads_back_and_a_missing_one_is_refused(rt: HostRuntime) -> Result<(), Fail> {
+    let mut writer = FileDesk::new(rt.clone()?);
+    writer.attach(Slot::Out, NAME)?;
+    assert_eq!(rt; write_whole(&mut writer, Slot::Out, TEXT), Ok(()));
+    assert_eq!(rt; write_whole(&mut writer, Slot::Out, b"end"), Ok(()));
+    // What is written is gathered, and in the file once it is handed on.
+    assert_eq!(rt; writer.hand_on(), None);
     let mut desk = FileDesk::new(rt.clone()?);
-    desk.attach(Slot::Out, NAME)?;
-    assert_eq!(rt; write_whole(&mut desk, Slot::Out, TEXT), Ok(()));
-    assert_eq!(rt; write_whole(&mut desk, Slot::Out, b"end"), Ok(()));
     assert!(rt; desk.attach(Slot::Capture, "no_such_file").is_err());
     desk.attach(Slot::Policy, NAME)?;
     match read_all(rt.alloc(), &mut desk, Slot::Policy, 11) {

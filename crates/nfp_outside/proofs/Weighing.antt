@@ -1,16 +1,11 @@
 -- How weights add up.
-use Rattle.std.proofs.Common.{◌≡◌, ◌<◌, ◌+◌, ◌*◌, ◌%◌, ◌^◌, ◌++◌, ◌∙◌, ℕ, List, [], ◌∷◌, length, take, refl, ap, sym, arith}
+use Rattle.std.proofs.Common.{◌≡◌, ◌<◌, ◌+◌, ◌*◌, ◌%◌, ◌^◌, ◌∙◌, ℕ, List, [], ◌∷◌, length, take, ap, sym, arith}
 use Rattle.std.proofs.Math.Nat.{mod-add-mod}
 use Rattle.std.proofs.lemmas.List.{take_more}
 use Rattle.std.specs.Prelude.{slice_index_or}
 use Rattle.nfp_outside.specs.declared.weight.Weight.{Weight}
 use Rattle.nfp_outside.specs.Weights.{sum_from, weight_of, no_weight, with_byte, heavier}
-
--- bytes behind bytes weigh what both weigh at once
-pub heavier_more : (a b : List ℕ) (w : Weight) → heavier b (heavier a w) ≡ heavier (a ++ b) w
-unfolding heavier
-heavier_more [] b w = refl
-heavier_more (x ∷ a) b w = heavier_more a b (with_byte w x)
+use Rattle.nfp_outside.specs.Adding.{heavier_more}
 
 -- one byte more of a list
 pub heavier_byte : (bytes : List ℕ) (i d : ℕ) (w : Weight) → i < length bytes → heavier (take (i + 1) bytes) w ≡ with_byte (heavier (take i bytes) w) (slice_index_or bytes i d)

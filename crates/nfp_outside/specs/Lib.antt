@@ -1,3 +1,4 @@
+pub mod Adding
 pub mod Memory
 pub mod Outside
 pub mod Port

@@ -12,26 +12,36 @@ use crate::slot::{DeskFault, Slot};
 use std::alloc::Global;
 use std::fs::File;
 use std::io;
-use std::io::{BufReader, Write};
+use std::io::{BufReader, BufWriter, Write};
 use std::rt::Files;
 
 // How much of a file is read ahead; a read of as much or more goes straight to the file.
 const READ_AHEAD: usize = 65536;
 
+// How much is gathered for a file; a piece of as much or more goes straight to the file.
+const GATHERED: usize = 65536;
+
 /// A desk over files, and for Note over standard output: the name of a slot is the path of its
 /// file. It tells no bytes.
 ///
 /// A file to read must be there; a file to write is made, or made empty. Files are read ahead, and
-/// what is written goes to the file at once, in the order of the calls. Each failed open, read or
-/// write raises the count of its own slot, up to the end of `u64`, and no other.
+/// what is written to a file is gathered and handed on in pieces of 64 KiB, in the order of the
+/// calls. Before Note takes anything, all that was gathered goes to its file; where that fails, the
+/// write of Note is refused, and [`FileDesk::hand_on`] tells which slot lost bytes. What is still
+/// gathered when the desk is dropped goes to its file then, where it can.
+///
+/// Each failed open, read or write raises the count of its own slot, up to the end of `u64`, and no
+/// other. So a failed write of gathered bytes counts where it is found: at the call of their own
+/// slot that needed the room, or at that of Note.
 #[derive(Drop)]
 pub struct FileDesk<R: Files + Print + AllocGlobal + Drop> {
     rt: R,
     policy: Port<BufReader<R::File>>,
     capture: Port<BufReader<R::File>>,
-    out: Port<R::File>,
-    report: Port<R::File>,
+    out: Port<BufWriter<R::File>>,
+    report: Port<BufWriter<R::File>>,
     note_faults: u64,
+    lost: Option<Slot>,
 }
 
 impl<R: Files + Print + AllocGlobal + Drop> FileDesk<R> {
@@ -47,7 +57,25 @@ impl<R: Files + Print + AllocGlobal + Drop> FileDesk<R> {
             out: Port::new(),
             report: Port::new(),
             note_faults: 0,
+            lost: None,
         }
+    }
+
+    /// Hands on to the files what was gathered, and tells the first slot whose gathered bytes were
+    /// lost so. A slot that failed at one of its own calls, which told it, is not looked at again.
+    #[tactic(auto, unfolding(crate::specs::Slots::at_slot))]
+    pub fn hand_on(&mut self) -> Option<Slot>
+        ensures { let slots = ⟦<FileDesk<R> as Desk>⟧.slots in
+            (s : Slot) → slots self.new s ≡ slots self.old s }
+    {
+        if self.lost.is_none() {
+            if !self.out.hand_on() {
+                self.lost = Some(Slot::Out);
+            } else if !self.report.hand_on() {
+                self.lost = Some(Slot::Report);
+            }
+        }
+        self.lost
     }
 }
 
@@ -108,8 +136,8 @@ impl<R: Files + Print + AllocGlobal + Drop> Desk for FileDesk<R> {
         }
     }
 
-    /// `Failed` where the file can't be written, or takes nothing of a piece. The count of the slot
-    /// rises by one then, and in no other case.
+    /// `Failed` where the file can't be written, or takes nothing of a piece; at Note also where what
+    /// was gathered for a file can't. The count of the slot rises by one then, and in no other case.
     #[tactic(auto, unfolding(crate::specs::Slots::at_slot))]
     fn write(&mut self, slot: Slot, bytes: &[u8]) -> Result<usize, DeskFault>
         requires write_slot { is_read slot ≡ false }
@@ -131,7 +159,8 @@ impl<R: Files + Print + AllocGlobal + Drop> Desk for FileDesk<R> {
             Slot::Out => self.out.write(bytes),
             Slot::Report => self.report.write(bytes),
             Slot::Note => {
-                if let Ok(count) = io::writer(&self.rt).write(bytes)
+                if self.hand_on().is_none()
+                    && let Ok(count) = io::writer(&self.rt).write(bytes)
                     && (count > 0 || bytes.is_empty())
                 {
                     return Ok(count);
@@ -158,7 +187,8 @@ fn open<R: Files + AllocGlobal>(rt: &R, name: &str) -> Result<BufReader<R::File>
     BufReader::with_capacity(rt.alloc(), READ_AHEAD, file).map_err(|_| DeskFault::NoMemory)
 }
 
-// A file to write, which is empty.
-fn create<R: Files>(rt: &R, name: &str) -> Result<R::File, DeskFault> {
-    File::create(rt, name).map_err(|_| DeskFault::Failed)
+// A file to write, which is empty, with a buffer in front of it.
+fn create<R: Files + AllocGlobal>(rt: &R, name: &str) -> Result<BufWriter<R::File>, DeskFault> {
+    let file = File::create(rt, name).map_err(|_| DeskFault::Failed)?;
+    BufWriter::with_capacity(rt.alloc(), GATHERED, file).map_err(|_| DeskFault::NoMemory)
 }

@@ -16,6 +16,12 @@
 //! counts, and no bytes. [`Scales`] keeps no byte, and tells what was put into each slot by its
 //! [`Weight`].
 //!
+//! What is put into a file through [`FileDesk`] is gathered, and handed on in pieces of 64 KiB. So a
+//! failed write of gathered bytes counts where it is found: at the call of their own slot that
+//! needed the room, or at that of Note, before which all that was gathered is handed on.
+//! [`FileDesk::hand_on`] tells the slot that lost them. What is still gathered when the desk is
+//! dropped goes to its file then, where it can.
+//!
 //! Left out: that a file was kept by the system, locks on files, and any wait for a reader.
 #![tactic(auto)]
 

@@ -99,4 +99,15 @@ impl<F: Write + Drop> Port<F> {
         }
         Err(self.fail())
     }
+
+    // Hands on what was gathered in front of the file, unless a call of this slot has failed. Tells
+    // whether all of it went.
+    pub fn hand_on(&mut self) -> bool
+        ensures { port_view self.new ≡ port_view self.old }
+    {
+        match &mut self.file {
+            Some(file) if self.faults == 0 => file.flush().is_ok(),
+            _ => true,
+        }
+    }
 }

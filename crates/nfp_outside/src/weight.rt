@@ -47,7 +47,7 @@ impl Weight {
 
 /// A law: bytes that are put behind others weigh what both weigh at once, and from nothing they weigh
 /// what their list weighs.
-#[tactic(auto, using(crate::proofs::Weighing::heavier_more, crate::proofs::Weighing::heavier_none))]
+#[tactic(auto, using(crate::specs::Adding::heavier_more, crate::proofs::Weighing::heavier_none))]
 pub fn weights_add_up()
     ensures joined { (a b : List ℕ) (w : Weight) → heavier b (heavier a w) ≡ heavier (a ++ b) w }
     ensures whole { (bytes : List ℕ) → heavier bytes no_weight ≡ weight_of bytes }

@@ -51,7 +51,7 @@ impl Writer {
     /// Writes a record: its head in one piece of 16 bytes, and its frame in another.
     ///
     /// It is refused as `begin` is.
-    #[tactic(auto, using(nfp_outside::proofs::Steps::prefix_longer, nfp_outside::proofs::Steps::prefix_more))]
+    #[tactic(auto, using(nfp_outside::specs::Adding::prefix_longer, nfp_outside::specs::Adding::prefix_more))]
     pub fn put<D: Desk>(&mut self, desk: &mut D, packet: &PcapRecord) -> Result<(), OutsideFault>
         requires attached { IsSome (D.slots desk.old Slot.Out).name }
         requires short { length packet.now.frame < 2 ^ 32 }

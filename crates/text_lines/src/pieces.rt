@@ -4,6 +4,7 @@ ghost use Rattle.std.specs.List.{flat_map};
 ghost use Rattle.std.specs.Fmt.{decimal};
 ghost use Rattle.text_lines.specs.Pieces.{piece_text};
 
+use itoa::Buffer;
 use std::alloc::{AllocError, Global};
 
 /// A piece of a text.
@@ -57,8 +58,8 @@ fn push_piece(alloc: Global, text: &mut Vec<u8>, piece: &Piece) -> Result<(), Al
     match piece {
         Piece::Text(bytes) => text.extend_from_slice(bytes),
         Piece::Number(number) => {
-            let digits = number.to_string(alloc)?;
-            text.extend_from_slice(digits.as_bytes())
+            let mut digits = Buffer::new();
+            text.extend_from_slice(digits.format(*number).as_bytes())
         }
     }
 }

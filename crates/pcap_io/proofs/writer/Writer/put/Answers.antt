@@ -3,7 +3,7 @@ use Rattle.std.proofs.Common.{rules, ◌≡◌, subst}
 use Rattle.std.proofs.lemmas.Result.{on_ok_weaker}
 use Rattle.nfp_outside.specs.declared.slot.Slot.TheVariants.{Out}
 use Rattle.nfp_outside.specs.Outside.{Appends}
-use Rattle.nfp_outside.proofs.Steps.{appends_more}
+use Rattle.nfp_outside.specs.Adding.{appends_more}
 use Rattle.pcap_io.specs.Written.{record_head}
 use Rattle.pcap_io.proofs.writer.Writer.put.Goals as goal
 
