@@ -1,5 +1,5 @@
 //! The table that says which chain takes a packet.
-ghost use Rattle.std.specs.Prelude.{◌≡◌, ◌<◌, ◌^◌, IfOk, IfSome, length, map, position};
+ghost use Rattle.std.specs.Prelude.{◌≡◌, ◌<◌, ◌^◌, List, ℕ, IfOk, IfSome, IsTrue, Some, length, map, position};
 ghost use Rattle.policy_text.specs.Meeting.{is_fitting};
 ghost use Rattle.classifier.specs.Classes.{class_of};
 
@@ -44,10 +44,28 @@ impl ClassTable {
     pub fn class(&self, frame: &[u8]) -> Option<u32>
         ensures { result ≡ class_of self.now frame.now }
     {
-        match first_that_fits(self.fits.as_slice(), &seen(frame)) {
+        let chains = self.fits.as_slice();
+        // Of the frame nothing is looked at where that is of no account.
+        if chains.is_empty() {
+            return None;
+        }
+        if first_takes_all(chains) {
+            return Some(0);
+        }
+        match first_that_fits(chains, &seen(frame)) {
             None => None,
             Some(place) => Some(place as u32),
         }
+    }
+}
+
+/// Is there a first chain, and does it have no clauses?
+fn first_takes_all(chains: &[Match]) -> bool
+    ensures { IsTrue result → (frame : List ℕ) → class_of chains.now frame ≡ Some 0 }
+{
+    match chains.first() {
+        Some(fit) => fit.clauses.as_slice().is_empty(),
+        None => false,
     }
 }
 
