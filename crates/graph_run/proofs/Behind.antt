@@ -12,7 +12,7 @@ use Rattle.action_profile.specs.Modes.{mode_of}
 use Rattle.action_profile.specs.declared.parts.Touch.{Touch}
 use Rattle.action_profile.specs.declared.rights.Profile.{Profile}
 use Rattle.chain_walk.specs.Shown.{Values, AreWellFormed}
-use Rattle.chain_walk.specs.FieldWalk.{End.Out, End.Gone}
+use Rattle.chain_walk.specs.FieldWalk.{End.Out}
 use Rattle.graph_law.specs.Branches.{Version}
 use Rattle.graph_law.specs.Merging.{lesser as lesser_by, least_nil as least_by, later, latest, unwritten, gone_or, merged as merged_by_law}
 use Rattle.packet_version.specs.Parts.{PlainPart, Parts, values_of, unwritten as cleared}

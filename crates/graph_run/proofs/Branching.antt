@@ -1,5 +1,5 @@
 -- The branches of a stage, one after another: how far they have come.
-use Rattle.std.proofs.Common.{◌≡◌, ◌∙◌, ◌<◌, ◌≤◌, ◌+◌, ◌-◌, ◌*◌, ℕ, zero, suc, Bool, true, false, List, [], ◌∷◌, ◌++◌, map, length, take, drop, get_or, sym, ap, refl, subst, arith, add-one}
+use Rattle.std.proofs.Common.{◌≡◌, ◌∙◌, ◌<◌, ◌≤◌, ◌+◌, ◌*◌, ℕ, zero, suc, Bool, true, false, List, [], ◌∷◌, ◌++◌, map, length, take, drop, get_or, sym, ap, refl, subst, arith, add-one}
 use mathlib.Core.Path.{fun_ext}
 use Rattle.std.specs.Prelude.{if◌then◌else◌, Option, Some, None, option_map, IfSome, slice_get}
 use Rattle.std.proofs.Math.Seq.{drop-nil}

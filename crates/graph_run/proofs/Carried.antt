@@ -1,5 +1,5 @@
 -- A version goes on from function to function.
-use Rattle.std.proofs.Common.{◌≡◌, ◌≢◌, ◌∙◌, ◌≤◌, ◌+◌, ◌*◌, ℕ, Bool, true, false, List, length, sym, ap, refl, subst, arith}
+use Rattle.std.proofs.Common.{◌≡◌, ◌∙◌, ◌≤◌, ◌+◌, ◌*◌, ℕ, Bool, true, false, List, length, sym, ap, refl, subst, arith}
 use Rattle.std.specs.Prelude.{Option, Some, None, is_some, ◌&&◌, IfSome, IsSomeAnd, if◌then◌else◌}
 use Rattle.packet_fields.specs.Frames.{is_tag_list}
 use Rattle.packet_fields.specs.declared.field.Field.{Field}

@@ -10,6 +10,7 @@ pub mod Behind
 pub mod Owning
 pub mod Branching
 pub mod Staged
+pub mod OnlyBranch
 pub mod Reaching
 pub mod WayThroughStages
 pub mod Onward

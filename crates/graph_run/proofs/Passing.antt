@@ -1,10 +1,10 @@
 -- What a stage gave, by what was merged.
-use Rattle.std.proofs.Common.{◌≡◌, ◌∙◌, ◌<◌, ◌≤◌, ◌+◌, ℕ, true, List, map, length, get_or, sym, ap, subst}
+use Rattle.std.proofs.Common.{◌≡◌, ◌∙◌, ◌<◌, ◌+◌, ℕ, true, List, map, length, get_or, sym, ap, subst}
 use Rattle.chain_walk.specs.Shown.{Values}
 use Rattle.chain_walk.specs.Step.{Behaviour}
 use Rattle.chain_walk.specs.Laws.{KeepsProfile}
 use Rattle.chain_walk.specs.Walk.{walk}
-use Rattle.chain_walk.specs.FieldWalk.{End.Out, End.Gone}
+use Rattle.chain_walk.specs.FieldWalk.{End.Gone}
 use Rattle.chain_walk.specs.declared.fixed.Fixed.{Fixed}
 use Rattle.chain_walk.specs.declared.walk.Fate.TheVariants as fates
 use Rattle.graph_compile.specs.Positions.{stands}

@@ -1,5 +1,5 @@
 -- A stage whose branches have all run, and the copies that it made.
-use Rattle.std.proofs.Common.{◌≡◌, ◌∙◌, ◌<◌, ◌≤◌, ◌+◌, ℕ, zero, suc, List, [], ◌∷◌, ◌++◌, map, length, drop, sym, ap, refl, subst, arith}
+use Rattle.std.proofs.Common.{◌≡◌, ◌∙◌, ◌<◌, ◌≤◌, ℕ, zero, suc, List, [], ◌∷◌, map, length, drop, sym, ap, refl, subst, arith}
 use Rattle.std.specs.Prelude.{◌^◌, Option, Some, None, is_some, if◌then◌else◌, slice_index_or}
 use Rattle.std.proofs.lemmas.List.{drop_all, take_all, append-nil}
 use Rattle.packet_fields.specs.Fields.{number_of}

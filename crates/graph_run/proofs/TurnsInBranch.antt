@@ -20,7 +20,7 @@ use Rattle.merge_ops.specs.declared.arrival.Arrival.TheVariants as cames
 use Rattle.chain_walk.specs.Shown.{AreWellFormed}
 use Rattle.graph_run.specs.Carrying.{as_version, as_branch_end, wrote_at}
 use Rattle.graph_run.specs.Rooms.{adders_from}
-use Rattle.graph_run.specs.Staging.{Holds, IsReady, IsCarried, IsCarriedBy, IsWhatWasWritten}
+use Rattle.graph_run.specs.Staging.{Holds, IsReady, IsCarried, IsCarriedBy, IsWhatWasWritten, KeepsPacket}
 use Rattle.graph_run.proofs.RoomForTags.{adders_at, room_later}
 use Rattle.graph_run.proofs.Carried.{StaysFormed, carried_on}
 
@@ -36,6 +36,7 @@ pub record InTurn {F : Type 0} (b : Behaviour F) (positions : List ℕ) (first n
   pub profiles : map b.profile now ≡ map b.profile first
   pub fixed : v.fixed ≡ v0.fixed
   pub touch : v.touch ≡ v0.touch
+  pub kept : v.kept ≡ v0.kept
   pub goes : (whole : PlainApart) (low high : ℕ) → Holds (map b.profile first) v0.touch low high positions → IsCarried (map b.profile first) whole v0.touch low v0 →
       Goes (map b.profile first) whole v0.touch high (drop i positions) v
 
@@ -45,6 +46,7 @@ turns_begin b positions first v = record {
   profiles = refl;
   fixed = refl;
   touch = refl;
+  kept = refl;
   goes = λ whole low high holds carried. record { at = low; holds = holds; carried = carried };
 }
 
@@ -171,6 +173,7 @@ turn_taken {F} b positions first now v0 v after i f d stays keeps turn ready ins
       profiles = map-set_same b.profile now (q - 1) f d (ap b.profile moved ∙ profile_kept b v.fixed was v keeps) ∙ turn.profiles;
       fixed = ap (λ x. x.fixed) wrote ∙ turn.fixed;
       touch = ap (λ x. x.touch) wrote ∙ turn.touch;
+      kept = ap (λ x. x.kept) wrote ∙ turn.kept;
       goes = λ whole low high holds carried.
           let goes = turn.goes whole low high holds carried in
           let next = next_in (map b.profile first) v0.touch goes.at high positions i inside goes.holds in
@@ -215,6 +218,7 @@ pub record Dropped {F : Type 0} (b : Behaviour F) (positions : List ℕ) (first 
   pub functions : now ≡ (in_turn b v0.fixed positions first (Live (as_version v0))).functions
   pub arrival : as_branch_end came ≡ (in_turn b v0.fixed positions first (Live (as_version v0))).arrival
   pub carried : (whole : PlainApart) (low high : ℕ) → Holds (map b.profile first) v0.touch low high positions → IsCarried (map b.profile first) whole v0.touch low v0 → IsCarriedBy (map b.profile first) whole v0.touch high came
+  pub kept : KeepsPacket v0 came
 
 pub turn_dropped : {F : Type 0} (b : Behaviour F) (positions : List ℕ) (first now : List F) (v0 v : PlainVersion) (i : ℕ) (f d : F) (came : Arrival) →
     InTurn b positions first now v0 v i → IsReady (map b.profile first) positions v0 → i < length positions →
@@ -236,4 +240,4 @@ turn_dropped {F} b positions first now v0 v i f d (cames.Nil p) turn ready insid
     ∙ sym (in_turn_more b v0.fixed q (drop (i + 1) positions) now was (Live (as_version v)) is)
     ∙ ap (λ l. in_turn b v0.fixed l now (Live (as_version v))) (sym (drop_more positions i 0 inside))
     ∙ turn.same in
-    record { functions = ap (λ r. r.functions) all; arrival = ap (λ r. r.arrival) all; carried = λ whole low high holds carried. tt }
+    record { functions = ap (λ r. r.functions) all; arrival = ap (λ r. r.arrival) all; carried = λ whole low high holds carried. tt; kept = tt }

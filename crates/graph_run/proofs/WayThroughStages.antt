@@ -1,5 +1,5 @@
 -- A packet on its way through the stages of a graph: how far it has come.
-use Rattle.std.proofs.Common.{◌≡◌, ◌∙◌, ◌<◌, ◌≤◌, ◌+◌, ◌*◌, ℕ, zero, suc, Bool, true, false, List, [], ◌∷◌, ◌++◌, map, length, take, drop, get_or, sym, ap, refl, subst, arith}
+use Rattle.std.proofs.Common.{◌≡◌, ◌∙◌, ◌<◌, ◌≤◌, ◌+◌, ◌*◌, ℕ, zero, suc, Bool, true, false, List, [], ◌∷◌, map, length, take, drop, get_or, sym, ap, refl, subst, arith}
 use mathlib.Core.Path.{fun_ext}
 use Rattle.std.specs.Prelude.{if◌then◌else◌, Option, Some, None, option_map, is_some, IfSome, slice_get}
 use Rattle.std.proofs.lemmas.List.{drop_more, length-map}
@@ -13,7 +13,6 @@ use Rattle.chain_walk.specs.Shown.{Values, AreWellFormed, fixed_of}
 use Rattle.chain_walk.specs.Step.{Behaviour}
 use Rattle.chain_walk.specs.FieldWalk.{End, End.Out, End.Gone, Ended}
 use Rattle.chain_walk.specs.declared.fixed.Fixed.{Fixed}
-use Rattle.chain_walk.specs.declared.walk.Fate.TheVariants as fates
 use Rattle.graph_compile.specs.Facts.{IsLawful, IsFull}
 use Rattle.graph_compile.specs.Lawful.{size, IsLawfulStage, IsStaged}
 use Rattle.graph_compile.specs.declared.graph.Branch.{Branch}
@@ -23,7 +22,6 @@ use Rattle.graph_law.specs.Flow.{staged, then_flow, flow}
 use Rattle.packet_version.specs.Parts.{values_of}
 use Rattle.packet_version.specs.Splitting.{PlainApart, split_parts, fresh, spare_room, packet_parts}
 use Rattle.packet_version.specs.Tallies.{count_of, raised}
-use Rattle.merge_ops.specs.declared.merging.Merged.TheVariants as ends
 use Rattle.graph_run.specs.Carrying.{values_in}
 use Rattle.graph_run.specs.Counting.{copies_in, RaisesAll}
 use Rattle.graph_run.specs.Rooms.{adders_from}

@@ -1,5 +1,5 @@
 -- A version in which a function wrote, field by field.
-use Rattle.std.proofs.Common.{◌≡◌, ◌≢◌, ◌∙◌, ◌≤◌, ℕ, false, List, length, sym, ap, refl, arith}
+use Rattle.std.proofs.Common.{◌≡◌, ◌∙◌, ◌≤◌, ℕ, false, List, length, sym, ap, refl, arith}
 use mathlib.Core.Path.{fun_ext}
 use Rattle.std.specs.Prelude.{Option, Some, None, is_some, option_map, IfSome, IsSomeAnd}
 use Rattle.std.specs.Option.{option_or}

@@ -1,5 +1,5 @@
 -- Believed: how many copies a graph makes of the packets that go through it.
-use Rattle.std.specs.Prelude.{ℕ, ◌+◌, ◌≤◌, List, [], ◌∷◌, ◌≡◌, if◌then◌else◌, is_some}
+use Rattle.std.specs.Prelude.{ℕ, ◌≤◌, List, [], ◌∷◌, ◌≡◌, if◌then◌else◌, is_some}
 use Rattle.std.specs.List.{sum_by, zip}
 use Rattle.packet_fields.specs.Fields.{value}
 use Rattle.packet_fields.specs.declared.field.Field.{Field}

@@ -1,5 +1,5 @@
 -- For proofs: what a branch leaves of a version.
-use Rattle.std.specs.Prelude.{◌≡◌, ◌≤◌, ◌<◌, ◌+◌, ℕ, List, [], ◌∷◌, Some}
+use Rattle.std.specs.Prelude.{◌≡◌, ◌≤◌, ◌+◌, ℕ, List, [], ◌∷◌, Some}
 use Rattle.action_profile.specs.declared.parts.Touch.{Touch}
 use Rattle.action_profile.specs.declared.rights.Profile.{Profile}
 use Rattle.chain_walk.specs.Shown.{Values, AreWellFormed}
@@ -38,6 +38,12 @@ abbrev pub IsCarriedBy : List Profile → PlainApart → Touch → ℕ → Arriv
 IsCarriedBy chain whole touch position (came.Version version) = IsCarried chain whole touch position version
 IsCarriedBy chain whole touch position (came.Nil p) = Unit {0}
 IsCarriedBy chain whole touch position came.Short = ⊥
+
+-- a version that comes has the same of the packet with it as the one that was there
+abbrev pub KeepsPacket : PlainVersion → Arrival → Type 0
+KeepsPacket version (came.Version after) = after.kept ≡ version.kept
+KeepsPacket version (came.Nil p) = Unit {0}
+KeepsPacket version came.Short = ⊥
 
 -- a version that comes is the one that was there, with what the function at this position wrote
 abbrev pub IsWhatWasWritten : ℕ → Values → PlainVersion → Arrival → Type 0

@@ -7,7 +7,7 @@ ghost use Rattle.graph_law.specs.Branches.{BranchEnd.Live, moved_function, moved
 ghost use Rattle.packet_version.specs.Splitting.{PlainApart};
 ghost use Rattle.graph_run.specs.Carrying.{as_version, as_branch_end, wrote_at};
 ghost use Rattle.graph_run.specs.Running.{profiles_of};
-ghost use Rattle.graph_run.specs.Staging.{Holds, IsReady, IsCarried, IsCarriedBy, IsWhatWasWritten};
+ghost use Rattle.graph_run.specs.Staging.{Holds, IsReady, IsCarried, IsCarriedBy, IsWhatWasWritten, KeepsPacket};
 
 use chain_walk::values_stay_well_formed;
 use merge_ops::Arrival;
@@ -51,6 +51,7 @@ pub(crate) fn run_branch<F: Function, R: Wait>(
     requires ready { IsReady (profiles_of F.behaviour functions.old) positions.now version }
     ensures functions { OnOk result (functions.new ≡ (in_turn F.behaviour version.fixed positions.now functions.old (Live (as_version version))).functions) }
     ensures arrival { IfOk result (λ arrival. as_branch_end arrival ≡ (in_turn F.behaviour version.fixed positions.now functions.old (Live (as_version version))).arrival) }
+    ensures kept { IfOk result (KeepsPacket version) }
     // What comes may be merged, and has room for the functions that follow.
     ensures carried { (whole : PlainApart) (low high : ℕ) → Holds (profiles_of F.behaviour functions.old) version.touch low high positions.now → IsCarried (profiles_of F.behaviour functions.old) whole version.touch low version →
         IfOk result (IsCarriedBy (profiles_of F.behaviour functions.old) whole version.touch high) }

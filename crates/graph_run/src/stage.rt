@@ -1,5 +1,5 @@
 //! A stage of a graph: a packet is dealt to its branches, each runs, and what comes is merged.
-ghost use Rattle.std.specs.Prelude.{◌≡◌, ℕ, IfOk, OnOk, OnErr};
+ghost use Rattle.std.specs.Prelude.{◌≡◌, ℕ, length, IfOk, OnOk, OnErr};
 ghost use Rattle.graph_law.specs.Flow.{staged};
 ghost use Rattle.graph_run.specs.Carrying.{values_in, as_end};
 ghost use Rattle.graph_run.specs.Counting.{RaisesAll, RaisesUpTo};
@@ -9,14 +9,68 @@ ghost use Rattle.graph_run.specs.Stages.{IsStageReady, LeavesStage, end_of, stag
 use crate::branch::run_branch;
 use graph_compile::{Stage, lawful_stage_has_owners};
 use graph_law::profiles_stay;
-use merge_ops::{Merged, last_writer_is_greatest, merge, merged_is_written_last, written_is_made};
+use merge_ops::{
+    Merged, last_writer_is_greatest, merge, merge_only, merged_is_written_last, written_is_made,
+};
 use net_functions::Function;
-use packet_version::{Apart, Tally, deal};
+use packet_version::{Apart, Tally, deal, deal_whole};
 use std::alloc::{AllocError, Global};
 use std::sync::Wait;
 
 /// Leads a packet through the branches of a stage, one branch after another.
 pub(crate) fn run_stage<F: Function, R: Wait>(
+    rt: &R,
+    alloc: Global,
+    functions: &mut [F],
+    stage: &Stage,
+    whole: Apart,
+    tally: &mut Tally,
+) -> Result<Merged, AllocError>
+    requires ready { (first : ℕ) × IsStageReady (profiles_of F.behaviour functions.old) first stage.now whole }
+    ensures functions { OnOk result (functions.new ≡ (staged F.behaviour whole.fixed stage.now (values_in whole) functions.old).functions) }
+    ensures end { IfOk result (λ merged. as_end merged ≡ (staged F.behaviour whole.fixed stage.now (values_in whole) functions.old).end) }
+    ensures leaves { (first : ℕ) → IsStageReady (profiles_of F.behaviour functions.old) first stage.now whole → IfOk result (LeavesStage (profiles_of F.behaviour functions.old) (end_of first stage.now) whole) }
+    ensures counted { OnOk result (RaisesAll (stage_copies stage.now whole) tally.old tally.new) }
+    ensures refused { OnErr result (RaisesUpTo (stage_copies stage.now whole) tally.old tally.new) }
+{
+    if stage.branches.as_slice().len() == 1 {
+        run_only(rt, alloc, functions, stage, whole, tally)
+    } else {
+        run_branches(rt, alloc, functions, stage, whole, tally)
+    }
+}
+
+/// Leads a packet through the only branch of a stage, which has it whole.
+fn run_only<F: Function, R: Wait>(
+    rt: &R,
+    alloc: Global,
+    functions: &mut [F],
+    stage: &Stage,
+    whole: Apart,
+    tally: &mut Tally,
+) -> Result<Merged, AllocError>
+    requires one { length stage.now.branches ≡ 1 }
+    requires ready { (first : ℕ) × IsStageReady (profiles_of F.behaviour functions.old) first stage.now whole }
+    ensures functions { OnOk result (functions.new ≡ (staged F.behaviour whole.fixed stage.now (values_in whole) functions.old).functions) }
+    ensures end { IfOk result (λ merged. as_end merged ≡ (staged F.behaviour whole.fixed stage.now (values_in whole) functions.old).end) }
+    ensures leaves { (first : ℕ) → IsStageReady (profiles_of F.behaviour functions.old) first stage.now whole → IfOk result (LeavesStage (profiles_of F.behaviour functions.old) (end_of first stage.now) whole) }
+    ensures counted { OnOk result (RaisesAll (stage_copies stage.now whole) tally.old tally.new) }
+    ensures refused { OnErr result (RaisesUpTo (stage_copies stage.now whole) tally.old tally.new) }
+{
+    lawful_stage_has_owners();
+    profiles_stay::<F>();
+    written_is_made();
+    last_writer_is_greatest();
+    merged_is_written_last();
+    let touch = stage.parts.touches.as_slice()[0];
+    let version = deal_whole(alloc, whole, touch, &stage.parts.modes, tally)?;
+    let positions = stage.branches.as_slice()[0].positions.as_slice();
+    let arrival = run_branch(rt, functions, positions, version)?;
+    Ok(merge_only(arrival))
+}
+
+/// Leads a packet through the branches of a stage, each of which has a version of it.
+fn run_branches<F: Function, R: Wait>(
     rt: &R,
     alloc: Global,
     functions: &mut [F],

@@ -26,6 +26,7 @@ branch_with f bytes writer = Version (record {
   parts = as_list (λ g. if is_field f g then Some (record { bytes = bytes; writer = writer; room = 4 }) else None);
   touch = record { reads = record { 0 = 0 }; writes = record { 0 = 8 } };
   fixed = fixed;
+  kept = None;
 })
 
 -- two branches write the type of service: the later in the chain prevails, in either order

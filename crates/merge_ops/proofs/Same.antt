@@ -61,7 +61,7 @@ turned true n = refl
 turned false n = refl
 
 -- the first that passes is known by the tests
-position-map : {A : Type 0} (p : A → Bool) (xs : List A) → position (λ b. b) (map p xs) ≡ position p xs
+pub position-map : {A : Type 0} (p : A → Bool) (xs : List A) → position (λ b. b) (map p xs) ≡ position p xs
 position-map p xs =
     let first : position_or_len (λ b. b) (map p xs) ≡ position_or_len p xs = is_position_or_len (λ ys. position_or_len (λ b. b) (map p ys)) p refl (λ y ys. turned (p y) (1 + position_or_len (λ b. b) (map p ys))) xs in
     let len : length (map p xs) ≡ length xs = length-map xs p in
@@ -86,7 +86,7 @@ same_from f old new None s = refl
 same_from f old new (Some b) s = same_at f old new b s
 
 -- the part behind the stage is the same of such arrivals
-same_behind : (f : Field) (old new : List Arrival) (last : Option ℕ) (own : Option PlainPart) → SameIn f old new → part_behind f new last own ≡ part_behind f old last own
+pub same_behind : (f : Field) (old new : List Arrival) (last : Option ℕ) (own : Option PlainPart) → SameIn f old new → part_behind f new last own ≡ part_behind f old last own
 same_behind f old new last own s =
     ap (λ (b : Option ℕ). option_or (part_from f new b) own) (same_source f old new last own s)
     ∙ ap (λ (p : Option PlainPart). option_or p own) (same_from f old new (source f old last own) s)

@@ -46,6 +46,12 @@ pub record AreArrivals (base : PlainApart) (arrivals : List Arrival) : Type 0 wh
   pub touches : List Touch
   pub from : AreFrom whole touches base arrivals
 
+-- the branch that an arrival comes from had the packet whole, of which this is the base
+abbrev pub KeepsBase : PlainApart → Arrival → Type 0
+KeepsBase base (Version v) = v.kept ≡ Some base
+KeepsBase base (Nil p) = Unit {0}
+KeepsBase base Short = Unit {0}
+
 -- the value of a field behind the stage: that which was written last, and the packet's own where nobody wrote
 abbrev pub value_by : PlainApart → List Arrival → Field → Option ℕ → Option (List ℕ)
 value_by whole arrivals f None = values_of (packet_parts whole) f

@@ -7,7 +7,8 @@
 //!
 //! What is promised: a packet is short exactly where an arrival is; else gone exactly where it was
 //! dropped, at the least chain position; else each field has the part with the greatest writer, and the
-//! packet's own where nobody wrote it. The rest of the frame and the fixed values are the base's. The list
+//! packet's own where nobody wrote it. [`merge_only`] does the same behind a stage of one branch, which had
+//! the packet whole. The rest of the frame and the fixed values are the base's. The list
 //! of arrivals is emptied, and no memory is taken. [`merged_is_written_last`] says it of the values,
 //! [`last_writer_is_greatest`] says who wrote last, and [`unwritten_is_same`] that a packet which nobody
 //! wrote comes back as the same frame.
@@ -17,11 +18,13 @@
 //! [`written_is_made`] give it from what was dealt and then written.
 #![tactic(auto)]
 
+mod alone;
 mod arrival;
 mod decision;
 mod laws;
 mod merging;
 
+pub use alone::merge_only;
 pub use arrival::Arrival;
 pub use decision::{Decision, MergeOp, decide};
 pub use laws::{

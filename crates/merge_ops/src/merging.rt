@@ -53,13 +53,16 @@ pub fn merge<R: Wait>(rt: &R, base: Base, arrivals: &mut Vec<Arrival>) -> Merged
 }
 
 /// Puts the part of each field in.
-fn put_parts(gathered: &mut Gathered, arrivals: &mut [Arrival], ops: &[MergeOp; 10])
+pub(crate) fn put_parts(gathered: &mut Gathered, arrivals: &mut [Arrival], ops: &[MergeOp; 10])
     requires listed { gathered.old.parts ≡ as_list (packet_parts gathered.old) }
     requires ops { ops.now ≡ map (op_of arrivals.old) every_field }
     ensures parts { gathered.new ≡ with_parts gathered.old (merged_parts gathered.old arrivals.old) }
     ensures tags { AreTags (packet_parts gathered.old Field.Tag) → AreTags (packet_parts gathered.new Field.Tag) }
 {
     let writable = writable_in(arrivals);
+    if writable == FieldSet::NONE {
+        return;
+    }
     for field in all_fields() {
         put_part(gathered, arrivals, writable, *field, ops[field.number()]);
     }

@@ -1,5 +1,5 @@
 -- A part that is dealt by the mode of its field.
-use Rattle.std.proofs.Common.{rules, ◌≡◌, ◌∙◌, ◌-◌, ℕ, Bool, true, false, List, [], ◌∷◌, map, sym, ap, refl, subst, arith}
+use Rattle.std.proofs.Common.{rules, ◌≡◌, ◌∙◌, ◌-◌, ℕ, Bool, true, false, List, [], ◌∷◌, map, sym, ap, refl, arith}
 use mathlib.Core.Path.{fun_ext}
 use Rattle.std.specs.Prelude.{if◌then◌else◌, count_by, position, Option, Some, None, option_map, OnOk, Result, Ok, Err, ◌||◌, ◌&&◌, not, ◌==◌}
 use Rattle.std.specs.List.{list_any}
@@ -14,10 +14,12 @@ use Rattle.action_profile.specs.declared.parts.Mode.{Mode}
 use Rattle.action_profile.specs.declared.parts.Mode.TheVariants.{Shared, Moved, Copied}
 use Rattle.action_profile.specs.declared.parts.Touch.{Touch}
 use Rattle.chain_walk.specs.declared.fixed.Fixed.{Fixed}
-use Rattle.packet_version.specs.Parts.{PlainPart, Parts, as_list, unwritten, writer_in, IsPartOf}
+use Rattle.packet_version.specs.Parts.{PlainPart, PlainHeld, Parts, as_list, as_map, unwritten, writer_in, IsPartOf}
 use Rattle.packet_version.specs.Versions.{PlainVersion, nothing, had_by}
-use Rattle.packet_version.specs.Dealing.{dealt_version, is_given, kept_parts, copies_due}
-use Rattle.packet_version.specs.Handing.{touches_in, copied_some, copies_of, own_parts, with_own, with_loan, lent_to, reads_more, writers_in}
+use Rattle.packet_fields.specs.Writing.{rest_of}
+use Rattle.packet_version.specs.Splitting.{PlainApart}
+use Rattle.packet_version.specs.Dealing.{dealt_parts, dealt_version, is_given, kept_parts, copies_due}
+use Rattle.packet_version.specs.Handing.{touches_in, copied_some, copies_of, own_parts, with_own, with_loan, with_packet, lent_to, reads_more, writers_in}
 use Rattle.packet_version.proofs.Firsts.{NoneOf, count-map, count-weaker, any-none, none-map}
 use Rattle.packet_version.proofs.Maps.{as_map-listed}
 use Rattle.packet_version.proofs.Modal.{shared_unwritten, moved_given, copied_given, copied_lent}
@@ -118,11 +120,13 @@ dealt_by true false o k kept = kept refl
 dealt_by false true o k kept = refl
 dealt_by false false o k kept = refl
 
+parts_dealt : (parts kept : Parts) (touch : Touch) → ((f : Field) → only_reads f touch ≡ true → kept f ≡ option_map unwritten (parts f)) → had_by touch (as_map (as_list (own_parts touch parts))) kept ≡ dealt_parts touch parts
+parts_dealt parts kept touch are =
+    ap (λ (m : Parts). had_by touch m kept) (as_map-listed (own_parts touch parts))
+    ∙ fun_ext (λ f. dealt_by (has touch.reads f) (has touch.writes f) (option_map unwritten (parts f)) (kept f) (are f))
+
 loan_dealt : (parts kept : Parts) (v : PlainVersion) → ((f : Field) → only_reads f v.touch ≡ true → kept f ≡ option_map unwritten (parts f)) → with_loan kept (with_own parts v) ≡ dealt_version parts v.fixed v.touch
-loan_dealt parts kept v are =
-    ap (λ (m : Parts). let x : PlainVersion = record { parts = as_list (had_by v.touch m kept); touch = v.touch; fixed = v.fixed } in x) (as_map-listed (own_parts v.touch parts))
-    ∙ ap (λ (m : Parts). let x : PlainVersion = record { parts = as_list m; touch = v.touch; fixed = v.fixed } in x)
-    (fun_ext (λ f. dealt_by (has v.touch.reads f) (has v.touch.writes f) (option_map unwritten (parts f)) (kept f) (are f)))
+loan_dealt parts kept v are = ap (λ (m : Parts). let x : PlainVersion = record { parts = as_list m; touch = v.touch; fixed = v.fixed; kept = None } in x) (parts_dealt parts kept v.touch are)
 
 not_more : (a b : ℕ) → not (a == b) ≡ false → a ≡ b
 not_more a b e = search rules
@@ -133,25 +137,22 @@ unfolding reads_more
 no_more touch f e =
     sym (has_joined touch.reads touch.writes f) ∙ ap (λ (n : ℕ). bit_at n (number_of f) == 1) (not_more (joined touch.reads touch.writes).0 touch.writes.0 e)
 
-lent_dealt : (parts kept : Parts) (v : PlainVersion) → ((f : Field) → only_reads f v.touch ≡ true → kept f ≡ option_map unwritten (parts f)) → lent_to kept (with_own parts v) ≡ dealt_version parts v.fixed v.touch
-lent_dealt parts kept v are = by_test (reads_more v.touch) refl
+lent_dealt : (parts kept : Parts) (v : PlainVersion) → v.kept ≡ None → ((f : Field) → only_reads f v.touch ≡ true → kept f ≡ option_map unwritten (parts f)) → lent_to kept (with_own parts v) ≡ dealt_version parts v.fixed v.touch
+lent_dealt parts kept v none are = by_test (reads_more v.touch) refl
   where
     by_test : (b : Bool) → reads_more v.touch ≡ b → (if b then with_loan kept (with_own parts v) else with_own parts v) ≡ dealt_version parts v.fixed v.touch
     by_test true e = loan_dealt parts kept v are
     by_test false e =
-        ap (λ (m : Parts). let x : PlainVersion = record { parts = as_list m; touch = v.touch; fixed = v.fixed } in x)
+        ap (λ (k : Option PlainApart). record (with_own parts v) { kept = k }) none
+        ∙ ap (λ (m : Parts). let x : PlainVersion = record { parts = as_list m; touch = v.touch; fixed = v.fixed; kept = None } in x)
         (fun_ext (λ f. ap (λ (b : Bool). if b then option_map unwritten (parts f) else None) (sym (no_more v.touch f e))))
 
 -- versions with parts of their own and a loan are those that are dealt
-pub all_dealt : (parts kept : Parts) (vs : List PlainVersion) → AreKept (touches_in vs) parts kept → map (lent_to kept) (map (with_own parts) vs) ≡ map (λ v. dealt_version parts v.fixed v.touch) vs
-all_dealt parts kept [] are = refl
-all_dealt parts kept (v ∷ vs) are =
-    ap (λ (x : PlainVersion). x ∷ map (lent_to kept) (map (with_own parts) vs)) (lent_dealt parts kept v (λ f e. are f (first_any f v.touch (touches_in vs) e)))
-    ∙ ap (λ (xs : List PlainVersion). dealt_version parts v.fixed v.touch ∷ xs) (all_dealt parts kept vs (λ f e. are f (later_any f v.touch (touches_in vs) e)))
-
-empty_dealt : (ts : List Touch) (parts : Parts) (fixed : Fixed) → map (λ v. dealt_version parts v.fixed v.touch) (map (λ t. nothing t fixed) ts) ≡ map (dealt_version parts fixed) ts
-empty_dealt [] parts fixed = refl
-empty_dealt (t ∷ ts) parts fixed = ap (λ (xs : List PlainVersion). dealt_version parts fixed t ∷ xs) (empty_dealt ts parts fixed)
+all_dealt : (parts kept : Parts) (fixed : Fixed) (ts : List Touch) → AreKept ts parts kept → map (lent_to kept) (map (with_own parts) (map (λ t. nothing t fixed) ts)) ≡ map (dealt_version parts fixed) ts
+all_dealt parts kept fixed [] are = refl
+all_dealt parts kept fixed (t ∷ ts) are =
+    ap (λ (x : PlainVersion). x ∷ map (lent_to kept) (map (with_own parts) (map (λ t. nothing t fixed) ts))) (lent_dealt parts kept (nothing t fixed) refl (λ f e. are f (first_any f t ts e)))
+    ∙ ap (λ (xs : List PlainVersion). dealt_version parts fixed t ∷ xs) (all_dealt parts kept fixed ts (λ f e. are f (later_any f t ts e)))
 
 touches_empty : (ts : List Touch) (fixed : Fixed) → touches_in (map (λ t. nothing t fixed) ts) ≡ ts
 touches_empty [] fixed = refl
@@ -160,11 +161,19 @@ touches_empty (t ∷ ts) fixed = ap (λ (us : List Touch). t ∷ us) (touches_em
 -- and so are those of a stage
 pub stage_dealt : (ts : List Touch) (parts : Parts) (fixed : Fixed) (vs owned lent : List PlainVersion) → vs ≡ map (λ t. nothing t fixed) ts → owned ≡ map (with_own parts) vs → lent ≡ map (lent_to (kept_parts ts parts)) owned → lent ≡ map (dealt_version parts fixed) ts
 stage_dealt ts parts fixed vs owned lent empty own loan =
-    let touches : touches_in vs ≡ ts = ap touches_in empty ∙ touches_empty ts fixed in
     loan
-    ∙ (ap (λ (xs : List PlainVersion). map (lent_to (kept_parts ts parts)) xs) own
-    ∙ (all_dealt parts (kept_parts ts parts) vs (subst (λ (us : List Touch). AreKept us parts (kept_parts ts parts)) (sym touches) (are_kept ts parts))
-    ∙ (ap (λ (xs : List PlainVersion). map (λ v. dealt_version parts v.fixed v.touch) xs) empty ∙ empty_dealt ts parts fixed)))
+    ∙ (ap (λ (xs : List PlainVersion). map (lent_to (kept_parts ts parts)) xs) (own ∙ ap (map (with_own parts)) empty)
+    ∙ all_dealt parts (kept_parts ts parts) fixed ts (are_kept ts parts))
+
+-- the version that the only branch of a stage is dealt, with what is left of the packet
+pub whole_dealt : (t : Touch) (parts : Parts) (frame : List ℕ) (fixed : Fixed) (v : PlainVersion) (held : PlainHeld) → v ≡ with_own parts (nothing t fixed) → held ≡ record { parts = as_list (kept_parts (t ∷ []) parts); frame = frame } →
+    with_packet held v ≡ record (dealt_version parts fixed t) { kept = Some (record { parts = as_list (kept_parts (t ∷ []) parts); rest = rest_of frame; fixed = fixed }) }
+whole_dealt t parts frame fixed v held own is =
+    ap (λ (x : PlainVersion). with_packet held x) own
+    ∙ ap (λ (h : PlainHeld). with_packet h (with_own parts (nothing t fixed))) is
+    ∙ ap (λ (m : Parts). let x : PlainVersion = record { parts = as_list m; touch = t; fixed = fixed; kept = Some (record { parts = as_list (kept_parts (t ∷ []) parts); rest = rest_of frame; fixed = fixed }) } in x)
+    (ap (λ (m : Parts). had_by t (as_map (as_list (own_parts t parts))) m) (as_map-listed (kept_parts (t ∷ []) parts))
+    ∙ parts_dealt parts (kept_parts (t ∷ []) parts) t (λ f e. are_kept (t ∷ []) parts f (first_any f t [] e)))
 
 -- nobody is the writer of what is kept, and its parts are their fields'
 pub kept_unwritten : (ts : List Touch) (parts : Parts) (f : Field) → writer_in (kept_parts ts parts f) ≡ 0

@@ -38,6 +38,7 @@ wrote_alone view f part =
       others = λ g apart. ap (λ (m : Parts). m g) whole ∙ changed_other f g part (seen_parts view) apart;
       touch = refl;
       fixed = refl;
+      kept = refl;
       profile = refl;
       position = refl;
     }

@@ -1,5 +1,5 @@
 -- For proofs: how the branches of a stage come to the parts of a packet.
-use Rattle.std.specs.Prelude.{◌≡◌, ◌≤◌, ℕ, List, Option, Some, None, Bool, true, false, if◌then◌else◌, option_map}
+use Rattle.std.specs.Prelude.{◌≡◌, ◌≤◌, ℕ, List, [], ◌∷◌, Option, Some, None, Bool, true, false, if◌then◌else◌, option_map}
 use Rattle.packet_fields.specs.declared.field.Field.{Field}
 use Rattle.action_profile.specs.Modes.{has_touch, mode_of, copies_by_mode}
 use Rattle.action_profile.specs.declared.parts.Mode.{Mode}
@@ -16,7 +16,7 @@ abbrev pub dealt_parts : Touch → Parts → Parts
 dealt_parts touch parts f = if has_touch f touch then option_map unwritten (parts f) else None
 
 abbrev pub dealt_version : Parts → Fixed → Touch → PlainVersion
-dealt_version parts fixed touch = record { parts = as_list (dealt_parts touch parts); touch = touch; fixed = fixed }
+dealt_version parts fixed touch = record { parts = as_list (dealt_parts touch parts); touch = touch; fixed = fixed; kept = None }
 
 -- the version that a branch with this touch is dealt
 abbrev pub dealt : PlainApart → Touch → PlainVersion
@@ -39,6 +39,10 @@ kept_parts touches parts f = kept_part (mode_of touches f) (parts f)
 -- the base beside the versions of branches with these touches
 abbrev pub based : List Touch → PlainApart → PlainApart
 based touches whole = record whole { parts = as_list (kept_parts touches (packet_parts whole)) }
+
+-- the version that the only branch of a stage is dealt: it has the base with it
+abbrev pub dealt_whole : PlainApart → Touch → PlainVersion
+dealt_whole whole touch = record (dealt whole touch) { kept = Some (based (touch ∷ []) whole) }
 
 -- the copies that are due of a part, where it is there
 abbrev pub copies_due : List Touch → Field → Option PlainPart → ℕ

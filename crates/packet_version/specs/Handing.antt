@@ -6,6 +6,7 @@ use Rattle.action_profile.specs.Modes.{has_write}
 use Rattle.action_profile.specs.declared.parts.Touch.{Touch}
 use Rattle.packet_version.specs.Parts.{PlainPart, PlainHeld, Parts, as_map, as_list, changed, unwritten}
 use Rattle.packet_version.specs.Versions.{PlainVersion, version_parts, with_part, had_by}
+use Rattle.packet_fields.specs.Writing.{rest_of}
 use Rattle.packet_version.specs.declared.base.Kept.{Kept}
 use Rattle.packet_version.specs.declared.base.Kept.TheVariants.{Own, Lent}
 
@@ -39,7 +40,18 @@ reads_more touch = not ((joined touch.reads touch.writes).0 == touch.writes.0)
 
 -- a version with a loan of these parts
 abbrev pub with_loan : Parts → PlainVersion → PlainVersion
-with_loan parts version = record version { parts = as_list (had_by version.touch (version_parts version) parts) }
+with_loan parts version = record version { parts = as_list (had_by version.touch (version_parts version) parts); kept = None }
+
+-- a version with what is left of the packet
+abbrev pub with_packet : PlainHeld → PlainVersion → PlainVersion
+with_packet held version = record version {
+  parts = as_list (had_by version.touch (version_parts version) (as_map held.parts));
+  kept = Some (record { parts = held.parts; rest = rest_of held.frame; fixed = version.fixed });
+}
+
+-- a version without all that its branch doesn't write
+abbrev pub with_own_alone : PlainVersion → PlainVersion
+with_own_alone version = record version { parts = as_list (λ f. if has_write f version.touch then version_parts version f else None); kept = None }
 
 -- the same, where its branch reads of it
 abbrev pub lent_to : Parts → PlainVersion → PlainVersion

@@ -6,13 +6,19 @@ use Rattle.action_profile.specs.Profiles.{reads_of, writes_of}
 use Rattle.action_profile.specs.declared.parts.Touch.{Touch}
 use Rattle.action_profile.specs.declared.rights.Profile.{Profile}
 use Rattle.packet_version.specs.Parts.{PlainPart, PlainHeld, Parts, as_map, as_list, changed, writer_in, IsPartOf}
+use Rattle.packet_version.specs.Splitting.{PlainApart}
+use Rattle.packet_version.specs.declared.loan.Loan.{Loan}
+use Rattle.packet_version.specs.declared.loan.Loan.TheVariants.{Shared, Whole}
+use Rattle.packet_fields.specs.Writing.{rest_of}
 use Rattle.chain_walk.specs.declared.fixed.Fixed.{Fixed}
 
--- The parts of a branch in the fields' order, what the branch touches, and the packet's fixed values.
+-- The parts of a branch in the fields' order, what the branch touches, and the packet's fixed values; beside them the packet
+-- without what the branch writes, where the branch is the only one of its stage and has it with it.
 pub record PlainVersion : Type 0 where
   pub parts : List (Option PlainPart)
   pub touch : Touch
   pub fixed : Fixed
+  pub kept : Option PlainApart
 
 abbrev pub version_parts : PlainVersion → Parts
 version_parts version = as_map version.parts
@@ -23,7 +29,7 @@ with_part f part version = record version { parts = as_list (changed f part (ver
 
 -- a version without any field
 abbrev pub nothing : Touch → Fixed → PlainVersion
-nothing touch fixed = record { parts = as_list (λ f. None); touch = touch; fixed = fixed }
+nothing touch fixed = record { parts = as_list (λ f. None); touch = touch; fixed = fixed; kept = None }
 
 -- the profile names the field
 abbrev pub names : Profile → Field → Bool
@@ -36,9 +42,16 @@ pub record HoldsNamed (profile : Profile) (touch : Touch) : Type 0 where
   pub written : (f : Field) → writes_of profile f ≡ true → has_write f touch ≡ true
 
 -- the parts that are lent, where there are some
-abbrev pub lent_parts : Option PlainHeld → Parts
+abbrev pub lent_parts : Option (Loan PlainHeld) → Parts
 lent_parts None f = None
-lent_parts (Some held) f = as_map held.parts f
+lent_parts (Some (Shared held)) f = as_map held.parts f
+lent_parts (Some (Whole held)) f = as_map held.parts f
+
+-- the packet that a branch has with it
+abbrev pub kept_by : Option (Loan PlainHeld) → Fixed → Option PlainApart
+kept_by None fixed = None
+kept_by (Some (Shared held)) fixed = None
+kept_by (Some (Whole held)) fixed = Some (record { parts = held.parts; rest = rest_of held.frame; fixed = fixed })
 
 -- what a branch has of a packet: its own part of each field that it writes, and the lent one of each that it only reads
 abbrev pub had_by : Touch → Parts → Parts → Parts
@@ -46,7 +59,7 @@ had_by touch own lent f = if has_write f touch then own f else (if only_reads f 
 
 -- There is a place for each part of a branch's own, what is lent was written by nobody, and each part has its field's
 -- length, the tags as whole tags.
-pub record IsHad (touch : Touch) (own : List (Option PlainPart)) (lent : Option PlainHeld) : Type 0 where
+pub record IsHad (touch : Touch) (own : List (Option PlainPart)) (lent : Option (Loan PlainHeld)) : Type 0 where
   pub there : (f : Field) → has_write f touch ≡ true → length own ≡ 10
   pub unwritten : (f : Field) → writer_in (lent_parts lent f) ≡ 0
   pub formed : (f : Field) → IsPartOf f (had_by touch (as_map own) (lent_parts lent) f)

@@ -7,6 +7,7 @@ use Rattle.action_profile.specs.declared.rights.Profile.{Profile}
 use Rattle.chain_walk.specs.Shown.{Values}
 use Rattle.chain_walk.specs.Step.{Behaviour, Step, stepped}
 use Rattle.packet_version.specs.Parts.{PlainPart, PlainHeld, Parts, as_list, values_of, rewritten, changed, is_field}
+use Rattle.packet_version.specs.declared.loan.Loan.{Loan}
 use Rattle.packet_version.specs.Versions.{PlainVersion, version_parts, with_part, HoldsNamed, IsHad}
 
 -- The version, the profile of the function that sees it, and the function's position in its chain.
@@ -61,17 +62,18 @@ abbrev pub alone : Field → Option (List ℕ) → Values
 alone f new g = if is_field f g then new else None
 
 -- what a view keeps: the version holds what the profile names
-pub record IsView (profile : Profile) (touch : Touch) (own : List (Option PlainPart)) (lent : Option PlainHeld) : Type 0 where
+pub record IsView (profile : Profile) (touch : Touch) (own : List (Option PlainPart)) (lent : Option (Loan PlainHeld)) : Type 0 where
   pub had : IsHad touch own lent
   pub holds : HoldsNamed profile touch
 
--- One field of a view became this part. Every other field is as it was, and so is all else: what the branch touches, the
--- fixed values, the profile and the position.
+-- One field of a view became this part. Every other field is as it was, and so is all else: what the branch touches and has
+-- with it, the fixed values, the profile and the position.
 pub record WroteAlone (f : Field) (part : Option PlainPart) (before after : PlainView) : Type 0 where
   pub whole : seen_parts after ≡ changed f part (seen_parts before)
   pub own : seen_parts after f ≡ part
   pub others : (g : Field) → f ≢ g → seen_parts after g ≡ seen_parts before g
   pub touch : after.version.touch ≡ before.version.touch
   pub fixed : after.version.fixed ≡ before.version.fixed
+  pub kept : after.version.kept ≡ before.version.kept
   pub profile : after.profile ≡ before.profile
   pub position : after.position ≡ before.position

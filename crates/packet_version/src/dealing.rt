@@ -1,12 +1,12 @@
 //! Dealing a packet to the branches of a stage.
 
-ghost use Rattle.std.specs.Prelude.{◌≡◌, ◌≤◌, map, length, OnOk, OnErr, IfOk};
+ghost use Rattle.std.specs.Prelude.{◌≡◌, ◌≤◌, [], ◌∷◌, map, length, OnOk, OnErr, IfOk};
 ghost use Rattle.packet_fields.specs.declared.field.Field.{Field};
 ghost use Rattle.action_profile.specs.Modes.{modes_of};
 ghost use Rattle.packet_version.specs.Parts.{as_map, as_list, IsPartOf};
 ghost use Rattle.packet_version.specs.Splitting.{packet_parts, IsWhole};
 ghost use Rattle.packet_version.specs.Versions.{nothing};
-ghost use Rattle.packet_version.specs.Dealing.{dealt, based, kept_parts, RaisesByDue, RaisesWithinDue};
+ghost use Rattle.packet_version.specs.Dealing.{dealt, dealt_whole, based, kept_parts, RaisesByDue, RaisesWithinDue};
 ghost use Rattle.packet_version.specs.Handing.{touches_in, with_own, without_fields};
 
 use crate::apart::Apart;
@@ -18,6 +18,7 @@ use crate::version::Version;
 use action_profile::{Mode, StageParts, Touch, all_fields};
 use chain_walk::Fixed;
 use std::alloc::{AllocError, Global};
+use std::slice;
 
 /// Makes the versions of a stage's branches, in branch order, and the base beside them.
 ///
@@ -55,6 +56,35 @@ pub fn deal(
     deal_parts(alloc, &mut held, &parts.modes, &mut versions, tally)?;
     let kept = share_out(alloc, held, &mut versions)?;
     Ok((Base { kept, fixed }, versions))
+}
+
+/// Makes the version of a stage's only branch, which has what it doesn't write of the packet with it.
+///
+/// No other branch has any of the packet, so nothing is lent, and no base stands beside the version:
+/// [`Version::part`] gives it back. Else it is as [`deal`] says, and so is what it counts. Memory is taken
+/// for the parts of the branch where it writes some field, and for each of them that has room for more
+/// than 12 bytes.
+pub fn deal_whole(
+    alloc: Global,
+    whole: Apart,
+    touch: Touch,
+    modes: &[Mode; 10],
+    tally: &mut Tally,
+) -> Result<Version, AllocError>
+    requires { modes.now ≡ modes_of (touch ∷ []) }
+    ensures version { IfOk result (λ version. version ≡ dealt_whole whole touch) }
+    ensures counted { OnOk result (RaisesByDue (touch ∷ []) (packet_parts whole) tally.old tally.new) }
+    ensures refused { OnErr result (RaisesWithinDue (touch ∷ []) (packet_parts whole) tally.old tally.new) }
+
+    // The packet's parts are those of its frame, in number and length.
+    ensures fits { IsWhole (packet_parts whole) whole.rest }
+{
+    let Apart { mut held, fixed } = whole;
+    let mut version = Version::empty(alloc, touch, fixed)?;
+    let only = slice::from_mut(&mut version);
+    deal_parts(alloc, &mut held, modes, only, tally)?;
+    version.keep(held);
+    Ok(version)
 }
 
 /// Versions without any field.

@@ -8,7 +8,9 @@
 //! and a [`Tally`] counts it. A function sees its branch's version through a [`View`], by its profile:
 //! it reads and writes what the profile names and nothing else. What no branch has stays in the [`Base`];
 //! behind the stage it gathers the lent parts ([`Base::gather`]), takes those that the branches wrote
-//! ([`Version::take`], [`Gathered::put`]), and is a packet again ([`Gathered::finish`]).
+//! ([`Version::take`], [`Gathered::put`]), and is a packet again ([`Gathered::finish`]). The only branch of a
+//! stage has the whole packet with it ([`deal_whole`]) and gives it back ([`Version::part`]): there is no base,
+//! and nothing is lent.
 //!
 //! A part stays in its frame until a branch writes its field: then it is taken out, and [`join`] writes
 //! it back. So a field that nobody writes is never copied, and all that a stage's branches only read is
@@ -24,7 +26,8 @@
 //! Contracts see a packet, a base, a version and a view as plain data: a list of ten optional parts, each
 //! with its bytes, its writer and its room, which `as_map` of `specs/Parts.antt` reads as a map from the
 //! fields (`packet_parts`, `version_parts`, and `seen_parts` of a view); beside it what the branch
-//! touches, the fixed values, the profile and the position.
+//! touches, the fixed values, what a branch has with it of the packet beside its own parts (`kept`), the
+//! profile and the position.
 //!
 //! Which part of several prevails behind a stage is left out, and so is what a function does.
 #![tactic(auto)]
@@ -36,6 +39,7 @@ mod gathered;
 mod hand;
 mod held;
 mod laws;
+mod loan;
 mod part;
 mod place;
 mod rest;
@@ -46,7 +50,7 @@ mod view;
 pub use apart::{Apart, join, split};
 pub use base::Base;
 pub use chain_walk::{Fixed, Verdict};
-pub use dealing::deal;
+pub use dealing::{deal, deal_whole};
 pub use gathered::Gathered;
 pub use laws::{
     dealt_is_read, later_write_stands_over, left_is_read, shape_fits, unwritten_stays,

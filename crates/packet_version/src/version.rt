@@ -1,6 +1,8 @@
 //! What a branch of a stage has of a packet.
 
+use crate::gathered::Gathered;
 use crate::held::Held;
+use crate::loan::Loan;
 use crate::part::Part;
 use crate::view::View;
 use action_profile::{FieldSet, Profile, Touch, all_fields};
@@ -19,18 +21,18 @@ pub struct Version {
     // A place for each field, or none where the branch writes nothing.
     pub(crate) own: Vec<Option<Part>>,
     // One loan has all that the branch only reads.
-    pub(crate) lent: Option<Reader<Held>>,
+    pub(crate) lent: Option<Loan<Reader<Held>>>,
     pub(crate) touch: Touch,
     pub(crate) fixed: Fixed,
 }
 
 impl Model for Version {
     ghost use Rattle.packet_version.specs.Parts.{as_map, as_list};
-    ghost use Rattle.packet_version.specs.Versions.{PlainVersion, had_by, lent_parts, IsHad};
+    ghost use Rattle.packet_version.specs.Versions.{PlainVersion, had_by, lent_parts, kept_by, IsHad};
 
     ghost Value = { PlainVersion };
 
-    ghost view = { λ v. record { parts = as_list (had_by v.touch (as_map v.own.items) (lent_parts v.lent)); touch = v.touch; fixed = v.fixed } };
+    ghost view = { λ v. record { parts = as_list (had_by v.touch (as_map v.own.items) (lent_parts v.lent)); touch = v.touch; fixed = v.fixed; kept = kept_by v.lent v.fixed } };
 
     ghost invariant = { λ v. IsHad v.touch v.own.items v.lent };
 }
@@ -69,7 +71,8 @@ impl Version {
     ghost use Rattle.action_profile.specs.Modes.{has_write};
     ghost use Rattle.packet_version.specs.Parts.{as_map, writer_in, writers_of, AreTags, IsValueOf, IsPartOf};
     ghost use Rattle.packet_version.specs.Versions.{version_parts, with_part, nothing};
-    ghost use Rattle.packet_version.specs.Handing.{reads_more, with_loan};
+    ghost use Rattle.packet_version.specs.Handing.{reads_more, with_loan, with_packet, with_own_alone};
+    ghost use Rattle.std.specs.Prelude.{IsSome};
 
     /// A branch's version in which there is no field yet.
     pub(crate) fn empty(alloc: Global, touch: Touch, fixed: Fixed) -> Result<Version, AllocError>
@@ -135,7 +138,41 @@ impl Version {
         requires formed { (f : Field) → IsPartOf f (as_map reader.parts f) }
         ensures { self.new ≡ with_loan (as_map reader.parts) self.old }
     {
-        self.lent = Some(reader);
+        self.lent = Some(Loan::Shared(reader));
+    }
+
+    /// Leaves the packet, which nobody wrote, with the branch, which is the only one of its stage.
+    pub(crate) fn keep(&mut self, held: Held)
+        requires unwritten { (f : Field) → writer_in (as_map held.parts f) ≡ 0 }
+        requires formed { (f : Field) → IsPartOf f (as_map held.parts f) }
+        ensures { self.new ≡ with_packet held self.old }
+    {
+        self.lent = Some(Loan::Whole(held));
+    }
+
+    /// Takes the packet back that was left with the only branch of a stage, and leaves that branch its own
+    /// parts alone.
+    pub fn part(self) -> (Gathered, Version)
+        requires { IsSome self.kept }
+        ensures base { self.kept ≡ Some result.0 }
+        ensures version { result.1 ≡ with_own_alone self }
+    {
+        let Version {
+            own,
+            lent,
+            touch,
+            fixed,
+        } = self;
+        let Some(Loan::Whole(held)) = lent else {
+            unreachable!()
+        };
+        let version = Version {
+            own,
+            lent: None,
+            touch,
+            fixed,
+        };
+        (Gathered { held, fixed }, version)
     }
 
     /// Takes the branch's own part of a field away.
@@ -176,21 +213,23 @@ fn empty_places(alloc: Global) -> Result<Vec<Option<Part>>, AllocError>
 }
 
 /// A claim on what is lent.
-fn claimed<R: Wait>(rt: &R, lent: Option<Reader<Held>>) -> Option<Shown<Held>>
+fn claimed<R: Wait>(rt: &R, lent: Option<Loan<Reader<Held>>>) -> Option<Loan<Shown<Held>>>
     ensures { result ≡ lent }
 {
     match lent {
-        Some(reader) => Some(reader.read(rt)),
+        Some(Loan::Shared(reader)) => Some(Loan::Shared(reader.read(rt))),
+        Some(Loan::Whole(held)) => Some(Loan::Whole(held)),
         None => None,
     }
 }
 
 /// The right to read again, with the claim given back.
-pub(crate) fn released(shown: Option<Shown<Held>>) -> Option<Reader<Held>>
+pub(crate) fn released(shown: Option<Loan<Shown<Held>>>) -> Option<Loan<Reader<Held>>>
     ensures { result ≡ shown }
 {
     match shown {
-        Some(shown) => Some(shown.done()),
+        Some(Loan::Shared(shown)) => Some(Loan::Shared(shown.done())),
+        Some(Loan::Whole(held)) => Some(Loan::Whole(held)),
         None => None,
     }
 }

@@ -2,6 +2,7 @@
 
 use crate::held::Held;
 use crate::laws::view_is_formed;
+use crate::loan::Loan;
 use crate::part::{Part, edit_part};
 use crate::version::{Version, released};
 use action_profile::{Profile, Touch};
@@ -15,7 +16,7 @@ use std::mem;
 /// dropped: [`View::end`] gives the version back.
 pub struct View {
     pub(crate) own: Vec<Option<Part>>,
-    pub(crate) lent: Option<Shown<Held>>,
+    pub(crate) lent: Option<Loan<Shown<Held>>>,
     pub(crate) touch: Touch,
     pub(crate) fixed: Fixed,
     pub(crate) profile: Profile,
@@ -24,12 +25,12 @@ pub struct View {
 
 impl Model for View {
     ghost use Rattle.packet_version.specs.Parts.{as_map, as_list};
-    ghost use Rattle.packet_version.specs.Versions.{had_by, lent_parts};
+    ghost use Rattle.packet_version.specs.Versions.{had_by, lent_parts, kept_by};
     ghost use Rattle.packet_version.specs.Views.{PlainView, IsView};
 
     ghost Value = { PlainView };
 
-    ghost view = { λ v. record { version = record { parts = as_list (had_by v.touch (as_map v.own.items) (lent_parts v.lent)); touch = v.touch; fixed = v.fixed }; profile = v.profile; position = v.position } };
+    ghost view = { λ v. record { version = record { parts = as_list (had_by v.touch (as_map v.own.items) (lent_parts v.lent)); touch = v.touch; fixed = v.fixed; kept = kept_by v.lent v.fixed }; profile = v.profile; position = v.position } };
 
     ghost invariant = { λ v. IsView v.profile v.touch v.own.items v.lent };
 }
@@ -75,10 +76,7 @@ impl View {
         if self.touch.writes.has(field) {
             return own_bytes(&self.own[field.number()]);
         }
-        match &self.lent {
-            Some(shown) => shown.part().bytes(field),
-            None => None,
-        }
+        lent_bytes(&self.lent, field)
     }
 
     /// Writes a field that is present and that the profile writes, other than the tags. The value has as
@@ -210,7 +208,19 @@ impl View {
 ghost use Rattle.std.specs.Prelude.{◌≡◌, ◌≤◌, ◌<◌, ◌+◌, ◌++◌, true, drop, length, option_map, IsSomeAnd};
 ghost use Rattle.packet_fields.specs.Frames.{is_tpid, word};
 ghost use Rattle.std.specs.Option.{option_copied};
-ghost use Rattle.packet_version.specs.Parts.{AreTags, rewritten as rewritten_part};
+ghost use Rattle.packet_version.specs.Parts.{AreTags, values_of, rewritten as rewritten_part};
+ghost use Rattle.packet_version.specs.Versions.{lent_parts};
+
+/// The bytes of a field of what is lent.
+fn lent_bytes(lent: &Option<Loan<Shown<Held>>>, field: Field) -> Option<&[u8]>
+    ensures { option_copied result ≡ values_of (lent_parts lent.now) field }
+{
+    match lent {
+        Some(Loan::Shared(shown)) => shown.part().bytes(field),
+        Some(Loan::Whole(held)) => held.bytes(field),
+        None => None,
+    }
+}
 
 /// The bytes of a part that is there.
 fn own_bytes(part: &Option<Part>) -> Option<&[u8]>

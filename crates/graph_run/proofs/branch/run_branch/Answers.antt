@@ -1,4 +1,4 @@
-use Rattle.std.proofs.Common.{rules, ◌≡◌, ◌≤◌, ◌+◌, length, true, ap, sym, subst, ◌∙◌, arith}
+use Rattle.std.proofs.Common.{rules, ◌≡◌, ◌≤◌, ◌+◌, length, true, ap, sym, subst, arith}
 use Rattle.std.specs.Prelude.{IfSome}
 use Rattle.packet_fields.specs.declared.field.Field.TheVariants.{Tag}
 use Rattle.packet_version.specs.Versions.{version_parts, HoldsNamed}
@@ -30,7 +30,7 @@ step_on-requires-clause-room g c =
 pub returns-in_default : goal.returns-in_default
 returns-in_default g c =
     let gone = turn_dropped _ _ _ _ _ _ _ _ _ c.in_ok-dropped.dropped c.loop-position.invariant c.requires.ready c.loop-position-test.true c.in_ok-dropped.ensures.function c.in_ok-dropped.ensures.arrival c.in_ok-dropped.ensures.written c.in_default.not-Version in
-    record { functions = gone.functions; arrival = gone.arrival; carried = gone.carried }
+    record { functions = gone.functions; arrival = gone.arrival; kept = gone.kept; carried = gone.carried }
 
 pub loop-position-preserved : goal.loop-position-preserved
 loop-position-preserved g c = turn_passed _ _ _ _ _ _ _ _ _ _ c.in_ok-dropped.dropped c.values_stay_well_formed.ensures.step g.met.F.Function.keeps c.loop-position.invariant c.requires.ready c.loop-position-test.true
@@ -44,3 +44,6 @@ returns-clause-arrival g c = ap (λ r. r.arrival) (turns_over _ _ _ _ _ _ _ c.lo
 
 pub returns-clause-carried : goal.returns-clause-carried
 returns-clause-carried g c = carried_over _ _ _ _ _ _ _ c.loop-position.invariant (omega arith)
+
+pub returns-clause-kept : goal.returns-clause-kept
+returns-clause-kept g c = c.loop-position.invariant.kept

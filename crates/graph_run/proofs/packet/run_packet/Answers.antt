@@ -1,4 +1,4 @@
-use Rattle.std.proofs.Common.{rules, ◌≡◌, ◌<◌, ◌≤◌, ◌∙◌, length, refl, ap, subst, get_or, arith}
+use Rattle.std.proofs.Common.{rules, ◌<◌, ◌≤◌, ◌∙◌, length, refl, ap, subst, get_or, arith}
 use Rattle.graph_run.proofs.WayThroughStages.{flow_begins}
 use Rattle.graph_run.proofs.Onward.{is_walk, way_over, all_made}
 use Rattle.graph_run.proofs.Passing.{next_ready, passed, dropped, never_short, failed}

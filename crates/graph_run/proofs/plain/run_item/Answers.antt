@@ -1,4 +1,4 @@
-use Rattle.std.proofs.Common.{rules, ◌≡◌, ◌∙◌, true, false}
+use Rattle.std.proofs.Common.{rules, ◌≡◌, true, false}
 use Rattle.graph_run.specs.Packets.{is_of}
 use Rattle.graph_run.proofs.Onward.{all_made}
 use Rattle.graph_run.proofs.Single.{skipped, walks, walks_up_to}

@@ -7,6 +7,7 @@ use Rattle.merge_ops.specs.Merging.{op_of}
 use Rattle.merge_ops.specs.declared.decision.MergeOp.{MergeOp}
 use Rattle.merge_ops.specs.declared.decision.MergeOp.TheVariants.{Keep}
 use Rattle.merge_ops.proofs.Same.{written_op, put_next, same_on, same_first}
+use Rattle.merge_ops.proofs.OnlyBranch.{untouched_packet}
 use Rattle.merge_ops.proofs.Writable.{none_first}
 use Rattle.merge_ops.proofs.merging.put_parts.Goals as goal
 
@@ -36,3 +37,6 @@ put_part-requires-clause-unwritten c = λ none.
     (let f = get_or c.all_fields-field-items.result.now c.loop-field.field-index LinkDst in
     let at : number_of f ≡ c.loop-field.field-index = number_at c.all_fields-field-items.result.now c.loop-field.field-index c.loop-field.invariant.fields c.loop-field-test.true in
     same_first f c.args.arrivals.now c.loop-field.arrivals (c.loop-field.invariant.left f (omega arith)) ∙ none_first c.args.arrivals.now f (sym (c.writable_in-writable.ensures.fields f) ∙ none))
+
+pub returns-then-eq-clause-parts : goal.returns-then-eq-clause-parts
+returns-then-eq-clause-parts c = untouched_packet c.args.gathered.now c.args.arrivals.now c.writable_in-writable.result c.requires.listed (sym c.eq.ensures ∙ c.if-eq.true) c.writable_in-writable.ensures.fields c.writable_in-writable.ensures.unwritten

@@ -1,6 +1,6 @@
 use Rattle.std.specs.Vec.Iter.{into_iter_items}
 use Rattle.graph_run.proofs.Branching.{HasRun}
-use Rattle.graph_run.proofs.stage.run_stage.Given as goal
+use Rattle.graph_run.proofs.stage.run_branches.Given as goal
 
 abbrev pub invariant-loop-version : goal.invariant-loop-version
 invariant-loop-version g l =

@@ -3,7 +3,7 @@ use Rattle.graph_compile.specs.declared.graph.Branch.{Branch}
 use Rattle.std.specs.Vec.Iter.{into_iter_items}
 use Rattle.graph_run.proofs.Branching.{branches_begin, branch_inside, branch_ready_at, branch_taken}
 use Rattle.graph_run.proofs.Staged.{branches_over, are_arrivals, few_arrivals, stage_ends, stage_leaves, stage_modes, stage_counted, stage_counted_up, stage_refused, nothing_left}
-use Rattle.graph_run.proofs.stage.run_stage.Goals as goal
+use Rattle.graph_run.proofs.stage.run_branches.Goals as goal
 
 some_touches : (touches branches : ℕ) → touches ≡ branches → 0 < branches → 1 ≤ touches
 some_touches touches branches same some = omega arith

@@ -1,0 +1,46 @@
+//! How a packet is put together again that only one branch had.
+
+ghost use Rattle.std.specs.Prelude.{◌≡◌, [], ◌∷◌, Some, IfSome};
+ghost use Rattle.packet_version.specs.Splitting.{PlainApart};
+ghost use Rattle.merge_ops.specs.Taking.{merged, merged_packet};
+ghost use Rattle.merge_ops.specs.Behind.{AreArrivals, KeepsBase};
+ghost use Rattle.merge_ops.specs.declared.arrival.Arrival.TheVariants.{Version as of_version};
+
+use crate::arrival::Arrival;
+use crate::decision::ops_of;
+use crate::merging::{Merged, put_parts};
+use action_profile::FieldSet;
+use packet_version::{Apart, Version, written_is_own};
+
+/// Puts a packet together again behind a stage of one branch, which had it whole
+/// ([`packet_version::deal_whole`]). It takes no memory and waits for nobody.
+///
+/// What comes of it is as [`crate::merge`] makes it of that one arrival and of what the branch had of the
+/// packet beside its own parts, as the base.
+pub fn merge_only(arrival: Arrival) -> Merged
+    requires { (base : PlainApart) × KeepsBase base arrival × AreArrivals base (arrival ∷ []) }
+    ensures { (base : PlainApart) → KeepsBase base arrival → result ≡ merged base (arrival ∷ []) }
+{
+    match arrival {
+        Arrival::Version(version) => Merged::Whole(merge_whole(version)),
+        Arrival::Nil(position) => Merged::Gone(position),
+        Arrival::Short => Merged::Short,
+    }
+}
+
+/// The packet that went on.
+fn merge_whole(version: Version) -> Apart
+    requires { (base : PlainApart) × (version.kept ≡ Some base) × AreArrivals base (of_version version ∷ []) }
+    ensures { IfSome version.kept (λ base. result ≡ merged_packet base (of_version version ∷ [])) }
+{
+    written_is_own(&version);
+    let writable = version.writable();
+    let (mut gathered, version) = version.part();
+    if writable == FieldSet::NONE {
+        return gathered.finish();
+    }
+    let mut arrivals = [Arrival::Version(version)];
+    let ops = ops_of(&arrivals);
+    put_parts(&mut gathered, &mut arrivals, &ops);
+    gathered.finish()
+}
