@@ -17,9 +17,9 @@ use Rattle.capture_report.specs.Report.{drop_lines, names_among}
 use Rattle.capture_run.specs.Slots.{Breaks, Puts}
 use Rattle.capture_run.specs.declared.fault.RunFault.{RunFault}
 use Rattle.capture_run.specs.declared.passage.Passage.{Passage}
+use Rattle.capture_run.specs.Putting.{breaks_is, puts_is}
 use Rattle.capture_run.proofs.Following.{each_names}
 use Rattle.capture_run.proofs.Passing.{records_refused}
-use Rattle.capture_run.proofs.Putting.{breaks_is, puts_is}
 use Rattle.capture_run.proofs.Walking.{length-fates_of}
 
 -- the lines that are made are those that come next

@@ -25,7 +25,7 @@ use Rattle.capture_report.specs.Telling.{told_text}
 use Rattle.capture_report.specs.declared.ended.Ended.{Ended}
 use Rattle.capture_run.specs.declared.fault.RunFault.{RunFault}
 use Rattle.capture_run.specs.declared.passage.Passage.{Passage}
-use Rattle.capture_run.proofs.Putting.{earlier_cause, later_more}
+use Rattle.capture_run.specs.Putting.{earlier_cause, later_more}
 use Rattle.capture_run.proofs.Running.{broken_goes, for_each, goes_by, if_some}
 use Rattle.capture_run.proofs.Telling.{WalkApart, summary_told}
 use Rattle.capture_run.proofs.Walking.{length-fates_of}

@@ -1,6 +1,6 @@
 -- What came of the packets of a burst is put, one after another.
 use Rattle.std.proofs.Common.{◌≡◌, ◌≢◌, ◌<◌, ◌+◌, ◌∙◌, ℕ, suc, List, [], ◌∷◌, ◌++◌, length, drop, refl, ap, sym, subst, append_assoc, arith}
-use Rattle.std.specs.Prelude.{All, IfSome, None, Option, slice_index_or}
+use Rattle.std.specs.Prelude.{All, IfSome, Option, slice_index_or}
 use Rattle.std.proofs.lemmas.List.{append-nil, drop_all, drop_more, nil_from_length}
 use Rattle.std.proofs.lemmas.List.Elements.{All-head, All-same, All-tail}
 use Rattle.nfp_outside.specs.declared.slot.Slot.{Slot}
@@ -9,12 +9,13 @@ use Rattle.nfp_outside.specs.Outside.{SlotView}
 use Rattle.packet_fields.specs.Checksums.{sealed}
 use Rattle.pcap_io.specs.declared.capture.PcapRecord.{PcapRecord}
 use Rattle.chain_walk.specs.declared.walk.Fate.{Fate}
+use Rattle.chain_walk.specs.declared.walk.Fate.TheVariants.{Out}
 use Rattle.classifier.specs.declared.burst.Item.{Item}
 use Rattle.capture_run.specs.Emitted.{emitted, emitted_all, wire_after}
 use Rattle.burst_walk.specs.Leading.{IsWritable, all_ended, ended, records_of}
 use Rattle.capture_run.specs.Slots.{Puts, Breaks}
 use Rattle.capture_run.specs.declared.fault.RunFault.{RunFault}
-use Rattle.capture_run.proofs.Putting.{puts_none, puts_more, puts_is, breaks_more, breaks_longer, breaks_is}
+use Rattle.capture_run.specs.Putting.{puts_none, puts_more, puts_is, breaks_more, breaks_longer, breaks_is}
 
 -- the records that are put of these packets, by the fates that their chains gave
 abbrev pub put_of : (PcapRecord → List ℕ) → List Item → List (Option Fate) → List ℕ
@@ -29,10 +30,10 @@ put_of-cons : (spelled : PcapRecord → List ℕ) (item : Item) (items : List It
 unfolding emitted_all all_ended
 put_of-cons spelled item items fate fates = refl
 
--- a packet that no chain took goes out as it was read
-pub untaken : (spelled : PcapRecord → List ℕ) (packet : PcapRecord) (fate : Option Fate) → fate ≡ None → sealed packet.frame packet.frame ≡ packet.frame →
-    wire_after packet.wire (length packet.frame) (length packet.frame) ≡ packet.wire → emitted spelled packet (ended packet fate) ≡ spelled packet
-untaken spelled packet fate none own as_long = ap (λ o. emitted spelled packet (ended packet o)) none ∙ (λ i. spelled (record packet { wire = as_long i; frame = own i }))
+-- a packet with the frame that was read goes out as it was read
+pub unchanged : (spelled : PcapRecord → List ℕ) (packet : PcapRecord) → sealed packet.frame packet.frame ≡ packet.frame →
+    wire_after packet.wire (length packet.frame) (length packet.frame) ≡ packet.wire → emitted spelled packet (Out packet.frame) ≡ spelled packet
+unchanged spelled packet own as_long = λ i. spelled (record packet { wire = as_long i; frame = own i })
 
 -- The records of some packets were put, and these fates are left.
 pub record IsEmitting (spelled spelled' : PcapRecord → List ℕ) (items : List Item) (fates left : List (Option Fate)) (index : ℕ) (old now : Slot → SlotView) : Type 0 where

@@ -20,7 +20,7 @@ use Rattle.capture_report.specs.Telling.{told_text}
 use Rattle.capture_report.specs.declared.ended.Ended.{Ended}
 use Rattle.capture_run.specs.Slots.{Breaks, Gathers, Puts}
 use Rattle.capture_run.specs.declared.fault.RunFault.{RunFault}
-use Rattle.capture_run.proofs.Putting.{breaks_is, breaks_longer, breaks_more, puts_is, puts_more, puts_none}
+use Rattle.capture_run.specs.Putting.{breaks_is, breaks_longer, breaks_more, puts_is, puts_more, puts_none}
 
 pub gathers_none : (h : List ℕ) (old : Slot → SlotView) → Gathers [] h h old old
 gathers_none h old = record { put = []; puts = puts_none old; parts = sym (append-nil h) }
@@ -74,7 +74,7 @@ module _ {X : Type 0} (piece : X → List ℕ) (xs : List X) where
   telling_begins h old = record { gathered = gathers_none h old; others = λ s r. refl }
 
   -- the pieces up to this one and its own
-  up_to : (index : ℕ) (x d : X) → index < length xs → x ≡ slice_index_or xs index d → flat_map piece (take (index + 1) xs) ≡ flat_map piece (take index xs) ++ piece x
+  pub up_to : (index : ℕ) (x d : X) → index < length xs → x ≡ slice_index_or xs index d → flat_map piece (take (index + 1) xs) ≡ flat_map piece (take index xs) ++ piece x
   up_to index x d inside is =
       ap (flat_map piece) (take_more xs index d inside)
       ∙ flat_map-append piece (take index xs) (slice_index_or xs index d ∷ [])

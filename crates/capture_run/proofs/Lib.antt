@@ -3,9 +3,9 @@ pub mod Capturing
 pub mod Emitting
 pub mod Following
 pub mod Gathering
+pub mod HandingOn
 pub mod Listing
 pub mod Passing
-pub mod Putting
 pub mod Refusing
 pub mod Running
 pub mod Sealing

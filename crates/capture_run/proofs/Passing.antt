@@ -14,9 +14,9 @@ use Rattle.capture_report.specs.Report.{drop_lines, is_gone, names_among}
 use Rattle.capture_run.specs.Slots.{Breaks, Puts}
 use Rattle.capture_run.specs.declared.fault.RunFault.{RunFault}
 use Rattle.capture_run.specs.declared.passage.Passage.{Passage}
+use Rattle.capture_run.specs.Putting.{breaks_is, breaks_longer, breaks_more, puts_is, puts_more, puts_none}
 use Rattle.capture_run.proofs.Following.{each_fits, each_more, each_names, each_none}
 use Rattle.capture_run.proofs.Listing.{emitted-append, gone-append, lines-append, no_lines, none_emitted}
-use Rattle.capture_run.proofs.Putting.{breaks_is, breaks_longer, breaks_more, puts_is, puts_more, puts_none}
 use Rattle.capture_run.proofs.Walking.{chains_behind-append, classed-append, declared_behind, fates_of-append, length-fates_of, no_fates, none_behind}
 
 -- the chain of each packet

@@ -14,8 +14,8 @@ use Rattle.capture_run.specs.Slots.{Breaks, Puts, PutsPrefixes}
 use Rattle.capture_run.specs.declared.fault.RunFault.{RunFault}
 use Rattle.capture_run.specs.declared.fault.RunFault.TheVariants.{OutOfMemory}
 use Rattle.capture_run.specs.declared.passage.Passage.{Passage}
+use Rattle.capture_run.specs.Putting.{later_same, no_memory}
 use Rattle.capture_run.proofs.Passing.{longer}
-use Rattle.capture_run.proofs.Putting.{later_same, no_memory}
 
 pub if_some : (o : Option Body) (P Q : Body → Type 0) → ((b : Body) → P b → Q b) → IfSome o P → IfSome o Q
 if_some None P Q f h = tt

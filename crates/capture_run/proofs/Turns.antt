@@ -27,8 +27,8 @@ use Rattle.capture_run.specs.Sources.{GivesRecord, RefusesNext}
 use Rattle.capture_run.specs.declared.fault.RunFault.{RunFault}
 use Rattle.capture_run.specs.declared.fault.RunFault.TheVariants as faults
 use Rattle.capture_run.specs.declared.passage.Passage.{Passage}
+use Rattle.capture_run.specs.Putting.{breaks_none, capture_is_not_out, capture_is_not_report, puts_is, puts_more, puts_read}
 use Rattle.capture_run.proofs.Passing.{breaks_next, passes_more, passes_none}
-use Rattle.capture_run.proofs.Putting.{breaks_none, capture_is_not_out, capture_is_not_report, puts_is, puts_more, puts_read}
 use Rattle.capture_run.proofs.Running.{breaks_run, runs_all, with_more, with_none, with_records}
 use Rattle.capture_run.proofs.Walking.{length-fates_of}
 

@@ -12,7 +12,7 @@ use Rattle.burst_walk.specs.Fates.{all_classed, chains_behind, fates_of}
 use Rattle.capture_report.specs.Report.{copies_due, drop_lines, is_gone, names_among, report_bytes, report_of, summary, title}
 use Rattle.capture_run.specs.Slots.{Breaks, Puts}
 use Rattle.capture_run.specs.declared.fault.RunFault.{RunFault}
-use Rattle.capture_run.proofs.Putting.{breaks_is, breaks_longer, breaks_more, puts_is, puts_more}
+use Rattle.capture_run.specs.Putting.{breaks_is, breaks_longer, breaks_more, puts_is, puts_more}
 
 -- the lines of the records that were dropped
 abbrev pub lines_due : Chains → TimeUnit → List PcapRecord → List ℕ

@@ -2,6 +2,7 @@
 ghost use Rattle.std.specs.Prelude.{◌≡◌, ◌≢◌, ◌<◌, ◌^◌, [], All, IfErr, IfSome, OnOk, IsSome, length};
 ghost use Rattle.nfp_outside.specs.declared.slot.Slot.{Slot};
 ghost use Rattle.packet_fields.specs.Checksums.{sealed};
+ghost use Rattle.chain_walk.specs.declared.walk.Fate.TheVariants.{Out};
 ghost use Rattle.capture_run.specs.Emitted.{emitted, emitted_all, wire_after};
 ghost use Rattle.burst_walk.specs.Leading.{IsWritable, records_of, ended, all_ended};
 ghost use Rattle.capture_run.specs.Slots.{Puts, Breaks};
@@ -58,15 +59,52 @@ fn put_fate<W: Sink, D: Desk>(
     ensures others { (s : Slot) → s ≢ Slot.Out → D.slots desk.new s ≡ D.slots desk.old s }
 {
     match fate {
-        None => {
-            let frame = packet.frame.bytes();
-            unchanged_is_sealed(frame);
-            unchanged_is_as_long(packet.wire, frame.len());
-            put_record(desk, writer, packet)
-        }
-        Some(Fate::Out(frame)) => put_record(desk, writer, &emitted_record(packet, frame)),
+        None => put_unchanged(desk, writer, packet),
+        Some(Fate::Out(frame)) => put_left(desk, writer, packet, frame),
         Some(Fate::Gone(_)) => Ok(()),
     }
+}
+
+// Puts the record of a packet that its chain left with this frame. Comparing frames is far cheaper than sealing one, so a record whose
+// frame didn't change is put as it was read.
+fn put_left<W: Sink, D: Desk>(
+    desk: &mut D,
+    writer: &mut W,
+    packet: &PcapRecord,
+    frame: Frame,
+) -> Result<(), RunFault>
+    requires out { IsSome (D.slots desk.old Slot.Out).name }
+    requires writable { length frame < 2 ^ 32 }
+    requires short { length packet.now.frame < 2 ^ 32 }
+    ensures ok { OnOk result (Puts (emitted (W.spelled writer.old) packet.now (Out frame)) [] (D.slots desk.old) (D.slots desk.new)) }
+    ensures err { IfErr result (Breaks (emitted (W.spelled writer.old) packet.now (Out frame)) [] (D.slots desk.old) (D.slots desk.new)) }
+    ensures spelling { W.spelled writer.new ≡ W.spelled writer.old }
+    ensures others { (s : Slot) → s ≢ Slot.Out → D.slots desk.new s ≡ D.slots desk.old s }
+{
+    if frame.bytes() == packet.frame.bytes() {
+        put_unchanged(desk, writer, packet)
+    } else {
+        put_record(desk, writer, &emitted_record(packet, frame))
+    }
+}
+
+// Puts the record of a packet whose frame is as it was read: its checksums and its original length are as they were.
+fn put_unchanged<W: Sink, D: Desk>(
+    desk: &mut D,
+    writer: &mut W,
+    packet: &PcapRecord,
+) -> Result<(), RunFault>
+    requires out { IsSome (D.slots desk.old Slot.Out).name }
+    requires short { length packet.now.frame < 2 ^ 32 }
+    ensures ok { OnOk result (Puts (emitted (W.spelled writer.old) packet.now (Out packet.now.frame)) [] (D.slots desk.old) (D.slots desk.new)) }
+    ensures err { IfErr result (Breaks (emitted (W.spelled writer.old) packet.now (Out packet.now.frame)) [] (D.slots desk.old) (D.slots desk.new)) }
+    ensures spelling { W.spelled writer.new ≡ W.spelled writer.old }
+    ensures others { (s : Slot) → s ≢ Slot.Out → D.slots desk.new s ≡ D.slots desk.old s }
+{
+    let frame = packet.frame.bytes();
+    unchanged_is_sealed(frame);
+    unchanged_is_as_long(packet.wire, frame.len());
+    put_record(desk, writer, packet)
 }
 
 // The record as it goes out, with this frame, whose checksums are adjusted to what changed, and with its original length.

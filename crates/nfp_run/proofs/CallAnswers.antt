@@ -14,8 +14,8 @@ use Rattle.nfp_run.specs.Due.{Due, due_of_command}
 use Rattle.nfp_run.specs.Written.{Written}
 use Rattle.nfp_run.specs.Closing.{outcome_seen, untold, text_of, EndsDue, Notes}
 use Rattle.nfp_run.specs.Ran.{Ran}
-use Rattle.nfp_run.specs.Answers.{IsDue, IsFinal, NoneRose, WhereTold, Leaves, LeavesPrefixes, IsUntouched, Holds, HoldsPrefix, ReadFaultCause, WriteFaultCause, note_due}
-use Rattle.nfp_outside.proofs.Steps.{prefix_whole}
+use Rattle.nfp_run.specs.Answers.{IsAnswered, IsDue, IsFinal, NoneRose, WhereTold, Leaves, LeavesPrefixes, IsUntouched, Holds, HoldsPrefix, ReadsPolicy, ReadFaultCause, WriteFaultCause, note_due}
+use Rattle.nfp_outside.specs.Adding.{prefix_whole}
 
 -- a call: what ran, and then the line in Note
 pub record Called (command : Result Command UsageFault) (old mid new : Slot → SlotView) (ended : Ending) (result : Outcome) : Type 0 where
@@ -32,6 +32,12 @@ pub told_always : (a b : Option (List ℕ)) (P : List ℕ → List ℕ → Type 
 told_always None b P f = tt
 told_always (Some p) None P f = tt
 told_always (Some p) (Some c) P f = f p c
+
+-- what is due of the bytes that are told under a premise
+told_under : (a b : Option (List ℕ)) (F : Type 0) (P : List ℕ → List ℕ → Type 0) → (F → IfSome a (λ p. IfSome b (P p))) → IfSome a (λ p. IfSome b (λ c. F → P p c))
+told_under None b F P h = tt
+told_under (Some p) None F P h = tt
+told_under (Some p) (Some c) F P h = h
 
 pub policy_beside : slots.Policy ≢ slots.Note
 policy_beside h = cc
@@ -73,13 +79,18 @@ seen_where_final ended result old new (inl (is, a)) final = is
 seen_where_final ended result old new (inr (inl (is, a))) final = absurd (subst IsFinal is final)
 seen_where_final ended result old new (inr (inr (is, r, a))) final = is ∙ untold_final (outcome_seen ended) (subst IsFinal is final)
 
+-- an outcome that is final is the one that is due, where a final ending is
+due_exact : (due : Due) (command : Result Command UsageFault) (old mid new : Slot → SlotView) (ended : Ending) (result : Outcome) → Called command old mid new ended result →
+    (IsFinal (outcome_seen ended) → EndsDue due old mid ended) → IsFinal result → IsDue due old new result
+due_exact due command old mid new ended result called ends final =
+    let is = seen_where_final ended result (mid slots.Note) (new slots.Note) called.notes final in
+    due_here due old mid new ended result (called.beside slots.Out out_beside) (called.beside slots.Report report_beside) is (ends (subst IsFinal is final))
+
 pub called_exact : (command : Result Command UsageFault) (old mid new : Slot → SlotView) (ended : Ending) (result : Outcome) → Called command old mid new ended result →
     IsFinal result → WhereTold old (λ p c. IsDue (due_of_command command p c) old new result)
-called_exact command old mid new ended result called final =
-    let is = seen_where_final ended result (mid slots.Note) (new slots.Note) called.notes final in
-    if_told (old slots.Policy).bytes (old slots.Capture).bytes _ _
-    (λ p c ends. due_here (due_of_command command p c) old mid new ended result (called.beside slots.Out out_beside) (called.beside slots.Report report_beside) is ends)
-    (called.ran.due (subst IsFinal is final))
+called_exact command old mid new ended result called final = if_told (old slots.Policy).bytes (old slots.Capture).bytes _ _
+    (λ p c ends. due_exact (due_of_command command p c) command old mid new ended result called ends final)
+    (told_under (old slots.Policy).bytes (old slots.Capture).bytes (IsFinal (outcome_seen ended)) (λ p c. EndsDue (due_of_command command p c) old mid ended) called.ran.due)
 
 -- where the work was done, what is due stands, whatever came of its line
 pub called_done : (command : Result Command UsageFault) (old mid new : Slot → SlotView) (ended : Ending) (outcome : Outcome) {result : Outcome} → Called command old mid new ended result →
@@ -127,24 +138,37 @@ no_fault command old mid new ended ran beside none = go (outcome_seen ended) ref
 line_here : (due : Due) (text : List ℕ) (old mid new : SlotView) → mid ≡ old → text ≡ due.note → Appends text mid new → Appends due.note old new
 line_here due text old mid new p q a = subst (λ v. Appends due.note v new) p (subst (λ t. Appends t mid new) q a)
 
-pub called_answers : (command : Result Command UsageFault) (old mid new : Slot → SlotView) (ended : Ending) (result : Outcome) → Called command old mid new ended result → NoneRose old new →
-    WhereTold old (λ p c. (IsDue (due_of_command command p c) old new result × Appends (due_of_command command p c).note (old slots.Note) (new slots.Note)) ⊎ (result ≡ OutOfMemory))
-called_answers command old mid new ended result called none = by_notes called.notes
+-- where no count rose, what is due is answered, where a final ending is due
+due_answered : (due : Due) (command : Result Command UsageFault) (old mid new : Slot → SlotView) (ended : Ending) (result : Outcome) → Called command old mid new ended result →
+    (IsFinal (outcome_seen ended) → EndsDue due old mid ended) → NoneRose old new → (IsDue due old new result × Appends due.note (old slots.Note) (new slots.Note)) ⊎ (result ≡ OutOfMemory)
+due_answered due command old mid new ended result called ends none = by_notes called.notes
   where
     final : result ≡ outcome_seen ended → Appends (text_of ended) (mid slots.Note) (new slots.Note) → IsFinal (outcome_seen ended) ⊎ (outcome_seen ended ≡ OutOfMemory) →
-        WhereTold old (λ p c. (IsDue (due_of_command command p c) old new result × Appends (due_of_command command p c).note (old slots.Note) (new slots.Note)) ⊎ (result ≡ OutOfMemory))
-    final is a (inl f) = if_told (old slots.Policy).bytes (old slots.Capture).bytes _ _
-        (λ p c ends. inl (
-          due_here (due_of_command command p c) old mid new ended result (called.beside slots.Out out_beside) (called.beside slots.Report report_beside) is ends,
-          line_here (due_of_command command p c) (text_of ended) (old slots.Note) (mid slots.Note) (new slots.Note) called.ran.note_stays ends.note a,
-        )) (called.ran.due f)
-    final is a (inr m) = told_always (old slots.Policy).bytes (old slots.Capture).bytes _ (λ p c. inr (is ∙ m))
+        (IsDue due old new result × Appends due.note (old slots.Note) (new slots.Note)) ⊎ (result ≡ OutOfMemory)
+    final is a (inl f) = inl (
+      due_here due old mid new ended result (called.beside slots.Out out_beside) (called.beside slots.Report report_beside) is (ends f),
+      line_here due (text_of ended) (old slots.Note) (mid slots.Note) (new slots.Note) called.ran.note_stays (ends f).note a,
+    )
+    final is a (inr m) = inr (is ∙ m)
 
-    by_notes : Notes ended (mid slots.Note) (new slots.Note) result →
-        WhereTold old (λ p c. (IsDue (due_of_command command p c) old new result × Appends (due_of_command command p c).note (old slots.Note) (new slots.Note)) ⊎ (result ≡ OutOfMemory))
+    by_notes : Notes ended (mid slots.Note) (new slots.Note) result → (IsDue due old new result × Appends due.note (old slots.Note) (new slots.Note)) ⊎ (result ≡ OutOfMemory)
     by_notes (inl (is, a)) = final is a (no_fault command old mid new ended called.ran called.beside none)
-    by_notes (inr (inl (is, a))) = told_always (old slots.Policy).bytes (old slots.Capture).bytes _ (λ p c. inr is)
+    by_notes (inr (inl (is, a))) = inr is
     by_notes (inr (inr (is, r, a))) = absurd (none slots.Note (subst (λ v. IsRisen v.faults (new slots.Note).faults) called.ran.note_stays r))
+
+pub called_answers : (command : Result Command UsageFault) (old mid new : Slot → SlotView) (ended : Ending) (result : Outcome) → Called command old mid new ended result → NoneRose old new →
+    WhereTold old (λ p c. (IsDue (due_of_command command p c) old new result × Appends (due_of_command command p c).note (old slots.Note) (new slots.Note)) ⊎ (result ≡ OutOfMemory))
+called_answers command old mid new ended result called none = if_told (old slots.Policy).bytes (old slots.Capture).bytes _ _
+    (λ p c ends. due_answered (due_of_command command p c) command old mid new ended result called ends none)
+    (told_under (old slots.Policy).bytes (old slots.Capture).bytes (IsFinal (outcome_seen ended)) (λ p c. EndsDue (due_of_command command p c) old mid ended) called.ran.due)
+
+-- words that ask for no policy are answered with what is due, whatever the slots hold
+pub called_unread : (command : Result Command UsageFault) (old mid new : Slot → SlotView) (ended : Ending) (result : Outcome) → Called command old mid new ended result → ¬ ReadsPolicy command →
+    (p c : List ℕ) → IsAnswered (due_of_command command p c) old new result
+called_unread command old mid new ended result called none p c = record {
+  answers = due_answered (due_of_command command p c) command old mid new ended result called (λ f. called.ran.unread none f p c);
+  exact = due_exact (due_of_command command p c) command old mid new ended result called (λ f. called.ran.unread none f p c);
+}
 
 -- the line of what ended so is the one that is due
 seen_text : (command : Result Command UsageFault) (old mid : Slot → SlotView) (ended : Ending) → Ran command old mid ended → outcome_seen ended ≢ OutOfMemory →

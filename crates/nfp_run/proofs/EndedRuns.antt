@@ -1,6 +1,6 @@
 -- What a call leaves that ran a capture, before its line is put into Note.
 use Rattle.std.proofs.Common.{◌≡◌, ◌∙◌, ◌⊎◌, inr, ℕ, List, ap, rules, sym, subst}
-use Rattle.std.specs.Prelude.{length, count_by, Option, Some, None, IfErr, IfSome, IsSome, IsOk, Result, Ok, Err}
+use Rattle.std.specs.Prelude.{length, count_by, Option, Some, None, IfErr, IfSome, IsOk, Result, Ok, Err}
 use Rattle.std.specs.Option.{option_map}
 use Rattle.nfp_outside.specs.declared.slot.Slot.{Slot}
 use Rattle.nfp_outside.specs.declared.slot.Slot.TheVariants as slots

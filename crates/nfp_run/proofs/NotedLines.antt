@@ -15,7 +15,7 @@ use Rattle.nfp_run.specs.Due.{due_of_command}
 use Rattle.nfp_run.specs.Closing.{outcome_seen, untold, text_of, Notes}
 use Rattle.nfp_run.specs.Ran.{Ran}
 use Rattle.nfp_run.specs.Answers.{IsFinal, WhereTold, NotesPrefix}
-use Rattle.nfp_outside.proofs.Steps.{prefix_whole}
+use Rattle.nfp_outside.specs.Adding.{prefix_whole}
 use Rattle.nfp_run.proofs.CallAnswers.{Called, if_told, told_always, whole_here}
 
 untold_is_not_done : (outcome : Outcome) → untold outcome ≢ Done

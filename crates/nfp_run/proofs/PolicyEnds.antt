@@ -14,7 +14,6 @@ use Rattle.policy_judge.specs.Judging.{judged, judged_text, told, Judges}
 use Rattle.policy_judge.specs.Lines.{too_long_line}
 use Rattle.nfp_run.specs.declared.ending.Ending.{Ending}
 use Rattle.nfp_run.specs.declared.ending.Ending.TheVariants.{Completed, Shown, Refused, Stopped}
-use Rattle.nfp_run.specs.declared.outcome.Outcome.TheVariants.{Done, Usage, Policy, Capture, ReadFault, WriteFault, OutOfMemory}
 use Rattle.nfp_run.specs.declared.read.Unread.{Unread}
 use Rattle.nfp_run.specs.declared.read.Unread.TheVariants.{TooLong, Failed, NoMemory}
 use Rattle.nfp_run.specs.Reading.{IsUnread, UnreadEnds, refused_by, EndsAtPolicy, IsPlanOf, PlanEnds}

@@ -29,8 +29,10 @@ use Rattle.nfp_run.specs.Closing.{EndsDue}
 use Rattle.plan_text.specs.Plan.{chain_plan}
 use Rattle.nfp_run.specs.Ran.{Ran}
 use Rattle.nfp_run.specs.Reading.{DemoEnds, IsPlanOf, PlanEnds}
+use Rattle.nfp_run.proofs.CallAnswers.{told_always}
 use Rattle.nfp_run.proofs.HeldBytes.{untouched_same}
 use Rattle.nfp_run.proofs.PolicyEnds.{if_told}
+use Rattle.nfp_run.proofs.UnreadWords.{unread_ran}
 
 -- only the policy was touched
 record Beside (old new : Slot → SlotView) : Type 0 where
@@ -48,18 +50,13 @@ both_told None b P Q f h = tt
 both_told (Some p) None P Q f h = tt
 both_told (Some p) (Some c) P Q f h = f p c h
 
-pub both_always : (a b : Option (List ℕ)) (Q : List ℕ → List ℕ → Type 0) → ((p c : List ℕ) → Q p c) → IfSome a (λ p. IfSome b (Q p))
-both_always None b Q f = tt
-both_always (Some p) None Q f = tt
-both_always (Some p) (Some c) Q f = f p c
-
 -- a plan writes nothing
 no_written : (r : Result Judged Refusal) (old new : Slot → SlotView) → Beside old new → LeavesPrefixes (due_of_plan r).written old new
 no_written (Ok policy) old new b = leaves_both old new b
 no_written (Err refusal) old new b = leaves_both old new b
 
 prefixes_none : (name : List ℕ) (old new : Slot → SlotView) → Beside old new → WhereTold old (λ p c. LeavesPrefixes (due_of_command (Ok (Plan name)) p c).written old new)
-prefixes_none name old new b = both_always (old slots.Policy).bytes (old slots.Capture).bytes _ (λ p c. no_written (judged p) old new b)
+prefixes_none name old new b = told_always (old slots.Policy).bytes (old slots.Capture).bytes _ (λ p c. no_written (judged p) old new b)
 
 plan_due : (text : List ℕ) (r : Result Judged Refusal) (old new : Slot → SlotView) → Beside old new → IsPlanOf text r → EndsDue (due_of_plan r) old new (Shown text)
 plan_due text (Ok policy) old new b is = record { answer = refl; left = leaves_both old new b; note = is }
@@ -105,6 +102,7 @@ plan_ran name old new ending free named others ends = go ending ends
     go : (e : Ending) → PlanEnds (old slots.Policy) (new slots.Policy) e → Ran (Ok (Plan name)) old new e
     go (Shown text) h = record {
       due = λ f. both_told (old slots.Policy).bytes (old slots.Capture).bytes _ _ (λ p c is. plan_due text (judged p) old new b is) h;
+      unread = λ none. absurd (none tt);
       prefixes = prefixes_none name old new b;
       within = tt;
       names_are = plan_names name old new b named;
@@ -120,6 +118,7 @@ plan_ran name old new ending free named others ends = go ending ends
     }
     go (Refused refusal) h = record {
       due = λ f. both_told (old slots.Policy).bytes (old slots.Capture).bytes _ _ (λ p c is. fault_due refusal (judged p) old new b is) h;
+      unread = λ none. absurd (none tt);
       prefixes = prefixes_none name old new b;
       within = tt;
       names_are = plan_names name old new b named;
@@ -135,6 +134,7 @@ plan_ran name old new ending free named others ends = go ending ends
     }
     go (Stopped (ReadFault s)) h = record {
       due = λ f. absurd f;
+      unread = λ none. absurd (none tt);
       prefixes = prefixes_none name old new b;
       within = tt;
       names_are = plan_names name old new b named;
@@ -150,6 +150,7 @@ plan_ran name old new ending free named others ends = go ending ends
     }
     go (Stopped OutOfMemory) h = record {
       due = λ f. absurd f;
+      unread = λ none. absurd (none tt);
       prefixes = prefixes_none name old new b;
       within = tt;
       names_are = plan_names name old new b named;
@@ -179,8 +180,9 @@ demo_ran input options old ending free ends = go ending ends
 
     go : (e : Ending) → DemoEnds input e → Ran (Ok (Demo input options)) old old e
     go (Shown text) h = record {
-      due = λ f. both_always (old slots.Policy).bytes (old slots.Capture).bytes _ (λ p c. record { answer = refl; left = left; note = h });
-      prefixes = both_always (old slots.Policy).bytes (old slots.Capture).bytes _ (λ p c. left);
+      due = λ f. told_always (old slots.Policy).bytes (old slots.Capture).bytes _ (λ p c. record { answer = refl; left = left; note = h });
+      unread = λ none f p c. record { answer = refl; left = left; note = h };
+      prefixes = told_always (old slots.Policy).bytes (old slots.Capture).bytes _ (λ p c. left);
       within = tt;
       names_are = λ s. inl (free s);
       attached = (free slots.Out, free slots.Report);
@@ -193,21 +195,7 @@ demo_ran input options old ending free ends = go ending ends
       write_faults = λ s x. absurd cc;
       no_note_fault = λ x. cc;
     }
-    go (Stopped OutOfMemory) h = record {
-      due = λ f. absurd f;
-      prefixes = both_always (old slots.Policy).bytes (old slots.Capture).bytes _ (λ p c. left);
-      within = tt;
-      names_are = λ s. inl (free s);
-      attached = (free slots.Out, free slots.Report);
-      note_stays = refl;
-      usage = λ fault x. absurd cc;
-      usage_always = λ fault x. absurd cc;
-      refused = λ fault x. absurd cc;
-      policy = tt;
-      read_faults = λ s x. absurd cc;
-      write_faults = λ s x. absurd cc;
-      no_note_fault = λ x. cc;
-    }
+    go (Stopped OutOfMemory) h = unread_ran (Ok (Demo input options)) old free
     go (Stopped (ReadFault s)) h = absurd h
     go (Stopped Done) h = absurd h
     go (Stopped (Usage fault)) h = absurd h
@@ -220,8 +208,9 @@ demo_ran input options old ending free ends = go ending ends
 -- what stands after words that are refused
 pub usage_ran : (fault : UsageFault) (old : Slot → SlotView) → ((s : Slot) → (old s).name ≡ None) → Ran (Err fault) old old (Stopped (Usage fault))
 usage_ran fault old free = record {
-  due = λ f. both_always (old slots.Policy).bytes (old slots.Capture).bytes _ (λ p c. record { answer = refl; left = untouched; note = refl });
-  prefixes = both_always (old slots.Policy).bytes (old slots.Capture).bytes _ (λ p c. untouched);
+  due = λ f. told_always (old slots.Policy).bytes (old slots.Capture).bytes _ (λ p c. record { answer = refl; left = untouched; note = refl });
+  unread = λ none f p c. record { answer = refl; left = untouched; note = refl };
+  prefixes = told_always (old slots.Policy).bytes (old slots.Capture).bytes _ (λ p c. untouched);
   within = tt;
   names_are = free;
   attached = (free slots.Out, free slots.Report);

@@ -8,13 +8,13 @@ use Rattle.command_words.specs.declared.usage.UsageFault.{UsageFault}
 use Rattle.command_words.specs.Words.{Command, Run, Plan, Demo}
 use Rattle.nfp_run.specs.declared.ending.Ending.TheVariants.{Stopped}
 use Rattle.nfp_run.specs.declared.outcome.Outcome.TheVariants.{OutOfMemory}
-use Rattle.nfp_run.specs.Answers.{AttachesDue, HasNames, IsUntouched, LeavesPrefixes}
+use Rattle.nfp_run.specs.Answers.{AttachesDue, HasNames, LeavesPrefixes}
 use Rattle.nfp_run.specs.Due.{due_of_command}
 use Rattle.nfp_run.specs.Ran.{Ran}
 use Rattle.nfp_run.specs.Written.{Written}
+use Rattle.nfp_run.proofs.CallAnswers.{told_always}
 use Rattle.nfp_run.proofs.CallCauses.{reaches_unmade}
 use Rattle.nfp_run.proofs.HeldBytes.{untouched_same}
-use Rattle.nfp_run.proofs.ShownPlans.{both_always}
 
 no_prefix : (w : Option Written) (old : Slot → SlotView) → ((s : Slot) → (old s).name ≡ None) → LeavesPrefixes w old old
 no_prefix None old free = (untouched_same (old slots.Out) (old slots.Out) (free slots.Out) refl, untouched_same (old slots.Report) (old slots.Report) (free slots.Report) refl)
@@ -34,7 +34,8 @@ none_attached (Err fault) old free = (free slots.Out, free slots.Report)
 pub unread_ran : (command : Result Command UsageFault) (old : Slot → SlotView) → ((s : Slot) → (old s).name ≡ None) → Ran command old old (Stopped OutOfMemory)
 unread_ran command old free = record {
   due = λ f. absurd f;
-  prefixes = both_always (old slots.Policy).bytes (old slots.Capture).bytes _ (λ p c. no_prefix (due_of_command command p c).written old free);
+  unread = λ none f. absurd f;
+  prefixes = told_always (old slots.Policy).bytes (old slots.Capture).bytes _ (λ p c. no_prefix (due_of_command command p c).written old free);
   within = tt;
   names_are = no_names command old free;
   attached = none_attached command old free;

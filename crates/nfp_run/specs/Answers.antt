@@ -3,7 +3,7 @@ use Rattle.std.specs.Prelude.{◌≡◌, ◌⊎◌, ℕ, List, ◌++◌, Option,
 use Rattle.std.specs.Option.{option_map}
 use Rattle.nfp_outside.specs.declared.slot.Slot.{Slot}
 use Rattle.nfp_outside.specs.declared.slot.Slot.TheVariants as slots
-use Rattle.nfp_outside.specs.Outside.{SlotView, IsRisen, AppendsPrefix}
+use Rattle.nfp_outside.specs.Outside.{SlotView, IsRisen, Appends, AppendsPrefix}
 use Rattle.pcap_io.specs.Capture.{capture_of, IsHeadFault}
 use Rattle.pcap_io.specs.declared.capture.CaptureFault.{CaptureFault}
 use Rattle.pcap_io.specs.declared.capture.CaptureFault.TheVariants.{BadMagic, BadVersion, BadLink, CutHead, CutRecord, FrameTooLong, TooManyRecords}
@@ -70,6 +70,12 @@ NoneRose old new = (s : Slot) → ¬ IsRisen (old s).faults (new s).faults
 -- a fact of the bytes of Policy and Capture, where the desk tells them
 abbrev pub WhereTold : (Slot → SlotView) → (List ℕ → List ℕ → Type 0) → Type 0
 WhereTold old P = IfSome (old slots.Policy).bytes (λ policy. IfSome (old slots.Capture).bytes (λ capture. P policy capture))
+
+-- The call is answered with what is due: where no count rose, the outcome is the one that is due and the slots hold what is due, or memory
+-- ran out; and whatever the counts did, an outcome other than a fault of a slot or want of memory is the one that is due.
+pub record IsAnswered (due : Due) (old new : Slot → SlotView) (outcome : Outcome) : Type 0 where
+  pub answers : NoneRose old new → (IsDue due old new outcome × Appends due.note (old slots.Note) (new slots.Note)) ⊎ (outcome ≡ OutOfMemory)
+  pub exact : IsFinal outcome → IsDue due old new outcome
 
 -- the line that is put into Note: that of a fault of reading or writing, or the one that is due
 abbrev pub note_due : Outcome → List ℕ → List ℕ

@@ -1,10 +1,10 @@
 //! The top call, with the program's theorem.
-ghost use Rattle.std.specs.Prelude.{◌≡◌, ◌≢◌, ◌⊎◌, [], map, IfSome, Err, None, string_bytes};
+ghost use Rattle.std.specs.Prelude.{◌≡◌, ◌≢◌, ◌⊎◌, ℕ, List, [], map, IfSome, Err, None, string_bytes};
 ghost use Rattle.nfp_outside.specs.declared.slot.Slot.{Slot};
 ghost use Rattle.nfp_outside.specs.Outside.{Appends, AppendsPrefix, IsRisen};
 ghost use Rattle.policy_judge.specs.declared.fault.PolicyFault.{PolicyFault};
 ghost use Rattle.command_words.specs.declared.usage.UsageFault.{UsageFault};
-ghost use Rattle.nfp_run.specs.Answers.{IsDue, IsFinal, HasNames, NoneRose, WhereTold, LeavesPrefixes, AttachesDue, ReachesCapture, PolicyCause, ReadFaultCause, WriteFaultCause, NotesPrefix, note_due};
+ghost use Rattle.nfp_run.specs.Answers.{IsAnswered, IsDue, IsFinal, HasNames, NoneRose, WhereTold, LeavesPrefixes, AttachesDue, ReachesCapture, ReadsPolicy, PolicyCause, ReadFaultCause, WriteFaultCause, NotesPrefix, note_due};
 ghost use Rattle.nfp_run.specs.Due.{due};
 ghost use Rattle.command_words.specs.Words.{command_of};
 
@@ -44,6 +44,10 @@ pub fn nfp<R: Threads + Wait, D: Desk, G: Gate + Sync>(
     // Whatever the counts did, an outcome other than a fault of a slot or want of memory is the one that is due.
     ensures exact { IsFinal result → WhereTold (D.slots desk.old) (λ p c.
         IsDue (due (map string_bytes words.now) p c) (D.slots desk.old) (D.slots desk.new) result) }
+    // Words that are refused and a demo read neither Policy nor Capture: what is due stands whatever these hold, also where the desk
+    // doesn't tell it.
+    ensures unread { ¬ ReadsPolicy (command_of (map string_bytes words.now)) → (p c : List ℕ) →
+        IsAnswered (due (map string_bytes words.now) p c) (D.slots desk.old) (D.slots desk.new) result }
     // Whatever the outcome, Out and Report hold a front part of what is due, or were never attached.
     ensures prefixes { WhereTold (D.slots desk.old) (λ p c.
         LeavesPrefixes (due (map string_bytes words.now) p c).written (D.slots desk.old) (D.slots desk.new)) }

@@ -1,11 +1,12 @@
 //! What a call without any fault comes to.
-ghost use Rattle.std.specs.Prelude.{◌≡◌, ℕ, List, None, Ok};
+ghost use Rattle.std.specs.Prelude.{◌≡◌, ℕ, List, None, IsOk, Ok};
 ghost use Rattle.pcap_io.specs.Capture.{capture_of};
 ghost use Rattle.pcap_io.specs.declared.capture.CaptureHead.{CaptureHead};
 ghost use Rattle.pcap_io.specs.declared.capture.PcapRecord.{PcapRecord};
 ghost use Rattle.policy_judge.specs.declared.judged.Judged.{Judged};
 ghost use Rattle.policy_judge.specs.Judging.{judged};
 ghost use Rattle.nfp_run.specs.declared.outcome.Outcome.{Outcome};
+ghost use Rattle.demo_capture.specs.DemoCapture.{policy_text};
 ghost use Rattle.nfp_run.specs.Due.{due};
 ghost use Rattle.command_words.specs.declared.requests.DemoInput.{DemoInput};
 ghost use Rattle.command_words.specs.declared.requests.RunOptions.{RunOptions};
@@ -20,4 +21,9 @@ pub fn a_good_call_is_done()
         command_of words ≡ Ok (Run names options) → judged p ≡ Ok policy → capture_of c ≡ Ok (head, record { records = records; fault = None }) → (due words p c).outcome ≡ Outcome.Done }
     ensures plan { (words : List (List ℕ)) → (name p c : List ℕ) → (policy : Judged) → command_of words ≡ Ok (Plan name) → judged p ≡ Ok policy → (due words p c).outcome ≡ Outcome.Done }
     ensures demo { (words : List (List ℕ)) → (input : DemoInput) → (options : RunOptions) → (p c : List ℕ) → command_of words ≡ Ok (Demo input options) → (due words p c).outcome ≡ Outcome.Done }
+{}
+
+/// A law: the policy of a demo has no fault, so a demo has chains to run.
+pub fn the_demo_policy_has_no_fault()
+    ensures { IsOk (judged policy_text) }
 {}

@@ -1,9 +1,10 @@
 //! The top call of `nfp`, which runs the chains of a policy over a capture, shows the plan of a policy, and runs a demo of its own.
 //!
 //! What [`nfp()`] promises is the program's theorem: its contract says it, and `specs/Due.antt` has the result that it is
-//! measured against. [`a_good_call_is_done`] says of that result that words, policy and capture without fault are Done. The
-//! program itself, the crate `nfp`, hands its words to the call, over files and an open gate, and ends with the status of the
-//! [`Outcome`].
+//! measured against. [`a_good_call_is_done`] says of that result that words, policy and capture without fault are Done, and
+//! [`the_demo_policy_has_no_fault`] that a demo has chains to run. The program itself, the crate `nfp`, hands its words to the call,
+//! over files and an open gate, and ends with the status of the [`Outcome`]. What a desk lost behind the call's back it tells by the
+//! same line, [`write_fault_text`].
 #![tactic(auto)]
 
 mod attach;
@@ -22,5 +23,6 @@ mod run;
 
 pub use call::nfp;
 pub use command_words::{Option4, UsageFault};
-pub use laws::a_good_call_is_done;
+pub use laws::{a_good_call_is_done, the_demo_policy_has_no_fault};
+pub use note::write_fault_text;
 pub use outcome::Outcome;

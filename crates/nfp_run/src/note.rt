@@ -135,9 +135,9 @@ fn read_fault_text(alloc: Global, slot: Slot) -> Result<Vec<u8>, AllocError>
     )
 }
 
-// The line of a slot that couldn't be written.
+/// The line of a slot that couldn't be written. An error says that there is no memory for it.
 #[tactic(auto, unfolding(crate::specs::Notes::write_fault_text))]
-fn write_fault_text(alloc: Global, slot: Slot) -> Result<Vec<u8>, AllocError>
+pub fn write_fault_text(alloc: Global, slot: Slot) -> Result<Vec<u8>, AllocError>
     ensures { IfOk result (λ v. v.items ≡ write_fault_text slot) }
 {
     join(

@@ -1,7 +1,7 @@
 use Rattle.std.proofs.Common.{ap, Err}
 use Rattle.std.proofs.lemmas.Result.{IfOk-weaker, IfErr-weaker}
 use Rattle.capture_run.specs.declared.fault.RunFault.TheVariants.{OutOfMemory}
-use Rattle.capture_run.proofs.Putting.{handed_on}
+use Rattle.capture_run.proofs.HandingOn.{handed_on}
 use Rattle.capture_run.proofs.Running.{no_run}
 use Rattle.capture_run.proofs.Turns.{at_begins, at_goes_on, at_end, at_stop, at_end_break, at_stop_break, at_take_break}
 use Rattle.capture_run.proofs.records.run_records.Goals as goal

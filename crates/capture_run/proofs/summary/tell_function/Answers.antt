@@ -1,5 +1,6 @@
 use Rattle.capture_run.specs.declared.fault.RunFault.TheVariants.{OutOfMemory}
-use Rattle.capture_run.proofs.Putting.{handed_on, no_memory}
+use Rattle.capture_run.specs.Putting.{no_memory}
+use Rattle.capture_run.proofs.HandingOn.{handed_on}
 use Rattle.capture_run.proofs.summary.tell_function.Goals as goal
 
 pub returns-in_err-push_function_line-clause-err : goal.returns-in_err-push_function_line-clause-err

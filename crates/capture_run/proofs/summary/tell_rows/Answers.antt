@@ -3,7 +3,7 @@ use Rattle.std.specs.Prelude.{slice_index_or}
 use Rattle.chain_service.specs.StateRows.{named_rows}
 use Rattle.capture_run.specs.Slots.{Breaks}
 use Rattle.capture_run.proofs.Gathering.{telling_begins, telling_breaks, telling_goes_on}
-use Rattle.capture_run.proofs.Putting.{handed_on}
+use Rattle.capture_run.proofs.HandingOn.{handed_on}
 use Rattle.capture_run.proofs.summary.tell_rows.Goals as goal
 
 pub returns-in_err-tell_row-clause-err : goal.returns-in_err-tell_row-clause-err

@@ -1,6 +1,6 @@
 use Rattle.std.proofs.Common.{[], subst, sym}
 use Rattle.capture_run.specs.Slots.{Breaks}
-use Rattle.capture_run.proofs.Putting.{puts_out, out_refused}
+use Rattle.capture_run.specs.Putting.{puts_out, out_refused}
 use Rattle.capture_run.proofs.write.put_record.Goals as goal
 
 pub returns-in-Ok-clause-ok : goal.returns-in-Ok-clause-ok

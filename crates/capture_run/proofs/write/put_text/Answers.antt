@@ -1,7 +1,10 @@
-use Rattle.std.proofs.Common.{[], subst, sym}
+use Rattle.std.proofs.Common.{[], inr, subst, sym}
 use Rattle.capture_run.specs.Slots.{Breaks}
-use Rattle.capture_run.proofs.Putting.{puts_report, report_refused}
+use Rattle.capture_run.specs.Putting.{puts_report, report_refused}
 use Rattle.capture_run.proofs.write.put_text.Goals as goal
+
+pub write_whole-requires-clause-attached : goal.write_whole-requires-clause-attached
+write_whole-requires-clause-attached g c = inr c.requires
 
 pub returns-in-Ok-clause-ok : goal.returns-in-Ok-clause-ok
 returns-in-Ok-clause-ok g c = puts_report c.args.text.now (g.D.Desk.slots c.args.desk.now) (g.D.Desk.slots c.write_whole.new.desk) c.in-Ok.ensures.ok c.write_whole.ensures.cause.later c.write_whole.ensures.others

@@ -1,6 +1,6 @@
 use Rattle.std.proofs.Common.{inl, inr, refl}
 use Rattle.nfp_outside.specs.declared.slot.Slot.TheVariants.{Note}
-use Rattle.nfp_outside.proofs.Steps.{prefix_none}
+use Rattle.nfp_outside.specs.Adding.{prefix_none}
 use Rattle.nfp_run.specs.Closing.{text_of}
 use Rattle.nfp_run.proofs.note.put_note.Goals as goal
 

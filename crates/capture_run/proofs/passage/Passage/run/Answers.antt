@@ -7,10 +7,11 @@ use Rattle.capture_run.specs.Passing.{packets_next}
 use Rattle.capture_report.specs.Report.{is_gone}
 use Rattle.capture_run.specs.Slots.{Puts, Breaks}
 use Rattle.capture_run.specs.declared.fault.RunFault.TheVariants.{OutOfMemory}
+use Rattle.capture_run.specs.Putting.{no_memory}
 use Rattle.capture_run.proofs.BurstLines.{breaks_records, ended_many, made_lines, puts_records}
 use Rattle.capture_run.proofs.Following.{each_fits}
 use Rattle.capture_run.proofs.Passing.{burst_put, lines_refused}
-use Rattle.capture_run.proofs.Putting.{handed_on, no_memory}
+use Rattle.capture_run.proofs.HandingOn.{handed_on}
 use Rattle.capture_run.proofs.passage.Passage.run.Goals as goal
 
 pub returns-in_err-lines-clause-err : goal.returns-in_err-lines-clause-err

@@ -1,12 +1,12 @@
--- How what is put into Out and Report adds up.
+-- For proofs: how what is put into Out and Report adds up.
 use Rattle.std.proofs.Common.{◌≡◌, ◌≢◌, ◌≤◌, inl, inr, ℕ, List, [], ◌++◌, ap, sym, subst, arith}
-use Rattle.std.specs.Prelude.{Result, Ok, Err, IfErr, IsErrAnd}
+use Rattle.std.specs.Prelude.{Result, Err}
 use Rattle.nfp_outside.specs.declared.slot.Slot.{Slot}
 use Rattle.nfp_outside.specs.declared.slot.Slot.TheVariants.{Policy, Capture, Out, Report, Note}
 use Rattle.nfp_outside.specs.declared.slot.OutsideFault.{OutsideFault}
 use Rattle.nfp_outside.specs.declared.slot.OutsideFault.TheVariants as outside
 use Rattle.nfp_outside.specs.Outside.{SlotView, IsRisen, Appends, AppendsPrefix, WriteCause}
-use Rattle.nfp_outside.proofs.Steps.{appends_none, appends_more, prefix_longer, prefix_more, prefix_none, prefix_whole}
+use Rattle.nfp_outside.specs.Adding.{appends_none, appends_more, prefix_longer, prefix_more, prefix_none, prefix_whole}
 use Rattle.capture_run.specs.Slots.{IsLater, Puts, IsBroken, Breaks, fault_seen}
 use Rattle.capture_run.specs.declared.fault.RunFault.{RunFault}
 use Rattle.capture_run.specs.declared.fault.RunFault.TheVariants as faults
@@ -157,8 +157,3 @@ puts_is a a' b b' old new p q h = subst (λ x. Puts a' x old new) q (subst (λ x
 
 pub breaks_is : (a a' b b' : List ℕ) (old new : Slot → SlotView) (e : RunFault) → a ≡ a' → b ≡ b' → Breaks a b old new e → Breaks a' b' old new e
 breaks_is a a' b b' old new e p q h = subst (λ x. Breaks a' x old new e) q (subst (λ x. Breaks x b old new e) p h)
-
--- what a `?` hands on
-pub handed_on : {T : Type 0} (r : Result T RunFault) (x : RunFault) (P : RunFault → Type 0) → IsErrAnd r (λ e. e ≡ x) → P x → IfErr r P
-handed_on (Ok y) x P h p = tt
-handed_on (Err e) x P h p = subst P (sym h) p
