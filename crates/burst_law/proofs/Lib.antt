@@ -1,0 +1,10 @@
+pub mod Below
+pub mod Stations
+pub mod Positions
+pub mod Splitting
+pub mod Staging
+pub mod Merging
+pub mod Bursting
+pub mod Weighing
+pub mod Frames
+pub mod Rows

@@ -1,0 +1,5 @@
+pub mod Stations
+pub mod Owned
+pub mod Bursts
+pub mod Copies
+pub mod Frames

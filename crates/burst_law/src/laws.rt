@@ -1,0 +1,93 @@
+//! The law of bursts, and what belongs to it: functions that are split and put together again, and copies.
+ghost use Rattle.std.specs.Prelude.{◌≡◌, ◌-◌, ℕ, List, length, map, slice_get, Some};
+ghost use Rattle.packet_fields.specs.declared.field.Field.{Field};
+ghost use Rattle.chain_walk.specs.Step.{Behaviour};
+ghost use Rattle.chain_walk.specs.Laws.{KeepsProfile};
+ghost use Rattle.chain_walk.specs.Packets.{Packet, fates, functions_after};
+ghost use Rattle.graph_compile.specs.Facts.{IsLawful, IsFull};
+ghost use Rattle.graph_compile.specs.declared.graph.Branch.{Branch};
+ghost use Rattle.graph_compile.specs.declared.graph.Graph.{Graph};
+ghost use Rattle.graph_compile.specs.declared.graph.Stage.{Stage};
+ghost use Rattle.graph_law.specs.Branches.{BranchEnd};
+ghost use Rattle.burst_law.specs.Stations.{Turn, across};
+ghost use Rattle.burst_law.specs.Owned.{owned, owned_by};
+ghost use Rattle.burst_law.specs.Bursts.{Message, behind, stage_streams, stage_burst, graph_burst, chain_burst};
+ghost use Rattle.burst_law.specs.Copies.{graph_copies, chain_copies};
+ghost use Rattle.burst_law.specs.Frames.{message_of, fates_of};
+
+use chain_walk::frames_walk_as_fields;
+use graph_law::{fields_stay, graph_is_chain, profiles_stay, stage_reached};
+
+/// A burst of packets that goes stage by stage through a lawful graph, each stage with a branch and each
+/// branch with a function, where each branch owns its functions and takes all packets in their order, ends
+/// as packets that walk through the chain one after another. Each branch is left with the functions that it
+/// owns of those that the walks leave.
+pub fn burst_is_chain<F>()
+    ensures chain { (b : Behaviour F) (graph : Graph) (functions : List F) (packets : List Message) →
+        KeepsProfile b → IsLawful graph (map b.profile functions) → IsFull graph →
+        ◌≡◌ {A = Turn (List (List (List F))) (List Message)}
+        (graph_burst b graph.stages (owned_by graph.stages functions) packets)
+        (record { state = owned_by graph.stages (chain_burst b functions packets).state; gives = (chain_burst b functions packets).gives }) }
+    // the same graph is lawful for the functions that the walks leave
+    ensures profiles { (b : Behaviour F) (graph : Graph) (functions : List F) (packets : List Message) →
+        KeepsProfile b → IsLawful graph (map b.profile functions) → IsFull graph →
+        map b.profile (chain_burst b functions packets).state ≡ map b.profile functions }
+{
+    graph_is_chain::<F>();
+    profiles_stay::<F>();
+    fields_stay::<F>();
+    stage_reached::<F>();
+}
+
+/// The packets of a capture, whole frames, end as their fields in a burst that walks through the chain, and
+/// leave the functions so.
+pub fn frames_walk_in_bursts<F>()
+    ensures functions { (b : Behaviour F) (functions : List F) (packets : List Packet) → KeepsProfile b →
+        functions_after b functions packets ≡ (chain_burst b functions (map message_of packets)).state }
+    ensures fates { (b : Behaviour F) (functions : List F) (packets : List Packet) → KeepsProfile b →
+        fates b functions packets ≡ fates_of packets (chain_burst b functions (map message_of packets)).gives }
+{
+    frames_walk_as_fields::<F>();
+}
+
+/// Behind a stage each packet is made of what the branches gave for it, and of nothing that they gave for
+/// another, and each branch gives as much as there are packets: so packets may be shared out by their
+/// places, and put together in whatever order.
+pub fn packets_merge_apart<F>()
+    ensures arrivals { (b : Behaviour F) (stage : Stage) (own : List (List F)) (packets : List Message) (j : ℕ) (stream : List BranchEnd) →
+        slice_get (stage_streams b stage own packets).gives j ≡ Some stream → length stream ≡ length packets }
+    ensures count { (b : Behaviour F) (stage : Stage) (own : List (List F)) (packets : List Message) →
+        length (stage_burst b stage own packets).gives ≡ length packets }
+    ensures each { (b : Behaviour F) (stage : Stage) (own : List (List F)) (packets : List Message) (k : ℕ) (m : Message) →
+        slice_get packets k ≡ Some m →
+        slice_get (stage_burst b stage own packets).gives k ≡ Some (behind m (across k (stage_streams b stage own packets).gives)) }
+{}
+
+/// Functions that are split among the branches of a lawful graph are whole: none is lost, and as many
+/// functions that are split into the same lists are the same functions.
+pub fn owned_is_whole<F>()
+    // a branch has the functions that stand at its positions, one for each
+    ensures count { (b : Behaviour F) (graph : Graph) (functions : List F) (i j : ℕ) (s : Stage) (x : Branch) →
+        IsLawful graph (map b.profile functions) → slice_get graph.stages i ≡ Some s → slice_get s.branches j ≡ Some x →
+        length (owned x.positions functions) ≡ length x.positions }
+    ensures each { (b : Behaviour F) (graph : Graph) (functions : List F) (i j k q : ℕ) (s : Stage) (x : Branch) →
+        IsLawful graph (map b.profile functions) → slice_get graph.stages i ≡ Some s → slice_get s.branches j ≡ Some x →
+        slice_get x.positions k ≡ Some q → slice_get (owned x.positions functions) k ≡ slice_get functions (q - 1) }
+    // and all branches together have all functions
+    ensures whole { (b : Behaviour F) (graph : Graph) (functions others : List F) →
+        IsLawful graph (map b.profile functions) → length others ≡ length functions →
+        owned_by graph.stages others ≡ owned_by graph.stages functions → others ≡ functions }
+{}
+
+/// The copies that a burst makes stage by stage, of the packets that are still there, are those that each
+/// packet makes in the stages that it reaches, which its walk through the chain tells.
+pub fn copies_are_same<F>()
+    ensures { (b : Behaviour F) (graph : Graph) (f : Field) (functions : List F) (packets : List Message) →
+        KeepsProfile b → IsLawful graph (map b.profile functions) → IsFull graph →
+        graph_copies b graph.stages f (owned_by graph.stages functions) packets ≡ chain_copies b graph.stages f functions packets }
+{
+    graph_is_chain::<F>();
+    profiles_stay::<F>();
+    fields_stay::<F>();
+    stage_reached::<F>();
+}
