@@ -8,8 +8,7 @@
 //! the lines.
 //!
 //! Which lines a function refuses shows when it is made. So each is made here, once, and handed on
-//! where the policy has no fault. Settings of kinds that aren't built yet are not looked at, and no
-//! function stands for them.
+//! where the policy has no fault.
 #![tactic(auto)]
 
 mod chains;
