@@ -18,3 +18,4 @@ pub mod Placing
 pub mod Rows
 pub mod Lawful
 pub mod Shaping
+pub mod Undealt

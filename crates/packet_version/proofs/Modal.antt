@@ -12,7 +12,7 @@ use Rattle.action_profile.specs.declared.parts.Mode.TheVariants.{Shared, Moved, 
 use Rattle.action_profile.specs.declared.parts.Touch.{Touch}
 use Rattle.packet_version.proofs.Firsts.{NoneOf, first-position, none-any, alone, none-position}
 
-by_position : (ts : List Touch) (f : Field) (o : Option ℕ) → position (has_write f) ts ≡ o → mode_of ts f ≡ option_map_or (written_mode ts f) o Shared
+pub by_position : (ts : List Touch) (f : Field) (o : Option ℕ) → position (has_write f) ts ≡ o → mode_of ts f ≡ option_map_or (written_mode ts f) o Shared
 unfolding mode_of
 by_position ts f o is = ap (λ (p : Option ℕ). option_map_or (written_mode ts f) p Shared) is
 

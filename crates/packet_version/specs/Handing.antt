@@ -1,7 +1,7 @@
 -- For proofs: the parts of a packet on their way to the versions of a stage's branches.
 use Rattle.std.specs.Prelude.{ℕ, Bool, not, ◌==◌, List, Option, Some, None, if◌then◌else◌, map, option_map, count_by}
 use Rattle.packet_fields.specs.declared.field.Field.{Field}
-use Rattle.action_profile.specs.FieldSets.{joined}
+use Rattle.action_profile.specs.FieldSets.{joined, is_none}
 use Rattle.action_profile.specs.Modes.{has_write}
 use Rattle.action_profile.specs.declared.parts.Touch.{Touch}
 use Rattle.packet_version.specs.Parts.{PlainPart, PlainHeld, Parts, as_map, as_list, changed, unwritten}
@@ -37,6 +37,10 @@ with_own parts version = record version { parts = as_list (own_parts version.tou
 -- the branch reads a field that it doesn't write
 unfoldable pub reads_more : Touch → Bool
 reads_more touch = not ((joined touch.reads touch.writes).0 == touch.writes.0)
+
+-- the branch writes some field
+abbrev pub writes_some : Touch → Bool
+writes_some touch = not (is_none touch.writes)
 
 -- a version with a loan of these parts
 abbrev pub with_loan : Parts → PlainVersion → PlainVersion

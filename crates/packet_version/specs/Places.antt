@@ -1,5 +1,5 @@
 -- For proofs: where the parts of a packet are.
-use Rattle.std.specs.Prelude.{ℕ, List, Option, Some, None, Bool, true, false, map, slice_index_or}
+use Rattle.std.specs.Prelude.{◌≡◌, ◌≤◌, ℕ, List, [], ◌∷◌, length, Option, Some, None, Bool, true, false, map, slice_index_or}
 use Rattle.packet_fields.specs.Fields.{number_of}
 use Rattle.packet_fields.specs.Writing.{all_fields}
 use Rattle.packet_fields.specs.declared.field.Field.{Field}
@@ -8,8 +8,9 @@ use Rattle.packet_version.specs.Splitting.{split_parts}
 use Rattle.packet_version.specs.declared.place.Place.{Place}
 use Rattle.packet_version.specs.declared.place.Place.TheVariants.{Inside, Gone, Outside}
 
+-- the place of a field's part, which is in the frame where none is listed
 abbrev pub place_of : List Place → Field → Place
-place_of places f = slice_index_or places (number_of f) Gone
+place_of places f = slice_index_or places (number_of f) Inside
 
 -- the part of a field, by its place
 abbrev pub part_in : ℕ → List ℕ → Field → Place → Option PlainPart
@@ -40,3 +41,13 @@ inside_all = map (λ f. Inside) all_fields
 abbrev pub unwritten_place : Place → Place
 unwritten_place (Outside part) = Outside (unwritten part)
 unwritten_place place = place
+
+-- a place for each field: where none is listed every part is in the frame
+abbrev pub opened : List Place → List Place
+opened [] = inside_all
+opened (p ∷ ps) = p ∷ ps
+
+-- There is a place for each field, or none as long as every part is in the frame, and room for them.
+pub record ArePlaces (room : ℕ) (places : List Place) : Type 0 where
+  pub ten : length (opened places) ≡ 10
+  pub wide : 10 ≤ room

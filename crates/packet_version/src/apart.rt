@@ -35,7 +35,7 @@ ghost use Rattle.packet_version.specs.Splitting.{packet_parts, split_parts as sp
 /// Takes a frame of any bytes apart. The parts are written by nobody, and the list of tags has room for
 /// `taggers` tags more. `time` is when the packet was captured, in nanoseconds.
 ///
-/// Memory is taken for a copy of the frame, for its layout, and for a list of its parts.
+/// Memory is taken for a copy of the frame, for its layout, and for the places of its parts.
 pub fn split(alloc: Global, frame: &[u8], time: u64, taggers: u32) -> Result<Apart, AllocError>
     ensures parts { IfOk result (λ whole. packet_parts whole ≡ split_parts_of taggers frame.now) }
     ensures rest { IfOk result (λ whole. whole.rest ≡ rest_of frame.now) }
@@ -47,7 +47,7 @@ pub fn split(alloc: Global, frame: &[u8], time: u64, taggers: u32) -> Result<Apa
     // Put together again it is the same frame.
     ensures whole { IfOk result (λ whole. joined whole ≡ frame.now) }
 {
-    let rest = Rest::new(alloc, Vec::from_slice(alloc, frame)?)?;
+    let rest = Rest::new(Vec::from_slice(alloc, frame)?);
     let plan = rest.plan();
     let fixed = Fixed {
         time,

@@ -1,13 +1,14 @@
 //! Dealing a packet to the branches of a stage.
 
-ghost use Rattle.std.specs.Prelude.{◌≡◌, ◌≤◌, [], ◌∷◌, map, length, OnOk, OnErr, IfOk};
+ghost use Rattle.std.specs.Prelude.{◌≡◌, ◌≤◌, [], ◌∷◌, map, length, option_map, false, IsTrue, OnOk, OnErr, IfOk};
+ghost use Rattle.std.specs.List.{list_any};
 ghost use Rattle.packet_fields.specs.declared.field.Field.{Field};
 ghost use Rattle.action_profile.specs.Modes.{modes_of};
-ghost use Rattle.packet_version.specs.Parts.{as_map, as_list, IsPartOf};
+ghost use Rattle.packet_version.specs.Parts.{as_map, as_list, unwritten, IsPartOf};
 ghost use Rattle.packet_version.specs.Splitting.{packet_parts, IsWhole};
 ghost use Rattle.packet_version.specs.Versions.{nothing};
 ghost use Rattle.packet_version.specs.Dealing.{dealt, dealt_whole, based, kept_parts, RaisesByDue, RaisesWithinDue};
-ghost use Rattle.packet_version.specs.Handing.{touches_in, with_own, without_fields};
+ghost use Rattle.packet_version.specs.Handing.{touches_in, writes_some, with_own, without_fields};
 
 use crate::apart::Apart;
 use crate::base::Base;
@@ -103,8 +104,47 @@ fn empty_versions(
 }
 
 /// Gives the versions, which have no field yet, the parts of the fields that they write, and leaves here
-/// what is kept.
+/// what is kept. Where no branch writes, nothing is given, and a packet of which every part is in its frame
+/// is kept as it is.
 fn deal_parts(
+    alloc: Global,
+    held: &mut Held,
+    modes: &[Mode; 10],
+    versions: &mut [Version],
+    tally: &mut Tally,
+) -> Result<(), AllocError>
+    requires ten { length held.old.parts ≡ 10 }
+    requires modes { modes.now ≡ modes_of (touches_in versions.old) }
+    requires formed { (f : Field) → IsPartOf f (as_map held.old.parts f) }
+    requires empty { versions.old ≡ map without_fields versions.old }
+    ensures given { OnOk result (versions.new ≡ map (with_own (as_map held.old.parts)) versions.old) }
+    ensures kept { OnOk result (held.new ≡ record held.old { parts = as_list (kept_parts (touches_in versions.old) (as_map held.old.parts)) }) }
+    ensures counted { OnOk result (RaisesByDue (touches_in versions.old) (as_map held.old.parts) tally.old tally.new) }
+    ensures refused { OnErr result (RaisesWithinDue (touches_in versions.old) (as_map held.old.parts) tally.old tally.new) }
+{
+    if is_dealt(held, versions) {
+        return Ok(());
+    }
+    deal_each(alloc, held, modes, versions, tally)
+}
+
+/// Is every part in the frame, and does no branch write?
+fn is_dealt(held: &Held, versions: &[Version]) -> bool
+    ensures unwritten { IsTrue result → (f : Field) → option_map unwritten (as_map held.now.parts f) ≡ as_map held.now.parts f }
+    ensures readers { IsTrue result → list_any (λ v. writes_some v.touch) versions.now ≡ false }
+{
+    held.is_inside() && !some_writes(versions)
+}
+
+/// Does some branch write a field?
+fn some_writes(versions: &[Version]) -> bool
+    ensures { result ≡ list_any (λ v. writes_some v.touch) versions.now }
+{
+    versions.iter().any(|version| version.writes_some())
+}
+
+/// Gives the versions the parts of the fields that they write, field by field, and leaves here what is kept.
+fn deal_each(
     alloc: Global,
     held: &mut Held,
     modes: &[Mode; 10],

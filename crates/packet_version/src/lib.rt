@@ -34,6 +34,7 @@
 
 mod apart;
 mod base;
+mod contents;
 mod dealing;
 mod gathered;
 mod hand;

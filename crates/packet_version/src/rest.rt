@@ -8,8 +8,7 @@ use std::marker::Model;
 #[derive(Drop)]
 pub(crate) struct Rest {
     bytes: Vec<u8>,
-    // On the heap, since a packet is moved often and a layout is long.
-    plan: Box<Layout>,
+    plan: Layout,
 }
 
 impl Model for Rest {
@@ -20,21 +19,21 @@ impl Model for Rest {
 
     ghost view = { λ r. r.bytes.items };
 
-    ghost invariant = { λ r. r.plan.value ≡ layout_of r.bytes.items };
+    ghost invariant = { λ r. r.plan ≡ layout_of r.bytes.items };
 }
 
 impl Rest {
-    ghost use Rattle.std.specs.Prelude.{◌≡◌, ◌≢◌, OnOk, IfOk, IsTrue};
+    ghost use Rattle.std.specs.Prelude.{◌≡◌, ◌≢◌, OnOk, IsTrue};
     ghost use Rattle.std.specs.Option.{option_copied};
     ghost use Rattle.packet_fields.specs.Fields.{value, layout_of};
     ghost use Rattle.packet_fields.specs.Writing.{put as put_in, Fits};
     ghost use Rattle.packet_fields.specs.declared.field.Field.{Field};
 
-    pub(crate) fn new(alloc: Global, bytes: Vec<u8>) -> Result<Self, AllocError>
-        ensures { IfOk result (λ rest. rest ≡ bytes.items) }
+    pub(crate) fn new(bytes: Vec<u8>) -> Self
+        ensures { result ≡ bytes.items }
     {
-        let plan = Box::new(alloc, layout(&bytes))?;
-        Ok(Rest { bytes, plan })
+        let plan = layout(&bytes);
+        Rest { bytes, plan }
     }
 
     /// The frame's own values.
@@ -79,7 +78,7 @@ impl Rest {
             return Ok(());
         }
         let frame = packet_fields::with_tags(alloc, list, &self.bytes)?;
-        *self = Rest::new(alloc, frame.into_bytes())?;
+        *self = Rest::new(frame.into_bytes());
         Ok(())
     }
 

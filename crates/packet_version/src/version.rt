@@ -43,6 +43,7 @@ impl Version {
 
     /// The version as the function with this profile at this chain position sees it. It waits for a
     /// claim on the parts that are lent.
+    #[inline(always)]
     pub fn view<R: Wait>(self, rt: &R, profile: &Profile, position: u32) -> View
         requires holds { HoldsNamed profile.now self.touch }
         requires position { 1 ≤ position }
@@ -71,7 +72,7 @@ impl Version {
     ghost use Rattle.action_profile.specs.Modes.{has_write};
     ghost use Rattle.packet_version.specs.Parts.{as_map, writer_in, writers_of, AreTags, IsValueOf, IsPartOf};
     ghost use Rattle.packet_version.specs.Versions.{version_parts, with_part, nothing};
-    ghost use Rattle.packet_version.specs.Handing.{reads_more, with_loan, with_packet, with_own_alone};
+    ghost use Rattle.packet_version.specs.Handing.{reads_more, writes_some, with_loan, with_packet, with_own_alone};
     ghost use Rattle.std.specs.Prelude.{IsSome};
 
     /// A branch's version in which there is no field yet.
@@ -98,6 +99,13 @@ impl Version {
         ensures { result ≡ self.now.touch.writes }
     {
         self.touch.writes
+    }
+
+    /// Does the branch write some field?
+    pub(crate) fn writes_some(&self) -> bool
+        ensures { result ≡ writes_some self.now.touch }
+    {
+        self.touch.writes != FieldSet::NONE
     }
 
     /// Does the branch read a field that it doesn't write?
@@ -213,6 +221,7 @@ fn empty_places(alloc: Global) -> Result<Vec<Option<Part>>, AllocError>
 }
 
 /// A claim on what is lent.
+#[inline(always)]
 fn claimed<R: Wait>(rt: &R, lent: Option<Loan<Reader<Held>>>) -> Option<Loan<Shown<Held>>>
     ensures { result ≡ lent }
 {

@@ -4,7 +4,7 @@ use Rattle.packet_version.specs.Parts.{as_map}
 use Rattle.packet_version.specs.Dealing.{copies_due}
 use Rattle.packet_version.specs.Handing.{touches_in}
 use Rattle.packet_version.proofs.DealtByField.{first_own, first_kept, RaisesBefore}
-use Rattle.packet_version.proofs.dealing.deal_parts.Given as goal
+use Rattle.packet_version.proofs.dealing.deal_each.Given as goal
 
 abbrev pub invariant-loop-field : goal.invariant-loop-field
 invariant-loop-field l = record {

@@ -1,0 +1,15 @@
+use Rattle.std.proofs.Common.{◌∙◌, List, length, ap, refl}
+use Rattle.std.specs.Prelude.{Some}
+use Rattle.packet_version.specs.declared.place.Place.{Place}
+use Rattle.packet_version.specs.declared.place.Place.TheVariants.{Outside}
+use Rattle.packet_version.proofs.Keeping.{held_put, opened_held}
+use Rattle.packet_version.proofs.contents.Contents.put.Goals as goal
+
+pub returns : goal.returns
+returns c =
+    let taggers = c.self.inside.taggers in
+    let frame = c.self.inside.rest in
+    let places = c.open.new.places.items in
+    held_put taggers frame places c.number.result c.args.field (Outside c.args.part) (Some c.args.part) c.args.self.now c.number.ensures.number c.number.ensures.below
+    (ap (λ (ps : List Place). length ps) c.open.ensures.places ∙ c.self.invariant.ten) refl
+    (opened_held taggers frame c.self.inside.places.items places c.args.self.now c.open.ensures.places c.self.view_is)

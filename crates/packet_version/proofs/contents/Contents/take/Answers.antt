@@ -1,0 +1,16 @@
+use Rattle.std.proofs.Common.{◌∙◌, List, length, ap}
+use Rattle.std.specs.Prelude.{None}
+use Rattle.packet_version.specs.Places.{part_in}
+use Rattle.packet_version.specs.declared.place.Place.{Place}
+use Rattle.packet_version.proofs.Keeping.{held_put, opened_held}
+use Rattle.packet_version.proofs.contents.Contents.take.Goals as goal
+
+pub returns-clause-left : goal.returns-clause-left
+returns-clause-left c =
+    let taggers = c.self.inside.taggers in
+    let frame = c.self.inside.rest in
+    let places = c.open.new.places.items in
+    held_put taggers frame places c.number.result c.args.field c.replace-place.new.dest None c.args.self.now c.number.ensures.number c.number.ensures.below
+    (ap (λ (ps : List Place). length ps) c.open.ensures.places ∙ c.self.invariant.ten)
+    (ap (λ (p : Place). part_in taggers frame c.args.field p) c.replace-place.ensures.after)
+    (opened_held taggers frame c.self.inside.places.items places c.args.self.now c.open.ensures.places c.self.view_is)
