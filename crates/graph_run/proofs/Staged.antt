@@ -120,7 +120,7 @@ copies_are : (stage : Stage) (f : Field) → stage.parts.modes ≡ modes_of stag
 unfolding copies
 copies_are stage f modes = ap (λ m. copies_by_mode m stage.parts.touches f) (sym (ap (λ ms. slice_index_or ms (number_of f) Shared) modes ∙ mode_at stage.parts.touches f))
 
-due_is : (stage : Stage) (whole : PlainApart) (f : Field) → stage.parts.modes ≡ modes_of stage.parts.touches → copies_due stage.parts.touches f (packet_parts whole f) ≡ stage_copies stage whole f
+pub due_is : (stage : Stage) (whole : PlainApart) (f : Field) → stage.parts.modes ≡ modes_of stage.parts.touches → copies_due stage.parts.touches f (packet_parts whole f) ≡ stage_copies stage whole f
 due_is stage whole f modes = by_part (packet_parts whole f)
   where
     by_part : (o : Option PlainPart) → copies_due stage.parts.touches f o ≡ (if is_some o then copies stage.parts f else 0)

@@ -67,7 +67,7 @@ function_at {F} b fs n p is = by_get (slice_get fs n) refl
     by_get None e = absurd (none-some p (sym (ap (λ (o : Option F). option_map b.profile o) e) ∙ (sym (slice_get-map b.profile fs n) ∙ is)))
     by_get (Some f) e = (f, e, same_Some (b.profile f) p (sym (ap (λ (o : Option F). option_map b.profile o) e) ∙ (sym (slice_get-map b.profile fs n) ∙ is)))
 
-four_more : (o : Option PlainPart) (adds : Bool) (here later : ℕ) → here ≡ (if adds then 1 else 0) + later → adds ≡ true → IfSome o (λ p. length p.bytes + 4 * here ≤ p.room) → IfSome o (λ p. length p.bytes + 4 ≤ p.room)
+pub four_more : (o : Option PlainPart) (adds : Bool) (here later : ℕ) → here ≡ (if adds then 1 else 0) + later → adds ≡ true → IfSome o (λ p. length p.bytes + 4 * here ≤ p.room) → IfSome o (λ p. length p.bytes + 4 ≤ p.room)
 four_more None adds here later is e room = tt
 four_more (Some p) true here later is e room = omega arith
 four_more (Some p) false here later is e room = absurd cc

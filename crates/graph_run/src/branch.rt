@@ -17,7 +17,7 @@ use std::alloc::AllocError;
 use std::sync::Wait;
 
 /// One function on a version of a packet: the version with what it wrote, or its drop.
-fn step_on<F: Function, R: Wait>(
+pub fn step_on<F: Function, R: Wait>(
     rt: &R,
     function: &mut F,
     version: Version,

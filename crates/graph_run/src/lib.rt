@@ -23,11 +23,17 @@
 #![tactic(auto)]
 
 mod branch;
+mod laws;
 mod packet;
 mod plain;
 mod running;
 mod stage;
 
+pub use branch::step_on;
 pub use chain_walk::Fate;
-pub use plain::run_plain;
+pub use laws::{
+    branches_hold_what_is_named, dealt_versions_go_on, due_copies_are_counted,
+    merged_packets_go_on, versions_go_on,
+};
+pub use plain::{count_adders, is_of, run_plain};
 pub use running::Running;

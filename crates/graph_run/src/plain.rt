@@ -93,7 +93,7 @@ fn run_item<F: Function, R: Wait>(
 }
 
 /// Is the packet of the chain with this number?
-fn is_of(item: &Item, chain: u32) -> bool
+pub fn is_of(item: &Item, chain: u32) -> bool
     ensures { result ≡ is_of chain item.now }
 {
     match item.class {
@@ -103,7 +103,7 @@ fn is_of(item: &Item, chain: u32) -> bool
 }
 
 /// How many of the functions add a tag.
-fn count_adders<F: Function>(functions: &[F]) -> u32
+pub fn count_adders<F: Function>(functions: &[F]) -> u32
     requires few { length functions.now ≤ 64 }
     ensures { result ≡ adders_from (profiles_of F.behaviour functions.now) 1 }
 {

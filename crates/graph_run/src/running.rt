@@ -35,6 +35,16 @@ impl<F: Function> Running<F> {
         Running { functions, graph }
     }
 
+    /// The functions in chain order, in the states in which the last packet left them, and their graph.
+    pub fn into_parts(self) -> (Vec<F>, Graph)
+        ensures functions { result.0.items ≡ self.functions }
+        ensures graph { result.1 ≡ self.graph }
+        ensures running { IsRunning F.behaviour result.0.items result.1 }
+    {
+        let Running { functions, graph } = self;
+        (functions, graph)
+    }
+
     /// The functions in chain order, in the states in which the last packet left them.
     pub fn functions(&self) -> &[F]
         ensures { result.now ≡ self.now.functions }
