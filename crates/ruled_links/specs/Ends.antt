@@ -1,0 +1,26 @@
+-- For proofs: the two ends of a link, as contracts see them.
+use Rattle.std.specs.Prelude.{ℕ, List}
+use Rattle.atomic_table.specs.Seated.{TableId}
+use Rattle.crossbeam_queue.specs.Passes.{Pass}
+use Rattle.ruled_links.specs.declared.rule.Knowledge.{Knowledge}
+
+-- which link it is
+abbrev pub LinkId : Type 0
+LinkId = TableId
+
+-- into which messages are put: so many at most
+pub record PutEnd (T : Type 0) : Type 0 where
+  pub link : LinkId
+  pub capacity : ℕ
+  pub due : List T
+  pub put : List T
+
+-- from which messages are taken
+pub record TakeEnd (T : Type 0) : Type 0 where
+  pub link : LinkId
+  pub due : List T
+  pub taken : List T
+
+-- what the pass of an end knows
+abbrev pub known : {T : Type 0} → Pass T (Knowledge T) → Knowledge T
+known pass = pass.me.0.client

@@ -1,0 +1,4 @@
+pub mod Fitting
+pub mod Rule
+pub mod Ends
+pub mod Kept
