@@ -1,0 +1,3 @@
+pub mod Joining
+pub mod Sharing
+pub mod Gathering
