@@ -1,0 +1,12 @@
+pub mod Apart
+pub mod Owns
+pub mod Following
+pub mod StageByStage
+pub mod Fated
+pub mod Walked
+pub mod Begun
+pub mod Giving
+pub mod Dealt
+pub mod Started
+pub mod Rowed
+pub mod Single

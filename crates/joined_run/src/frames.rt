@@ -1,0 +1,60 @@
+//! The frames of a burst, taken apart before the first stage and put together behind the last.
+ghost use Rattle.std.specs.Prelude.{◌≡◌, length, map, IfOk};
+ghost use Rattle.graph_run.specs.Packets.{packets_taken};
+ghost use Rattle.joined_run.specs.Messages.{fate_behind};
+ghost use Rattle.joined_run.specs.Splits.{AreSplit};
+
+use chain_walk::Fate;
+use classifier::Item;
+use graph_run::is_of;
+use merge_ops::Merged;
+use packet_version::{join, split};
+use pcap_io::Unit;
+use std::alloc::{AllocError, Global};
+
+/// The packets that are of the chain with this number, in their order, each taken apart and with its record
+/// number. So many of the chain's functions add a tag.
+pub(crate) fn split_packets(
+    alloc: Global,
+    items: &[Item],
+    unit: Unit,
+    chain: u32,
+    taggers: u32,
+) -> Result<(Vec<u32>, Vec<Merged>), AllocError>
+    ensures numbers { IfOk result (λ apart. length apart.0.items ≡ length apart.1.items) }
+    ensures packets { IfOk result (λ apart. AreSplit taggers (packets_taken unit chain items.now) apart.1.items) }
+{
+    let mut numbers = Vec::new(alloc);
+    let mut packets = Vec::new(alloc);
+    for item in items {
+        if is_of(item, chain) {
+            let frame = item.packet.frame.bytes();
+            let whole = split(alloc, frame, item.packet.time(unit), taggers)?;
+            numbers.push(item.number)?;
+            packets.push(Merged::Whole(whole))?;
+        }
+    }
+    Ok((numbers, packets))
+}
+
+/// The fate of each packet behind the last stage, in their order. Frames that go out are not sealed yet.
+pub(crate) fn join_packets(alloc: Global, packets: Vec<Merged>) -> Result<Vec<Fate>, AllocError>
+    ensures { IfOk result (λ fates. fates.items ≡ map fate_behind packets.items) }
+{
+    let mut fates = Vec::with_capacity(alloc, packets.len())?;
+    for packet in packets {
+        fates.push(join_packet(alloc, packet)?)?;
+    }
+    Ok(fates)
+}
+
+/// The fate of a packet behind the last stage.
+fn join_packet(alloc: Global, packet: Merged) -> Result<Fate, AllocError>
+    ensures { IfOk result (λ fate. fate ≡ fate_behind packet) }
+{
+    match packet {
+        Merged::Whole(whole) => Ok(Fate::Out(join(alloc, whole)?)),
+        Merged::Gone(position) => Ok(Fate::Gone(position)),
+        Merged::Short => Err(AllocError),
+    }
+}
