@@ -10,22 +10,29 @@ ghost use Rattle.burst_walk.specs.Leading.{IsWritable, LeadsChain, LeadsEach, cl
 use chain_service::{NamedFunction, ServiceChain};
 use chain_walk::{Fate, frames_walk_as_fields, values_stay_well_formed};
 use classifier::Burst;
-use graph_run::run_plain;
 use item_list::Items;
+use joined_run::run_joined;
+use nfp_outside::Gate;
 use pcap_io::Unit;
 use std::alloc::{AllocError, Global};
 use std::sync::Wait;
+use std::thread::Threads;
 
-/// Leads the packets of a burst through their chains, one chain after another, and gives the fates of each chain's packets.
-pub fn lead<R: Wait>(
+/// Leads the packets of a burst through their chains, one chain after another, and gives the fates of each chain's packets. The
+/// branches of a stage run side by side, and so many mergers put their packets together.
+pub fn lead<R: Threads + Wait + Sync, G: Gate + Sync>(
     rt: &R,
     alloc: Global,
     chains: Items<ServiceChain>,
     burst: &Burst,
     unit: Unit,
+    mergers: u32,
+    gate: &G,
 ) -> Result<(Items<ServiceChain>, Vec<Vec<Fate>>), AllocError>
     requires few { length burst.now.items ≤ 65536 }
     requires short { All (λ i. IsShort i.packet) burst.now.items }
+    requires some_mergers { 1 ≤ mergers }
+    requires few_mergers { mergers ≤ 16 }
     requires few_chains { length chains < 2 ^ 32 }
     ensures led { IfOk result (λ led. LeadsEach (classed_items unit burst.now.items) 0 chains led.0) }
     ensures fates { IfOk result (λ led. map (λ v. v.items) led.1.items ≡ each_fates named_behaviour (classed_items unit burst.now.items) 0 (map (λ c. c.running.functions) chains)) }
@@ -35,7 +42,7 @@ pub fn lead<R: Wait>(
     let mut rows = Vec::new(alloc);
     let mut number = 0;
     'chains: for chain in chains.into_vec() {
-        let (chain, fates) = lead_chain(rt, alloc, chain, burst, unit, number)?;
+        let (chain, fates) = lead_chain(rt, alloc, chain, burst, unit, number, mergers, gate)?;
         led.push(chain)?;
         rows.push(fates)?;
         number += 1;
@@ -44,16 +51,20 @@ pub fn lead<R: Wait>(
 }
 
 // Leads the packets of a burst through the chain with this number that takes them.
-fn lead_chain<R: Wait>(
+fn lead_chain<R: Threads + Wait + Sync, G: Gate + Sync>(
     rt: &R,
     alloc: Global,
     chain: ServiceChain,
     burst: &Burst,
     unit: Unit,
     number: u32,
+    mergers: u32,
+    gate: &G,
 ) -> Result<(ServiceChain, Vec<Fate>), AllocError>
     requires few { length burst.now.items ≤ 65536 }
     requires short { All (λ i. IsShort i.packet) burst.now.items }
+    requires some_mergers { 1 ≤ mergers }
+    requires few_mergers { mergers ≤ 16 }
     ensures led { IfOk result (λ led. LeadsChain (classed_items unit burst.now.items) number chain led.0) }
     ensures fates { IfOk result (λ led. led.1.items ≡ fates named_behaviour chain.running.functions (packets_in number (classed_items unit burst.now.items))) }
     ensures writable { IfOk result (λ led. All IsWritable led.1.items) }
@@ -66,7 +77,17 @@ fn lead_chain<R: Wait>(
         running,
         mut copies,
     } = chain;
-    let (running, fates) = run_plain(rt, alloc, running, burst, unit, number, &mut copies)?;
+    let (running, fates) = run_joined(
+        rt,
+        alloc,
+        running,
+        burst,
+        unit,
+        number,
+        &mut copies,
+        mergers,
+        gate,
+    )?;
     let chain = ServiceChain {
         declared,
         running,

@@ -9,21 +9,30 @@ use crate::weave::weave;
 use chain_service::{NamedFunction, Service};
 use chain_walk::Fate;
 use classifier::{Burst, class_is_the_first};
+use nfp_outside::Gate;
 use pcap_io::Unit;
 use service_walk::fates_are_woven;
 use std::alloc::{AllocError, Global};
 use std::sync::Wait;
+use std::thread::Threads;
 
 /// Leads the packets of a burst through their chains, and gives where each ended, none for one that no chain takes.
-pub fn walk_burst<R: Wait>(
+///
+/// The branches of a stage run side by side, and behind them so many mergers, 1 to 16. Nothing that comes of a packet depends on
+/// how many there are. Each step of a function passes the gate first.
+pub fn walk_burst<R: Threads + Wait + Sync, G: Gate + Sync>(
     rt: &R,
     alloc: Global,
     service: Service,
     burst: &Burst,
     unit: Unit,
+    mergers: u32,
+    gate: &G,
 ) -> Result<(Service, Vec<Option<Fate>>), AllocError>
     requires few { length burst.now.items ≤ 65536 }
     requires classed { All (IsClassed service.classes) burst.now.items }
+    requires some_mergers { 1 ≤ mergers }
+    requires few_mergers { mergers ≤ 16 }
     requires told { service.classes ≡ fits_of service.chains }
     ensures classes { IfOk result (λ walked. walked.0.classes ≡ service.classes) }
     ensures led { IfOk result (λ walked. LeadsEach (all_classed (chains_of service.chains).declared unit (records_of burst.now.items)) 0 service.chains walked.0.chains) }
@@ -36,7 +45,7 @@ pub fn walk_burst<R: Wait>(
     class_is_the_first();
     fates_are_woven::<NamedFunction>();
     let Service { classes, chains } = service;
-    let (chains, rows) = lead(rt, alloc, chains, burst, unit)?;
+    let (chains, rows) = lead(rt, alloc, chains, burst, unit, mergers, gate)?;
     let fates = weave(alloc, burst.items.as_slice(), rows)?;
     Ok((Service { classes, chains }, fates))
 }

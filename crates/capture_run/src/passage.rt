@@ -12,10 +12,11 @@ use burst_walk::walk_burst;
 use capture_report::{Totals, burst_lines, count_gone};
 use chain_service::Service;
 use classifier::Burst;
-use nfp_outside::Desk;
+use nfp_outside::{Desk, Gate};
 use pcap_io::Unit;
 use std::alloc::Global;
 use std::sync::Wait;
+use std::thread::Threads;
 
 /// A capture on its way through a service: the chains as the last packet left them, where the packets that pass go, and
 /// what was counted so far.
@@ -29,18 +30,23 @@ pub struct Passage<W> {
 
 impl<W: Sink + Drop> Passage<W> {
     /// Leads the packets of a burst through their chains, and puts the record of each that passes into Out, and then the line
-    /// of each that is dropped into Report.
-    pub fn run<R: Wait, D: Desk>(
+    /// of each that is dropped into Report. So many mergers put the packets together behind each stage of a chain, and each step
+    /// of a function passes the gate first.
+    pub fn run<R: Threads + Wait + Sync, D: Desk, G: Gate + Sync>(
         self,
         rt: &R,
         alloc: Global,
         desk: &mut D,
         burst: Burst,
+        mergers: u32,
+        gate: &G,
     ) -> Result<Passage<W>, RunFault>
         requires out { IsSome (D.slots desk.old Slot.Out).name }
         requires report { IsSome (D.slots desk.old Slot.Report).name }
         requires few { length burst.items ≤ 65536 }
         requires classed { All (IsClassed self.service.classes) burst.items }
+        requires some_mergers { 1 ≤ mergers }
+        requires few_mergers { mergers ≤ 16 }
         requires told { IsTold self }
         requires room { self.totals.records + length burst.items < 2 ^ 32 }
         requires within { self.totals.dropped ≤ self.totals.records }
@@ -55,7 +61,7 @@ impl<W: Sink + Drop> Passage<W> {
             mut writer,
             mut totals,
         } = self;
-        let (service, fates) = walk_burst(rt, alloc, service, &burst, unit)?;
+        let (service, fates) = walk_burst(rt, alloc, service, &burst, unit, mergers, gate)?;
         let items = burst.items.as_slice();
         let chains = service.chains.as_slice();
         let lines = burst_lines(alloc, chains, totals.records + 1, items, &fates)?;

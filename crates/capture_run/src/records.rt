@@ -11,23 +11,34 @@ use crate::passage::Passage;
 use crate::sink::Sink;
 use crate::source::Source;
 use classifier::Cutter;
-use nfp_outside::Desk;
+use nfp_outside::{Desk, Gate};
 use pcap_io::{CaptureFault, PcapFault, PcapRecord};
 use std::alloc::Global;
 use std::sync::Wait;
+use std::thread::Threads;
 
 /// Takes the records of the capture one after another, and runs each burst, of `burst` packets at most, where its last packet
 /// was read.
-pub fn run_records<R: Wait, D: Desk, S: Source + Drop, W: Sink + Drop>(
+pub fn run_records<
+    R: Threads + Wait + Sync,
+    D: Desk,
+    S: Source + Drop,
+    W: Sink + Drop,
+    G: Gate + Sync,
+>(
     rt: &R,
     alloc: Global,
     desk: &mut D,
     burst: u32,
     source: S,
     passage: Passage<W>,
+    mergers: u32,
+    gate: &G,
 ) -> Result<(Passage<W>, Option<CaptureFault>), RunFault>
     requires some { 0 < burst }
     requires few { burst ≤ 65536 }
+    requires some_mergers { 1 ≤ mergers }
+    requires few_mergers { mergers ≤ 16 }
     requires capture { IsSome (D.slots desk.old Slot.Capture).name }
     requires out { IsSome (D.slots desk.old Slot.Out).name }
     requires report { IsSome (D.slots desk.old Slot.Report).name }
@@ -45,28 +56,32 @@ pub fn run_records<R: Wait, D: Desk, S: Source + Drop, W: Sink + Drop>(
     'records: loop {
         match source.next(alloc, desk) {
             Ok(Some(packet)) => {
-                passage = match take(rt, alloc, desk, &mut cutter, passage, packet) {
+                passage = match take(rt, alloc, desk, &mut cutter, passage, packet, mergers, gate) {
                     Ok(next) => next,
                     Err(fault) => return Err(fault),
                 };
             }
-            Ok(None) => return end(rt, alloc, desk, cutter, passage, None),
-            Err(refusal) => return stop(rt, alloc, desk, cutter, passage, refusal),
+            Ok(None) => return end(rt, alloc, desk, cutter, passage, None, mergers, gate),
+            Err(refusal) => return stop(rt, alloc, desk, cutter, passage, refusal, mergers, gate),
         }
     }
 }
 
 // Adds a packet to the open burst, with the chain that takes it, and runs the burst where this packet closes it.
-fn take<R: Wait, D: Desk, W: Sink + Drop>(
+fn take<R: Threads + Wait + Sync, D: Desk, W: Sink + Drop, G: Gate + Sync>(
     rt: &R,
     alloc: Global,
     desk: &mut D,
     cutter: &mut Cutter,
     passage: Passage<W>,
     packet: PcapRecord,
+    mergers: u32,
+    gate: &G,
 ) -> Result<Passage<W>, RunFault>
     requires out { IsSome (D.slots desk.old Slot.Out).name }
     requires report { IsSome (D.slots desk.old Slot.Report).name }
+    requires some_mergers { 1 ≤ mergers }
+    requires few_mergers { mergers ≤ 16 }
     requires ready { IsReady passage cutter.old }
     requires short { IsShort packet }
     requires room { cutter.old.added < 2 ^ 32 - 1 }
@@ -77,49 +92,66 @@ fn take<R: Wait, D: Desk, W: Sink + Drop>(
     let class = passage.service.classes.class(packet.frame.bytes());
     match cutter.add(packet, class) {
         Ok(None) => Ok(passage),
-        Ok(Some(burst)) => passage.run(rt, alloc, desk, burst),
+        Ok(Some(burst)) => passage.run(rt, alloc, desk, burst, mergers, gate),
         Err(_) => Err(RunFault::OutOfMemory),
     }
 }
 
 // Runs the open burst, and tells how the capture ended.
-fn end<R: Wait, D: Desk, W: Sink + Drop>(
+fn end<R: Threads + Wait + Sync, D: Desk, W: Sink + Drop, G: Gate + Sync>(
     rt: &R,
     alloc: Global,
     desk: &mut D,
     cutter: Cutter,
     passage: Passage<W>,
     fault: Option<CaptureFault>,
+    mergers: u32,
+    gate: &G,
 ) -> Result<(Passage<W>, Option<CaptureFault>), RunFault>
     requires out { IsSome (D.slots desk.old Slot.Out).name }
     requires report { IsSome (D.slots desk.old Slot.Report).name }
+    requires some_mergers { 1 ≤ mergers }
+    requires few_mergers { mergers ≤ 16 }
     requires ready { IsReady passage cutter }
     ensures ok { IfOk result (Ends W.spelled cutter.held passage fault (D.slots desk.old) (D.slots desk.new)) }
     ensures err { IfErr result (PassBreaks W.spelled (records_of cutter.held) passage (D.slots desk.old) (D.slots desk.new)) }
     ensures others { (s : Slot) → s ≢ Slot.Out → s ≢ Slot.Report → D.slots desk.new s ≡ D.slots desk.old s }
 {
-    let passage = passage.run(rt, alloc, desk, cutter.rest())?;
+    let passage = passage.run(rt, alloc, desk, cutter.rest(), mergers, gate)?;
     Ok((passage, fault))
 }
 
 // How a run ends where the next record couldn't be read. A fault of the capture ends it as its end does.
-fn stop<R: Wait, D: Desk, W: Sink + Drop>(
+fn stop<R: Threads + Wait + Sync, D: Desk, W: Sink + Drop, G: Gate + Sync>(
     rt: &R,
     alloc: Global,
     desk: &mut D,
     cutter: Cutter,
     passage: Passage<W>,
     refusal: PcapFault,
+    mergers: u32,
+    gate: &G,
 ) -> Result<(Passage<W>, Option<CaptureFault>), RunFault>
     requires out { IsSome (D.slots desk.old Slot.Out).name }
     requires report { IsSome (D.slots desk.old Slot.Report).name }
+    requires some_mergers { 1 ≤ mergers }
+    requires few_mergers { mergers ≤ 16 }
     requires ready { IsReady passage cutter }
     ensures ok { IfOk result (StopEnds W.spelled cutter.held passage refusal (D.slots desk.old) (D.slots desk.new)) }
     ensures err { IfErr result (StopBreaks W.spelled cutter.held passage refusal (D.slots desk.old) (D.slots desk.new)) }
     ensures others { (s : Slot) → s ≢ Slot.Out → s ≢ Slot.Report → D.slots desk.new s ≡ D.slots desk.old s }
 {
     match refusal {
-        PcapFault::Capture(fault) => end(rt, alloc, desk, cutter, passage, Some(fault)),
+        PcapFault::Capture(fault) => end(
+            rt,
+            alloc,
+            desk,
+            cutter,
+            passage,
+            Some(fault),
+            mergers,
+            gate,
+        ),
         PcapFault::ReadFault(_) => Err(RunFault::ReadFault),
         PcapFault::OutOfMemory => Err(RunFault::OutOfMemory),
     }

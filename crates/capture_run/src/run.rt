@@ -13,18 +13,28 @@ use crate::summary::put_summary;
 use crate::write::put_text;
 use capture_report::{Ended, TITLE, Totals};
 use chain_service::{NamedFunction, Service};
-use nfp_outside::Desk;
+use nfp_outside::{Desk, Gate};
 use pcap_io::Unit;
 use service_walk::chains_walk_apart;
 use std::alloc::Global;
 use std::sync::Wait;
+use std::thread::Threads;
 
 /// Leads each packet of a capture through the chain that takes it, and puts those that pass into Out and the report into Report.
 ///
 /// The heads were read and written, and the source stands behind the one, the sink behind the other. Packets are held until their
 /// burst is full, which is of `burst` packets at most, or the capture ends. What is put of a whole capture doesn't depend on that;
 /// but a want of memory or a fault of a slot leaves those unwritten that were read since the last burst.
-pub fn run_capture<R: Wait, D: Desk, S: Source + Drop, W: Sink + Drop>(
+///
+/// The branches of a stage run side by side, and behind them so many mergers, 1 to 16: nothing that is put depends on how many.
+/// Each step of a function passes the gate first.
+pub fn run_capture<
+    R: Threads + Wait + Sync,
+    D: Desk,
+    S: Source + Drop,
+    W: Sink + Drop,
+    G: Gate + Sync,
+>(
     rt: &R,
     alloc: Global,
     desk: &mut D,
@@ -33,9 +43,13 @@ pub fn run_capture<R: Wait, D: Desk, S: Source + Drop, W: Sink + Drop>(
     burst: u32,
     source: S,
     sink: W,
+    mergers: u32,
+    gate: &G,
 ) -> Result<Ended, RunFault>
     requires some { 0 < burst }
     requires few { burst ≤ 65536 }
+    requires some_mergers { 1 ≤ mergers }
+    requires few_mergers { mergers ≤ 16 }
     requires capture { IsSome (D.slots desk.old Slot.Capture).name }
     requires out { IsSome (D.slots desk.old Slot.Out).name }
     requires report { IsSome (D.slots desk.old Slot.Report).name }
@@ -58,7 +72,7 @@ pub fn run_capture<R: Wait, D: Desk, S: Source + Drop, W: Sink + Drop>(
             dropped: 0,
         },
     };
-    let (passage, fault) = run_records(rt, alloc, desk, burst, source, passage)?;
+    let (passage, fault) = run_records(rt, alloc, desk, burst, source, passage, mergers, gate)?;
     let ended = Ended {
         totals: passage.totals,
         fault,

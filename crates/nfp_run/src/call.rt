@@ -24,14 +24,16 @@ use std::thread::Threads;
 /// into Report the line of each that was dropped, the totals, the copies that the graph of each chain made of each field, the
 /// functions of each chain, and the capture's fault where it has one. The capture is read record by record, and written burst
 /// by burst, each of at most as many packets as `--burst` says. `demo` makes its own capture, runs it through its own policy, and touches
-/// no slot but Note. Last, one line goes into Note, or the plan, or the demo's summary. The gate is passed by nothing yet, since
-/// a burst runs on one thread.
-pub fn nfp<R: Threads + Wait, D: Desk, G: Gate + Sync>(
+/// no slot but Note. Last, one line goes into Note, or the plan, or the demo's summary.
+///
+/// The branches of a stage run side by side, each on a thread of its own where one can be started, and behind them as many mergers
+/// as `--mergers` says. Each step of a function passes the gate first. What is due says nothing of either.
+pub fn nfp<R: Threads + Wait + Sync, D: Desk, G: Gate + Sync>(
     rt: &R,
     alloc: Global,
     words: &[String],
     desk: &mut D,
-    _gate: &G,
+    gate: &G,
 ) -> Outcome
     requires none_attached { (s : Slot) → (D.slots desk.old s).name ≡ None }
     requires note_empty { IfSome (D.slots desk.old Slot.Note).bytes (λ bytes. bytes ≡ []) }
@@ -83,6 +85,6 @@ pub fn nfp<R: Threads + Wait, D: Desk, G: Gate + Sync>(
     ensures read_faults { (s : Slot) → result ≡ Outcome.ReadFault s → ReadFaultCause (command_of (map string_bytes words.now)) (D.slots desk.old) (D.slots desk.new) s }
     ensures write_faults { (s : Slot) → result ≡ Outcome.WriteFault s → WriteFaultCause (command_of (map string_bytes words.now)) (D.slots desk.old) (D.slots desk.new) s }
 {
-    let ending = run_words(rt, alloc, words, desk);
+    let ending = run_words(rt, alloc, words, desk, gate);
     put_note(alloc, desk, ending)
 }

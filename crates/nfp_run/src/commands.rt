@@ -10,20 +10,27 @@ use crate::outcome::Outcome;
 use crate::plan::plan;
 use crate::run::run;
 use command_words::{Command, WordsFault, read_command};
-use nfp_outside::Desk;
+use nfp_outside::{Desk, Gate};
 use std::alloc::Global;
 use std::sync::Wait;
+use std::thread::Threads;
 
 /// Does what the words ask for.
 #[tactic(auto, using(crate::proofs::ShownPlans::plan_ran, crate::proofs::ShownPlans::demo_ran, crate::proofs::ShownPlans::usage_ran, crate::proofs::UnreadWords::unread_ran))]
-pub fn run_words<R: Wait, D: Desk>(rt: &R, alloc: Global, words: &[String], desk: &mut D) -> Ending
+pub fn run_words<R: Threads + Wait + Sync, D: Desk, G: Gate + Sync>(
+    rt: &R,
+    alloc: Global,
+    words: &[String],
+    desk: &mut D,
+    gate: &G,
+) -> Ending
     requires { (s : Slot) → (D.slots desk.old s).name ≡ None }
     ensures ran { Ran (command_of (map string_bytes words.now)) (D.slots desk.old) (D.slots desk.new) result }
 {
     match read_command(alloc, words) {
-        Ok(Command::Run(names, options)) => run(rt, alloc, &names, options, desk),
+        Ok(Command::Run(names, options)) => run(rt, alloc, &names, options, desk, gate),
         Ok(Command::Plan(name)) => plan(alloc, name, desk),
-        Ok(Command::Demo(input, options)) => demo(rt, alloc, input, options.burst),
+        Ok(Command::Demo(input, options)) => demo(rt, alloc, input, options, gate),
         Err(WordsFault::Usage(fault)) => Ending::Stopped(Outcome::Usage(fault)),
         Err(WordsFault::OutOfMemory) => Ending::Stopped(Outcome::OutOfMemory),
     }

@@ -6,6 +6,7 @@ ghost use Rattle.chain_service.specs.Opening.{IsOpening, chains_of};
 ghost use Rattle.chain_service.specs.Services.{service_of};
 ghost use Rattle.demo_capture.specs.DemoCapture.{policy_text, demo_head, demo_records, whole_body};
 ghost use Rattle.burst_walk.specs.Fates.{fates_of};
+ghost use Rattle.command_words.specs.Named.{IsInRange};
 ghost use Rattle.capture_run.specs.Running.{Counts};
 ghost use Rattle.capture_run.specs.Slots.{Puts};
 ghost use Rattle.nfp_run.specs.DemoNote.{demo_summary, demo_text};
@@ -19,34 +20,46 @@ use crate::outcome::Outcome;
 use capture_report::{Ended, Totals};
 use capture_run::{RunFault, run_capture};
 use chain_service::{Service, make_service};
-use command_words::DemoInput;
+use command_words::{DemoInput, RunOptions};
 use demo_capture::{Summary, Weighed, head, policy, push_summary};
 use item_list::Items;
-use nfp_outside::{Desk, Scales, Slot, Weight, weights_add_up};
+use nfp_outside::{Desk, Gate, Scales, Slot, Weight, weights_add_up};
 use policy_judge::judge;
 use std::alloc::{AllocError, Global};
 use std::sync::Wait;
+use std::thread::Threads;
 
-/// Leads the capture of this seed and count through the demo's policy, in bursts of at most so many packets, and tells how many packets
-/// came out, and how long and heavy the texts are that a run would write. No slot is touched.
-pub fn demo<R: Wait>(rt: &R, alloc: Global, input: DemoInput, burst: u32) -> Ending
-    requires some_packets { 1 ≤ burst }
-    requires few_packets { burst ≤ 65536 }
+/// Leads the capture of this seed and count through the demo's policy, in bursts of at most so many packets and with so many mergers
+/// as the options say, and tells how many packets came out, and how long and heavy the texts are that a run would write. No slot is
+/// touched.
+pub fn demo<R: Threads + Wait + Sync, G: Gate + Sync>(
+    rt: &R,
+    alloc: Global,
+    input: DemoInput,
+    options: RunOptions,
+    gate: &G,
+) -> Ending
+    requires ranges { IsInRange options }
     ensures { DemoEnds input result }
 {
-    match text(rt, alloc, input, burst) {
+    match text(rt, alloc, input, options, gate) {
         Ok(text) => Ending::Shown(Items::new(text)),
         Err(_) => Ending::Stopped(Outcome::OutOfMemory),
     }
 }
 
-fn text<R: Wait>(rt: &R, alloc: Global, input: DemoInput, burst: u32) -> Result<Vec<u8>, AllocError>
-    requires some_packets { 1 ≤ burst }
-    requires few_packets { burst ≤ 65536 }
+fn text<R: Threads + Wait + Sync, G: Gate + Sync>(
+    rt: &R,
+    alloc: Global,
+    input: DemoInput,
+    options: RunOptions,
+    gate: &G,
+) -> Result<Vec<u8>, AllocError>
+    requires ranges { IsInRange options }
     ensures { IfOk result (λ v. v.items ≡ demo_text input) }
 {
     let service = demo_service(alloc)?;
-    let summary = weigh(rt, alloc, service, input, burst)?;
+    let summary = weigh(rt, alloc, service, input, options, gate)?;
     let mut text = Vec::new(alloc);
     push_summary(alloc, &mut text, &summary)?;
     Ok(text)
@@ -66,21 +79,21 @@ fn demo_service(alloc: Global) -> Result<Service, AllocError>
 
 // The numbers of the summary. Scales never fail, so where the run broke off there was no memory.
 #[tactic(auto, using(crate::proofs::DemoRuns::summed_demo))]
-fn weigh<R: Wait>(
+fn weigh<R: Threads + Wait + Sync, G: Gate + Sync>(
     rt: &R,
     alloc: Global,
     service: Service,
     input: DemoInput,
-    burst: u32,
+    options: RunOptions,
+    gate: &G,
 ) -> Result<Summary, AllocError>
     requires opening { IsOpening service }
-    requires some_packets { 1 ≤ burst }
-    requires few_packets { burst ≤ 65536 }
+    requires ranges { IsInRange options }
     ensures { IfOk result (λ summary. summary ≡ demo_summary input (chains_of service.chains)) }
 {
     weights_add_up();
     let mut scales = Scales::new(alloc);
-    match lead(rt, alloc, &mut scales, service, input, burst) {
+    match lead(rt, alloc, &mut scales, service, input, options, gate) {
         Ok(ended) => Ok(summary_by(
             input,
             ended.totals,
@@ -92,20 +105,20 @@ fn weigh<R: Wait>(
 }
 
 // Leads the demo's capture through these chains, and puts what is written of it into the slots of a desk.
-fn lead<R: Wait, D: Desk>(
+fn lead<R: Threads + Wait + Sync, D: Desk, G: Gate + Sync>(
     rt: &R,
     alloc: Global,
     desk: &mut D,
     service: Service,
     input: DemoInput,
-    burst: u32,
+    options: RunOptions,
+    gate: &G,
 ) -> Result<Ended, RunFault>
     requires capture { IsSome (D.slots desk.old Slot.Capture).name }
     requires out { IsSome (D.slots desk.old Slot.Out).name }
     requires report { IsSome (D.slots desk.old Slot.Report).name }
     requires opening { IsOpening service }
-    requires some_packets { 1 ≤ burst }
-    requires few_packets { burst ≤ 65536 }
+    requires ranges { IsInRange options }
     ensures puts { IfOk result (λ ended. Puts (written_of (chains_of service.chains) demo_head (whole_body (demo_records input.seed input.count))).out
         (written_of (chains_of service.chains) demo_head (whole_body (demo_records input.seed input.count))).report (D.slots desk.old) (D.slots desk.new)) }
     ensures counts { IfOk result (Counts (whole_body (demo_records input.seed input.count)) (fates_of (chains_of service.chains) demo_head.unit (demo_records input.seed input.count))) }
@@ -114,7 +127,18 @@ fn lead<R: Wait, D: Desk>(
     let head = head();
     let writer = put_head(desk, &head, &service)?;
     let records = DemoSource::new(input);
-    run_capture(rt, alloc, desk, service, head.unit, burst, records, writer)
+    run_capture(
+        rt,
+        alloc,
+        desk,
+        service,
+        head.unit,
+        options.burst,
+        records,
+        writer,
+        options.mergers,
+        gate,
+    )
 }
 
 fn summary_by(input: DemoInput, totals: Totals, out: Weight, report: Weight) -> Summary

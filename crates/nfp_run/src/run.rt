@@ -23,18 +23,20 @@ use capture_report::Ended;
 use capture_run::{RunFault, run_capture};
 use chain_service::Service;
 use command_words::{FileNames, RunOptions};
-use nfp_outside::{Desk, Slot};
+use nfp_outside::{Desk, Gate, Slot};
 use pcap_io::{CaptureHead, Reader};
 use std::alloc::Global;
 use std::sync::Wait;
+use std::thread::Threads;
 
 /// Runs the chains of the policy over the capture. The words are accepted, and nothing is put into Note.
-pub fn run<R: Wait, D: Desk>(
+pub fn run<R: Threads + Wait + Sync, D: Desk, G: Gate + Sync>(
     rt: &R,
     alloc: Global,
     names: &FileNames<'_>,
     options: RunOptions,
     desk: &mut D,
+    gate: &G,
 ) -> Ending
     requires ranges { IsInRange options }
     requires free { (s : Slot) → (D.slots desk.old s).name ≡ None }
@@ -62,14 +64,7 @@ pub fn run<R: Wait, D: Desk>(
         Err(outcome) => return Ending::Stopped(outcome),
     };
     ending_of(attach_and_run(
-        rt,
-        alloc,
-        desk,
-        names,
-        service,
-        options.burst,
-        &head,
-        reader,
+        rt, alloc, desk, names, service, options, &head, reader, gate,
     ))
 }
 
@@ -94,22 +89,22 @@ fn closed(ended: Ended) -> Ending
 }
 
 // Attaches Out and Report, puts the head that is written into Out, and runs the capture into both.
-fn attach_and_run<R: Wait, D: Desk>(
+fn attach_and_run<R: Threads + Wait + Sync, D: Desk, G: Gate + Sync>(
     rt: &R,
     alloc: Global,
     desk: &mut D,
     names: &FileNames<'_>,
     service: Service,
-    burst: u32,
+    options: RunOptions,
     head: &CaptureHead,
     reader: Reader,
+    gate: &G,
 ) -> Result<Ended, RunFault>
     requires capture { IsSome (D.slots desk.old Slot.Capture).name }
     requires out_free { (D.slots desk.old Slot.Out).name ≡ None }
     requires report_free { (D.slots desk.old Slot.Report).name ≡ None }
     requires opening { IsOpening service }
-    requires some_packets { 1 ≤ burst }
-    requires few_packets { burst ≤ 65536 }
+    requires ranges { IsInRange options }
     requires fresh { reader ≡ reader_at head.now.order 0 }
     ensures left { IfSome (body_left reader (D.slots desk.old Slot.Capture)) (λ body.
         Left (written_of (chains_of service.chains) head.now body) body (fates_of (chains_of service.chains) head.now.unit body.records) (D.slots desk.old) (D.slots desk.new) result) }
@@ -125,5 +120,16 @@ fn attach_and_run<R: Wait, D: Desk>(
     attach_sink(desk, Slot::Out, names.out)?;
     attach_sink(desk, Slot::Report, names.report)?;
     let writer = put_head(desk, head, &service)?;
-    run_capture(rt, alloc, desk, service, head.unit, burst, reader, writer)
+    run_capture(
+        rt,
+        alloc,
+        desk,
+        service,
+        head.unit,
+        options.burst,
+        reader,
+        writer,
+        options.mergers,
+        gate,
+    )
 }
