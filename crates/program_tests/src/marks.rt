@@ -90,16 +90,16 @@ fn push_datagram(
     capture.extend_from_slice(datagram.data)
 }
 
-// Leads a capture through a policy, with one merger and with many, and compares what it gives.
+// Leads a capture through a policy, with one merger, two and many, and compares what it gives.
 fn compare(
-    rt: &(impl Abort + AllocGlobal + Threads + Wait),
+    rt: &(impl Abort + AllocGlobal + Threads + Wait + Sync),
     policy: &[u8],
     capture: &[u8],
     out: &[u8],
     report: &[u8],
 ) -> Result<(), Fail> {
     let alloc = rt.alloc();
-    for mergers in ["1", "16"] {
+    for mergers in ["1", "2", "16"] {
         let run = words(alloc, &["run", "p", "c", "o", "r", "--mergers", mergers])?;
         let capture = capture.to_vec(alloc)?;
         let mut desk = FixedDesk::new(alloc, policy.to_vec(alloc)?, capture, 7);

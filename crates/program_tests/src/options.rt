@@ -58,8 +58,19 @@ fn states_are_carried_from_burst_to_burst(rt: HostRuntime) -> Result<(), Fail> {
             port,
         )?;
     }
-    for burst in ["1", "7", "65536"] {
-        let run = words(alloc, &["run", "--burst", burst, "p", "c", "o", "r"])?;
+    for (burst, mergers) in [("1", "16"), ("7", "1"), ("65536", "2"), ("65536", "16")] {
+        let options = [
+            "run",
+            "--burst",
+            burst,
+            "--mergers",
+            mergers,
+            "p",
+            "c",
+            "o",
+            "r",
+        ];
+        let run = words(alloc, &options)?;
         let mut desk = FixedDesk::new(alloc, SLOWED.to_vec(alloc)?, capture.to_vec(alloc)?, 7);
         let outcome = nfp(&rt, alloc, &run, &mut desk, &OpenGate);
         assert!(rt; matches!(outcome, Outcome::Done));
@@ -73,31 +84,39 @@ fn states_are_carried_from_burst_to_burst(rt: HostRuntime) -> Result<(), Fail> {
 #[test]
 fn a_burst_is_written_before_the_next(rt: HostRuntime) -> Result<(), Fail> {
     let alloc = rt.alloc();
-    let run = words(alloc, &["run", "p", "c", "o", "r", "--burst=1"])?;
-    let fails = vec![in alloc; (Slot::Out, 4)]?;
-    let mut desk = MemDesk::new(alloc, OPEN.to_vec(alloc)?, capture(alloc)?, 4096, fails);
-    let outcome = nfp(&rt, alloc, &run, &mut desk, &OpenGate);
-    assert!(rt; matches!(outcome, Outcome::WriteFault(Slot::Out)));
-    assert_eq!(rt; desk.put(Slot::Out), capture_from(alloc, &[1])?.as_slice());
+    for mergers in ["1", "2", "16"] {
+        let options = ["run", "p", "c", "o", "r", "--burst=1", "--mergers", mergers];
+        let run = words(alloc, &options)?;
+        let fails = vec![in alloc; (Slot::Out, 4)]?;
+        let mut desk = MemDesk::new(alloc, OPEN.to_vec(alloc)?, capture(alloc)?, 4096, fails);
+        let outcome = nfp(&rt, alloc, &run, &mut desk, &OpenGate);
+        assert!(rt; matches!(outcome, Outcome::WriteFault(Slot::Out)));
+        assert_eq!(rt; desk.put(Slot::Out), capture_from(alloc, &[1])?.as_slice());
+    }
     Ok(())
 }
 
 #[test]
 fn without_chains_all_packets_pass(rt: HostRuntime) -> Result<(), Fail> {
     let alloc = rt.alloc();
-    let run = words(alloc, &["run", "--", "p", "c", "-o", "-r"])?;
-    let mut desk = FixedDesk::new(alloc, b"nfp 1\n".to_vec(alloc)?, capture(alloc)?, 7);
-    let outcome = nfp(&rt, alloc, &run, &mut desk, &OpenGate);
-    assert!(rt; matches!(outcome, Outcome::Done));
-    assert_eq!(rt; desk.put(Slot::Out), capture(alloc)?.as_slice());
-    assert_eq!(rt; desk.put(Slot::Report), NO_CHAINS_REPORT);
+    for mergers in ["1", "2", "16"] {
+        let run = words(
+            alloc,
+            &["run", "--mergers", mergers, "--", "p", "c", "-o", "-r"],
+        )?;
+        let mut desk = FixedDesk::new(alloc, b"nfp 1\n".to_vec(alloc)?, capture(alloc)?, 7);
+        let outcome = nfp(&rt, alloc, &run, &mut desk, &OpenGate);
+        assert!(rt; matches!(outcome, Outcome::Done));
+        assert_eq!(rt; desk.put(Slot::Out), capture(alloc)?.as_slice());
+        assert_eq!(rt; desk.put(Slot::Report), NO_CHAINS_REPORT);
+    }
     Ok(())
 }
 
 #[test]
 fn a_demo_is_told_by_its_weights(rt: HostRuntime) -> Result<(), Fail> {
     let alloc = rt.alloc();
-    for (mergers, burst) in [("1", "7"), ("16", "65536")] {
+    for (mergers, burst) in [("1", "7"), ("2", "1024"), ("16", "65536")] {
         let demo = words(
             alloc,
             &["demo", "1", "--mergers", mergers, "20000", "--burst", burst],

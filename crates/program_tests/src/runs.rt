@@ -39,7 +39,7 @@ const CUT_REPORT: &[u8] =
     b"nfp report 1\ndrop 2 main fw\nrecords 2 emitted 1 dropped 1\nfunction main fw firewall\nfault capture: cut record 3\n";
 
 // Each chain is for the packets of one host.
-const CHAINS: &[u8] =
+pub const CHAINS: &[u8] =
     b"nfp 1\nchain one match src 10.0.0.1\nfn open firewall\nchain nine match src 10.0.0.9\nfn shut firewall\nset default deny\n";
 
 const CHAINS_REPORT: &[u8] =

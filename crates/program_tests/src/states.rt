@@ -7,7 +7,7 @@ use std::alloc::AllocError;
 use std::test::Fail;
 
 // The monitor stands beside the firewall, and sees what that drops.
-const BESIDE: &[u8] =
+pub const BESIDE: &[u8] =
     b"nfp 1\nchain main\nfn mon monitor\nfn fw firewall\nrule deny src 10.0.0.9\norder mon before fw\n";
 
 const BESIDE_REPORT: &[u8] =
@@ -17,7 +17,7 @@ const UNSEEN_REPORT: &[u8] =
     b"nfp report 1\nrecords 0 emitted 0 dropped 0\nfunction main mon monitor\nfunction main fw firewall\nend\n";
 
 // The monitor stands behind the firewall, and doesn't.
-const BEHIND: &[u8] =
+pub const BEHIND: &[u8] =
     b"nfp 1\nchain main\nfn mon monitor\nfn fw firewall\nrule deny src 10.0.0.9\norder fw before mon\n";
 
 const BEHIND_REPORT: &[u8] =
@@ -70,14 +70,16 @@ fn push_udp(
 #[test]
 fn a_monitor_counts_what_comes_to_it(rt: HostRuntime) -> Result<(), Fail> {
     let alloc = rt.alloc();
-    let run = words(alloc, &["run", "p", "c", "o", "r"])?;
     let passed = capture_from(alloc, &[1, 1])?;
-    for (policy, report) in [(BESIDE, BESIDE_REPORT), (BEHIND, BEHIND_REPORT)] {
-        let mut desk = FixedDesk::new(alloc, policy.to_vec(alloc)?, capture(alloc)?, 7);
-        let outcome = nfp(&rt, alloc, &run, &mut desk, &OpenGate);
-        assert!(rt; matches!(outcome, Outcome::Done));
-        assert_eq!(rt; desk.put(Slot::Out), passed.as_slice());
-        assert_eq!(rt; desk.put(Slot::Report), report);
+    for mergers in ["1", "2", "16"] {
+        let run = words(alloc, &["run", "p", "c", "o", "r", "--mergers", mergers])?;
+        for (policy, report) in [(BESIDE, BESIDE_REPORT), (BEHIND, BEHIND_REPORT)] {
+            let mut desk = FixedDesk::new(alloc, policy.to_vec(alloc)?, capture(alloc)?, 7);
+            let outcome = nfp(&rt, alloc, &run, &mut desk, &OpenGate);
+            assert!(rt; matches!(outcome, Outcome::Done));
+            assert_eq!(rt; desk.put(Slot::Out), passed.as_slice());
+            assert_eq!(rt; desk.put(Slot::Report), report);
+        }
     }
     Ok(())
 }

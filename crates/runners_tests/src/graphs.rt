@@ -20,7 +20,7 @@ use std::alloc::{AllocError, Global};
 use std::test::Fail;
 
 /// Two firewalls: the first lets every packet pass, the second none.
-fn open_and_shut(alloc: Global) -> Result<Vec<NetFunction>, AllocError>
+pub(crate) fn open_and_shut(alloc: Global) -> Result<Vec<NetFunction>, AllocError>
     ensures { IfOk result (λ functions. map net_behaviour.profile functions.items ≡ profile_of Kind.Firewall ∷ profile_of Kind.Firewall ∷ []) }
 {
     let mut functions = Vec::with_capacity(alloc, 2)?;
@@ -31,7 +31,7 @@ fn open_and_shut(alloc: Global) -> Result<Vec<NetFunction>, AllocError>
 
 /// A firewall without rules.
 #[tactic(auto, unfolding(net_functions::specs::NetFunctions::profile_by))]
-fn firewall(alloc: Global, default: bool) -> NetFunction
+pub(crate) fn firewall(alloc: Global, default: bool) -> NetFunction
     ensures { net_behaviour.profile result ≡ profile_of Kind.Firewall }
 {
     NetFunction::Firewall(Firewall {

@@ -1,4 +1,5 @@
-//! Tests of what leads packets to chains and through a graph, through public calls alone.
+//! Tests of what leads packets to chains and through a graph, and of where threads meet, through public
+//! calls alone.
 //!
 //! No clause says that a call finds memory, so each call that takes some runs here once with ample
 //! memory.
@@ -10,5 +11,9 @@ mod bursts;
 mod classes;
 #[cfg(test)]
 mod graphs;
+#[cfg(test)]
+mod joined;
+#[cfg(test)]
+mod links;
 #[cfg(test)]
 mod tables;

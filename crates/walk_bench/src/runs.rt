@@ -1,0 +1,159 @@
+//! The runs that are measured.
+ghost use Rattle.std.specs.Prelude.{◌≡◌, ◌≤◌, length, map, IfOk, vec_len};
+
+use action_profile::{Profile, all_fields};
+use chain_walk::Fate;
+use classifier::Burst;
+use frame_walk::walk_chain;
+use graph_compile::compile;
+use graph_run::{Running, run_plain};
+use joined_run::run_joined;
+use net_functions::{Function, NetFunction};
+use nfp_outside::OpenGate;
+use packet_fields::Frame;
+use packet_version::Tally;
+use pcap_io::Unit;
+use std::alloc::{AllocError, Global};
+use std::sync::Wait;
+use std::thread::Threads;
+
+/// How many packets went out, and how many copies were made of parts.
+#[derive(Drop)]
+pub struct Counts {
+    pub out: u64,
+    pub copies: u64,
+}
+
+fn profiles_of<F: Function>(alloc: Global, functions: &[F]) -> Result<Vec<Profile>, AllocError>
+    ensures { IfOk result (λ profiles. profiles.items ≡ map F.behaviour.profile functions.now) }
+{
+    functions
+        .iter()
+        .map(|function| function.profile())
+        .collect(alloc)
+}
+
+fn make_running(
+    alloc: Global,
+    functions: Vec<NetFunction>,
+) -> Result<Running<NetFunction>, AllocError>
+    requires { vec_len functions ≤ 64 }
+{
+    let profiles = profiles_of(alloc, functions.as_slice())?;
+    let graph = compile(alloc, &profiles)?;
+    Ok(Running::new(functions, graph))
+}
+
+fn outs(fates: &[Fate]) -> u64 {
+    fates
+        .iter()
+        .filter(|fate| matches!(fate, Fate::Out(_)))
+        .count() as u64
+}
+
+/// The burst through the graph on one thread, again and again.
+pub fn through_graph(
+    rt: &impl Wait,
+    alloc: Global,
+    functions: Vec<NetFunction>,
+    burst: &Burst,
+    rounds: u32,
+) -> Result<Counts, AllocError>
+    requires few { vec_len functions ≤ 64 }
+    requires short { length burst.now.items ≤ 65536 }
+{
+    let mut run = make_running(alloc, functions)?;
+    let mut tally = Tally::new();
+    let mut out = 0u64;
+    for _round in 0..rounds {
+        let (next, fates) = run_plain(rt, alloc, run, burst, Unit::Micro, 0, &mut tally)?;
+        run = next;
+        out = out.wrapping_add(outs(&fates));
+    }
+    let copies = copies_in(&tally);
+    Ok(Counts { out, copies })
+}
+
+/// The burst through the graph, the branches of each stage on threads that are joined behind it, again and again. A number of
+/// mergers that is out of range is 1.
+pub fn through_joined<R: Threads + Wait + Sync>(
+    rt: &R,
+    alloc: Global,
+    functions: Vec<NetFunction>,
+    burst: &Burst,
+    rounds: u32,
+    mergers: u32,
+) -> Result<Counts, AllocError>
+    requires few { vec_len functions ≤ 64 }
+    requires short { length burst.now.items ≤ 65536 }
+{
+    let mergers = match mergers {
+        1..=16 => mergers,
+        _ => 1,
+    };
+    let mut run = make_running(alloc, functions)?;
+    let mut tally = Tally::new();
+    let mut out = 0u64;
+    for _round in 0..rounds {
+        let (next, fates) = run_joined(
+            rt,
+            alloc,
+            run,
+            burst,
+            Unit::Micro,
+            0,
+            &mut tally,
+            mergers,
+            &OpenGate,
+        )?;
+        run = next;
+        out = out.wrapping_add(outs(&fates));
+    }
+    let copies = copies_in(&tally);
+    Ok(Counts { out, copies })
+}
+
+/// How many copies were made of parts.
+fn copies_in(tally: &Tally) -> u64 {
+    let mut copies = 0u64;
+    for field in all_fields() {
+        copies = copies.wrapping_add(tally.of(*field));
+    }
+    copies
+}
+
+/// The burst by the walk of whole frames, again and again: how many packets went out.
+pub fn by_walk(
+    rt: &impl Wait,
+    alloc: Global,
+    functions: &mut [NetFunction],
+    burst: &Burst,
+    rounds: u32,
+) -> Result<u64, AllocError>
+    requires { length functions.old ≤ 64 }
+{
+    let mut out = 0u64;
+    for _round in 0..rounds {
+        out = out.wrapping_add(walk_all(rt, alloc, functions, burst)?);
+    }
+    Ok(out)
+}
+
+fn walk_all(
+    rt: &impl Wait,
+    alloc: Global,
+    functions: &mut [NetFunction],
+    burst: &Burst,
+) -> Result<u64, AllocError>
+    requires { length functions.old ≤ 64 }
+{
+    let mut out = 0u64;
+    for item in burst.items.as_slice() {
+        let frame = Frame::new(item.packet.frame.bytes().to_vec(alloc)?);
+        match walk_chain(rt, alloc, functions, item.packet.time(Unit::Micro), frame)? {
+            Fate::Out(_) => out = out.wrapping_add(1),
+            Fate::Gone(_) => {}
+        }
+    }
+    Ok(out)
+}
