@@ -12,10 +12,11 @@
 //! functions and what comes of the packets are those of the branch's stream (`branch_stream` of
 //! `burst_law`, over what was dealt), whatever other branches do meanwhile. What comes of each packet may
 //! be merged with what the other branches made of it, has room for the functions that follow, and has the
-//! same of the packet with it as what was dealt. From the first packet for which a branch finds no memory,
-//! it gives `Short` for each: then nothing is said of its functions, and the run has to end.
+//! same of the packet with it as what was dealt. Where memory wasn't found for a packet, some arrival is
+//! `Short`: then nothing is said of the branch's functions, and the run has to end.
 //!
-//! Left out: dealing packets and merging them, and that a thread runs at all or when.
+//! Left out: dealing packets and merging them, that a thread runs at all or when, and which packets are short
+//! behind the first for which no memory was found (they all are).
 #![tactic(auto)]
 
 mod stream;

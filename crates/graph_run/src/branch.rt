@@ -1,5 +1,5 @@
 //! The functions of a branch, in turn.
-ghost use Rattle.std.specs.Prelude.{◌≡◌, ◌≤◌, ◌+◌, ℕ, true, length, map, IfOk, OnOk, IfSome};
+ghost use Rattle.std.specs.Prelude.{◌≡◌, ◌≤◌, ◌+◌, ℕ, true, length, map, IfOk, OnOk, OnErr, IfSome};
 ghost use Rattle.packet_fields.specs.declared.field.Field.{Field};
 ghost use Rattle.packet_version.specs.Versions.{version_parts, HoldsNamed};
 ghost use Rattle.chain_walk.specs.Step.{stepped};
@@ -29,6 +29,8 @@ pub fn step_on<F: Function, R: Wait>(
     ensures function { OnOk result (function.new ≡ moved_function F.behaviour version.fixed function.old (Live (as_version version))) }
     ensures arrival { IfOk result (λ arrival. as_branch_end arrival ≡ moved_end F.behaviour version.fixed position function.old (Live (as_version version))) }
     ensures written { IfOk result (IsWhatWasWritten position (stepped F.behaviour version.fixed function.old (as_version version).values).written version) }
+    // Where there is no memory for its step, the function hasn't changed.
+    ensures stays { OnErr result (function.new ≡ function.old) }
 {
     let profile = function.profile();
     let mut view = version.view(rt, &profile, position);
