@@ -1,9 +1,9 @@
 -- Rows worked by hand: a table for two packets of two branches.
-use Rattle.std.proofs.Common.{◌≡◌, ℕ, List, [], ◌∷◌, Option, Some, None, ap, ◌∙◌, set, unwrap_or}
+use Rattle.std.proofs.Common.{◌≡◌, ℕ, List, [], ◌∷◌, Option, Some, None, ap, ◌∙◌, set, unwrap_or, refl}
 use Rattle.std.specs.Ordering.{nat_cmp}
 use Rattle.std.specs.Cmp.{nat_cmp_total}
 use Rattle.std.specs.FinMap.{empty, insert, get-empty, get-insert, get-remove}
-use Rattle.acc_table.specs.Arrivals.{Table, arrivals, with_arrival, keeping, forgetting}
+use Rattle.acc_table.specs.Arrivals.{Table, arrivals, with_arrival, keeping, forgetting, doubled_to, heads_for}
 
 abbrev two_by_two : Table ℕ
 two_by_two = record { entries = 2; branches = 2; waiting = empty }
@@ -26,3 +26,16 @@ another_packet = ap or_nothing (get-insert nat_cmp_total empty 7 (Some 10 ∷ No
 
 forgotten : arrivals (forgetting one_came 7) 7 ≡ None ∷ None ∷ []
 forgotten = ap or_nothing (get-remove nat_cmp_total (insert empty 7 (Some 10 ∷ None ∷ [])) 7 7)
+
+-- as many buckets as the least power of two that is at least the entries
+four_buckets : heads_for 4 ≡ 4
+unfolding heads_for doubled_to
+four_buckets = refl
+
+eight_buckets : heads_for 5 ≡ 8
+unfolding heads_for doubled_to
+eight_buckets = refl
+
+most_buckets : heads_for 65536 ≡ 65536
+unfolding heads_for doubled_to
+most_buckets = refl

@@ -1,5 +1,5 @@
 -- For proofs: what has come so far of each packet, by branch: a finite map from a packet's number.
-use Rattle.std.specs.Prelude.{ℕ, ◌<◌, ◌⊎◌, List, Option, Some, None, IsSome, replicate, slice_set, unwrap_or, Contains, refl}
+use Rattle.std.specs.Prelude.{ℕ, zero, suc, ◌*◌, ◌%◌, ◌<◌, ◌⊎◌, nat_eq, nat_le, cond, count_by, List, Option, Some, None, IsSome, replicate, slice_set, unwrap_or, Contains, refl}
 use Rattle.std.specs.Ordering.{nat_cmp}
 use Rattle.std.specs.Coded.{Coded, code_by, coded×, coded_ℕ, coded_list, coded_option}
 use Rattle.std.specs.FinMap as finite
@@ -56,3 +56,16 @@ HasRoomFor t pid = IsOpen t pid ⊎ (open_count t < t.entries)
 -- all open packets are among these
 abbrev pub IsOpenAmong : {T : Type 0} → Table T → List ℕ → Type 0
 IsOpenAmong t pids = (p : ℕ) → IsOpen t p → Contains pids p
+
+-- the first of a number and its doubles, so many at most, that is at least this one
+unfoldable pub doubled_to : ℕ → ℕ → ℕ → ℕ
+doubled_to zero power least = power
+doubled_to (suc more) power least = cond (nat_le least power) power (doubled_to more (2 * power) least)
+
+-- the number of buckets: the least power of two that is at least the number of entries
+unfoldable pub heads_for : ℕ → ℕ
+heads_for entries = doubled_to 16 1 entries
+
+-- how many packets are open in this packet's bucket
+abbrev pub bucket_len : {T : Type 0} → Table T → ℕ → ℕ
+bucket_len t pid = count_by (λ p. nat_eq (p % heads_for t.entries) (pid % heads_for t.entries)) (finite.keys t.waiting)

@@ -12,6 +12,7 @@
 #![tactic(auto)]
 
 mod laws;
+mod links;
 mod place;
 mod row;
 mod table;

@@ -2,9 +2,10 @@
 ghost use Rattle.std.specs.Prelude.{◌≡◌, ◌≢◌, ◌↔◌, ◌<◌, ◌≤◌, ℕ, [], IfOk, IfSome, IsNone, IsSome, All, None, Some, length, map, slice_index_or};
 ghost use Rattle.std.specs.Vec.{vec_capacity};
 ghost use Rattle.std.specs.FinMap as finite;
-ghost use Rattle.acc_table.specs.Arrivals.{HasRoomFor, IsOpen, arrivals, forgetting, keeping, nothing, open_count, with_arrival};
+ghost use Rattle.acc_table.specs.Arrivals.{HasRoomFor, IsOpen, arrivals, bucket_len, forgetting, keeping, nothing, open_count, with_arrival};
 
-use crate::place::{free_rows, place_for, taken_rows};
+use crate::links::Links;
+use crate::place::{free_rows, place_for};
 use crate::row::Row;
 use std::alloc::{AllocError, Global};
 use std::marker::Model;
@@ -27,13 +28,15 @@ pub struct Complete {
 pub struct AccTable<T> {
     branches: u32,
     rows: Vec<Row<T>>,
+    links: Links,
 }
 
 impl<T> Model for AccTable<T> {
     ghost use Rattle.std.specs.Prelude.{length};
     ghost use Rattle.std.specs.FinMap.{from_entries};
     ghost use Rattle.acc_table.specs.Arrivals.{Table, table_code};
-    ghost use Rattle.acc_table.specs.Rows.{AreKept, opened};
+    ghost use Rattle.acc_table.specs.Links.{IsWhole};
+    ghost use Rattle.acc_table.specs.Rows.{opened};
 
     ghost Value = { Table T };
 
@@ -41,7 +44,7 @@ impl<T> Model for AccTable<T> {
 
     ghost view = { λ t. record { entries = length t.rows.items; branches = t.branches; waiting = from_entries (opened t.rows.items) } };
 
-    ghost invariant = { λ t. AreKept t.branches t.rows.items };
+    ghost invariant = { λ t. IsWhole t.branches t.rows.items t.links };
 }
 
 impl<T: Drop> AccTable<T> {
@@ -58,6 +61,7 @@ impl<T: Drop> AccTable<T> {
         Ok(AccTable {
             branches,
             rows: free_rows(alloc, entries as usize, branches as usize)?,
+            links: Links::all_free(alloc, entries as usize)?,
         })
     }
 
@@ -92,13 +96,14 @@ impl<T: Drop> AccTable<T> {
         ensures branches { self.new.branches ≡ self.old.branches }
         ensures into_room { vec_capacity into.old ≤ vec_capacity into.new }
     {
-        let place = place_for(self.rows.as_slice(), pid);
+        let place = place_for(self.rows.as_slice(), &mut self.links, pid);
         let row = &mut self.rows[place];
         row.put(pid, branch as usize, value);
         if !row.is_whole() {
             return None;
         }
         row.hand_over(into);
+        self.links.give_back(pid, place);
         Some(Complete { pid })
     }
 
@@ -106,6 +111,13 @@ impl<T: Drop> AccTable<T> {
     pub fn open_count(&self) -> u32
         ensures { result ≡ open_count self.now }
     {
-        taken_rows(self.rows.as_slice())
+        self.links.taken()
+    }
+    /// The number of open packets in this packet's bucket: those whose numbers leave the same rest
+    /// by the least power of two that is at least the table's entries. The most that `arrive` looks at.
+    pub fn chain_len(&self, pid: u32) -> u32
+        ensures { result ≡ bucket_len self.now pid }
+    {
+        self.links.chain_len(pid)
     }
 }
