@@ -1,8 +1,9 @@
 -- The packets of a burst, taken apart.
 use Rattle.std.proofs.Common.{◌≡◌, ◌∙◌, ◌<◌, ◌≤◌, ◌+◌, ◌*◌, ℕ, zero, suc, Bool, true, false, List, [], ◌∷◌, ◌++◌, map, length, drop, get_or, sym, ap, refl, subst, arith}
 use mathlib.Core.Path.{fun_ext}
-use Rattle.std.specs.Prelude.{Option, Some, None, option_map, IfSome, filter, if◌then◌else◌}
+use Rattle.std.specs.Prelude.{All, Option, Some, None, option_map, IfSome, filter, if◌then◌else◌}
 use Rattle.std.proofs.lemmas.List.{append_assoc, append-nil, drop_more, drop_all, length-map}
+use Rattle.std.proofs.lemmas.List.Elements.{All-nil, All-cons}
 use Rattle.packet_fields.specs.Fields.{value}
 use Rattle.packet_fields.specs.Writing.{fields_of}
 use Rattle.packet_fields.specs.declared.field.Field.TheVariants.{Tag}
@@ -24,6 +25,7 @@ use Rattle.graph_run.specs.Stages.{GoesFrom}
 use Rattle.joined_run.specs.Messages.{as_message}
 use Rattle.joined_run.specs.Ready.{MayEnter, AllEnter}
 use Rattle.joined_run.specs.Splits.{IsSplit, AreSplit}
+use Rattle.joined_run.specs.Works.{Fits}
 
 -- one packet more
 split_more : (taggers : ℕ) (packets : List Packet) (apart : List Merged) (p : Packet) (whole : PlainApart) → AreSplit taggers packets apart → IsSplit taggers p whole → AreSplit taggers (packets ++ p ∷ []) (apart ++ ends.Whole whole ∷ [])
@@ -99,6 +101,16 @@ split_count taggers (q ∷ packets) (ends.Gone g ∷ apart) are = absurd are
 split_count taggers (q ∷ packets) (ends.Short ∷ apart) are = absurd are
 split_count taggers (q ∷ packets) [] are = absurd are
 split_count taggers [] (m ∷ apart) are = absurd are
+
+-- each is made of the parts of its frame
+pub all_fit : (taggers : ℕ) (packets : List Packet) (apart : List Merged) → AreSplit taggers packets apart → All Fits apart
+unfolding AreSplit
+all_fit taggers [] [] are = All-nil Fits
+all_fit taggers (q ∷ packets) (ends.Whole w ∷ apart) are = All-cons Fits (ends.Whole w) apart are.0.fits (all_fit taggers packets apart are.1)
+all_fit taggers (q ∷ packets) (ends.Gone g ∷ apart) are = absurd are
+all_fit taggers (q ∷ packets) (ends.Short ∷ apart) are = absurd are
+all_fit taggers (q ∷ packets) [] are = absurd are
+all_fit taggers [] (m ∷ apart) are = absurd are
 
 pub taken_few : (unit : TimeUnit) (chain : ℕ) (items : List Item) → length (packets_taken unit chain items) ≤ length items
 taken_few unit chain items = let same = length-map (filter (is_of chain) items) (packet_of unit) in let fewer = fewer_left items in omega arith

@@ -10,3 +10,4 @@ pub mod Dealt
 pub mod Started
 pub mod Rowed
 pub mod Single
+pub mod Lots

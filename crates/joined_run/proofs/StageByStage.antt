@@ -24,7 +24,8 @@ use Rattle.graph_run.specs.Running.{IsRunning}
 use Rattle.graph_run.specs.Stages.{end_of}
 use Rattle.joined_run.specs.Messages.{as_message, burst_copies}
 use Rattle.joined_run.specs.Ready.{AllOwn, AllEnter, IsBurstReady}
-use Rattle.joined_run.specs.Leaving.{LeavesBurst, KeepsRests}
+use Rattle.joined_run.specs.Leaving.{KeepsRests}
+use Rattle.joined_run.specs.Turning.{StageLeads}
 use Rattle.joined_run.proofs.Owns.{OwnsAsMany, OwnsEach, all_own}
 use Rattle.joined_run.proofs.Following.{next_enter, rests_first, rests_on}
 
@@ -135,13 +136,6 @@ next {F} items b graph functions start packets done was rest v i old new d risin
       staged_on = head.1;
     }
 
--- what running a stage gave
-pub record Gave {F : Type 0} (b : Behaviour F) (stage : Stage) (own left : List (List F)) (packets after : List Merged) (new newer : List ℕ) : Type 0 where
-  pub functions : left ≡ (stage_burst b stage own (map as_message packets)).state
-  pub packets_are : map as_message after ≡ (stage_burst b stage own (map as_message packets)).gives
-  pub behind : (profiles : List Profile) (first : ℕ) → IsBurstReady b profiles first stage own packets → LeavesBurst profiles (end_of first stage) packets after
-  pub counted : RaisesAll (burst_copies stage (map as_message packets)) new newer
-
 along_more : {F : Type 0} (b : Behaviour F) (s : Stage) (stages : List Stage) (own : List (List F)) (owned : List (List (List F))) (ms : List Message) →
     along (stage_burst b) (s ∷ stages) (own ∷ owned) ms ≡ then_state (stage_burst b s own ms).state (along (stage_burst b) stages owned (stage_burst b s own ms).gives)
 unfolding along
@@ -163,7 +157,7 @@ plus_more made here rest all e = omega arith
 
 -- one stage more
 pub stage_more : {F V : Type 0} (items : V → List (List F)) (b : Behaviour F) (graph : Graph) (functions : List F) (start packets after : List Merged) (done more was rest : List V) (v left : V) (i : ℕ) (old new newer : List ℕ) (d : Stage) → Rising → OwnsAsMany F → OwnsEach F → IsRunning b functions graph →
-    IsPassing items b graph functions start packets done was i old new → was ≡ v ∷ rest → Gave b (get_or graph.stages i d) (items v) (items left) packets after new newer → more ≡ done ++ left ∷ [] → IsPassing items b graph functions start after more rest (i + 1) old newer
+    IsPassing items b graph functions start packets done was i old new → was ≡ v ∷ rest → StageLeads b (get_or graph.stages i d) (items v) packets (items left) after new newer → more ≡ done ++ left ∷ [] → IsPassing items b graph functions start after more rest (i + 1) old newer
 stage_more {F} {V} items b graph functions start packets after done more was rest v left i old new newer d rising many each running way is gave push =
     let s : Stage = get_or graph.stages i d in
     let n = next items b graph functions start packets done was rest v i old new d rising many each running way is in
@@ -272,9 +266,9 @@ ready_next items b graph functions start packets done was rest v i old new s ris
     (map b.profile functions, way.at, subst (λ (x : Stage). IsBurstReady b (map b.profile functions) way.at x (items v) packets) (sym at) n.ready)
 
 pub stage_passed : {F V : Type 0} (items : V → List (List F)) (b : Behaviour F) (graph : Graph) (functions : List F) (start packets after : List Merged) (done more was rest : List V) (v left : V) (i : ℕ) (old new newer : List ℕ) (s : Stage) → Rising → OwnsAsMany F → OwnsEach F → IsRunning b functions graph →
-    IsPassing items b graph functions start packets done was i old new → was ≡ v ∷ rest → s ≡ get_or graph.stages i s → Gave b s (items v) (items left) packets after new newer → more ≡ done ++ left ∷ [] → IsPassing items b graph functions start after more rest (i + 1) old newer
+    IsPassing items b graph functions start packets done was i old new → was ≡ v ∷ rest → s ≡ get_or graph.stages i s → StageLeads b s (items v) packets (items left) after new newer → more ≡ done ++ left ∷ [] → IsPassing items b graph functions start after more rest (i + 1) old newer
 stage_passed items b graph functions start packets after done more was rest v left i old new newer s rising many each running way is at gave push =
-    stage_more items b graph functions start packets after done more was rest v left i old new newer s rising many each running way is (subst (λ (x : Stage). Gave b x (items v) (items left) packets after new newer) at gave) push
+    stage_more items b graph functions start packets after done more was rest v left i old new newer s rising many each running way is (subst (λ (x : Stage). StageLeads b x (items v) packets (items left) after new newer) at gave) push
 
 all_up_to : (m : Field → ℕ) (old new : List ℕ) → RaisesAll m old new → RaisesUpTo m old new
 all_up_to m old new all = λ f. up (count_of old f) (m f) (count_of new f) (all f)

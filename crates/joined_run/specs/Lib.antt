@@ -1,6 +1,8 @@
 pub mod Messages
 pub mod Ready
 pub mod Leaving
+pub mod Ended
+pub mod Turning
 pub mod Splits
 pub mod Works
 pub mod Streamed

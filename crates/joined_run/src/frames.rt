@@ -12,9 +12,12 @@ use packet_version::{join, split};
 use pcap_io::Unit;
 use std::alloc::{AllocError, Global};
 
-/// The packets that are of the chain with this number, in their order, each taken apart and with its record
-/// number. So many of the chain's functions add a tag.
-pub(crate) fn split_packets(
+/// The packets of a burst that are of the chain with this number, in their order, each taken apart: the record
+/// number of each, and the packets. `taggers` is how many of the chain's functions add a tag; each packet has
+/// room for as many tags more.
+///
+/// The one refusal is want of memory.
+pub fn split_packets(
     alloc: Global,
     items: &[Item],
     unit: Unit,
@@ -37,8 +40,11 @@ pub(crate) fn split_packets(
     Ok((numbers, packets))
 }
 
-/// The fate of each packet behind the last stage, in their order. Frames that go out are not sealed yet.
-pub(crate) fn join_packets(alloc: Global, packets: Vec<Merged>) -> Result<Vec<Fate>, AllocError>
+/// The fate of each packet behind the last stage, in their order: it goes out as its parts put together to a
+/// frame, which is not sealed yet, or is gone.
+///
+/// The one refusal is want of memory. A packet that is short ends so too.
+pub fn join_packets(alloc: Global, packets: Vec<Merged>) -> Result<Vec<Fate>, AllocError>
     ensures { IfOk result (λ fates. fates.items ≡ map fate_behind packets.items) }
 {
     let mut fates = Vec::with_capacity(alloc, packets.len())?;

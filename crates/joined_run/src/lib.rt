@@ -10,10 +10,15 @@
 //! packet whole. Behind the last stage the functions are put together in chain order, and the packets to
 //! frames.
 //!
+//! Where every stage has one branch, nothing runs side by side, and a burst goes through the graph in lots of a
+//! few packets, one lot after another, since so few stay in the caches from stage to stage. Else it goes whole.
+//!
 //! Why this is the walk is told by `burst_law`: a branch never waits for another, so a stage may take all
 //! packets branch by branch; a packet is made of what the branches gave for it alone, so packets may be put
-//! together by any merger. A stage (`run_stage`) is told in terms of that law; the burst over all stages, and the
-//! frames before and behind it, are tied to the walk in `proofs/`.
+//! together by any merger. A stage (`run_stage`) is told in terms of that law, and so is the burst over all stages.
+//! What both rest on is told for other runners too: [`split_packets`] takes the frames apart and [`join_packets`]
+//! puts them together, [`taken_packets_make_a_stage`] ties what the branches of a stage gave to the law, and
+//! [`bursts_in_parts_lead`] ties a burst of packets in parts to whole frames that walk.
 //!
 //! Each step of a function passes the gate first. No clause speaks of the gate, of threads, or of what
 //! goes on at the same time: what is promised holds for every schedule.
@@ -29,4 +34,6 @@ mod stages;
 mod works;
 
 pub use chain_walk::Fate;
+pub use frames::{join_packets, split_packets};
 pub use joined::run_joined;
+pub use laws::{bursts_in_parts_lead, taken_packets_make_a_stage};

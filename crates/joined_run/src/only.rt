@@ -2,14 +2,12 @@
 ghost use Rattle.std.specs.Prelude.{◌≡◌, ◌≤◌, ℕ, List, [], ◌∷◌, length, map, All, IfOk, OnOk, OnErr};
 ghost use Rattle.action_profile.specs.declared.rights.Profile.{Profile};
 ghost use Rattle.graph_compile.specs.Lawful.{IsLawfulStage};
-ghost use Rattle.burst_law.specs.Bursts.{stage_burst};
 ghost use Rattle.burst_law.specs.Copies.{due_in};
 ghost use Rattle.burst_merge.specs.Joining.{joined_left};
 ghost use Rattle.graph_run.specs.Counting.{RaisesAll, RaisesUpTo};
-ghost use Rattle.graph_run.specs.Stages.{end_of};
 ghost use Rattle.joined_run.specs.Messages.{as_message, burst_copies};
 ghost use Rattle.joined_run.specs.Ready.{IsBurstReady};
-ghost use Rattle.joined_run.specs.Leaving.{LeavesBurst};
+ghost use Rattle.joined_run.specs.Turning.{StageLeads};
 ghost use Rattle.joined_run.specs.Works.{Fits, whole_of};
 ghost use Rattle.joined_run.specs.Alone.{IsAlone, AreAlone, joined_alone};
 
@@ -43,11 +41,7 @@ pub(crate) fn run_only<F: Function + Drop, G: Gate, R: Wait>(
     requires one { length stage.now.branches ≡ 1 }
     requires ready { (profiles : List Profile) × (first : ℕ) × IsBurstReady F.behaviour profiles first stage.now (map (λ v. v.items) own.items) packets.items }
     requires numbers { length numbers.now ≡ length packets.items }
-    ensures functions { IfOk result (λ left. map (λ v. v.items) left.0.items ≡ (stage_burst F.behaviour stage.now (map (λ v. v.items) own.items) (map as_message packets.items)).state) }
-    ensures packets { IfOk result (λ left. map as_message left.1.items ≡ (stage_burst F.behaviour stage.now (map (λ v. v.items) own.items) (map as_message packets.items)).gives) }
-    ensures behind { (profiles : List Profile) (first : ℕ) → IsBurstReady F.behaviour profiles first stage.now (map (λ v. v.items) own.items) packets.items →
-        IfOk result (λ left. LeavesBurst profiles (end_of first stage.now) packets.items left.1.items) }
-    ensures counted { OnOk result (RaisesAll (burst_copies stage.now (map as_message packets.items)) tally.old tally.new) }
+    ensures leads { IfOk result (λ left. StageLeads F.behaviour stage.now (map (λ v. v.items) own.items) packets.items (map (λ v. v.items) left.0.items) left.1.items tally.old tally.new) }
     ensures refused { OnErr result (RaisesUpTo (burst_copies stage.now (map as_message packets.items)) tally.old tally.new) }
 {
     lawful_stage_has_owners();

@@ -1,22 +1,21 @@
 //! A stage of a graph: every packet of a burst is dealt to its branches, which run side by side, and what comes is merged.
-ghost use Rattle.std.specs.Prelude.{◌≡◌, ◌≤◌, ℕ, List, length, map, IfOk, OnOk, OnErr};
+ghost use Rattle.std.specs.Prelude.{◌≡◌, ◌≤◌, ℕ, List, length, map, IfOk, OnErr};
 ghost use Rattle.action_profile.specs.declared.rights.Profile.{Profile};
-ghost use Rattle.burst_law.specs.Bursts.{stage_burst};
-ghost use Rattle.graph_run.specs.Counting.{RaisesAll, RaisesUpTo};
-ghost use Rattle.graph_run.specs.Stages.{end_of};
+ghost use Rattle.graph_run.specs.Counting.{RaisesUpTo};
 ghost use Rattle.joined_run.specs.Messages.{as_message, burst_copies};
 ghost use Rattle.joined_run.specs.Ready.{IsBurstReady};
-ghost use Rattle.joined_run.specs.Leaving.{LeavesBurst};
 ghost use Rattle.joined_run.specs.Streamed.{MayRun, HaveRun};
+ghost use Rattle.joined_run.specs.Turning.{StageLeads};
 ghost use Rattle.joined_run.specs.Works.{plain};
 
 use crate::dealing::deal_packets;
+use crate::laws::taken_packets_make_a_stage;
 use crate::only::run_only;
 use crate::works::{begin_works, end_works, is_any_short};
 use branch_run::{Work, run_works};
 use burst_merge::merge_burst;
 use graph_compile::{Stage, lawful_stage_has_owners};
-use graph_run::{branches_hold_what_is_named, dealt_versions_go_on, merged_packets_go_on};
+use graph_run::{branches_hold_what_is_named, dealt_versions_go_on};
 use merge_ops::{Arrival, Merged};
 use net_functions::Function;
 use nfp_outside::Gate;
@@ -45,11 +44,7 @@ pub(crate) fn run_stage<F: Function + Drop + Send, G: Gate + Sync, R: Threads + 
     requires few { length packets.items ≤ 65536 }
     requires some_mergers { 1 ≤ mergers }
     requires few_mergers { mergers ≤ 16 }
-    ensures functions { IfOk result (λ left. map (λ v. v.items) left.0.items ≡ (stage_burst F.behaviour stage.now (map (λ v. v.items) own.items) (map as_message packets.items)).state) }
-    ensures packets { IfOk result (λ left. map as_message left.1.items ≡ (stage_burst F.behaviour stage.now (map (λ v. v.items) own.items) (map as_message packets.items)).gives) }
-    ensures behind { (profiles : List Profile) (first : ℕ) → IsBurstReady F.behaviour profiles first stage.now (map (λ v. v.items) own.items) packets.items →
-        IfOk result (λ left. LeavesBurst profiles (end_of first stage.now) packets.items left.1.items) }
-    ensures counted { OnOk result (RaisesAll (burst_copies stage.now (map as_message packets.items)) tally.old tally.new) }
+    ensures leads { IfOk result (λ left. StageLeads F.behaviour stage.now (map (λ v. v.items) own.items) packets.items (map (λ v. v.items) left.0.items) left.1.items tally.old tally.new) }
     ensures refused { OnErr result (RaisesUpTo (burst_copies stage.now (map as_message packets.items)) tally.old tally.new) }
 {
     if stage.branches.as_slice().len() == 1 {
@@ -80,17 +75,11 @@ fn run_branches<F: Function + Drop + Send, G: Gate + Sync, R: Threads + Wait + S
     requires few { length packets.items ≤ 65536 }
     requires some_mergers { 1 ≤ mergers }
     requires few_mergers { mergers ≤ 16 }
-    ensures functions { IfOk result (λ left. map (λ v. v.items) left.0.items ≡ (stage_burst F.behaviour stage.now (map (λ v. v.items) own.items) (map as_message packets.items)).state) }
-    ensures packets { IfOk result (λ left. map as_message left.1.items ≡ (stage_burst F.behaviour stage.now (map (λ v. v.items) own.items) (map as_message packets.items)).gives) }
-    ensures behind { (profiles : List Profile) (first : ℕ) → IsBurstReady F.behaviour profiles first stage.now (map (λ v. v.items) own.items) packets.items →
-        IfOk result (λ left. LeavesBurst profiles (end_of first stage.now) packets.items left.1.items) }
-    ensures counted { OnOk result (RaisesAll (burst_copies stage.now (map as_message packets.items)) tally.old tally.new) }
+    ensures leads { IfOk result (λ left. StageLeads F.behaviour stage.now (map (λ v. v.items) own.items) packets.items (map (λ v. v.items) left.0.items) left.1.items tally.old tally.new) }
     ensures refused { OnErr result (RaisesUpTo (burst_copies stage.now (map as_message packets.items)) tally.old tally.new) }
 {
     lawful_stage_has_owners();
-    branches_hold_what_is_named();
-    dealt_versions_go_on();
-    merged_packets_go_on();
+    taken_packets_make_a_stage::<F>();
     let mut works = begin_works(alloc, own, packets.len())?;
     let lefts = deal_packets(alloc, stage, packets, works.as_mut_slice(), tally)?;
     let (own, streams) = run_dealt(rt, alloc, gate, chain, numbers, stage, works)?;

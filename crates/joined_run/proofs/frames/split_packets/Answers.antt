@@ -18,6 +18,7 @@ loop-item-preserved c =
             parts = w.in_ok-whole.ensures.parts ∙ ap (split_parts c.args.taggers) w.bytes-frame.ensures;
             rest = w.in_ok-whole.ensures.rest ∙ ap rest_of w.bytes-frame.ensures;
             fixed = w.in_ok-whole.ensures.fixed ∙ (λ i. fixed_of (w.time.ensures i) (w.bytes-frame.ensures i));
+            fits = w.in_ok-whole.ensures.fits;
           })
           (ap (λ v. v.items) w.numbers-is ∙ w.in_ok-push.ensures.items) (ap (λ v. v.items) w.packets-is ∙ w.in_ok-push-2.ensures.items)
       | else-is_of w ↦ split_other c.args.taggers c.args.unit c.args.chain c.args.items.now c.loop-item.numbers.items c.if-is_of.numbers.items c.loop-item.packets.items c.if-is_of.packets.items c.loop-item.item-index c.item-item.result c.loop-item.invariant c.loop-item-test.true c.item-item.is

@@ -41,7 +41,7 @@ pub returns-in_err-after-clause-refused : goal.returns-in_err-after-clause-refus
 returns-in_err-after-clause-refused g c = let up = stage_refused (λ own. map (λ v. v.items) own.items) g.F.Function.behaviour c.args.graph.now c.args.functions.items c.args.packets.items c.loop-own.packets.items c.loop-own.done.items _ _ c.in-Some.own c.loop-own.index c.args.tally.now c.loop-own.tally c.run_stage.new.tally c.index-stages-index.result c.stages_rise.ensures c.owned_is_whole.ensures.count c.owned_is_whole.ensures.each c.copies_are_same.ensures c.functions_keep_to_profiles.ensures c.requires.running c.loop-own.invariant.2 c.in-Some.ensures.steps.0 (c.index-stages-index.is ∙ ap (λ (l : List Stage). get_or l c.loop-own.index c.index-stages-index.result) c.as_slice-stages.ensures) c.in_err-after.ensures.refused in search rules
 
 pub returns-in_err-push-clause-refused : goal.returns-in_err-push-clause-refused
-returns-in_err-push-clause-refused g c = let up = stage_run (λ own. map (λ v. v.items) own.items) g.F.Function.behaviour c.args.graph.now c.args.functions.items c.args.packets.items c.loop-own.packets.items c.loop-own.done.items _ _ c.in-Some.own c.loop-own.index c.args.tally.now c.loop-own.tally c.run_stage.new.tally c.index-stages-index.result c.stages_rise.ensures c.owned_is_whole.ensures.count c.owned_is_whole.ensures.each c.copies_are_same.ensures c.functions_keep_to_profiles.ensures c.requires.running c.loop-own.invariant.2 c.in-Some.ensures.steps.0 (c.index-stages-index.is ∙ ap (λ (l : List Stage). get_or l c.loop-own.index c.index-stages-index.result) c.as_slice-stages.ensures) c.in_ok-after.ensures.counted in search rules
+returns-in_err-push-clause-refused g c = let up = stage_run (λ own. map (λ v. v.items) own.items) g.F.Function.behaviour c.args.graph.now c.args.functions.items c.args.packets.items c.loop-own.packets.items c.loop-own.done.items _ _ c.in-Some.own c.loop-own.index c.args.tally.now c.loop-own.tally c.run_stage.new.tally c.index-stages-index.result c.stages_rise.ensures c.owned_is_whole.ensures.count c.owned_is_whole.ensures.each c.copies_are_same.ensures c.functions_keep_to_profiles.ensures c.requires.running c.loop-own.invariant.2 c.in-Some.ensures.steps.0 (c.index-stages-index.is ∙ ap (λ (l : List Stage). get_or l c.loop-own.index c.index-stages-index.result) c.as_slice-stages.ensures) c.in_ok-after.ensures.leads.counted in search rules
 
 pub overflow_add-index : goal.overflow_add-index
 overflow_add-index g c = let inside = is_inside (λ own. map (λ v. v.items) own.items) g.F.Function.behaviour c.args.graph.now c.args.functions.items c.args.packets.items c.loop-own.packets.items c.loop-own.done.items _ _ c.in-Some.own c.loop-own.index c.args.tally.now c.loop-own.tally c.as_slice-stages.result.now c.as_slice-stages.ensures c.loop-own.invariant.2 c.in-Some.ensures.steps.0 in search rules
@@ -51,7 +51,7 @@ loop-own-preserved g c = (
   tt,
   tt,
   stage_passed (λ own. map (λ v. v.items) own.items) g.F.Function.behaviour c.args.graph.now c.args.functions.items c.args.packets.items c.loop-own.packets.items c.in_ok-after.next.items c.loop-own.done.items c.push.new.self.items _ _ c.in-Some.own c.in_ok-after.after c.loop-own.index c.args.tally.now c.loop-own.tally c.run_stage.new.tally c.index-stages-index.result c.stages_rise.ensures c.owned_is_whole.ensures.count c.owned_is_whole.ensures.each c.requires.running c.loop-own.invariant.2 c.in-Some.ensures.steps.0 (c.index-stages-index.is ∙ ap (λ (l : List Stage). get_or l c.loop-own.index c.index-stages-index.result) c.as_slice-stages.ensures)
-      (record { functions = c.in_ok-after.ensures.functions; packets_are = c.in_ok-after.ensures.packets; behind = c.in_ok-after.ensures.behind; counted = c.in_ok-after.ensures.counted }) c.in_ok-push.ensures.items,
+      c.in_ok-after.ensures.leads c.in_ok-push.ensures.items,
 )
 
 pub put_together-requires-clause-stands : goal.put_together-requires-clause-stands
