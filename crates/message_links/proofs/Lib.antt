@@ -1,0 +1,4 @@
+mod Rests
+mod Rows
+mod Sweeps
+mod Turning

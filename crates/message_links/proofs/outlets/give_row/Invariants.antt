@@ -1,0 +1,11 @@
+use Rattle.std.proofs.Common.{◌≡◌}
+use Rattle.std.specs.Vec.Iter.{into_iter_items}
+use Rattle.message_links.proofs.Sweeps.{swept, due_from, lives}
+use Rattle.message_links.proofs.outlets.give_row.Given as goal
+
+abbrev pub invariant-loop-part : goal.invariant-loop-part
+invariant-loop-part g l =
+    (goal.iterator-loop-part g).can_next l.part-iterator ×
+    (goal.iterator-loop-part g).is_finite l.part-iterator ×
+    (l.list ≡ swept l.index l.fn.list) ×
+    (lives (into_iter_items l.part-iterator) ≡ due_from l.index l.fn.list)

@@ -1,0 +1,42 @@
+//! Messages of packets on links, whose ends contracts see as what is still due on them.
+//!
+//! Threads that share the work on a stream of packets send each other a [`Message`] for each packet: the
+//! packet's part on its way, in a box; or the chain position of the function that dropped the packet; or
+//! that memory was short. [`edge`] makes a link for such messages and gives its two ends. The thread that
+//! owns the [`Outlet`] gives messages by [`Outlet::give`]; the one that owns the [`Inlet`] waits for the
+//! next by [`Inlet::accept`]. [`Outlets`] and [`Inlets`] are several ends in order: one that takes turns
+//! goes to the back once it was used, and a row is one message for each end.
+//!
+//! Contracts see a message without its box, and each end as the list of the messages that are still due on
+//! it, in order. So an end needs no name, no capacity and no history: to give the next due message leaves
+//! the rest, and to accept it leaves the rest too. What is due is fixed when the link is made, by a
+//! `LinkDue` of `ruled_links`.
+//!
+//! What is promised: a message is given only where one is due, and only the due one or [`Message::Short`];
+//! what is accepted is the due one or `Short`. No message is lost, doubled or overtaken, since the ends are
+//! those of a link under its rule. Want of memory never stops a stream: where a part finds no box, `Short`
+//! goes in its place, and the two ends stay in step. [`edge`] and [`take_row`] refuse for want of memory,
+//! and so do the `push` calls; nothing else is refused. That links which share a stream in turn each hold
+//! every m-th message is a law, [`shares_go_in_turn`].
+//!
+//! What is left out: that a call which waits ever returns. An inlet waits for ever for a message that
+//! nobody gives.
+#![tactic(auto)]
+
+mod edges;
+mod inlet;
+mod inlets;
+mod laws;
+mod message;
+mod outlet;
+mod outlets;
+mod parcel;
+
+pub use edges::edge;
+pub use inlet::Inlet;
+pub use inlets::{Inlets, take_row};
+pub use laws::shares_go_in_turn;
+pub use message::{Message, boxed, message_without};
+pub use outlet::Outlet;
+pub use outlets::Outlets;
+pub use parcel::Parcel;
