@@ -1,0 +1,183 @@
+-- A dealer before and after one packet.
+use Rattle.std.proofs.Common.{◌≡◌, ◌<◌, ◌≤◌, ◌+◌, ◌-◌, ◌∙◌, ℕ, suc, List, [], ◌∷◌, length, map, refl, arith, ap, sym, subst, Bool, false, All, inl, inr}
+use Rattle.std.specs.Prelude.{Option, Some, None, is_some, not}
+use Rattle.std.proofs.Math.Nat.{sub-zero}
+use Rattle.std.proofs.lemmas.List.Elements.{All-cons, All-nil}
+use Rattle.std.proofs.lemmas.List.Sums.{sum_by-cons}
+use Rattle.packet_fields.specs.declared.field.Field.{Field}
+use Rattle.action_profile.specs.declared.parts.StageParts.{StageParts}
+use Rattle.action_profile.specs.declared.parts.Touch.{Touch}
+use Rattle.packet_version.specs.Splitting.{PlainApart}
+use Rattle.packet_version.specs.Versions.{PlainVersion}
+use Rattle.packet_version.specs.Dealing.{dealt}
+use Rattle.packet_version.specs.Tallies.{count_of, raised}
+use Rattle.message_links.specs.Messages.{PlainMessage, PlainMessage.Live, PlainMessage.Nil, PlainMessage.Short, Fits, Owing, first, rest, front, turned, is_short, word}
+use Rattle.message_links.specs.Turns.{shares}
+use Rattle.stage_nodes.specs.Streams.{parted, base_of, due_of, dealer_copies}
+use Rattle.stage_nodes.specs.Dues.{PlainSource, ComesFrom, DealerDue}
+use Rattle.stage_nodes.specs.Turns.{HasMore, DealerReady, RaisesByMessage, Stops, Splits, DealerAt}
+use Rattle.stage_nodes.proofs.Shares.{turned_shares}
+use Rattle.stage_nodes.proofs.Ends.{due_is, begins, Front, front_of, one_more, none_more}
+
+-- what is due on the links to the branches, and once each has its version of the next packet
+abbrev streams_of : List Touch → List (PlainMessage PlainApart) → List (List (PlainMessage PlainVersion))
+streams_of touches xs = map (λ t. map (parted t) xs) touches
+
+streams_owing : (touches : List Touch) (x : PlainMessage PlainApart) (xs : List (PlainMessage PlainApart)) → All Owing (streams_of touches (x ∷ xs))
+streams_owing [] x xs = All-nil _
+streams_owing (t ∷ touches) x xs =
+    let here : Owing (map (parted t) (x ∷ xs)) = omega arith in
+    All-cons Owing (map (parted t) (x ∷ xs)) (streams_of touches (x ∷ xs)) here (streams_owing touches x xs)
+
+streams_first : (touches : List Touch) (x : PlainMessage PlainApart) (xs : List (PlainMessage PlainApart)) → map first (streams_of touches (x ∷ xs)) ≡ map (λ t. parted t x) touches
+streams_first [] x xs = refl
+streams_first (t ∷ touches) x xs = ap (λ y. parted t x ∷ y) (streams_first touches x xs)
+
+streams_rest : (touches : List Touch) (x : PlainMessage PlainApart) (xs : List (PlainMessage PlainApart)) → map rest (streams_of touches (x ∷ xs)) ≡ streams_of touches xs
+streams_rest [] x xs = refl
+streams_rest (t ∷ touches) x xs = ap (λ y. map (parted t) xs ∷ y) (streams_rest touches x xs)
+
+streams_words : (touches : List Touch) (q : ℕ) (xs : List (PlainMessage PlainApart)) → All (λ l. Fits (first l) (Nil q)) (streams_of touches (Nil q ∷ xs))
+streams_words [] q xs = All-nil _
+streams_words (t ∷ touches) q xs = All-cons (λ l. Fits (first l) (Nil q)) (map (parted t) (Nil q ∷ xs)) (streams_of touches (Nil q ∷ xs)) (inl refl) (streams_words touches q xs)
+
+all_short : (ls : List (List (PlainMessage PlainVersion))) → All (λ l. Fits (first l) Short) ls
+all_short [] = All-nil _
+all_short (l ∷ ls) = All-cons (λ y. Fits (first y) Short) l ls (inr refl) (all_short ls)
+
+row_live : (touches : List Touch) (whole : PlainApart) → map (λ p. Live p) (map (dealt whole) touches) ≡ map (λ t. parted t (Live whole)) touches
+row_live [] whole = refl
+row_live (t ∷ touches) whole = ap (λ y. Live (dealt whole t) ∷ y) (row_live touches whole)
+
+-- the packet that comes next, and the links at it
+pub record DealerTurn (touches : List Touch) (source : PlainSource) (versions : List (List (PlainMessage PlainVersion))) (bases : List (List (PlainMessage PlainApart))) : Type 0 where
+  pub next : PlainMessage PlainApart
+  pub later : List (PlainMessage PlainApart)
+  pub comes : ComesFrom source (next ∷ later)
+  pub owing : All Owing versions
+  pub row : map first versions ≡ map (λ t. parted t next) touches
+  pub base : Front bases (base_of touches next)
+  pub words : (q : ℕ) → next ≡ Nil q → All (λ l. Fits (first l) (Nil q)) versions
+
+pub dealer_turn : (parts : StageParts) (source : PlainSource) (versions : List (List (PlainMessage PlainVersion))) (bases : List (List (PlainMessage PlainApart))) → DealerReady parts source versions bases → DealerTurn parts.touches source versions bases
+dealer_turn parts source versions bases r =
+    let d = r.2 in
+    let b = begins r.1 r.0 d.many in
+    let gives : versions ≡ streams_of parts.touches (b.head ∷ b.tail) = d.gives ∙ ap (streams_of parts.touches) b.is in record {
+      next = b.head;
+      later = b.tail;
+      comes = subst (ComesFrom source) b.is d.takes;
+      owing = subst (All Owing) (sym gives) (streams_owing parts.touches b.head b.tail);
+      row = ap (map first) gives ∙ streams_first parts.touches b.head b.tail;
+      base = front_of d.mergers (base_of parts.touches b.head) (map (base_of parts.touches) b.tail) bases d.some (d.gives_bases ∙ ap (λ y. shares d.mergers (map (base_of parts.touches) y)) b.is);
+      words = λ q e. subst (All (λ l. Fits (first l) (Nil q))) (sym (gives ∙ ap (λ y. streams_of parts.touches (y ∷ b.tail)) e)) (streams_words parts.touches q b.tail);
+    }
+
+pub has_more : (parts : StageParts) (source : PlainSource) (versions : List (List (PlainMessage PlainVersion))) (bases : List (List (PlainMessage PlainApart))) → DealerReady parts source versions bases → HasMore source
+has_more parts source versions bases r = let t = dealer_turn parts source versions bases r in (t.next, t.later, t.comes)
+
+-- what came fits the packet that comes next
+abbrev pub FitsNext : PlainSource → PlainMessage PlainApart → Type 0
+FitsNext source message = (x : PlainMessage PlainApart) (xs : List (PlainMessage PlainApart)) → ComesFrom source (x ∷ xs) → Fits x message
+
+came_live : (touches : List Touch) (source : PlainSource) (versions : List (List (PlainMessage PlainVersion))) (bases : List (List (PlainMessage PlainApart))) (message : PlainMessage PlainApart) (whole : PlainApart)
+    → (t : DealerTurn touches source versions bases) → FitsNext source message → message ≡ Live whole → t.next ≡ Live whole
+came_live touches source versions bases message whole t fits live = sym (due_is t.next message (fits t.next t.later t.comes) (ap is_short live)) ∙ live
+
+pub row_due : (touches : List Touch) (source : PlainSource) (versions : List (List (PlainMessage PlainVersion))) (bases : List (List (PlainMessage PlainApart))) (message : PlainMessage PlainApart) (old new : List ℕ) (base : PlainApart) (row : List PlainVersion)
+    → DealerTurn touches source versions bases → FitsNext source message → Splits touches message old new base row → map (λ p. Live p) row ≡ map first versions
+row_due touches source versions bases message old new base row t fits s =
+    ap (map (λ p. Live p)) s.given ∙ row_live touches s.whole ∙ sym (t.row ∙ ap (λ y. map (λ t. parted t y) touches) (came_live touches source versions bases message s.whole t fits s.live))
+
+pub base_fits : (touches : List Touch) (source : PlainSource) (versions : List (List (PlainMessage PlainVersion))) (bases : List (List (PlainMessage PlainApart))) (message : PlainMessage PlainApart) (old new : List ℕ) (base : PlainApart) (row : List PlainVersion) (reply : PlainMessage PlainApart)
+    → DealerTurn touches source versions bases → FitsNext source message → Splits touches message old new base row → Fits (Live base) reply → Fits (first (front bases)) reply
+base_fits touches source versions bases message old new base row reply t fits s boxed =
+    subst (λ y. Fits y reply) (sym (t.base.is ∙ ap (base_of touches) (came_live touches source versions bases message s.whole t fits s.live) ∙ ap (λ y. Live y) (sym s.stays))) boxed
+
+pub words_fit : (touches : List Touch) (source : PlainSource) (versions : List (List (PlainMessage PlainVersion))) (bases : List (List (PlainMessage PlainApart))) (message : PlainMessage PlainApart) (short : Bool) (old new : List ℕ) (position : Option ℕ)
+    → DealerTurn touches source versions bases → FitsNext source message → Stops touches message short old new position
+    → All (λ l. Fits (first l) (word position)) versions × Fits (first (front bases)) (word position)
+words_fit touches source versions bases message short old new None t fits st = (all_short versions, inr refl)
+words_fit touches source versions bases message short old new (Some q) t fits st =
+    let is : t.next ≡ Nil q = sym (due_is t.next message (fits t.next t.later t.comes) (ap is_short st.1)) ∙ st.1 in
+    (t.words q is, inl (sym (t.base.is ∙ ap (base_of touches) is)))
+
+-- a packet that was dealt, or had been dropped before, was counted
+pub record WasCounted (touches : List Touch) (message : PlainMessage PlainApart) (short : Bool) (old new : List ℕ) : Type 0 where
+  pub ample : short ≡ false
+  pub there : is_short message ≡ false
+  pub counted : RaisesByMessage touches message old new
+
+pub split_counted : (touches : List Touch) (message : PlainMessage PlainApart) (short : Bool) (old new : List ℕ) (base : PlainApart) (row : List PlainVersion)
+    → short ≡ false → Splits touches message old new base row → WasCounted touches message short old new
+split_counted touches message short old new base row w s = record { ample = w; there = ap is_short s.live; counted = s.counted }
+
+pub word_counted : (touches : List Touch) (message : PlainMessage PlainApart) (short after : Bool) (old new : List ℕ) (position : Option ℕ)
+    → Stops touches message short old new position → is_some position ≡ not after → after ≡ false → WasCounted touches message short old new
+word_counted touches message short after old new None st e w = absurd (let x = e ∙ ap not w in cc)
+word_counted touches message short after old new (Some q) st e w = record { ample = st.0; there = ap is_short st.1; counted = st.2 }
+
+raised_twice : (c d s : ℕ) → raised (raised c d) s ≡ raised c (d + s)
+raised_twice c d s = omega arith
+
+pub dealer_goes_on : (parts : StageParts) (n : ℕ) (xs : List (PlainMessage PlainApart)) (short after : Bool) (counts counts' : List ℕ) (source source' : PlainSource) (versions versions' : List (List (PlainMessage PlainVersion))) (bases bases' : List (List (PlainMessage PlainApart))) (message : PlainMessage PlainApart)
+    → DealerAt parts (suc n) xs short counts source versions bases → FitsNext source message
+    → ((x : PlainMessage PlainApart) (xs : List (PlainMessage PlainApart)) → ComesFrom source (x ∷ xs) → ComesFrom source' xs) → versions' ≡ map rest versions → bases' ≡ turned bases
+    → (after ≡ false → WasCounted parts.touches message short counts counts') → DealerAt parts n xs after counts' source' versions' bases'
+dealer_goes_on parts n xs short after counts counts' source source' versions versions' bases bases' message a fits left v t h =
+    let d = a.due in
+    let b = begins a.coming n d.many in
+    let comes = subst (ComesFrom source) b.is d.takes in record {
+      coming = b.tail;
+      due = record {
+        mergers = d.mergers;
+        some = d.some;
+        modes = d.modes;
+        branches = d.branches;
+        few = d.few;
+        many = b.many;
+        takes = left b.head b.tail comes;
+        gives = v ∙ ap (map rest) (d.gives ∙ ap (streams_of parts.touches) b.is) ∙ streams_rest parts.touches b.head b.tail;
+        gives_bases = t ∙ ap turned (d.gives_bases ∙ ap (λ y. shares d.mergers (map (base_of parts.touches) y)) b.is) ∙ turned_shares d.mergers (base_of parts.touches b.head) (map (base_of parts.touches) b.tail) d.some;
+      };
+      counted = λ w f.
+          let k = h w in
+          let is = due_is b.head message (fits b.head b.tail comes) k.there in
+          ap (λ c. raised c (dealer_copies parts.touches b.tail f)) (k.counted f ∙ ap (λ y. raised (count_of counts f) (due_of parts.touches f y)) is)
+          ∙ raised_twice (count_of counts f) (due_of parts.touches f b.head) (dealer_copies parts.touches b.tail f)
+          ∙ ap (raised (count_of counts f)) (sym (sum_by-cons (due_of parts.touches f) b.head b.tail) ∙ ap (λ y. dealer_copies parts.touches y f) (sym b.is))
+          ∙ a.counted k.ample f;
+    }
+
+-- over a count of packets
+
+pub dealer_begins : (parts : StageParts) (n : ℕ) (xs : List (PlainMessage PlainApart)) (counts : List ℕ) (source : PlainSource) (versions : List (List (PlainMessage PlainVersion))) (bases : List (List (PlainMessage PlainApart)))
+    → DealerDue parts n xs source versions bases → ((f : Field) → count_of counts f ≡ 0) → DealerAt parts (n - 0) xs false counts source versions bases
+dealer_begins parts n xs counts source versions bases d none = record {
+  coming = xs;
+  due = subst (λ m. DealerDue parts m xs source versions bases) (sym (sub-zero n)) d;
+  counted = λ w f. ap (λ c. raised c (dealer_copies parts.touches xs f)) (none f);
+}
+
+pub dealer_at : (parts : StageParts) (count i : ℕ) (xs : List (PlainMessage PlainApart)) (short : Bool) (counts : List ℕ) (source : PlainSource) (versions : List (List (PlainMessage PlainVersion))) (bases : List (List (PlainMessage PlainApart))) → i < count
+    → DealerAt parts (count - i) xs short counts source versions bases → DealerAt parts (suc (count - (i + 1))) xs short counts source versions bases
+dealer_at parts count i xs short counts source versions bases lt d = subst (λ n. DealerAt parts n xs short counts source versions bases) (one_more count i lt) d
+
+pub dealer_same : (parts parts' : StageParts) (n : ℕ) (xs : List (PlainMessage PlainApart)) (short : Bool) (counts : List ℕ) (source : PlainSource) (versions : List (List (PlainMessage PlainVersion))) (bases : List (List (PlainMessage PlainApart)))
+    → parts' ≡ parts → DealerAt parts n xs short counts source versions bases → DealerAt parts' n xs short counts source versions bases
+dealer_same parts parts' n xs short counts source versions bases e a = subst (λ p. DealerAt p n xs short counts source versions bases) (sym e) a
+
+raised_none : (c : ℕ) → raised c 0 ≡ c
+raised_none c = omega arith
+
+all_counted : (parts : StageParts) (xs : List (PlainMessage PlainApart)) (short : Bool) (counts : List ℕ) (source : PlainSource) (versions : List (List (PlainMessage PlainVersion))) (bases : List (List (PlainMessage PlainApart)))
+    → DealerAt parts 0 xs short counts source versions bases → short ≡ false → (f : Field) → count_of counts f ≡ raised 0 (dealer_copies parts.touches xs f)
+all_counted parts xs short counts source versions bases a w f = over a.coming a.due.many (a.counted w f)
+  where
+    over : (coming : List (PlainMessage PlainApart)) → length coming ≡ 0 → raised (count_of counts f) (dealer_copies parts.touches coming f) ≡ raised 0 (dealer_copies parts.touches xs f) → count_of counts f ≡ raised 0 (dealer_copies parts.touches xs f)
+    over [] none e = sym (raised_none (count_of counts f)) ∙ e
+    over (x ∷ coming) none e = absurd (omega arith)
+
+pub dealer_done : (parts : StageParts) (count i : ℕ) (xs : List (PlainMessage PlainApart)) (short : Bool) (counts : List ℕ) (source : PlainSource) (versions : List (List (PlainMessage PlainVersion))) (bases : List (List (PlainMessage PlainApart))) → count ≤ i
+    → DealerAt parts (count - i) xs short counts source versions bases → short ≡ false → (f : Field) → count_of counts f ≡ raised 0 (dealer_copies parts.touches xs f)
+dealer_done parts count i xs short counts source versions bases le d = all_counted parts xs short counts source versions bases (subst (λ n. DealerAt parts n xs short counts source versions bases) (none_more count i le) d)

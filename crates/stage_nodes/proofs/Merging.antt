@@ -1,0 +1,179 @@
+-- A merger before and after one packet.
+use Rattle.std.proofs.Common.{◌≡◌, ◌<◌, ◌+◌, ◌-◌, ◌∙◌, ◌^◌, ℕ, zero, suc, List, [], ◌∷◌, length, map, get_or, refl, arith, ap, sym, subst, Bool, true, false, All, inl, inr}
+use Rattle.std.specs.Prelude.{◌⊎◌, slice_index_or}
+use Rattle.std.specs.List.{list_any}
+use Rattle.std.proofs.Math.Nat.{sub-zero}
+use Rattle.std.proofs.lemmas.List.{length-map, get_or-map}
+use Rattle.packet_version.specs.Splitting.{PlainApart}
+use Rattle.packet_version.specs.Versions.{PlainVersion}
+use Rattle.merge_ops.specs.Merging.{is_short as is_lost, decision_of}
+use Rattle.merge_ops.specs.Taking.{arrival_at, merged}
+use Rattle.merge_ops.specs.Behind.{AreArrivals, IsFrom, no_touch}
+use Rattle.merge_ops.specs.declared.arrival.Arrival.{Arrival}
+use Rattle.merge_ops.specs.declared.arrival.Arrival.TheVariants as came
+use Rattle.merge_ops.specs.declared.merging.Merged.TheVariants as ends
+use Rattle.message_links.specs.Messages.{PlainMessage, PlainMessage.Live, PlainMessage.Nil, PlainMessage.Short, Fits, first, rest}
+use Rattle.stage_nodes.specs.Streams.{as_arrival, of_merged, joined, merged_rows}
+use Rattle.stage_nodes.specs.Flows.{Belongs, AllBelong}
+use Rattle.stage_nodes.specs.Dues.{MergerDue}
+use Rattle.stage_nodes.specs.Gathering.{ArrivalFits, RowFits}
+use Rattle.stage_nodes.specs.Turns.{BelongTo, joined_row, MergerAt}
+use Rattle.stage_nodes.proofs.Ends.{one_more}
+
+-- arrivals that fit what is due from the branches
+
+row_length : (dues : List (PlainMessage PlainVersion)) (row : List Arrival) → RowFits dues row → length row ≡ length dues
+unfolding RowFits
+row_length [] [] fits = refl
+row_length [] (a ∷ row) fits = absurd fits
+row_length (due ∷ dues) [] fits = absurd fits
+row_length (due ∷ dues) (a ∷ row) fits = ap suc (row_length dues row fits.1)
+
+row_at : (dues : List (PlainMessage PlainVersion)) (row : List Arrival) (b : ℕ) → RowFits dues row → (arrival_at row b ≡ arrival_at (map as_arrival dues) b) ⊎ (arrival_at row b ≡ came.Short)
+unfolding RowFits
+row_at [] [] b fits = inl refl
+row_at [] (a ∷ row) b fits = absurd fits
+row_at (due ∷ dues) [] b fits = absurd fits
+row_at (due ∷ dues) (a ∷ row) zero fits = fits.0
+row_at (due ∷ dues) (a ∷ row) (suc b) fits = row_at dues row b fits.1
+
+-- all are those that are due, or one is short
+row_or_short : (dues : List (PlainMessage PlainVersion)) (row : List Arrival) → RowFits dues row → (row ≡ map as_arrival dues) ⊎ (list_any is_lost row ≡ true)
+unfolding RowFits
+row_or_short [] [] fits = inl refl
+row_or_short [] (a ∷ row) fits = absurd fits
+row_or_short (due ∷ dues) [] fits = absurd fits
+row_or_short (due ∷ dues) (a ∷ row) fits = behind fits.0 (row_or_short dues row fits.1)
+  where
+    behind : ArrivalFits due a → (row ≡ map as_arrival dues) ⊎ (list_any is_lost row ≡ true) → (a ∷ row ≡ map as_arrival (due ∷ dues)) ⊎ (list_any is_lost (a ∷ row) ≡ true)
+    behind (inl e) (inl same) = inl (λ i. e i ∷ same i)
+    behind (inr e) h = inr (ap (λ y. list_any is_lost (y ∷ row)) e)
+    behind (inl e) (inr lost) = inr (grind (arith, lost))
+
+are_arrivals : (base : PlainApart) (dues : List (PlainMessage PlainVersion)) (row : List Arrival) → AreArrivals base (map as_arrival dues) → RowFits dues row → AreArrivals base row
+are_arrivals base dues row are fits = record {
+  whole = are.whole;
+  touches = are.touches;
+  from = record {
+    fits = are.from.fits;
+    behind = are.from.behind;
+    count = row_length dues row fits ∙ sym (length-map dues as_arrival) ∙ are.from.count;
+    each = λ b less. each b (are.from.each b less) (row_at dues row b fits);
+  };
+}
+  where
+    each : (b : ℕ) → IsFrom are.whole (slice_index_or are.touches b no_touch) (arrival_at (map as_arrival dues) b) → (arrival_at row b ≡ arrival_at (map as_arrival dues) b) ⊎ (arrival_at row b ≡ came.Short) → IsFrom are.whole (slice_index_or are.touches b no_touch) (arrival_at row b)
+    each b is (inl e) = subst (IsFrom are.whole (slice_index_or are.touches b no_touch)) (sym e) is
+    each b is (inr e) = subst (IsFrom are.whole (slice_index_or are.touches b no_touch)) (sym e) tt
+
+merged_short : (base : PlainApart) (row : List Arrival) → list_any is_lost row ≡ true → merged base row ≡ ends.Short
+unfolding decision_of
+merged_short base row lost = rw lost refl
+
+-- the packet that comes next
+
+all_more : (b : PlainMessage PlainApart) (bases : List (PlainMessage PlainApart)) (columns : List (List (PlainMessage PlainVersion))) → AllBelong (b ∷ bases) columns → Belongs b (map first columns) × AllBelong bases (map rest columns)
+unfolding AllBelong
+all_more b bases columns all = all
+
+rows_more : (b : PlainMessage PlainApart) (bases : List (PlainMessage PlainApart)) (columns : List (List (PlainMessage PlainVersion))) → merged_rows (b ∷ bases) columns ≡ joined b (map first columns) ∷ merged_rows bases (map rest columns)
+unfolding merged_rows
+rows_more b bases columns = refl
+
+first_belongs : (n : ℕ) (bases : List (PlainMessage PlainApart)) (columns : List (List (PlainMessage PlainVersion))) → length bases ≡ suc n → AllBelong bases columns → Belongs (first bases) (map first columns)
+first_belongs n [] columns many all = absurd (omega arith)
+first_belongs n (b ∷ bases) columns many all = (all_more b bases columns all).0
+
+pub few_came : (n : ℕ) (bases : List (PlainMessage PlainApart)) (columns : List (List (PlainMessage PlainVersion))) (outlet : List (PlainMessage PlainApart)) (row : List Arrival)
+    → MergerDue n bases columns outlet → RowFits (map first columns) row → length row < 2 ^ 32
+few_came n bases columns outlet row d fits = let l = row_length (map first columns) row fits in let m = length-map columns first in let f = d.few in omega arith
+
+pub belong_to : (n : ℕ) (bases : List (PlainMessage PlainApart)) (columns : List (List (PlainMessage PlainVersion))) (outlet : List (PlainMessage PlainApart)) (base : PlainMessage PlainApart) (row : List Arrival)
+    → MergerDue (suc n) bases columns outlet → Fits (first bases) base → RowFits (map first columns) row → BelongTo base row
+belong_to n bases columns outlet Short row d fit fits = tt
+belong_to n bases columns outlet (Nil p) row d fit fits = tt
+belong_to n bases columns outlet (Live base) row d (inr e) fits = absurd (cc)
+belong_to n bases columns outlet (Live base) row d (inl e) fits =
+    are_arrivals base (map first columns) row (subst (λ y. Belongs y (map first columns)) (sym e) (first_belongs n bases columns d.many d.belong)) fits
+
+joined_fits : (due base : PlainMessage PlainApart) (dues : List (PlainMessage PlainVersion)) (row : List Arrival) → Fits due base → RowFits dues row → Fits (joined due dues) (joined_row base row)
+joined_fits due Short dues row fit fits = inr refl
+joined_fits due (Nil p) dues row (inl e) fits = inl (ap (λ y. joined y dues) e)
+joined_fits due (Nil p) dues row (inr e) fits = absurd cc
+joined_fits due (Live base) dues row (inr e) fits = absurd cc
+joined_fits due (Live base) dues row (inl e) fits = subst (λ y. Fits (joined y dues) (of_merged (merged base row))) e (by_row (row_or_short dues row fits))
+  where
+    by_row : (row ≡ map as_arrival dues) ⊎ (list_any is_lost row ≡ true) → Fits (of_merged (merged base (map as_arrival dues))) (of_merged (merged base row))
+    by_row (inl same) = inl (ap (λ r. of_merged (merged base r)) same)
+    by_row (inr lost) = inr (ap of_merged (merged_short base row lost))
+
+through : {P : Type 0} (due message reply : PlainMessage P) → Fits due message → Fits message reply → Fits due reply
+through due message reply fit (inr e) = inr e
+through due message reply (inl d) (inl e) = inl (e ∙ d)
+through due message reply (inr d) (inl e) = inr (e ∙ d)
+
+merger_first : (n : ℕ) (bases : List (PlainMessage PlainApart)) (columns : List (List (PlainMessage PlainVersion))) (outlet : List (PlainMessage PlainApart)) → MergerDue (suc n) bases columns outlet → first outlet ≡ joined (first bases) (map first columns)
+merger_first n [] columns outlet d = absurd (let m = d.many in omega arith)
+merger_first n (b ∷ bases) columns outlet d = ap first (d.gives ∙ rows_more b bases columns)
+
+-- what comes of it fits
+pub reply_fits : (n : ℕ) (bases : List (PlainMessage PlainApart)) (columns : List (List (PlainMessage PlainVersion))) (outlet : List (PlainMessage PlainApart)) (base : PlainMessage PlainApart) (row : List Arrival) (reply : PlainMessage PlainApart)
+    → MergerDue (suc n) bases columns outlet → Fits (first bases) base → RowFits (map first columns) row → Fits (joined_row base row) reply → Fits (first outlet) reply
+reply_fits n bases columns outlet base row reply d fit fits is =
+    subst (λ y. Fits y reply) (sym (merger_first n bases columns outlet d)) (through (joined (first bases) (map first columns)) (joined_row base row) reply (joined_fits (first bases) base (map first columns) row fit fits) is)
+
+even_rest : (n : ℕ) (columns : List (List (PlainMessage PlainVersion))) → All (λ c. length c ≡ suc n) columns → All (λ c. length c ≡ n) (map rest columns)
+even_rest n columns even = λ k d less.
+    let inside : k < length columns = let m = length-map columns rest in omega arith in
+    ap length (get_or-map rest columns k [] d inside) ∙ one_less (get_or columns k []) (even k [] inside)
+  where
+    one_less : (c : List (PlainMessage PlainVersion)) → length c ≡ suc n → length (rest c) ≡ n
+    one_less [] e = absurd (omega arith)
+    one_less (x ∷ c) e = omega arith
+
+due_goes_on : (n : ℕ) (bases bases' : List (PlainMessage PlainApart)) (columns columns' : List (List (PlainMessage PlainVersion))) (outlet outlet' : List (PlainMessage PlainApart))
+    → MergerDue (suc n) bases columns outlet → bases' ≡ rest bases → columns' ≡ map rest columns → outlet' ≡ rest outlet → MergerDue n bases' columns' outlet'
+due_goes_on n [] bases' columns columns' outlet outlet' d b i o = absurd (let m = d.many in omega arith)
+due_goes_on n (x ∷ bases) bases' columns columns' outlet outlet' d b i o = record {
+  many = ap length b ∙ (let m = d.many in omega arith);
+  some = let l = ap length i in let m = length-map columns rest in let s = d.some in omega arith;
+  few = let l = ap length i in let m = length-map columns rest in let f = d.few in omega arith;
+  even = subst (All (λ c. length c ≡ n)) (sym i) (even_rest n columns d.even);
+  belong = subst (λ y. AllBelong y columns') (sym b) (subst (AllBelong bases) (sym i) (all_more x bases columns d.belong).1);
+  gives = o ∙ ap rest (d.gives ∙ rows_more x bases columns) ∙ (λ j. merged_rows (sym b j) (sym i j));
+}
+
+rows_length : (bases : List (PlainMessage PlainApart)) (columns : List (List (PlainMessage PlainVersion))) → length (merged_rows bases columns) ≡ length bases
+unfolding merged_rows
+rows_length [] columns = refl
+rows_length (b ∷ bases) columns = ap suc (rows_length bases (map rest columns))
+
+rest_length : (n : ℕ) (outlet outlet' : List (PlainMessage PlainApart)) → length outlet ≡ suc n → outlet' ≡ rest outlet → length outlet' ≡ n
+rest_length n [] outlet' many o = absurd (omega arith)
+rest_length n (m ∷ outlet) outlet' many o = ap length o ∙ (omega arith)
+
+-- over a count of packets
+
+pub owed : (n : ℕ) (bases : List (PlainMessage PlainApart)) (columns : List (List (PlainMessage PlainVersion))) (outlet : List (PlainMessage PlainApart)) → MergerDue n bases columns outlet → length outlet ≡ n
+owed n bases columns outlet d = ap length d.gives ∙ rows_length bases columns ∙ d.many
+
+pub merger_begins : (n : ℕ) (bases : List (PlainMessage PlainApart)) (columns : List (List (PlainMessage PlainVersion))) (outlet : List (PlainMessage PlainApart)) → MergerDue n bases columns outlet → MergerAt (n - 0) false bases columns outlet
+merger_begins n bases columns outlet d = record {
+  many = owed n bases columns outlet d ∙ sym (sub-zero n);
+  due = λ w. subst (λ m. MergerDue m bases columns outlet) (sym (sub-zero n)) d;
+}
+
+pub merger_at : (count i : ℕ) (short : Bool) (bases : List (PlainMessage PlainApart)) (columns : List (List (PlainMessage PlainVersion))) (outlet : List (PlainMessage PlainApart)) → i < count
+    → MergerAt (count - i) short bases columns outlet → MergerAt (suc (count - (i + 1))) short bases columns outlet
+merger_at count i short bases columns outlet lt a = subst (λ n. MergerAt n short bases columns outlet) (one_more count i lt) a
+
+pub merger_short : (n : ℕ) (short : Bool) (bases bases' : List (PlainMessage PlainApart)) (columns columns' : List (List (PlainMessage PlainVersion))) (outlet outlet' : List (PlainMessage PlainApart))
+    → MergerAt (suc n) short bases columns outlet → outlet' ≡ rest outlet → MergerAt n true bases' columns' outlet'
+merger_short n short bases bases' columns columns' outlet outlet' a o = record { many = rest_length n outlet outlet' a.many o; due = λ w. absurd cc }
+
+pub merger_goes_on : (n : ℕ) (short after : Bool) (bases bases' : List (PlainMessage PlainApart)) (columns columns' : List (List (PlainMessage PlainVersion))) (outlet outlet' : List (PlainMessage PlainApart))
+    → MergerAt (suc n) short bases columns outlet → short ≡ false → bases' ≡ rest bases → columns' ≡ map rest columns → outlet' ≡ rest outlet → MergerAt n after bases' columns' outlet'
+merger_goes_on n short after bases bases' columns columns' outlet outlet' a w b i o = record {
+  many = rest_length n outlet outlet' a.many o;
+  due = λ v. due_goes_on n bases bases' columns columns' outlet outlet' (a.due w) b i o;
+}

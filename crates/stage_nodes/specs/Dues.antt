@@ -1,0 +1,54 @@
+-- For proofs: how the links of a node fit each other.
+use Rattle.std.specs.Prelude.{◌≡◌, ◌<◌, ◌≤◌, ℕ, List, length, map, All, Bool, false}
+use Rattle.action_profile.specs.Modes.{modes_of}
+use Rattle.action_profile.specs.declared.parts.StageParts.{StageParts}
+use Rattle.packet_version.specs.Splitting.{PlainApart}
+use Rattle.packet_version.specs.Versions.{PlainVersion}
+use Rattle.merge_ops.specs.declared.merging.Merged.{Merged}
+use Rattle.message_links.specs.Messages.{PlainMessage}
+use Rattle.message_links.specs.Turns.{shares}
+use Rattle.stage_nodes.specs.Streams.{Kit, parted, base_of, of_merged, ran, left, merged_rows}
+use Rattle.stage_nodes.specs.Flows.{MayTakeAll, AllBelong}
+
+-- Where a dealer takes packets from: the burst itself, or the mergers of the stage before, in turn.
+pub data PlainSource : Type 0 where
+  FromBurst : (packets : List Merged) → PlainSource
+  FromMergers : (inlets : List (List (PlainMessage PlainApart))) → PlainSource
+
+-- these come from it
+abbrev pub ComesFrom : PlainSource → List (PlainMessage PlainApart) → Type 0
+ComesFrom (FromBurst packets) xs = map of_merged packets ≡ xs
+ComesFrom (FromMergers inlets) xs = (m : ℕ) × (0 < m) × (inlets ≡ shares m xs)
+
+-- n packets, which are these, are still to come to a dealer, and its links fit
+pub record DealerDue (parts : StageParts) (n : ℕ) (xs : List (PlainMessage PlainApart)) (source : PlainSource) (versions : List (List (PlainMessage PlainVersion))) (bases : List (List (PlainMessage PlainApart))) : Type 0 where
+  pub mergers : ℕ
+  pub some : 0 < mergers
+  pub modes : parts.modes ≡ modes_of parts.touches
+  pub branches : 0 < length parts.touches
+  pub few : length parts.touches ≤ 64
+  pub many : length xs ≡ n
+  pub takes : ComesFrom source xs
+  pub gives : versions ≡ map (λ t. map (parted t) xs) parts.touches
+  pub gives_bases : bases ≡ shares mergers (map (base_of parts.touches) xs)
+
+-- n versions are still to come to a branch, from the packet with the number p on, whose links fit, and whose functions are those that
+-- are due unless it is short
+pub record BranchDue {F : Type 0} (k : Kit F) (may : F → ℕ → PlainVersion → Type 0) (p n : ℕ) (end : F) (short : Bool) (f : F) (inlet : List (PlainMessage PlainVersion)) (outlets : List (List (PlainMessage PlainVersion))) : Type 0 where
+  pub mergers : ℕ
+  pub now : F
+  pub some : 0 < mergers
+  pub many : length inlet ≡ n
+  pub take : MayTakeAll k may now p inlet
+  pub gives : outlets ≡ shares mergers (ran k now inlet)
+  pub same : short ≡ false → f ≡ now
+  pub ends : left k now inlet ≡ end
+
+-- n bases are still to come to a merger, and its links fit
+pub record MergerDue (n : ℕ) (bases : List (PlainMessage PlainApart)) (columns : List (List (PlainMessage PlainVersion))) (outlet : List (PlainMessage PlainApart)) : Type 0 where
+  pub many : length bases ≡ n
+  pub some : 0 < length columns
+  pub few : length columns ≤ 64
+  pub even : All (λ c. length c ≡ n) columns
+  pub belong : AllBelong bases columns
+  pub gives : outlet ≡ merged_rows bases columns

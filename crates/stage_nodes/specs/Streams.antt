@@ -1,0 +1,129 @@
+-- For proofs: the messages that are due on each link of a run, as lists of plain data. A run is some stages, one after another; in each
+-- a dealer deals every packet to the branches, each branch takes what it is dealt in the packets' order, and what comes from the
+-- branches is put together packet by packet.
+use Rattle.std.specs.Prelude.{ℕ, ◌+◌, zero, suc, List, [], ◌∷◌, map}
+use Rattle.std.specs.List.{sum_by}
+use Rattle.packet_fields.specs.declared.field.Field.{Field}
+use Rattle.action_profile.specs.declared.parts.StageParts.{StageParts}
+use Rattle.action_profile.specs.declared.parts.Touch.{Touch}
+use Rattle.packet_version.specs.Splitting.{PlainApart, packet_parts}
+use Rattle.packet_version.specs.Versions.{PlainVersion}
+use Rattle.packet_version.specs.Dealing.{dealt, based, copies_due}
+use Rattle.merge_ops.specs.Taking.{merged}
+use Rattle.merge_ops.specs.declared.arrival.Arrival.{Arrival}
+use Rattle.merge_ops.specs.declared.arrival.Arrival.TheVariants as came
+use Rattle.merge_ops.specs.declared.merging.Merged.{Merged}
+use Rattle.merge_ops.specs.declared.merging.Merged.TheVariants as ends
+use Rattle.message_links.specs.Messages.{PlainMessage, PlainMessage.Live, PlainMessage.Nil, PlainMessage.Short, first, rest}
+
+-- What the functions of a branch make of a version, and the functions after it.
+pub record Kit (F : Type 0) : Type 0 where
+  pub gives : F → PlainVersion → PlainMessage PlainVersion
+  pub after : F → PlainVersion → F
+
+-- The functions of a stage's branches, and what each branch gets of a packet.
+pub record PlainStage (F : Type 0) : Type 0 where
+  pub parts : StageParts
+  pub branches : List F
+
+-- what a dealer gives a branch with this touch: its version of the packet; what has no packet goes on as it is
+abbrev pub parted : Touch → PlainMessage PlainApart → PlainMessage PlainVersion
+parted touch (Live whole) = Live (dealt whole touch)
+parted touch (Nil p) = Nil p
+parted touch Short = Short
+
+-- and what it gives a merger: what stays of the packet
+abbrev pub base_of : List Touch → PlainMessage PlainApart → PlainMessage PlainApart
+base_of touches (Live whole) = Live (based touches whole)
+base_of touches (Nil p) = Nil p
+base_of touches Short = Short
+
+-- a branch's answer to a message, and its functions after it
+abbrev pub gave : {F : Type 0} → Kit F → F → PlainMessage PlainVersion → PlainMessage PlainVersion
+gave k f (Live v) = k.gives f v
+gave k f (Nil p) = Nil p
+gave k f Short = Short
+
+abbrev pub moved : {F : Type 0} → Kit F → F → PlainMessage PlainVersion → F
+moved k f (Live v) = k.after f v
+moved k f (Nil p) = f
+moved k f Short = f
+
+-- from a branch, and its functions at the end
+unfoldable pub ran : {F : Type 0} → Kit F → F → List (PlainMessage PlainVersion) → List (PlainMessage PlainVersion)
+ran k f [] = []
+ran k f (x ∷ xs) = gave k f x ∷ ran k (moved k f x) xs
+
+unfoldable pub left : {F : Type 0} → Kit F → F → List (PlainMessage PlainVersion) → F
+left k f [] = f
+left k f (x ∷ xs) = left k (moved k f x) xs
+
+-- a message from a branch as what comes from it, and what came of a packet as a message
+abbrev pub as_arrival : PlainMessage PlainVersion → Arrival
+as_arrival (Live v) = came.Version v
+as_arrival (Nil p) = came.Nil p
+as_arrival Short = came.Short
+
+abbrev pub of_merged : Merged → PlainMessage PlainApart
+of_merged (ends.Whole whole) = Live whole
+of_merged (ends.Gone p) = Nil p
+of_merged ends.Short = Short
+
+abbrev pub as_merged : PlainMessage PlainApart → Merged
+as_merged (Live whole) = ends.Whole whole
+as_merged (Nil p) = ends.Gone p
+as_merged Short = ends.Short
+
+-- what a merger makes of what stayed of a packet and of what came from the branches, in branch order
+abbrev pub joined : PlainMessage PlainApart → List (PlainMessage PlainVersion) → PlainMessage PlainApart
+joined (Live base) row = of_merged (merged base (map as_arrival row))
+joined (Nil p) row = Nil p
+joined Short row = Short
+
+-- from each branch of a stage, and its functions at the end
+unfoldable pub came_from : {F : Type 0} → Kit F → List Touch → List F → List (PlainMessage PlainApart) → List (List (PlainMessage PlainVersion))
+came_from k [] fs xs = []
+came_from k (t ∷ touches) [] xs = []
+came_from k (t ∷ touches) (f ∷ fs) xs = ran k f (map (parted t) xs) ∷ came_from k touches fs xs
+
+unfoldable pub stayed : {F : Type 0} → Kit F → List Touch → List F → List (PlainMessage PlainApart) → List F
+stayed k [] fs xs = []
+stayed k (t ∷ touches) [] xs = []
+stayed k (t ∷ touches) (f ∷ fs) xs = left k f (map (parted t) xs) ∷ stayed k touches fs xs
+
+-- from mergers that take these bases and what comes from the branches, one list for each
+unfoldable pub merged_rows : List (PlainMessage PlainApart) → List (List (PlainMessage PlainVersion)) → List (PlainMessage PlainApart)
+merged_rows [] columns = []
+merged_rows (b ∷ bases) columns = joined b (map first columns) ∷ merged_rows bases (map rest columns)
+
+-- behind a stage
+abbrev pub passed : {F : Type 0} → Kit F → PlainStage F → List (PlainMessage PlainApart) → List (PlainMessage PlainApart)
+passed k s xs = merged_rows (map (base_of s.parts.touches) xs) (came_from k s.parts.touches s.branches xs)
+
+-- behind all stages, and the functions of each stage at the end
+unfoldable pub through : {F : Type 0} → Kit F → List (PlainStage F) → List (PlainMessage PlainApart) → List (PlainMessage PlainApart)
+through k [] xs = xs
+through k (s ∷ stages) xs = through k stages (passed k s xs)
+
+unfoldable pub ends_of : {F : Type 0} → Kit F → List (PlainStage F) → List (PlainMessage PlainApart) → List (List F)
+ends_of k [] xs = []
+ends_of k (s ∷ stages) xs = stayed k s.parts.touches s.branches xs ∷ ends_of k stages (passed k s xs)
+
+-- into the stage behind so many, or behind the last
+unfoldable pub entering : {F : Type 0} → Kit F → List (PlainStage F) → List (PlainMessage PlainApart) → ℕ → List (PlainMessage PlainApart)
+entering k stages xs zero = xs
+entering k [] xs (suc n) = xs
+entering k (s ∷ stages) xs (suc n) = entering k stages (passed k s xs) n
+
+-- the copies of a field that a dealer makes of a message's packet, of all that come, and those of all dealers
+abbrev pub due_of : List Touch → Field → PlainMessage PlainApart → ℕ
+due_of touches f (Live whole) = copies_due touches f (packet_parts whole f)
+due_of touches f (Nil p) = 0
+due_of touches f Short = 0
+
+abbrev pub dealer_copies : List Touch → List (PlainMessage PlainApart) → Field → ℕ
+dealer_copies touches xs f = sum_by (due_of touches f) xs
+
+unfoldable pub copies_along : {F : Type 0} → Kit F → List (PlainStage F) → List (PlainMessage PlainApart) → Field → ℕ
+copies_along k [] xs f = 0
+copies_along k (s ∷ stages) xs f = dealer_copies s.parts.touches xs f + copies_along k stages (passed k s xs) f

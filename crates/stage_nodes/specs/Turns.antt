@@ -1,0 +1,73 @@
+-- For proofs: a node before and after one packet.
+use Rattle.std.specs.Prelude.{◌≡◌, ℕ, suc, List, ◌∷◌, length, map, Bool, false, Option, Some, None}
+use Rattle.packet_fields.specs.declared.field.Field.{Field}
+use Rattle.action_profile.specs.declared.parts.StageParts.{StageParts}
+use Rattle.action_profile.specs.declared.parts.Touch.{Touch}
+use Rattle.packet_version.specs.Splitting.{PlainApart}
+use Rattle.packet_version.specs.Versions.{PlainVersion}
+use Rattle.packet_version.specs.Dealing.{dealt, based}
+use Rattle.packet_version.specs.Tallies.{count_of, raised}
+use Rattle.merge_ops.specs.declared.arrival.Arrival.{Arrival}
+use Rattle.merge_ops.specs.Behind.{AreArrivals}
+use Rattle.merge_ops.specs.Taking.{merged}
+use Rattle.message_links.specs.Messages.{PlainMessage, PlainMessage.Live, PlainMessage.Nil, PlainMessage.Short}
+use Rattle.stage_nodes.specs.Streams.{Kit, of_merged, due_of, dealer_copies}
+use Rattle.stage_nodes.specs.Dues.{PlainSource, ComesFrom, DealerDue, BranchDue, MergerDue}
+use Rattle.stage_nodes.specs.declared.dealer.Dealt.{Dealt}
+use Rattle.stage_nodes.specs.declared.dealer.Dealt.TheVariants.{Row, Word}
+
+-- something is still to come from a source
+abbrev pub HasMore : PlainSource → Type 0
+HasMore source = (x : PlainMessage PlainApart) × (xs : List (PlainMessage PlainApart)) × ComesFrom source (x ∷ xs)
+
+-- the links of a node fit, and something is still to come
+abbrev pub DealerReady : StageParts → PlainSource → List (List (PlainMessage PlainVersion)) → List (List (PlainMessage PlainApart)) → Type 0
+DealerReady parts source versions bases = (n : ℕ) × (xs : List (PlainMessage PlainApart)) × DealerDue parts (suc n) xs source versions bases
+
+abbrev pub BranchReady : {F : Type 0} → Kit F → (F → ℕ → PlainVersion → Type 0) → ℕ → Bool → F → List (PlainMessage PlainVersion) → List (List (PlainMessage PlainVersion)) → Type 0
+BranchReady {F} k may p short f inlet outlets = (n : ℕ) × (end : F) × BranchDue k may p (suc n) end short f inlet outlets
+
+-- the counts rise by the copies that are due of a message's packet
+abbrev pub RaisesByMessage : List Touch → PlainMessage PlainApart → List ℕ → List ℕ → Type 0
+RaisesByMessage touches x old new = (f : Field) → count_of new f ≡ raised (count_of old f) (due_of touches f x)
+
+-- a dealer gives a word in place of a packet: where it was dropped, if it was, and else that memory is short
+abbrev pub Stops : List Touch → PlainMessage PlainApart → Bool → List ℕ → List ℕ → Option ℕ → Type 0
+Stops touches x short old new (Some position) = (short ≡ false) × (x ≡ Nil position) × RaisesByMessage touches x old new
+Stops touches x short old new None = Unit {0}
+
+-- the packet of a message was dealt to branches with these touches
+pub record Splits (touches : List Touch) (x : PlainMessage PlainApart) (old new : List ℕ) (base : PlainApart) (row : List PlainVersion) : Type 0 where
+  pub whole : PlainApart
+  pub live : x ≡ Live whole
+  pub stays : base ≡ based touches whole
+  pub given : row ≡ map (dealt whole) touches
+  pub counted : RaisesByMessage touches x old new
+
+-- what a dealer makes of a message
+abbrev pub Deals : List Touch → PlainMessage PlainApart → Bool → List ℕ → List ℕ → Dealt → Type 0
+Deals touches x short old new (Row base row) = (short ≡ false) × Splits touches x old new base row.items
+Deals touches x short old new (Word position) = Stops touches x short old new position
+
+-- So many packets of a dealer are still to come, and its counts are those of the packets that came.
+pub record DealerAt (parts : StageParts) (n : ℕ) (xs : List (PlainMessage PlainApart)) (short : Bool) (counts : List ℕ) (source : PlainSource) (versions : List (List (PlainMessage PlainVersion))) (bases : List (List (PlainMessage PlainApart))) : Type 0 where
+  pub coming : List (PlainMessage PlainApart)
+  pub due : DealerDue parts n coming source versions bases
+  pub counted : short ≡ false → (f : Field) → raised (count_of counts f) (dealer_copies parts.touches coming f) ≡ raised 0 (dealer_copies parts.touches xs f)
+
+-- what came from the branches belongs to a base
+abbrev pub BelongTo : PlainMessage PlainApart → List Arrival → Type 0
+BelongTo (Live base) row = AreArrivals base row
+BelongTo (Nil p) row = Unit {0}
+BelongTo Short row = Unit {0}
+
+-- what comes of a base and of what came from the branches
+abbrev pub joined_row : PlainMessage PlainApart → List Arrival → PlainMessage PlainApart
+joined_row (Live base) row = of_merged (merged base row)
+joined_row (Nil p) row = Nil p
+joined_row Short row = Short
+
+-- So many packets of a merger are still to come, unless it is short: then so many messages are due.
+pub record MergerAt (n : ℕ) (short : Bool) (bases : List (PlainMessage PlainApart)) (columns : List (List (PlainMessage PlainVersion))) (outlet : List (PlainMessage PlainApart)) : Type 0 where
+  pub many : length outlet ≡ n
+  pub due : short ≡ false → MergerDue n bases columns outlet

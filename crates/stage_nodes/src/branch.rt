@@ -1,0 +1,89 @@
+//! The node of a branch.
+ghost use Rattle.std.specs.Prelude.{◌≡◌, ◌+◌, ℕ, suc, false};
+ghost use Rattle.message_links.specs.Messages.{is_short, plain};
+ghost use Rattle.stage_nodes.specs.Streams.{gave, left, moved};
+ghost use Rattle.stage_nodes.specs.Flows.{MayTake};
+ghost use Rattle.stage_nodes.specs.Dues.{BranchDue};
+ghost use Rattle.stage_nodes.specs.Turns.{BranchReady};
+
+use crate::work::BranchWork;
+use message_links::{Inlet, Message, Outlets};
+use nfp_outside::Gate;
+use packet_version::Version;
+use std::alloc::Global;
+use std::sync::Wait;
+
+/// A branch: so many versions come from the dealer, in the packets' order. It leads each through its
+/// functions, and gives what comes of it to the mergers in turn.
+#[derive(Drop)]
+pub struct Branch<F> {
+    pub inlet: Inlet<Version>,
+    pub outlets: Outlets<Version>,
+    pub work: F,
+    pub count: u32,
+}
+
+/// Runs a branch until all its versions came: gives its functions back, and says whether memory was short.
+/// From the first version on for which it was, it says so of all.
+pub fn run_branch<F: BranchWork, R: Wait, G: Gate>(
+    rt: &R,
+    alloc: Global,
+    gate: &G,
+    branch: Branch<F>,
+) -> (F, bool)
+    requires due { (end : F) × BranchDue F.kit F.may 0 branch.count end false branch.work branch.inlet branch.outlets }
+    ensures { result.1 ≡ false → result.0 ≡ left F.kit branch.work branch.inlet }
+{
+    let mut branch = branch;
+    let mut short = false;
+    for place in 0..branch.count {
+        short = branch.turn_next(rt, alloc, gate, place, short);
+    }
+    (branch.work, short)
+}
+
+impl<F: BranchWork> Branch<F> {
+    /// The next version, of the packet with this number; says whether the branch is short from now on.
+    fn turn_next<R: Wait, G: Gate>(
+        &mut self,
+        rt: &R,
+        alloc: Global,
+        gate: &G,
+        place: u32,
+        short: bool,
+    ) -> bool
+        requires ready { BranchReady F.kit F.may place short self.old.work self.old.inlet self.old.outlets }
+        ensures due { (n : ℕ) (end : F) →
+            BranchDue F.kit F.may place (suc n) end short self.old.work self.old.inlet self.old.outlets →
+            BranchDue F.kit F.may (suc place) n end result self.new.work self.new.inlet self.new.outlets }
+    {
+        let message = self.inlet.accept(rt);
+        let reply = answer(rt, alloc, gate, &mut self.work, place, message, short);
+        let short = reply.is_short();
+        self.outlets.give_next(rt, reply);
+        short
+    }
+}
+
+/// What the functions make of a message, of the packet with this number.
+fn answer<F: BranchWork, R: Wait, G: Gate>(
+    rt: &R,
+    alloc: Global,
+    gate: &G,
+    work: &mut F,
+    place: u32,
+    message: Message<Version>,
+    short: bool,
+) -> Message<Version>
+    requires may { short ≡ false → MayTake F.may work.old place (plain message) }
+    ensures { is_short (plain result) ≡ false → (short ≡ false) × (is_short (plain message) ≡ false)
+        × (plain result ≡ gave F.kit work.old (plain message)) × (work.new ≡ moved F.kit work.old (plain message)) }
+{
+    if short {
+        return Message::Short;
+    }
+    match message {
+        Message::Short => Message::Short,
+        came => work.turn(rt, alloc, gate, place, came),
+    }
+}

@@ -1,0 +1,108 @@
+//! The node of a dealer.
+ghost use Rattle.std.specs.Prelude.{◌≡◌, ◌<◌, ◌≤◌, ℕ, suc, false, List, length};
+ghost use Rattle.packet_fields.specs.declared.field.Field.{Field};
+ghost use Rattle.action_profile.specs.Modes.{modes_of};
+ghost use Rattle.packet_version.specs.Splitting.{PlainApart};
+ghost use Rattle.packet_version.specs.Tallies.{count_of, raised};
+ghost use Rattle.message_links.specs.Messages.{PlainMessage};
+ghost use Rattle.stage_nodes.specs.Streams.{dealer_copies, of_merged};
+ghost use Rattle.stage_nodes.specs.Dues.{DealerDue};
+ghost use Rattle.stage_nodes.specs.Turns.{DealerAt, DealerReady, Deals};
+
+use crate::source::Source;
+use action_profile::StageParts;
+use merge_ops::Merged;
+use message_links::{Outlets, boxed, message_without};
+use packet_version::{Base, Tally, Version, deal};
+use std::alloc::Global;
+use std::sync::Wait;
+
+/// A dealer: so many packets come from its source. It deals each to the branches of its stage, and gives
+/// what stays of it to the mergers in turn.
+#[derive(Drop)]
+pub struct Dealer {
+    pub parts: StageParts,
+    pub source: Source,
+    pub versions: Outlets<Version>,
+    pub bases: Outlets<Base>,
+    pub count: u32,
+}
+
+/// What a dealer gives of a packet.
+#[derive(Drop)]
+pub(crate) enum Dealt {
+    /// Its base, and a version for each branch.
+    Row(Base, Vec<Version>),
+    /// A word without a packet: where it was dropped, or that memory is short.
+    Word(Option<u32>),
+}
+
+/// Runs a dealer until all its packets came: gives the copies that it made, and says whether memory was
+/// short. From the first packet on for which it was, it says so of all.
+pub fn run_dealer<R: Wait>(rt: &R, alloc: Global, dealer: Dealer) -> (Tally, bool)
+    requires due { (xs : List (PlainMessage PlainApart)) × DealerDue dealer.parts dealer.count xs dealer.source dealer.versions dealer.bases }
+    ensures counted { (xs : List (PlainMessage PlainApart)) →
+        DealerDue dealer.parts dealer.count xs dealer.source dealer.versions dealer.bases → result.1 ≡ false →
+        (f : Field) → count_of result.0 f ≡ raised 0 (dealer_copies dealer.parts.touches xs f) }
+{
+    let mut dealer = dealer;
+    let mut tally = Tally::new();
+    let mut short = false;
+    for _packet in 0..dealer.count {
+        short = dealer.deal_next(rt, alloc, &mut tally, short);
+    }
+    (tally, short)
+}
+
+impl Dealer {
+    /// The next packet; says whether the dealer is short from now on.
+    fn deal_next<R: Wait>(&mut self, rt: &R, alloc: Global, tally: &mut Tally, short: bool) -> bool
+        requires ready { DealerReady self.old.parts self.old.source self.old.versions self.old.bases }
+        ensures at { (n : ℕ) (xs : List (PlainMessage PlainApart)) →
+            DealerAt self.old.parts (suc n) xs short tally.old self.old.source self.old.versions self.old.bases →
+            DealerAt self.old.parts n xs result tally.new self.new.source self.new.versions self.new.bases }
+        ensures parts { self.new.parts ≡ self.old.parts }
+    {
+        let packet = self.source.next(rt);
+        match dealing(alloc, &self.parts, packet, short, tally) {
+            Dealt::Row(base, row) => {
+                let found = self.versions.give_each(rt, alloc, row);
+                let base = boxed(alloc, base);
+                let short = !found || base.is_short();
+                self.bases.give_next(rt, base);
+                short
+            }
+            Dealt::Word(position) => {
+                self.versions.give_word(rt, position);
+                self.bases.give_next(rt, message_without(position));
+                position.is_none()
+            }
+        }
+    }
+}
+
+/// What a dealer makes of a packet.
+fn dealing(
+    alloc: Global,
+    parts: &StageParts,
+    packet: Merged,
+    short: bool,
+    tally: &mut Tally,
+) -> Dealt
+    requires some { 1 ≤ length parts.now.touches }
+    requires few { length parts.now.touches ≤ 64 }
+    requires modes { parts.now.modes ≡ modes_of parts.now.touches }
+    ensures { Deals parts.now.touches (of_merged packet) short tally.old tally.new result }
+{
+    if short {
+        return Dealt::Word(None);
+    }
+    match packet {
+        Merged::Whole(whole) => match deal(alloc, whole, parts, tally) {
+            Ok((base, versions)) => Dealt::Row(base, versions),
+            Err(_) => Dealt::Word(None),
+        },
+        Merged::Gone(position) => Dealt::Word(Some(position)),
+        Merged::Short => Dealt::Word(None),
+    }
+}

@@ -1,0 +1,120 @@
+//! The node of a merger.
+ghost use Rattle.std.specs.Prelude.{◌≡◌, ◌<◌, ◌≤◌, ◌^◌, [], ℕ, suc, length};
+ghost use Rattle.message_links.specs.Messages.{Fits, plain};
+ghost use Rattle.stage_nodes.specs.Streams.{of_merged};
+ghost use Rattle.stage_nodes.specs.Dues.{MergerDue};
+ghost use Rattle.stage_nodes.specs.Gathering.{IsReady};
+ghost use Rattle.stage_nodes.specs.Turns.{BelongTo, MergerAt, joined_row};
+
+use crate::gather::gather;
+use acc_table::AccTable;
+use merge_ops::{Arrival, Merged, merge};
+use message_links::{Inlet, Inlets, Message, Outlet, boxed};
+use packet_version::{Apart, Base, Version};
+use std::alloc::Global;
+use std::sync::Wait;
+
+/// A merger: of so many packets come the bases from the dealer, and from each branch what it made of
+/// them. It puts each packet together, and gives what comes of it to the dealer behind.
+#[derive(Drop)]
+pub struct Merger {
+    pub base: Inlet<Base>,
+    pub inlets: Inlets<Version>,
+    pub outlet: Outlet<Apart>,
+    pub count: u32,
+}
+
+/// Runs a merger until all its packets went on. From the first packet on for which memory was short, it
+/// says so of all.
+pub fn run_merger<R: Wait>(rt: &R, alloc: Global, merger: Merger)
+    requires due { MergerDue merger.count merger.base merger.inlets merger.outlet }
+{
+    let mut merger = merger;
+    let branches = merger.inlets.len() as u32;
+    // One packet is open at a time.
+    let Ok(mut table) = AccTable::with_room(alloc, 1, branches) else {
+        return merger.give_up(rt);
+    };
+    let mut row = Vec::new(alloc);
+    let mut short = false;
+    for packet in 0..merger.count {
+        short = merger.merge_next(rt, alloc, &mut table, &mut row, packet, short);
+    }
+}
+
+impl Merger {
+    /// The next packet, which has this number here; says whether the merger is short from now on.
+    fn merge_next<R: Wait>(
+        &mut self,
+        rt: &R,
+        alloc: Global,
+        table: &mut AccTable<Arrival>,
+        row: &mut Vec<Arrival>,
+        packet: u32,
+        short: bool,
+    ) -> bool
+        requires ready { IsReady table.old (length self.old.inlets) }
+        requires empty { row.old.items ≡ [] }
+        requires at { (n : ℕ) × MergerAt (suc n) short self.old.base self.old.inlets self.old.outlet }
+        ensures ready { IsReady table.new (length self.new.inlets) }
+        ensures empty { row.new.items ≡ [] }
+        ensures at { (n : ℕ) → MergerAt (suc n) short self.old.base self.old.inlets self.old.outlet →
+            MergerAt n result self.new.base self.new.inlets self.new.outlet }
+    {
+        if short || row.reserve(self.inlets.len()).is_err() {
+            self.outlet.give(rt, Message::Short);
+            return true;
+        }
+        gather(rt, table, packet, &mut self.inlets, row);
+        let reply = join(rt, alloc, self.base.accept(rt), row);
+        let short = reply.is_short();
+        self.outlet.give(rt, reply);
+        short
+    }
+
+    /// Says of each packet that memory is short.
+    fn give_up<R: Wait>(mut self, rt: &R)
+        requires { length self.outlet ≡ self.count }
+    {
+        for _packet in 0..self.count {
+            self.outlet.give(rt, Message::Short);
+        }
+    }
+}
+
+/// What comes of a packet from its base and what came from each branch, in branch order. The row is empty
+/// after it.
+fn join<R: Wait>(
+    rt: &R,
+    alloc: Global,
+    base: Message<Base>,
+    row: &mut Vec<Arrival>,
+) -> Message<Apart>
+    requires few { length row.old.items < 2 ^ 32 }
+    requires belong { BelongTo (plain base) row.old.items }
+    ensures joined { Fits (joined_row (plain base) row.old.items) (plain result) }
+    ensures emptied { row.new.items ≡ [] }
+{
+    match base {
+        Message::Live(base) => message_of(alloc, merge(rt, Box::into_inner(base), row)),
+        Message::Nil(position) => {
+            row.clear();
+            Message::Nil(position)
+        }
+        Message::Short => {
+            row.clear();
+            Message::Short
+        }
+    }
+}
+
+/// What came of a packet as a message, or that memory is short.
+fn message_of(alloc: Global, merged: Merged) -> Message<Apart>
+    ensures { Fits (of_merged merged) (plain result) }
+{
+    match merged {
+        Merged::Whole(whole) => boxed(alloc, whole),
+        Merged::Gone(position) => Message::Nil(position),
+        Merged::Short => Message::Short,
+    }
+}
