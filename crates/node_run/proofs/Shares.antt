@@ -1,0 +1,88 @@
+-- The shares of a stream, message by message.
+use Rattle.std.proofs.Common.{◌≡◌, ◌<◌, ◌≤◌, ◌+◌, ◌-◌, ◌∙◌, ℕ, zero, suc, pred, List, [], ◌∷◌, ◌++◌, length, refl, arith, ap, sym}
+use Rattle.packet_version.specs.Splitting.{PlainApart}
+use Rattle.message_links.specs.Messages.{PlainMessage, first, front, turned}
+use Rattle.message_links.specs.Turns.{share, share_len, shares_from, shares}
+use Rattle.stage_nodes.specs.Dues.{PlainSource, PlainSource.FromBurst, PlainSource.FromMergers, ComesFrom}
+use Rattle.node_run.specs.Nodes.{in_turn, coming_from}
+
+later_shares : {A : Type 0} (m i c : ℕ) (x : A) (xs : List A) → shares_from m (suc i) c (x ∷ xs) ≡ shares_from m i c xs
+unfolding shares_from share
+later_shares m i zero x xs = refl
+later_shares m i (suc c) x xs = ap (λ y. share m i xs ∷ y) (later_shares m (suc i) c x xs)
+
+pub last_share : {A : Type 0} (m i c : ℕ) (xs : List A) → shares_from m i c xs ++ share m (i + c) xs ∷ [] ≡ shares_from m i (suc c) xs
+unfolding shares_from
+last_share m i zero xs = ap (λ n. share m n xs ∷ []) (omega arith)
+last_share m i (suc c) xs =
+    ap (λ y. share m i xs ∷ y) (ap (λ n. shares_from m (suc i) c xs ++ share m n xs ∷ []) (omega arith) ∙ last_share m (suc i) c xs)
+
+first_share : {A : Type 0} (m : ℕ) (x : A) (xs : List A) → 0 < m → front (shares m (x ∷ xs)) ≡ x ∷ share m (pred m) xs
+unfolding shares_from share
+first_share zero x xs lt = absurd (omega arith)
+first_share (suc c) x xs lt = refl
+
+turned_shares : {A : Type 0} (m : ℕ) (x : A) (xs : List A) → 0 < m → turned (shares m (x ∷ xs)) ≡ shares m xs
+unfolding shares_from share
+turned_shares zero x xs lt = absurd (omega arith)
+turned_shares (suc c) x xs lt = ap (λ y. y ++ share (suc c) c xs ∷ []) (later_shares (suc c) 0 c x xs) ∙ ap (λ n. shares_from (suc c) 0 c xs ++ share (suc c) n xs ∷ []) (omega arith) ∙ last_share (suc c) 0 c xs
+
+-- links that share a stream give it when they are asked in turn
+taken_in_turn : {P : Type 0} (m : ℕ) (xs : List (PlainMessage P)) → 0 < m → in_turn (length xs) (shares m xs) ≡ xs
+unfolding in_turn
+taken_in_turn m [] lt = refl
+taken_in_turn m (x ∷ xs) lt =
+    ap (λ ls. first ls ∷ in_turn (length xs) (turned (shares m (x ∷ xs)))) (first_share m x xs lt)
+    ∙ ap (λ ls. x ∷ in_turn (length xs) ls) (turned_shares m x xs lt)
+    ∙ ap (λ ys. x ∷ ys) (taken_in_turn m xs lt)
+
+pub came_all : (source : PlainSource) (n : ℕ) (xs : List (PlainMessage PlainApart)) → ComesFrom source xs → length xs ≡ n → xs ≡ coming_from n source
+came_all (FromBurst packets) n xs c l = sym c
+came_all (FromMergers inlets) n xs c l = sym (ap (λ ls. in_turn n ls) c.2 ∙ ap (λ i. in_turn i (shares c.0 xs)) (sym l) ∙ taken_in_turn c.0 xs c.1)
+
+-- lengths
+
+pub share_long : {A : Type 0} (m i : ℕ) (xs : List A) → length (share m i xs) ≡ share_len m i (length xs)
+unfolding share share_len
+share_long m i [] = refl
+share_long m zero (x ∷ xs) = ap suc (share_long m (pred m) xs)
+share_long m (suc i) (x ∷ xs) = share_long m i xs
+
+pub share_room : {A : Type 0} (m i count room : ℕ) (xs ys : List A) → ys ≡ share m i xs → length xs ≡ count → room ≡ share_len m i count → length ys ≤ room
+share_room m i count room xs ys e many r = omega (arith, ap length e, share_long m i xs, ap (share_len m i) many, r)
+
+-- a fan of links
+
+pub fan_none : {A : Type 0} (m : ℕ) (xs : List A) (ls : List (List A)) → ls ≡ [] → ls ≡ shares_from m 0 0 xs
+unfolding shares_from
+fan_none m xs ls e = e
+
+pub fan_more : {A : Type 0} (m i : ℕ) (xs x : List A) (ls more : List (List A)) → ls ≡ shares_from m 0 i xs → x ≡ share m i xs → more ≡ ls ++ x ∷ [] → more ≡ shares_from m 0 (i + 1) xs
+fan_more m i xs x ls more e is add =
+    add ∙ ap (λ y. y ++ x ∷ []) e ∙ ap (λ y. shares_from m 0 i xs ++ y ∷ []) (is ∙ ap (λ n. share m n xs) (omega arith)) ∙ last_share m 0 i xs ∙ ap (λ n. shares_from m 0 n xs) (omega arith)
+
+-- counting
+
+pub turn_now : (m : ℕ) → 0 < m → (n : ℕ) → share_len m 0 (suc n) ≡ 1 + share_len m (m - 1) n
+unfolding share_len
+turn_now m lt n =
+    let e : pred m ≡ m - 1 = omega arith in
+    let f : suc (share_len m (m - 1) n) ≡ 1 + share_len m (m - 1) n = omega arith in
+    ap (λ i. suc (share_len m i n)) e ∙ f
+
+pub turn_later : (m w : ℕ) → 0 < w → (n : ℕ) → share_len m w (suc n) ≡ 0 + share_len m (w - 1) n
+unfolding share_len
+turn_later m zero lt n = absurd (omega arith)
+turn_later m (suc w) lt n =
+    let e : w ≡ suc w - 1 = omega arith in
+    let f : share_len m (suc w - 1) n ≡ 0 + share_len m (suc w - 1) n = omega arith in
+    ap (λ i. share_len m i n) e ∙ f
+
+none_counted : (m i : ℕ) → share_len m i 0 ≡ 0
+unfolding share_len
+none_counted m i = refl
+
+pub all_counted : (m wait i count packet many : ℕ) → many + share_len m wait (count - packet) ≡ share_len m i count → count ≤ packet → many ≡ share_len m i count
+all_counted m wait i count packet many e le =
+    let z : count - packet ≡ 0 = omega arith in
+    omega (arith, e, ap (share_len m wait) z, none_counted m wait)

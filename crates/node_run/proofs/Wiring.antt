@@ -1,0 +1,410 @@
+-- The links of a stage fit each other.
+use Rattle.std.proofs.Common.{◌≡◌, ◌<◌, ◌≤◌, ◌+◌, ◌-◌, ◌∙◌, ℕ, zero, suc, pred, List, [], ◌∷◌, ◌++◌, length, map, drop, refl, arith, ap, sym, subst, false, All, append_assoc, slice_index_or}
+use Rattle.std.proofs.lemmas.List.{append-nil, drop_more, length-map}
+use Rattle.std.proofs.lemmas.List.Elements.{All-append, All-nil, All-cons}
+use Rattle.packet_fields.specs.declared.field.Field.{Field}
+use Rattle.action_profile.specs.declared.parts.Touch.{Touch}
+use Rattle.packet_version.specs.Splitting.{PlainApart}
+use Rattle.packet_version.specs.Versions.{PlainVersion}
+use Rattle.message_links.specs.Messages.{PlainMessage, Owing, first, rest, front}
+use Rattle.message_links.specs.Turns.{share, share_len, shares_from, shares}
+use Rattle.stage_nodes.specs.Streams.{Kit, PlainStage, parted, base_of, moved, joined, ran, left, came_from, stayed, merged_rows, passed, dealer_copies}
+use Rattle.stage_nodes.specs.Flows.{MayTakeAll, AllMayTake, Belongs, AllBelong, MayPass}
+use Rattle.stage_nodes.specs.Dues.{PlainSource, ComesFrom, DealerDue, BranchDue, MergerDue}
+use Rattle.stage_nodes.specs.declared.branch.Branch.{Branch}
+use Rattle.stage_nodes.specs.declared.dealer.Dealer.{Dealer}
+use Rattle.stage_nodes.specs.declared.merger.Merger.{Merger}
+use Rattle.node_run.specs.declared.branches.Branches.{Branches}
+use Rattle.node_run.specs.declared.node.Node.{Node}
+use Rattle.node_run.specs.declared.node.Node.TheVariants as node
+use Rattle.node_run.specs.Nodes.{AreNodes, added, coming_from, copies_by, copies_by_all, gather, is_ready, left_by, no_copies}
+use Rattle.node_run.specs.Wired.{AreWired, AreWiring, MergersFit, all_parted}
+use Rattle.node_run.proofs.Shares.{share_long}
+
+-- an iterator at its end has nothing left
+pub none_left : {A : Type 0} (n : ℕ) (xs : List A) → n ≡ 0 → length xs ≡ n → xs ≡ []
+none_left n [] z e = refl
+none_left n (x ∷ xs) z e = absurd (omega (arith, z, e))
+
+-- lengths
+
+pub ran_length : {F : Type 0} (k : Kit F) (f : F) (xs : List (PlainMessage PlainVersion)) → length (ran k f xs) ≡ length xs
+unfolding ran
+ran_length k f [] = refl
+ran_length k f (x ∷ xs) = ap suc (ran_length k (moved k f x) xs)
+
+merged_length : (bases : List (PlainMessage PlainApart)) (columns : List (List (PlainMessage PlainVersion))) → length (merged_rows bases columns) ≡ length bases
+unfolding merged_rows
+merged_length [] columns = refl
+merged_length (b ∷ bases) columns = ap suc (merged_length bases (map rest columns))
+
+pub passed_length : {F : Type 0} (k : Kit F) (s : PlainStage F) (xs : List (PlainMessage PlainApart)) → length (passed k s xs) ≡ length xs
+passed_length k s xs = merged_length (map (base_of s.parts.touches) xs) (came_from k s.parts.touches s.branches xs) ∙ length-map xs (base_of s.parts.touches)
+
+pub parted_many : (t : Touch) (count : ℕ) (xs : List (PlainMessage PlainApart)) (due : List (PlainMessage PlainVersion)) → due ≡ map (parted t) xs → length xs ≡ count → length due ≤ count
+parted_many t count xs due e many = omega (arith, ap length e, length-map xs (parted t), many)
+
+pub ran_many : {F : Type 0} (k : Kit F) (f : F) (t : Touch) (count : ℕ) (xs : List (PlainMessage PlainApart)) (due : List (PlainMessage PlainVersion)) → due ≡ ran k f (map (parted t) xs) → length xs ≡ count → length due ≡ count
+ran_many k f t count xs due e many = ap length e ∙ ran_length k f (map (parted t) xs) ∙ length-map xs (parted t) ∙ many
+
+pub base_many : (ts : List Touch) (count : ℕ) (xs due : List (PlainMessage PlainApart)) → due ≡ map (base_of ts) xs → length xs ≡ count → length due ≡ count
+base_many ts count xs due e many = ap length e ∙ length-map xs (base_of ts) ∙ many
+
+pub passed_many : {F : Type 0} (k : Kit F) (s : PlainStage F) (count : ℕ) (xs due : List (PlainMessage PlainApart)) → due ≡ passed k s xs → length xs ≡ count → length due ≡ count
+passed_many k s count xs due e many = ap length e ∙ passed_length k s xs ∙ many
+
+came_many : {F : Type 0} (k : Kit F) (touches : List Touch) (fs : List F) (xs : List (PlainMessage PlainApart)) → length fs ≡ length touches → length (came_from k touches fs xs) ≡ length touches
+unfolding came_from
+came_many k [] fs xs e = refl
+came_many k (t ∷ touches) [] xs e = absurd (omega (arith, e))
+came_many k (t ∷ touches) (f ∷ fs) xs e = ap suc (came_many k touches fs xs (omega (arith, e)))
+
+came_even : {F : Type 0} (k : Kit F) (touches : List Touch) (fs : List F) (xs : List (PlainMessage PlainApart)) (count : ℕ) → length xs ≡ count → All (λ column. length column ≡ count) (came_from k touches fs xs)
+unfolding came_from
+came_even k [] fs xs count e = All-nil _
+came_even k (t ∷ touches) [] xs count e = All-nil _
+came_even k (t ∷ touches) (f ∷ fs) xs count e =
+    All-cons (λ column. length column ≡ count) (ran k f (map (parted t) xs)) (came_from k touches fs xs)
+    (ran_length k f (map (parted t) xs) ∙ length-map xs (parted t) ∙ e)
+    (came_even k touches fs xs count e)
+
+-- gathering
+
+gather_append : {F : Type 0} (k : Kit F) (ns more : List (Node F)) → gather k (ns ++ more) ≡ gather k ns ++ gather k more
+unfolding gather
+gather_append k [] more = refl
+gather_append k (n ∷ ns) more = ap (added (left_by k n)) (gather_append k ns more) ∙ add n
+  where
+    add : (n : Node _) → added (left_by k n) (gather k ns ++ gather k more) ≡ added (left_by k n) (gather k ns) ++ gather k more
+    add (node.Dealer d) = refl
+    add (node.Branch b) = refl
+    add (node.Merger m) = refl
+
+copies_append : {F : Type 0} (f : Field) (ns more : List (Node F)) → copies_by_all f (ns ++ more) ≡ copies_by_all f ns + copies_by_all f more
+unfolding copies_by_all
+copies_append f [] more = omega arith
+copies_append f (n ∷ ns) more = omega (arith, copies_append f ns more)
+
+pub no_nodes : {F : Type 0} (k : Kit F) (may : F → ℕ → PlainVersion → Type 0) (nodes : List (Node F)) → nodes ≡ [] → AreNodes k may nodes [] no_copies
+unfolding gather copies_by_all
+no_nodes k may nodes n = record {
+  ready = subst (All (is_ready k may)) (sym n) (All-nil (is_ready k may));
+  gives = ap (gather k) n;
+  makes = λ f. ap (copies_by_all f) n;
+}
+
+one_node : {F : Type 0} (k : Kit F) (may : F → ℕ → PlainVersion → Type 0) (n : Node F) → is_ready k may n → AreNodes k may (n ∷ []) (added (left_by k n) []) (λ f. copies_by f n)
+unfolding gather copies_by_all
+one_node k may n r = record {
+  ready = All-cons (is_ready k may) n [] r (All-nil (is_ready k may));
+  gives = refl;
+  makes = λ f. omega arith;
+}
+
+nodes_append : {F : Type 0} (k : Kit F) (may : F → ℕ → PlainVersion → Type 0) (ns more : List (Node F)) (fs gs : List F) (c d : Field → ℕ)
+    → AreNodes k may ns fs c → AreNodes k may more gs d → AreNodes k may (ns ++ more) (fs ++ gs) (λ f. c f + d f)
+nodes_append k may ns more fs gs c d a b = record {
+  ready = All-append (is_ready k may) ns more a.ready b.ready;
+  gives = gather_append k ns more ∙ ap (λ y. y ++ gather k more) a.gives ∙ ap (λ y. fs ++ y) b.gives;
+  makes = λ f. omega (arith, copies_append f ns more, a.makes f, b.makes f);
+}
+
+pub nodes_are : {F : Type 0} (k : Kit F) (may : F → ℕ → PlainVersion → Type 0) (ns new : List (Node F)) (fs gs : List F) (c d : Field → ℕ)
+    → AreNodes k may ns fs c → new ≡ ns → gs ≡ fs → ((f : Field) → d f ≡ c f) → AreNodes k may new gs d
+nodes_are k may ns new fs gs c d a n g e = record {
+  ready = subst (All (is_ready k may)) (sym n) a.ready;
+  gives = ap (gather k) n ∙ a.gives ∙ sym g;
+  makes = λ f. ap (copies_by_all f) n ∙ a.makes f ∙ sym (e f);
+}
+
+nodes_push : {F : Type 0} (k : Kit F) (may : F → ℕ → PlainVersion → Type 0) (ns new : List (Node F)) (n : Node F) (fs : List F) (c : Field → ℕ)
+    → new ≡ ns ++ n ∷ [] → is_ready k may n → AreNodes k may ns fs c → AreNodes k may new (fs ++ added (left_by k n) []) (λ f. c f + copies_by f n)
+nodes_push k may ns new n fs c e r a =
+    nodes_are k may (ns ++ n ∷ []) new _ _ _ _ (nodes_append k may ns (n ∷ []) fs (added (left_by k n) []) c (λ f. copies_by f n) a (one_node k may n r)) e refl (λ f. refl)
+
+-- a branch
+
+branch_ready : {F : Type 0} (k : Kit F) (may : F → ℕ → PlainVersion → Type 0) (m count : ℕ) (f : F) (xs inlet : List (PlainMessage PlainVersion)) (outlets : List (List (PlainMessage PlainVersion)))
+    → 0 < m → length xs ≡ count → MayTakeAll k may f 0 xs → inlet ≡ xs → outlets ≡ shares m (ran k f xs) → BranchDue k may 0 count (left k f inlet) false f inlet outlets
+branch_ready k may m count f xs inlet outlets lt many take i o = record {
+  mergers = m;
+  now = f;
+  some = lt;
+  many = ap length i ∙ many;
+  take = subst (MayTakeAll k may f 0) (sym i) take;
+  gives = o ∙ ap (λ y. shares m (ran k f y)) (sym i);
+  same = λ _. refl;
+  ends = refl;
+}
+
+pub branch_added : {F : Type 0} (k : Kit F) (may : F → ℕ → PlainVersion → Type 0) (m count : ℕ) (t : Touch) (xs : List (PlainMessage PlainApart)) (b : Branch F) (old new : List (Node F)) (fs : List F) (c : Field → ℕ)
+    → 0 < m → length xs ≡ count → MayTakeAll k may b.work 0 (map (parted t) xs) → b.inlet ≡ map (parted t) xs → b.outlets ≡ shares m (ran k b.work (map (parted t) xs)) → b.count ≡ count
+    → new ≡ old ++ node.Branch b ∷ [] → AreNodes k may old fs c → AreNodes k may new (fs ++ left k b.work (map (parted t) xs) ∷ []) c
+branch_added k may m count t xs b old new fs c lt many take i o e n a =
+    let due : BranchDue k may 0 count (left k b.work b.inlet) false b.work b.inlet b.outlets =
+    branch_ready k may m count b.work (map (parted t) xs) b.inlet b.outlets lt (length-map xs (parted t) ∙ many) take i o in
+    let r : is_ready k may (node.Branch b) = subst (λ y. BranchDue k may 0 y (left k b.work b.inlet) false b.work b.inlet b.outlets) (sym e) due in
+    nodes_are k may new new _ _ _ _ (nodes_push k may old new (node.Branch b) fs c n r a) refl (ap (λ y. fs ++ left k b.work y ∷ []) (sym i)) (λ f. omega arith)
+
+-- the branches of a stage
+
+pub none_wired : {F : Type 0} (k : Kit F) (may : F → ℕ → PlainVersion → Type 0) (touches : List Touch) (fs : List F) (m : ℕ) (xs : List (PlainMessage PlainApart)) (todo : List F) (w : Branches F)
+    → todo ≡ fs → length fs ≡ length touches → AllMayTake k may touches fs xs → w.versions ≡ [] → w.rows.items ≡ [] → w.nodes.items ≡ [] → AreWiring k may touches fs m xs 0 todo w
+none_wired k may touches fs m xs todo w t owners take v r n = record {
+  many = omega (arith, ap length t, owners);
+  versions = ap (λ y. y ++ all_parted touches xs) v;
+  rows = ap (λ y. y ++ map (shares m) (came_from k touches todo xs)) r ∙ ap (λ y. map (shares m) (came_from k touches y xs)) t;
+  take = subst (λ y. AllMayTake k may touches y xs) (sym t) take;
+  functions = [];
+  nodes = no_nodes k may w.nodes.items n;
+  gives = ap (λ y. stayed k touches y xs) t;
+}
+
+pub is_next : {F : Type 0} (k : Kit F) (may : F → ℕ → PlainVersion → Type 0) (touches : List Touch) (fs : List F) (m : ℕ) (xs : List (PlainMessage PlainApart)) (j : ℕ) (was todo : List F) (f : F) (w : Branches F)
+    → AreWiring k may touches fs m xs j was w → was ≡ f ∷ todo → j < length touches
+is_next k may touches fs m xs j was todo f w h t = omega (arith, h.many, ap length t)
+
+pub touch_next : {F : Type 0} (k : Kit F) (may : F → ℕ → PlainVersion → Type 0) (touches : List Touch) (fs : List F) (m : ℕ) (xs : List (PlainMessage PlainApart)) (j : ℕ) (was todo : List F) (f : F) (none : Touch) (w : Branches F)
+    → AreWiring k may touches fs m xs j was w → was ≡ f ∷ todo → drop j touches ≡ slice_index_or touches j none ∷ drop (j + 1) touches
+touch_next k may touches fs m xs j was todo f none w h t = drop_more touches j none (is_next k may touches fs m xs j was todo f w h t)
+
+pub take_next : {F : Type 0} (k : Kit F) (may : F → ℕ → PlainVersion → Type 0) (touches : List Touch) (fs : List F) (m : ℕ) (xs : List (PlainMessage PlainApart)) (j : ℕ) (was todo : List F) (f : F) (touch : Touch) (w : Branches F)
+    → AreWiring k may touches fs m xs j was w → was ≡ f ∷ todo → drop j touches ≡ touch ∷ drop (j + 1) touches
+    → MayTakeAll k may f 0 (map (parted touch) xs) × AllMayTake k may (drop (j + 1) touches) todo xs
+unfolding AllMayTake
+take_next k may touches fs m xs j was todo f touch w h t d =
+    let a : AllMayTake k may (drop j touches) (f ∷ todo) xs = subst (λ y. AllMayTake k may (drop j touches) y xs) t h.take in
+    let b : AllMayTake k may (touch ∷ drop (j + 1) touches) (f ∷ todo) xs = subst (λ y. AllMayTake k may y (f ∷ todo) xs) d a in
+    b
+
+pub wired_more : {F : Type 0} (k : Kit F) (may : F → ℕ → PlainVersion → Type 0) (touches : List Touch) (fs : List F) (m : ℕ) (xs : List (PlainMessage PlainApart)) (j : ℕ) (was todo : List F) (f : F) (touch : Touch) (w new : Branches F)
+    → AreWiring k may touches fs m xs j was w → was ≡ f ∷ todo → drop j touches ≡ touch ∷ drop (j + 1) touches
+    → new.versions ≡ w.versions ++ map (parted touch) xs ∷ []
+    → new.rows.items ≡ w.rows.items ++ shares m (ran k f (map (parted touch) xs)) ∷ []
+    → ((gs : List F) (c : Field → ℕ) → AreNodes k may w.nodes.items gs c → AreNodes k may new.nodes.items (gs ++ left k f (map (parted touch) xs) ∷ []) c)
+    → AreWiring k may touches fs m xs (j + 1) todo new
+unfolding came_from stayed
+wired_more k may touches fs m xs j was todo f touch w new h t d v r n = record {
+  many = omega (arith, h.many, ap length t);
+  versions = ap (λ y. y ++ all_parted (drop (j + 1) touches) xs) v
+      ∙ append_assoc w.versions (map (parted touch) xs ∷ []) (all_parted (drop (j + 1) touches) xs)
+      ∙ ap (λ y. w.versions ++ all_parted y xs) (sym d)
+      ∙ h.versions;
+  rows = ap (λ y. y ++ map (shares m) (came_from k (drop (j + 1) touches) todo xs)) r
+      ∙ append_assoc w.rows.items (shares m (ran k f (map (parted touch) xs)) ∷ []) (map (shares m) (came_from k (drop (j + 1) touches) todo xs))
+      ∙ ap (λ y. w.rows.items ++ map (shares m) (came_from k (touch ∷ drop (j + 1) touches) y xs)) (sym t)
+      ∙ ap (λ y. w.rows.items ++ map (shares m) (came_from k y was xs)) (sym d)
+      ∙ h.rows;
+  take = (take_next k may touches fs m xs j was todo f touch w h t d).1;
+  functions = h.functions ++ left k f (map (parted touch) xs) ∷ [];
+  nodes = n h.functions no_copies h.nodes;
+  gives = append_assoc h.functions (left k f (map (parted touch) xs) ∷ []) (stayed k (drop (j + 1) touches) todo xs)
+      ∙ ap (λ y. h.functions ++ stayed k (touch ∷ drop (j + 1) touches) y xs) (sym t)
+      ∙ ap (λ y. h.functions ++ stayed k y was xs) (sym d)
+      ∙ h.gives;
+}
+
+drop_none : {A : Type 0} (n : ℕ) (xs : List A) → length xs ≤ n → drop n xs ≡ []
+drop_none zero [] le = refl
+drop_none zero (x ∷ xs) le = absurd (omega arith)
+drop_none (suc n) [] le = refl
+drop_none (suc n) (x ∷ xs) le = drop_none n xs (omega arith)
+
+pub all_wired : {F : Type 0} (k : Kit F) (may : F → ℕ → PlainVersion → Type 0) (touches : List Touch) (fs : List F) (m : ℕ) (xs : List (PlainMessage PlainApart)) (j : ℕ) (todo : List F) (w : Branches F)
+    → AreWiring k may touches fs m xs j todo w → todo ≡ [] → AreWired k may touches fs m xs w
+unfolding came_from stayed
+all_wired k may touches fs m xs j todo w h t =
+    let none : drop j touches ≡ [] = drop_none j touches (omega (arith, h.many, ap length t)) in record {
+      versions = sym (append-nil w.versions) ∙ ap (λ y. w.versions ++ all_parted y xs) (sym none) ∙ h.versions;
+      rows = sym (append-nil w.rows.items) ∙ ap (λ y. w.rows.items ++ map (shares m) (came_from k y todo xs)) (sym none) ∙ h.rows;
+      nodes = nodes_are k may w.nodes.items w.nodes.items h.functions (stayed k touches fs xs) no_copies no_copies h.nodes refl
+          (sym (sym (append-nil h.functions) ∙ ap (λ y. h.functions ++ stayed k y todo xs) (sym none) ∙ h.gives)) (λ f. refl);
+    }
+
+pub wired_by : {F : Type 0} (k : Kit F) (may : F → ℕ → PlainVersion → Type 0) (touches touches' : List Touch) (fs : List F) (m : ℕ) (xs : List (PlainMessage PlainApart)) (w : Branches F)
+    → AreWired k may touches fs m xs w → touches ≡ touches' → AreWired k may touches' fs m xs w
+wired_by k may touches touches' fs m xs w h e = subst (λ y. AreWired k may y fs m xs w) e h
+
+-- the mergers
+
+share_first : {P : Type 0} (m : ℕ) (columns : List (List (PlainMessage P))) → map first (map (share m 0) columns) ≡ map first columns
+unfolding share
+share_first m [] = refl
+share_first m ([] ∷ columns) = ap (λ y. first [] ∷ y) (share_first m columns)
+share_first m ((x ∷ c) ∷ columns) = ap (λ y. x ∷ y) (share_first m columns)
+
+share_next : {P : Type 0} (m : ℕ) (columns : List (List (PlainMessage P))) → map rest (map (share m 0) columns) ≡ map (share m (pred m)) (map rest columns)
+unfolding share
+share_next m [] = refl
+share_next m ([] ∷ columns) = ap (λ y. [] ∷ y) (share_next m columns)
+share_next m ((x ∷ c) ∷ columns) = ap (λ y. share m (pred m) c ∷ y) (share_next m columns)
+
+share_later : {P : Type 0} (m i : ℕ) (columns : List (List (PlainMessage P))) → map (share m (suc i)) columns ≡ map (share m i) (map rest columns)
+unfolding share
+share_later m i [] = refl
+share_later m i ([] ∷ columns) = ap (λ y. [] ∷ y) (share_later m i columns)
+share_later m i ((x ∷ c) ∷ columns) = ap (λ y. share m i c ∷ y) (share_later m i columns)
+
+-- a merger's share of what is merged is what it merges of its shares
+share_merged : (m i : ℕ) (bases : List (PlainMessage PlainApart)) (columns : List (List (PlainMessage PlainVersion))) → share m i (merged_rows bases columns) ≡ merged_rows (share m i bases) (map (share m i) columns)
+unfolding share merged_rows
+share_merged m i [] columns = refl
+share_merged m zero (b ∷ bases) columns =
+    ap (λ y. joined b y ∷ share m (pred m) (merged_rows bases (map rest columns))) (sym (share_first m columns))
+    ∙ ap (λ y. joined b (map first (map (share m 0) columns)) ∷ y) (share_merged m (pred m) bases (map rest columns) ∙ ap (merged_rows (share m (pred m) bases)) (sym (share_next m columns)))
+share_merged m (suc i) (b ∷ bases) columns = share_merged m i bases (map rest columns) ∙ ap (merged_rows (share m i bases)) (sym (share_later m i columns))
+
+-- and what belongs together does so in each share
+share_belong : (m i : ℕ) (bases : List (PlainMessage PlainApart)) (columns : List (List (PlainMessage PlainVersion))) → AllBelong bases columns → AllBelong (share m i bases) (map (share m i) columns)
+unfolding share AllBelong
+share_belong m i [] columns h = tt
+share_belong m zero (b ∷ bases) columns h = (
+  subst (λ y. Belongs b y) (sym (share_first m columns)) h.0,
+  subst (λ y. AllBelong (share m (pred m) bases) y) (sym (share_next m columns)) (share_belong m (pred m) bases (map rest columns) h.1),
+)
+share_belong m (suc i) (b ∷ bases) columns h = subst (λ y. AllBelong (share m i bases) y) (sym (share_later m i columns)) (share_belong m i bases (map rest columns) h.1)
+
+all_tail : {A : Type 0} (R : A → Type 0) (x : A) (xs : List A) → All R (x ∷ xs) → All R xs
+all_tail R x xs h k d lt = h (suc k) d (omega arith)
+
+all_head : {A : Type 0} (R : A → Type 0) (x : A) (xs : List A) → All R (x ∷ xs) → R x
+all_head R x xs h = h 0 x (omega arith)
+
+share_even : {P : Type 0} (m i count own : ℕ) (columns : List (List (PlainMessage P))) → own ≡ share_len m i count → All (λ column. length column ≡ count) columns → All (λ column. length column ≡ own) (map (share m i) columns)
+share_even m i count own [] w a = All-nil _
+share_even m i count own (c ∷ columns) w a =
+    All-cons (λ column. length column ≡ own) (share m i c) (map (share m i) columns)
+    (share_long m i c ∙ ap (share_len m i) (all_head (λ column. length column ≡ count) c columns a) ∙ sym w)
+    (share_even m i count own columns w (all_tail (λ column. length column ≡ count) c columns a))
+
+rows_owing : {A : Type 0} (m i c : ℕ) (columns : List (List A)) → All Owing (map (shares_from m i (suc c)) columns)
+unfolding shares_from
+rows_owing m i c [] = All-nil Owing
+rows_owing m i c (x ∷ columns) =
+    let here : Owing (shares_from m i (suc c) x) = omega arith in
+    All-cons Owing (shares_from m i (suc c) x) (map (shares_from m i (suc c)) columns) here (rows_owing m i c columns)
+
+rows_front : {A : Type 0} (m i c : ℕ) (columns : List (List A)) → map front (map (shares_from m i (suc c)) columns) ≡ map (share m i) columns
+unfolding shares_from
+rows_front m i c [] = refl
+rows_front m i c (x ∷ columns) = ap (λ y. share m i x ∷ y) (rows_front m i c columns)
+
+rows_rest : {A : Type 0} (m i c : ℕ) (columns : List (List A)) → map rest (map (shares_from m i (suc c)) columns) ≡ map (shares_from m (suc i) c) columns
+unfolding shares_from
+rows_rest m i c [] = refl
+rows_rest m i c (x ∷ columns) = ap (λ y. shares_from m (suc i) c x ∷ y) (rows_rest m i c columns)
+
+-- one merger's ends, and those of the others
+pub record MergerNext (m i c count : ℕ) (bases : List (List (PlainMessage PlainApart))) (rows : List (List (List (PlainMessage PlainVersion)))) (outlets : List (List (PlainMessage PlainApart))) : Type 0 where
+  pub base_some : 0 < length bases
+  pub outlet_some : 0 < length outlets
+  pub rows_some : All Owing rows
+  pub due : (base outlet : List (PlainMessage PlainApart)) (bases' outlets' : List (List (PlainMessage PlainApart))) (inlets : List (List (PlainMessage PlainVersion))) (own : ℕ)
+      → bases ≡ base ∷ bases' → outlets ≡ outlet ∷ outlets' → inlets ≡ map front rows → own ≡ share_len m i count → MergerDue own base inlets outlet
+  pub on : (base outlet : List (PlainMessage PlainApart)) (bases' outlets' : List (List (PlainMessage PlainApart))) (rows' : List (List (List (PlainMessage PlainVersion))))
+      → bases ≡ base ∷ bases' → outlets ≡ outlet ∷ outlets' → rows' ≡ map rest rows → MergersFit m (i + 1) c count bases' rows' outlets'
+
+tail_is : {A : Type 0} {x y : A} {xs ys : List A} → ◌≡◌ {A = List A} (x ∷ xs) (y ∷ ys) → (x ≡ y) × (xs ≡ ys)
+tail_is e = (cc, cc)
+
+next_of : (m i c count : ℕ) (bases : List (List (PlainMessage PlainApart))) (rows : List (List (List (PlainMessage PlainVersion)))) (outlets : List (List (PlainMessage PlainApart)))
+    → MergersFit m i (suc c) count bases rows outlets → MergerNext m i c count bases rows outlets
+unfolding shares_from
+next_of m i c count bases rows outlets h =
+    let up : suc i ≡ i + 1 = omega arith in record {
+      base_some = omega (arith, ap length h.takes);
+      outlet_some = omega (arith, ap length h.gives);
+      rows_some = subst (All Owing) (sym h.rows_are) (rows_owing m i c h.columns);
+      due = λ base outlet bases' outlets' inlets own b o n w.
+          let b' = tail_is (sym b ∙ h.takes) in
+          let o' = tail_is (sym o ∙ h.gives) in
+          let columns : inlets ≡ map (share m i) h.columns = n ∙ ap (map front) h.rows_are ∙ rows_front m i c h.columns in record {
+            many = ap length b'.0 ∙ share_long m i h.coming ∙ ap (share_len m i) h.many ∙ sym w;
+            some = omega (arith, ap length columns, length-map h.columns (share m i), h.some);
+            few = omega (arith, ap length columns, length-map h.columns (share m i), h.few);
+            even = subst (All (λ column. length column ≡ own)) (sym columns) (share_even m i count own h.columns w h.even);
+            belong = subst (λ y. AllBelong base y) (sym columns) (subst (λ y. AllBelong y (map (share m i) h.columns)) (sym b'.0) (share_belong m i h.coming h.columns h.belong));
+            gives = o'.0 ∙ share_merged m i h.coming h.columns ∙ ap (λ y. merged_rows y (map (share m i) h.columns)) (sym b'.0) ∙ ap (merged_rows base) (sym columns);
+          };
+      on = λ base outlet bases' outlets' rows' b o r.
+          let b' = tail_is (sym b ∙ h.takes) in
+          let o' = tail_is (sym o ∙ h.gives) in record {
+            coming = h.coming;
+            columns = h.columns;
+            many = h.many;
+            some = h.some;
+            few = h.few;
+            even = h.even;
+            belong = h.belong;
+            takes = b'.1 ∙ ap (λ n. shares_from m n c h.coming) up;
+            rows_are = r ∙ ap (map rest) h.rows_are ∙ rows_rest m i c h.columns ∙ ap (λ n. map (shares_from m n c) h.columns) up;
+            gives = o'.1 ∙ ap (λ n. shares_from m n c (merged_rows h.coming h.columns)) up;
+          };
+    }
+
+pub merger_next : (m i count : ℕ) (bases : List (List (PlainMessage PlainApart))) (rows : List (List (List (PlainMessage PlainVersion)))) (outlets : List (List (PlainMessage PlainApart)))
+    → i < m → MergersFit m i (m - i) count bases rows outlets → MergerNext m i (m - (i + 1)) count bases rows outlets
+merger_next m i count bases rows outlets lt h =
+    let e : m - i ≡ suc (m - (i + 1)) = omega arith in
+    next_of m i (m - (i + 1)) count bases rows outlets (subst (λ c. MergersFit m i c count bases rows outlets) e h)
+
+pub merger_added : {F : Type 0} (k : Kit F) (may : F → ℕ → PlainVersion → Type 0) (m : Merger) (old new : List (Node F)) (fs : List F) (c : Field → ℕ)
+    → MergerDue m.count m.base m.inlets m.outlet → new ≡ old ++ node.Merger m ∷ [] → AreNodes k may old fs c → AreNodes k may new fs c
+merger_added k may m old new fs c due n a =
+    nodes_are k may new new _ _ _ _ (nodes_push k may old new (node.Merger m) fs c n due a) refl (sym (append-nil fs)) (λ f. omega arith)
+
+-- the whole stage
+
+pub mergers_fit : {F : Type 0} (k : Kit F) (may : F → ℕ → PlainVersion → Type 0) (m count : ℕ) (s : PlainStage F) (xs : List (PlainMessage PlainApart)) (bases outlets : List (List (PlainMessage PlainApart))) (w : Branches F)
+    → MayPass k may s xs → length xs ≡ count → bases ≡ shares m (map (base_of s.parts.touches) xs) → outlets ≡ shares m (passed k s xs) → AreWired k may s.parts.touches s.branches m xs w
+    → MergersFit m 0 m count bases w.rows.items outlets
+mergers_fit k may m count s xs bases outlets w p many b o h =
+    let long : length (came_from k s.parts.touches s.branches xs) ≡ length s.parts.touches = came_many k s.parts.touches s.branches xs p.owners in record {
+      coming = map (base_of s.parts.touches) xs;
+      columns = came_from k s.parts.touches s.branches xs;
+      many = length-map xs (base_of s.parts.touches) ∙ many;
+      some = omega (arith, long, p.some);
+      few = omega (arith, long, p.few);
+      even = came_even k s.parts.touches s.branches xs count many;
+      belong = p.belong;
+      takes = b;
+      rows_are = h.rows;
+      gives = o;
+    }
+
+dealer_ready : {F : Type 0} (k : Kit F) (may : F → ℕ → PlainVersion → Type 0) (m count : ℕ) (s : PlainStage F) (xs : List (PlainMessage PlainApart)) (source : PlainSource) (bases : List (List (PlainMessage PlainApart))) (w : Branches F)
+    → MayPass k may s xs → 0 < m → length xs ≡ count → ComesFrom source xs → bases ≡ shares m (map (base_of s.parts.touches) xs) → AreWired k may s.parts.touches s.branches m xs w
+    → DealerDue s.parts count xs source w.versions bases
+dealer_ready k may m count s xs source bases w p lt many c b h = record {
+  mergers = m;
+  some = lt;
+  modes = p.modes;
+  branches = p.some;
+  few = p.few;
+  many = many;
+  takes = c;
+  gives = h.versions;
+  gives_bases = b;
+}
+
+pub stage_added : {F : Type 0} (k : Kit F) (may : F → ℕ → PlainVersion → Type 0) (m count : ℕ) (s : PlainStage F) (xs : List (PlainMessage PlainApart)) (d : Dealer) (w : Branches F) (old one two new : List (Node F)) (fs : List F) (c : Field → ℕ)
+    → MayPass k may s xs → 0 < m → length xs ≡ count → ComesFrom d.source xs → xs ≡ coming_from count d.source
+    → d.parts ≡ s.parts → d.count ≡ count → d.versions ≡ w.versions → d.bases ≡ shares m (map (base_of s.parts.touches) xs)
+    → AreWired k may s.parts.touches s.branches m xs w
+    → one ≡ old ++ node.Dealer d ∷ [] → two ≡ one ++ w.nodes.items
+    → ((gs : List F) (e : Field → ℕ) → AreNodes k may two gs e → AreNodes k may new gs e)
+    → AreNodes k may old fs c → AreNodes k may new (fs ++ stayed k s.parts.touches s.branches xs) (λ f. c f + dealer_copies s.parts.touches xs f)
+stage_added {F} k may m count s xs d w old one two new fs c p lt many takes come parts n v b h a e mergers nodes =
+    let due = dealer_ready k may m count s xs d.source d.bases w p lt many takes b h in
+    let come' : xs ≡ coming_from d.count d.source = come ∙ ap (λ y. coming_from y d.source) (sym n) in
+    let r : is_ready k may (node.Dealer d) =
+    subst (λ y. DealerDue y d.count (coming_from d.count d.source) d.source d.versions d.bases) (sym parts)
+    (subst (λ y. DealerDue s.parts d.count (coming_from d.count d.source) d.source y d.bases) (sym v)
+    (subst (λ y. DealerDue s.parts d.count y d.source w.versions d.bases) come'
+    (subst (λ y. DealerDue s.parts y xs d.source w.versions d.bases) (sym n) due))) in
+    let pushed = nodes_push k may old one (node.Dealer d) fs c a r nodes in
+    let joined = nodes_append k may one w.nodes.items _ (stayed k s.parts.touches s.branches xs) _ no_copies pushed h.nodes in
+    mergers (fs ++ stayed k s.parts.touches s.branches xs) (λ f. c f + dealer_copies s.parts.touches xs f)
+    (nodes_are k may (one ++ w.nodes.items) two _ (fs ++ stayed k s.parts.touches s.branches xs) _ (λ f. c f + dealer_copies s.parts.touches xs f) joined e
+    (ap (λ y. y ++ stayed k s.parts.touches s.branches xs) (sym (append-nil fs)))
+    (λ f. let q : dealer_copies s.parts.touches xs f ≡ copies_by {F = F} f (node.Dealer d) = ap (λ y. dealer_copies s.parts.touches y f) come' ∙ ap (λ y. dealer_copies y.touches (coming_from d.count d.source) f) (sym parts) in omega (arith, q)))

@@ -1,0 +1,16 @@
+use Rattle.std.proofs.Common.{sym}
+use Rattle.node_run.specs.Nodes.{is_ready}
+use Rattle.node_run.specs.Starts.{node_of}
+use Rattle.node_run.proofs.Wiring.{none_left}
+use Rattle.node_run.proofs.Running.{started_none, started_more, started_all}
+use Rattle.node_run.proofs.run.start_all.Goals as goal
+
+pub loop-node-init : goal.loop-node-init
+loop-node-init g c = (tt, tt, started_none node_of (is_ready g.F.BranchWork.kit g.F.BranchWork.may) _ _ _ _ c.into_iter-node-iterator.ensures.into_iter_gives.0 c.requires.empty c.requires.ready c.requires.room)
+
+pub loop-node-preserved : goal.loop-node-preserved
+loop-node-preserved g c =
+    (tt, tt, started_more node_of (is_ready g.F.BranchWork.kit g.F.BranchWork.may) _ _ _ _ _ c.in-Some.node c.start.result _ _ c.loop-node.invariant.2 c.in-Some.ensures.steps.0 c.start.ensures c.push_reserved.ensures.items c.push_reserved.ensures.capacity)
+
+pub returns : goal.returns
+returns g c = started_all node_of (is_ready g.F.BranchWork.kit g.F.BranchWork.may) _ _ _ _ c.loop-node.invariant.2 (none_left _ _ c.in-None.ensures.steps.0 (sym c.loop-node.node-iterator.rest.ok.0))

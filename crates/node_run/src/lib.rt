@@ -1,0 +1,41 @@
+//! A burst through stages whose nodes run side by side.
+//!
+//! [`run_nodes`] leads a burst of packets through the stages of a graph. In each stage a dealer takes the
+//! packets in their order and deals each to the branches; a branch leads every version that it is dealt
+//! through its functions; and the mergers put together what comes of a packet from all branches, merger i of
+//! m the packets i, i + m, i + 2m and so on. Dealers, branches and mergers are the nodes of `stage_nodes`. Each
+//! runs on a thread of its own where one can be started; else the caller runs it at once, to its end, and goes
+//! on with the next.
+//!
+//! Who waits for whom: a branch waits for its dealer, a merger for the dealer and the branches of its stage, a
+//! dealer for the mergers of the stage before, and the caller for the mergers of the last stage. The first
+//! dealer has the burst itself. Nobody waits for room, since all links are made before the first node starts,
+//! with room for all that is due on them ([`message_links`]); so a node can be run before those that take from
+//! it, and nodes are started in the order in which packets come to them.
+//!
+//! What is promised, over all interleavings: what comes of the packets is what the stages make of them one
+//! after another (`through` of `stage_nodes`' definitions), each branch's functions are those after all its
+//! versions (`ends_of`), and the tally has the copies that the dealers made (`copies_along`). Neither the
+//! number of mergers nor the number of threads shows in any of it. Where memory is short anywhere, the whole
+//! burst is refused, and nothing is said of the functions. All threads are joined on every way out.
+//!
+//! How it is laid out: `fans` makes the links by which a stream is shared in turn, `branches`, `mergers` and
+//! `wire` the nodes of a stage, `start` starts and joins a node, `collect` takes what comes behind the last
+//! stage, and `run` puts it all together.
+//!
+//! What is left out: that a call which waits ever returns, and so that a run ends.
+#![tactic(auto)]
+
+mod branches;
+mod collect;
+mod ended;
+mod fans;
+mod mergers;
+mod node;
+mod run;
+mod stage;
+mod start;
+mod wire;
+
+pub use run::run_nodes;
+pub use stage::StageWork;

@@ -1,0 +1,75 @@
+//! A node of any kind.
+ghost use Rattle.node_run.specs.Nodes.{Keeps, is_ready};
+
+use nfp_outside::Gate;
+use packet_version::Tally;
+use stage_nodes::{Branch, BranchWork, Dealer, Merger, run_branch, run_dealer, run_merger};
+use std::alloc::Global;
+use std::snapshot::Snapshot;
+use std::sync::Wait;
+use std::thread::Promise;
+
+/// A dealer, a branch or a merger, with its ends of links.
+#[derive(Drop)]
+pub(crate) enum Node<F> {
+    Dealer(Dealer),
+    Branch(Branch<F>),
+    Merger(Merger),
+}
+
+/// What a node gives back: a branch its functions, a dealer the copies that it made, and each whether it
+/// found that memory was short. A merger says so of the packets that it gives.
+#[derive(Drop)]
+pub(crate) struct Done<F> {
+    pub(crate) function: Option<F>,
+    pub(crate) tally: Tally,
+    pub(crate) short: bool,
+}
+
+/// Runs a node to its end.
+pub(crate) fn run_node<F: BranchWork, R: Wait, G: Gate>(
+    rt: &R,
+    alloc: Global,
+    gate: &G,
+    node: Node<F>,
+) -> Done<F>
+    requires { is_ready F.kit F.may node }
+    ensures { Keeps F.kit node result }
+{
+    match node {
+        Node::Dealer(dealer) => {
+            let (tally, short) = run_dealer(rt, alloc, dealer);
+            Done {
+                function: None,
+                tally,
+                short,
+            }
+        }
+        Node::Branch(branch) => {
+            let (function, short) = run_branch(rt, alloc, gate, branch);
+            Done {
+                function: Some(function),
+                tally: Tally::new(),
+                short,
+            }
+        }
+        Node::Merger(merger) => {
+            run_merger(rt, alloc, merger);
+            Done {
+                function: None,
+                tally: Tally::new(),
+                short: false,
+            }
+        }
+    }
+}
+
+/// That a node gives back what is due, unless memory was short.
+#[derive(Drop)]
+pub(crate) struct Due<F>(pub(crate) Snapshot<Node<F>>);
+
+impl<F: BranchWork> Promise<Done<F>> for Due<F> {
+    ghost use Rattle.node_run.specs.Nodes.{Keeps};
+
+    ghost kept_by = { λ p r. Keeps F.kit p.0.value r };
+}

@@ -1,0 +1,93 @@
+//! The links of a stage, and the nodes at their ends.
+ghost use Rattle.std.specs.Prelude.{◌≡◌, ◌+◌, ◌<◌, ◌++◌, ℕ, List, length, map, IfOk, OnOk};
+ghost use Rattle.packet_fields.specs.declared.field.Field.{Field};
+ghost use Rattle.message_links.specs.Turns.{shares};
+ghost use Rattle.stage_nodes.specs.Streams.{base_of, dealer_copies, passed, stayed};
+ghost use Rattle.stage_nodes.specs.Flows.{MayPass};
+ghost use Rattle.stage_nodes.specs.Dues.{ComesFrom};
+ghost use Rattle.node_run.specs.Nodes.{AreNodes, coming_from};
+ghost use Rattle.node_run.specs.Stages.{plain_stage};
+
+use crate::branches::{Branches, wire_branches};
+use crate::fans::fan;
+use crate::mergers::wire_mergers;
+use crate::node::Node;
+use crate::stage::StageWork;
+use action_profile::StageParts;
+use message_links::{Inlets, Outlets, Parcel};
+use packet_version::{Apart, Base};
+use ruled_links::LinkDue;
+use stage_nodes::{BranchWork, Dealer, Source};
+use std::alloc::{AllocError, Global};
+use std::marker::Brand;
+
+/// The nodes of a stage, to which so many packets come from the source; gives the inlets from its mergers.
+pub(crate) fn wire_stage<F: BranchWork + Drop, D: LinkDue<Parcel<Apart>>>(
+    alloc: Global,
+    work: StageWork<F>,
+    source: Source,
+    mergers: u32,
+    count: u32,
+    nodes: &mut Vec<Node<F>>,
+) -> Result<Inlets<Apart>, AllocError>
+    requires due { D.due ≡ coming_from count source }
+    requires takes { ComesFrom source D.due }
+    requires some { 0 < mergers }
+    requires few { count < 65537 }
+    requires many { length D.due ≡ count }
+    requires pass { MayPass F.kit F.may (plain_stage work) D.due }
+    ensures next { IfOk result (λ next. next ≡ shares mergers (passed F.kit (plain_stage work) D.due)) }
+    ensures nodes { OnOk result ((fs : List F) (c : Field → ℕ) → AreNodes F.kit F.may nodes.old.items fs c → AreNodes F.kit F.may nodes.new.items (fs ++ stayed F.kit work.parts.touches work.branches.items D.due) (λ f. c f + dealer_copies work.parts.touches D.due f)) }
+{
+    let (from_mergers, next) = next_fan::<F, D, Brand>(alloc, &work, mergers, count)?;
+    let StageWork { parts, branches } = work;
+    let (bases, to_mergers) = base_fan::<D, Brand>(alloc, &parts, mergers, count)?;
+    let wired = wire_branches::<F, D>(alloc, parts.touches.as_slice(), branches, mergers, count)?;
+    let Branches {
+        versions,
+        rows,
+        nodes: mut members,
+    } = wired;
+    nodes.push(Node::Dealer(Dealer {
+        parts,
+        source,
+        versions,
+        bases,
+        count,
+    }))?;
+    nodes.append(&mut members)?;
+    wire_mergers(alloc, to_mergers, rows, from_mergers, mergers, count, nodes)?;
+    Ok(next)
+}
+
+/// The links from the dealer to the mergers.
+fn base_fan<D: LinkDue<Parcel<Apart>>, E: LinkDue<Parcel<Base>>>(
+    alloc: Global,
+    parts: &StageParts,
+    mergers: u32,
+    count: u32,
+) -> Result<(Outlets<Base>, Inlets<Base>), AllocError>
+    requires due { E.due ≡ map (base_of parts.now.touches) D.due }
+    requires some { 0 < mergers }
+    requires few { count < 65537 }
+    requires many { length D.due ≡ count }
+    ensures { IfOk result (λ e. (e.0 ≡ shares mergers (map (base_of parts.now.touches) D.due)) × (e.1 ≡ shares mergers (map (base_of parts.now.touches) D.due))) }
+{
+    fan::<Base, E>(alloc, mergers, count)
+}
+
+/// The links from the mergers to whoever takes what comes of the packets.
+fn next_fan<F: BranchWork, D: LinkDue<Parcel<Apart>>, E: LinkDue<Parcel<Apart>>>(
+    alloc: Global,
+    work: &StageWork<F>,
+    mergers: u32,
+    count: u32,
+) -> Result<(Outlets<Apart>, Inlets<Apart>), AllocError>
+    requires due { E.due ≡ passed F.kit (plain_stage work.now) D.due }
+    requires some { 0 < mergers }
+    requires few { count < 65537 }
+    requires many { length D.due ≡ count }
+    ensures { IfOk result (λ e. (e.0 ≡ shares mergers (passed F.kit (plain_stage work.now) D.due)) × (e.1 ≡ shares mergers (passed F.kit (plain_stage work.now) D.due))) }
+{
+    fan::<Apart, E>(alloc, mergers, count)
+}
