@@ -1,0 +1,10 @@
+pub mod Writes
+pub mod Turned
+pub mod Taken
+pub mod Whole
+pub mod Rows
+pub mod Cited
+pub mod Staged
+pub mod Through
+pub mod Begun
+pub mod Walked

@@ -1,0 +1,38 @@
+use Rattle.stream_law.proofs.Cited.{AreLaws}
+use Rattle.stream_law.proofs.Walked.{AreGraphLaws, walked}
+use Rattle.stream_law.proofs.laws.nodes_walk_the_chain.Goals as goal
+
+pub returns : goal.returns
+returns g c =
+    let laws : AreLaws g.F.Function.behaviour = record {
+      keeps = c.functions_keep_to_profiles.ensures;
+      behind = c.versions_go_on.ensures.written;
+      later = c.versions_go_on.ensures.later;
+      dealt = c.dealt_versions_go_on.ensures.carried;
+      owners = c.lawful_stage_has_owners.ensures;
+      holds = c.branches_hold_what_is_named.ensures;
+      modes = c.due_copies_are_counted.ensures.modes;
+      copies = c.due_copies_are_counted.ensures.copies;
+      values = c.merged_is_written_last.ensures.values;
+      wrote = c.last_writer_is_greatest.ensures.wrote;
+      shape = c.shape_fits.ensures;
+      taken_whole = c.taken_packets_make_a_stage.ensures.whole;
+      taken_functions = c.taken_packets_make_a_stage.ensures.functions;
+      taken_packets = c.taken_packets_make_a_stage.ensures.packets;
+      taken_on = c.taken_packets_make_a_stage.ensures.behind;
+    } in
+    let graphs : AreGraphLaws g.row.F.Denot = record {
+      staged = c.lawful_graph_is_staged.ensures.staged;
+      rising = c.stages_rise.ensures;
+      many = c.owned_is_whole.ensures.count;
+      each = c.owned_is_whole.ensures.each;
+      chain = c.burst_is_chain.ensures.chain;
+      copies = c.copies_are_same.ensures;
+    } in
+    record {
+      pass = λ graph functions packets ready. (walked g.F.Function.behaviour graph functions packets laws graphs ready).may;
+      functions = λ graph functions packets ready. (walked g.F.Function.behaviour graph functions packets laws graphs ready).functions_are;
+      packets = λ graph functions packets ready. (walked g.F.Function.behaviour graph functions packets laws graphs ready).packets_are;
+      rests = λ graph functions packets ready. (walked g.F.Function.behaviour graph functions packets laws graphs ready).rests;
+      counted = λ graph functions packets f ready. (walked g.F.Function.behaviour graph functions packets laws graphs ready).counted f;
+    }

@@ -1,0 +1,47 @@
+-- For proofs: the functions that a branch owns, one after another on what comes to it.
+use Rattle.std.specs.Prelude.{◌≡◌, ◌<◌, ℕ, List, [], ◌∷◌, length, if◌then◌else◌}
+use Rattle.chain_walk.specs.Step.{Behaviour, stepped, is_drop}
+use Rattle.packet_version.specs.Versions.{PlainVersion}
+use Rattle.burst_law.specs.Stations.{Turn, then_state}
+use Rattle.graph_run.specs.Carrying.{as_version, wrote_at}
+use Rattle.graph_run.specs.Running.{profiles_of}
+use Rattle.branch_run.specs.Streams.{IsOwnReady}
+use Rattle.message_links.specs.Messages.{PlainMessage, PlainMessage.Live, PlainMessage.Nil, PlainMessage.Short}
+use Rattle.stage_nodes.specs.Streams.{Kit}
+
+-- Functions of a branch with the chain positions at which they stand, and how many packets a burst has.
+pub record PlainOwned (F : Type 0) : Type 0 where
+  pub functions : List F
+  pub positions : List ℕ
+  pub packets : ℕ
+
+-- a function as it leaves what comes to it; what has no packet it never sees
+abbrev pub moved_by : {F : Type 0} → Behaviour F → F → PlainMessage PlainVersion → F
+moved_by b f (Live v) = (stepped b v.fixed f (as_version v).values).after
+moved_by b f (Nil p) = f
+moved_by b f Short = f
+
+-- what goes on from the function at this position: the version as it wrote it, or its drop
+abbrev pub went_by : {F : Type 0} → Behaviour F → ℕ → F → PlainMessage PlainVersion → PlainMessage PlainVersion
+went_by b q f (Live v) =
+    if is_drop (stepped b v.fixed f (as_version v).values).verdict then Nil q else Live (wrote_at q (stepped b v.fixed f (as_version v).values).written v)
+went_by b q f (Nil p) = Nil p
+went_by b q f Short = Short
+
+-- the functions of a branch, which have these positions, one after another, until one drops the packet
+unfoldable pub ran_by : {F : Type 0} → Behaviour F → List ℕ → List F → PlainMessage PlainVersion → Turn (List F) (PlainMessage PlainVersion)
+ran_by b [] fs m = record { state = fs; gives = m }
+ran_by b (q ∷ qs) [] m = record { state = []; gives = m }
+ran_by b (q ∷ qs) (f ∷ fs) m = then_state (moved_by b f m) (ran_by b qs fs (went_by b q f m))
+
+-- a branch by the functions that it owns
+abbrev pub owned_kit : {F : Type 0} → Behaviour F → Kit (PlainOwned F)
+owned_kit b = record {
+  gives = λ o v. (ran_by b o.positions o.functions (Live v)).gives;
+  after = λ o v. record o { functions = (ran_by b o.positions o.functions (Live v)).state };
+}
+
+-- the version of the packet with this number may come: the burst has such a packet, each function has its position, and the version
+-- is ready for them
+abbrev pub owned_may : {F : Type 0} → Behaviour F → PlainOwned F → ℕ → PlainVersion → Type 0
+owned_may b o p v = (p < o.packets) × (length o.functions ≡ length o.positions) × IsOwnReady (profiles_of b o.functions) o.positions v
