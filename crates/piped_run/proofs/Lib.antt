@@ -1,0 +1,5 @@
+mod Turns
+mod Starting
+mod Ending
+mod Passing
+mod Leading

@@ -1,0 +1,146 @@
+-- A burst in parts that went through the nodes of a graph's stages.
+use Rattle.std.proofs.Common.{◌≡◌, ◌∙◌, ◌≤◌, ℕ, List, [], ◌∷◌, map, length, sym, ap, refl, subst, arith}
+use Rattle.std.proofs.lemmas.List.{length-map}
+use Rattle.packet_fields.specs.declared.field.Field.{Field}
+use Rattle.action_profile.specs.declared.rights.Profile.{Profile}
+use Rattle.chain_walk.specs.Laws.{KeepsProfile}
+use Rattle.chain_walk.specs.Step.{Behaviour}
+use Rattle.graph_compile.specs.Facts.{IsLawful, IsFull}
+use Rattle.graph_compile.specs.declared.graph.Graph.{Graph}
+use Rattle.graph_compile.specs.declared.graph.Stage.{Stage}
+use Rattle.packet_version.specs.Tallies.{count_of, raised}
+use Rattle.merge_ops.specs.declared.merging.Merged.{Merged}
+use Rattle.merge_ops.specs.declared.merging.Merged.TheVariants as ends
+use Rattle.burst_law.specs.Stations.{Turn, one_by_one}
+use Rattle.burst_law.specs.Owned.{owned_by}
+use Rattle.burst_law.specs.Bursts.{Message, chain_burst}
+use Rattle.burst_law.specs.Copies.{chain_copies}
+use Rattle.branch_owners.specs.Standing.{EachStands}
+use Rattle.graph_run.specs.Counting.{RaisesAll, RaisesUpTo}
+use Rattle.graph_run.specs.Running.{IsRunning}
+use Rattle.joined_run.specs.Leaving.{KeepsRests}
+use Rattle.joined_run.specs.Messages.{as_message}
+use Rattle.stage_nodes.specs.Streams.{PlainStage, of_merged, as_merged, through, ends_of}
+use Rattle.node_run.specs.Runs.{flat}
+use Rattle.stream_law.specs.Owned.{PlainOwned, owned_kit}
+use Rattle.stream_law.specs.Works.{works_of}
+use Rattle.piped_run.proofs.Starting.{owned_many}
+
+-- the laws that are cited
+abbrev pub ProfilesInBursts : Type 0 → Type 0
+ProfilesInBursts F = (b : Behaviour F) (graph : Graph) (functions : List F) (packets : List Message) → KeepsProfile b → IsLawful graph (map b.profile functions) → IsFull graph → map b.profile (chain_burst b functions packets).state ≡ map b.profile functions
+
+-- the works of a graph for a burst of so many packets
+abbrev pub works_for : {F : Type 0} → Graph → List F → ℕ → List (PlainStage (PlainOwned F))
+works_for graph functions n = works_of graph.stages (owned_by graph.stages functions) n
+
+-- the functions that the walks leave
+abbrev pub left_by : {F : Type 0} → Behaviour F → List F → List Merged → List F
+left_by b functions packets = (chain_burst b functions (map as_message packets)).state
+
+pub same_length : {F : Type 0} (b : Behaviour F) (xs ys : List F) → map b.profile xs ≡ map b.profile ys → length xs ≡ length ys
+same_length b xs ys e = sym (length-map xs b.profile) ∙ ap length e ∙ length-map ys b.profile
+
+-- each position of a lawful graph stands once
+pub each_stands : {F : Type 0} (b : Behaviour F) (graph : Graph) (functions : List F) (stages : List Stage) (count : ℕ) → IsRunning b functions graph → stages ≡ graph.stages → count ≡ length functions → EachStands stages count
+each_stands b graph functions stages count running are many =
+    let stands : EachStands graph.stages (length (map b.profile functions)) = record { each_once = running.lawful.each_once; no_other = running.lawful.no_other } in
+    subst (λ (l : List Stage). EachStands l count) (sym are) (subst (EachStands graph.stages) (length-map functions b.profile ∙ sym many) stands)
+
+-- the functions that were left run in the same graph
+pub runs_on : {F : Type 0} (b : Behaviour F) (graph : Graph) (first now : List F) → IsRunning b first graph → map b.profile now ≡ map b.profile first → IsRunning b now graph
+runs_on b graph first now running same = record {
+  few = let few = running.few in let count = same_length b now first same in omega arith;
+  lawful = subst (λ (ps : List Profile). IsLawful graph ps) (sym same) running.lawful;
+  full = running.full;
+}
+
+-- functions that are split have a list for each branch of their stages
+pub split_fits : {F V : Type 0} (items : V → List (List F)) (many : V → ℕ) (stages : List Stage) (owned : List V) (functions : List F) → ((v : V) → many v ≡ length (items v)) → map items owned ≡ owned_by stages functions → map many owned ≡ map (λ s. length s.branches) stages
+split_fits {F} {V} items many stages owned functions counts is = counted owned ∙ ap (map (λ own. length own)) is ∙ owned_many stages functions
+  where
+    counted : (owned : List V) → map many owned ≡ map (λ own. length own) (map items owned)
+    counted [] = refl
+    counted (v ∷ owned) = λ i. counts v i ∷ counted owned i
+
+-- the works that were begun are those of the graph
+pub begun_works : {F V : Type 0} (items : V → List (List F)) (graph : Graph) (stages : List Stage) (functions : List F) (owned : List V) (works : List (PlainStage (PlainOwned F))) (n many : ℕ) → stages ≡ graph.stages → map items owned ≡ owned_by stages functions → n ≡ many →
+    works ≡ works_of stages (map items owned) n → works ≡ works_for graph functions many
+begun_works {F} {V} items graph stages functions owned works n many are split same is =
+    is ∙ (λ k. works_of (are k) ((split ∙ ap (λ (l : List Stage). owned_by l functions) are) k) (same k))
+
+-- how many works there are at the end of each stage
+pub ends_fit : {F : Type 0} (stages : List Stage) (ends : List (List (PlainOwned F))) (functions : List F) → map (λ l. map (λ o. o.functions) l) ends ≡ owned_by stages functions → map (λ l. length l) ends ≡ map (λ s. length s.branches) stages
+ends_fit {F} stages ends functions is = counted ends ∙ ap (map (λ own. length own)) is ∙ owned_many stages functions
+  where
+    counted : (ends : List (List (PlainOwned F))) → map (λ l. length l) ends ≡ map (λ own. length own) (map (λ l. map (λ o. o.functions) l) ends)
+    counted [] = refl
+    counted (l ∷ ends) = λ i. sym (length-map l (λ o. o.functions)) i ∷ counted ends i
+
+-- a packet as a message, and back again
+there_and_back : (packets : List Merged) → map as_merged (map of_merged packets) ≡ packets
+there_and_back [] = refl
+there_and_back (ends.Whole w ∷ packets) = λ i. ends.Whole w ∷ there_and_back packets i
+there_and_back (ends.Gone p ∷ packets) = λ i. ends.Gone p ∷ there_and_back packets i
+there_and_back (ends.Short ∷ packets) = λ i. ends.Short ∷ there_and_back packets i
+
+-- the packets behind the last stage
+pub came_through : {F : Type 0} (b : Behaviour F) (works was : List (PlainStage (PlainOwned F))) (packets after : List Merged) → works ≡ was → map of_merged after ≡ through (owned_kit b) works (map of_merged packets) →
+    map as_merged (through (owned_kit b) was (map of_merged packets)) ≡ after
+came_through {F} b works was packets after is came =
+    ap (λ (l : List (PlainStage (PlainOwned F))). map as_merged (through (owned_kit b) l (map of_merged packets))) (sym is) ∙ ap (map as_merged) (sym came) ∙ there_and_back after
+
+-- counts that rise by what was counted from nothing
+raised_twice : (old made new n : ℕ) → made ≡ raised 0 n → new ≡ raised old made → new ≡ raised old n
+raised_twice old made new n is up = omega arith
+
+pub counts_rise : (old made new : List ℕ) (copies by : Field → ℕ) → ((f : Field) → count_of made f ≡ raised 0 (copies f)) → ((f : Field) → count_of new f ≡ raised (count_of old f) (count_of made f)) → ((f : Field) → copies f ≡ by f) → RaisesAll by old new
+counts_rise old made new copies by is up same f = raised_twice (count_of old f) (count_of made f) (count_of new f) (copies f) (is f) (up f) ∙ ap (raised (count_of old f)) (same f)
+
+-- where nothing was counted
+stays_low : (c n : ℕ) → (c ≤ c) × (c ≤ raised c n)
+stays_low c n = (omega arith, omega arith)
+
+pub none_counted : (by : Field → ℕ) (tally : List ℕ) → RaisesUpTo by tally tally
+none_counted by tally f = stays_low (count_of tally f) (by f)
+
+-- what the nodes of all stages gave
+pub record Passed {F : Type 0} (b : Behaviour F) (graph : Graph) (functions left : List F) (apart after : List Merged) (old new : List ℕ) : Type 0 where
+  pub functions_are : left ≡ left_by b functions apart
+  pub packets_are : map as_message after ≡ (chain_burst b functions (map as_message apart)).gives
+  pub rests : KeepsRests apart after
+  pub counted : RaisesAll (λ f. chain_copies b graph.stages f functions (map as_message apart)) old new
+
+none_walk : {F : Type 0} (b : Behaviour F) (functions : List F) → ◌≡◌ {A = Turn (List F) (List Message)} (chain_burst b functions []) (record { state = functions; gives = [] })
+unfolding one_by_one
+none_walk b functions = refl
+
+nothing : (c : ℕ) → c ≡ raised c 0
+nothing c = omega arith
+
+no_copies : {F : Type 0} (b : Behaviour F) (graph : Graph) (functions : List F) (f : Field) → chain_copies b graph.stages f functions [] ≡ 0
+no_copies b graph functions f = refl
+
+-- no packet at all
+pub none_passed : {F : Type 0} (b : Behaviour F) (graph : Graph) (functions : List F) (apart : List Merged) (tally : List ℕ) → length apart ≡ 0 → Passed b graph functions functions apart apart tally tally
+none_passed b graph functions [] tally none = record {
+  functions_are = ap (λ t. t.state) (sym (none_walk b functions));
+  packets_are = ap (λ t. t.gives) (sym (none_walk b functions));
+  rests = record { count = refl; each = λ k m n a e. absurd cc };
+  counted = λ f. nothing (count_of tally f) ∙ ap (raised (count_of tally f)) (sym (no_copies b graph functions f));
+}
+none_passed b graph functions (m ∷ apart) tally none = absurd (omega arith)
+
+-- the functions behind the last stage, by stage and branch again
+pub gone_back : {F V : Type 0} (items : V → List (List F)) (b : Behaviour F) (graph : Graph) (stages : List Stage) (functions : List F) (packets : List Merged) (works was : List (PlainStage (PlainOwned F))) (done : List (PlainOwned F)) (owned : List V) →
+    stages ≡ graph.stages → works ≡ was →
+    map (λ l. map (λ o. o.functions) l) (ends_of (owned_kit b) was (map of_merged packets)) ≡ owned_by graph.stages (left_by b functions packets) →
+    done ≡ flat (ends_of (owned_kit b) works (map of_merged packets)) →
+    ((ends : List (List (PlainOwned F))) → map (λ l. length l) ends ≡ map (λ s. length s.branches) stages → done ≡ flat ends → map items owned ≡ map (λ l. map (λ o. o.functions) l) ends) →
+    map items owned ≡ owned_by stages (left_by b functions packets)
+gone_back {F} {V} items b graph stages functions packets works was done owned are is law ran back =
+    let ends : List (List (PlainOwned F)) = ends_of (owned_kit b) works (map of_merged packets) in
+    let at_end : map (λ l. map (λ o. o.functions) l) ends ≡ owned_by stages (left_by b functions packets) =
+    ap (λ (l : List (PlainStage (PlainOwned F))). map (λ l. map (λ o. o.functions) l) (ends_of (owned_kit b) l (map of_merged packets))) is
+    ∙ law ∙ ap (λ (l : List Stage). owned_by l (left_by b functions packets)) (sym are) in
+    back ends (ends_fit stages ends (left_by b functions packets) at_end) ran ∙ at_end

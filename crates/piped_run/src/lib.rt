@@ -1,0 +1,39 @@
+//! Runs bursts of packets through the graph of a chain, its dealers, branches and mergers side by side.
+//!
+//! [`run_piped`] does what `run_joined` of `joined_run` does, and promises the same word for word: the packets
+//! end as those that walk through the chain one after another, and so do the functions; the tally rises by the
+//! same copies; want of memory is the one refusal. The way is another: no stage waits for the stage before it.
+//! Each stage has a dealer, its branches and its mergers, and each of these is a node with a thread of its own
+//! where one can be started. A dealer takes a packet, deals it to the branches, and takes the next while they
+//! are still at work; a branch takes what it is dealt in the packets' order; a merger puts together what the
+//! branches gave of a packet, and gives it to the next stage's dealer. So a packet may be in the first stage
+//! while the one before it is in the last. The nodes give each other messages over links of one giver and one
+//! taker each ([`MergeWay::Inbox`]: a merger asks the links of its branches).
+//!
+//! The functions of the chain are split among the branches that own them, and put together in chain order
+//! once all nodes have ended. [`branch_turn`] is a branch's work on one packet: its functions one after
+//! another, until one drops it. Where a graph has one stage of one branch, or no stage, nothing could run
+//! beside it, and the burst runs in the caller's thread; a burst without packets starts no thread.
+//!
+//! Why this is the walk is told by `stream_law`: what is due on each link is fixed before the first step, and
+//! what comes behind the last stage is what packets give that walk through the chain one after another.
+//! Here the graph is made the works of nodes (`works`), the nodes are run (`node_run`), and their functions are
+//! given back (`back`); frames are taken apart before and put together behind as in `joined_run`.
+//!
+//! Each step of a function passes the gate first. No clause speaks of the gate, of threads, or of what goes
+//! on at the same time: what is promised holds for every schedule in which the run ends. That it ends is not
+//! promised, since a node waits for what another gives.
+#![tactic(auto)]
+
+mod back;
+mod laws;
+mod owned;
+mod pipe;
+mod piped;
+mod turn;
+mod works;
+
+pub use chain_walk::Fate;
+pub use message_links::Message;
+pub use piped::{MergeWay, run_piped};
+pub use turn::branch_turn;

@@ -1,0 +1,111 @@
+//! A burst of packets through a graph, its dealers, branches and mergers side by side.
+ghost use Rattle.std.specs.Prelude.{◌≡◌, ◌≤◌, length, IfOk, OnErr};
+ghost use Rattle.chain_walk.specs.Packets.{fates};
+ghost use Rattle.graph_run.specs.Counting.{RaisesUpTo, copies_made};
+ghost use Rattle.graph_run.specs.Leading.{Leads};
+ghost use Rattle.graph_run.specs.Packets.{packets_taken};
+
+use crate::pipe::pipe_packets;
+use chain_walk::Fate;
+use classifier::Burst;
+use graph_compile::Graph;
+use graph_run::{Running, count_adders};
+use joined_run::{bursts_in_parts_lead, join_packets, run_joined, split_packets};
+use net_functions::Function;
+use nfp_outside::Gate;
+use packet_version::Tally;
+use pcap_io::Unit;
+use std::alloc::{AllocError, Global};
+use std::sync::Wait;
+use std::thread::Threads;
+
+/// How what the branches of a stage give comes together.
+#[derive(Clone, Copy, PartialEq, Eq, Debug)]
+pub enum MergeWay {
+    /// Over links, which the mergers ask.
+    Inbox,
+}
+
+/// Leads the packets of a burst that are of the chain with this number through the graph, and gives the fate
+/// of each, in their order. In each stage one dealer deals the packets, each branch takes what it is dealt
+/// of them in their order, and so many mergers, of which there may be 1 to 16, put together in this way what
+/// the branches give: merger `i` has the packets whose number among those of the chain, counted from 0,
+/// leaves `i` when divided by their count. Dealers, branches and mergers of all stages run side by side, each
+/// on a thread of its own where one can be started; the threads are joined before the call returns. Where
+/// the graph has no stage but one of one branch, nothing could run beside it, and all runs in the caller's
+/// thread. Each step of a function passes the gate first. Frames that go out are not sealed yet.
+///
+/// Every packet ends as if it walked through the functions of the chain one after another, each as the
+/// packet before left it, and so do the functions' states. The tally rises by the copies that were made.
+/// The one refusal is want of memory: the functions are gone then, and the tally may have risen by copies
+/// that were made.
+pub fn run_piped<F: Function + Drop + Send, G: Gate + Sync, R: Threads + Wait + Sync>(
+    rt: &R,
+    alloc: Global,
+    run: Running<F>,
+    burst: &Burst,
+    unit: Unit,
+    chain: u32,
+    tally: &mut Tally,
+    mergers: u32,
+    gate: &G,
+    way: MergeWay,
+) -> Result<(Running<F>, Vec<Fate>), AllocError>
+    requires few { length burst.now.items ≤ 65536 }
+    requires some_mergers { 1 ≤ mergers }
+    requires few_mergers { mergers ≤ 16 }
+    ensures leads { IfOk result (λ ran. Leads F.behaviour run (packets_taken unit chain burst.now.items) tally.old tally.new ran.0 ran.1.items) }
+    ensures refused { OnErr result (RaisesUpTo (copies_made run.graph.stages (packets_taken unit chain burst.now.items) (fates F.behaviour run.functions (packets_taken unit chain burst.now.items))) tally.old tally.new) }
+{
+    let (functions, graph) = run.into_parts();
+    let single = is_single(&graph);
+    let run = Running::new(functions, graph);
+    if single {
+        run_joined(rt, alloc, run, burst, unit, chain, tally, mergers, gate)
+    } else {
+        match way {
+            MergeWay::Inbox => {
+                run_stages(rt, alloc, run, burst, unit, chain, tally, mergers, gate)
+            }
+        }
+    }
+}
+
+/// Leads the packets of a burst through the stages of a graph, whose dealers, branches and mergers are nodes.
+fn run_stages<F: Function + Drop + Send, G: Gate + Sync, R: Threads + Wait + Sync>(
+    rt: &R,
+    alloc: Global,
+    run: Running<F>,
+    burst: &Burst,
+    unit: Unit,
+    chain: u32,
+    tally: &mut Tally,
+    mergers: u32,
+    gate: &G,
+) -> Result<(Running<F>, Vec<Fate>), AllocError>
+    requires few { length burst.now.items ≤ 65536 }
+    requires some_mergers { 1 ≤ mergers }
+    ensures leads { IfOk result (λ ran. Leads F.behaviour run (packets_taken unit chain burst.now.items) tally.old tally.new ran.0 ran.1.items) }
+    ensures refused { OnErr result (RaisesUpTo (copies_made run.graph.stages (packets_taken unit chain burst.now.items) (fates F.behaviour run.functions (packets_taken unit chain burst.now.items))) tally.old tally.new) }
+{
+    bursts_in_parts_lead::<F>();
+    let (functions, graph) = run.into_parts();
+    let taggers = count_adders(&functions);
+    let items = burst.items.as_slice();
+    let (numbers, packets) = split_packets(alloc, items, unit, chain, taggers)?;
+    let (functions, packets) = pipe_packets(
+        rt, alloc, gate, chain, &numbers, &graph, functions, packets, mergers, tally,
+    )?;
+    let fates = join_packets(alloc, packets)?;
+    Ok((Running::new(functions, graph), fates))
+}
+
+/// Does a graph have no stage but one of one branch?
+fn is_single(graph: &Graph) -> bool {
+    let stages = graph.stages.as_slice();
+    match stages {
+        [] => true,
+        [stage] => stage.branches.as_slice().len() == 1,
+        _ => false,
+    }
+}

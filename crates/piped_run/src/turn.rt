@@ -1,0 +1,92 @@
+//! The functions of a branch, in turn on what comes of a packet.
+ghost use Rattle.std.specs.Prelude.{◌≡◌, ℕ, false, true, IfOk, OnOk, OnErr};
+ghost use Rattle.graph_run.specs.Running.{profiles_of};
+ghost use Rattle.branch_run.specs.Streams.{IsOwnReady};
+ghost use Rattle.message_links.specs.Messages.{PlainMessage.Live, PlainMessage.Nil, is_short, plain};
+ghost use Rattle.stream_law.specs.Owned.{ran_by};
+ghost use Rattle.piped_run.specs.Turns.{IsReadyMessage, as_sent, is_live};
+
+use graph_run::{step_on, versions_go_on};
+use merge_ops::Arrival;
+use message_links::{Message, boxed};
+use net_functions::Function;
+use nfp_outside::Gate;
+use packet_version::Version;
+use std::alloc::{AllocError, Global};
+use std::sync::Wait;
+
+/// One branch's turn: its functions, which have these chain positions, one after another on what comes of
+/// the packet with this record number, until one drops it. Each step passes the gate first. A packet that
+/// is gone already passes on as such, and no function sees it.
+///
+/// Short where memory is; then nothing is said of the functions' states. Their profiles stay in every case.
+pub fn branch_turn<F: Function, G: Gate, R: Wait>(
+    rt: &R,
+    alloc: Global,
+    functions: &mut [F],
+    positions: &[u32],
+    message: Message<Version>,
+    number: u32,
+    chain: u32,
+    gate: &G,
+) -> Message<Version>
+    requires ready { IsReadyMessage (profiles_of F.behaviour functions.old) positions.now (plain message) }
+    ensures ran { is_short (plain result) ≡ false → plain result ≡ (ran_by F.behaviour positions.now functions.old (plain message)).gives }
+    ensures functions { is_short (plain result) ≡ false → functions.new ≡ (ran_by F.behaviour positions.now functions.old (plain message)).state }
+    ensures profiles { profiles_of F.behaviour functions.new ≡ profiles_of F.behaviour functions.old }
+    ensures gone { (p : ℕ) → plain message ≡ Nil p → plain result ≡ Nil p }
+    ensures stays { is_live (plain message) ≡ false → functions.new ≡ functions.old }
+{
+    match message {
+        Message::Live(version) => {
+            let version = Box::into_inner(version);
+            send(
+                alloc,
+                turn_on(rt, gate, chain, number, functions, positions, version),
+            )
+        }
+        gone => gone,
+    }
+}
+
+/// What comes from a branch, as a message. Short where memory is.
+fn send(alloc: Global, came: Result<Arrival, AllocError>) -> Message<Version>
+    ensures sent { is_short (plain result) ≡ false → IfOk came (λ arrival. plain result ≡ as_sent arrival) }
+    ensures refused { OnErr came (is_short (plain result) ≡ true) }
+{
+    match came {
+        Ok(Arrival::Version(version)) => boxed(alloc, version),
+        Ok(Arrival::Nil(position)) => Message::Nil(position),
+        Ok(Arrival::Short) => Message::Short,
+        Err(_) => Message::Short,
+    }
+}
+
+/// The functions of a branch, which have these chain positions, one after another on a version of a packet,
+/// until one drops it. Each passes the gate before its step.
+fn turn_on<F: Function, G: Gate, R: Wait>(
+    rt: &R,
+    gate: &G,
+    chain: u32,
+    number: u32,
+    functions: &mut [F],
+    positions: &[u32],
+    version: Version,
+) -> Result<Arrival, AllocError>
+    requires ready { IsOwnReady (profiles_of F.behaviour functions.old) positions.now version }
+    ensures functions { OnOk result (functions.new ≡ (ran_by F.behaviour positions.now functions.old (Live version)).state) }
+    ensures arrival { IfOk result (λ arrival. as_sent arrival ≡ (ran_by F.behaviour positions.now functions.old (Live version)).gives) }
+    ensures profiles { profiles_of F.behaviour functions.new ≡ profiles_of F.behaviour functions.old }
+{
+    versions_go_on::<F>();
+    let mut version = version;
+    for index in 0..positions.len() {
+        let position = positions[index];
+        gate.pass(rt, chain, position, number);
+        match step_on(rt, &mut functions[index], version, position)? {
+            Arrival::Version(after) => version = after,
+            dropped => return Ok(dropped),
+        }
+    }
+    Ok(Arrival::Version(version))
+}
