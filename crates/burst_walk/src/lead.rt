@@ -11,15 +11,15 @@ use chain_service::{NamedFunction, ServiceChain};
 use chain_walk::{Fate, frames_walk_as_fields, values_stay_well_formed};
 use classifier::Burst;
 use item_list::Items;
-use joined_run::run_joined;
 use nfp_outside::Gate;
 use pcap_io::Unit;
+use piped_run::{MergeWay, run_piped};
 use std::alloc::{AllocError, Global};
 use std::sync::Wait;
 use std::thread::Threads;
 
 /// Leads the packets of a burst through their chains, one chain after another, and gives the fates of each chain's packets. The
-/// branches of a stage run side by side, and so many mergers put their packets together.
+/// dealers and branches of a chain's graph run side by side, and in each stage so many mergers put packets together.
 pub fn lead<R: Threads + Wait + Sync, G: Gate + Sync>(
     rt: &R,
     alloc: Global,
@@ -77,7 +77,7 @@ fn lead_chain<R: Threads + Wait + Sync, G: Gate + Sync>(
         running,
         mut copies,
     } = chain;
-    let (running, fates) = run_joined(
+    let (running, fates) = run_piped(
         rt,
         alloc,
         running,
@@ -87,6 +87,7 @@ fn lead_chain<R: Threads + Wait + Sync, G: Gate + Sync>(
         &mut copies,
         mergers,
         gate,
+        MergeWay::Inbox,
     )?;
     let chain = ServiceChain {
         declared,

@@ -15,7 +15,7 @@ returns-clause-led g c = record {
   same_chain = refl;
   same_graph = c.in_ok-running.ensures.leads.graph;
   functions = c.in_ok-running.ensures.leads.functions ∙ ap (functions_after named_behaviour c.args.chain.running.functions) (packets_led c.args.unit c.args.number c.args.burst.now.items);
-  copied = subst (λ ps. (f : Field) → count_of c.run_joined.new.tally f ≡ raised (count_of c.args.chain.copies f) (copies_made c.args.chain.running.graph.stages ps (fates named_behaviour c.args.chain.running.functions ps) f))
+  copied = subst (λ ps. (f : Field) → count_of c.run_piped.new.tally f ≡ raised (count_of c.args.chain.copies f) (copies_made c.args.chain.running.graph.stages ps (fates named_behaviour c.args.chain.running.functions ps) f))
       (packets_led c.args.unit c.args.number c.args.burst.now.items) c.in_ok-running.ensures.leads.counted;
 }
 
