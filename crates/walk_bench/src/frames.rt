@@ -5,7 +5,7 @@ use packet_fields::Frame;
 use pcap_io::PcapRecord;
 use std::alloc::{AllocError, Global};
 
-/// The packets of the burst.
+/// The packets of a burst where the words say nothing else.
 pub const BURST: u32 = 1_024;
 
 /// Addresses, and the headers of a UDP datagram from 10.0.0.1:1000 to 10.0.0.2:53; its lengths are put in.
@@ -14,11 +14,11 @@ const HEADERS: [u8; 42] = [
     0, 0, 1, 10, 0, 0, 2, 0x03, 0xe8, 0, 53, 0, 8, 0, 0,
 ];
 
-/// Packets of so many bytes, at least 42 and below 65,536 each, from the sources 10.0.0.0 to 10.0.0.255 in turn. Their data are
-/// small letters.
-pub fn burst_of(alloc: Global, size: u16) -> Result<Burst, AllocError> {
+/// So many packets of so many bytes, at least 42 and below 65,536 each, from the sources 10.0.0.0 to 10.0.0.255 in turn. Their data
+/// are small letters.
+pub fn burst_of(alloc: Global, packets: u32, size: u16) -> Result<Burst, AllocError> {
     let mut items = Vec::new(alloc);
-    for number in 0..BURST {
+    for number in 0..packets {
         items.push(item(alloc, number, size)?)?;
     }
     Ok(Burst {

@@ -1,18 +1,19 @@
 //! Leads the same burst of packets through the chain of a policy again and again, through the graph on one thread, through the
-//! graph on threads that are joined behind each stage, or by the walk of whole frames, or looks for the patterns of its functions
-//! alone, or reads the same bytes: what `bench/walk` and `bench/payload` measure. Its words are `graph`, `joined`, `walk`, `search`,
-//! `pass` or `none`, how often, the length of each frame in bytes, the policy, and for `joined` how many mergers (1 where it isn't
-//! said). The functions of the first chain are taken as declared.
+//! graph on threads that are joined behind each stage, or with each dealer, branch and merger on a thread of its own, or by the walk
+//! of whole frames, or looks for the patterns of its functions alone, or reads the same bytes: what `bench/walk` and `bench/payload`
+//! measure. Its words are `graph`, `joined`, `piped`, `walk`, `search`, `pass` or `none`, how often, the length of each frame in
+//! bytes, the policy, how many mergers (1 where it isn't said), and how many packets a burst has (1,024). The functions of the first
+//! chain are taken as declared.
 #![tactic(auto)]
 
 mod frames;
 mod runs;
 mod search;
 
-use frames::burst_of;
+use frames::{BURST, burst_of};
 use net_functions::{NetFunction, build};
 use policy_text::{BuildFault, ChainPolicy, FunctionDecl, parse};
-use runs::{by_walk, through_graph, through_joined};
+use runs::{Counts, Way, by_walk, through_graph, through_threads};
 use search::{pass, search};
 use std::alloc::Global;
 use std::rt::Files;
@@ -43,16 +44,23 @@ fn push_function(
     Ok(())
 }
 
-fn lead(
-    rt: &(impl Alloc<A = Global> + Print + Threads + Wait + Sync),
-    mode: &str,
+/// What is measured.
+#[derive(Drop)]
+struct Run<'a> {
+    mode: &'a str,
     rounds: u32,
     size: u16,
-    chain: &ChainPolicy,
     mergers: u32,
+    packets: u32,
+}
+
+fn lead(
+    rt: &(impl Alloc<A = Global> + Print + Threads + Wait + Sync),
+    run: &Run,
+    chain: &ChainPolicy,
 ) -> io::Result<()> {
     let alloc = rt.alloc();
-    let burst = burst_of(alloc, size)?;
+    let burst = burst_of(alloc, run.packets, run.size)?;
     let mut functions = match functions_of(alloc, chain) {
         Ok(functions) => functions,
         Err(fault) => return println!(rt; "fault {fault:?}"),
@@ -60,16 +68,32 @@ fn lead(
     if functions.len() > 64 || burst.items.as_slice().len() > 65_536 {
         return println!(rt; "too many");
     }
-    match mode {
-        "graph" => {
-            let counts = through_graph(rt, alloc, functions, &burst, rounds)?;
-            let (out, copies) = (counts.out, counts.copies);
-            println!(rt; "out {out} copies {copies}")
-        }
+    let rounds = run.rounds;
+    match run.mode {
+        "graph" => tell(rt, through_graph(rt, alloc, functions, &burst, rounds)?),
         "joined" => {
-            let counts = through_joined(rt, alloc, functions, &burst, rounds, mergers)?;
-            let (out, copies) = (counts.out, counts.copies);
-            println!(rt; "out {out} copies {copies}")
+            let counts = through_threads(
+                rt,
+                alloc,
+                functions,
+                &burst,
+                rounds,
+                Way::Joined,
+                run.mergers,
+            )?;
+            tell(rt, counts)
+        }
+        "piped" => {
+            let counts = through_threads(
+                rt,
+                alloc,
+                functions,
+                &burst,
+                rounds,
+                Way::Piped,
+                run.mergers,
+            )?;
+            tell(rt, counts)
         }
         "walk" => {
             let out = by_walk(rt, alloc, &mut functions, &burst, rounds)?;
@@ -79,6 +103,11 @@ fn lead(
         "pass" => println!(rt; "sum {}", pass(&burst, rounds)),
         _ => println!(rt; "none"),
     }
+}
+
+fn tell(rt: &impl Print, counts: Counts) -> io::Result<()> {
+    let (out, copies) = (counts.out, counts.copies);
+    println!(rt; "out {out} copies {copies}")
 }
 
 fn main(rt: HostRuntime) -> io::Result<()> {
@@ -93,13 +122,24 @@ fn main(rt: HostRuntime) -> io::Result<()> {
         return println!(rt; "no policy");
     };
     let mergers = words.next().and_then(|word| word.parse().ok()).unwrap_or(1);
+    let packets = words
+        .next()
+        .and_then(|word| word.parse().ok())
+        .unwrap_or(BURST);
+    let run = Run {
+        mode: mode.as_str(),
+        rounds,
+        size,
+        mergers,
+        packets,
+    };
     let text = fs::read(&rt, path.as_str())?;
     if text.len() > LONGEST {
         return println!(rt; "too long");
     }
     match parse(rt.alloc(), &text) {
         Ok(policy) => match policy.chains.as_slice().first() {
-            Some(chain) => lead(&rt, mode.as_str(), rounds, size, chain, mergers),
+            Some(chain) => lead(&rt, &run, chain),
             None => println!(rt; "no chain"),
         },
         Err(fault) => println!(rt; "fault {fault:?}"),

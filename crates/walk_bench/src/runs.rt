@@ -13,6 +13,7 @@ use nfp_outside::OpenGate;
 use packet_fields::Frame;
 use packet_version::Tally;
 use pcap_io::Unit;
+use piped_run::{MergeWay, run_piped};
 use std::alloc::{AllocError, Global};
 use std::sync::Wait;
 use std::thread::Threads;
@@ -74,14 +75,23 @@ pub fn through_graph(
     Ok(Counts { out, copies })
 }
 
-/// The burst through the graph, the branches of each stage on threads that are joined behind it, again and again. A number of
-/// mergers that is out of range is 1.
-pub fn through_joined<R: Threads + Wait + Sync>(
+/// How a burst goes through the graph on threads.
+#[derive(Clone, Copy)]
+pub enum Way {
+    /// All packets through one stage, its branches on threads that are joined behind it, and then all through the next.
+    Joined,
+    /// Each dealer, branch and merger of the graph on a thread of its own.
+    Piped,
+}
+
+/// The burst through the graph on threads, again and again. A number of mergers that is out of range is 1.
+pub fn through_threads<R: Threads + Wait + Sync>(
     rt: &R,
     alloc: Global,
     functions: Vec<NetFunction>,
     burst: &Burst,
     rounds: u32,
+    way: Way,
     mergers: u32,
 ) -> Result<Counts, AllocError>
     requires few { vec_len functions ≤ 64 }
@@ -95,22 +105,43 @@ pub fn through_joined<R: Threads + Wait + Sync>(
     let mut tally = Tally::new();
     let mut out = 0u64;
     for _round in 0..rounds {
-        let (next, fates) = run_joined(
-            rt,
-            alloc,
-            run,
-            burst,
-            Unit::Micro,
-            0,
-            &mut tally,
-            mergers,
-            &OpenGate,
-        )?;
+        let (next, fates) = one_round(rt, alloc, run, burst, &mut tally, way, mergers)?;
         run = next;
         out = out.wrapping_add(outs(&fates));
     }
     let copies = copies_in(&tally);
     Ok(Counts { out, copies })
+}
+
+fn one_round<R: Threads + Wait + Sync>(
+    rt: &R,
+    alloc: Global,
+    run: Running<NetFunction>,
+    burst: &Burst,
+    tally: &mut Tally,
+    way: Way,
+    mergers: u32,
+) -> Result<(Running<NetFunction>, Vec<Fate>), AllocError>
+    requires short { length burst.now.items ≤ 65536 }
+    requires some_mergers { 1 ≤ mergers }
+    requires few_mergers { mergers ≤ 16 }
+{
+    let unit = Unit::Micro;
+    match way {
+        Way::Joined => run_joined(rt, alloc, run, burst, unit, 0, tally, mergers, &OpenGate),
+        Way::Piped => run_piped(
+            rt,
+            alloc,
+            run,
+            burst,
+            unit,
+            0,
+            tally,
+            mergers,
+            &OpenGate,
+            MergeWay::Inbox,
+        ),
+    }
 }
 
 /// How many copies were made of parts.
