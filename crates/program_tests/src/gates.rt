@@ -1,43 +1,55 @@
 //! Gates that look at the steps of a run: no clause speaks of them, since a gate's call may wait.
 
-use crate::runs::{CHAINS, capture, words};
+use crate::runs::{CHAINS, capture, capture_from, words};
 use crate::states::{BEHIND, BESIDE};
 use nfp_outside::{FixedDesk, Gate};
 use nfp_run::{Outcome, nfp};
+use std::alloc::Global;
 use std::sync::Wait;
 use std::sync::atomic::Ordering::SeqCst;
 use std::sync::atomic::{AtomicBool, AtomicU64};
 use std::test::Fail;
 use std::thread;
+use std::thread::Threads;
 
 // How often a step that waits for another looks whether it has come. Between two looks it lets another thread run.
 const TURNS: u32 = 10_000_000;
 
-/// Holds the first packet's step of each of two functions until the other's has come.
+// A firewall beside a signature, and a translation in a stage of its own behind them.
+const STAGES: &[u8] =
+    b"nfp 1\nchain main\nfn fw firewall\nfn sig signature\nfn n nat\nset inside 10.0.0.0/8\nset public 192.0.2.1\nset ports 40000-40000\n";
+
+/// A step: the position of the function in its chain, and the number of the record.
+type Step = (u32, u32);
+
+/// Holds each of two steps until the other has come.
 #[derive(Drop)]
 struct Meeting {
-    first: AtomicBool,
-    second: AtomicBool,
+    first: Step,
+    second: Step,
+    first_came: AtomicBool,
+    second_came: AtomicBool,
     missed: AtomicBool,
 }
 
 impl Gate for Meeting {
     fn pass<R: Wait>(&self, _rt: &R, _chain: u32, position: u32, number: u32) {
-        if number != 1 {
-            return;
+        if (position, number) == self.first {
+            self.meet(&self.first_came, &self.second_came);
         }
-        match position {
-            1 => self.meet(&self.first, &self.second),
-            _ => self.meet(&self.second, &self.first),
+        if (position, number) == self.second {
+            self.meet(&self.second_came, &self.first_came);
         }
     }
 }
 
 impl Meeting {
-    fn new() -> Meeting {
+    fn new(first: Step, second: Step) -> Meeting {
         Meeting {
-            first: AtomicBool::new(false),
-            second: AtomicBool::new(false),
+            first,
+            second,
+            first_came: AtomicBool::new(false),
+            second_came: AtomicBool::new(false),
             missed: AtomicBool::new(false),
         }
     }
@@ -92,48 +104,88 @@ impl Steps {
     }
 }
 
+// Runs a policy over a capture, and says whether two steps met.
+fn meets<R: Threads + Wait + Sync>(
+    rt: &R,
+    alloc: Global,
+    policy: &[u8],
+    capture: Vec<u8>,
+    meeting: &Meeting,
+) -> Result<bool, Fail> {
+    let run = words(alloc, &["run", "p", "c", "o", "r"])?;
+    let mut desk = FixedDesk::new(alloc, policy.to_vec(alloc)?, capture, 7);
+    let outcome = nfp(rt, alloc, &run, &mut desk, meeting);
+    Ok(matches!(outcome, Outcome::Done) && !meeting.missed.load(SeqCst))
+}
+
+// The monitor and the firewall of one stage, both on the first packet.
 #[test]
 fn gate_side_by_side(rt: HostRuntime) -> Result<(), Fail> {
     let alloc = rt.alloc();
-    let run = words(alloc, &["run", "p", "c", "o", "r"])?;
-    let mut desk = FixedDesk::new(alloc, BESIDE.to_vec(alloc)?, capture(alloc)?, 7);
-    let meeting = Meeting::new();
-    let outcome = nfp(&rt, alloc, &run, &mut desk, &meeting);
-    assert!(rt; matches!(outcome, Outcome::Done));
-    assert!(rt; !meeting.missed.load(SeqCst));
+    let meeting = Meeting::new((1, 1), (2, 1));
+    assert!(rt; meets(&rt, alloc, BESIDE, capture(alloc)?, &meeting)?);
     Ok(())
+}
+
+// The firewall of the first stage on the second packet, while the translation of the second stage is at the first.
+#[test]
+fn gate_pipelined(rt: HostRuntime) -> Result<(), Fail> {
+    let alloc = rt.alloc();
+    let meeting = Meeting::new((1, 2), (3, 1));
+    let mut two = capture_from(alloc, &[1, 1])?;
+    // The second is from port 1001.
+    if let Some(low) = two.get_mut(133) {
+        *low = 0xe9;
+    }
+    assert!(rt; meets(&rt, alloc, STAGES, two, &meeting)?);
+    Ok(())
+}
+
+// What the steps of a run with these options add up to, where it is done.
+fn sums_of<R: Threads + Wait + Sync>(
+    rt: &R,
+    alloc: Global,
+    policy: &[u8],
+    mergers: &str,
+    burst: &str,
+) -> Result<Option<[u64; 4]>, Fail> {
+    let options = [
+        "run",
+        "p",
+        "c",
+        "o",
+        "r",
+        "--mergers",
+        mergers,
+        "--burst",
+        burst,
+    ];
+    let run = words(alloc, &options)?;
+    let mut desk = FixedDesk::new(alloc, policy.to_vec(alloc)?, capture(alloc)?, 7);
+    let steps = Steps::new();
+    match nfp(rt, alloc, &run, &mut desk, &steps) {
+        Outcome::Done => Ok(Some(steps.sums())),
+        _ => Ok(None),
+    }
 }
 
 // A monitor beside a firewall sees all three packets, and behind it the two that pass. Of two chains each sees its own alone.
 #[test]
 fn each_step_of_the_walk_passes_the_gate_once(rt: HostRuntime) -> Result<(), Fail> {
     let alloc = rt.alloc();
-    for (policy, sums) in [
-        (BESIDE, [6, 0, 9, 12]),
-        (BEHIND, [5, 0, 7, 10]),
-        (CHAINS, [3, 1, 3, 6]),
-    ] {
-        for mergers in ["1", "2", "16"] {
-            for burst in ["1", "1024"] {
-                let options = [
-                    "run",
-                    "p",
-                    "c",
-                    "o",
-                    "r",
-                    "--mergers",
-                    mergers,
-                    "--burst",
-                    burst,
-                ];
-                let run = words(alloc, &options)?;
-                let mut desk = FixedDesk::new(alloc, policy.to_vec(alloc)?, capture(alloc)?, 7);
-                let steps = Steps::new();
-                let outcome = nfp(&rt, alloc, &run, &mut desk, &steps);
-                assert!(rt; matches!(outcome, Outcome::Done));
-                assert_eq!(rt; steps.sums(), sums);
-            }
-        }
+    for (mergers, burst) in [("1", "1"), ("2", "1024"), ("16", "2")] {
+        assert_eq!(rt;
+            sums_of(&rt, alloc, BESIDE, mergers, burst)?,
+            Some([6, 0, 9, 12])
+        );
+        assert_eq!(rt;
+            sums_of(&rt, alloc, BEHIND, mergers, burst)?,
+            Some([5, 0, 7, 10])
+        );
+        assert_eq!(rt;
+            sums_of(&rt, alloc, CHAINS, mergers, burst)?,
+            Some([3, 1, 3, 6])
+        );
     }
     Ok(())
 }

@@ -116,7 +116,7 @@ fn without_chains_all_packets_pass(rt: HostRuntime) -> Result<(), Fail> {
 #[test]
 fn a_demo_is_told_by_its_weights(rt: HostRuntime) -> Result<(), Fail> {
     let alloc = rt.alloc();
-    for (mergers, burst) in [("1", "7"), ("2", "1024"), ("16", "65536")] {
+    for (mergers, burst) in [("1", "700"), ("2", "1024"), ("16", "65536")] {
         let demo = words(
             alloc,
             &["demo", "1", "--mergers", mergers, "20000", "--burst", burst],

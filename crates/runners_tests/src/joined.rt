@@ -26,8 +26,8 @@ use std::test::Fail;
 
 /// A gate that is always open, and counts who passes.
 #[derive(Drop)]
-struct Passes {
-    count: AtomicU64,
+pub(crate) struct Passes {
+    pub(crate) count: AtomicU64,
 }
 
 impl Gate for Passes {
@@ -38,7 +38,7 @@ impl Gate for Passes {
 
 /// A firewall that lets every packet pass, and a hop.
 #[tactic(auto, unfolding(net_functions::specs::NetFunctions::profile_by))]
-fn open_and_hop(alloc: Global) -> Result<Vec<NetFunction>, AllocError>
+pub(crate) fn open_and_hop(alloc: Global) -> Result<Vec<NetFunction>, AllocError>
     ensures { IfOk result (λ functions. map net_behaviour.profile functions.items ≡ profile_of Kind.Firewall ∷ profile_of Kind.Hop ∷ []) }
 {
     let mut functions = Vec::with_capacity(alloc, 2)?;
@@ -48,7 +48,7 @@ fn open_and_hop(alloc: Global) -> Result<Vec<NetFunction>, AllocError>
 }
 
 /// Three packets of chain 0 from the hosts 1, 3 and 5, and between them two of no chain.
-fn burst(alloc: Global) -> Result<Burst, AllocError>
+pub(crate) fn burst(alloc: Global) -> Result<Burst, AllocError>
     ensures { IfOk result (λ burst. length burst.items ≤ 5) }
 {
     let mut items = Vec::with_capacity(alloc, 5)?;

@@ -16,4 +16,8 @@ mod joined;
 #[cfg(test)]
 mod links;
 #[cfg(test)]
+mod messages;
+#[cfg(test)]
+mod piped;
+#[cfg(test)]
 mod tables;

@@ -1,0 +1,113 @@
+//! Messages of packets go over links, one by one and in rows.
+ghost use Rattle.std.specs.Prelude.{◌≡◌, ◌∷◌, [], IfOk};
+ghost use Rattle.message_links.specs.Messages.{PlainMessage.Live, PlainMessage.Nil, PlainMessage.Short};
+
+use message_links::{
+    Inlet, Inlets, Message, Outlet, Outlets, Parcel, boxed, edge, message_without, take_row,
+};
+use ruled_links::LinkDue;
+use std::alloc::{AllocError, Global};
+use std::marker::Brand;
+use std::sync::Wait;
+use std::test::Fail;
+
+/// What came over a link.
+#[derive(Clone, Copy, PartialEq, Debug)]
+enum Came {
+    Part(u32),
+    Position(u32),
+    NoMemory,
+}
+
+fn taken(message: Message<u32>) -> Came {
+    match message {
+        Message::Live(part) => Came::Part(Box::into_inner(part)),
+        Message::Nil(position) => Came::Position(position),
+        Message::Short => Came::NoMemory,
+    }
+}
+
+/// A link on which a part, a position and want of memory are due.
+fn each_due<D: LinkDue<Parcel<u32>>>(
+    alloc: Global,
+    part: u32,
+    position: u32,
+) -> Result<(Outlet<u32>, Inlet<u32>), AllocError>
+    requires { D.due ≡ Live part ∷ Nil position ∷ Short ∷ [] }
+    ensures outlet { IfOk result (λ ends. ends.0 ≡ Live part ∷ Nil position ∷ Short ∷ []) }
+    ensures inlet { IfOk result (λ ends. ends.1 ≡ Live part ∷ Nil position ∷ Short ∷ []) }
+{
+    edge::<u32, D>(alloc, 3)
+}
+
+fn one_by_one<R: Wait>(rt: &R, alloc: Global) -> Result<[Came; 3], AllocError> {
+    let (mut outlet, mut inlet) = each_due::<Brand>(alloc, 5, 2)?;
+    outlet.give(rt, boxed(alloc, 5));
+    outlet.give(rt, message_without(Some(2)));
+    outlet.give(rt, message_without(None));
+    let first = taken(inlet.accept(rt));
+    let second = taken(inlet.accept(rt));
+    Ok([first, second, taken(inlet.accept(rt))])
+}
+
+#[test]
+fn what_is_due_comes_one_by_one(rt: HostRuntime) -> Result<(), Fail> {
+    let all = one_by_one(&rt, rt.alloc())?;
+    assert_eq!(rt; all, [Came::Part(5), Came::Position(2), Came::NoMemory]);
+    Ok(())
+}
+
+/// A link on which a part and a position are due.
+fn two_due<D: LinkDue<Parcel<u32>>>(
+    alloc: Global,
+    part: u32,
+    position: u32,
+) -> Result<(Outlet<u32>, Inlet<u32>), AllocError>
+    requires { D.due ≡ Live part ∷ Nil position ∷ [] }
+    ensures outlet { IfOk result (λ ends. ends.0 ≡ Live part ∷ Nil position ∷ []) }
+    ensures inlet { IfOk result (λ ends. ends.1 ≡ Live part ∷ Nil position ∷ []) }
+{
+    edge::<u32, D>(alloc, 2)
+}
+
+/// The one inlet of a list.
+fn alone(alloc: Global, inlet: Inlet<u32>) -> Result<Inlets<u32>, AllocError>
+    ensures { IfOk result (λ list. list ≡ inlet ∷ []) }
+{
+    let mut list = Inlets::new(alloc);
+    list.push(inlet)?;
+    Ok(list)
+}
+
+/// Whether two parts found memory, and what came of them and of the position behind each.
+fn in_rows<R: Wait>(rt: &R, alloc: Global) -> Result<(bool, [Came; 4]), AllocError> {
+    let (outlet, inlet) = two_due::<Brand>(alloc, 5, 2)?;
+    let (other_outlet, other_inlet) = two_due::<Brand>(alloc, 6, 2)?;
+    let mut outlets = Outlets::new(alloc);
+    outlets.push(outlet)?;
+    outlets.push(other_outlet)?;
+    let mut rows = [alone(alloc, inlet)?, alone(alloc, other_inlet)?];
+    let mut inlets = take_row(alloc, &mut rows)?;
+    let found = outlets.give_each(rt, alloc, Vec::from_array(alloc, [5, 6])?);
+    outlets.give_word(rt, Some(2));
+    let first = taken(inlets.accept_next(rt));
+    let second = taken(inlets.accept_at(rt, 0));
+    let third = taken(inlets.accept_next(rt));
+    Ok((found, [first, second, third, taken(inlets.accept_next(rt))]))
+}
+
+#[test]
+fn rows_come_in_turn(rt: HostRuntime) -> Result<(), Fail> {
+    let (found, all) = in_rows(&rt, rt.alloc())?;
+    assert!(rt; found);
+    assert_eq!(rt;
+        all,
+        [
+            Came::Part(5),
+            Came::Part(6),
+            Came::Position(2),
+            Came::Position(2)
+        ]
+    );
+    Ok(())
+}
