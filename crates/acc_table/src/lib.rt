@@ -8,7 +8,12 @@
 //! Contracts see a table as a finite map from a packet's number to what has come of it, by branch.
 //! All memory is taken by [`AccTable::with_room`].
 //!
-//! What is left out: how rows are found is the crate's own affair, and no clause speaks of it.
+//! A packet's row is found in the bucket of its number: the rows of numbers that leave the same rest by the number of
+//! buckets, the least power of two that is at least the table's entries. As many numbers in a row as the table has entries
+//! stand each alone. An arrival looks at no row outside its bucket, and [`AccTable::chain_len`] tells how many there are. A
+//! row is taken from the list of the free, and put back into it, without a search.
+//!
+//! What is left out: no clause says how long a call takes, or which of the free rows a packet gets.
 #![tactic(auto)]
 
 mod laws;
