@@ -1,0 +1,26 @@
+//! What is due on a board, and which values fit it. Both are said in contracts alone, and nothing of
+//! them runs.
+ghost use Rattle.std.specs.Prelude.{◌≡◌, List, []};
+
+use std::marker::Brand;
+
+/// Which values fit a due one.
+pub trait BoardFit {
+    ghost fits: { Self → Self → Type 0 };
+}
+
+/// Only the equal number fits.
+impl BoardFit for u32 {
+    ghost fits = { λ due value. value ≡ due };
+}
+
+/// What is due on a board: for each branch, in branch order, a value for each packet, by its number from
+/// 0. The call that makes the board picks the lists.
+pub trait BoardDue<T> {
+    ghost due: { List (List T) };
+}
+
+/// Where a call picks no lists, nothing is due.
+impl<T> BoardDue<T> for Brand {
+    ghost due = { [] };
+}
