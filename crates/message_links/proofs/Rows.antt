@@ -1,7 +1,7 @@
 -- Rows worked by hand: five messages, shared in turn.
 use Rattle.std.proofs.Common.{◌≡◌, ℕ, List, [], ◌∷◌, refl, inl, inr}
-use Rattle.message_links.specs.Messages.{PlainMessage.Live, PlainMessage.Nil, Fits, turned}
-use Rattle.message_links.specs.Turns.{share, shares_from, shares, share_len}
+use Rattle.message_links.specs.Messages.{PlainMessage.Live, PlainMessage.Nil, PlainMessage.Short, Fits, AllFit, turned}
+use Rattle.message_links.specs.Turns.{share, shares_from, shares, columns_from, columns, share_len}
 
 abbrev five : List ℕ
 five = 10 ∷ 11 ∷ 12 ∷ 13 ∷ 14 ∷ []
@@ -26,6 +26,10 @@ goes_to_the_back : turned (shares 2 five) ≡ (11 ∷ 13 ∷ []) ∷ (12 ∷ 14 
 unfolding shares_from share
 goes_to_the_back = refl
 
+two_mergers : columns 2 (five ∷ (20 ∷ []) ∷ []) ≡ ((10 ∷ 12 ∷ 14 ∷ []) ∷ (20 ∷ []) ∷ []) ∷ ((11 ∷ 13 ∷ []) ∷ [] ∷ []) ∷ []
+unfolding columns_from share
+two_mergers = refl
+
 another_part : Fits {P = ℕ} (Live 5) (Live 6) → ⊥
 another_part (inl e) = absurd (cc)
 another_part (inr e) = absurd (cc)
@@ -33,3 +37,11 @@ another_part (inr e) = absurd (cc)
 dropped_elsewhere : Fits {P = ℕ} (Nil 2) (Nil 3) → ⊥
 dropped_elsewhere (inl e) = absurd (cc)
 dropped_elsewhere (inr e) = absurd (cc)
+
+one_is_short : AllFit {P = ℕ} (Live 5 ∷ Nil 2 ∷ []) (Short ∷ Nil 2 ∷ [])
+unfolding AllFit
+one_is_short = (inr refl, (inl refl, tt))
+
+one_is_lost : AllFit {P = ℕ} (Live 5 ∷ Nil 2 ∷ []) (Live 5 ∷ []) → ⊥
+unfolding AllFit
+one_is_lost fit = fit.1

@@ -1,5 +1,5 @@
 -- For proofs: messages without their boxes, and what is still due on a link.
-use Rattle.std.specs.Prelude.{◌≡◌, ◌<◌, ◌++◌, ℕ, List, [], ◌∷◌, ◌⊎◌, length, Option, Some, None, Bool, true, false}
+use Rattle.std.specs.Prelude.{◌≡◌, ◌<◌, ◌++◌, ℕ, List, [], ◌∷◌, ◌⊎◌, length, Option, Some, None, Bool, true, false, ⊤}
 use Rattle.message_links.specs.declared.message.Message.{Message}
 use Rattle.message_links.specs.declared.message.Message.TheVariants as made
 
@@ -18,6 +18,13 @@ plain made.Short = Short
 -- a message fits what is due where it is that message or is short
 abbrev pub Fits : {P : Type 0} → PlainMessage P → PlainMessage P → Type 0
 Fits due message = (message ≡ due) ⊎ (message ≡ Short)
+
+-- as many messages as are due, and each fits the due one of its place
+unfoldable pub AllFit : {P : Type 0} → List (PlainMessage P) → List (PlainMessage P) → Type 0
+AllFit [] [] = ⊤
+AllFit [] (m ∷ ms) = ⊥
+AllFit (d ∷ ds) [] = ⊥
+AllFit (d ∷ ds) (m ∷ ms) = Fits d m × AllFit ds ms
 
 -- the next due message
 abbrev pub first : {P : Type 0} → List (PlainMessage P) → PlainMessage P

@@ -1,5 +1,5 @@
 -- For proofs: a stream of messages, shared in turn to some links.
-use Rattle.std.specs.Prelude.{ℕ, zero, suc, pred, List, [], ◌∷◌}
+use Rattle.std.specs.Prelude.{ℕ, zero, suc, pred, List, [], ◌∷◌, map}
 
 -- every m-th element, from the one behind the first i on
 unfoldable pub share : {A : Type 0} → ℕ → ℕ → List A → List A
@@ -15,6 +15,15 @@ shares_from m i (suc c) xs = share m i xs ∷ shares_from m (suc i) c xs
 -- the shares of m links: link i has the elements whose place leaves i when divided by m
 abbrev pub shares : {A : Type 0} → ℕ → List A → List (List A)
 shares m xs = shares_from m 0 m xs
+
+-- what so many of the m mergers take of each of these streams, from merger i on
+unfoldable pub columns_from : {A : Type 0} → ℕ → ℕ → ℕ → List (List A) → List (List (List A))
+columns_from m i zero rows = []
+columns_from m i (suc c) rows = map (share m i) rows ∷ columns_from m (suc i) c rows
+
+-- what each of m mergers takes of each of these streams: of each its share
+abbrev pub columns : {A : Type 0} → ℕ → List (List A) → List (List (List A))
+columns m rows = columns_from m 0 m rows
 
 -- how many elements a share of so many elements has
 unfoldable pub share_len : ℕ → ℕ → ℕ → ℕ

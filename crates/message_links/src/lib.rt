@@ -5,7 +5,8 @@
 //! that memory was short. [`edge`] makes a link for such messages and gives its two ends. The thread that
 //! owns the [`Outlet`] gives messages by [`Outlet::give`]; the one that owns the [`Inlet`] waits for the
 //! next by [`Inlet::accept`]. [`Outlets`] and [`Inlets`] are several ends in order: one that takes turns
-//! goes to the back once it was used, and a row is one message for each end.
+//! goes to the back once it was used, and a row is one message for each end. A [`Parcel`] is a message as a
+//! link carries it; a board may carry it too.
 //!
 //! Contracts see a message without its box, and each end as the list of the messages that are still due on
 //! it, in order. So an end needs no name, no capacity and no history: to give the next due message leaves

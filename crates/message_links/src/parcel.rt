@@ -1,11 +1,13 @@
-//! A message as a link carries it.
-ghost use Rattle.message_links.specs.Messages.{Fits};
+//! A message as a link or a board carries it.
+ghost use Rattle.std.specs.Prelude.{◌≡◌};
+ghost use Rattle.message_links.specs.Messages.{Fits, plain};
 
 use crate::message::Message;
+use merge_board::BoardFit;
 use ruled_links::LinkFit;
 use std::marker::Model;
 
-/// A message as a link carries it. Contracts see it without its box. What fits a due one is that message,
+/// A message as a link or a board carries it. Contracts see it without its box. What fits a due one is that message,
 /// or that memory is short.
 #[derive(Drop)]
 pub struct Parcel<P> {
@@ -22,4 +24,24 @@ impl<P> Model for Parcel<P> {
 
 impl<P> LinkFit for Parcel<P> {
     ghost fits = { Fits };
+}
+
+impl<P> BoardFit for Parcel<P> {
+    ghost fits = { Fits };
+}
+
+impl<P> Parcel<P> {
+    /// This message, made ready to be carried.
+    pub fn new(message: Message<P>) -> Parcel<P>
+        ensures { result ≡ plain message }
+    {
+        Parcel { message }
+    }
+
+    /// The message that was carried.
+    pub fn into_message(self) -> Message<P>
+        ensures { plain result ≡ self }
+    {
+        self.message
+    }
 }

@@ -1,0 +1,3 @@
+mod Columns
+mod Dealt
+mod Shares
