@@ -7,7 +7,7 @@ use Rattle.acc_table.specs.Arrivals.{Table, arrivals, with_arrival, nothing, IsO
 use Rattle.acc_table.specs.declared.table.Complete.{Complete}
 use Rattle.packet_version.specs.Versions.{PlainVersion}
 use Rattle.merge_ops.specs.declared.arrival.Arrival.{Arrival}
-use Rattle.message_links.specs.Messages.{PlainMessage, Fits, first, rest}
+use Rattle.message_links.specs.Messages.{PlainMessage, Fits, AllFit, first, rest}
 use Rattle.stage_nodes.specs.Streams.{as_arrival}
 use Rattle.stage_nodes.specs.Gathering.{partly, IsGathering, IsReady, MayCome, ArrivalFits, RowFits}
 
@@ -164,16 +164,16 @@ pub record HasGathered (columns now : List (List (PlainMessage PlainVersion))) (
   pub fits : RowFits (map first (take j columns)) come
   pub left : now ≡ map rest (take j columns) ++ drop j columns
 
-pub gathering_begins : (columns : List (List (PlainMessage PlainVersion))) (table : Table Arrival) (packet : ℕ) (into : List Arrival) → 0 < length columns → IsReady table (length columns) → into ≡ [] → HasGathered columns columns table packet 0 into
-gathering_begins columns table packet into some ready none = record {
+pub gathering_begins : (columns : List (List (PlainMessage PlainVersion))) (table : Table Arrival) (packet : ℕ) (into : List Arrival) → IsReady table (length columns) → into ≡ [] → HasGathered columns columns table packet 0 into
+gathering_begins columns table packet into ready none = record {
   come = [];
   gathering = record {
     entries = ready.entries;
     only = λ p is. absurd (ready.idle p is);
     here = λ less. not_open (finite.get table.waiting packet) (nothing table.branches) (ready.idle packet) ∙ ap (λ n. nothing n) (omega arith);
     waits = λ less. none;
-    idle = λ le. absurd (let c = ready.count in omega arith);
-    whole = λ le. absurd (let c = ready.count in omega arith);
+    idle = λ le. absurd (let c = ready.count in let s = ready.some in omega arith);
+    whole = λ le. absurd (let c = ready.count in let s = ready.some in omega arith);
   };
   many = refl;
   count = ready.count;
@@ -228,14 +228,39 @@ gathered_more columns now later table after packet j into more message has insid
 pub record HasAll (columns now : List (List (PlainMessage PlainVersion))) (table : Table Arrival) (into : List Arrival) : Type 0 where
   pub row : RowFits (map first columns) into
   pub left : now ≡ map rest columns
-  pub ready : IsReady table (length columns)
+  pub ready : IsReady table (length now)
 
-pub gathering_ends : (columns now : List (List (PlainMessage PlainVersion))) (table : Table Arrival) (packet j : ℕ) (into : List Arrival) → HasGathered columns now table packet j into → j ≡ length columns → HasAll columns now table into
-gathering_ends columns now table packet j into has over = record {
+pub gathering_ends : (columns now : List (List (PlainMessage PlainVersion))) (before table : Table Arrival) (packet j : ℕ) (into : List Arrival) → IsReady before (length columns) → HasGathered columns now table packet j into → j ≡ length columns → HasAll columns now table into
+gathering_ends columns now before table packet j into ready has over = record {
   row = subst (RowFits (map first columns)) (sym (has.gathering.whole le)) (subst (λ l. RowFits (map first l) has.come) (ap (λ k. take k columns) over ∙ take_all (length columns) columns (omega arith)) has.fits);
   left = has.left ∙ (λ i. map rest (take (over i) columns) ++ drop (over i) columns) ∙ (λ i. map rest (take_all (length columns) columns (omega arith) i) ++ drop_all (length columns) columns (omega arith) i) ∙ append-nil (map rest columns);
-  ready = record { count = has.count; entries = has.gathering.entries; idle = has.gathering.idle le };
+  ready = record {
+    some = let s = ready.some in omega (arith, same);
+    few = let f = ready.few in omega (arith, same);
+    count = has.count ∙ sym same;
+    entries = has.gathering.entries;
+    idle = has.gathering.idle le;
+  };
 }
   where
     le : table.branches ≤ length has.come
     le = let c = has.count in let m = has.many in omega arith
+
+    same : length now ≡ length columns
+    same = ap length has.left ∙ left_length columns j
+
+-- what a board hands over of a packet
+
+pub row_of : (dues ms : List (PlainMessage PlainVersion)) → AllFit dues ms → RowFits dues (map as_arrival ms)
+unfolding AllFit RowFits
+row_of [] [] fit = tt
+row_of [] (m ∷ ms) fit = fit
+row_of (due ∷ dues) [] fit = fit
+row_of (due ∷ dues) (m ∷ ms) fit = (arrival_fits due m fit.0, row_of dues ms fit.1)
+
+pub row_of_length : (dues ms : List (PlainMessage PlainVersion)) → AllFit dues ms → length ms ≡ length dues
+unfolding AllFit
+row_of_length [] [] fit = refl
+row_of_length [] (m ∷ ms) fit = absurd fit
+row_of_length (due ∷ dues) [] fit = absurd fit
+row_of_length (due ∷ dues) (m ∷ ms) fit = ap suc (row_of_length dues ms fit.1)

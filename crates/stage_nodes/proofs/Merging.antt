@@ -12,7 +12,7 @@ use Rattle.merge_ops.specs.Behind.{AreArrivals, IsFrom, no_touch}
 use Rattle.merge_ops.specs.declared.arrival.Arrival.{Arrival}
 use Rattle.merge_ops.specs.declared.arrival.Arrival.TheVariants as came
 use Rattle.merge_ops.specs.declared.merging.Merged.TheVariants as ends
-use Rattle.message_links.specs.Messages.{PlainMessage, PlainMessage.Live, PlainMessage.Nil, PlainMessage.Short, Fits, first, rest}
+use Rattle.message_links.specs.Messages.{PlainMessage, PlainMessage.Live, PlainMessage.Nil, PlainMessage.Short, Fits, Owing, first, rest}
 use Rattle.stage_nodes.specs.Streams.{as_arrival, of_merged, joined, merged_rows}
 use Rattle.stage_nodes.specs.Flows.{Belongs, AllBelong}
 use Rattle.stage_nodes.specs.Dues.{MergerDue}
@@ -122,6 +122,10 @@ pub reply_fits : (n : ℕ) (bases : List (PlainMessage PlainApart)) (columns : L
 reply_fits n bases columns outlet base row reply d fit fits is =
     subst (λ y. Fits y reply) (sym (merger_first n bases columns outlet d)) (through (joined (first bases) (map first columns)) (joined_row base row) reply (joined_fits (first bases) base (map first columns) row fit fits) is)
 
+-- something is due from each branch
+pub all_owe : (n : ℕ) (bases : List (PlainMessage PlainApart)) (columns : List (List (PlainMessage PlainVersion))) (outlet : List (PlainMessage PlainApart)) → MergerDue (suc n) bases columns outlet → All Owing columns
+all_owe n bases columns outlet d = λ k c less. let long = d.even k c less in omega arith
+
 even_rest : (n : ℕ) (columns : List (List (PlainMessage PlainVersion))) → All (λ c. length c ≡ suc n) columns → All (λ c. length c ≡ n) (map rest columns)
 even_rest n columns even = λ k d less.
     let inside : k < length columns = let m = length-map columns rest in omega arith in
@@ -154,7 +158,7 @@ rest_length n (m ∷ outlet) outlet' many o = ap length o ∙ (omega arith)
 
 -- over a count of packets
 
-pub owed : (n : ℕ) (bases : List (PlainMessage PlainApart)) (columns : List (List (PlainMessage PlainVersion))) (outlet : List (PlainMessage PlainApart)) → MergerDue n bases columns outlet → length outlet ≡ n
+owed : (n : ℕ) (bases : List (PlainMessage PlainApart)) (columns : List (List (PlainMessage PlainVersion))) (outlet : List (PlainMessage PlainApart)) → MergerDue n bases columns outlet → length outlet ≡ n
 owed n bases columns outlet d = ap length d.gives ∙ rows_length bases columns ∙ d.many
 
 pub merger_begins : (n : ℕ) (bases : List (PlainMessage PlainApart)) (columns : List (List (PlainMessage PlainVersion))) (outlet : List (PlainMessage PlainApart)) → MergerDue n bases columns outlet → MergerAt (n - 0) false bases columns outlet
@@ -166,10 +170,6 @@ merger_begins n bases columns outlet d = record {
 pub merger_at : (count i : ℕ) (short : Bool) (bases : List (PlainMessage PlainApart)) (columns : List (List (PlainMessage PlainVersion))) (outlet : List (PlainMessage PlainApart)) → i < count
     → MergerAt (count - i) short bases columns outlet → MergerAt (suc (count - (i + 1))) short bases columns outlet
 merger_at count i short bases columns outlet lt a = subst (λ n. MergerAt n short bases columns outlet) (one_more count i lt) a
-
-pub merger_short : (n : ℕ) (short : Bool) (bases bases' : List (PlainMessage PlainApart)) (columns columns' : List (List (PlainMessage PlainVersion))) (outlet outlet' : List (PlainMessage PlainApart))
-    → MergerAt (suc n) short bases columns outlet → outlet' ≡ rest outlet → MergerAt n true bases' columns' outlet'
-merger_short n short bases bases' columns columns' outlet outlet' a o = record { many = rest_length n outlet outlet' a.many o; due = λ w. absurd cc }
 
 pub merger_goes_on : (n : ℕ) (short after : Bool) (bases bases' : List (PlainMessage PlainApart)) (columns columns' : List (List (PlainMessage PlainVersion))) (outlet outlet' : List (PlainMessage PlainApart))
     → MergerAt (suc n) short bases columns outlet → short ≡ false → bases' ≡ rest bases → columns' ≡ map rest columns → outlet' ≡ rest outlet → MergerAt n after bases' columns' outlet'

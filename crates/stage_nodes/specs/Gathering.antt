@@ -1,4 +1,4 @@
--- For proofs: a packet that comes to a merger's table, from one branch after another.
+-- For proofs: how a packet comes to a merger: to its table from one branch after another, or from a board all at once.
 use Rattle.std.specs.Prelude.{◌≡◌, ◌<◌, ◌≤◌, ◌-◌, ◌++◌, ◌⊎◌, ℕ, List, [], ◌∷◌, length, map, Option, Some}
 use Rattle.acc_table.specs.Arrivals.{Table, arrivals, nothing, IsOpen}
 use Rattle.packet_version.specs.Versions.{PlainVersion}
@@ -33,6 +33,8 @@ pub record MayCome (come : List Arrival) (table : Table Arrival) (packet branch 
 
 -- The table has a place, and is idle, for so many branches.
 pub record IsReady (table : Table Arrival) (branches : ℕ) : Type 0 where
+  pub some : 0 < branches
+  pub few : branches ≤ 64
   pub count : table.branches ≡ branches
   pub entries : 0 < table.entries
   pub idle : IsIdle table
@@ -47,3 +49,9 @@ RowFits [] [] = Unit {0}
 RowFits [] (a ∷ row) = ⊥
 RowFits (due ∷ dues) [] = ⊥
 RowFits (due ∷ dues) (a ∷ row) = ArrivalFits due a × RowFits dues row
+
+-- A board has room to hand a row of so many branches over, and nothing stands there.
+pub record IsClear (branches : ℕ) (parcels : List (PlainMessage PlainVersion)) (room : ℕ) : Type 0 where
+  pub some : 0 < branches
+  pub none : parcels ≡ []
+  pub enough : branches ≤ room

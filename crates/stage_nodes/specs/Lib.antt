@@ -4,3 +4,4 @@ pub mod Dues
 pub mod Sources
 pub mod Turns
 pub mod Gathering
+pub mod Meetings

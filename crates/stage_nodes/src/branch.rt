@@ -6,8 +6,9 @@ ghost use Rattle.stage_nodes.specs.Flows.{MayTake};
 ghost use Rattle.stage_nodes.specs.Dues.{BranchDue};
 ghost use Rattle.stage_nodes.specs.Turns.{BranchReady};
 
+use crate::to_mergers::ToMergers;
 use crate::work::BranchWork;
-use message_links::{Inlet, Message, Outlets};
+use message_links::{Inlet, Message};
 use nfp_outside::Gate;
 use packet_version::Version;
 use std::alloc::Global;
@@ -18,7 +19,7 @@ use std::sync::Wait;
 #[derive(Drop)]
 pub struct Branch<F> {
     pub inlet: Inlet<Version>,
-    pub outlets: Outlets<Version>,
+    pub outlets: ToMergers,
     pub work: F,
     pub count: u32,
 }

@@ -5,34 +5,44 @@
 //! in turn. A [`Branch`] leads the versions that it is dealt through its functions ([`BranchWork`]), in the
 //! packets' order, and gives what comes of each to the mergers in turn. A [`Merger`] takes of each of its
 //! packets what the branches made of it and what stayed of it, puts it together again (`merge_ops`), and
-//! gives it to the dealer behind. Each node owns its ends of links (`message_links`) and shares nothing
-//! else, so it can run on a thread of its own: [`run_dealer`], [`run_branch`] and [`run_merger`] run one
-//! until all its packets went through it.
+//! gives it to the dealer behind. Branches and mergers meet in one of two ways, and neither node knows which:
+//! [`ToMergers`] and [`FromBranches`] are ends of links (`message_links`), where the merger asks one branch
+//! after another, or seats at the stage's board (`message_boards`), where each branch puts what it gives and
+//! the merger looks until all is there. Each node owns its ends of links and its seat, and shares nothing
+//! else, so it can run on a thread of its own: [`run_dealer`], [`run_branch`] and [`run_merger`] run one until
+//! all its packets went through it.
 //!
 //! A packet that was dropped goes on as a word that says where, through every node behind. Where a node
 //! finds no memory it gives a word that says so, of that packet and of all behind it: each node gives one
 //! message for each that it owes, whatever comes, so no neighbour waits for a message that was left out.
 //!
-//! What is promised: on each link a node gives what is due on it, or the word that memory is short, if what
-//! it takes is so too. What is due is a matter of lists, in `specs/Streams.antt`: what a dealer gives of a
-//! packet, what a branch's functions make of all versions one after another, what comes of what stayed of a
-//! packet and of what its branches made of it. Unless memory was short, a branch gives back the functions
-//! that are left after all its versions, and a dealer the copies that are due of all its packets.
-//! `specs/Dues.antt` says which links fit a node.
+//! What is promised: on each link, and to each merger, a node gives what is due, or the word that memory is
+//! short, if what it takes is so too. What is due is a matter of lists, in `specs/Streams.antt`: what a dealer
+//! gives of a packet, what a branch's functions make of all versions one after another, what comes of what
+//! stayed of a packet and of what its branches made of it. Unless memory was short, a branch gives back the
+//! functions that are left after all its versions, and a dealer the copies that are due of all its packets.
+//! `specs/Dues.antt` says which ends fit a node.
 //!
-//! What is left out: that a node ends, since it waits for its neighbours. Who makes the links and starts the
-//! nodes is the affair of the caller, and which functions a branch has is that of its `BranchWork`.
+//! What is left out: that a node ends, since it waits for its neighbours. Who makes the links and the boards
+//! and starts the nodes is the affair of the caller, and which functions a branch has is that of its
+//! `BranchWork`.
 #![tactic(auto)]
 
+mod arrival;
+mod board_rows;
 mod branch;
 mod dealer;
-mod gather;
+mod from_branches;
+mod link_rows;
 mod merger;
 mod source;
+mod to_mergers;
 mod work;
 
 pub use branch::{Branch, run_branch};
 pub use dealer::{Dealer, run_dealer};
+pub use from_branches::FromBranches;
 pub use merger::{Merger, run_merger};
 pub use source::Source;
+pub use to_mergers::ToMergers;
 pub use work::BranchWork;

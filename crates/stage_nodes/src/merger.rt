@@ -1,16 +1,14 @@
 //! The node of a merger.
-ghost use Rattle.std.specs.Prelude.{◌≡◌, ◌<◌, ◌≤◌, ◌^◌, [], ℕ, suc, length};
+ghost use Rattle.std.specs.Prelude.{◌≡◌, ◌<◌, ◌^◌, [], ℕ, suc, length};
 ghost use Rattle.message_links.specs.Messages.{Fits, plain};
 ghost use Rattle.stage_nodes.specs.Streams.{of_merged};
 ghost use Rattle.stage_nodes.specs.Dues.{MergerDue};
-ghost use Rattle.stage_nodes.specs.Gathering.{IsReady};
 ghost use Rattle.stage_nodes.specs.Turns.{BelongTo, MergerAt, joined_row};
 
-use crate::gather::gather;
-use acc_table::AccTable;
+use crate::from_branches::FromBranches;
 use merge_ops::{Arrival, Merged, merge};
-use message_links::{Inlet, Inlets, Message, Outlet, boxed};
-use packet_version::{Apart, Base, Version};
+use message_links::{Inlet, Message, Outlet, boxed};
+use packet_version::{Apart, Base};
 use std::alloc::Global;
 use std::sync::Wait;
 
@@ -19,7 +17,7 @@ use std::sync::Wait;
 #[derive(Drop)]
 pub struct Merger {
     pub base: Inlet<Base>,
-    pub inlets: Inlets<Version>,
+    pub inlets: FromBranches,
     pub outlet: Outlet<Apart>,
     pub count: u32,
 }
@@ -30,15 +28,10 @@ pub fn run_merger<R: Wait>(rt: &R, alloc: Global, merger: Merger)
     requires due { MergerDue merger.count merger.base merger.inlets merger.outlet }
 {
     let mut merger = merger;
-    let branches = merger.inlets.len() as u32;
-    // One packet is open at a time.
-    let Ok(mut table) = AccTable::with_room(alloc, 1, branches) else {
-        return merger.give_up(rt);
-    };
     let mut row = Vec::new(alloc);
     let mut short = false;
     for packet in 0..merger.count {
-        short = merger.merge_next(rt, alloc, &mut table, &mut row, packet, short);
+        short = merger.merge_next(rt, alloc, &mut row, packet, short);
     }
 }
 
@@ -48,15 +41,12 @@ impl Merger {
         &mut self,
         rt: &R,
         alloc: Global,
-        table: &mut AccTable<Arrival>,
         row: &mut Vec<Arrival>,
         packet: u32,
         short: bool,
     ) -> bool
-        requires ready { IsReady table.old (length self.old.inlets) }
         requires empty { row.old.items ≡ [] }
         requires at { (n : ℕ) × MergerAt (suc n) short self.old.base self.old.inlets self.old.outlet }
-        ensures ready { IsReady table.new (length self.new.inlets) }
         ensures empty { row.new.items ≡ [] }
         ensures at { (n : ℕ) → MergerAt (suc n) short self.old.base self.old.inlets self.old.outlet →
             MergerAt n result self.new.base self.new.inlets self.new.outlet }
@@ -65,20 +55,11 @@ impl Merger {
             self.outlet.give(rt, Message::Short);
             return true;
         }
-        gather(rt, table, packet, &mut self.inlets, row);
+        self.inlets.accept_row(rt, packet, row);
         let reply = join(rt, alloc, self.base.accept(rt), row);
         let short = reply.is_short();
         self.outlet.give(rt, reply);
         short
-    }
-
-    /// Says of each packet that memory is short.
-    fn give_up<R: Wait>(mut self, rt: &R)
-        requires { length self.outlet ≡ self.count }
-    {
-        for _packet in 0..self.count {
-            self.outlet.give(rt, Message::Short);
-        }
     }
 }
 

@@ -1,7 +1,6 @@
-use Rattle.std.proofs.Common.{◌≡◌, ◌-◌, length, []}
-use Rattle.stage_nodes.specs.Gathering.{IsReady}
+use Rattle.std.proofs.Common.{◌≡◌, ◌-◌, []}
 use Rattle.stage_nodes.specs.Turns.{MergerAt}
 use Rattle.stage_nodes.proofs.merger.run_merger.Given as goal
 
 abbrev pub invariant-loop-packet : goal.invariant-loop-packet
-invariant-loop-packet g l = IsReady l.table (length l.merger.inlets) × (l.row.items ≡ []) × MergerAt (l.fn.merger.count - l.packet) l.short l.merger.base l.merger.inlets l.merger.outlet
+invariant-loop-packet g l = (l.row.items ≡ []) × MergerAt (l.fn.merger.count - l.packet) l.short l.merger.base l.merger.inlets l.merger.outlet

@@ -1,5 +1,5 @@
 use Rattle.stage_nodes.proofs.Gathering.{needs, one_came}
-use Rattle.stage_nodes.proofs.gather.arrive.Goals as goal
+use Rattle.stage_nodes.proofs.link_rows.arrive.Goals as goal
 
 pub arrive-requires-clause-first : goal.arrive-requires-clause-first
 arrive-requires-clause-first c = (needs _ _ _ _ _ c.open_packets_take_a_place_each.ensures.among c.requires.may.1).free

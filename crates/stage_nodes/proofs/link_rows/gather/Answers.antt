@@ -2,10 +2,10 @@ use Rattle.std.proofs.Common.{◌<◌, ◌++◌, ◌∷◌, [], length, subst, a
 use Rattle.message_links.specs.Messages.{plain}
 use Rattle.stage_nodes.specs.Gathering.{IsGathering}
 use Rattle.stage_nodes.proofs.Gathering.{gathering_begins, gathered_more, gathering_ends, next_may, next_there}
-use Rattle.stage_nodes.proofs.gather.gather.Goals as goal
+use Rattle.stage_nodes.proofs.link_rows.gather.Goals as goal
 
 pub loop-branch-init : goal.loop-branch-init
-loop-branch-init g c = (gathering_begins _ _ _ _ c.requires.some c.requires.ready c.requires.empty, c.requires.room)
+loop-branch-init g c = (gathering_begins _ _ _ _ c.requires.ready c.requires.empty, c.requires.room)
 
 pub accept_at-requires : goal.accept_at-requires
 accept_at-requires g c = record { inside = next_there _ _ _ _ _ _ c.loop-branch.invariant.0 (omega (arith, c.loop-branch-test.true, c.len-branch-end.ensures)) }
@@ -27,10 +27,10 @@ loop-branch-preserved g c =
     )
 
 pub returns-clause-row : goal.returns-clause-row
-returns-clause-row g c = (gathering_ends _ _ _ _ _ _ c.loop-branch.invariant.0 (omega (arith, c.loop-branch-test.false, c.len-branch-end.ensures))).row
+returns-clause-row g c = (gathering_ends _ _ _ _ _ _ _ c.requires.ready c.loop-branch.invariant.0 (omega (arith, c.loop-branch-test.false, c.len-branch-end.ensures))).row
 
 pub returns-clause-left : goal.returns-clause-left
-returns-clause-left g c = (gathering_ends _ _ _ _ _ _ c.loop-branch.invariant.0 (omega (arith, c.loop-branch-test.false, c.len-branch-end.ensures))).left
+returns-clause-left g c = (gathering_ends _ _ _ _ _ _ _ c.requires.ready c.loop-branch.invariant.0 (omega (arith, c.loop-branch-test.false, c.len-branch-end.ensures))).left
 
 pub returns-clause-ready : goal.returns-clause-ready
-returns-clause-ready g c = (gathering_ends _ _ _ _ _ _ c.loop-branch.invariant.0 (omega (arith, c.loop-branch-test.false, c.len-branch-end.ensures))).ready
+returns-clause-ready g c = (gathering_ends _ _ _ _ _ _ _ c.requires.ready c.loop-branch.invariant.0 (omega (arith, c.loop-branch-test.false, c.len-branch-end.ensures))).ready

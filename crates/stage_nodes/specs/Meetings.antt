@@ -1,0 +1,18 @@
+-- For proofs: what is still due where branches and mergers meet, whether over links or on a board.
+use Rattle.std.specs.Prelude.{List}
+use Rattle.packet_version.specs.Versions.{PlainVersion}
+use Rattle.message_links.specs.Messages.{PlainMessage}
+use Rattle.stage_nodes.specs.declared.to_mergers.Outward.{Outward}
+use Rattle.stage_nodes.specs.declared.to_mergers.Outward.TheVariants as out
+use Rattle.stage_nodes.specs.declared.from_branches.Inward.{Inward}
+use Rattle.stage_nodes.specs.declared.from_branches.Inward.TheVariants as into
+
+-- from a branch to each merger
+abbrev pub due_outward : Outward → List (List (PlainMessage PlainVersion))
+due_outward (out.Links outlets) = outlets
+due_outward (out.Board outlets) = outlets
+
+-- from each branch to a merger
+abbrev pub due_inward : Inward → List (List (PlainMessage PlainVersion))
+due_inward (into.Links rows) = rows
+due_inward (into.Board rows) = rows
