@@ -1,3 +1,4 @@
 pub mod Shares
 pub mod Wiring
+pub mod Meets
 pub mod Running

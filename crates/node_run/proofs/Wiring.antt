@@ -6,8 +6,8 @@ use Rattle.packet_fields.specs.declared.field.Field.{Field}
 use Rattle.action_profile.specs.declared.parts.Touch.{Touch}
 use Rattle.packet_version.specs.Splitting.{PlainApart}
 use Rattle.packet_version.specs.Versions.{PlainVersion}
-use Rattle.message_links.specs.Messages.{PlainMessage, Owing, first, rest, front}
-use Rattle.message_links.specs.Turns.{share, share_len, shares_from, shares}
+use Rattle.message_links.specs.Messages.{PlainMessage, first, rest}
+use Rattle.message_links.specs.Turns.{share, share_len, shares_from, shares, columns_from}
 use Rattle.stage_nodes.specs.Streams.{Kit, PlainStage, parted, base_of, moved, joined, ran, left, came_from, stayed, merged_rows, passed, dealer_copies}
 use Rattle.stage_nodes.specs.Flows.{MayTakeAll, AllMayTake, Belongs, AllBelong, MayPass}
 use Rattle.stage_nodes.specs.Dues.{PlainSource, ComesFrom, DealerDue, BranchDue, MergerDue}
@@ -25,6 +25,9 @@ use Rattle.node_run.proofs.Shares.{share_long}
 pub none_left : {A : Type 0} (n : ℕ) (xs : List A) → n ≡ 0 → length xs ≡ n → xs ≡ []
 none_left n [] z e = refl
 none_left n (x ∷ xs) z e = absurd (omega (arith, z, e))
+
+tail_is : {A : Type 0} {x y : A} {xs ys : List A} → ◌≡◌ {A = List A} (x ∷ xs) (y ∷ ys) → (x ≡ y) × (xs ≡ ys)
+tail_is e = (cc, cc)
 
 -- lengths
 
@@ -53,13 +56,13 @@ base_many ts count xs due e many = ap length e ∙ length-map xs (base_of ts) �
 pub passed_many : {F : Type 0} (k : Kit F) (s : PlainStage F) (count : ℕ) (xs due : List (PlainMessage PlainApart)) → due ≡ passed k s xs → length xs ≡ count → length due ≡ count
 passed_many k s count xs due e many = ap length e ∙ passed_length k s xs ∙ many
 
-came_many : {F : Type 0} (k : Kit F) (touches : List Touch) (fs : List F) (xs : List (PlainMessage PlainApart)) → length fs ≡ length touches → length (came_from k touches fs xs) ≡ length touches
+pub came_many : {F : Type 0} (k : Kit F) (touches : List Touch) (fs : List F) (xs : List (PlainMessage PlainApart)) → length fs ≡ length touches → length (came_from k touches fs xs) ≡ length touches
 unfolding came_from
 came_many k [] fs xs e = refl
 came_many k (t ∷ touches) [] xs e = absurd (omega (arith, e))
 came_many k (t ∷ touches) (f ∷ fs) xs e = ap suc (came_many k touches fs xs (omega (arith, e)))
 
-came_even : {F : Type 0} (k : Kit F) (touches : List Touch) (fs : List F) (xs : List (PlainMessage PlainApart)) (count : ℕ) → length xs ≡ count → All (λ column. length column ≡ count) (came_from k touches fs xs)
+pub came_even : {F : Type 0} (k : Kit F) (touches : List Touch) (fs : List F) (xs : List (PlainMessage PlainApart)) (count : ℕ) → length xs ≡ count → All (λ column. length column ≡ count) (came_from k touches fs xs)
 unfolding came_from
 came_even k [] fs xs count e = All-nil _
 came_even k (t ∷ touches) [] xs count e = All-nil _
@@ -148,82 +151,93 @@ branch_added k may m count t xs b old new fs c lt many take i o e n a =
 
 -- the branches of a stage
 
-pub none_wired : {F : Type 0} (k : Kit F) (may : F → ℕ → PlainVersion → Type 0) (touches : List Touch) (fs : List F) (m : ℕ) (xs : List (PlainMessage PlainApart)) (todo : List F) (w : Branches F)
-    → todo ≡ fs → length fs ≡ length touches → AllMayTake k may touches fs xs → w.versions ≡ [] → w.rows.items ≡ [] → w.nodes.items ≡ [] → AreWiring k may touches fs m xs 0 todo w
-none_wired k may touches fs m xs todo w t owners take v r n = record {
+pub none_wired : {F : Type 0} (k : Kit F) (may : F → ℕ → PlainVersion → Type 0) (touches : List Touch) (fs : List F) (m : ℕ) (xs : List (PlainMessage PlainApart)) (todo : List F) (given : List (List (List (PlainMessage PlainVersion)))) (w : Branches F)
+    → todo ≡ fs → length fs ≡ length touches → AllMayTake k may touches fs xs → given ≡ map (shares m) (came_from k touches fs xs) → w.versions ≡ [] → w.nodes.items ≡ [] → AreWiring k may touches fs m xs 0 todo given w
+none_wired k may touches fs m xs todo given w t owners take g v n = record {
   many = omega (arith, ap length t, owners);
   versions = ap (λ y. y ++ all_parted touches xs) v;
-  rows = ap (λ y. y ++ map (shares m) (came_from k touches todo xs)) r ∙ ap (λ y. map (shares m) (came_from k touches y xs)) t;
+  outlets = g ∙ ap (λ y. map (shares m) (came_from k touches y xs)) (sym t);
   take = subst (λ y. AllMayTake k may touches y xs) (sym t) take;
   functions = [];
   nodes = no_nodes k may w.nodes.items n;
   gives = ap (λ y. stayed k touches y xs) t;
 }
 
-pub is_next : {F : Type 0} (k : Kit F) (may : F → ℕ → PlainVersion → Type 0) (touches : List Touch) (fs : List F) (m : ℕ) (xs : List (PlainMessage PlainApart)) (j : ℕ) (was todo : List F) (f : F) (w : Branches F)
-    → AreWiring k may touches fs m xs j was w → was ≡ f ∷ todo → j < length touches
-is_next k may touches fs m xs j was todo f w h t = omega (arith, h.many, ap length t)
+-- the branch that is wired next, with this touch and these functions, and the outlets that it gets
+pub record BranchNext {F : Type 0} (k : Kit F) (may : F → ℕ → PlainVersion → Type 0) (touches : List Touch) (m : ℕ) (xs : List (PlainMessage PlainApart)) (j : ℕ) (todo : List F) (f : F) (touch : Touch) (given : List (List (List (PlainMessage PlainVersion)))) : Type 0 where
+  pub touch_is : drop j touches ≡ touch ∷ drop (j + 1) touches
+  pub take : MayTakeAll k may f 0 (map (parted touch) xs)
+  pub take_later : AllMayTake k may (drop (j + 1) touches) todo xs
+  pub outlets_are : given ≡ shares m (ran k f (map (parted touch) xs)) ∷ map (shares m) (came_from k (drop (j + 1) touches) todo xs)
 
-pub touch_next : {F : Type 0} (k : Kit F) (may : F → ℕ → PlainVersion → Type 0) (touches : List Touch) (fs : List F) (m : ℕ) (xs : List (PlainMessage PlainApart)) (j : ℕ) (was todo : List F) (f : F) (none : Touch) (w : Branches F)
-    → AreWiring k may touches fs m xs j was w → was ≡ f ∷ todo → drop j touches ≡ slice_index_or touches j none ∷ drop (j + 1) touches
-touch_next k may touches fs m xs j was todo f none w h t = drop_more touches j none (is_next k may touches fs m xs j was todo f w h t)
+pub is_next : {F : Type 0} (k : Kit F) (may : F → ℕ → PlainVersion → Type 0) (touches : List Touch) (fs : List F) (m : ℕ) (xs : List (PlainMessage PlainApart)) (j : ℕ) (was todo : List F) (f : F) (given : List (List (List (PlainMessage PlainVersion)))) (w : Branches F)
+    → AreWiring k may touches fs m xs j was given w → was ≡ f ∷ todo → j < length touches
+is_next k may touches fs m xs j was todo f given w h t = omega (arith, h.many, ap length t)
 
-pub take_next : {F : Type 0} (k : Kit F) (may : F → ℕ → PlainVersion → Type 0) (touches : List Touch) (fs : List F) (m : ℕ) (xs : List (PlainMessage PlainApart)) (j : ℕ) (was todo : List F) (f : F) (touch : Touch) (w : Branches F)
-    → AreWiring k may touches fs m xs j was w → was ≡ f ∷ todo → drop j touches ≡ touch ∷ drop (j + 1) touches
-    → MayTakeAll k may f 0 (map (parted touch) xs) × AllMayTake k may (drop (j + 1) touches) todo xs
-unfolding AllMayTake
-take_next k may touches fs m xs j was todo f touch w h t d =
+pub branch_next : {F : Type 0} (k : Kit F) (may : F → ℕ → PlainVersion → Type 0) (touches : List Touch) (fs : List F) (m : ℕ) (xs : List (PlainMessage PlainApart)) (j : ℕ) (was todo : List F) (f : F) (none : Touch) (given : List (List (List (PlainMessage PlainVersion)))) (w : Branches F)
+    → AreWiring k may touches fs m xs j was given w → was ≡ f ∷ todo → BranchNext k may touches m xs j todo f (slice_index_or touches j none) given
+unfolding came_from AllMayTake
+branch_next k may touches fs m xs j was todo f none given w h t =
+    let touch = slice_index_or touches j none in
+    let d : drop j touches ≡ touch ∷ drop (j + 1) touches = drop_more touches j none (is_next k may touches fs m xs j was todo f given w h t) in
     let a : AllMayTake k may (drop j touches) (f ∷ todo) xs = subst (λ y. AllMayTake k may (drop j touches) y xs) t h.take in
-    let b : AllMayTake k may (touch ∷ drop (j + 1) touches) (f ∷ todo) xs = subst (λ y. AllMayTake k may y (f ∷ todo) xs) d a in
-    b
+    let b : AllMayTake k may (touch ∷ drop (j + 1) touches) (f ∷ todo) xs = subst (λ y. AllMayTake k may y (f ∷ todo) xs) d a in record {
+      touch_is = d;
+      take = b.0;
+      take_later = b.1;
+      outlets_are = h.outlets ∙ ap (λ y. map (shares m) (came_from k (drop j touches) y xs)) t ∙ ap (λ y. map (shares m) (came_from k y (f ∷ todo) xs)) d;
+    }
 
-pub wired_more : {F : Type 0} (k : Kit F) (may : F → ℕ → PlainVersion → Type 0) (touches : List Touch) (fs : List F) (m : ℕ) (xs : List (PlainMessage PlainApart)) (j : ℕ) (was todo : List F) (f : F) (touch : Touch) (w new : Branches F)
-    → AreWiring k may touches fs m xs j was w → was ≡ f ∷ todo → drop j touches ≡ touch ∷ drop (j + 1) touches
+-- some outlets are left for the next branch, and the first of them are its own
+pub outlets_left : {F : Type 0} (k : Kit F) (may : F → ℕ → PlainVersion → Type 0) (touches : List Touch) (m : ℕ) (xs : List (PlainMessage PlainApart)) (j : ℕ) (todo : List F) (f : F) (touch : Touch) (given : List (List (List (PlainMessage PlainVersion))))
+    → BranchNext k may touches m xs j todo f touch given → 0 < length given
+outlets_left k may touches m xs j todo f touch given h = omega (arith, ap length h.outlets_are)
+
+pub outlets_own : {F : Type 0} (k : Kit F) (may : F → ℕ → PlainVersion → Type 0) (touches : List Touch) (m : ℕ) (xs : List (PlainMessage PlainApart)) (j : ℕ) (todo : List F) (f : F) (touch : Touch) (given given' : List (List (List (PlainMessage PlainVersion)))) (own : List (List (PlainMessage PlainVersion)))
+    → BranchNext k may touches m xs j todo f touch given → given ≡ own ∷ given' → own ≡ shares m (ran k f (map (parted touch) xs))
+outlets_own k may touches m xs j todo f touch given given' own h g = (tail_is (sym g ∙ h.outlets_are)).0
+
+pub wired_more : {F : Type 0} (k : Kit F) (may : F → ℕ → PlainVersion → Type 0) (touches : List Touch) (fs : List F) (m : ℕ) (xs : List (PlainMessage PlainApart)) (j : ℕ) (was todo : List F) (f : F) (touch : Touch) (given given' : List (List (List (PlainMessage PlainVersion)))) (own : List (List (PlainMessage PlainVersion))) (w new : Branches F)
+    → AreWiring k may touches fs m xs j was given w → was ≡ f ∷ todo → BranchNext k may touches m xs j todo f touch given → given ≡ own ∷ given'
     → new.versions ≡ w.versions ++ map (parted touch) xs ∷ []
-    → new.rows.items ≡ w.rows.items ++ shares m (ran k f (map (parted touch) xs)) ∷ []
     → ((gs : List F) (c : Field → ℕ) → AreNodes k may w.nodes.items gs c → AreNodes k may new.nodes.items (gs ++ left k f (map (parted touch) xs) ∷ []) c)
-    → AreWiring k may touches fs m xs (j + 1) todo new
-unfolding came_from stayed
-wired_more k may touches fs m xs j was todo f touch w new h t d v r n = record {
+    → AreWiring k may touches fs m xs (j + 1) todo given' new
+unfolding stayed
+wired_more k may touches fs m xs j was todo f touch given given' own w new h t b g v n = record {
   many = omega (arith, h.many, ap length t);
   versions = ap (λ y. y ++ all_parted (drop (j + 1) touches) xs) v
       ∙ append_assoc w.versions (map (parted touch) xs ∷ []) (all_parted (drop (j + 1) touches) xs)
-      ∙ ap (λ y. w.versions ++ all_parted y xs) (sym d)
+      ∙ ap (λ y. w.versions ++ all_parted y xs) (sym b.touch_is)
       ∙ h.versions;
-  rows = ap (λ y. y ++ map (shares m) (came_from k (drop (j + 1) touches) todo xs)) r
-      ∙ append_assoc w.rows.items (shares m (ran k f (map (parted touch) xs)) ∷ []) (map (shares m) (came_from k (drop (j + 1) touches) todo xs))
-      ∙ ap (λ y. w.rows.items ++ map (shares m) (came_from k (touch ∷ drop (j + 1) touches) y xs)) (sym t)
-      ∙ ap (λ y. w.rows.items ++ map (shares m) (came_from k y was xs)) (sym d)
-      ∙ h.rows;
-  take = (take_next k may touches fs m xs j was todo f touch w h t d).1;
+  outlets = (tail_is (sym g ∙ b.outlets_are)).1;
+  take = b.take_later;
   functions = h.functions ++ left k f (map (parted touch) xs) ∷ [];
   nodes = n h.functions no_copies h.nodes;
   gives = append_assoc h.functions (left k f (map (parted touch) xs) ∷ []) (stayed k (drop (j + 1) touches) todo xs)
       ∙ ap (λ y. h.functions ++ stayed k (touch ∷ drop (j + 1) touches) y xs) (sym t)
-      ∙ ap (λ y. h.functions ++ stayed k y was xs) (sym d)
+      ∙ ap (λ y. h.functions ++ stayed k y was xs) (sym b.touch_is)
       ∙ h.gives;
 }
 
-drop_none : {A : Type 0} (n : ℕ) (xs : List A) → length xs ≤ n → drop n xs ≡ []
+pub drop_none : {A : Type 0} (n : ℕ) (xs : List A) → length xs ≤ n → drop n xs ≡ []
 drop_none zero [] le = refl
 drop_none zero (x ∷ xs) le = absurd (omega arith)
 drop_none (suc n) [] le = refl
 drop_none (suc n) (x ∷ xs) le = drop_none n xs (omega arith)
 
-pub all_wired : {F : Type 0} (k : Kit F) (may : F → ℕ → PlainVersion → Type 0) (touches : List Touch) (fs : List F) (m : ℕ) (xs : List (PlainMessage PlainApart)) (j : ℕ) (todo : List F) (w : Branches F)
-    → AreWiring k may touches fs m xs j todo w → todo ≡ [] → AreWired k may touches fs m xs w
-unfolding came_from stayed
-all_wired k may touches fs m xs j todo w h t =
+pub all_wired : {F : Type 0} (k : Kit F) (may : F → ℕ → PlainVersion → Type 0) (touches : List Touch) (fs : List F) (m : ℕ) (xs : List (PlainMessage PlainApart)) (j : ℕ) (todo : List F) (given : List (List (List (PlainMessage PlainVersion)))) (w : Branches F)
+    → AreWiring k may touches fs m xs j todo given w → todo ≡ [] → AreWired k may touches fs xs w
+unfolding stayed
+all_wired k may touches fs m xs j todo given w h t =
     let none : drop j touches ≡ [] = drop_none j touches (omega (arith, h.many, ap length t)) in record {
       versions = sym (append-nil w.versions) ∙ ap (λ y. w.versions ++ all_parted y xs) (sym none) ∙ h.versions;
-      rows = sym (append-nil w.rows.items) ∙ ap (λ y. w.rows.items ++ map (shares m) (came_from k y todo xs)) (sym none) ∙ h.rows;
       nodes = nodes_are k may w.nodes.items w.nodes.items h.functions (stayed k touches fs xs) no_copies no_copies h.nodes refl
           (sym (sym (append-nil h.functions) ∙ ap (λ y. h.functions ++ stayed k y todo xs) (sym none) ∙ h.gives)) (λ f. refl);
     }
 
-pub wired_by : {F : Type 0} (k : Kit F) (may : F → ℕ → PlainVersion → Type 0) (touches touches' : List Touch) (fs : List F) (m : ℕ) (xs : List (PlainMessage PlainApart)) (w : Branches F)
-    → AreWired k may touches fs m xs w → touches ≡ touches' → AreWired k may touches' fs m xs w
-wired_by k may touches touches' fs m xs w h e = subst (λ y. AreWired k may y fs m xs w) e h
+pub wired_by : {F : Type 0} (k : Kit F) (may : F → ℕ → PlainVersion → Type 0) (touches touches' : List Touch) (fs : List F) (xs : List (PlainMessage PlainApart)) (w : Branches F)
+    → AreWired k may touches fs xs w → touches ≡ touches' → AreWired k may touches' fs xs w
+wired_by k may touches touches' fs xs w h e = subst (λ y. AreWired k may y fs xs w) e h
 
 -- the mergers
 
@@ -277,48 +291,28 @@ share_even m i count own (c ∷ columns) w a =
     (share_long m i c ∙ ap (share_len m i) (all_head (λ column. length column ≡ count) c columns a) ∙ sym w)
     (share_even m i count own columns w (all_tail (λ column. length column ≡ count) c columns a))
 
-rows_owing : {A : Type 0} (m i c : ℕ) (columns : List (List A)) → All Owing (map (shares_from m i (suc c)) columns)
-unfolding shares_from
-rows_owing m i c [] = All-nil Owing
-rows_owing m i c (x ∷ columns) =
-    let here : Owing (shares_from m i (suc c) x) = omega arith in
-    All-cons Owing (shares_from m i (suc c) x) (map (shares_from m i (suc c)) columns) here (rows_owing m i c columns)
-
-rows_front : {A : Type 0} (m i c : ℕ) (columns : List (List A)) → map front (map (shares_from m i (suc c)) columns) ≡ map (share m i) columns
-unfolding shares_from
-rows_front m i c [] = refl
-rows_front m i c (x ∷ columns) = ap (λ y. share m i x ∷ y) (rows_front m i c columns)
-
-rows_rest : {A : Type 0} (m i c : ℕ) (columns : List (List A)) → map rest (map (shares_from m i (suc c)) columns) ≡ map (shares_from m (suc i) c) columns
-unfolding shares_from
-rows_rest m i c [] = refl
-rows_rest m i c (x ∷ columns) = ap (λ y. shares_from m (suc i) c x ∷ y) (rows_rest m i c columns)
-
 -- one merger's ends, and those of the others
-pub record MergerNext (m i c count : ℕ) (bases : List (List (PlainMessage PlainApart))) (rows : List (List (List (PlainMessage PlainVersion)))) (outlets : List (List (PlainMessage PlainApart))) : Type 0 where
+pub record MergerNext (m i c count : ℕ) (bases : List (List (PlainMessage PlainApart))) (inlets : List (List (List (PlainMessage PlainVersion)))) (outlets : List (List (PlainMessage PlainApart))) : Type 0 where
   pub base_some : 0 < length bases
+  pub inlets_some : 0 < length inlets
   pub outlet_some : 0 < length outlets
-  pub rows_some : All Owing rows
-  pub due : (base outlet : List (PlainMessage PlainApart)) (bases' outlets' : List (List (PlainMessage PlainApart))) (inlets : List (List (PlainMessage PlainVersion))) (own : ℕ)
-      → bases ≡ base ∷ bases' → outlets ≡ outlet ∷ outlets' → inlets ≡ map front rows → own ≡ share_len m i count → MergerDue own base inlets outlet
-  pub on : (base outlet : List (PlainMessage PlainApart)) (bases' outlets' : List (List (PlainMessage PlainApart))) (rows' : List (List (List (PlainMessage PlainVersion))))
-      → bases ≡ base ∷ bases' → outlets ≡ outlet ∷ outlets' → rows' ≡ map rest rows → MergersFit m (i + 1) c count bases' rows' outlets'
+  pub due : (base outlet : List (PlainMessage PlainApart)) (inlet : List (List (PlainMessage PlainVersion))) (bases' outlets' : List (List (PlainMessage PlainApart))) (inlets' : List (List (List (PlainMessage PlainVersion)))) (own : ℕ)
+      → bases ≡ base ∷ bases' → outlets ≡ outlet ∷ outlets' → inlets ≡ inlet ∷ inlets' → own ≡ share_len m i count → MergerDue own base inlet outlet
+  pub on : (base outlet : List (PlainMessage PlainApart)) (inlet : List (List (PlainMessage PlainVersion))) (bases' outlets' : List (List (PlainMessage PlainApart))) (inlets' : List (List (List (PlainMessage PlainVersion))))
+      → bases ≡ base ∷ bases' → outlets ≡ outlet ∷ outlets' → inlets ≡ inlet ∷ inlets' → MergersFit m (i + 1) c count bases' inlets' outlets'
 
-tail_is : {A : Type 0} {x y : A} {xs ys : List A} → ◌≡◌ {A = List A} (x ∷ xs) (y ∷ ys) → (x ≡ y) × (xs ≡ ys)
-tail_is e = (cc, cc)
-
-next_of : (m i c count : ℕ) (bases : List (List (PlainMessage PlainApart))) (rows : List (List (List (PlainMessage PlainVersion)))) (outlets : List (List (PlainMessage PlainApart)))
-    → MergersFit m i (suc c) count bases rows outlets → MergerNext m i c count bases rows outlets
-unfolding shares_from
-next_of m i c count bases rows outlets h =
+next_of : (m i c count : ℕ) (bases : List (List (PlainMessage PlainApart))) (inlets : List (List (List (PlainMessage PlainVersion)))) (outlets : List (List (PlainMessage PlainApart)))
+    → MergersFit m i (suc c) count bases inlets outlets → MergerNext m i c count bases inlets outlets
+unfolding shares_from columns_from
+next_of m i c count bases inlets outlets h =
     let up : suc i ≡ i + 1 = omega arith in record {
       base_some = omega (arith, ap length h.takes);
+      inlets_some = omega (arith, ap length h.come);
       outlet_some = omega (arith, ap length h.gives);
-      rows_some = subst (All Owing) (sym h.rows_are) (rows_owing m i c h.columns);
-      due = λ base outlet bases' outlets' inlets own b o n w.
+      due = λ base outlet inlet bases' outlets' inlets' own b o n w.
           let b' = tail_is (sym b ∙ h.takes) in
           let o' = tail_is (sym o ∙ h.gives) in
-          let columns : inlets ≡ map (share m i) h.columns = n ∙ ap (map front) h.rows_are ∙ rows_front m i c h.columns in record {
+          let columns : inlet ≡ map (share m i) h.columns = (tail_is (sym n ∙ h.come)).0 in record {
             many = ap length b'.0 ∙ share_long m i h.coming ∙ ap (share_len m i) h.many ∙ sym w;
             some = omega (arith, ap length columns, length-map h.columns (share m i), h.some);
             few = omega (arith, ap length columns, length-map h.columns (share m i), h.few);
@@ -326,9 +320,10 @@ next_of m i c count bases rows outlets h =
             belong = subst (λ y. AllBelong base y) (sym columns) (subst (λ y. AllBelong y (map (share m i) h.columns)) (sym b'.0) (share_belong m i h.coming h.columns h.belong));
             gives = o'.0 ∙ share_merged m i h.coming h.columns ∙ ap (λ y. merged_rows y (map (share m i) h.columns)) (sym b'.0) ∙ ap (merged_rows base) (sym columns);
           };
-      on = λ base outlet bases' outlets' rows' b o r.
+      on = λ base outlet inlet bases' outlets' inlets' b o n.
           let b' = tail_is (sym b ∙ h.takes) in
-          let o' = tail_is (sym o ∙ h.gives) in record {
+          let o' = tail_is (sym o ∙ h.gives) in
+          let n' = tail_is (sym n ∙ h.come) in record {
             coming = h.coming;
             columns = h.columns;
             many = h.many;
@@ -337,16 +332,16 @@ next_of m i c count bases rows outlets h =
             even = h.even;
             belong = h.belong;
             takes = b'.1 ∙ ap (λ n. shares_from m n c h.coming) up;
-            rows_are = r ∙ ap (map rest) h.rows_are ∙ rows_rest m i c h.columns ∙ ap (λ n. map (shares_from m n c) h.columns) up;
+            come = n'.1 ∙ ap (λ n. columns_from m n c h.columns) up;
             gives = o'.1 ∙ ap (λ n. shares_from m n c (merged_rows h.coming h.columns)) up;
           };
     }
 
-pub merger_next : (m i count : ℕ) (bases : List (List (PlainMessage PlainApart))) (rows : List (List (List (PlainMessage PlainVersion)))) (outlets : List (List (PlainMessage PlainApart)))
-    → i < m → MergersFit m i (m - i) count bases rows outlets → MergerNext m i (m - (i + 1)) count bases rows outlets
-merger_next m i count bases rows outlets lt h =
+pub merger_next : (m i count : ℕ) (bases : List (List (PlainMessage PlainApart))) (inlets : List (List (List (PlainMessage PlainVersion)))) (outlets : List (List (PlainMessage PlainApart)))
+    → i < m → MergersFit m i (m - i) count bases inlets outlets → MergerNext m i (m - (i + 1)) count bases inlets outlets
+merger_next m i count bases inlets outlets lt h =
     let e : m - i ≡ suc (m - (i + 1)) = omega arith in
-    next_of m i (m - (i + 1)) count bases rows outlets (subst (λ c. MergersFit m i c count bases rows outlets) e h)
+    next_of m i (m - (i + 1)) count bases inlets outlets (subst (λ c. MergersFit m i c count bases inlets outlets) e h)
 
 pub merger_added : {F : Type 0} (k : Kit F) (may : F → ℕ → PlainVersion → Type 0) (m : Merger) (old new : List (Node F)) (fs : List F) (c : Field → ℕ)
     → MergerDue m.count m.base m.inlets m.outlet → new ≡ old ++ node.Merger m ∷ [] → AreNodes k may old fs c → AreNodes k may new fs c
@@ -355,10 +350,10 @@ merger_added k may m old new fs c due n a =
 
 -- the whole stage
 
-pub mergers_fit : {F : Type 0} (k : Kit F) (may : F → ℕ → PlainVersion → Type 0) (m count : ℕ) (s : PlainStage F) (xs : List (PlainMessage PlainApart)) (bases outlets : List (List (PlainMessage PlainApart))) (w : Branches F)
-    → MayPass k may s xs → length xs ≡ count → bases ≡ shares m (map (base_of s.parts.touches) xs) → outlets ≡ shares m (passed k s xs) → AreWired k may s.parts.touches s.branches m xs w
-    → MergersFit m 0 m count bases w.rows.items outlets
-mergers_fit k may m count s xs bases outlets w p many b o h =
+pub mergers_fit : {F : Type 0} (k : Kit F) (may : F → ℕ → PlainVersion → Type 0) (m count : ℕ) (s : PlainStage F) (xs : List (PlainMessage PlainApart)) (bases outlets : List (List (PlainMessage PlainApart))) (inlets : List (List (List (PlainMessage PlainVersion))))
+    → MayPass k may s xs → length xs ≡ count → bases ≡ shares m (map (base_of s.parts.touches) xs) → outlets ≡ shares m (passed k s xs) → inlets ≡ columns_from m 0 m (came_from k s.parts.touches s.branches xs)
+    → MergersFit m 0 m count bases inlets outlets
+mergers_fit k may m count s xs bases outlets inlets p many b o i =
     let long : length (came_from k s.parts.touches s.branches xs) ≡ length s.parts.touches = came_many k s.parts.touches s.branches xs p.owners in record {
       coming = map (base_of s.parts.touches) xs;
       columns = came_from k s.parts.touches s.branches xs;
@@ -368,12 +363,12 @@ mergers_fit k may m count s xs bases outlets w p many b o h =
       even = came_even k s.parts.touches s.branches xs count many;
       belong = p.belong;
       takes = b;
-      rows_are = h.rows;
+      come = i;
       gives = o;
     }
 
 dealer_ready : {F : Type 0} (k : Kit F) (may : F → ℕ → PlainVersion → Type 0) (m count : ℕ) (s : PlainStage F) (xs : List (PlainMessage PlainApart)) (source : PlainSource) (bases : List (List (PlainMessage PlainApart))) (w : Branches F)
-    → MayPass k may s xs → 0 < m → length xs ≡ count → ComesFrom source xs → bases ≡ shares m (map (base_of s.parts.touches) xs) → AreWired k may s.parts.touches s.branches m xs w
+    → MayPass k may s xs → 0 < m → length xs ≡ count → ComesFrom source xs → bases ≡ shares m (map (base_of s.parts.touches) xs) → AreWired k may s.parts.touches s.branches xs w
     → DealerDue s.parts count xs source w.versions bases
 dealer_ready k may m count s xs source bases w p lt many c b h = record {
   mergers = m;
@@ -390,7 +385,7 @@ dealer_ready k may m count s xs source bases w p lt many c b h = record {
 pub stage_added : {F : Type 0} (k : Kit F) (may : F → ℕ → PlainVersion → Type 0) (m count : ℕ) (s : PlainStage F) (xs : List (PlainMessage PlainApart)) (d : Dealer) (w : Branches F) (old one two new : List (Node F)) (fs : List F) (c : Field → ℕ)
     → MayPass k may s xs → 0 < m → length xs ≡ count → ComesFrom d.source xs → xs ≡ coming_from count d.source
     → d.parts ≡ s.parts → d.count ≡ count → d.versions ≡ w.versions → d.bases ≡ shares m (map (base_of s.parts.touches) xs)
-    → AreWired k may s.parts.touches s.branches m xs w
+    → AreWired k may s.parts.touches s.branches xs w
     → one ≡ old ++ node.Dealer d ∷ [] → two ≡ one ++ w.nodes.items
     → ((gs : List F) (e : Field → ℕ) → AreNodes k may two gs e → AreNodes k may new gs e)
     → AreNodes k may old fs c → AreNodes k may new (fs ++ stayed k s.parts.touches s.branches xs) (λ f. c f + dealer_copies s.parts.touches xs f)

@@ -7,21 +7,32 @@
 //! runs on a thread of its own where one can be started; else the caller runs it at once, to its end, and goes
 //! on with the next.
 //!
+//! What the branches of a stage give comes to its mergers in one of two ways ([`MergeWay`]). Over links, each
+//! branch has a link to each merger, and a merger asks its links in branch order. On a board (`message_boards`),
+//! the stage has a word for each packet and a place for each branch's version: a branch puts what it gives and
+//! marks the word, and a merger looks at the words of its packets in rising order, each until all branches have
+//! marked it. Either is a `Meeting`: an end for each branch and one for each merger, seen as the messages that
+//! are still due on it. Both are made under one contract, so the nodes of a stage are wired from a meeting
+//! alike, whichever way it was made.
+//!
 //! Who waits for whom: a branch waits for its dealer, a merger for the dealer and the branches of its stage, a
 //! dealer for the mergers of the stage before, and the caller for the mergers of the last stage. The first
-//! dealer has the burst itself. Nobody waits for room, since all links are made before the first node starts,
-//! with room for all that is due on them ([`message_links`]); so a node can be run before those that take from
-//! it, and nodes are started in the order in which packets come to them.
+//! dealer has the burst itself. Whoever waits looks again and again, and pauses between two looks. Nobody waits
+//! for room, since all links, boards and tables are made before the first node starts, with room for all that
+//! is due on them (`message_links`); so a node can be run before those that take from it, and nodes are
+//! started in the order in which packets come to them.
 //!
 //! What is promised, over all interleavings: what comes of the packets is what the stages make of them one
 //! after another (`through` of `stage_nodes`' definitions), each branch's functions are those after all its
 //! versions (`ends_of`), and the tally has the copies that the dealers made (`copies_along`). Neither the
-//! number of mergers nor the number of threads shows in any of it. Where memory is short anywhere, the whole
-//! burst is refused, and nothing is said of the functions. All threads are joined on every way out.
+//! number of mergers, nor the way in which they meet the branches, nor the number of threads shows in any of
+//! it. Where memory is short anywhere, the whole burst is refused, and nothing is said of the functions. All
+//! threads are joined on every way out.
 //!
-//! How it is laid out: `fans` makes the links by which a stream is shared in turn, `branches`, `mergers` and
-//! `wire` the nodes of a stage, `start` starts and joins a node, `collect` takes what comes behind the last
-//! stage, and `run` puts it all together.
+//! How it is laid out: `fans` makes the links by which a stream is shared in turn, `meeting` where the branches
+//! of a stage meet its mergers, by `over_links` or `on_board`, `branches`, `mergers` and `wire` the nodes of a
+//! stage, `start` starts and joins a node, `collect` takes what comes behind the last stage, and `run` puts it
+//! all together.
 //!
 //! What is left out: that a call which waits ever returns, and so that a run ends.
 #![tactic(auto)]
@@ -30,12 +41,16 @@ mod branches;
 mod collect;
 mod ended;
 mod fans;
+mod meeting;
 mod mergers;
 mod node;
+mod on_board;
+mod over_links;
 mod run;
 mod stage;
 mod start;
 mod wire;
 
+pub use meeting::MergeWay;
 pub use run::run_nodes;
 pub use stage::StageWork;

@@ -9,7 +9,7 @@ use std::snapshot::Snapshot;
 use std::sync::Wait;
 use std::thread::Promise;
 
-/// A dealer, a branch or a merger, with its ends of links.
+/// A dealer, a branch or a merger, with its ends of links and of boards.
 #[derive(Drop)]
 pub(crate) enum Node<F> {
     Dealer(Dealer),

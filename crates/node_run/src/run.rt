@@ -14,6 +14,7 @@ ghost use Rattle.node_run.specs.Stages.{plain_stage};
 ghost use Rattle.node_run.specs.Starts.{node_of};
 
 use crate::collect::collect;
+use crate::meeting::MergeWay;
 use crate::node::{Done, Node};
 use crate::stage::StageWork;
 use crate::start::{Started, finish, start};
@@ -29,12 +30,13 @@ use std::thread;
 use std::thread::{Scope, Threads};
 
 /// Leads a burst of packets through the stages: in each a dealer deals every packet to the branches, which take
-/// them in the packets' order, and so many mergers put together what comes of them, each its share in turn.
+/// them in the packets' order, and so many mergers put together what comes of them, each its share in turn. What
+/// the branches give comes to the mergers in the way asked for.
 ///
 /// Each dealer, branch and merger is a node on a thread of its own where one can be started, else the caller
-/// runs it, at once and to its end. All links are made before the first step, with room for every message.
-/// What comes of the burst doesn't depend on the number of mergers or on the order of steps. The one refusal is
-/// want of memory, wherever it is found; all threads are joined before it returns.
+/// runs it, at once and to its end. All links and boards are made before the first step, with room for every
+/// message. What comes of the burst doesn't depend on the number of mergers, on the way or on the order of
+/// steps. The one refusal is want of memory, wherever it is found; all threads are joined before it returns.
 pub fn run_nodes<F: BranchWork + Drop + Send, R: Threads + Wait + Sync, G: Gate + Sync>(
     rt: &R,
     alloc: Global,
@@ -42,8 +44,10 @@ pub fn run_nodes<F: BranchWork + Drop + Send, R: Threads + Wait + Sync, G: Gate 
     stages: Vec<StageWork<F>>,
     packets: Vec<Merged>,
     mergers: u32,
+    way: MergeWay,
 ) -> Result<(Vec<F>, Vec<Merged>, Tally), AllocError>
     requires some { 0 < mergers }
+    requires few_mergers { mergers ≤ 16 }
     requires few { length packets.items < 65537 }
     requires pass { MayPassAll F.kit F.may (map plain_stage stages.items) (map of_merged packets.items) }
 
@@ -61,7 +65,7 @@ pub fn run_nodes<F: BranchWork + Drop + Send, R: Threads + Wait + Sync, G: Gate 
 {
     let count = packets.len() as u32;
     let mut nodes = Vec::new(alloc);
-    let source = wire_all(alloc, stages, packets, mergers, count, &mut nodes)?;
+    let source = wire_all(alloc, stages, packets, mergers, way, count, &mut nodes)?;
     let started = Vec::with_capacity(alloc, nodes.len())?;
     run_scoped(rt, alloc, gate, nodes, started, source, count)
 }
@@ -72,10 +76,12 @@ fn wire_all<F: BranchWork + Drop>(
     stages: Vec<StageWork<F>>,
     packets: Vec<Merged>,
     mergers: u32,
+    way: MergeWay,
     count: u32,
     nodes: &mut Vec<Node<F>>,
 ) -> Result<Source, AllocError>
     requires some { 0 < mergers }
+    requires few_mergers { mergers ≤ 16 }
     requires few { count < 65537 }
     requires many { length packets.items ≡ count }
     requires pass { MayPassAll F.kit F.may (map plain_stage stages.items) (map of_merged packets.items) }
@@ -84,7 +90,7 @@ fn wire_all<F: BranchWork + Drop>(
 {
     let mut source = Source::of_burst(packets);
     for work in stages {
-        let next = wire_stage::<F, Brand>(alloc, work, source, mergers, count, nodes)?;
+        let next = wire_stage::<F, Brand>(alloc, work, source, mergers, way, count, nodes)?;
         source = Source::of_mergers(next);
     }
     Ok(source)

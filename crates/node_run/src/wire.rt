@@ -1,5 +1,5 @@
-//! The links of a stage, and the nodes at their ends.
-ghost use Rattle.std.specs.Prelude.{◌≡◌, ◌+◌, ◌<◌, ◌++◌, ℕ, List, length, map, IfOk, OnOk};
+//! The links of a stage, where its branches meet its mergers, and the nodes at their ends.
+ghost use Rattle.std.specs.Prelude.{◌≡◌, ◌+◌, ◌<◌, ◌≤◌, ◌++◌, ℕ, List, length, map, IfOk, OnOk};
 ghost use Rattle.packet_fields.specs.declared.field.Field.{Field};
 ghost use Rattle.message_links.specs.Turns.{shares};
 ghost use Rattle.stage_nodes.specs.Streams.{base_of, dealer_copies, passed, stayed};
@@ -10,6 +10,7 @@ ghost use Rattle.node_run.specs.Stages.{plain_stage};
 
 use crate::branches::{Branches, wire_branches};
 use crate::fans::fan;
+use crate::meeting::{Meeting, MergeWay, meet};
 use crate::mergers::wire_mergers;
 use crate::node::Node;
 use crate::stage::StageWork;
@@ -27,12 +28,14 @@ pub(crate) fn wire_stage<F: BranchWork + Drop, D: LinkDue<Parcel<Apart>>>(
     work: StageWork<F>,
     source: Source,
     mergers: u32,
+    way: MergeWay,
     count: u32,
     nodes: &mut Vec<Node<F>>,
 ) -> Result<Inlets<Apart>, AllocError>
     requires due { D.due ≡ coming_from count source }
     requires takes { ComesFrom source D.due }
     requires some { 0 < mergers }
+    requires few_mergers { mergers ≤ 16 }
     requires few { count < 65537 }
     requires many { length D.due ≡ count }
     requires pass { MayPass F.kit F.may (plain_stage work) D.due }
@@ -42,10 +45,18 @@ pub(crate) fn wire_stage<F: BranchWork + Drop, D: LinkDue<Parcel<Apart>>>(
     let (from_mergers, next) = next_fan::<F, D, Brand>(alloc, &work, mergers, count)?;
     let StageWork { parts, branches } = work;
     let (bases, to_mergers) = base_fan::<D, Brand>(alloc, &parts, mergers, count)?;
-    let wired = wire_branches::<F, D>(alloc, parts.touches.as_slice(), branches, mergers, count)?;
+    let touches = parts.touches.as_slice();
+    let Meeting { outlets, inlets } = meet::<F, D>(
+        alloc,
+        way,
+        touches,
+        branches.as_slice(),
+        mergers,
+        count,
+    )?;
+    let wired = wire_branches::<F, D>(alloc, touches, branches, outlets, mergers, count)?;
     let Branches {
         versions,
-        rows,
         nodes: mut members,
     } = wired;
     nodes.push(Node::Dealer(Dealer {
@@ -56,7 +67,7 @@ pub(crate) fn wire_stage<F: BranchWork + Drop, D: LinkDue<Parcel<Apart>>>(
         count,
     }))?;
     nodes.append(&mut members)?;
-    wire_mergers(alloc, to_mergers, rows, from_mergers, mergers, count, nodes)?;
+    wire_mergers(to_mergers, inlets, from_mergers, mergers, count, nodes)?;
     Ok(next)
 }
 

@@ -1,9 +1,6 @@
 use Rattle.std.proofs.Common.{map}
-use Rattle.stage_nodes.specs.Streams.{parted, ran}
+use Rattle.stage_nodes.specs.Streams.{parted}
 use Rattle.node_run.proofs.branches.wire_branch.Given as goal
 
 abbrev pub ghosts-version_edge : goal.ghosts-version_edge
 ghosts-version_edge g a = record { due = map (parted a.touch) g.D.LinkDue.due }
-
-abbrev pub ghosts-branch_fan : goal.ghosts-branch_fan
-ghosts-branch_fan g a = record { due = ran g.F.BranchWork.kit a.work.now (map (parted a.touch) g.D.LinkDue.due) }

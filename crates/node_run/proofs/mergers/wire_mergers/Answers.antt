@@ -7,16 +7,16 @@ take_first-base-requires g c = (merger_next _ _ _ _ _ _ c.loop-merger-test.true 
 pub take_first-outlet-requires : goal.take_first-outlet-requires
 take_first-outlet-requires g c = (merger_next _ _ _ _ _ _ c.loop-merger-test.true c.loop-merger.invariant.0).outlet_some
 
-pub next_row-requires : goal.next_row-requires
-next_row-requires g c = (merger_next _ _ _ _ _ _ c.loop-merger-test.true c.loop-merger.invariant.0).rows_some
+pub take_first-from_branches-requires : goal.take_first-from_branches-requires
+take_first-from_branches-requires g c = (merger_next _ _ _ _ _ _ c.loop-merger-test.true c.loop-merger.invariant.0).inlets_some
 
 pub push_merger-requires : goal.push_merger-requires
 push_merger-requires g c =
-    (merger_next _ _ _ _ _ _ c.loop-merger-test.true c.loop-merger.invariant.0).due _ _ _ _ _ _ c.take_first-base.ensures c.take_first-outlet.ensures c.in_ok-inlets.ensures.row c.share_count-own.ensures.share
+    (merger_next _ _ _ _ _ _ c.loop-merger-test.true c.loop-merger.invariant.0).due _ _ _ _ _ _ _ c.take_first-base.ensures c.take_first-outlet.ensures c.take_first-from_branches.ensures c.share_count-own.ensures.share
 
 pub loop-merger-preserved : goal.loop-merger-preserved
 loop-merger-preserved g c =
     let i = c.loop-merger.invariant in (
-      (merger_next _ _ _ _ _ _ c.loop-merger-test.true i.0).on _ _ _ _ _ c.take_first-base.ensures c.take_first-outlet.ensures c.in_ok-inlets.ensures.after,
+      (merger_next _ _ _ _ _ _ c.loop-merger-test.true i.0).on _ _ _ _ _ _ c.take_first-base.ensures c.take_first-outlet.ensures c.take_first-from_branches.ensures,
       λ fs copies old. c.in_ok-push_merger.ensures fs copies (i.1 fs copies old),
     )

@@ -6,5 +6,5 @@ use Rattle.node_run.proofs.mergers.wire_mergers.Given as goal
 
 abbrev pub invariant-loop-merger : goal.invariant-loop-merger
 invariant-loop-merger g l =
-    MergersFit l.mergers l.merger (l.mergers - l.merger) l.count l.bases l.rows.items l.outlets ×
+    MergersFit l.mergers l.merger (l.mergers - l.merger) l.count l.bases l.inlets.items l.outlets ×
     ((fs : List _) (c : Field → ℕ) → AreNodes g.F.BranchWork.kit g.F.BranchWork.may l.initial.nodes.items fs c → AreNodes g.F.BranchWork.kit g.F.BranchWork.may l.nodes.items fs c)

@@ -1,0 +1,5 @@
+use Rattle.stage_nodes.specs.Streams.{came_from}
+use Rattle.node_run.proofs.meeting.meet.Given as goal
+
+abbrev pub ghosts-meet_on_board : goal.ghosts-meet_on_board
+ghosts-meet_on_board g a = record { due = came_from g.F.BranchWork.kit a.touches.now a.functions.now g.D.LinkDue.due }

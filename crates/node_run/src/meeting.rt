@@ -1,0 +1,63 @@
+//! Where what comes from the branches of a stage meets its mergers.
+ghost use Rattle.std.specs.Prelude.{◌≡◌, ◌<◌, ◌≤◌, ◌∷◌, length, IfOk};
+ghost use Rattle.stage_nodes.specs.Streams.{came_from};
+ghost use Rattle.node_run.specs.Wired.{Meets};
+
+use crate::on_board::meet_on_board;
+use crate::over_links::meet_over_links;
+use action_profile::Touch;
+use message_links::Parcel;
+use packet_version::Apart;
+use ruled_links::LinkDue;
+use stage_nodes::{BranchWork, FromBranches, ToMergers};
+use std::alloc::{AllocError, Global};
+use std::marker::Brand;
+
+/// How what the branches of a stage give comes together.
+#[derive(Clone, Copy, PartialEq, Eq, Debug)]
+pub enum MergeWay {
+    /// Over links, which the mergers ask.
+    Inbox,
+    /// On a board, where each branch puts what it gives and each merger looks.
+    Board,
+}
+
+/// The ends of a stage's branches, in branch order, and those of its mergers.
+#[derive(Drop)]
+pub(crate) struct Meeting {
+    pub(crate) outlets: Vec<ToMergers>,
+    pub(crate) inlets: Vec<FromBranches>,
+}
+
+/// Where the branches with these touches and functions meet so many mergers, for so many packets. The ends are
+/// alike for both ways.
+pub(crate) fn meet<F: BranchWork, D: LinkDue<Parcel<Apart>>>(
+    alloc: Global,
+    way: MergeWay,
+    touches: &[Touch],
+    functions: &[F],
+    mergers: u32,
+    count: u32,
+) -> Result<Meeting, AllocError>
+    requires branches { (0 < length touches.now) × (length touches.now ≤ 64) }
+    requires owners { length functions.now ≡ length touches.now }
+    requires mergers { (0 < mergers) × (mergers ≤ 16) }
+    requires few { count < 65537 }
+    requires many { length D.due ≡ count }
+    ensures { IfOk result (λ w. Meets mergers (came_from F.kit touches.now functions.now D.due) w) }
+{
+    match way {
+        MergeWay::Inbox => meet_over_links::<F, D>(alloc, touches, functions, mergers, count),
+        MergeWay::Board => {
+            meet_on_board::<F, D, Brand>(alloc, touches, functions, mergers, count)
+        }
+    }
+}
+
+/// Takes the first of these ends away.
+pub(crate) fn take_first<T>(ends: &mut Vec<T>) -> T
+    requires { 0 < length ends.old.items }
+    ensures { ends.old.items ≡ result ∷ ends.new.items }
+{
+    ends.remove(0)
+}
