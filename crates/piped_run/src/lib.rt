@@ -8,7 +8,9 @@
 //! are still at work; a branch takes what it is dealt in the packets' order; a merger puts together what the
 //! branches gave of a packet, and gives it to the next stage's dealer. So a packet may be in the first stage
 //! while the one before it is in the last. The nodes give each other messages over links of one giver and one
-//! taker each ([`MergeWay::Inbox`]: a merger asks the links of its branches).
+//! taker each. What branches give to mergers goes over such links too ([`MergeWay::Inbox`]), or each branch puts
+//! it in its place on the stage's board, and a merger looks at a packet's word until it has the bit of each
+//! branch ([`MergeWay::Board`]). The two ways have one contract, which says nothing of the way.
 //!
 //! The functions of the chain are split among the branches that own them, and put together in chain order
 //! once all nodes have ended. [`branch_turn`] is a branch's work on one packet: its functions one after
@@ -35,5 +37,6 @@ mod works;
 
 pub use chain_walk::Fate;
 pub use message_links::Message;
-pub use piped::{MergeWay, run_piped};
+pub use node_run::MergeWay;
+pub use piped::run_piped;
 pub use turn::branch_turn;

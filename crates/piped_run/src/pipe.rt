@@ -18,7 +18,7 @@ use graph_compile::Graph;
 use merge_ops::Merged;
 use net_functions::Function;
 use nfp_outside::Gate;
-use node_run::run_nodes;
+use node_run::{MergeWay, run_nodes};
 use packet_version::Tally;
 use std::alloc::{AllocError, Global};
 use std::sync::Wait;
@@ -41,6 +41,7 @@ pub(crate) fn pipe_packets<F: Function + Drop + Send, G: Gate + Sync, R: Threads
     functions: Vec<F>,
     packets: Vec<Merged>,
     mergers: u32,
+    way: MergeWay,
     tally: &mut Tally,
 ) -> Result<(Vec<F>, Vec<Merged>), AllocError>
     requires running { IsRunning F.behaviour functions.items graph.now }
@@ -49,6 +50,7 @@ pub(crate) fn pipe_packets<F: Function + Drop + Send, G: Gate + Sync, R: Threads
     requires numbers { length numbers.now ≡ length packets.items }
     requires few { length packets.items ≤ 65536 }
     requires some_mergers { 1 ≤ mergers }
+    requires few_mergers { mergers ≤ 16 }
     ensures functions { IfOk result (λ left. left.0.items ≡ (chain_burst F.behaviour functions.items (map as_message packets.items)).state) }
     ensures packets { IfOk result (λ left. map as_message left.1.items ≡ (chain_burst F.behaviour functions.items (map as_message packets.items)).gives) }
     ensures rests { IfOk result (λ left. KeepsRests packets.items left.1.items) }
@@ -67,7 +69,7 @@ pub(crate) fn pipe_packets<F: Function + Drop + Send, G: Gate + Sync, R: Threads
     let mergers = mergers.min(packets.len() as u32);
     let owned = split_functions(alloc, stages, functions)?;
     let works = begin_works(alloc, stages, owned, numbers, chain)?;
-    let (works, packets, made) = run_nodes(rt, alloc, gate, works, packets, mergers)?;
+    let (works, packets, made) = run_nodes(rt, alloc, gate, works, packets, mergers, way)?;
     let owned = end_works(alloc, stages, works)?;
     let functions = put_together(alloc, stages, count, owned)?;
     tally.add(&made);

@@ -13,18 +13,12 @@ use graph_run::{Running, count_adders};
 use joined_run::{bursts_in_parts_lead, join_packets, run_joined, split_packets};
 use net_functions::Function;
 use nfp_outside::Gate;
+use node_run::MergeWay;
 use packet_version::Tally;
 use pcap_io::Unit;
 use std::alloc::{AllocError, Global};
 use std::sync::Wait;
 use std::thread::Threads;
-
-/// How what the branches of a stage give comes together.
-#[derive(Clone, Copy, PartialEq, Eq, Debug)]
-pub enum MergeWay {
-    /// Over links, which the mergers ask.
-    Inbox,
-}
 
 /// Leads the packets of a burst that are of the chain with this number through the graph, and gives the fate
 /// of each, in their order. In each stage one dealer deals the packets, each branch takes what it is dealt
@@ -63,11 +57,9 @@ pub fn run_piped<F: Function + Drop + Send, G: Gate + Sync, R: Threads + Wait + 
     if single {
         run_joined(rt, alloc, run, burst, unit, chain, tally, mergers, gate)
     } else {
-        match way {
-            MergeWay::Inbox => {
-                run_stages(rt, alloc, run, burst, unit, chain, tally, mergers, gate)
-            }
-        }
+        run_stages(
+            rt, alloc, run, burst, unit, chain, tally, mergers, gate, way,
+        )
     }
 }
 
@@ -82,9 +74,11 @@ fn run_stages<F: Function + Drop + Send, G: Gate + Sync, R: Threads + Wait + Syn
     tally: &mut Tally,
     mergers: u32,
     gate: &G,
+    way: MergeWay,
 ) -> Result<(Running<F>, Vec<Fate>), AllocError>
     requires few { length burst.now.items ≤ 65536 }
     requires some_mergers { 1 ≤ mergers }
+    requires few_mergers { mergers ≤ 16 }
     ensures leads { IfOk result (λ ran. Leads F.behaviour run (packets_taken unit chain burst.now.items) tally.old tally.new ran.0 ran.1.items) }
     ensures refused { OnErr result (RaisesUpTo (copies_made run.graph.stages (packets_taken unit chain burst.now.items) (fates F.behaviour run.functions (packets_taken unit chain burst.now.items))) tally.old tally.new) }
 {
@@ -94,7 +88,7 @@ fn run_stages<F: Function + Drop + Send, G: Gate + Sync, R: Threads + Wait + Syn
     let items = burst.items.as_slice();
     let (numbers, packets) = split_packets(alloc, items, unit, chain, taggers)?;
     let (functions, packets) = pipe_packets(
-        rt, alloc, gate, chain, &numbers, &graph, functions, packets, mergers, tally,
+        rt, alloc, gate, chain, &numbers, &graph, functions, packets, mergers, way, tally,
     )?;
     let fates = join_packets(alloc, packets)?;
     Ok((Running::new(functions, graph), fates))
