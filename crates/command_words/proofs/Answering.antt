@@ -9,7 +9,7 @@ use Rattle.command_words.specs.declared.usage.UsageFault.TheVariants as fault
 use Rattle.command_words.specs.declared.usage.WordsFault.{WordsFault}
 use Rattle.command_words.specs.declared.usage.WordsFault.TheVariants as error
 use Rattle.command_words.specs.Apps.{demo_names, plan_names, run_names}
-use Rattle.command_words.specs.Matched.{Matches, demo_read, four_names, given_has_text, plan_read, run_read}
+use Rattle.command_words.specs.Matched.{Matches, demo_read, four_names, given_has_text, options_have_text, plan_read, run_read}
 use Rattle.command_words.specs.Named.{ReadsWords}
 use Rattle.command_words.specs.Roles.{Role, anything, gives, is_fit, is_whole, name, names_in, opens, option_names, options_in, roles, separator, unfit}
 use Rattle.command_words.specs.Given.{Given, Word, all_differ, contains, given_by, has_text, value_given}
@@ -157,21 +157,27 @@ values_have_text known (o ∷ os) only e =
 
 -- ---- each command
 
-run_is : (a b c d m n : Option Word) (names : List Word) (options : List (Word × Word)) → a ∷ b ∷ c ∷ d ∷ [] ≡ map Some names
-    → m ≡ value_given (codes "mergers") options → n ≡ value_given (codes "burst") options
-    → run_read (four_names a b c d) m n ≡ cond (list_all has_text names && given_texts options run_options) (run_by names options) (Err fault.Words)
-run_is a b c d m n [] options e em en = cc
-run_is a b c d m n (p ∷ []) options e em en = cc
-run_is a b c d m n (p ∷ q ∷ []) options e em en = cc
-run_is a b c d m n (p ∷ q ∷ r ∷ []) options e em en = cc
-run_is a b c d m n (p ∷ q ∷ r ∷ s ∷ t ∷ ts) options e em en = cc
-run_is a b c d m n (p ∷ q ∷ r ∷ s ∷ []) options e em en =
+options_are : (options : List (Word × Word))
+    → options_have_text (value_given (codes "mergers") options) (value_given (codes "burst") options) (value_given (codes "merge") options)
+    ≡ given_texts options run_options
+options_are options = ap (λ t. given_has_text (value_given (codes "mergers") options) && (given_has_text (value_given (codes "burst") options) && t))
+    (sym (and_true (given_has_text (value_given (codes "merge") options))))
+
+run_is : (a b c d m n o : Option Word) (names : List Word) (options : List (Word × Word)) → a ∷ b ∷ c ∷ d ∷ [] ≡ map Some names
+    → m ≡ value_given (codes "mergers") options → n ≡ value_given (codes "burst") options → o ≡ value_given (codes "merge") options
+    → run_read (four_names a b c d) m n o ≡ cond (list_all has_text names && given_texts options run_options) (run_by names options) (Err fault.Words)
+run_is a b c d m n o [] options e em en eo = cc
+run_is a b c d m n o (p ∷ []) options e em en eo = cc
+run_is a b c d m n o (p ∷ q ∷ []) options e em en eo = cc
+run_is a b c d m n o (p ∷ q ∷ r ∷ []) options e em en eo = cc
+run_is a b c d m n o (p ∷ q ∷ r ∷ s ∷ t ∷ ts) options e em en eo = cc
+run_is a b c d m n o (p ∷ q ∷ r ∷ s ∷ []) options e em en eo =
     let ea : a ≡ Some p = cc in
     let eb : b ≡ Some q = cc in
     let ec : c ≡ Some r = cc in
     let ed : d ≡ Some s = cc in
-    rw (ea, eb, ec, ed, em, en) (ap (λ t. cond (list_all has_text (p ∷ q ∷ r ∷ s ∷ []) && (given_has_text (value_given (codes "mergers") options) && t))
-    (run_by (p ∷ q ∷ r ∷ s ∷ []) options) (Err fault.Words)) (sym (and_true (given_has_text (value_given (codes "burst") options)))))
+    rw (ea, eb, ec, ed, em, en, eo) (ap (λ t. cond (list_all has_text (p ∷ q ∷ r ∷ s ∷ []) && t) (run_by (p ∷ q ∷ r ∷ s ∷ []) options) (Err fault.Words))
+    (options_are options))
 
 plan_is : (a : Option Word) (names : List Word) (options : List (Word × Word)) → a ∷ [] ≡ map Some names
     → plan_read a ≡ cond (list_all has_text names && given_texts options []) (plan_by names options) (Err fault.Words)
@@ -183,19 +189,17 @@ plan_is a (p ∷ []) options e = let ea : a ≡ Some p = cc in rw ea (go (has_te
     go true = refl
     go false = refl
 
-demo_is : (a b m n : Option Word) (names : List Word) (options : List (Word × Word)) → a ∷ b ∷ [] ≡ map Some names
-    → m ≡ value_given (codes "mergers") options → n ≡ value_given (codes "burst") options
-    → demo_read a b m n ≡ cond (list_all has_text names && given_texts options run_options) (demo_by names options) (Err fault.Words)
-demo_is a b m n [] options e em en = cc
-demo_is a b m n (p ∷ []) options e em en = cc
-demo_is a b m n (p ∷ q ∷ r ∷ rs) options e em en = cc
-demo_is a b m n (p ∷ q ∷ []) options e em en =
+demo_is : (a b m n o : Option Word) (names : List Word) (options : List (Word × Word)) → a ∷ b ∷ [] ≡ map Some names
+    → m ≡ value_given (codes "mergers") options → n ≡ value_given (codes "burst") options → o ≡ value_given (codes "merge") options
+    → demo_read a b m n o ≡ cond (list_all has_text names && given_texts options run_options) (demo_by names options) (Err fault.Words)
+demo_is a b m n o [] options e em en eo = cc
+demo_is a b m n o (p ∷ []) options e em en eo = cc
+demo_is a b m n o (p ∷ q ∷ r ∷ rs) options e em en eo = cc
+demo_is a b m n o (p ∷ q ∷ []) options e em en eo =
     let ea : a ≡ Some p = cc in
     let eb : b ≡ Some q = cc in
     let name_is : has_text q ≡ (has_text q && true) = sym (and_true (has_text q)) in
-    let value_is : given_has_text (value_given (codes "burst") options) ≡ (given_has_text (value_given (codes "burst") options) && true) = sym (and_true _) in
-    rw (ea, eb, em, en) (λ i. cond ((has_text p && name_is i) && (given_has_text (value_given (codes "mergers") options) && value_is i))
-    (demo_by (p ∷ q ∷ []) options) (Err fault.Words))
+    rw (ea, eb, em, en, eo) (λ i. cond ((has_text p && name_is i) && options_are options i) (demo_by (p ∷ q ∷ []) options) (Err fault.Words))
 
 abbrev value : ArgMatches → Text → Option Word
 value m x = first_value (found_of m) x
@@ -212,10 +216,10 @@ texts_are n known words answer e =
 
 pub run_answered : (words : List Word) (m : ArgMatches) → Matches run_names run_options words m
     → run_read (four_names (value m (codes "policy")) (value m (codes "capture")) (value m (codes "out")) (value m (codes "report")))
-    (value m (codes "mergers")) (value m (codes "burst")) ≡ run_of words
+    (value m (codes "mergers")) (value m (codes "burst")) (value m (codes "merge")) ≡ run_of words
 run_answered words m h =
-    run_is _ _ _ _ _ _ (names_in (roles run_options anything words)) (options_in (roles run_options anything words)) h.gives_names
-    (h.gives_options (codes "mergers") refl) (h.gives_options (codes "burst") refl)
+    run_is _ _ _ _ _ _ _ (names_in (roles run_options anything words)) (options_in (roles run_options anything words)) h.gives_names
+    (h.gives_options (codes "mergers") refl) (h.gives_options (codes "burst") refl) (h.gives_options (codes "merge") refl)
     ∙ texts_are 4 run_options words _ h.whole ∙ sym (whole_answer 4 run_options words run_by h.whole)
 
 pub plan_answered : (words : List Word) (m : ArgMatches) → Matches plan_names [] words m → plan_read (value m (codes "policy")) ≡ plan_of words
@@ -224,10 +228,11 @@ plan_answered words m h =
     ∙ texts_are 1 [] words _ h.whole ∙ sym (whole_answer 1 [] words plan_by h.whole)
 
 pub demo_answered : (words : List Word) (m : ArgMatches) → Matches demo_names run_options words m
-    → demo_read (value m (codes "seed")) (value m (codes "count")) (value m (codes "mergers")) (value m (codes "burst")) ≡ demo_of words
+    → demo_read (value m (codes "seed")) (value m (codes "count")) (value m (codes "mergers")) (value m (codes "burst")) (value m (codes "merge"))
+    ≡ demo_of words
 demo_answered words m h =
-    demo_is _ _ _ _ (names_in (roles run_options anything words)) (options_in (roles run_options anything words)) h.gives_names
-    (h.gives_options (codes "mergers") refl) (h.gives_options (codes "burst") refl)
+    demo_is _ _ _ _ _ (names_in (roles run_options anything words)) (options_in (roles run_options anything words)) h.gives_names
+    (h.gives_options (codes "mergers") refl) (h.gives_options (codes "burst") refl) (h.gives_options (codes "merge") refl)
     ∙ texts_are 2 run_options words _ h.whole ∙ sym (whole_answer 2 run_options words demo_by h.whole)
 
 -- where there are no matches

@@ -1,9 +1,11 @@
 -- Worked rows, computed by the definitions.
-use Rattle.std.specs.Prelude.{◌≡◌, ℕ, List, [], ◌∷◌, refl, ◌==◌, Ok, Err, codes}
+use Rattle.std.specs.Prelude.{◌≡◌, ℕ, List, [], refl, ◌==◌, Ok, Err, codes}
 use Rattle.std.specs.List.{slice_split}
 use Rattle.command_words.specs.declared.requests.RunOptions.{RunOptions}
+use Rattle.command_words.specs.declared.requests.Way.{Way}
+use Rattle.command_words.specs.declared.requests.Way.TheVariants.{Inbox, Board}
 use Rattle.command_words.specs.declared.usage.Option4.TheVariants.{Mergers, Burst, Seed, Count}
-use Rattle.command_words.specs.declared.usage.UsageFault.TheVariants.{NoCommand, UnknownCommand, Words, Number, SameName}
+use Rattle.command_words.specs.declared.usage.UsageFault.TheVariants.{NoCommand, UnknownCommand, Words, Number, Merge, SameName}
 use Rattle.command_words.specs.Given.{given_by}
 use Rattle.command_words.specs.Words.{Answer, Demo, Plan, Run, command_of}
 
@@ -11,12 +13,20 @@ use Rattle.command_words.specs.Words.{Answer, Demo, Plan, Run, command_of}
 abbrev read : List ℕ → Answer
 read line = command_of (slice_split (λ c. c == 32) line)
 
+abbrev options_by : Way → ℕ → ℕ → RunOptions
+options_by way mergers burst = record { mergers = mergers; burst = burst; way = way }
+
+-- where no word says how what the branches give comes together
 abbrev options : ℕ → ℕ → RunOptions
-options mergers burst = record { mergers = mergers; burst = burst }
+options = options_by Inbox
 
 -- `run p c o r` with these options
+abbrev runs_by : Way → ℕ → ℕ → Answer
+runs_by way mergers burst =
+    Ok (Run (record { policy = codes "p"; capture = codes "c"; out = codes "o"; report = codes "r" }) (options_by way mergers burst))
+
 abbrev runs : ℕ → ℕ → Answer
-runs mergers burst = Ok (Run (record { policy = codes "p"; capture = codes "c"; out = codes "o"; report = codes "r" }) (options mergers burst))
+runs = runs_by Inbox
 
 abbrev demo : ℕ → ℕ → RunOptions → Answer
 demo seed count given = Ok (Demo (record { seed = seed; count = count }) given)
@@ -135,10 +145,6 @@ short_with_value = refl
 unknown_option : read (codes "run p c o r --help") ≡ Err Words
 unfolding given_by
 unknown_option = refl
-
-merge_is_unknown : read (codes "run p c o r --merge board") ≡ Err Words
-unfolding given_by
-merge_is_unknown = refl
 
 shortened_option : read (codes "run p c o r --burs 7") ≡ Err Words
 unfolding given_by
@@ -266,7 +272,57 @@ too_great_a_count : read (codes "demo 0 1000001") ≡ Err (Number Count)
 unfolding given_by
 too_great_a_count = refl
 
--- ---- the first fault: words, then numbers in their order, then equal names
+-- ---- how what the branches of a stage give comes together
+
+over_links : read (codes "run p c o r --merge inbox") ≡ runs 2 1024
+unfolding given_by
+over_links = refl
+
+on_a_board : read (codes "run p --merge=board c o --burst 7 r") ≡ runs_by Board 2 7
+unfolding given_by
+on_a_board = refl
+
+demo_on_a_board : read (codes "demo --merge board 7 20000") ≡ demo 7 20000 (options_by Board 2 1024)
+unfolding given_by
+demo_on_a_board = refl
+
+no_way : read (codes "run p c o r --merge zip") ≡ Err Merge
+unfolding given_by
+no_way = refl
+
+capital_way : read (codes "run p c o r --merge Board") ≡ Err Merge
+unfolding given_by
+capital_way = refl
+
+longer_way : read (codes "demo 7 20000 --merge=boards") ≡ Err Merge
+unfolding given_by
+longer_way = refl
+
+dashed_way_attached : read (codes "run p c o r --merge=-board") ≡ Err Merge
+unfolding given_by
+dashed_way_attached = refl
+
+dashed_way : read (codes "run p c o r --merge -board") ≡ Err Words
+unfolding given_by
+dashed_way = refl
+
+way_of_plan : read (codes "plan p --merge board") ≡ Err Words
+unfolding given_by
+way_of_plan = refl
+
+two_ways : read (codes "run p c o r --merge board --merge=board") ≡ Err Words
+unfolding given_by
+two_ways = refl
+
+no_word_for_the_way : read (codes "run p c o r --merge") ≡ Err Words
+unfolding given_by
+no_word_for_the_way = refl
+
+empty_way : read (codes "run p c o r --merge=") ≡ Err Words
+unfolding given_by
+empty_way = refl
+
+-- ---- the first fault: words, then numbers in their order, then the way, then equal names
 
 words_before_numbers : read (codes "run p c o r --mergers 0 -b") ≡ Err Words
 unfolding given_by
@@ -287,6 +343,18 @@ burst_before_seed = refl
 seed_before_count : read (codes "demo x 0") ≡ Err (Number Seed)
 unfolding given_by
 seed_before_count = refl
+
+burst_before_way : read (codes "run p c c r --merge zip --burst 0") ≡ Err (Number Burst)
+unfolding given_by
+burst_before_way = refl
+
+count_before_way : read (codes "demo 7 0 --merge zip") ≡ Err (Number Count)
+unfolding given_by
+count_before_way = refl
+
+way_before_names : read (codes "run p c c r --merge zip") ≡ Err Merge
+unfolding given_by
+way_before_names = refl
 
 numbers_before_names : read (codes "run p c c r --burst 0") ≡ Err (Number Burst)
 unfolding given_by

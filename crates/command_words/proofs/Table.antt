@@ -80,10 +80,10 @@ pub demo_indexed : Indexed (table demo_names run_options) 1 demo_names
 demo_indexed = (refl, (refl, (refl, (refl, refl))))
 
 pub run_ids : HasIds (table run_names run_options) run_options
-run_ids = (refl, (refl, tt))
+run_ids = (refl, (refl, (refl, tt)))
 
 pub demo_ids : HasIds (table demo_names run_options) run_options
-demo_ids = (refl, (refl, tt))
+demo_ids = (refl, (refl, (refl, tt)))
 
 pub same_text : (a b : Text) → bytes_eq a b ≡ true → a ≡ b
 same_text a b e = (bytes_eq-Decides a b).0 e

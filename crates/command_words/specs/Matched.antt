@@ -43,21 +43,22 @@ abbrev pub given_has_text : Option Word → Bool
 given_has_text None = true
 given_has_text (Some word) = has_text word
 
-abbrev pub options_have_text : Option Word → Option Word → Bool
-options_have_text mergers burst = given_has_text mergers && given_has_text burst
+abbrev pub options_have_text : Option Word → Option Word → Option Word → Bool
+options_have_text mergers burst way =
+    given_has_text mergers && (given_has_text burst && given_has_text way)
 
-abbrev pub run_read : Option Names → Option Word → Option Word → Answer
-run_read None mergers burst = Err fault.Words
-run_read (Some names) mergers burst =
-    if list_all has_text (names_of names) && options_have_text mergers burst
-    then run_with names mergers burst else Err fault.Words
+abbrev pub run_read : Option Names → Option Word → Option Word → Option Word → Answer
+run_read None mergers burst way = Err fault.Words
+run_read (Some names) mergers burst way =
+    if list_all has_text (names_of names) && options_have_text mergers burst way
+    then run_with names mergers burst way else Err fault.Words
 
 abbrev pub plan_read : Option Word → Answer
 plan_read None = Err fault.Words
 plan_read (Some policy) = if has_text policy then Ok (Plan policy) else Err fault.Words
 
-abbrev pub demo_read : Option Word → Option Word → Option Word → Option Word → Answer
-demo_read (Some seed) (Some count) mergers burst =
-    if (has_text seed && has_text count) && options_have_text mergers burst
-    then demo_with seed count mergers burst else Err fault.Words
-demo_read seed count mergers burst = Err fault.Words
+abbrev pub demo_read : Option Word → Option Word → Option Word → Option Word → Option Word → Answer
+demo_read (Some seed) (Some count) mergers burst way =
+    if (has_text seed && has_text count) && options_have_text mergers burst way
+    then demo_with seed count mergers burst way else Err fault.Words
+demo_read seed count mergers burst way = Err fault.Words

@@ -1,4 +1,4 @@
--- Believed: the words of the command line: the commands with their names, options and numbers, and the first fault of the words.
+-- Believed: the words of the command line: the commands with their names, options, numbers and ways, and the first fault of the words.
 use Rattle.std.specs.Prelude.{ℕ, List, [], ◌∷◌, length, Bool, if◌then◌else◌, nat_le, ◌&&◌, Option, Some, None, Result, Ok, Err, codes}
 use Rattle.std.specs.Char.{is_ascii_digit}
 use Rattle.std.specs.List.{list_all}
@@ -6,10 +6,12 @@ use Rattle.std.specs.Str.{bytes_eq}
 use Rattle.std.specs.Str.Parse.{digits_value}
 use Rattle.command_words.specs.declared.requests.DemoInput.{DemoInput}
 use Rattle.command_words.specs.declared.requests.RunOptions.{RunOptions}
+use Rattle.command_words.specs.declared.requests.Way.{Way}
+use Rattle.command_words.specs.declared.requests.Way.TheVariants.{Inbox, Board}
 use Rattle.command_words.specs.declared.usage.Option4.{Option4}
 use Rattle.command_words.specs.declared.usage.Option4.TheVariants.{Mergers, Burst, Seed, Count}
 use Rattle.command_words.specs.declared.usage.UsageFault.{UsageFault}
-use Rattle.command_words.specs.declared.usage.UsageFault.TheVariants.{NoCommand, UnknownCommand, Words, Number, SameName}
+use Rattle.command_words.specs.declared.usage.UsageFault.TheVariants.{NoCommand, UnknownCommand, Words, Number, Merge, SameName}
 use Rattle.command_words.specs.Given.{Given, Word, all_differ, given_by, is_sound, value_given}
 
 -- ---- numbers
@@ -43,6 +45,12 @@ seed_of word = number_of Seed 0 18446744073709551615 word
 abbrev pub count_of : Word → Result ℕ UsageFault
 count_of word = number_of Count 1 1000000 word
 
+-- ---- how what the branches of a stage give comes together
+
+abbrev pub way_of : Option Word → Result Way UsageFault
+way_of None = Ok Inbox
+way_of (Some word) = if bytes_eq word (codes "inbox") then Ok Inbox else if bytes_eq word (codes "board") then Ok Board else Err Merge
+
 -- ---- the commands
 
 -- The names of the four files of `run`.
@@ -64,18 +72,18 @@ Answer = Result Command UsageFault
 abbrev pub distinct : Names → Result Names UsageFault
 distinct n = if all_differ (n.policy ∷ n.capture ∷ n.out ∷ n.report ∷ []) then Ok n else Err SameName
 
--- the numbers in their order, and then the names
-abbrev pub run_with : Names → Option Word → Option Word → Answer
-run_with names mergers burst = after (mergers_of mergers) (λ m. after (burst_of burst) (λ b. after (distinct names) (λ n.
-    Ok (Run n (record { mergers = m; burst = b })))))
+-- the numbers in their order, the way, and then the names
+abbrev pub run_with : Names → Option Word → Option Word → Option Word → Answer
+run_with names mergers burst way = after (mergers_of mergers) (λ m. after (burst_of burst) (λ b. after (way_of way) (λ w. after (distinct names) (λ n.
+    Ok (Run n (record { mergers = m; burst = b; way = w }))))))
 
-abbrev pub demo_with : Word → Word → Option Word → Option Word → Answer
-demo_with seed count mergers burst = after (mergers_of mergers) (λ m. after (burst_of burst) (λ b. after (seed_of seed) (λ s. after (count_of count) (λ c.
-    Ok (Demo (record { seed = s; count = c }) (record { mergers = m; burst = b }))))))
+abbrev pub demo_with : Word → Word → Option Word → Option Word → Option Word → Answer
+demo_with seed count mergers burst way = after (mergers_of mergers) (λ m. after (burst_of burst) (λ b. after (seed_of seed) (λ s. after (count_of count) (λ c.
+    after (way_of way) (λ w. Ok (Demo (record { seed = s; count = c }) (record { mergers = m; burst = b; way = w })))))))
 
 abbrev pub run_by : List Word → List (Word × Word) → Answer
 run_by (policy ∷ capture ∷ out ∷ report ∷ []) options = run_with (record { policy = policy; capture = capture; out = out; report = report })
-    (value_given (codes "mergers") options) (value_given (codes "burst") options)
+    (value_given (codes "mergers") options) (value_given (codes "burst") options) (value_given (codes "merge") options)
 run_by names options = Err Words
 
 abbrev pub plan_by : List Word → List (Word × Word) → Answer
@@ -83,7 +91,8 @@ plan_by (policy ∷ []) options = Ok (Plan policy)
 plan_by names options = Err Words
 
 abbrev pub demo_by : List Word → List (Word × Word) → Answer
-demo_by (seed ∷ count ∷ []) options = demo_with seed count (value_given (codes "mergers") options) (value_given (codes "burst") options)
+demo_by (seed ∷ count ∷ []) options = demo_with seed count
+    (value_given (codes "mergers") options) (value_given (codes "burst") options) (value_given (codes "merge") options)
 demo_by names options = Err Words
 
 -- the answer to what the words behind a command come to
@@ -93,7 +102,7 @@ answer_by answer (Some given) = if is_sound given then answer given.names given.
 
 -- the options of `run` and of `demo`
 abbrev pub run_options : List Word
-run_options = codes "mergers" ∷ codes "burst" ∷ []
+run_options = codes "mergers" ∷ codes "burst" ∷ codes "merge" ∷ []
 
 abbrev pub run_of : List Word → Answer
 run_of words = answer_by run_by (given_by run_options None words)

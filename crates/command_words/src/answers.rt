@@ -10,6 +10,7 @@ ghost use Rattle.command_words.specs.Words.{demo_with, distinct as distinct_name
 use crate::numbers::{burst, count, mergers, seed};
 use crate::requests::{Command, DemoInput, FileNames, RunOptions};
 use crate::usage::UsageFault;
+use crate::ways::merge_way;
 use clap::ArgMatches;
 
 // The values of the options that are given.
@@ -17,6 +18,7 @@ use clap::ArgMatches;
 struct OptionWords<'a> {
     mergers: Option<&'a str>,
     burst: Option<&'a str>,
+    merge: Option<&'a str>,
 }
 
 fn has_text(word: &str) -> bool
@@ -35,9 +37,11 @@ fn given_has_text(word: Option<&str>) -> bool
 }
 
 fn options_have_text(options: &OptionWords<'_>) -> bool
-    ensures { result ≡ options_spell (word_in options.now.mergers) (word_in options.now.burst) }
+    ensures { result ≡ options_spell (word_in options.now.mergers) (word_in options.now.burst) (word_in options.now.merge) }
 {
-    given_has_text(options.mergers) && given_has_text(options.burst)
+    given_has_text(options.mergers)
+        && given_has_text(options.burst)
+        && given_has_text(options.merge)
 }
 
 fn names_have_text(names: &FileNames<'_>) -> bool
@@ -70,13 +74,22 @@ fn distinct<'a>(names: FileNames<'a>) -> Result<FileNames<'a>, UsageFault>
 }
 
 fn run_from<'a>(names: FileNames<'a>, options: &OptionWords<'_>) -> Result<Command<'a>, UsageFault>
-    ensures answer { answer_seen result ≡ run_with (names_seen names.entry) (word_in options.now.mergers) (word_in options.now.burst) }
+    ensures answer { answer_seen result ≡ run_with (names_seen names.entry) (word_in options.now.mergers) (word_in options.now.burst)
+        (word_in options.now.merge) }
     ensures ranges { IfOk result HasRanges }
 {
     let mergers = mergers(options.mergers)?;
     let burst = burst(options.burst)?;
+    let way = merge_way(options.merge)?;
     let names = distinct(names)?;
-    Ok(Command::Run(names, RunOptions { mergers, burst }))
+    Ok(Command::Run(
+        names,
+        RunOptions {
+            mergers,
+            burst,
+            way,
+        },
+    ))
 }
 
 fn demo_from<'a>(
@@ -84,23 +97,34 @@ fn demo_from<'a>(
     count_word: &str,
     options: &OptionWords<'_>,
 ) -> Result<Command<'a>, UsageFault>
-    ensures answer { answer_seen result ≡ demo_with seed_word.now count_word.now (word_in options.now.mergers) (word_in options.now.burst) }
+    ensures answer { answer_seen result ≡ demo_with seed_word.now count_word.now (word_in options.now.mergers) (word_in options.now.burst)
+        (word_in options.now.merge) }
     ensures ranges { IfOk result HasRanges }
 {
     let mergers = mergers(options.mergers)?;
     let burst = burst(options.burst)?;
     let seed = seed(seed_word)?;
     let count = count(count_word)?;
-    Ok(Command::Demo(DemoInput { seed, count }, RunOptions { mergers, burst }))
+    let way = merge_way(options.merge)?;
+    Ok(Command::Demo(
+        DemoInput { seed, count },
+        RunOptions {
+            mergers,
+            burst,
+            way,
+        },
+    ))
 }
 
 fn option_words<'a>(matches: &ArgMatches<'a>) -> OptionWords<'a>
     ensures mergers { word_in result.mergers ≡ first_value (found_of matches.now) (codes "mergers") }
     ensures burst { word_in result.burst ≡ first_value (found_of matches.now) (codes "burst") }
+    ensures merge { word_in result.merge ≡ first_value (found_of matches.now) (codes "merge") }
 {
     OptionWords {
         mergers: matches.get_str("mergers"),
         burst: matches.get_str("burst"),
+        merge: matches.get_str("merge"),
     }
 }
 
@@ -126,7 +150,7 @@ pub fn run_answer<'a>(matches: &ArgMatches<'a>) -> Result<Command<'a>, UsageFaul
     ensures answer { answer_seen result ≡ run_read (four_names (first_value (found_of matches.now) (codes "policy"))
         (first_value (found_of matches.now) (codes "capture")) (first_value (found_of matches.now) (codes "out"))
         (first_value (found_of matches.now) (codes "report"))) (first_value (found_of matches.now) (codes "mergers"))
-        (first_value (found_of matches.now) (codes "burst")) }
+        (first_value (found_of matches.now) (codes "burst")) (first_value (found_of matches.now) (codes "merge")) }
     ensures ranges { IfOk result HasRanges }
 {
     let options = option_words(matches);
@@ -155,7 +179,7 @@ pub fn plan_answer<'a>(matches: &ArgMatches<'a>) -> Result<Command<'a>, UsageFau
 pub fn demo_answer<'a>(matches: &ArgMatches<'a>) -> Result<Command<'a>, UsageFault>
     ensures answer { answer_seen result ≡ demo_read (first_value (found_of matches.now) (codes "seed"))
         (first_value (found_of matches.now) (codes "count")) (first_value (found_of matches.now) (codes "mergers"))
-        (first_value (found_of matches.now) (codes "burst")) }
+        (first_value (found_of matches.now) (codes "burst")) (first_value (found_of matches.now) (codes "merge")) }
     ensures ranges { IfOk result HasRanges }
 {
     let options = option_words(matches);

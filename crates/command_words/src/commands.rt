@@ -51,11 +51,12 @@ fn without_arguments<'a>(alloc: Global, name: &'a str) -> Command<'a>
 }
 
 fn with_run_options<'a>(alloc: Global, command: Command<'a>) -> Result<Command<'a>, AllocError>
-    ensures { IfOk result (λ c. app_of c ≡ with_rule (with_rule (app_of command.entry)
-        (option_rule (codes "mergers"))) (option_rule (codes "burst"))) }
+    ensures { IfOk result (λ c. app_of c ≡ with_rule (with_rule (with_rule (app_of command.entry)
+        (option_rule (codes "mergers"))) (option_rule (codes "burst"))) (option_rule (codes "merge"))) }
 {
     let command = with_option(alloc, command, "mergers")?;
-    with_option(alloc, command, "burst")
+    let command = with_option(alloc, command, "burst")?;
+    with_option(alloc, command, "merge")
 }
 
 /// `run POLICY CAPTURE OUT REPORT` with its options.

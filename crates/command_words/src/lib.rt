@@ -2,13 +2,14 @@
 //!
 //! [`read_command`] reads one of these commands, or says why the words are refused, exactly as `specs/Words.antt` says it:
 //!
-//! - `run POLICY CAPTURE OUT REPORT [--mergers N] [--burst N]`
+//! - `run POLICY CAPTURE OUT REPORT [--mergers N] [--burst N] [--merge WAY]`
 //! - `plan POLICY`
-//! - `demo SEED COUNT [--mergers N] [--burst N]`
+//! - `demo SEED COUNT [--mergers N] [--burst N] [--merge WAY]`
 //!
 //! An option stands before, between or behind the names, as `--burst 7` or `--burst=7`, and at most once. Behind the word
-//! `--` each word is a name, so a name that begins with a dash can be given there. The words are told apart first, then the
-//! numbers are read, and the names of `run` are compared last, so the fault that is told is the first in this order.
+//! `--` each word is a name, so a name that begins with a dash can be given there. WAY is `inbox` or `board`. The words are
+//! told apart first, then the numbers are read, then the way, and the names of `run` are compared last, so the fault that is
+//! told is the first in this order.
 //!
 //! The words behind the command's own are read by `clap`, and it is proved that what it makes of them is what the definition says, which
 //! doesn't know of it. Two things differ, and are settled here: an empty word and a single dash may stand as a name or a value for `clap`,
@@ -23,8 +24,9 @@ mod matches;
 mod numbers;
 mod requests;
 mod usage;
+mod ways;
 mod words;
 
-pub use requests::{Command, DemoInput, FileNames, RunOptions};
+pub use requests::{Command, DemoInput, FileNames, RunOptions, Way};
 pub use usage::{Option4, UsageFault, WordsFault};
 pub use words::read_command;

@@ -9,13 +9,24 @@ pub struct FileNames<'a> {
     pub report: &'a str,
 }
 
-/// How a capture is to be run. Where an option isn't given, its field has the number that stands for it.
+/// How what the branches of a stage give comes together. What comes out is the same either way.
+#[derive(Clone, Copy, Debug, PartialEq, Eq)]
+pub enum Way {
+    /// `inbox`: over links, which the mergers ask.
+    Inbox,
+    /// `board`: on a board, where each branch puts what it gives and each merger looks.
+    Board,
+}
+
+/// How a capture is to be run. Where an option isn't given, its field has the value that stands for it.
 #[derive(Clone, Copy, Debug, PartialEq, Eq)]
 pub struct RunOptions {
     /// `--mergers`: how many mergers put packets together again, 1 to 16, else 2.
     pub mergers: u32,
     /// `--burst`: the most packets of a burst, 1 to 65,536, else 1,024.
     pub burst: u32,
+    /// `--merge`: how what the branches of a stage give comes together, `inbox` or `board`, else [`Way::Inbox`].
+    pub way: Way,
 }
 
 /// What the capture of the demonstration is made from.
@@ -30,10 +41,10 @@ pub struct DemoInput {
 /// What is asked for.
 #[derive(Clone, Copy, Debug)]
 pub enum Command<'a> {
-    /// `run POLICY CAPTURE OUT REPORT [--mergers N] [--burst N]`
+    /// `run POLICY CAPTURE OUT REPORT [--mergers N] [--burst N] [--merge WAY]`
     Run(FileNames<'a>, RunOptions),
     /// `plan POLICY`
     Plan(&'a str),
-    /// `demo SEED COUNT [--mergers N] [--burst N]`
+    /// `demo SEED COUNT [--mergers N] [--burst N] [--merge WAY]`
     Demo(DemoInput, RunOptions),
 }

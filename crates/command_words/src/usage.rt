@@ -29,6 +29,8 @@ pub enum UsageFault {
     Words,
     /// This number isn't 1 to 20 digits, or lies outside of its range.
     Number(Option4),
+    /// The value of `--merge` is neither `inbox` nor `board`.
+    Merge,
     /// Two of the names of `run` are equal.
     SameName,
 }
