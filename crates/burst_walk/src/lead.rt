@@ -19,7 +19,8 @@ use std::sync::Wait;
 use std::thread::Threads;
 
 /// Leads the packets of a burst through their chains, one chain after another, and gives the fates of each chain's packets. The
-/// dealers and branches of a chain's graph run side by side, and in each stage so many mergers put packets together.
+/// dealers and branches of a chain's graph run side by side, and in each stage so many mergers put together, in this way, what the
+/// branches give.
 pub fn lead<R: Threads + Wait + Sync, G: Gate + Sync>(
     rt: &R,
     alloc: Global,
@@ -27,6 +28,7 @@ pub fn lead<R: Threads + Wait + Sync, G: Gate + Sync>(
     burst: &Burst,
     unit: Unit,
     mergers: u32,
+    way: MergeWay,
     gate: &G,
 ) -> Result<(Items<ServiceChain>, Vec<Vec<Fate>>), AllocError>
     requires few { length burst.now.items ≤ 65536 }
@@ -42,7 +44,7 @@ pub fn lead<R: Threads + Wait + Sync, G: Gate + Sync>(
     let mut rows = Vec::new(alloc);
     let mut number = 0;
     'chains: for chain in chains.into_vec() {
-        let (chain, fates) = lead_chain(rt, alloc, chain, burst, unit, number, mergers, gate)?;
+        let (chain, fates) = lead_chain(rt, alloc, chain, burst, unit, number, mergers, way, gate)?;
         led.push(chain)?;
         rows.push(fates)?;
         number += 1;
@@ -59,6 +61,7 @@ fn lead_chain<R: Threads + Wait + Sync, G: Gate + Sync>(
     unit: Unit,
     number: u32,
     mergers: u32,
+    way: MergeWay,
     gate: &G,
 ) -> Result<(ServiceChain, Vec<Fate>), AllocError>
     requires few { length burst.now.items ≤ 65536 }
@@ -87,7 +90,7 @@ fn lead_chain<R: Threads + Wait + Sync, G: Gate + Sync>(
         &mut copies,
         mergers,
         gate,
-        MergeWay::Inbox,
+        way,
     )?;
     let chain = ServiceChain {
         declared,

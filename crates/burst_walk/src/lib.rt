@@ -11,4 +11,5 @@ mod lead;
 mod walk;
 mod weave;
 
+pub use piped_run::MergeWay;
 pub use walk::walk_burst;

@@ -11,6 +11,7 @@ use chain_walk::Fate;
 use classifier::{Burst, class_is_the_first};
 use nfp_outside::Gate;
 use pcap_io::Unit;
+use piped_run::MergeWay;
 use service_walk::fates_are_woven;
 use std::alloc::{AllocError, Global};
 use std::sync::Wait;
@@ -18,8 +19,8 @@ use std::thread::Threads;
 
 /// Leads the packets of a burst through their chains, and gives where each ended, none for one that no chain takes.
 ///
-/// The branches of a stage run side by side, and behind them so many mergers, 1 to 16. Nothing that comes of a packet depends on
-/// how many there are. Each step of a function passes the gate first.
+/// The branches of a stage run side by side, and behind them so many mergers, 1 to 16, which put together in this way what the branches
+/// give. Nothing that comes of a packet depends on how many there are, or on the way. Each step of a function passes the gate first.
 pub fn walk_burst<R: Threads + Wait + Sync, G: Gate + Sync>(
     rt: &R,
     alloc: Global,
@@ -27,6 +28,7 @@ pub fn walk_burst<R: Threads + Wait + Sync, G: Gate + Sync>(
     burst: &Burst,
     unit: Unit,
     mergers: u32,
+    way: MergeWay,
     gate: &G,
 ) -> Result<(Service, Vec<Option<Fate>>), AllocError>
     requires few { length burst.now.items ≤ 65536 }
@@ -45,7 +47,7 @@ pub fn walk_burst<R: Threads + Wait + Sync, G: Gate + Sync>(
     class_is_the_first();
     fates_are_woven::<NamedFunction>();
     let Service { classes, chains } = service;
-    let (chains, rows) = lead(rt, alloc, chains, burst, unit, mergers, gate)?;
+    let (chains, rows) = lead(rt, alloc, chains, burst, unit, mergers, way, gate)?;
     let fates = weave(alloc, burst.items.as_slice(), rows)?;
     Ok((Service { classes, chains }, fates))
 }

@@ -8,7 +8,7 @@ use crate::emit::put_emitted;
 use crate::fault::RunFault;
 use crate::sink::Sink;
 use crate::write::put_text;
-use burst_walk::walk_burst;
+use burst_walk::{MergeWay, walk_burst};
 use capture_report::{Totals, burst_lines, count_gone};
 use chain_service::Service;
 use classifier::Burst;
@@ -30,8 +30,8 @@ pub struct Passage<W> {
 
 impl<W: Sink + Drop> Passage<W> {
     /// Leads the packets of a burst through their chains, and puts the record of each that passes into Out, and then the line
-    /// of each that is dropped into Report. So many mergers put the packets together behind each stage of a chain, and each step
-    /// of a function passes the gate first.
+    /// of each that is dropped into Report. So many mergers put together in this way what the branches of a stage give,
+    /// and each step of a function passes the gate first.
     pub fn run<R: Threads + Wait + Sync, D: Desk, G: Gate + Sync>(
         self,
         rt: &R,
@@ -39,6 +39,7 @@ impl<W: Sink + Drop> Passage<W> {
         desk: &mut D,
         burst: Burst,
         mergers: u32,
+        way: MergeWay,
         gate: &G,
     ) -> Result<Passage<W>, RunFault>
         requires out { IsSome (D.slots desk.old Slot.Out).name }
@@ -61,7 +62,7 @@ impl<W: Sink + Drop> Passage<W> {
             mut writer,
             mut totals,
         } = self;
-        let (service, fates) = walk_burst(rt, alloc, service, &burst, unit, mergers, gate)?;
+        let (service, fates) = walk_burst(rt, alloc, service, &burst, unit, mergers, way, gate)?;
         let items = burst.items.as_slice();
         let chains = service.chains.as_slice();
         let lines = burst_lines(alloc, chains, totals.records + 1, items, &fates)?;

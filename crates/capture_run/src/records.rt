@@ -10,6 +10,7 @@ use crate::fault::RunFault;
 use crate::passage::Passage;
 use crate::sink::Sink;
 use crate::source::Source;
+use burst_walk::MergeWay;
 use classifier::Cutter;
 use nfp_outside::{Desk, Gate};
 use pcap_io::{CaptureFault, PcapFault, PcapRecord};
@@ -33,6 +34,7 @@ pub fn run_records<
     source: S,
     passage: Passage<W>,
     mergers: u32,
+    way: MergeWay,
     gate: &G,
 ) -> Result<(Passage<W>, Option<CaptureFault>), RunFault>
     requires some { 0 < burst }
@@ -56,13 +58,25 @@ pub fn run_records<
     'records: loop {
         match source.next(alloc, desk) {
             Ok(Some(packet)) => {
-                passage = match take(rt, alloc, desk, &mut cutter, passage, packet, mergers, gate) {
+                passage = match take(
+                    rt,
+                    alloc,
+                    desk,
+                    &mut cutter,
+                    passage,
+                    packet,
+                    mergers,
+                    way,
+                    gate,
+                ) {
                     Ok(next) => next,
                     Err(fault) => return Err(fault),
                 };
             }
-            Ok(None) => return end(rt, alloc, desk, cutter, passage, None, mergers, gate),
-            Err(refusal) => return stop(rt, alloc, desk, cutter, passage, refusal, mergers, gate),
+            Ok(None) => return end(rt, alloc, desk, cutter, passage, None, mergers, way, gate),
+            Err(refusal) => return stop(
+                rt, alloc, desk, cutter, passage, refusal, mergers, way, gate,
+            ),
         }
     }
 }
@@ -76,6 +90,7 @@ fn take<R: Threads + Wait + Sync, D: Desk, W: Sink + Drop, G: Gate + Sync>(
     passage: Passage<W>,
     packet: PcapRecord,
     mergers: u32,
+    way: MergeWay,
     gate: &G,
 ) -> Result<Passage<W>, RunFault>
     requires out { IsSome (D.slots desk.old Slot.Out).name }
@@ -92,7 +107,7 @@ fn take<R: Threads + Wait + Sync, D: Desk, W: Sink + Drop, G: Gate + Sync>(
     let class = passage.service.classes.class(packet.frame.bytes());
     match cutter.add(packet, class) {
         Ok(None) => Ok(passage),
-        Ok(Some(burst)) => passage.run(rt, alloc, desk, burst, mergers, gate),
+        Ok(Some(burst)) => passage.run(rt, alloc, desk, burst, mergers, way, gate),
         Err(_) => Err(RunFault::OutOfMemory),
     }
 }
@@ -106,6 +121,7 @@ fn end<R: Threads + Wait + Sync, D: Desk, W: Sink + Drop, G: Gate + Sync>(
     passage: Passage<W>,
     fault: Option<CaptureFault>,
     mergers: u32,
+    way: MergeWay,
     gate: &G,
 ) -> Result<(Passage<W>, Option<CaptureFault>), RunFault>
     requires out { IsSome (D.slots desk.old Slot.Out).name }
@@ -117,7 +133,7 @@ fn end<R: Threads + Wait + Sync, D: Desk, W: Sink + Drop, G: Gate + Sync>(
     ensures err { IfErr result (PassBreaks W.spelled (records_of cutter.held) passage (D.slots desk.old) (D.slots desk.new)) }
     ensures others { (s : Slot) → s ≢ Slot.Out → s ≢ Slot.Report → D.slots desk.new s ≡ D.slots desk.old s }
 {
-    let passage = passage.run(rt, alloc, desk, cutter.rest(), mergers, gate)?;
+    let passage = passage.run(rt, alloc, desk, cutter.rest(), mergers, way, gate)?;
     Ok((passage, fault))
 }
 
@@ -130,6 +146,7 @@ fn stop<R: Threads + Wait + Sync, D: Desk, W: Sink + Drop, G: Gate + Sync>(
     passage: Passage<W>,
     refusal: PcapFault,
     mergers: u32,
+    way: MergeWay,
     gate: &G,
 ) -> Result<(Passage<W>, Option<CaptureFault>), RunFault>
     requires out { IsSome (D.slots desk.old Slot.Out).name }
@@ -150,6 +167,7 @@ fn stop<R: Threads + Wait + Sync, D: Desk, W: Sink + Drop, G: Gate + Sync>(
             passage,
             Some(fault),
             mergers,
+            way,
             gate,
         ),
         PcapFault::ReadFault(_) => Err(RunFault::ReadFault),

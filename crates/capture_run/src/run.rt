@@ -11,6 +11,7 @@ use crate::sink::Sink;
 use crate::source::Source;
 use crate::summary::put_summary;
 use crate::write::put_text;
+use burst_walk::MergeWay;
 use capture_report::{Ended, TITLE, Totals};
 use chain_service::{NamedFunction, Service};
 use nfp_outside::{Desk, Gate};
@@ -26,8 +27,8 @@ use std::thread::Threads;
 /// burst is full, which is of `burst` packets at most, or the capture ends. What is put of a whole capture doesn't depend on that;
 /// but a want of memory or a fault of a slot leaves those unwritten that were read since the last burst.
 ///
-/// The branches of a stage run side by side, and behind them so many mergers, 1 to 16: nothing that is put depends on how many.
-/// Each step of a function passes the gate first.
+/// The branches of a stage run side by side, and behind them so many mergers, 1 to 16, which put together in this way what the branches
+/// give: nothing that is put depends on how many, or on the way. Each step of a function passes the gate first.
 pub fn run_capture<
     R: Threads + Wait + Sync,
     D: Desk,
@@ -44,6 +45,7 @@ pub fn run_capture<
     source: S,
     sink: W,
     mergers: u32,
+    way: MergeWay,
     gate: &G,
 ) -> Result<Ended, RunFault>
     requires some { 0 < burst }
@@ -72,7 +74,9 @@ pub fn run_capture<
             dropped: 0,
         },
     };
-    let (passage, fault) = run_records(rt, alloc, desk, burst, source, passage, mergers, gate)?;
+    let (passage, fault) = run_records(
+        rt, alloc, desk, burst, source, passage, mergers, way, gate,
+    )?;
     let ended = Ended {
         totals: passage.totals,
         fault,

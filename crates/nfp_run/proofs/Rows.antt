@@ -1,5 +1,6 @@
 -- Worked rows, computed by the definitions.
-use Rattle.std.specs.Prelude.{◌≡◌, ℕ, List, [], ◌∷◌, ◌++◌, refl, take, slice_index, Some, Result, Ok, Err, codes}
+use Rattle.std.specs.Prelude.{◌≡◌, ◌==◌, ℕ, List, [], ◌∷◌, ◌++◌, refl, take, slice_index, Some, Result, Ok, Err, codes}
+use Rattle.std.specs.List.{slice_split}
 use Rattle.std.specs.Fmt.{digits}
 use Rattle.pcap_io.specs.declared.capture.CaptureFault.TheVariants.{CutRecord, CutHead}
 use Rattle.pcap_io.specs.Capture.{body_of}
@@ -36,8 +37,10 @@ use Rattle.nf_translate.specs.NatLines.{line_of as nat_line_of}
 use Rattle.nf_observe.specs.StateLines.{flow_line, endpoint_text}
 use Rattle.first_sight.specs.Addresses.{dotted}
 use Rattle.chain_walk.specs.Walk.{walk}
-use Rattle.nfp_run.specs.declared.outcome.Outcome.TheVariants.{Done, Policy, Capture}
-use Rattle.nfp_run.specs.Due.{due_of_plan, due_of_run, nothing_but}
+use Rattle.command_words.specs.declared.usage.UsageFault.TheVariants.{Merge}
+use Rattle.command_words.specs.Given.{given_by}
+use Rattle.nfp_run.specs.declared.outcome.Outcome.TheVariants.{Done, Usage, Policy, Capture}
+use Rattle.nfp_run.specs.Due.{Due, due, due_of_plan, due_of_run, nothing_but}
 use Rattle.service_walk.specs.Service.{fates_among, chains_after}
 use Rattle.burst_walk.specs.Fates.{fates_of, chains_behind}
 use Rattle.capture_run.specs.Emitted.{emitted_all, out_bytes}
@@ -265,3 +268,22 @@ forbidden : due_of_run (worth (codes "nfp 1\nchain main\nfn mon monitor\nfn n na
     ≡ nothing_but (Policy (Check 0 (PriorityForbidden 0 1 8 (Write SrcIp) (Read SrcIp)))) (codes "policy: line 8: priority mon over n forbidden: write src before read src\n")
 unfolding worth making_of nat_line_of check_line priority_line digits pair_of first_forbidden pairs actions all_actions is_copied copied policy_of_utf8 after_line orders_from answer_of edges_of taken stuck named_cycle from_earliest cycle_back first_refusal
 forbidden = refl
+
+-- ---- how what the branches of a stage give comes together
+
+-- the result of a line whose words are parted by blanks
+abbrev due_of_line : List ℕ → List ℕ → List ℕ → Due
+due_of_line line = due (slice_split (λ c. c == 32) line)
+
+no_way : (policy capture : List ℕ) → due_of_line (codes "run p c o r --merge zip") policy capture ≡ nothing_but (Usage Merge) (codes "usage: merge\n")
+unfolding given_by
+no_way policy capture = refl
+
+-- what is due is the same on a board as over links
+run_on_a_board : (policy capture : List ℕ) → due_of_line (codes "run p c o r --merge board") policy capture ≡ due_of_line (codes "run p c o r") policy capture
+unfolding given_by
+run_on_a_board policy capture = refl
+
+demo_on_a_board : (policy capture : List ℕ) → due_of_line (codes "demo 1 20000 --merge board") policy capture ≡ due_of_line (codes "demo 1 20000") policy capture
+unfolding given_by
+demo_on_a_board policy capture = refl

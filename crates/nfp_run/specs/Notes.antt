@@ -7,7 +7,7 @@ use Rattle.capture_report.specs.Report.{total_line}
 use Rattle.command_words.specs.declared.usage.Option4.{Option4}
 use Rattle.command_words.specs.declared.usage.Option4.TheVariants.{Mergers, Burst, Seed, Count}
 use Rattle.command_words.specs.declared.usage.UsageFault.{UsageFault}
-use Rattle.command_words.specs.declared.usage.UsageFault.TheVariants.{NoCommand, UnknownCommand, Words, Number, SameName}
+use Rattle.command_words.specs.declared.usage.UsageFault.TheVariants.{NoCommand, UnknownCommand, Words, Number, Merge, SameName}
 
 -- which number is refused
 abbrev pub number_text : Option4 → List ℕ
@@ -22,6 +22,7 @@ usage_text NoCommand = codes "usage: no command\n"
 usage_text UnknownCommand = codes "usage: unknown command\n"
 usage_text Words = codes "usage: words\n"
 usage_text (Number which) = number_text which
+usage_text Merge = codes "usage: merge\n"
 usage_text SameName = codes "usage: same name\n"
 
 -- `done records N emitted E dropped D`

@@ -27,7 +27,8 @@ use std::thread::Threads;
 /// no slot but Note. Last, one line goes into Note, or the plan, or the demo's summary.
 ///
 /// The branches of a stage run side by side, each on a thread of its own where one can be started, and behind them as many mergers
-/// as `--mergers` says. Each step of a function passes the gate first. What is due says nothing of either.
+/// as `--mergers` says. What the branches give comes to the mergers as `--merge` says: over links, or on a board. Each step of a
+/// function passes the gate first. What is due says nothing of any of these.
 pub fn nfp<R: Threads + Wait + Sync, D: Desk, G: Gate + Sync>(
     rt: &R,
     alloc: Global,

@@ -17,6 +17,7 @@ use crate::attach::put_head;
 use crate::demo_source::DemoSource;
 use crate::ending::Ending;
 use crate::outcome::Outcome;
+use crate::ways::merge_way;
 use capture_report::{Ended, Totals};
 use capture_run::{RunFault, run_capture};
 use chain_service::{Service, make_service};
@@ -29,9 +30,9 @@ use std::alloc::{AllocError, Global};
 use std::sync::Wait;
 use std::thread::Threads;
 
-/// Leads the capture of this seed and count through the demo's policy, in bursts of at most so many packets and with so many mergers
-/// as the options say, and tells how many packets came out, and how long and heavy the texts are that a run would write. No slot is
-/// touched.
+/// Leads the capture of this seed and count through the demo's policy, in bursts of at most so many packets, with so many mergers and
+/// in the way that the options say, and tells how many packets came out, and how long and heavy the texts are that a run would write.
+/// No slot is touched.
 pub fn demo<R: Threads + Wait + Sync, G: Gate + Sync>(
     rt: &R,
     alloc: Global,
@@ -137,6 +138,7 @@ fn lead<R: Threads + Wait + Sync, D: Desk, G: Gate + Sync>(
         records,
         writer,
         options.mergers,
+        merge_way(options.way),
         gate,
     )
 }

@@ -20,6 +20,7 @@ mod outcome;
 mod plan;
 mod read;
 mod run;
+mod ways;
 
 pub use call::nfp;
 pub use command_words::{Option4, UsageFault};

@@ -97,6 +97,7 @@ fn usage_text(fault: UsageFault) -> &'static [u8]
         UsageFault::UnknownCommand => b"usage: unknown command\n",
         UsageFault::Words => b"usage: words\n",
         UsageFault::Number(which) => number_text(which),
+        UsageFault::Merge => b"usage: merge\n",
         UsageFault::SameName => b"usage: same name\n",
     }
 }

@@ -19,6 +19,7 @@ use crate::attach::{attach_sink, put_head};
 use crate::ending::Ending;
 use crate::outcome::Outcome;
 use crate::read::{open_capture, read_service};
+use crate::ways::merge_way;
 use capture_report::Ended;
 use capture_run::{RunFault, run_capture};
 use chain_service::Service;
@@ -130,6 +131,7 @@ fn attach_and_run<R: Threads + Wait + Sync, D: Desk, G: Gate + Sync>(
         reader,
         writer,
         options.mergers,
+        merge_way(options.way),
         gate,
     )
 }
