@@ -1,6 +1,6 @@
 //! Gates that look at the steps of a run: no clause speaks of them, since a gate's call may wait.
 
-use crate::runs::{CHAINS, capture, capture_from, words};
+use crate::runs::{CHAINS, capture, capture_from, run_with, words};
 use crate::states::{BEHIND, BESIDE};
 use nfp_outside::{FixedDesk, Gate};
 use nfp_run::{Outcome, nfp};
@@ -104,15 +104,16 @@ impl Steps {
     }
 }
 
-// Runs a policy over a capture, and says whether two steps met.
+// Runs a policy over a capture, by this way of merging, and says whether two steps met.
 fn meets<R: Threads + Wait + Sync>(
     rt: &R,
     alloc: Global,
     policy: &[u8],
     capture: Vec<u8>,
+    way: &str,
     meeting: &Meeting,
 ) -> Result<bool, Fail> {
-    let run = words(alloc, &["run", "p", "c", "o", "r"])?;
+    let run = words(alloc, &["run", "p", "c", "o", "r", "--merge", way])?;
     let mut desk = FixedDesk::new(alloc, policy.to_vec(alloc)?, capture, 7);
     let outcome = nfp(rt, alloc, &run, &mut desk, meeting);
     Ok(matches!(outcome, Outcome::Done) && !meeting.missed.load(SeqCst))
@@ -122,8 +123,10 @@ fn meets<R: Threads + Wait + Sync>(
 #[test]
 fn gate_side_by_side(rt: HostRuntime) -> Result<(), Fail> {
     let alloc = rt.alloc();
-    let meeting = Meeting::new((1, 1), (2, 1));
-    assert!(rt; meets(&rt, alloc, BESIDE, capture(alloc)?, &meeting)?);
+    for way in ["inbox", "board"] {
+        let meeting = Meeting::new((1, 1), (2, 1));
+        assert!(rt; meets(&rt, alloc, BESIDE, capture(alloc)?, way, &meeting)?);
+    }
     Ok(())
 }
 
@@ -131,14 +134,20 @@ fn gate_side_by_side(rt: HostRuntime) -> Result<(), Fail> {
 #[test]
 fn gate_pipelined(rt: HostRuntime) -> Result<(), Fail> {
     let alloc = rt.alloc();
-    let meeting = Meeting::new((1, 2), (3, 1));
+    for way in ["inbox", "board"] {
+        let meeting = Meeting::new((1, 2), (3, 1));
+        assert!(rt; meets(&rt, alloc, STAGES, two_flows(alloc)?, way, &meeting)?);
+    }
+    Ok(())
+}
+
+// Two packets, the second from port 1001.
+fn two_flows(alloc: Global) -> Result<Vec<u8>, Fail> {
     let mut two = capture_from(alloc, &[1, 1])?;
-    // The second is from port 1001.
     if let Some(low) = two.get_mut(133) {
         *low = 0xe9;
     }
-    assert!(rt; meets(&rt, alloc, STAGES, two, &meeting)?);
-    Ok(())
+    Ok(two)
 }
 
 // What the steps of a run with these options add up to, where it is done.
@@ -148,19 +157,10 @@ fn sums_of<R: Threads + Wait + Sync>(
     policy: &[u8],
     mergers: &str,
     burst: &str,
+    way: &str,
 ) -> Result<Option<[u64; 4]>, Fail> {
-    let options = [
-        "run",
-        "p",
-        "c",
-        "o",
-        "r",
-        "--mergers",
-        mergers,
-        "--burst",
-        burst,
-    ];
-    let run = words(alloc, &options)?;
+    let options = ["--mergers", mergers, "--burst", burst, "--merge", way];
+    let run = run_with(alloc, &options)?;
     let mut desk = FixedDesk::new(alloc, policy.to_vec(alloc)?, capture(alloc)?, 7);
     let steps = Steps::new();
     match nfp(rt, alloc, &run, &mut desk, &steps) {
@@ -173,17 +173,21 @@ fn sums_of<R: Threads + Wait + Sync>(
 #[test]
 fn each_step_of_the_walk_passes_the_gate_once(rt: HostRuntime) -> Result<(), Fail> {
     let alloc = rt.alloc();
-    for (mergers, burst) in [("1", "1"), ("2", "1024"), ("16", "2")] {
+    for (mergers, burst, way) in [
+        ("1", "1", "board"),
+        ("2", "1024", "inbox"),
+        ("16", "2", "board"),
+    ] {
         assert_eq!(rt;
-            sums_of(&rt, alloc, BESIDE, mergers, burst)?,
+            sums_of(&rt, alloc, BESIDE, mergers, burst, way)?,
             Some([6, 0, 9, 12])
         );
         assert_eq!(rt;
-            sums_of(&rt, alloc, BEHIND, mergers, burst)?,
+            sums_of(&rt, alloc, BEHIND, mergers, burst, way)?,
             Some([5, 0, 7, 10])
         );
         assert_eq!(rt;
-            sums_of(&rt, alloc, CHAINS, mergers, burst)?,
+            sums_of(&rt, alloc, CHAINS, mergers, burst, way)?,
             Some([3, 1, 3, 6])
         );
     }

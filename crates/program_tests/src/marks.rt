@@ -1,6 +1,6 @@
 //! Runs through functions that rewrite packets and keep nothing of them.
 
-use crate::runs::{HEAD, words};
+use crate::runs::{HEAD, run_with};
 use nfp_outside::{FixedDesk, OpenGate, Slot};
 use nfp_run::{Outcome, nfp};
 use std::alloc::{AllocError, Global};
@@ -90,7 +90,7 @@ fn push_datagram(
     capture.extend_from_slice(datagram.data)
 }
 
-// Leads a capture through a policy, with one merger, two and many, and compares what it gives.
+// Leads a capture through a policy, with one merger, two and many, over links and on boards, and compares what it gives.
 fn compare(
     rt: &(impl Abort + AllocGlobal + Threads + Wait + Sync),
     policy: &[u8],
@@ -99,8 +99,8 @@ fn compare(
     report: &[u8],
 ) -> Result<(), Fail> {
     let alloc = rt.alloc();
-    for mergers in ["1", "2", "16"] {
-        let run = words(alloc, &["run", "p", "c", "o", "r", "--mergers", mergers])?;
+    for (mergers, way) in [("1", "board"), ("2", "inbox"), ("16", "board")] {
+        let run = run_with(alloc, &["--mergers", mergers, "--merge", way])?;
         let capture = capture.to_vec(alloc)?;
         let mut desk = FixedDesk::new(alloc, policy.to_vec(alloc)?, capture, 7);
         let outcome = nfp(rt, alloc, &run, &mut desk, &OpenGate);

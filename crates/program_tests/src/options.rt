@@ -1,6 +1,6 @@
 //! Runs with options, which change nothing of what comes out, and the demo.
 
-use crate::runs::{HEAD, capture, capture_from, words};
+use crate::runs::{HEAD, capture, capture_from, run_with, words};
 use nfp_outside::{FixedDesk, MemDesk, OpenGate, Slot};
 use nfp_run::{Outcome, nfp};
 use std::alloc::AllocError;
@@ -58,13 +58,20 @@ fn states_are_carried_from_burst_to_burst(rt: HostRuntime) -> Result<(), Fail> {
             port,
         )?;
     }
-    for (burst, mergers) in [("1", "16"), ("7", "1"), ("65536", "2"), ("65536", "16")] {
+    for (burst, mergers, way) in [
+        ("1", "16", "board"),
+        ("7", "1", "inbox"),
+        ("65536", "2", "board"),
+        ("65536", "16", "inbox"),
+    ] {
         let options = [
             "run",
             "--burst",
             burst,
             "--mergers",
             mergers,
+            "--merge",
+            way,
             "p",
             "c",
             "o",
@@ -85,8 +92,7 @@ fn states_are_carried_from_burst_to_burst(rt: HostRuntime) -> Result<(), Fail> {
 fn a_burst_is_written_before_the_next(rt: HostRuntime) -> Result<(), Fail> {
     let alloc = rt.alloc();
     for mergers in ["1", "2", "16"] {
-        let options = ["run", "p", "c", "o", "r", "--burst=1", "--mergers", mergers];
-        let run = words(alloc, &options)?;
+        let run = run_with(alloc, &["--burst=1", "--mergers", mergers])?;
         let fails = vec![in alloc; (Slot::Out, 4)]?;
         let mut desk = MemDesk::new(alloc, OPEN.to_vec(alloc)?, capture(alloc)?, 4096, fails);
         let outcome = nfp(&rt, alloc, &run, &mut desk, &OpenGate);
@@ -116,11 +122,30 @@ fn without_chains_all_packets_pass(rt: HostRuntime) -> Result<(), Fail> {
 #[test]
 fn a_demo_is_told_by_its_weights(rt: HostRuntime) -> Result<(), Fail> {
     let alloc = rt.alloc();
-    for (mergers, burst) in [("1", "700"), ("2", "1024"), ("16", "65536")] {
-        let demo = words(
-            alloc,
-            &["demo", "1", "--mergers", mergers, "20000", "--burst", burst],
-        )?;
+    for options in [
+        ["demo", "1", "20000"].as_slice(),
+        &["demo", "1", "--merge", "board", "20000"],
+        &[
+            "demo",
+            "--merge=board",
+            "--mergers",
+            "1",
+            "1",
+            "20000",
+            "--burst=700",
+        ],
+        &[
+            "demo",
+            "1",
+            "--mergers=16",
+            "20000",
+            "--burst",
+            "65536",
+            "--merge",
+            "inbox",
+        ],
+    ] {
+        let demo = words(alloc, options)?;
         let mut desk = FixedDesk::new(alloc, Vec::new(alloc), Vec::new(alloc), 7);
         let outcome = nfp(&rt, alloc, &demo, &mut desk, &OpenGate);
         assert!(rt; matches!(outcome, Outcome::Done));

@@ -85,6 +85,15 @@ pub fn words(alloc: Global, texts: &[&str]) -> Result<Vec<String>, AllocError> {
     Ok(words)
 }
 
+/// The words of a run with these options.
+pub fn run_with(alloc: Global, options: &[&str]) -> Result<Vec<String>, AllocError> {
+    let mut run = words(alloc, &["run", "p", "c", "o", "r"])?;
+    for option in options {
+        run.push(String::from_str(alloc, option)?)?;
+    }
+    Ok(run)
+}
+
 #[test]
 fn a_capture_goes_through_the_functions_in_chain_order(rt: HostRuntime) -> Result<(), Fail> {
     let alloc = rt.alloc();
@@ -175,6 +184,11 @@ fn words_that_are_no_command_are_told(rt: HostRuntime) -> Result<(), Fail> {
             &["demo", "x", "0"],
             UsageFault::Number(Option4::Seed),
             b"usage: number seed\n",
+        ),
+        (
+            &["run", "p", "c", "o", "r", "--merge", "zip"],
+            UsageFault::Merge,
+            b"usage: merge\n",
         ),
         (
             &["run", "p", "c", "c", "r"],

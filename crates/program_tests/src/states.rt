@@ -1,6 +1,6 @@
 //! Runs through functions that keep flows, whose report tells what they hold in the end.
 
-use crate::runs::{HEAD, capture, capture_from, words};
+use crate::runs::{HEAD, capture, capture_from, run_with, words};
 use nfp_outside::{FixedDesk, OpenGate, Slot};
 use nfp_run::{Outcome, nfp};
 use std::alloc::AllocError;
@@ -71,8 +71,8 @@ fn push_udp(
 fn a_monitor_counts_what_comes_to_it(rt: HostRuntime) -> Result<(), Fail> {
     let alloc = rt.alloc();
     let passed = capture_from(alloc, &[1, 1])?;
-    for mergers in ["1", "2", "16"] {
-        let run = words(alloc, &["run", "p", "c", "o", "r", "--mergers", mergers])?;
+    for (mergers, way) in [("1", "inbox"), ("2", "board"), ("16", "board")] {
+        let run = run_with(alloc, &["--mergers", mergers, "--merge", way])?;
         for (policy, report) in [(BESIDE, BESIDE_REPORT), (BEHIND, BEHIND_REPORT)] {
             let mut desk = FixedDesk::new(alloc, policy.to_vec(alloc)?, capture(alloc)?, 7);
             let outcome = nfp(&rt, alloc, &run, &mut desk, &OpenGate);

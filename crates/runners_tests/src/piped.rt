@@ -19,12 +19,13 @@ use std::sync::atomic::{AtomicU64, Ordering};
 use std::test::Fail;
 use std::thread::Threads;
 
-/// The fates of three packets that so many mergers put together.
+/// The fates of three packets that so many mergers put together in this way.
 fn fates_by<R: Threads + Wait + Sync>(
     rt: &R,
     alloc: Global,
     run: Running<NetFunction>,
     mergers: u32,
+    way: MergeWay,
     gate: &Passes,
 ) -> Result<Vec<Fate>, AllocError>
     requires some { 1 ≤ mergers }
@@ -32,7 +33,6 @@ fn fates_by<R: Threads + Wait + Sync>(
 {
     let burst = burst(alloc)?;
     let mut tally = Tally::new();
-    let way = MergeWay::Inbox;
     let (_run, fates) = run_piped(
         rt,
         alloc,
@@ -90,22 +90,44 @@ fn are_hopped(fates: &[Fate]) -> bool {
     }
 }
 
+/// One, two and the most mergers, by this way: is each of the three packets dropped by the second function?
+fn all_are_shut_out<R: Threads + Wait + Sync>(
+    rt: &R,
+    alloc: Global,
+    way: MergeWay,
+    gate: &Passes,
+) -> Result<bool, AllocError> {
+    let one = fates_by(rt, alloc, shut(alloc)?, 1, way, gate)?;
+    let two = fates_by(rt, alloc, shut(alloc)?, 2, way, gate)?;
+    let most = fates_by(rt, alloc, shut(alloc)?, 16, way, gate)?;
+    let dropped = one.iter().all(is_shut_out)
+        && two.iter().all(is_shut_out)
+        && most.iter().all(is_shut_out);
+    Ok(dropped && one.len() == 3 && two.len() == 3 && most.len() == 3)
+}
+
+/// One, two and the most mergers, by this way: do the three packets go out in their order?
+fn all_are_hopped<R: Threads + Wait + Sync>(
+    rt: &R,
+    alloc: Global,
+    way: MergeWay,
+    gate: &Passes,
+) -> Result<bool, AllocError> {
+    let one = fates_by(rt, alloc, open(alloc)?, 1, way, gate)?;
+    let two = fates_by(rt, alloc, open(alloc)?, 2, way, gate)?;
+    let most = fates_by(rt, alloc, open(alloc)?, 16, way, gate)?;
+    Ok(are_hopped(&one) && are_hopped(&two) && are_hopped(&most))
+}
+
 #[test]
 fn each_packet_is_dropped_by_the_function_that_drops_it(rt: HostRuntime) -> Result<(), Fail> {
     let alloc = rt.alloc();
     let gate = Passes {
         count: AtomicU64::new(0),
     };
-    let one = fates_by(&rt, alloc, shut(alloc)?, 1, &gate)?;
-    let two = fates_by(&rt, alloc, shut(alloc)?, 2, &gate)?;
-    let most = fates_by(&rt, alloc, shut(alloc)?, 16, &gate)?;
-    assert_eq!(rt; one.len(), 3);
-    assert_eq!(rt; two.len(), 3);
-    assert_eq!(rt; most.len(), 3);
-    assert!(rt; one.iter().all(is_shut_out));
-    assert!(rt; two.iter().all(is_shut_out));
-    assert!(rt; most.iter().all(is_shut_out));
-    assert_eq!(rt; gate.count.load(Ordering::SeqCst), 18);
+    assert!(rt; all_are_shut_out(&rt, alloc, MergeWay::Inbox, &gate)?);
+    assert!(rt; all_are_shut_out(&rt, alloc, MergeWay::Board, &gate)?);
+    assert_eq!(rt; gate.count.load(Ordering::SeqCst), 36);
     Ok(())
 }
 
@@ -115,13 +137,9 @@ fn packets_go_out_in_their_order(rt: HostRuntime) -> Result<(), Fail> {
     let gate = Passes {
         count: AtomicU64::new(0),
     };
-    let one = fates_by(&rt, alloc, open(alloc)?, 1, &gate)?;
-    let two = fates_by(&rt, alloc, open(alloc)?, 2, &gate)?;
-    let most = fates_by(&rt, alloc, open(alloc)?, 16, &gate)?;
-    assert!(rt; are_hopped(&one));
-    assert!(rt; are_hopped(&two));
-    assert!(rt; are_hopped(&most));
-    assert_eq!(rt; gate.count.load(Ordering::SeqCst), 18);
+    assert!(rt; all_are_hopped(&rt, alloc, MergeWay::Inbox, &gate)?);
+    assert!(rt; all_are_hopped(&rt, alloc, MergeWay::Board, &gate)?);
+    assert_eq!(rt; gate.count.load(Ordering::SeqCst), 36);
     Ok(())
 }
 
