@@ -1,17 +1,22 @@
 //! Leads the same burst of packets through the chain of a policy again and again, through the graph on one thread, through the
 //! graph on threads that are joined behind each stage, or with each dealer, branch and merger on a thread of its own, or by the walk
 //! of whole frames, or looks for the patterns of its functions alone, or reads the same bytes: what `bench/walk` and `bench/payload`
-//! measure. Its words are `graph`, `joined`, `piped`, `walk`, `search`, `pass` or `none`, how often, the length of each frame in
-//! bytes, the policy, how many mergers (1 where it isn't said), and how many packets a burst has (1,024). The functions of the first
-//! chain are taken as declared.
+//! measure. Its words are `graph`, `joined`, `piped`, `board`, `walk`, `search`, `pass` or `none`, how often, the length of each frame
+//! in bytes, the policy, how many mergers (1 where it isn't said), and how many packets a burst has (1,024). `piped` and `board` are
+//! the same run of threads: in `piped` what branches give goes over links to the mergers, in `board` onto a board. The functions of the
+//! first chain are taken as declared.
 #![tactic(auto)]
+
+ghost use Rattle.std.specs.Prelude.{◌≤◌, length, vec_len};
 
 mod frames;
 mod runs;
 mod search;
 
+use classifier::Burst;
 use frames::{BURST, burst_of};
 use net_functions::{NetFunction, build};
+use piped_run::MergeWay;
 use policy_text::{BuildFault, ChainPolicy, FunctionDecl, parse};
 use runs::{Counts, Way, by_walk, through_graph, through_threads};
 use search::{pass, search};
@@ -71,30 +76,9 @@ fn lead(
     let rounds = run.rounds;
     match run.mode {
         "graph" => tell(rt, through_graph(rt, alloc, functions, &burst, rounds)?),
-        "joined" => {
-            let counts = through_threads(
-                rt,
-                alloc,
-                functions,
-                &burst,
-                rounds,
-                Way::Joined,
-                run.mergers,
-            )?;
-            tell(rt, counts)
-        }
-        "piped" => {
-            let counts = through_threads(
-                rt,
-                alloc,
-                functions,
-                &burst,
-                rounds,
-                Way::Piped,
-                run.mergers,
-            )?;
-            tell(rt, counts)
-        }
+        "joined" => tell_threads(rt, functions, &burst, run, Way::Joined),
+        "piped" => tell_threads(rt, functions, &burst, run, Way::Piped(MergeWay::Inbox)),
+        "board" => tell_threads(rt, functions, &burst, run, Way::Piped(MergeWay::Board)),
         "walk" => {
             let out = by_walk(rt, alloc, &mut functions, &burst, rounds)?;
             println!(rt; "out {out}")
@@ -103,6 +87,28 @@ fn lead(
         "pass" => println!(rt; "sum {}", pass(&burst, rounds)),
         _ => println!(rt; "none"),
     }
+}
+
+fn tell_threads(
+    rt: &(impl Alloc<A = Global> + Print + Threads + Wait + Sync),
+    functions: Vec<NetFunction>,
+    burst: &Burst,
+    run: &Run,
+    way: Way,
+) -> io::Result<()>
+    requires few { vec_len functions ≤ 64 }
+    requires short { length burst.now.items ≤ 65536 }
+{
+    let counts = through_threads(
+        rt,
+        rt.alloc(),
+        functions,
+        burst,
+        run.rounds,
+        way,
+        run.mergers,
+    )?;
+    tell(rt, counts)
 }
 
 fn tell(rt: &impl Print, counts: Counts) -> io::Result<()> {

@@ -80,8 +80,8 @@ pub fn through_graph(
 pub enum Way {
     /// All packets through one stage, its branches on threads that are joined behind it, and then all through the next.
     Joined,
-    /// Each dealer, branch and merger of the graph on a thread of its own.
-    Piped,
+    /// Each dealer, branch and merger of the graph on a thread of its own; what branches give comes together so.
+    Piped(MergeWay),
 }
 
 /// The burst through the graph on threads, again and again. A number of mergers that is out of range is 1.
@@ -129,17 +129,8 @@ fn one_round<R: Threads + Wait + Sync>(
     let unit = Unit::Micro;
     match way {
         Way::Joined => run_joined(rt, alloc, run, burst, unit, 0, tally, mergers, &OpenGate),
-        Way::Piped => run_piped(
-            rt,
-            alloc,
-            run,
-            burst,
-            unit,
-            0,
-            tally,
-            mergers,
-            &OpenGate,
-            MergeWay::Inbox,
+        Way::Piped(merge) => run_piped(
+            rt, alloc, run, burst, unit, 0, tally, mergers, &OpenGate, merge,
         ),
     }
 }
