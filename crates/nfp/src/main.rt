@@ -3,15 +3,22 @@
 //! The program hands its words to [`nfp_run::nfp`], over files and an open gate, and ends with the status of the outcome.
 //! What that call promises is the program's theorem. Where bytes that the desk had gathered for a file were lost, no line
 //! was put, and the program tells that file itself.
+//!
+//! The desk is watched. Where the environment has `NFP_PROGRESS=1`, a long run shows on standard error how far it is, and what is
+//! to be done about an outcome is told there too. Nothing that is promised speaks of either.
 #![tactic(auto)]
 
+mod help;
+
+use help::tell_more;
 use nfp_outside::{FileDesk, OpenGate, Slot};
 use nfp_run::{Outcome, nfp, write_fault_text};
 use std::alloc::AllocError;
-use std::io::{ErrorKind, Write};
+use std::io::{ErrorKind, IsTerminal, Write};
 use std::process::ExitCode;
-use std::rt::{Env, Files};
+use std::rt::{Clock, Env, Files};
 use std::{env, io, str};
+use watched_desk::{Progress, Seen, Watch, Watched};
 
 /// The length of the longest word that is a command.
 const LONGEST_COMMAND: usize = 4;
@@ -20,20 +27,55 @@ fn main(rt: HostRuntime) -> ExitCode {
     let files: Result<_, _> = rt.clone();
     let outcome = match (command_line(&rt), files) {
         (Ok(words), Ok(files)) => {
-            let mut desk = FileDesk::new(files);
+            let watch = watch(&rt, rt.stderr().is_terminal());
+            let mut desk = Watched::new(FileDesk::new(files), watch);
             let outcome = nfp(&rt, rt.alloc(), &words, &mut desk, &OpenGate);
-            end(&rt, &mut desk, outcome)
+            let (files, watch) = desk.into_parts();
+            let seen = watch.end();
+            let outcome = end(&rt, files, outcome);
+            tell_more(&rt, &words, &seen, &outcome);
+            outcome
         }
         _ => Outcome::OutOfMemory,
     };
     ExitCode::from(outcome.status())
 }
 
+// What the run is watched with. Progress is shown on a terminal, where the environment asks for it.
+fn watch<R: Env + Clock + Files + Eprint + AllocGlobal + Clone + Drop>(
+    rt: &R,
+    terminal: bool,
+) -> Watch<R> {
+    Watch {
+        seen: Seen::new(rt.alloc()),
+        progress: progress(rt, terminal),
+    }
+}
+
+fn progress<R: Env + Clock + Files + Eprint + Clone + Drop>(
+    rt: &R,
+    terminal: bool,
+) -> Option<Progress<R>> {
+    if !terminal || !wants_progress(rt) {
+        return None;
+    }
+    match rt.clone() {
+        Ok(rt) => Some(Progress::new(rt)),
+        Err(_) => None,
+    }
+}
+
+fn wants_progress(rt: &impl Env) -> bool {
+    let mut value = [0u8; 2];
+    matches!(rt.var("NFP_PROGRESS", &mut value), Ok(1)) && value[0] == b'1'
+}
+
 // What the program ends with. Where gathered bytes were lost, Note has taken nothing, and the first slot that failed is told
-// here: one that had failed at a call of its own before, or else the one that lost them.
+// here: one that had failed at a call of its own before, or else the one that lost them. The files are closed then, so that none
+// of them stands where standard error was closed.
 fn end<R: Files + Print + AllocGlobal + Drop>(
     rt: &(impl Print + AllocGlobal),
-    desk: &mut FileDesk<R>,
+    mut desk: FileDesk<R>,
     outcome: Outcome,
 ) -> Outcome {
     match (desk.hand_on(), outcome) {

@@ -1,0 +1,153 @@
+//! What the operator is told on standard error, beside the line of an outcome.
+//!
+//! The line and the status are what the program promises. Where there is no memory for more, or no standard error, there is no more.
+
+use nfp_outside::Slot;
+use nfp_run::{Option4, Outcome, UsageFault};
+use operator_help::capture::Captured;
+use operator_help::policy::PolicyText;
+use operator_help::{Page, capture, files, policy, usage};
+use policy_check::CheckFault;
+use policy_judge::PolicyFault;
+use std::alloc::AllocError;
+use std::env::FillError;
+use std::rt::{Env, Files};
+use std::str::from_utf8;
+use watched_desk::Seen;
+
+/// How many words are looked at for one that isn't UTF-8.
+const MOST_WORDS: usize = 64;
+
+/// The longest word that is looked at.
+const LONGEST_WORD: usize = 4096;
+
+/// Tells what to do about an outcome.
+pub fn tell_more<R: Files + Env + Eprint + AllocGlobal>(
+    rt: &R,
+    words: &[String],
+    seen: &Seen,
+    outcome: &Outcome,
+) {
+    let mut page = Page::new(rt.alloc());
+    if fill(&mut page, rt, words, seen, outcome).is_ok() && !page.text().is_empty() {
+        let _ = rt.eprint(page.text());
+    }
+}
+
+fn fill<R: Files + Env>(
+    page: &mut Page,
+    rt: &R,
+    words: &[String],
+    seen: &Seen,
+    outcome: &Outcome,
+) -> Result<(), AllocError> {
+    match outcome {
+        Outcome::Done | Outcome::OutOfMemory => Ok(()),
+        Outcome::Usage(fault) => usage_help(page, rt, words, *fault),
+        Outcome::Policy(fault) => policy_help(page, seen, fault),
+        Outcome::Capture(fault) => {
+            let name = seen.name(Slot::Capture).unwrap_or("");
+            let front = seen.front();
+            capture::fault(page, Captured { name, front }, *fault)
+        }
+        Outcome::ReadFault(slot) => match seen.name(*slot) {
+            Some(name) => files::unread(page, rt, name),
+            None => Ok(()),
+        },
+        Outcome::WriteFault(slot) => match seen.name(*slot) {
+            Some(name) => files::unwritten(page, rt, name),
+            None => files::unprinted(page),
+        },
+    }
+}
+
+// Words that are refused.
+fn usage_help<R: Env>(
+    page: &mut Page,
+    rt: &R,
+    words: &[String],
+    fault: UsageFault,
+) -> Result<(), AllocError> {
+    if !foreign_word(page, rt)? {
+        usage_reason(page, words, fault)?;
+    }
+    usage::forms(page)
+}
+
+fn usage_reason(page: &mut Page, words: &[String], fault: UsageFault) -> Result<(), AllocError> {
+    match fault {
+        UsageFault::UnknownCommand => match words.first() {
+            Some(word) => command_help(page, word.as_str()),
+            None => Ok(()),
+        },
+        UsageFault::Number(which) => number_help(page, which),
+        UsageFault::Merge => usage::one_of(page, "the value of --merge", "inbox and board"),
+        UsageFault::SameName => usage::same_name(page),
+        _ => Ok(()),
+    }
+}
+
+fn command_help(page: &mut Page, word: &str) -> Result<(), AllocError> {
+    if usage::asks_version(word) {
+        usage::version(page)
+    } else if usage::asks_help(word) {
+        Ok(())
+    } else {
+        usage::no_command(page, word)
+    }
+}
+
+fn number_help(page: &mut Page, which: Option4) -> Result<(), AllocError> {
+    match which {
+        Option4::Mergers => usage::out_of_range(page, "the value of --mergers", 1, 16),
+        Option4::Burst => usage::out_of_range(page, "the value of --burst", 1, 65536),
+        Option4::Seed => usage::out_of_range(page, "SEED", 0, u64::MAX),
+        Option4::Count => usage::out_of_range(page, "COUNT", 1, 1_000_000),
+    }
+}
+
+// Tells the first word of the command line that isn't UTF-8, where there is one.
+fn foreign_word<R: Env>(page: &mut Page, rt: &R) -> Result<bool, AllocError> {
+    let mut buffer = [0u8; LONGEST_WORD];
+    for place in 1..MOST_WORDS {
+        match rt.arg(place, &mut buffer) {
+            Ok(length) => {
+                let word = &buffer[..length];
+                if from_utf8(word).is_err() {
+                    usage::not_utf8(page, place as u64, word)?;
+                    return Ok(true);
+                }
+            }
+            Err(FillError::TooLong) => {}
+            Err(FillError::NotPresent) => return Ok(false),
+        }
+    }
+    Ok(false)
+}
+
+// A policy that is refused. Its text is what was read of it, unless there was no memory to keep it.
+fn policy_help(page: &mut Page, seen: &Seen, fault: &PolicyFault) -> Result<(), AllocError> {
+    let (Some(name), Some(text)) = (seen.name(Slot::Policy), seen.policy()) else {
+        return Ok(());
+    };
+    let text = PolicyText { name, text };
+    match fault {
+        PolicyFault::TooLong => policy::too_long(page, text),
+        PolicyFault::Text(fault) => policy::text_fault(page, text, *fault),
+        PolicyFault::BadSetting(line) => policy::bad_setting(page, text, *line),
+        PolicyFault::Check { chain, fault } => check_help(page, text, *chain, fault),
+    }
+}
+
+fn check_help(
+    page: &mut Page,
+    text: PolicyText<'_>,
+    chain: u32,
+    fault: &CheckFault,
+) -> Result<(), AllocError> {
+    match fault {
+        CheckFault::Cycle(_) => policy::cycle(page, text, chain),
+        CheckFault::PriorityForbidden { line, .. } => policy::forbidden(page, text, *line),
+        CheckFault::OutOfMemory => Ok(()),
+    }
+}

@@ -1,0 +1,152 @@
+//! Files: what they are by their first bytes, and why the system refuses them.
+
+use crate::page::Page;
+use crate::shown::shown_name;
+use std::alloc::AllocError;
+use std::fs::{File, OpenOptions};
+use std::io::Read;
+use std::rt::Files;
+use std::{fs, io};
+use text_lines::Piece::Text;
+
+/// What a file is, by its first bytes.
+#[derive(Clone, Copy, Debug, PartialEq, Eq)]
+pub enum Sign {
+    /// A capture in the classic format.
+    Pcap,
+    /// A capture in the classic format, changed by a patch, whose record heads are longer.
+    PatchedPcap,
+    Pcapng,
+    Snoop,
+    Gzip,
+    Bzip2,
+    Xz,
+    Zstandard,
+    /// A text with the byte order mark of UTF-8.
+    Utf8,
+    /// A text with the byte order mark of UTF-16.
+    Utf16,
+    /// Lines of a policy.
+    Policy,
+    Text,
+    Unknown,
+}
+
+/// What a file is that begins so.
+pub fn sign_of(front: &[u8]) -> Sign {
+    let signs: [(&[u8], Sign); 15] = [
+        (b"\xd4\xc3\xb2\xa1", Sign::Pcap),
+        (b"\xa1\xb2\xc3\xd4", Sign::Pcap),
+        (b"\x4d\x3c\xb2\xa1", Sign::Pcap),
+        (b"\xa1\xb2\x3c\x4d", Sign::Pcap),
+        (b"\x34\xcd\xb2\xa1", Sign::PatchedPcap),
+        (b"\xa1\xb2\xcd\x34", Sign::PatchedPcap),
+        (b"\x0a\x0d\x0d\x0a", Sign::Pcapng),
+        (b"snoop\0\0\0", Sign::Snoop),
+        (b"\x1f\x8b", Sign::Gzip),
+        (b"BZh", Sign::Bzip2),
+        (b"\xfd7zXZ\0", Sign::Xz),
+        (b"\x28\xb5\x2f\xfd", Sign::Zstandard),
+        (b"\xef\xbb\xbf", Sign::Utf8),
+        (b"\xff\xfe", Sign::Utf16),
+        (b"\xfe\xff", Sign::Utf16),
+    ];
+    for (start, sign) in signs {
+        if front.starts_with(start) {
+            return sign;
+        }
+    }
+    text_sign(front)
+}
+
+fn text_sign(front: &[u8]) -> Sign {
+    if front.starts_with(b"nfp 1") {
+        Sign::Policy
+    } else if !front.is_empty() && front.iter().all(|byte| is_of_text(*byte)) {
+        Sign::Text
+    } else {
+        Sign::Unknown
+    }
+}
+
+fn is_of_text(byte: u8) -> bool {
+    matches!(byte, b' '..=b'~' | b'\t' | b'\n' | b'\r')
+}
+
+/// A file that couldn't be read, and the system's reason, which is asked for once more.
+pub fn unread<R: Files>(page: &mut Page, rt: &R, name: &str) -> Result<(), AllocError> {
+    let reason = reading_reason(rt, name);
+    say_reason(
+        page,
+        name,
+        b" can't be read: ",
+        reason,
+        b"it failed in the middle, and gives no reason any more",
+    )
+}
+
+/// A file that couldn't be written, and the system's reason, which is asked for once more.
+pub fn unwritten<R: Files>(page: &mut Page, rt: &R, name: &str) -> Result<(), AllocError> {
+    let reason = writing_reason(rt, name);
+    say_reason(
+        page,
+        name,
+        b" can't be written: ",
+        reason,
+        b"it takes no more bytes; is the disk full, or was a pipe closed?",
+    )
+}
+
+/// The line of the run itself couldn't be printed.
+pub fn unprinted(page: &mut Page) -> Result<(), AllocError> {
+    page.say(&[Text(b"the last line can't be put to standard output; the files are whole")])
+}
+
+fn say_reason(
+    page: &mut Page,
+    name: &str,
+    what: &[u8],
+    reason: Option<io::Error>,
+    otherwise: &[u8],
+) -> Result<(), AllocError> {
+    let name = shown_name(page.alloc(), name)?;
+    match reason {
+        Some(error) => {
+            let reason = format!(in page.alloc(); "{error}")?;
+            page.say(&[Text(&name), Text(what), Text(reason.as_bytes())])
+        }
+        None => page.say(&[Text(&name), Text(what), Text(otherwise)]),
+    }
+}
+
+// Only a file or a folder is opened once more: a pipe would be waited for.
+fn reading_reason<R: Files>(rt: &R, name: &str) -> Option<io::Error> {
+    match fs::metadata(rt, name) {
+        Err(error) => Some(error),
+        Ok(told) if told.is_file() || told.is_dir() => try_reading(rt, name).err(),
+        Ok(_) => None,
+    }
+}
+
+fn try_reading<R: Files>(rt: &R, name: &str) -> io::Result<usize> {
+    let mut file = File::open(rt, name)?;
+    let mut byte = [0u8; 1];
+    file.read(&mut byte)
+}
+
+// What a file holds stays as it is.
+fn writing_reason<R: Files>(rt: &R, name: &str) -> Option<io::Error> {
+    match fs::metadata(rt, name) {
+        Err(_) => try_making(rt, name).err(),
+        Ok(told) if told.is_file() || told.is_dir() => {
+            OpenOptions::new().write(true).open(rt, name).err()
+        }
+        Ok(_) => None,
+    }
+}
+
+// A file that wasn't there, and isn't there afterwards.
+fn try_making<R: Files>(rt: &R, name: &str) -> io::Result<()> {
+    File::create_new(rt, name)?;
+    fs::remove_file(rt, name)
+}

@@ -1,0 +1,141 @@
+//! The records of a capture, counted as its bytes pass.
+ghost use Rattle.std.specs.Prelude.{◌≤◌, ◌<◌, length};
+
+use pcap_io::Endian;
+
+/// The bytes of a capture's head.
+const FILE_HEAD: u32 = 24;
+
+/// The bytes of a record's head.
+const RECORD_HEAD: u32 = 16;
+
+/// The first of the four bytes of a record's head that say how long its frame is.
+const LENGTH_AT: u32 = 8;
+
+/// The first byte of a magic number whose highest byte comes first.
+const MAGIC_HIGH: u8 = 0xa1;
+
+/// Where the next byte of a capture stands.
+#[derive(Clone, Copy)]
+enum Place {
+    /// So many bytes behind the beginning of the capture's head.
+    FileHead(u32),
+    /// So many bytes behind the beginning of a record's head.
+    RecordHead(u32),
+    /// So many bytes before the end of a frame, and at least one.
+    Frame(u32),
+}
+
+/// Counts the records of a capture (the classic pcap format) whose bytes it is given piece by piece, in any pieces.
+#[derive(Drop)]
+pub struct RecordCount {
+    place: Place,
+    order: Endian,
+    length: u32,
+    records: u64,
+}
+
+impl RecordCount {
+    /// Nothing has passed yet.
+    pub fn new() -> Self {
+        RecordCount {
+            place: Place::FileHead(0),
+            order: Endian::Little,
+            length: 0,
+            records: 0,
+        }
+    }
+
+    /// The records of which all bytes have passed.
+    pub fn records(&self) -> u64 {
+        self.records
+    }
+
+    /// More bytes have passed.
+    pub fn follow(&mut self, bytes: &[u8]) {
+        let mut rest = bytes;
+        'pieces: while !rest.is_empty() {
+            let taken = self.take(rest);
+            rest = &rest[taken..];
+        }
+    }
+
+    // Takes some bytes off the front, and says how many: what is here of a frame, or one byte of a head.
+    fn take(&mut self, bytes: &[u8]) -> usize
+        requires { 0 < length bytes.now }
+        ensures some { 0 < result }
+        ensures within { result ≤ length bytes.now }
+    {
+        match self.place {
+            Place::FileHead(at) => {
+                self.file_head(at, bytes[0]);
+                1
+            }
+            Place::RecordHead(at) => {
+                self.record_head(at, bytes[0]);
+                1
+            }
+            Place::Frame(left) => {
+                let taken = bytes.len().min(left as usize).max(1);
+                self.frame(left, taken);
+                taken
+            }
+        }
+    }
+
+    // A byte of the capture's head, whose first byte says the order.
+    fn file_head(&mut self, at: u32, byte: u8) {
+        if at == 0 && byte == MAGIC_HIGH {
+            self.order = Endian::Big;
+        }
+        self.place = if at < FILE_HEAD - 1 {
+            Place::FileHead(at + 1)
+        } else {
+            Place::RecordHead(0)
+        };
+    }
+
+    // A byte of a record's head.
+    fn record_head(&mut self, at: u32, byte: u8) {
+        if at >= LENGTH_AT && at < LENGTH_AT + 4 {
+            self.length = joined(self.order, self.length, byte);
+        }
+        if at < RECORD_HEAD - 1 {
+            self.place = Place::RecordHead(at + 1);
+        } else {
+            self.begin_frame();
+        }
+    }
+
+    // The head of a record ended.
+    fn begin_frame(&mut self) {
+        if self.length == 0 {
+            self.end_record();
+        } else {
+            self.place = Place::Frame(self.length);
+        }
+    }
+
+    // So many bytes of a frame, of which so many were left.
+    fn frame(&mut self, left: u32, taken: usize) {
+        if (left as usize) <= taken {
+            self.end_record();
+        } else {
+            self.place = Place::Frame(left - taken as u32);
+        }
+    }
+
+    fn end_record(&mut self) {
+        self.records = self.records.saturating_add(1);
+        self.length = 0;
+        self.place = Place::RecordHead(0);
+    }
+}
+
+// The number whose bytes so far were these and this. The four bytes of one push out whatever stood before.
+fn joined(order: Endian, number: u32, byte: u8) -> u32 {
+    match order {
+        Endian::Big => number.wrapping_shl(8) | u32::from(byte),
+        Endian::Little => number.wrapping_shr(8) | u32::from(byte).wrapping_shl(24),
+    }
+}

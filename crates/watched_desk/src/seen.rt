@@ -1,0 +1,104 @@
+//! What a message to the operator needs of a run.
+
+use crate::watched::Watcher;
+use nfp_outside::Slot;
+use std::alloc::Global;
+
+/// How many of the first bytes of a capture are kept.
+const FRONT: usize = 64;
+
+/// The names of a run, the text of its policy, and the first bytes of its capture. Where there was no memory for one of them, it
+/// is as if it had not been seen.
+#[derive(Drop)]
+pub struct Seen {
+    alloc: Global,
+    policy_name: Option<String>,
+    capture_name: Option<String>,
+    out_name: Option<String>,
+    report_name: Option<String>,
+    policy: Option<Vec<u8>>,
+    front: Vec<u8>,
+}
+
+impl Seen {
+    /// Nothing was seen yet.
+    pub fn new(alloc: Global) -> Self {
+        Seen {
+            alloc,
+            policy_name: None,
+            capture_name: None,
+            out_name: None,
+            report_name: None,
+            policy: Some(Vec::new(alloc)),
+            front: Vec::new(alloc),
+        }
+    }
+
+    /// The name that a slot was to be attached with.
+    pub fn name(&self, slot: Slot) -> Option<&str> {
+        let name = match slot {
+            Slot::Policy => &self.policy_name,
+            Slot::Capture => &self.capture_name,
+            Slot::Out => &self.out_name,
+            Slot::Report => &self.report_name,
+            Slot::Note => return None,
+        };
+        match name {
+            Some(name) => Some(name.as_str()),
+            None => None,
+        }
+    }
+
+    /// What was read of the policy.
+    pub fn policy(&self) -> Option<&[u8]> {
+        match &self.policy {
+            Some(bytes) => Some(bytes.as_slice()),
+            None => None,
+        }
+    }
+
+    /// The first bytes of what was read of the capture, at most 64.
+    pub fn front(&self) -> &[u8] {
+        &self.front
+    }
+
+    // Keeps more of the policy, or lets go of it whole.
+    fn keep_policy(&mut self, bytes: &[u8]) {
+        if let Some(kept) = &mut self.policy
+            && kept.extend_from_slice(bytes).is_err()
+        {
+            self.policy = None;
+        }
+    }
+
+    // Keeps the first bytes of the capture.
+    fn keep_front(&mut self, bytes: &[u8]) {
+        if self.front.len() < FRONT {
+            let count = bytes.len().min(FRONT - self.front.len());
+            let _ = self.front.extend_from_slice(&bytes[..count]);
+        }
+    }
+}
+
+impl Watcher for Seen {
+    fn attaching(&mut self, slot: Slot, name: &str) {
+        let name = String::from_str(self.alloc, name).ok();
+        match slot {
+            Slot::Policy => self.policy_name = name,
+            Slot::Capture => self.capture_name = name,
+            Slot::Out => self.out_name = name,
+            Slot::Report => self.report_name = name,
+            Slot::Note => {}
+        }
+    }
+
+    fn passed(&mut self, slot: Slot, bytes: &[u8]) {
+        match slot {
+            Slot::Policy => self.keep_policy(bytes),
+            Slot::Capture => self.keep_front(bytes),
+            _ => {}
+        }
+    }
+
+    fn writing(&mut self, _slot: Slot) {}
+}
