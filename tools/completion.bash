@@ -1,0 +1,50 @@
+# Completes the words of nfp in bash: commands, options, the ways of --merge, and files. tools/install puts it where bash-completion finds
+# it; without that: source tools/completion.bash
+
+_nfp() {
+    local word=$2 options=' --burst --merge --mergers ' due files=yes
+    COMPREPLY=()
+    if [[ $COMP_CWORD -eq 1 ]]; then
+        local first='plan run demo'
+        [[ $word != -* ]] || first='--help --version'
+        COMPREPLY=($(compgen -W "$first" -- "$word"))
+        return
+    fi
+    case ${COMP_WORDS[1]} in
+        plan) due=1 options= ;;
+        run) due=4 ;;
+        demo) due=2 files= ;;
+        *) return ;;
+    esac
+
+    # What stands before the word. Bash takes --merge=inbox for three words, but where = was taken out of COMP_WORDBREAKS.
+    local place each option= named= names=0
+    for ((place = 2; place < COMP_CWORD; place++)); do
+        each=${COMP_WORDS[place]}
+        if [[ $each == '=' ]]; then
+            continue
+        elif [[ -n $option ]]; then
+            option=
+        elif [[ -n $named || $each != -* ]]; then
+            names=$((names + 1))
+        elif [[ $each == -- ]]; then
+            named=yes
+        else
+            options=${options/" ${each%%=*} "/ }
+            [[ $each == *=* ]] || option=$each
+        fi
+    done
+
+    if [[ -n $option ]]; then
+        [[ $option != --merge ]] || COMPREPLY=($(compgen -W 'inbox board' -- "${word#=}"))
+    elif [[ -z $named && $word == --merge=* ]]; then
+        COMPREPLY=($(compgen -W '--merge=inbox --merge=board' -- "$word"))
+    elif [[ -z $named && ($word == -* || $names -ge $due) ]]; then
+        COMPREPLY=($(compgen -W "$options" -- "$word"))
+    elif [[ -n $files && $names -lt $due ]]; then
+        # Readline's own way with the names of files, quotes and blanks among them.
+        compopt -o default
+    fi
+}
+
+complete -F _nfp nfp
