@@ -1,0 +1,442 @@
+"""What tools/throw-mutations throws: policies and captures as others have thrown them at parsers.
+
+A seed is a good policy and a good capture, from examples/ or made here, of every kind of function and of frame. A mutation
+changes bytes, lines, words, records or fields. All is drawn from a generator of random numbers, so that a number makes the
+same case again.
+"""
+
+import pathlib
+import re
+import struct
+import typing
+
+import frames
+import policy_rules
+
+EXAMPLES = pathlib.Path(__file__).resolve().parent.parent / 'examples'
+
+# Numbers at the ends of their ranges, and one past them, as they stand in policies and in captures.
+BITS = (4, 5, 8, 12, 16, 31, 32, 63, 64)
+ENDS = sorted({0, 1, 2, 32, 33, 40000, *(2**bits + by for bits in BITS for by in (-1, 0, 1))})
+SPELLED = [str(end) for end in ENDS] + ['007', '0' * 19 + '1', '0' * 20 + '1', '9' * 20, '1' * 21, '-1', '+1', '1e3', '0x10', '']
+LENGTHS = (0, 1, 13, 14, 33, 34, 42, 60, 65535, 65536, 262143, 262144, 262145, 2**31 - 1, 2**31, 2**32 - 1)
+
+CAPTURE_HEAD, RECORD_HEAD = 24, 16
+
+
+class Seed(typing.NamedTuple):
+    policy: bytes
+    capture: bytes
+
+
+# Policies that are made: chains of functions with settings that their kinds take.
+
+
+def some_address(rng):
+    return rng.choice(['10.0.0.1', '10.0.0.9', '192.0.2.1', '198.51.100.5', '203.0.113.66', '0.0.0.0', '255.255.255.255'])
+
+
+def some_prefix(rng):
+    return some_address(rng) + rng.choice(['', '/0', '/1', '/8', '/24', '/31', '/32'])
+
+
+def some_ports(rng):
+    low, high = sorted(rng.choice([0, 1, 53, 80, 1000, 1024, 40000, 65535]) for _ in range(2))
+    return rng.choice([str(low), f'{low}-{high}'])
+
+
+def some_clauses(rng, leads=('src', 'dst', 'sport', 'dport', 'proto', 'tag')):
+    values = {
+        'src': some_prefix,
+        'dst': some_prefix,
+        'sport': some_ports,
+        'dport': some_ports,
+        'proto': lambda rng: rng.choice(['tcp', 'udp', '6', '1', '255']),
+        'tag': lambda rng: rng.choice(['none', '0', '7', '100', '4095']),
+    }
+    chosen = rng.sample(leads, rng.choice([0, 1, 1, 2, len(leads)]) if len(leads) > 1 else rng.randrange(2))
+    return ''.join(f' {lead} {values[lead](rng)}' for lead in chosen)
+
+
+def some_patterns(rng):
+    return [f'rule {rng.choice(["text a", "text secret", "text evil", "hex 00", "hex 2e2e", "hex FFff"])}' for _ in range(rng.randrange(3))]
+
+
+def some_link(rng):
+    return ':'.join(f'{rng.randrange(256):02x}' for _ in range(6))
+
+
+def nat_lines(rng):
+    low = rng.choice([1, 40000, 65535])
+    return [f'set inside {some_prefix(rng)}', f'set public {some_address(rng)}', f'set ports {low}-{min(low + rng.randrange(3), 65535)}']
+
+
+LINES = {
+    'firewall': lambda rng: [f'set default {rng.choice(["allow", "deny"])}'] * rng.randrange(2)
+    + [f'rule {rng.choice(["allow", "deny"])}{some_clauses(rng)}' for _ in range(rng.randrange(4))],
+    'signature': some_patterns,
+    'nat': nat_lines,
+    'balancer': lambda rng: [f'set vip {some_address(rng)}'] + [f'rule backend {some_address(rng)}' for _ in range(1 + rng.randrange(3))],
+    'monitor': lambda rng: [],
+    'limiter': lambda rng: [f'set rate {rng.choice([1, 1000, 2**32 - 1])}', f'set burst {rng.choice([1, 28, 1000, 2**32 - 1])}'],
+    'marker': lambda rng: [
+        f'rule tos {rng.choice([0, 46, 255])}{some_clauses(rng, ("src", "dst", "sport", "dport", "proto"))}' for _ in range(rng.randrange(3))
+    ],
+    'nexthop': lambda rng: [f'rule {some_prefix(rng)} to {some_link(rng)} from {some_link(rng)}' for _ in range(rng.randrange(3))],
+    'hop': lambda rng: [],
+    'redactor': some_patterns,
+    'tagger': lambda rng: [
+        f'rule vid {rng.choice([0, 7, 4095])} pcp {rng.randrange(8)}{some_clauses(rng, ("src",))}' for _ in range(rng.randrange(3))
+    ],
+    'untagger': lambda rng: [],
+}
+
+
+def statement(rng, names):
+    first, second = rng.choice(names), rng.choice(names)
+    return rng.choice(
+        [
+            f'order {first} before {second}',
+            f'order {names[0]} before {names[-1]}',
+            f'priority {first} > {second}',
+            f'position {first} {rng.choice(["first", "last"])}',
+        ]
+    )
+
+
+def made_policy(rng):
+    """Of one to three chains. Some of them have a fault by their statements, which is one more thing that is thrown."""
+    lines = ['nfp 1']
+    for chain in range(rng.choice([0, 1, 1, 1, 2, 3])):
+        clauses = some_clauses(rng) if chain < 2 else ''
+        lines.append(f'chain c{chain}' + (f' match{clauses}' if clauses else ''))
+        names = []
+        for place in range(rng.choice([0, 1, 1, 2, 3, 4, 6])):
+            kind = rng.choice(list(LINES))
+            names.append(f'{kind[:3]}{chain}{place}')
+            lines += [f'fn {names[-1]} {kind}', *LINES[kind](rng)]
+        lines += [statement(rng, names) for _ in range(rng.choice([0, 0, 1, 2]) if names else 0)]
+    return '\n'.join(lines).encode() + b'\n'
+
+
+# Captures that are made, of few frames of every kind.
+
+
+# What an IPv4 header seldom has: options, a fragment, a last hop, a mark, a version or length of its own.
+UNUSUAL = [{'options': b'\x01' * 8}, {'offset': 8}, {'more': True}, {'ttl': 1}, {'ttl': 0}, {'tos': 255}, {'lead': 0x4F}, {'lead': 0x44}]
+
+
+def some_tag(rng):
+    return frames.tag(rng.choice([frames.VLAN_TAG, frames.SERVICE_TAG]), rng.choice([0, 7, 100, 4095]))
+
+
+def made_frame(rng):
+    source, to = some_address(rng), some_address(rng)
+    data = rng.choice([b'', b'a', b'my secret', b'evil secret', b'.' * 64, bytes(range(256)), b'a' * 1400])
+    ports = rng.choice([1000, 1001, 40000, 65535, 0]), rng.choice([53, 80, 40000])
+    content = rng.choice([frames.udp(*ports, data), frames.tcp(*ports, rng.choice([2, 16, 24]), data), frames.echo(1)])
+    tags = b''.join(some_tag(rng) for _ in range(rng.choice([0, 0, 0, 1, 2])))
+    more = rng.choice([{}, {}, {}, *UNUSUAL])
+    frame = frames.plain(source, content, to=to, tags=tags, **more)
+    others = [frames.arp_request(source, to), frames.ipv6(), b'', b'\0' * 13, frame[: rng.randrange(len(frame) + 1)]]
+    return frame if rng.randrange(8) else rng.choice(others)
+
+
+def made_capture(rng):
+    records = [(moment * rng.choice([0, 1, 10**5]), '', made_frame(rng), rng.choice([None, None, None, 60, 35])) for moment in range(rng.randrange(9))]
+    snaplen = rng.choice([0, 96, 65535, 262144, 2**32 - 1])
+    return frames.written(frames.Capture(rng.choice('<>'), rng.choice([frames.MICRO, frames.NANO]), max(snaplen, 96), records))
+
+
+def ends_of(capture):
+    """The places where the records of a capture end, the head being the first, by its own lengths."""
+    order, ends = order_of(capture), [CAPTURE_HEAD]
+    while ends[-1] + RECORD_HEAD <= len(capture):
+        (captured,) = struct.unpack_from(order + 'I', capture, ends[-1] + 8)
+        if ends[-1] + RECORD_HEAD + captured > len(capture):
+            break
+        ends.append(ends[-1] + RECORD_HEAD + captured)
+    return ends
+
+
+def order_of(capture):
+    return '<' if capture[:1] in (b'\xd4', b'\x4d') else '>'
+
+
+def seeds(rng, count):
+    """Those of the examples, with the front part of a long capture too, and as many that are made."""
+    examples = [path.parent for path in sorted(EXAMPLES.glob('*/policy')) if (path.parent / 'in.pcap').exists()]
+    found = [Seed((each / 'policy').read_bytes(), (each / 'in.pcap').read_bytes()) for each in examples]
+    policies = [path.read_bytes() for path in sorted(EXAMPLES.glob('**/policy'))]
+    for seed in list(found):
+        ends = ends_of(seed.capture)
+        found += [Seed(seed.policy, seed.capture[: ends[min(size, len(ends) - 1)]]) for size in (2, 6, 6)]
+        found.append(Seed(rng.choice(policies), made_capture(rng)))
+    return found + [Seed(made_policy(rng), made_capture(rng)) for _ in range(count)]
+
+
+# Mutations of bytes, of whatever they are.
+
+
+def place_in(rng, data):
+    """A place, more often near one of the ends than between them."""
+    return rng.choice([0, len(data), rng.randrange(len(data) + 1), rng.randrange(len(data) + 1), rng.randrange(min(len(data), 40) + 1)])
+
+
+def piece_in(rng, data):
+    begin = rng.randrange(len(data) + 1)
+    return begin, min(len(data), begin + rng.choice([1, 1, 2, 4, 16, 58, len(data)]))
+
+
+def noise(rng):
+    known = [b'\0', b'\n', b'\r', b'\r\n', b' ', b'\t', b'#', b'\x7f', b'\xff', b'\xc3', b'\xed\xa0\x80', b'\xef\xbb\xbf']
+    return rng.choice([*known, rng.randbytes(1 + rng.randrange(8))])
+
+
+def flip_bit(rng, data):
+    place = rng.randrange(len(data))
+    return data[:place] + bytes([data[place] ^ (1 << rng.randrange(8))]) + data[place + 1 :]
+
+
+def set_byte(rng, data):
+    place = rng.randrange(len(data))
+    return data[:place] + bytes([rng.choice([0, 1, 10, 32, 127, 128, 255, rng.randrange(256)])]) + data[place + 1 :]
+
+
+def cut(rng, data):
+    return data[: place_in(rng, data)]
+
+
+def cut_front(rng, data):
+    return data[rng.randrange(len(data) + 1) :]
+
+
+def double(rng, data):
+    begin, end = piece_in(rng, data)
+    return data[:end] + data[begin:]
+
+
+def delete(rng, data):
+    begin, end = piece_in(rng, data)
+    return data[:begin] + data[end:]
+
+
+def insert(rng, data):
+    place = place_in(rng, data)
+    return data[:place] + noise(rng) + data[place:]
+
+
+def move(rng, data):
+    begin, end = piece_in(rng, data)
+    rest = data[:begin] + data[end:]
+    place = rng.randrange(len(rest) + 1)
+    return rest[:place] + data[begin:end] + rest[place:]
+
+
+OF_BYTES = [flip_bit, flip_bit, set_byte, cut, cut_front, double, delete, insert, move]
+
+
+# Mutations of policies.
+
+WORDS = sorted(
+    {*policy_rules.KINDS, *policy_rules.CLAUSES, *'nfp chain fn set rule order priority position before > first last match allow deny default'.split()}
+    | set('inside public ports vip backend rate burst tos to from vid pcp text hex tcp udp none 1 a a-b A _ - 10.0.0.0/8 0-65535'.split())
+)
+
+
+def with_lines(change):
+    def mutated(rng, data):
+        lines = data.split(b'\n')
+        change(rng, lines)
+        return b'\n'.join(lines)
+
+    return mutated
+
+
+def with_words(change):
+    def mutated(rng, data):
+        lines = data.split(b'\n')
+        place = rng.randrange(len(lines))
+        words = lines[place].split(b' ')
+        change(rng, words)
+        lines[place] = b' '.join(words)
+        return b'\n'.join(lines)
+
+    return mutated
+
+
+def swap(rng, parts):
+    first, second = rng.randrange(len(parts)), rng.randrange(len(parts))
+    parts[first], parts[second] = parts[second], parts[first]
+
+
+def repeat(rng, parts):
+    parts.insert(rng.randrange(len(parts) + 1), rng.choice(parts))
+
+
+def repeat_often(rng, parts):
+    """Past the most chains, functions and rules of a function."""
+    place = rng.randrange(len(parts))
+    parts[place:place] = [parts[place]] * rng.choice([2, 15, 16, 17, 64, 65, 256, 257])
+
+
+def remove(rng, parts):
+    del parts[rng.randrange(len(parts))]
+
+
+def put_word(rng, words):
+    words[rng.randrange(len(words))] = rng.choice(WORDS).encode()
+
+
+def add_word(rng, words):
+    words.insert(rng.randrange(len(words) + 1), rng.choice(WORDS).encode())
+
+
+def put_number(rng, data):
+    numbers = list(re.finditer(rb'[0-9]+', data))
+    if not numbers:
+        return data
+    chosen = rng.choice(numbers)
+    return data[: chosen.start()] + rng.choice(SPELLED).encode() + data[chosen.end() :]
+
+
+def rename(rng, data):
+    """A name becomes another's, or one at the end of what a name may be."""
+    names = re.findall(rb'(?:chain|fn) ([a-z][a-z0-9_-]*)', data)
+    if not names:
+        return data
+    other = rng.choice([*names, b'a' * 32, b'a' * 33, b'z-_9', b'9a', 'é'.encode()])
+    return data.replace(rng.choice(names), other, rng.choice([1, 2, -1]))
+
+
+def append_chains(rng, data):
+    return data + b'\n' + b''.join(b'chain x%d\n' % number for number in range(rng.choice([14, 15, 16, 17])))
+
+
+def append_functions(rng, data):
+    kinds = rng.choice([list(LINES), ['monitor'], ['firewall', 'signature', 'hop']])
+    told = [f'fn y{number} {rng.choice(kinds)}\n' for number in range(rng.choice([8, 30, 62, 64, 65]))]
+    return data + b'\n' + ''.join(told).encode()
+
+
+def append_statements(rng, data):
+    names = [name.decode() for name in re.findall(rb'fn ([a-z][a-z0-9_-]*)', data)]
+    told = [statement(rng, names) for _ in range(rng.choice([1, 2, 4, 30]))] if names else []
+    return data + b'\n' + '\n'.join(told).encode()
+
+
+def lengthen(rng, data):
+    """A comment up to the most bytes, or past them."""
+    size = policy_rules.LONGEST + rng.choice([-1, 0, 1, 70000]) - len(data)
+    return data + b'#' + rng.choice([b'.', 'é'.encode(), b'\n', b' a'])[:2] * (size // 2) + b'.' * (size % 2)
+
+
+def other_ends(rng, data):
+    return data.replace(b'\n', rng.choice([b'\r\n', b'\r', b'\n\n', b' # c\n', b'\t\n']))
+
+
+OF_LINES = [with_lines(swap), with_lines(repeat), with_lines(repeat_often), with_lines(remove), with_words(swap), with_words(repeat), with_words(remove)]
+OF_WORDS = [with_words(put_word), with_words(add_word), put_number, put_number, put_number, rename, append_statements]
+OF_LIMITS = [append_chains, append_functions, other_ends, lengthen]
+
+
+def mutated_policy(rng, data):
+    """The text after one to four mutations; of hundreds the longest that there are."""
+    for _ in range(rng.choice([1, 1, 1, 2, 4])):
+        pool = rng.choice([OF_BYTES, OF_LINES, OF_LINES, OF_WORDS, OF_WORDS, OF_WORDS, OF_LIMITS[: 4 if rng.randrange(40) == 0 else 3]])
+        data = rng.choice(pool)(rng, data or b'\n')
+    return data
+
+
+# Mutations of captures.
+
+
+def put_in(data, place, size, value, order):
+    return data[:place] + value.to_bytes(size, 'little' if order == '<' else 'big') + data[place + size :]
+
+
+def head_field(rng, data):
+    place, size = rng.choice([(0, 4), (4, 2), (6, 2), (8, 4), (12, 4), (16, 4), (20, 4)])
+    value = rng.choice([*ENDS, frames.MICRO, frames.NANO, 0xA1B2CD34, 0x0A0D0D0A, 113, 276]) % 256**size
+    return put_in(data, place, size, value, rng.choice([order_of(data), '<', '>']))
+
+
+def record_field(rng, data):
+    ends = ends_of(data)
+    begin, field = rng.choice(ends), rng.choice([0, 4, 8, 8, 8, 12])
+    left = max(0, len(data) - begin - RECORD_HEAD)
+    value = rng.choice([*LENGTHS, left, left + 1, max(0, left - 1), rng.randrange(200)])
+    return put_in(data, begin + field, 4, value, order_of(data)) if begin + RECORD_HEAD <= len(data) else data
+
+
+# Fields of a frame by their places in one without tags and options: type, version and header length, marks, IPv4 length, fragment,
+# time to live, protocol, checksum, addresses, ports, length of UDP or a part of TCP's number, offset of TCP's data, checksums.
+FRAME_FIELDS = [(12, 2), (14, 1), (15, 1), (16, 2), (20, 2), (22, 1), (23, 1), (24, 2), (26, 4), (30, 4), (34, 2), (36, 2), (38, 2), (40, 2), (46, 1), (50, 2)]
+FRAME_VALUES = [*ENDS, 0x0800, 0x8100, 0x88A8, 0x86DD, 0x45, 0x4F, 0x44, 0x2000, 0x50, 0xF0, 6, 17, 19, 20, 21, 27, 28, 29]
+
+
+def frame_field(rng, data):
+    begin = rng.choice(ends_of(data)) + RECORD_HEAD
+    place, size = rng.choice(FRAME_FIELDS)
+    place += rng.choice([0, 0, 4, 8])
+    return put_in(data, begin + place, size, rng.choice(FRAME_VALUES) % 256**size, '>') if begin + place + size <= len(data) else data
+
+
+def with_records(change):
+    def mutated(rng, data):
+        ends = ends_of(data)
+        records = [data[begin:end] for begin, end in zip(ends, ends[1:])]
+        if records:
+            change(rng, records)
+        return data[:CAPTURE_HEAD] + b''.join(records) + data[ends[-1] :]
+
+    return mutated
+
+
+def resize_frame(rng, data):
+    """A frame loses its end or gains one, and its record says so."""
+    ends = ends_of(data)
+    if len(ends) < 2:
+        return data
+    chosen = rng.randrange(len(ends) - 1)
+    begin, end = ends[chosen] + RECORD_HEAD, ends[chosen + 1]
+    frame = rng.choice([data[begin : begin + rng.randrange(end - begin + 1)], data[begin:end] + rng.randbytes(rng.choice([1, 2, 500]))])
+    return put_in(data, begin - 8, 4, len(frame), order_of(data))[:begin] + frame + data[end:]
+
+
+def push_tag(rng, data):
+    ends = ends_of(data)
+    begin = rng.choice(ends) + RECORD_HEAD
+    tags = b''.join(frames.tag(rng.choice([0x8100, 0x88A8, 0x9100]), rng.choice([0, 7, 4095])) for _ in range(rng.choice([1, 1, 2, 200])))
+    if begin + 12 > len(data):
+        return data
+    (captured,) = struct.unpack_from(order_of(data) + 'I', data, begin - 8)
+    grown = put_in(data, begin - 8, 4, min(captured + len(tags), 2**32 - 1), order_of(data))
+    return grown[: begin + 12] + tags + data[begin + 12 :]
+
+
+def long_frame(rng, data):
+    """A record as long as a frame may be, or longer, at the end or before it."""
+    size = rng.choice([65535, 262143, 262144, 262145])
+    record = struct.pack(order_of(data) + 'IIII', 1, 1, size, size) + frames.plain('10.0.0.9', frames.udp(1000, 53, b'a' * 20)).ljust(size, b'a')
+    place = rng.choice(ends_of(data))
+    return data[:place] + record + data[place:]
+
+
+def join(rng, data):
+    return data + data[rng.choice([0, CAPTURE_HEAD]) :]
+
+
+OF_RECORDS = [with_records(swap), with_records(repeat), with_records(remove), resize_frame, push_tag, join]
+OF_FIELDS = [head_field, record_field, record_field, frame_field, frame_field, frame_field]
+
+
+def mutated_capture(rng, data):
+    """The file after one to four mutations; of hundreds one has a frame as long as they may be."""
+    if rng.randrange(300) == 0:
+        data = long_frame(rng, data)
+    for _ in range(rng.choice([1, 1, 1, 2, 4])):
+        pool = rng.choice([OF_BYTES, OF_BYTES, OF_RECORDS, OF_FIELDS, OF_FIELDS])
+        # What mutations of records take for granted is a head.
+        data = rng.choice(pool if len(data) >= CAPTURE_HEAD else [insert, double])(rng, data or b'\0')
+    return data

@@ -1,0 +1,206 @@
+"""One run of the program under a limit of time, and what is due of it by the rules.
+
+The rules are those of policy_rules.py and packet_rules.py, which share nothing with the program. Used by tools/throw-mutations
+and tools/refuse-allocations.
+"""
+
+import os
+import pathlib
+import re
+import select
+import signal
+import struct
+import time
+import typing
+
+import frames
+import packet_rules
+import policy_rules
+
+# Who is told of it beside the line, in the way of a script: never a path's letters that steer a terminal.
+TOLD = re.compile(r'(nfp: [^\x00-\x1f\x7f]*\n)*')
+
+# What the table of statuses in README.md says of the line that goes with each.
+FAULT = (
+    r'too long|not utf-8 at \d+|bad version line|line \d+ column \d+: syntax|cycle [a-z0-9_-]+( [a-z0-9_-]+)*|line \d+: (unknown kind|'
+    r'duplicate name|unknown name|too many functions|too many chains|too many rules|bad setting|priority \S+ over \S+ forbidden: .+)'
+)
+NOTES = {
+    0: r'done records (\d+) emitted (\d+) dropped (\d+)\n',
+    1: r'usage: (no command|unknown command|words|number (mergers|burst|seed|count)|merge|same name)\n',
+    2: rf'policy: ({FAULT})\n',
+    3: r'capture: (bad magic|bad version|bad link \d+|cut head|cut record \d+|frame too long \d+ \d+|too many records)\n',
+    4: r'read fault: (policy|capture)\n',
+    5: r'(write fault: (out|report)\n)?',
+    6: r'',
+}
+
+
+class Ended(typing.NamedTuple):
+    status: int  # below 0 by a signal
+    note: typing.Optional[str]  # None where nobody could read it
+    told: str  # on standard error
+    out: typing.Optional[bytes]  # None where there is no such file
+    report: typing.Optional[bytes]
+    seconds: float
+    in_time: bool
+
+
+class Due(typing.NamedTuple):
+    """What an untroubled run leaves."""
+
+    status: int
+    note: str
+    out: typing.Optional[bytes]
+    report: typing.Optional[bytes]
+
+
+def environment(**more):
+    """Without progress, and with memory that isn't 0 where it is new, as it may be anywhere."""
+    kept = {name: value for name, value in os.environ.items() if name not in ('NFP_PROGRESS', 'LD_PRELOAD')}
+    return {**kept, 'MALLOC_PERTURB_': '165', **more}
+
+
+class Folder:
+    """Where the files of one run stand."""
+
+    def __init__(self, path):
+        self.path = pathlib.Path(path)
+        self.policy, self.capture, self.out, self.report, self.note, self.told = (
+            str(self.path / name) for name in ('policy', 'capture', 'out', 'report', 'note', 'told')
+        )
+
+    def put(self, policy, capture):
+        pathlib.Path(self.policy).write_bytes(policy)
+        pathlib.Path(self.capture).write_bytes(capture)
+
+    def clear(self):
+        for name in (self.out, self.report):
+            if os.path.lexists(name):
+                os.unlink(name)
+
+    def words(self, *options, **names):
+        """The words of a run, with other names where they are given."""
+        return ['run', *(names.get(slot, getattr(self, slot)) for slot in ('policy', 'capture', 'out', 'report')), *options]
+
+
+def contents(name):
+    """The bytes of a file, or None where there is none."""
+    try:
+        with open(name, 'rb') as file:
+            return file.read()
+    except OSError:
+        return None
+
+
+def wait(process, limit):
+    """Waits for a process and ends it behind the limit. Its status, and whether it ended by itself."""
+    handle = os.pidfd_open(process)
+    try:
+        watched = select.poll()
+        watched.register(handle, select.POLLIN)
+        in_time = bool(watched.poll(limit * 1000))
+        if not in_time:
+            signal.pidfd_send_signal(handle, signal.SIGKILL)
+        _, status = os.waitpid(process, 0)
+    finally:
+        os.close(handle)
+    return os.waitstatus_to_exitcode(status), in_time
+
+
+def started(program, words, folder, env, actions=()):
+    """Starts a run whose standard output and error are files. `actions` are done last, as those of os.posix_spawn."""
+    made = os.O_WRONLY | os.O_CREAT | os.O_TRUNC
+    to_files = [(os.POSIX_SPAWN_OPEN, 0, os.devnull, os.O_RDONLY, 0)]
+    to_files += [(os.POSIX_SPAWN_OPEN, number, name, made, 0o600) for number, name in ((1, folder.note), (2, folder.told))]
+    # Python lets a process ignore these two; what is started has to have them as a shell gives them.
+    usual = [signal.SIGPIPE, signal.SIGXFSZ]
+    return os.posix_spawn(program, [program, *words], env, file_actions=[*to_files, *actions], setsigdef=usual)
+
+
+def ended(process, folder, limit, begun):
+    status, in_time = wait(process, limit)
+    seconds = time.monotonic() - begun
+    note, told = ((contents(name) or b'').decode('utf-8', 'backslashreplace') for name in (folder.note, folder.told))
+    regular = [name if os.path.isfile(name) else None for name in (folder.out, folder.report)]
+    out, report = (name and contents(name) for name in regular)
+    return Ended(status, note, told, out, report, seconds, in_time)
+
+
+def run(program, words, folder, env, limit, actions=()):
+    folder.clear()
+    begun = time.monotonic()
+    return ended(started(program, words, folder, env, actions), folder, limit, begun)
+
+
+# What is due.
+
+
+def head_fault(capture):
+    """What is wrong with the head of a capture, or None."""
+    if len(capture) < 24:
+        return 'cut head'
+    order = next((order for order in '<>' if struct.unpack(order + 'I', capture[:4])[0] in (frames.MICRO, frames.NANO)), None)
+    if order is None:
+        return 'bad magic'
+    if struct.unpack(order + 'HH', capture[4:8]) != (2, 4):
+        return 'bad version'
+    (link,) = struct.unpack(order + 'I', capture[20:24])
+    return None if link == frames.LINK_ETHERNET else f'bad link {link}'
+
+
+EMPTY = frames.written(frames.Capture('<', frames.MICRO, 65535, []))
+
+
+def due_of_run(policy, capture):
+    """What `nfp run` has to leave, whatever the bytes."""
+    fault = head_fault(capture)
+    answer = packet_rules.answer(policy, EMPTY if fault else capture)
+    if fault and answer.status != 2:
+        answer = packet_rules.nothing_but(f'capture: {fault}', 3)
+    report = None if answer.report is None else answer.report.encode('ascii')
+    return Due(answer.status, answer.note + '\n', answer.out, report)
+
+
+def due_of_plan(policy):
+    note, status = policy_rules.plan(policy)
+    return Due(status, note, None, None)
+
+
+# What may be wrong with what came.
+
+
+def misbehaviour(came, limit, planned=False):
+    """What no run may do, whatever it is given: hang, end by a signal, or say what doesn't go with its status."""
+    if not came.in_time:
+        yield f'did not end within {limit} seconds'
+    elif came.status < 0:
+        yield f'ended by {signal.Signals(-came.status).name}'
+    elif came.status not in NOTES:
+        yield f'ended with status {came.status}, which is none'
+    elif came.note is not None and not (planned and came.status == 0) and re.fullmatch(NOTES[came.status], came.note) is None:
+        yield f'ended with status {came.status} and printed {came.note[:200]!r}'
+    if not TOLD.fullmatch(came.told):
+        yield f'told {came.told[:200]!r} on standard error'
+
+
+def unlike(came, due):
+    """Where an untroubled run isn't what is due."""
+    if (came.status, came.note) != (due.status, due.note):
+        yield f'ended with status {came.status} and printed {came.note[:200]!r}, and not with {due.status} and {due.note[:200]!r}'
+    for slot in ('out', 'report'):
+        written, whole = getattr(came, slot), getattr(due, slot)
+        if written != whole:
+            yield f'{slot} is {sized(written)} and not {sized(whole)}'
+
+
+def no_fronts(came, due):
+    """Where what a troubled run left isn't a front part of what is due."""
+    for slot in ('out', 'report'):
+        written, whole = getattr(came, slot), getattr(due, slot)
+        if written is not None and not (whole or b'').startswith(written):
+            yield f'{slot} is {sized(written)}, which is no front part of {sized(whole)}'
+
+
+def sized(data):
+    return 'no file' if data is None else f'{len(data)} bytes'
