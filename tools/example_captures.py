@@ -418,6 +418,25 @@ def logins():
     ]
 
 
+def handed_on():
+    """What was seen on the line to a test server whose password somebody knows who shouldn't."""
+    server, collector, stranger = '192.0.2.80', '192.0.2.90', '203.0.113.66'
+
+    def said(text, source=OFFICE, port=50123):
+        return plain(source, tcp(port, 80, PUSH_ACK, text), to=server)
+
+    return [
+        ('ARP request of the office machine', arp_request(OFFICE, '10.1.0.1'), None),
+        ('TCP SYN of a stranger', plain(stranger, tcp(4444, 80, SYN), to=server), None),
+        ('the stranger logs in with the password', said(b'user=ann&word=hunter2', stranger, 4444), None),
+        ('what the server answers', plain(server, tcp(80, 4444, PUSH_ACK, b'hello ann'), to=stranger), None),
+        ('an office machine logs in with another one', said(b'user=bob&word=secret9'), None),
+        ('a line of a log, UDP', plain(OFFICE, udp(40000, 514, b'login of ann with hunter2'), to=collector), None),
+        ('the first segment of a login, which ends inside the password', said(b'user=ann&word=hun', stranger, 4445), None),
+        ('its next segment, which begins with the rest', said(b'ter2', stranger, 4445), None),
+    ]
+
+
 def provider_edge():
     """What was seen at a provider's edge, from two customers and back from its core, and how many bytes of it were captured."""
     first, second, stranger, web = '10.1.4.20', '10.2.4.20', '10.3.4.20', '192.0.2.80'
@@ -457,7 +476,9 @@ def provider_edge():
     ]
 
 
-# By the names of the folders. The example without a capture is planned and not run.
+UPGRADE = Capture('<', MICRO, 262144, [(n * 180_503, *record) for n, record in enumerate(handed_on())])
+
+# By the names of the folders. A folder in another one has this one's capture. The example without a capture is planned and not run.
 MADE = {
     'first-path': Capture('<', MICRO, 96, [(n * 180_503, *record) for n, record in enumerate(uplink())]),
     'nanoseconds': Capture('>', NANO, 65535, tap()),
@@ -465,7 +486,10 @@ MADE = {
     'two-firewalls': Capture('<', MICRO, 262144, [(n * 180_503, *record) for n, record in enumerate(servers())]),
     'two-tenants': Capture('<', MICRO, 262144, [(n * 180_503, *record) for n, record in enumerate(tenants())]),
     'pass-through': Capture('<', MICRO, 262144, [(n * 180_503, *record) for n, record in enumerate(backups())]),
-    'refused-policy': Capture('<', MICRO, 262144, full_disk()[:2]),
+    'refused-policy': UPGRADE,
+    'refused-policy/before': UPGRADE,
+    'refused-policy/mended': UPGRADE,
+    'refused-policy/other-way': UPGRADE,
     'site-edge': Capture('<', MICRO, 262144, [(n * 180_503, *record) for n, record in enumerate(edge())]),
     'two-servers': Capture('<', MICRO, 96, [(n * 180_503, *record) for n, record in enumerate(shop())]),
     'slowed-source': Capture('<', MICRO, 96, slow_line()),

@@ -1,9 +1,10 @@
 #!/usr/bin/env python3
 """Makes the captures of the examples, and works out from the rules what must come out.
 
-    tools/make_examples.py                writes in.pcap and expected/ of each example
-    tools/make_examples.py --check        writes nothing, and fails where a file is not what would be written, or an
-                                          example of docs/POLICY.md is not what the rules say
+    tools/make_examples.py                writes in.pcap, expected/ and plan.svg of each example
+    tools/make_examples.py --check        writes nothing, and fails where a file is not what would be written, an example
+                                          of docs/POLICY.md is not what the rules say, or README.md shows a policy or a
+                                          report that is not in its example
     tools/make_examples.py --list NAME    prints a line for each record of this example: what it is, and what becomes of it
     tools/make_examples.py --page FOLDER  writes a folder like those of the examples for each table of packets in
                                           docs/POLICY.md
@@ -19,11 +20,20 @@ import sys
 import frames
 import packet_rules
 import page_examples
+import plan_picture
 import policy_rules
 from example_captures import MADE
 
 EXAMPLES = pathlib.Path(__file__).resolve().parent.parent / 'examples'
-PAGE = EXAMPLES.parent / 'docs' / 'POLICY.md'
+PAGE, README = EXAMPLES.parent / 'docs' / 'POLICY.md', EXAMPLES.parent / 'README.md'
+
+# What README.md shows.
+SHOWN = ['refused-policy/mended/policy', 'refused-policy/mended/expected/report.txt']
+
+
+def place_of_capture(folder):
+    """An example in the folder of another one is run over the capture of that one."""
+    return folder.parent if folder.parent.parent == EXAMPLES else folder
 
 
 def files_of(folder, policy, capture):
@@ -33,7 +43,7 @@ def files_of(folder, policy, capture):
     if capture is None:
         return files
     due = packet_rules.answer(policy, capture)
-    files[folder / 'in.pcap'] = capture
+    files[place_of_capture(folder) / 'in.pcap'] = capture
     files[expected / 'note'] = f'{due.note}\n'.encode('ascii')
     files[expected / 'status'] = f'{due.status}\n'.encode('ascii')
     if due.out is not None:
@@ -42,11 +52,20 @@ def files_of(folder, policy, capture):
     return files
 
 
+def picture_of(policy):
+    """The picture of a policy's plan, or nothing where it is refused."""
+    plan, status = policy_rules.plan(policy)
+    return None if status else plan_picture.svg_of(plan).encode('utf-8')
+
+
 def all_files():
     files = {}
     for name, capture in MADE.items():
         policy = (EXAMPLES / name / 'policy').read_bytes()
         files.update(files_of(EXAMPLES / name, policy, capture and frames.written(capture)))
+        picture = picture_of(policy)
+        if picture is not None:
+            files[EXAMPLES / name / 'plan.svg'] = picture
     return files
 
 
@@ -82,8 +101,17 @@ def show(name):
     print(due.note)
 
 
+def is_shown(path):
+    """README.md has the whole text of this file as a block."""
+    block = ''.join(f'    {line}\n' if line else '\n' for line in path.read_text('ascii').splitlines())
+    return f'\n\n{block}\n' in README.read_text('utf-8')
+
+
 def check():
     files = all_files()
+    unshown = [name for name in SHOWN if not is_shown(EXAMPLES / name)]
+    for name in unshown:
+        print(f'README.md does not show examples/{name} as it is')
     stale = [path for path, data in files.items() if not path.is_file() or path.read_bytes() != data]
     for path in stale:
         print(f'{path.relative_to(EXAMPLES.parent)} is not what tools/make_examples.py writes')
@@ -92,7 +120,7 @@ def check():
         if due:
             print(f'{PAGE.relative_to(EXAMPLES.parent)} says something else than the rules, for:')
             print(f'{example.policy.decode()}\nwhich give:\n{due}')
-    return 1 if stale or any(due for _, due in faults) else 0
+    return 1 if stale or unshown or any(due for _, due in faults) else 0
 
 
 def main(words):

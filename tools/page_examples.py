@@ -4,7 +4,8 @@ Each block of a policy, or of a command that prints one, has behind it what `nfp
 of packets with the head `| record | ..`, and a block of the report that they give. A packet is spelled as in `UDP from
 10.1.4.20:40000 to 198.51.100.5:53`, with more behind it where that counts: `, 500 bytes` for its IPv4 length, `, tos 184`, `, ttl 1`,
 `, data ..` for what UDP or TCP carry, `, tags 100 and 7 pcp 5` for the VLAN ids of its tags from the outermost on, with priorities
-that aren't 0, and `, cut to 20 bytes` for what was captured of the frame. What becomes of it is told in the same words.
+that aren't 0, and `, cut to 20 bytes` for what was captured of the frame; `, a later fragment`, without ports, and `, in MPLS` and the like
+for what it stands in. What becomes of it is told in the same words.
 """
 
 import re
@@ -28,6 +29,8 @@ MORE = {
     'ttl': re.compile(r'ttl (\d+)'),
     'tags': re.compile(f'tags? ({TAG}(?: and {TAG})*)'),
     'data': re.compile('data `(.*)`'),
+    'fragment': re.compile('(a later fragment)'),
+    'inside': re.compile('in (PPPoE|MPLS|LLC|GRE|VXLAN|a tag of type 0x9100)'),
 }
 
 
@@ -59,12 +62,42 @@ def frame_of(text):
     what, *parts = text.split(', ')
     said = more_of(parts)
     tags = b''.join(frames.tag(frames.VLAN_TAG, int(vlan), int(priority or 0)) for vlan, priority in re.findall(TAG, said.get('tags', '')))
-    return arp(tags) if what == 'ARP' else packet_of(what, said, tags), int(said['cut']) if 'cut' in said else None
+    frame = OTHERS[what](tags) if what in OTHERS else packet_of(what, said, tags)
+    return INSIDE[said['inside']](frame) if 'inside' in said else frame, int(said['cut']) if 'cut' in said else None
 
 
 def arp(tags):
     request = frames.arp_request('10.1.4.20', '10.1.0.1')
     return frames.ethernet(frames.TYPE_ARP, request[14:], tags=tags, to=frames.BROADCAST)
+
+
+def ping_of_ipv6(tags):
+    return frames.ethernet(frames.TYPE_IPV6, frames.ipv6()[14:], tags=tags)
+
+
+# What is told without ends.
+OTHERS = {'ARP': arp, 'IPv6 ping': ping_of_ipv6}
+
+
+def behind(ether_type, header):
+    """A frame with a packet of IPv4 behind this type and this header."""
+    return lambda frame: frames.ethernet(ether_type, header(len(frame) - 14) + frame[14:])
+
+
+def tunnelled(content):
+    """A frame of IPv4 with another in it."""
+    return lambda frame: frames.plain('198.51.100.1', content(frame), to='198.51.100.2')
+
+
+# What a packet may stand in, where no rule sees it, and the frame that has it there.
+INSIDE = {
+    'PPPoE': behind(frames.TYPE_PPPOE, lambda size: struct.pack('>BBHHH', 0x11, 0, 1, size + 2, 0x21)),
+    'MPLS': behind(0x8847, lambda _: struct.pack('>I', 100 << 12 | 1 << 8 | 64)),
+    'LLC': lambda frame: behind(len(frame) - 14 + 8, lambda _: bytes.fromhex('aaaa03 000000 0800'))(frame),
+    'GRE': tunnelled(lambda frame: (47, lambda *_: bytes.fromhex('0000 0800') + frame[14:])),
+    'VXLAN': tunnelled(lambda frame: frames.udp(50000, 4789, bytes.fromhex('08000000 00000700') + frame)),
+    'a tag of type 0x9100': lambda frame: frame[:12] + frames.tag(0x9100, 20) + frame[12:],
+}
 
 
 def packet_of(text, said, tags):
@@ -75,6 +108,9 @@ def packet_of(text, said, tags):
     fields = {name: int(said[name]) for name in ('tos', 'ttl') if name in said}
     if what == 'ping':
         return frames.plain(source, frames.echo(1), to=destination, tags=tags, **fields)
+    if 'fragment' in said:
+        rest = frames.TCP if what == 'TCP' else frames.UDP, lambda *_: said['data'].encode('ascii')
+        return frames.plain(source, rest, to=destination, tags=tags, offset=1480, **fields)
     if what == 'TCP':
         content, header = lambda data: frames.tcp(int(source_port), int(port), frames.PUSH_ACK, data), 40
     else:
