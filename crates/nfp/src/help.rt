@@ -54,11 +54,25 @@ fn fill<R: Files + Env>(
             Some(name) => files::unread(page, rt, name),
             None => Ok(()),
         },
-        Outcome::WriteFault(slot) => match seen.name(*slot) {
-            Some(name) => files::unwritten(page, rt, name),
-            None => files::unprinted(page),
-        },
+        Outcome::WriteFault(slot) => unwritten_help(page, rt, seen, *slot),
     }
+}
+
+// A slot that can't be written.
+fn unwritten_help<R: Files>(
+    page: &mut Page,
+    rt: &R,
+    seen: &Seen,
+    slot: Slot,
+) -> Result<(), AllocError> {
+    let Some(name) = seen.name(slot) else {
+        return files::unprinted(page);
+    };
+    let open = [Slot::Policy, Slot::Capture, Slot::Out].map(|other| match seen.name(other) {
+        Some(known) if other != slot => known,
+        _ => "",
+    });
+    files::unwritten(page, rt, name, &open)
 }
 
 // Words that are refused.

@@ -7,12 +7,13 @@ ghost use Rattle.std.specs.String.{string_bytes};
 ghost use Rattle.nfp_outside.specs.Slots.{at_slot};
 
 use crate::desk::Desk;
+use crate::opened::{Identity, Target, identity_of};
 use crate::port::Port;
 use crate::slot::{DeskFault, Slot};
 use std::alloc::Global;
-use std::fs::File;
+use std::fs::{File, OpenFile, OpenOptions};
 use std::io;
-use std::io::{BufReader, BufWriter, Write};
+use std::io::{BufReader, BufWriter, Read, Write};
 use std::rt::Files;
 
 // How much of a file is read ahead; a read of as much or more goes straight to the file.
@@ -24,11 +25,16 @@ const GATHERED: usize = 65536;
 /// A desk over files, and for Note over standard output: the name of a slot is the path of its
 /// file. It tells no bytes.
 ///
-/// A file to read must be there; a file to write is made, or made empty. Files are read ahead, and
-/// what is written to a file is gathered and handed on in pieces of 64 KiB, in the order of the
-/// calls. Before Note takes anything, all that was gathered goes to its file; where that fails, the
-/// write of Note is refused, and [`FileDesk::hand_on`] tells which slot lost bytes. What is still
-/// gathered when the desk is dropped goes to its file then, where it can.
+/// A file to read must be there; a file to write is made, or made empty. Out or Report whose name
+/// leads to a file that is attached already isn't attached, and no file is emptied for it. Both are
+/// emptied once Report is attached; without it Out is, before it takes its first bytes. Files are
+/// told apart by device and number; where the system has none, and for devices of characters, none
+/// is the same as another.
+///
+/// Files are read ahead, and what is written to a file is gathered and handed on in pieces of 64
+/// KiB, in the order of the calls. Before Note takes anything, all that was gathered goes to its
+/// file; where that fails, the write of Note is refused, and [`FileDesk::hand_on`] tells which slot
+/// lost bytes. What is still gathered when the desk is dropped goes to its file then, where it can.
 ///
 /// Each failed open, read or write raises the count of its own slot, up to the end of `u64`, and no
 /// other. So a failed write of gathered bytes counts where it is found: at the call of their own
@@ -38,8 +44,8 @@ pub struct FileDesk<R: Files + Print + AllocGlobal + Drop> {
     rt: R,
     policy: Port<BufReader<R::File>>,
     capture: Port<BufReader<R::File>>,
-    out: Port<BufWriter<R::File>>,
-    report: Port<BufWriter<R::File>>,
+    out: Port<BufWriter<Target<R::File>>>,
+    report: Port<BufWriter<Target<R::File>>>,
     note_faults: u64,
     lost: Option<Slot>,
 }
@@ -59,6 +65,29 @@ impl<R: Files + Print + AllocGlobal + Drop> FileDesk<R> {
             note_faults: 0,
             lost: None,
         }
+    }
+
+    // A file to write that isn't attached yet. It holds what it held.
+    fn open_target(&self, name: &str) -> Result<BufWriter<Target<R::File>>, DeskFault> {
+        let file = OpenOptions::new()
+            .write(true)
+            .create(true)
+            .open(&self.rt, name)
+            .map_err(|_| DeskFault::Failed)?;
+        let target = Target::new(file);
+        if self.has_open(target.identity()) {
+            return Err(DeskFault::Failed);
+        }
+        BufWriter::with_capacity(self.rt.alloc(), GATHERED, target).map_err(|_| DeskFault::NoMemory)
+    }
+
+    // Whether what is told from others so is attached here.
+    fn has_open(&self, identity: Option<Identity>) -> bool {
+        identity.is_some()
+            && (source_identity(&self.policy) == identity
+                || source_identity(&self.capture) == identity
+                || target_identity(&self.out) == identity
+                || target_identity(&self.report) == identity)
     }
 
     /// Hands on to the files what was gathered, and tells the first slot whose gathered bytes were
@@ -84,8 +113,8 @@ impl<R: Files + Print + AllocGlobal + Drop> Desk for FileDesk<R> {
         (port_view d.policy) (port_view d.capture)
         (port_view d.out) (port_view d.report) (stream_view d.note_faults) };
 
-    /// `Failed` where the file can't be opened. The count of the slot rises by one then, and in no
-    /// other case.
+    /// `Failed` where the file can't be opened, and at Out and Report also where it is one that is
+    /// attached already. The count of the slot rises by one then, and in no other case.
     #[tactic(auto, unfolding(crate::specs::Slots::at_slot))]
     fn attach(&mut self, slot: Slot, name: &str) -> Result<(), DeskFault>
         requires not_note { slot ≢ Slot.Note }
@@ -105,8 +134,16 @@ impl<R: Files + Print + AllocGlobal + Drop> Desk for FileDesk<R> {
         match slot {
             Slot::Policy => self.policy.attach(slot, text, open(&self.rt, name)),
             Slot::Capture => self.capture.attach(slot, text, open(&self.rt, name)),
-            Slot::Out => self.out.attach(slot, text, create(&self.rt, name)),
-            Slot::Report => self.report.attach(slot, text, create(&self.rt, name)),
+            Slot::Out => {
+                let opened = self.open_target(name);
+                self.out.attach(slot, text, opened)
+            }
+            Slot::Report => {
+                let opened = self.open_target(name).and_then(emptied);
+                self.report.attach(slot, text, opened)?;
+                self.out.make_ready();
+                Ok(())
+            }
             Slot::Note => unreachable!(),
         }
     }
@@ -187,8 +224,28 @@ fn open<R: Files + AllocGlobal>(rt: &R, name: &str) -> Result<BufReader<R::File>
     BufReader::with_capacity(rt.alloc(), READ_AHEAD, file).map_err(|_| DeskFault::NoMemory)
 }
 
-// A file to write, which is empty, with a buffer in front of it.
-fn create<R: Files + AllocGlobal>(rt: &R, name: &str) -> Result<BufWriter<R::File>, DeskFault> {
-    let file = File::create(rt, name).map_err(|_| DeskFault::Failed)?;
-    BufWriter::with_capacity(rt.alloc(), GATHERED, file).map_err(|_| DeskFault::NoMemory)
+fn source_identity<F: Read + OpenFile + Drop>(port: &Port<BufReader<F>>) -> Option<Identity> {
+    match &port.file {
+        Some(reader) => identity_of(reader.get_ref()),
+        None => None,
+    }
+}
+
+fn target_identity<F: Write + OpenFile + Drop>(
+    port: &Port<BufWriter<Target<F>>>,
+) -> Option<Identity> {
+    match &port.file {
+        Some(writer) => writer.get_ref().identity(),
+        None => None,
+    }
+}
+
+// A file to write whose bytes are gone, or which can't be emptied.
+fn emptied<F: Write + OpenFile + Drop>(
+    mut writer: BufWriter<Target<F>>,
+) -> Result<BufWriter<Target<F>>, DeskFault> {
+    match writer.get_mut().empty() {
+        Ok(()) => Ok(writer),
+        Err(_) => Err(DeskFault::Failed),
+    }
 }

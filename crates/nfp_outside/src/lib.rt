@@ -32,6 +32,7 @@ mod fixed;
 mod gate;
 mod held;
 mod memory;
+mod opened;
 mod port;
 mod scales;
 mod slot;

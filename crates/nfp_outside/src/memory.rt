@@ -67,9 +67,10 @@ impl MemDesk {
         self.held.put(slot)
     }
 
-    // The number of the next call on a slot.
+    /// How many calls on a slot there were so far, those that failed and attach among them: the
+    /// number of the next one.
     #[tactic(auto, unfolding(crate::specs::Slots::at_slot))]
-    fn calls(&self, slot: Slot) -> u64
+    pub fn calls(&self, slot: Slot) -> u64
         ensures { result ≡ calls_of self.now slot }
     {
         match slot {

@@ -4,8 +4,10 @@ ghost use Rattle.std.specs.String.{string_bytes};
 ghost use Rattle.nfp_outside.specs.Outside.{KeepsSlot, HasCause, IsRisen, CountsFailure, one_more, Attaches, Reads, Writes, fresh_slot};
 ghost use Rattle.nfp_outside.specs.Port.{port_view};
 
+use crate::opened::Target;
 use crate::slot::{DeskFault, Slot};
-use std::io::{Read, Write};
+use std::fs::OpenFile;
+use std::io::{BufWriter, Read, Write};
 
 /// What a desk over files keeps of a slot.
 #[derive(Drop)]
@@ -108,6 +110,17 @@ impl<F: Write + Drop> Port<F> {
         match &mut self.file {
             Some(file) if self.faults == 0 => file.flush().is_ok(),
             _ => true,
+        }
+    }
+}
+
+impl<F: Write + OpenFile + Drop> Port<BufWriter<Target<F>>> {
+    // Empties the file, where it can. Where it can't, its first bytes can't be written either.
+    pub fn make_ready(&mut self)
+        ensures { port_view self.new ≡ port_view self.old }
+    {
+        if let Some(writer) = &mut self.file {
+            let _ = writer.get_mut().empty();
         }
     }
 }

@@ -5,6 +5,7 @@ use crate::shown::shown_name;
 use std::alloc::AllocError;
 use std::fs::{File, OpenOptions};
 use std::io::Read;
+use std::os::unix::fs::MetadataExt;
 use std::rt::Files;
 use std::{fs, io};
 use text_lines::Piece::Text;
@@ -85,8 +86,19 @@ pub fn unread<R: Files>(page: &mut Page, rt: &R, name: &str) -> Result<(), Alloc
     )
 }
 
-/// A file that couldn't be written, and the system's reason, which is asked for once more.
-pub fn unwritten<R: Files>(page: &mut Page, rt: &R, name: &str) -> Result<(), AllocError> {
+/// A file that couldn't be written: it is one of those that the run has open, which is refused, or
+/// else the system has its reason, which is asked for once more.
+pub fn unwritten<R: Files>(
+    page: &mut Page,
+    rt: &R,
+    name: &str,
+    open: &[&str],
+) -> Result<(), AllocError> {
+    for other in open {
+        if lead_to_one_file(rt, name, other) {
+            return say_one_file(page, name, other);
+        }
+    }
     let reason = writing_reason(rt, name);
     say_reason(
         page,
@@ -100,6 +112,23 @@ pub fn unwritten<R: Files>(page: &mut Page, rt: &R, name: &str) -> Result<(), Al
 /// The line of the run itself couldn't be printed.
 pub fn unprinted(page: &mut Page) -> Result<(), AllocError> {
     page.say(&[Text(b"the last line can't be put to standard output; the files are whole")])
+}
+
+fn say_one_file(page: &mut Page, name: &str, other: &str) -> Result<(), AllocError> {
+    let name = shown_name(page.alloc(), name)?;
+    let other = shown_name(page.alloc(), other)?;
+    let reason = b" are one file, and what is written needs one of its own";
+    page.say(&[Text(&name), Text(b" and "), Text(&other), Text(reason)])
+}
+
+// Whether two names lead to one file, as the system tells files apart: by device and number.
+fn lead_to_one_file<R: Files>(rt: &R, name: &str, other: &str) -> bool {
+    match (fs::metadata(rt, name), fs::metadata(rt, other)) {
+        (Ok(told), Ok(known)) => {
+            told.ino() != 0 && (told.dev(), told.ino()) == (known.dev(), known.ino())
+        }
+        _ => false,
+    }
 }
 
 fn say_reason(
