@@ -11,10 +11,10 @@ first_is [] (suc n) lt = absurd (omega arith)
 first_is (x ∷ xs) zero lt = refl
 first_is (x ∷ xs) (suc n) lt = first_is xs n lt
 
-first_of : {P : Type 0} (due : List (PlainMessage P)) (n : ℕ) (d : PlainMessage P) → get_elem? due n ≡ some d → (0 < length (drop n due)) × (d ≡ first (drop n due))
+first_of : {P : Type 0} (due : List (PlainMessage P)) (n : ℕ) (d : PlainMessage P) → get_elem? due n ≡ some d → d ≡ first (drop n due)
 first_of [] zero d e = absurd (cc)
 first_of [] (suc n) d e = absurd (cc)
-first_of (x ∷ xs) zero d e = (omega arith, cc)
+first_of (x ∷ xs) zero d e = cc
 first_of (x ∷ xs) (suc n) d e = first_of xs n d e
 
 rest_suc : {A : Type 0} (due : List A) (n : ℕ) → drop (suc n) due ≡ rest (drop n due)
@@ -48,7 +48,6 @@ taken_on end new now m is e = ap (λ x. drop (length x.taken) x.due) is ∙ rest
 
 -- a message that was taken
 pub was_due : {P : Type 0} (due taken now : List (PlainMessage P)) (m : PlainMessage P) → drop (length taken) due ≡ now → (d : PlainMessage P) × (get_elem? due (length taken) ≡ some d) × Fits d m
-    → (0 < length now) × Fits (first now) m
+    → Fits (first now) m
 was_due due taken now m e f =
-    let o = first_of due (length taken) f.0 f.1 in
-    (omega (arith, o.0, ap length e), subst (λ d. Fits d m) (o.1 ∙ ap first e) f.2)
+    subst (λ d. Fits d m) (first_of due (length taken) f.0 f.1 ∙ ap first e) f.2

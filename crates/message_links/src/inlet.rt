@@ -31,9 +31,9 @@ pub(crate) fn take_end<P>(taker: Taker<Parcel<P>>) -> Inlet<P>
 }
 
 impl<P> Inlet<P> {
-    /// Waits for the next message. Where it returns, one was due.
+    /// Waits for the next message, which has to be due.
     pub fn accept<R: Wait>(&mut self, rt: &R) -> Message<P>
-        ensures due { Owing self.old }
+        requires due { Owing self.old }
         ensures fits { Fits (first self.old) (plain result) }
         ensures after { self.new ≡ rest self.old }
     {

@@ -58,10 +58,10 @@ impl<P> Inlets<P> {
         self.list.remove(0)
     }
 
-    /// Waits for the next message of the first inlet, which then goes to the back.
+    /// Waits for the next message of the first inlet, which has to be due. The inlet then goes to the back.
     pub fn accept_next<R: Wait>(&mut self, rt: &R) -> Message<P>
         requires some { 0 < length self.old }
-        ensures due { Owing (front self.old) }
+        requires due { Owing (front self.old) }
         ensures fits { Fits (first (front self.old)) (plain result) }
         ensures after { self.new ≡ turned self.old }
     {
@@ -70,10 +70,10 @@ impl<P> Inlets<P> {
         message
     }
 
-    /// Waits for the next message of the inlet at this place.
+    /// Waits for the next message of the inlet at this place, which has to be due.
     pub fn accept_at<R: Wait>(&mut self, rt: &R, place: usize) -> Message<P>
         requires inside { place < length self.old }
-        ensures due { Owing (slice_index_or self.old place []) }
+        requires due { Owing (slice_index_or self.old place []) }
         ensures fits { Fits (first (slice_index_or self.old place [])) (plain result) }
         ensures after { self.new ≡ slice_set self.old place (rest (slice_index_or self.old place [])) }
     {
@@ -83,7 +83,7 @@ impl<P> Inlets<P> {
 
 fn accept_from<P, R: Wait>(rt: &R, list: &mut [Inlet<P>], place: usize) -> Message<P>
     requires inside { place < length list.old }
-    ensures due { Owing (slice_index_or list.old place []) }
+    requires due { Owing (slice_index_or list.old place []) }
     ensures fits { Fits (first (slice_index_or list.old place [])) (plain result) }
     ensures after { list.new ≡ slice_set list.old place (rest (slice_index_or list.old place [])) }
 {

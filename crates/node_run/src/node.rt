@@ -37,24 +37,24 @@ pub(crate) fn run_node<F: BranchWork, R: Wait, G: Gate>(
     ensures { Keeps F.kit node result }
 {
     match node {
-        Node::Dealer(dealer) => {
-            let (tally, short) = run_dealer(rt, alloc, dealer);
+        Node::Dealer(mut dealer) => {
+            let (tally, short) = run_dealer(rt, alloc, &mut dealer);
             Done {
                 function: None,
                 tally,
                 short,
             }
         }
-        Node::Branch(branch) => {
-            let (function, short) = run_branch(rt, alloc, gate, branch);
+        Node::Branch(mut branch) => {
+            let short = run_branch(rt, alloc, gate, &mut branch);
             Done {
-                function: Some(function),
+                function: Some(branch.work),
                 tally: Tally::new(),
                 short,
             }
         }
-        Node::Merger(merger) => {
-            run_merger(rt, alloc, merger);
+        Node::Merger(mut merger) => {
+            run_merger(rt, alloc, &mut merger);
             Done {
                 function: None,
                 tally: Tally::new(),

@@ -6,7 +6,7 @@ use pcap_io::CaptureFault;
 use std::alloc::{AllocError, Global};
 use std::test::Fail;
 
-const POLICY: &[u8] = b"nfp 1\nchain main\nfn fw firewall\nrule deny src 10.0.0.9\n";
+pub const POLICY: &[u8] = b"nfp 1\nchain main\nfn fw firewall\nrule deny src 10.0.0.9\n";
 
 // The second function stands before the first, and denies what no rule of its own allows.
 const TWO: &[u8] =

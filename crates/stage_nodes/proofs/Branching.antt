@@ -1,13 +1,13 @@
 -- A branch before and after one version.
 use Rattle.std.proofs.Common.{◌≡◌, ◌<◌, ◌≤◌, ◌+◌, ◌-◌, ◌∙◌, ℕ, suc, List, [], ◌∷◌, length, refl, arith, ap, sym, subst, Bool, false, inl, inr, add-one}
 use Rattle.packet_version.specs.Versions.{PlainVersion}
-use Rattle.message_links.specs.Messages.{PlainMessage, Fits, first, rest, front, turned, is_short}
+use Rattle.message_links.specs.Messages.{PlainMessage, Fits, Owing, first, rest, front, turned, is_short}
 use Rattle.message_links.specs.Turns.{shares}
 use Rattle.stage_nodes.specs.Streams.{Kit, gave, moved, ran, left}
 use Rattle.stage_nodes.specs.Flows.{MayTake, MayTakeAll}
-use Rattle.stage_nodes.specs.Dues.{BranchDue}
+use Rattle.stage_nodes.specs.Dues.{BranchDue, NothingOwed}
 use Rattle.stage_nodes.specs.Turns.{BranchReady}
-use Rattle.stage_nodes.proofs.Shares.{turned_shares}
+use Rattle.stage_nodes.proofs.Shares.{turned_shares, no_shares}
 use Rattle.stage_nodes.proofs.Ends.{fits_by, due_is, begins, Front, front_of, one_more, none_more}
 
 take_first : {F : Type 0} (k : Kit F) (may : F → ℕ → PlainVersion → Type 0) (f : F) (p : ℕ) (x : PlainMessage PlainVersion) (xs : List (PlainMessage PlainVersion))
@@ -35,6 +35,10 @@ branch_front k may p short f inlet outlets r =
     subst (λ y. Front outlets (gave k d.now (first y))) (sym b.is)
     (front_of d.mergers (gave k d.now b.head) (ran k (moved k d.now b.head) b.tail) outlets d.some
     (d.gives ∙ ap (shares d.mergers) (ap (ran k d.now) b.is ∙ ran_more k d.now b.head b.tail)))
+
+-- a version is due
+pub version_due : {F : Type 0} (k : Kit F) (may : F → ℕ → PlainVersion → Type 0) (p : ℕ) (short : Bool) (f : F) (inlet : List (PlainMessage PlainVersion)) (outlets : List (List (PlainMessage PlainVersion))) → BranchReady k may p short f inlet outlets → Owing inlet
+version_due k may p short f inlet outlets r = let m = r.2.many in omega arith
 
 -- what came it may take
 pub may_next : {F : Type 0} (k : Kit F) (may : F → ℕ → PlainVersion → Type 0) (p : ℕ) (short : Bool) (f : F) (inlet : List (PlainMessage PlainVersion)) (outlets : List (List (PlainMessage PlainVersion))) (message : PlainMessage PlainVersion)
@@ -111,3 +115,14 @@ branch_next k may n i end short f inlet outlets d = subst (λ p. BranchDue k may
 pub branch_done : {F : Type 0} (k : Kit F) (may : F → ℕ → PlainVersion → Type 0) (count i : ℕ) (end : F) (short : Bool) (f : F) (inlet : List (PlainMessage PlainVersion)) (outlets : List (List (PlainMessage PlainVersion))) → count ≤ i
     → BranchDue k may i (count - i) end short f inlet outlets → short ≡ false → f ≡ end
 branch_done k may count i end short f inlet outlets le d = branch_over k may i end short f inlet outlets (subst (λ n. BranchDue k may i n end short f inlet outlets) (none_more count i le) d)
+
+-- nothing is due to a merger any more
+branch_given : {F : Type 0} (k : Kit F) (may : F → ℕ → PlainVersion → Type 0) (p : ℕ) (end : F) (short : Bool) (f : F) (inlet : List (PlainMessage PlainVersion)) (outlets : List (List (PlainMessage PlainVersion)))
+    → BranchDue k may p 0 end short f inlet outlets → NothingOwed outlets
+unfolding ran
+branch_given k may p end short f [] outlets d = subst NothingOwed (sym d.gives) (no_shares d.mergers 0 d.mergers)
+branch_given k may p end short f (x ∷ xs) outlets d = absurd (let m = d.many in omega arith)
+
+pub branch_gave : {F : Type 0} (k : Kit F) (may : F → ℕ → PlainVersion → Type 0) (count i : ℕ) (end : F) (short : Bool) (f : F) (inlet : List (PlainMessage PlainVersion)) (outlets : List (List (PlainMessage PlainVersion))) → count ≤ i
+    → BranchDue k may i (count - i) end short f inlet outlets → NothingOwed outlets
+branch_gave k may count i end short f inlet outlets le d = branch_given k may i end short f inlet outlets (subst (λ n. BranchDue k may i n end short f inlet outlets) (none_more count i le) d)

@@ -14,9 +14,9 @@ use Rattle.packet_version.specs.Tallies.{count_of, raised}
 use Rattle.message_links.specs.Messages.{PlainMessage, PlainMessage.Live, PlainMessage.Nil, PlainMessage.Short, Fits, Owing, first, rest, front, turned, is_short, word}
 use Rattle.message_links.specs.Turns.{shares}
 use Rattle.stage_nodes.specs.Streams.{parted, base_of, due_of, dealer_copies}
-use Rattle.stage_nodes.specs.Dues.{PlainSource, ComesFrom, DealerDue}
+use Rattle.stage_nodes.specs.Dues.{PlainSource, ComesFrom, DealerDue, NothingOwed}
 use Rattle.stage_nodes.specs.Turns.{HasMore, DealerReady, RaisesByMessage, Stops, Splits, DealerAt}
-use Rattle.stage_nodes.proofs.Shares.{turned_shares}
+use Rattle.stage_nodes.proofs.Shares.{turned_shares, no_shares}
 use Rattle.stage_nodes.proofs.Ends.{due_is, begins, Front, front_of, one_more, none_more}
 
 -- what is due on the links to the branches, and once each has its version of the next packet
@@ -181,3 +181,20 @@ all_counted parts xs short counts source versions bases a w f = over a.coming a.
 pub dealer_done : (parts : StageParts) (count i : ℕ) (xs : List (PlainMessage PlainApart)) (short : Bool) (counts : List ℕ) (source : PlainSource) (versions : List (List (PlainMessage PlainVersion))) (bases : List (List (PlainMessage PlainApart))) → count ≤ i
     → DealerAt parts (count - i) xs short counts source versions bases → short ≡ false → (f : Field) → count_of counts f ≡ raised 0 (dealer_copies parts.touches xs f)
 dealer_done parts count i xs short counts source versions bases le d = all_counted parts xs short counts source versions bases (subst (λ n. DealerAt parts n xs short counts source versions bases) (none_more count i le) d)
+
+no_streams : (touches : List Touch) → NothingOwed (streams_of touches [])
+no_streams [] = All-nil _
+no_streams (t ∷ touches) = All-cons (λ l. l ≡ []) [] (streams_of touches []) refl (no_streams touches)
+
+-- no version and no base is due any more
+all_given : (parts : StageParts) (xs : List (PlainMessage PlainApart)) (short : Bool) (counts : List ℕ) (source : PlainSource) (versions : List (List (PlainMessage PlainVersion))) (bases : List (List (PlainMessage PlainApart)))
+    → DealerAt parts 0 xs short counts source versions bases → NothingOwed versions × NothingOwed bases
+all_given parts xs short counts source versions bases a = over a.coming a.due.many a.due.gives a.due.gives_bases
+  where
+    over : (coming : List (PlainMessage PlainApart)) → length coming ≡ 0 → versions ≡ streams_of parts.touches coming → bases ≡ shares a.due.mergers (map (base_of parts.touches) coming) → NothingOwed versions × NothingOwed bases
+    over [] none v b = (subst NothingOwed (sym v) (no_streams parts.touches), subst NothingOwed (sym b) (no_shares a.due.mergers 0 a.due.mergers))
+    over (x ∷ coming) none v b = absurd (omega arith)
+
+pub dealer_gave : (parts : StageParts) (count i : ℕ) (xs : List (PlainMessage PlainApart)) (short : Bool) (counts : List ℕ) (source : PlainSource) (versions : List (List (PlainMessage PlainVersion))) (bases : List (List (PlainMessage PlainApart))) → count ≤ i
+    → DealerAt parts (count - i) xs short counts source versions bases → NothingOwed versions × NothingOwed bases
+dealer_gave parts count i xs short counts source versions bases le d = all_given parts xs short counts source versions bases (subst (λ n. DealerAt parts n xs short counts source versions bases) (none_more count i le) d)

@@ -7,7 +7,7 @@ use Rattle.acc_table.specs.Arrivals.{Table, arrivals, with_arrival, nothing, IsO
 use Rattle.acc_table.specs.declared.table.Complete.{Complete}
 use Rattle.packet_version.specs.Versions.{PlainVersion}
 use Rattle.merge_ops.specs.declared.arrival.Arrival.{Arrival}
-use Rattle.message_links.specs.Messages.{PlainMessage, Fits, AllFit, first, rest}
+use Rattle.message_links.specs.Messages.{PlainMessage, Fits, AllFit, Owing, first, rest}
 use Rattle.stage_nodes.specs.Streams.{as_arrival}
 use Rattle.stage_nodes.specs.Gathering.{partly, IsGathering, IsReady, MayCome, ArrivalFits, RowFits}
 
@@ -200,6 +200,10 @@ left_length (s ∷ columns) (suc j) = ap suc (left_length columns j)
 -- the next branch is there
 pub next_there : (columns now : List (List (PlainMessage PlainVersion))) (table : Table Arrival) (packet j : ℕ) (into : List Arrival) → HasGathered columns now table packet j into → j < length columns → j < length now
 next_there columns now table packet j into has inside = let n = ap length has.left ∙ left_length columns j in omega arith
+
+-- and something is due from it
+pub next_owes : (columns now : List (List (PlainMessage PlainVersion))) (table : Table Arrival) (packet j : ℕ) (into : List Arrival) → All Owing columns → HasGathered columns now table packet j into → j < length columns → Owing (get_or now j [])
+next_owes columns now table packet j into owing has inside = subst Owing (sym (ap (λ l. get_or l j []) has.left ∙ next_left columns j inside)) (owing j [] inside)
 
 -- and its arrival may come
 pub next_may : (columns now : List (List (PlainMessage PlainVersion))) (table : Table Arrival) (packet j : ℕ) (into : List Arrival) → (has : HasGathered columns now table packet j into) → j < length columns → MayCome has.come table packet j into

@@ -1,5 +1,5 @@
 -- A merger before and after one packet.
-use Rattle.std.proofs.Common.{◌≡◌, ◌<◌, ◌+◌, ◌-◌, ◌∙◌, ◌^◌, ℕ, zero, suc, List, [], ◌∷◌, length, map, get_or, refl, arith, ap, sym, subst, Bool, true, false, All, inl, inr}
+use Rattle.std.proofs.Common.{◌≡◌, ◌<◌, ◌≤◌, ◌+◌, ◌-◌, ◌∙◌, ◌^◌, ℕ, zero, suc, List, [], ◌∷◌, length, map, get_or, refl, arith, ap, sym, subst, Bool, true, false, All, inl, inr}
 use Rattle.std.specs.Prelude.{◌⊎◌, slice_index_or}
 use Rattle.std.specs.List.{list_any}
 use Rattle.std.proofs.Math.Nat.{sub-zero}
@@ -18,7 +18,7 @@ use Rattle.stage_nodes.specs.Flows.{Belongs, AllBelong}
 use Rattle.stage_nodes.specs.Dues.{MergerDue}
 use Rattle.stage_nodes.specs.Gathering.{ArrivalFits, RowFits}
 use Rattle.stage_nodes.specs.Turns.{BelongTo, joined_row, MergerAt}
-use Rattle.stage_nodes.proofs.Ends.{one_more}
+use Rattle.stage_nodes.proofs.Ends.{one_more, none_more}
 
 -- arrivals that fit what is due from the branches
 
@@ -122,6 +122,10 @@ pub reply_fits : (n : ℕ) (bases : List (PlainMessage PlainApart)) (columns : L
 reply_fits n bases columns outlet base row reply d fit fits is =
     subst (λ y. Fits y reply) (sym (merger_first n bases columns outlet d)) (through (joined (first bases) (map first columns)) (joined_row base row) reply (joined_fits (first bases) base (map first columns) row fit fits) is)
 
+-- a base is due
+pub base_due : (n : ℕ) (bases : List (PlainMessage PlainApart)) (columns : List (List (PlainMessage PlainVersion))) (outlet : List (PlainMessage PlainApart)) → MergerDue (suc n) bases columns outlet → Owing bases
+base_due n bases columns outlet d = let m = d.many in omega arith
+
 -- something is due from each branch
 pub all_owe : (n : ℕ) (bases : List (PlainMessage PlainApart)) (columns : List (List (PlainMessage PlainVersion))) (outlet : List (PlainMessage PlainApart)) → MergerDue (suc n) bases columns outlet → All Owing columns
 all_owe n bases columns outlet d = λ k c less. let long = d.even k c less in omega arith
@@ -170,6 +174,15 @@ merger_begins n bases columns outlet d = record {
 pub merger_at : (count i : ℕ) (short : Bool) (bases : List (PlainMessage PlainApart)) (columns : List (List (PlainMessage PlainVersion))) (outlet : List (PlainMessage PlainApart)) → i < count
     → MergerAt (count - i) short bases columns outlet → MergerAt (suc (count - (i + 1))) short bases columns outlet
 merger_at count i short bases columns outlet lt a = subst (λ n. MergerAt n short bases columns outlet) (one_more count i lt) a
+
+none_left : {A : Type 0} (xs : List A) → length xs ≡ 0 → xs ≡ []
+none_left [] none = refl
+none_left (x ∷ xs) none = absurd (omega arith)
+
+-- nothing is due to the dealer behind any more
+pub merger_gave : (count i : ℕ) (short : Bool) (bases : List (PlainMessage PlainApart)) (columns : List (List (PlainMessage PlainVersion))) (outlet : List (PlainMessage PlainApart)) → count ≤ i
+    → MergerAt (count - i) short bases columns outlet → outlet ≡ []
+merger_gave count i short bases columns outlet le a = none_left outlet (a.many ∙ none_more count i le)
 
 pub merger_goes_on : (n : ℕ) (short after : Bool) (bases bases' : List (PlainMessage PlainApart)) (columns columns' : List (List (PlainMessage PlainVersion))) (outlet outlet' : List (PlainMessage PlainApart))
     → MergerAt (suc n) short bases columns outlet → short ≡ false → bases' ≡ rest bases → columns' ≡ map rest columns → outlet' ≡ rest outlet → MergerAt n after bases' columns' outlet'

@@ -1,7 +1,9 @@
 -- The links that a stream is shared to, in turn.
 use Rattle.std.proofs.Common.{◌≡◌, ◌<◌, ◌+◌, ◌∙◌, ℕ, zero, suc, pred, List, [], ◌∷◌, ◌++◌, length, refl, arith, ap}
+use Rattle.std.proofs.lemmas.List.Elements.{All-cons, All-nil}
 use Rattle.message_links.specs.Messages.{front, turned}
 use Rattle.message_links.specs.Turns.{share, shares_from, shares}
+use Rattle.stage_nodes.specs.Dues.{NothingOwed}
 
 later_shares : {A : Type 0} (m i c : ℕ) (x : A) (xs : List A) → shares_from m (suc i) c (x ∷ xs) ≡ shares_from m i c xs
 unfolding shares_from share
@@ -29,3 +31,9 @@ pub turned_shares : {A : Type 0} (m : ℕ) (x : A) (xs : List A) → 0 < m → t
 unfolding shares_from share
 turned_shares zero x xs lt = absurd (omega arith)
 turned_shares (suc c) x xs lt = ap (λ y. y ++ share (suc c) c xs ∷ []) (later_shares (suc c) 0 c x xs) ∙ ap (λ n. shares_from (suc c) 0 c xs ++ share (suc c) n xs ∷ []) (omega arith) ∙ last_share (suc c) 0 c xs
+
+-- of nothing each share is empty
+pub no_shares : {A : Type 0} (m i c : ℕ) → NothingOwed {A = A} (shares_from m i c [])
+unfolding shares_from share
+no_shares m i zero = All-nil _
+no_shares m i (suc c) = All-cons (λ l. l ≡ []) [] (shares_from m (suc i) c []) refl (no_shares m (suc i) c)

@@ -2,7 +2,7 @@
 use Rattle.std.proofs.Common.{◌≡◌, ◌<◌, ◌∙◌, List, ◌∷◌, length, map, ap, sym, subst, inl}
 use Rattle.packet_version.specs.Splitting.{PlainApart}
 use Rattle.merge_ops.specs.declared.merging.Merged.{Merged}
-use Rattle.message_links.specs.Messages.{PlainMessage, Fits, first, front, turned}
+use Rattle.message_links.specs.Messages.{PlainMessage, Fits, Owing, first, front, turned}
 use Rattle.stage_nodes.specs.Streams.{of_merged}
 use Rattle.stage_nodes.specs.Dues.{PlainSource, PlainSource.FromBurst, PlainSource.FromMergers, ComesFrom}
 use Rattle.stage_nodes.specs.Turns.{HasMore}
@@ -10,10 +10,10 @@ use Rattle.stage_nodes.proofs.Shares.{turned_shares}
 use Rattle.stage_nodes.proofs.Ends.{front_of}
 
 -- something is due from the merger whose turn it is
-pub mergers_have : (source : PlainSource) (inlets : List (List (PlainMessage PlainApart))) → HasMore source → source ≡ FromMergers inlets → 0 < length inlets
+pub mergers_have : (source : PlainSource) (inlets : List (List (PlainMessage PlainApart))) → HasMore source → source ≡ FromMergers inlets → (0 < length inlets) × Owing (front inlets)
 mergers_have source inlets more is =
     let from = subst (λ s. ComesFrom s (more.0 ∷ more.1)) is more.2 in
-    (front_of from.0 more.0 more.1 inlets from.1 from.2).some
+    let first = front_of from.0 more.0 more.1 inlets from.1 from.2 in (first.some, first.owing)
 
 -- a packet that was taken, and what is left
 pub record Came (source : PlainSource) (packet : Merged) (x : PlainMessage PlainApart) (xs : List (PlainMessage PlainApart)) : Type 0 where

@@ -1,5 +1,5 @@
 -- For proofs: how the links of a node fit each other.
-use Rattle.std.specs.Prelude.{◌≡◌, ◌<◌, ◌≤◌, ℕ, List, length, map, All, Bool, false}
+use Rattle.std.specs.Prelude.{◌≡◌, ◌<◌, ◌≤◌, ℕ, List, [], length, map, All, Bool, false}
 use Rattle.action_profile.specs.Modes.{modes_of}
 use Rattle.action_profile.specs.declared.parts.StageParts.{StageParts}
 use Rattle.packet_version.specs.Splitting.{PlainApart}
@@ -19,6 +19,10 @@ pub data PlainSource : Type 0 where
 abbrev pub ComesFrom : PlainSource → List (PlainMessage PlainApart) → Type 0
 ComesFrom (FromBurst packets) xs = map of_merged packets ≡ xs
 ComesFrom (FromMergers inlets) xs = (m : ℕ) × (0 < m) × (inlets ≡ shares m xs)
+
+-- nothing is due any more on any of these links
+abbrev pub NothingOwed : {A : Type 0} → List (List A) → Type 0
+NothingOwed links = All (λ due. due ≡ []) links
 
 -- n packets, which are these, are still to come to a dealer, and its links fit
 pub record DealerDue (parts : StageParts) (n : ℕ) (xs : List (PlainMessage PlainApart)) (source : PlainSource) (versions : List (List (PlainMessage PlainVersion))) (bases : List (List (PlainMessage PlainApart))) : Type 0 where

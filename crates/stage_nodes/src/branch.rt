@@ -3,7 +3,7 @@ ghost use Rattle.std.specs.Prelude.{◌≡◌, ◌+◌, ℕ, suc, false};
 ghost use Rattle.message_links.specs.Messages.{is_short, plain};
 ghost use Rattle.stage_nodes.specs.Streams.{gave, left, moved};
 ghost use Rattle.stage_nodes.specs.Flows.{MayTake};
-ghost use Rattle.stage_nodes.specs.Dues.{BranchDue};
+ghost use Rattle.stage_nodes.specs.Dues.{BranchDue, NothingOwed};
 ghost use Rattle.stage_nodes.specs.Turns.{BranchReady};
 
 use crate::to_mergers::ToMergers;
@@ -24,23 +24,24 @@ pub struct Branch<F> {
     pub count: u32,
 }
 
-/// Runs a branch until all its versions came: gives its functions back, and says whether memory was short.
-/// From the first version on for which it was, it says so of all.
+/// Runs a branch until all its versions came, and says whether memory was short. From the first version on
+/// for which it was, it says so of all: whatever memory is refused, it gives one message for each that it
+/// owes.
 pub fn run_branch<F: BranchWork, R: Wait, G: Gate>(
     rt: &R,
     alloc: Global,
     gate: &G,
-    branch: Branch<F>,
-) -> (F, bool)
-    requires due { (end : F) × BranchDue F.kit F.may 0 branch.count end false branch.work branch.inlet branch.outlets }
-    ensures { result.1 ≡ false → result.0 ≡ left F.kit branch.work branch.inlet }
+    branch: &mut Branch<F>,
+) -> bool
+    requires due { (end : F) × BranchDue F.kit F.may 0 branch.old.count end false branch.old.work branch.old.inlet branch.old.outlets }
+    ensures functions { result ≡ false → branch.new.work ≡ left F.kit branch.old.work branch.old.inlet }
+    ensures given { NothingOwed branch.new.outlets }
 {
-    let mut branch = branch;
     let mut short = false;
     for place in 0..branch.count {
         short = branch.turn_next(rt, alloc, gate, place, short);
     }
-    (branch.work, short)
+    short
 }
 
 impl<F: BranchWork> Branch<F> {

@@ -6,7 +6,7 @@ ghost use Rattle.packet_version.specs.Splitting.{PlainApart};
 ghost use Rattle.packet_version.specs.Tallies.{count_of, raised};
 ghost use Rattle.message_links.specs.Messages.{PlainMessage};
 ghost use Rattle.stage_nodes.specs.Streams.{dealer_copies, of_merged};
-ghost use Rattle.stage_nodes.specs.Dues.{DealerDue};
+ghost use Rattle.stage_nodes.specs.Dues.{DealerDue, NothingOwed};
 ghost use Rattle.stage_nodes.specs.Turns.{DealerAt, DealerReady, Deals};
 
 use crate::source::Source;
@@ -38,14 +38,16 @@ pub(crate) enum Dealt {
 }
 
 /// Runs a dealer until all its packets came: gives the copies that it made, and says whether memory was
-/// short. From the first packet on for which it was, it says so of all.
-pub fn run_dealer<R: Wait>(rt: &R, alloc: Global, dealer: Dealer) -> (Tally, bool)
-    requires due { (xs : List (PlainMessage PlainApart)) × DealerDue dealer.parts dealer.count xs dealer.source dealer.versions dealer.bases }
+/// short. From the first packet on for which it was, it says so of all: whatever memory is refused, it gives
+/// one message for each that it owes.
+pub fn run_dealer<R: Wait>(rt: &R, alloc: Global, dealer: &mut Dealer) -> (Tally, bool)
+    requires due { (xs : List (PlainMessage PlainApart)) × DealerDue dealer.old.parts dealer.old.count xs dealer.old.source dealer.old.versions dealer.old.bases }
     ensures counted { (xs : List (PlainMessage PlainApart)) →
-        DealerDue dealer.parts dealer.count xs dealer.source dealer.versions dealer.bases → result.1 ≡ false →
-        (f : Field) → count_of result.0 f ≡ raised 0 (dealer_copies dealer.parts.touches xs f) }
+        DealerDue dealer.old.parts dealer.old.count xs dealer.old.source dealer.old.versions dealer.old.bases → result.1 ≡ false →
+        (f : Field) → count_of result.0 f ≡ raised 0 (dealer_copies dealer.old.parts.touches xs f) }
+    ensures versions_given { NothingOwed dealer.new.versions }
+    ensures bases_given { NothingOwed dealer.new.bases }
 {
-    let mut dealer = dealer;
     let mut tally = Tally::new();
     let mut short = false;
     for _packet in 0..dealer.count {

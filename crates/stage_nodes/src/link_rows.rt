@@ -1,8 +1,8 @@
 //! How a packet comes to a merger over links, from one branch after another.
-ghost use Rattle.std.specs.Prelude.{◌≡◌, ◌<◌, ◌≤◌, ◌++◌, ◌∷◌, [], List, length, map, IfOk};
+ghost use Rattle.std.specs.Prelude.{◌≡◌, ◌<◌, ◌≤◌, ◌++◌, ◌∷◌, [], List, length, map, All, IfOk};
 ghost use Rattle.std.specs.Vec.{vec_capacity};
 ghost use Rattle.merge_ops.specs.declared.arrival.Arrival.{Arrival};
-ghost use Rattle.message_links.specs.Messages.{first, rest};
+ghost use Rattle.message_links.specs.Messages.{Owing, first, rest};
 ghost use Rattle.stage_nodes.specs.Gathering.{IsGathering, IsReady, MayCome, RowFits};
 
 use crate::arrival::arrival_of;
@@ -57,6 +57,7 @@ impl LinkRows {
 
     /// Waits for what comes of a packet from each branch, and puts it into the row, in branch order.
     pub(crate) fn accept_row<R: Wait>(&mut self, rt: &R, packet: u32, row: &mut Vec<Arrival>)
+        requires owing { All Owing self.old }
         requires empty { row.old.items ≡ [] }
         requires room { length self.old ≤ vec_capacity row.old }
         ensures row { RowFits (map first self.old) row.new.items }
@@ -76,6 +77,7 @@ fn gather<R: Wait>(
     row: &mut Vec<Arrival>,
 )
     requires ready { IsReady table.old (length inlets.old) }
+    requires owing { All Owing inlets.old }
     requires empty { row.old.items ≡ [] }
     requires room { length inlets.old ≤ vec_capacity row.old }
     ensures row { RowFits (map first inlets.old) row.new.items }

@@ -23,11 +23,11 @@ pub struct Merger {
 }
 
 /// Runs a merger until all its packets went on. From the first packet on for which memory was short, it
-/// says so of all.
-pub fn run_merger<R: Wait>(rt: &R, alloc: Global, merger: Merger)
-    requires due { MergerDue merger.count merger.base merger.inlets merger.outlet }
+/// says so of all: whatever memory is refused, it gives one message for each that it owes.
+pub fn run_merger<R: Wait>(rt: &R, alloc: Global, merger: &mut Merger)
+    requires due { MergerDue merger.old.count merger.old.base merger.old.inlets merger.old.outlet }
+    ensures given { merger.new.outlet ≡ [] }
 {
-    let mut merger = merger;
     let mut row = Vec::new(alloc);
     let mut short = false;
     for packet in 0..merger.count {

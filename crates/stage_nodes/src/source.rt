@@ -83,7 +83,8 @@ fn next_of_burst(packets: &mut IntoIter<Merged>) -> Merged
 
 /// The next packet of the merger whose turn it is.
 fn next_of_mergers<R: Wait>(rt: &R, inlets: &mut Inlets<Apart>) -> Merged
-    requires { 0 < length inlets.old }
+    requires some { 0 < length inlets.old }
+    requires due { Owing (front inlets.old) }
     ensures next { Fits (first (front inlets.old)) (of_merged result) }
     ensures left { inlets.new ≡ turned inlets.old }
 {

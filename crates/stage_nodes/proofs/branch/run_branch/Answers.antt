@@ -1,5 +1,5 @@
 use Rattle.std.proofs.Common.{◌-◌, ◌+◌}
-use Rattle.stage_nodes.proofs.Branching.{branch_begins, branch_at, branch_next, branch_done}
+use Rattle.stage_nodes.proofs.Branching.{branch_begins, branch_at, branch_next, branch_done, branch_gave}
 use Rattle.stage_nodes.proofs.branch.run_branch.Goals as goal
 
 pub loop-place-init : goal.loop-place-init
@@ -7,12 +7,15 @@ loop-place-init g c = branch_begins g.F.BranchWork.kit g.F.BranchWork.may _ _ _ 
 
 pub turn_next-short-requires : goal.turn_next-short-requires
 turn_next-short-requires g c = record {
-  ready = (c.args.branch.count - (c.loop-place.place + 1), _, branch_at g.F.BranchWork.kit g.F.BranchWork.may c.args.branch.count c.loop-place.place _ _ _ _ _ c.loop-place-test.true c.loop-place.invariant);
+  ready = (c.args.branch.now.count - (c.loop-place.place + 1), _, branch_at g.F.BranchWork.kit g.F.BranchWork.may c.args.branch.now.count c.loop-place.place _ _ _ _ _ c.loop-place-test.true c.loop-place.invariant);
 }
 
 pub loop-place-preserved : goal.loop-place-preserved
 loop-place-preserved g c = branch_next g.F.BranchWork.kit g.F.BranchWork.may _ _ _ _ _ _ _
-    (c.turn_next-short.ensures.due _ _ (branch_at g.F.BranchWork.kit g.F.BranchWork.may c.args.branch.count c.loop-place.place _ _ _ _ _ c.loop-place-test.true c.loop-place.invariant))
+    (c.turn_next-short.ensures.due _ _ (branch_at g.F.BranchWork.kit g.F.BranchWork.may c.args.branch.now.count c.loop-place.place _ _ _ _ _ c.loop-place-test.true c.loop-place.invariant))
 
 pub returns : goal.returns
-returns g c = branch_done g.F.BranchWork.kit g.F.BranchWork.may c.args.branch.count c.loop-place.place _ _ _ _ _ c.loop-place-test.false c.loop-place.invariant
+returns g c = record {
+  functions = branch_done g.F.BranchWork.kit g.F.BranchWork.may c.args.branch.now.count c.loop-place.place _ _ _ _ _ c.loop-place-test.false c.loop-place.invariant;
+  given = branch_gave g.F.BranchWork.kit g.F.BranchWork.may c.args.branch.now.count c.loop-place.place _ _ _ _ _ c.loop-place-test.false c.loop-place.invariant;
+}

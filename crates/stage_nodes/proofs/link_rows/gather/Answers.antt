@@ -1,14 +1,18 @@
 use Rattle.std.proofs.Common.{◌<◌, ◌++◌, ◌∷◌, [], length, subst, arith}
 use Rattle.message_links.specs.Messages.{plain}
 use Rattle.stage_nodes.specs.Gathering.{IsGathering}
-use Rattle.stage_nodes.proofs.Gathering.{gathering_begins, gathered_more, gathering_ends, next_may, next_there}
+use Rattle.stage_nodes.proofs.Gathering.{gathering_begins, gathered_more, gathering_ends, next_may, next_there, next_owes}
 use Rattle.stage_nodes.proofs.link_rows.gather.Goals as goal
 
 pub loop-branch-init : goal.loop-branch-init
 loop-branch-init g c = (gathering_begins _ _ _ _ c.requires.ready c.requires.empty, c.requires.room)
 
 pub accept_at-requires : goal.accept_at-requires
-accept_at-requires g c = record { inside = next_there _ _ _ _ _ _ c.loop-branch.invariant.0 (omega (arith, c.loop-branch-test.true, c.len-branch-end.ensures)) }
+accept_at-requires g c =
+    let inside : c.loop-branch.branch < length c.args.inlets.now = omega (arith, c.loop-branch-test.true, c.len-branch-end.ensures) in record {
+      inside = next_there _ _ _ _ _ _ c.loop-branch.invariant.0 inside;
+      due = next_owes _ _ _ _ _ _ c.requires.owing c.loop-branch.invariant.0 inside;
+    }
 
 pub arrive-requires-clause-may : goal.arrive-requires-clause-may
 arrive-requires-clause-may g c = (_, next_may _ _ _ _ _ _ c.loop-branch.invariant.0 (omega (arith, c.loop-branch-test.true, c.len-branch-end.ensures)))

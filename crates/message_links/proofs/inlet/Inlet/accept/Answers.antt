@@ -3,15 +3,10 @@ use Rattle.message_links.specs.Messages.{Fits, first}
 use Rattle.message_links.proofs.Rests.{was_due, taken_on}
 use Rattle.message_links.proofs.inlet.Inlet.accept.Goals as goal
 
-pub returns-clause-due : goal.returns-clause-due
-returns-clause-due g c =
-    let t = c.self.inside.taker in
-    (was_due t.due t.taken c.args.self.now c.take.result c.self.view_is c.take.ensures.fits).0
-
 pub returns-clause-fits : goal.returns-clause-fits
 returns-clause-fits g c =
     let t = c.self.inside.taker in
-    subst (Fits (first c.args.self.now)) (sym c.message.view_is) (was_due t.due t.taken c.args.self.now c.take.result c.self.view_is c.take.ensures.fits).1
+    subst (Fits (first c.args.self.now)) (sym c.message.view_is) (was_due t.due t.taken c.args.self.now c.take.result c.self.view_is c.take.ensures.fits)
 
 pub returns-clause-after : goal.returns-clause-after
 returns-clause-after g c = taken_on c.self.inside.taker _ c.args.self.now c.take.result c.take.ensures.taken c.self.view_is

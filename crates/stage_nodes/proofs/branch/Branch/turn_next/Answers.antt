@@ -1,7 +1,10 @@
 use Rattle.std.proofs.Common.{◌∙◌, sym}
 use Rattle.message_links.specs.Messages.{plain}
-use Rattle.stage_nodes.proofs.Branching.{branch_front, may_next, branch_fits, moved_by, branch_goes_on}
+use Rattle.stage_nodes.proofs.Branching.{version_due, branch_front, may_next, branch_fits, moved_by, branch_goes_on}
 use Rattle.stage_nodes.proofs.branch.Branch.turn_next.Goals as goal
+
+pub accept-message-requires : goal.accept-message-requires
+accept-message-requires g c = record { due = version_due _ _ _ _ _ _ _ c.requires.ready }
 
 pub answer-reply-requires : goal.answer-reply-requires
 answer-reply-requires g c = record { may = may_next _ _ _ _ _ _ _ _ c.requires.ready c.accept-message.ensures.fits }

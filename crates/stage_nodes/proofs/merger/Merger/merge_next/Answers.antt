@@ -1,9 +1,12 @@
 use Rattle.message_links.specs.Messages.{plain}
-use Rattle.stage_nodes.proofs.Merging.{all_owe, few_came, belong_to, reply_fits, merger_goes_on}
+use Rattle.stage_nodes.proofs.Merging.{base_due, all_owe, few_came, belong_to, reply_fits, merger_goes_on}
 use Rattle.stage_nodes.proofs.merger.Merger.merge_next.Goals as goal
 
 pub accept_row-requires-clause-owing : goal.accept_row-requires-clause-owing
 accept_row-requires-clause-owing g c = all_owe _ _ _ _ (c.requires.at.1.due c.if-short.false)
+
+pub accept-requires : goal.accept-requires
+accept-requires g c = record { due = base_due _ _ _ _ (c.requires.at.1.due c.if-short.false) }
 
 pub join-reply-requires-clause-few : goal.join-reply-requires-clause-few
 join-reply-requires-clause-few g c = few_came _ _ _ _ _ (c.requires.at.1.due c.if-short.false) c.accept_row.ensures.row

@@ -5,7 +5,7 @@ use Rattle.stage_nodes.proofs.source.Source.next.Goals as goal
 use Rattle.stage_nodes.proofs.source.Source.next.Goals.{in-Burst, in-Mergers}
 
 pub next_of_mergers-requires : goal.next_of_mergers-requires
-next_of_mergers-requires g c = mergers_have _ _ c.requires.more (sym c.self.view_is ∙ ap plain_source c.in-Mergers.is)
+next_of_mergers-requires g c = let have = mergers_have _ _ c.requires.more (sym c.self.view_is ∙ ap plain_source c.in-Mergers.is) in record { some = have.0; due = have.1 }
 
 pub returns-clause-next : goal.returns-clause-next
 returns-clause-next g c = λ x xs from. elim c.match-self.branch [
