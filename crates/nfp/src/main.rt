@@ -71,8 +71,8 @@ fn wants_progress(rt: &impl Env) -> bool {
 }
 
 // What the program ends with. Where gathered bytes were lost, Note has taken nothing, and the first slot that failed is told
-// here: one that had failed at a call of its own before, or else the one that lost them. The files are closed then, so that none
-// of them stands where standard error was closed.
+// here: one that had failed at a call of its own before, or else the one that lost them. Nothing is told once memory ran out. The
+// files are closed then, so that none of them stands where standard error was closed.
 fn end<R: Files + Print + AllocGlobal + Drop>(
     rt: &(impl Print + AllocGlobal),
     mut desk: FileDesk<R>,
@@ -80,6 +80,7 @@ fn end<R: Files + Print + AllocGlobal + Drop>(
 ) -> Outcome {
     match (desk.hand_on(), outcome) {
         (None, outcome) => outcome,
+        (Some(_), Outcome::OutOfMemory) => Outcome::OutOfMemory,
         (Some(_), Outcome::WriteFault(slot)) if slot != Slot::Note => tell(rt, slot),
         (Some(lost), _) => tell(rt, lost),
     }

@@ -51,7 +51,7 @@ out_beside h = cc
 pub report_beside : slots.Report ≢ slots.Note
 report_beside h = cc
 
-leaves_to : (due : Option Written) (old mid new : Slot → SlotView) → new slots.Out ≡ mid slots.Out → new slots.Report ≡ mid slots.Report → Leaves due old mid → Leaves due old new
+pub leaves_to : (due : Option Written) (old mid new : Slot → SlotView) → new slots.Out ≡ mid slots.Out → new slots.Report ≡ mid slots.Report → Leaves due old mid → Leaves due old new
 leaves_to None old mid new p q (a, b) = (subst (IsUntouched (old slots.Out)) (sym p) a, subst (IsUntouched (old slots.Report)) (sym q) b)
 leaves_to (Some due) old mid new p q (a, b) = (subst (Holds due.out (old slots.Out)) (sym p) a, subst (Holds due.report (old slots.Report)) (sym q) b)
 
@@ -105,7 +105,7 @@ called_prefixes command old mid new ended result called = if_told (old slots.Pol
     (λ p c h. prefixes_to (due_of_command command p c).written old mid new (called.beside slots.Out out_beside) (called.beside slots.Report report_beside) h) called.ran.prefixes
 
 -- no count that a fault of the run speaks of rose
-no_fault : (command : Result Command UsageFault) (old mid new : Slot → SlotView) (ended : Ending) → Ran command old mid ended → ((s : Slot) → s ≢ slots.Note → new s ≡ mid s) → NoneRose old new →
+pub no_fault : (command : Result Command UsageFault) (old mid new : Slot → SlotView) (ended : Ending) → Ran command old mid ended → ((s : Slot) → s ≢ slots.Note → new s ≡ mid s) → NoneRose old new →
     IsFinal (outcome_seen ended) ⊎ (outcome_seen ended ≡ OutOfMemory)
 no_fault command old mid new ended ran beside none = go (outcome_seen ended) refl
   where

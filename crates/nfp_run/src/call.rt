@@ -4,7 +4,7 @@ ghost use Rattle.nfp_outside.specs.declared.slot.Slot.{Slot};
 ghost use Rattle.nfp_outside.specs.Outside.{Appends, AppendsPrefix, IsRisen};
 ghost use Rattle.policy_judge.specs.declared.fault.PolicyFault.{PolicyFault};
 ghost use Rattle.command_words.specs.declared.usage.UsageFault.{UsageFault};
-ghost use Rattle.nfp_run.specs.Answers.{IsAnswered, IsDue, IsFinal, HasNames, NoneRose, WhereTold, LeavesPrefixes, AttachesDue, ReachesCapture, ReadsPolicy, PolicyCause, ReadFaultCause, WriteFaultCause, NotesPrefix, note_due};
+ghost use Rattle.nfp_run.specs.Answers.{IsAnswered, IsDue, IsFinal, HasNames, NoneRose, WhereTold, Leaves, LeavesPrefixes, AttachesDue, ReachesCapture, ReadsPolicy, PolicyCause, ReadFaultCause, WriteFaultCause, NotesPrefix, note_due};
 ghost use Rattle.nfp_run.specs.Due.{due};
 ghost use Rattle.command_words.specs.Words.{command_of};
 
@@ -66,6 +66,10 @@ pub fn nfp<R: Threads + Wait + Sync, D: Desk, G: Gate + Sync>(
     // Where memory ran out, Note holds a front part of what is due, or of the line of a fault of reading or writing.
     ensures noted_short { result ≡ Outcome.OutOfMemory → WhereTold (D.slots desk.old) (λ p c.
         NotesPrefix (due (map string_bytes words.now) p c).note (D.slots desk.old Slot.Note) (D.slots desk.new Slot.Note)) }
+    // Nothing goes into Note once memory ran out: where something stands there all the same and no slot failed, the work was done.
+    ensures noted_late { result ≡ Outcome.OutOfMemory → NoneRose (D.slots desk.old) (D.slots desk.new) → WhereTold (D.slots desk.old) (λ p c.
+        Leaves (due (map string_bytes words.now) p c).written (D.slots desk.old) (D.slots desk.new)
+        ⊎ Appends [] (D.slots desk.old Slot.Note) (D.slots desk.new Slot.Note)) }
     // A fault of Note is told where the work was done, and Out and Report are whole.
     ensures note_fault { result ≡ Outcome.WriteFault Slot.Note → WhereTold (D.slots desk.old) (λ p c.
         IsDue (due (map string_bytes words.now) p c) (D.slots desk.old) (D.slots desk.new) Outcome.Done) }
