@@ -447,7 +447,7 @@ def little_memory(bench):
     yield from thrown_runs.no_fronts(came, bench.due)
 
 
-# Two names for one file. A program that doesn't tell them apart loses the file, and isn't tried so.
+# Two names for one file.
 
 PAIRS = [('out', 'policy'), ('out', 'capture'), ('report', 'policy'), ('report', 'capture'), ('report', 'out')]
 
