@@ -5,19 +5,21 @@ use nfp_outside::{MemDesk, OpenGate, Slot};
 use nfp_run::{Outcome, nfp};
 use pcap_io::CaptureFault;
 use std::alloc::{AllocError, Global};
+use std::sync::Wait;
 use std::test::Fail;
+use std::thread::Threads;
 
 // The bytes of a policy may be so many.
 const LONGEST_POLICY: usize = 1_048_576;
 
 // A run over a desk in memory that fails at these calls, and what it left.
-fn run_over(
-    rt: &HostRuntime,
+fn run_over<R: Threads + Wait + Sync>(
+    rt: &R,
+    alloc: Global,
     policy: Vec<u8>,
     capture: Vec<u8>,
     fails: &[(Slot, u64)],
-) -> Result<(Outcome, MemDesk), Fail> {
-    let alloc = rt.alloc();
+) -> Result<(Outcome, MemDesk), AllocError> {
     let run = words(alloc, &["run", "p", "c", "o", "r"])?;
     let mut desk = MemDesk::new(alloc, policy, capture, 4096, fails.to_vec(alloc)?);
     let outcome = nfp(rt, alloc, &run, &mut desk, &OpenGate);
@@ -55,7 +57,7 @@ fn a_capture_is_cut_after_each_byte(rt: HostRuntime) -> Result<(), Fail> {
     for length in 0..=198u32 {
         let mut cut = capture(alloc)?;
         cut.truncate(length as usize);
-        let (outcome, desk) = run_over(&rt, POLICY.to_vec(alloc)?, cut, &[])?;
+        let (outcome, desk) = run_over(&rt, alloc, POLICY.to_vec(alloc)?, cut, &[])?;
         assert!(rt; is_due_of_cut(length, &outcome));
         assert_eq!(rt; desk.put(Slot::Out).len(), bytes_due_of_cut(length));
         assert_eq!(rt; desk.calls(Slot::Out) == 0, length < 24);
@@ -104,7 +106,7 @@ fn a_policy_passes_a_limit(rt: HostRuntime) -> Result<(), Fail> {
         ),
         (filled(alloc, LONGEST_POLICY + 1)?, 2, b"policy: too long\n"),
     ] {
-        let (outcome, desk) = run_over(&rt, policy, capture(alloc)?, &[])?;
+        let (outcome, desk) = run_over(&rt, alloc, policy, capture(alloc)?, &[])?;
         assert_eq!(rt; outcome.status(), status);
         assert_eq!(rt; desk.put(Slot::Note), note);
     }
@@ -133,7 +135,7 @@ fn is_untouched(desk: &MemDesk, slot: Slot) -> bool {
 #[test]
 fn each_call_of_the_desk_fails(rt: HostRuntime) -> Result<(), Fail> {
     let alloc = rt.alloc();
-    let (outcome, whole) = run_over(&rt, POLICY.to_vec(alloc)?, capture(alloc)?, &[])?;
+    let (outcome, whole) = run_over(&rt, alloc, POLICY.to_vec(alloc)?, capture(alloc)?, &[])?;
     assert!(rt; matches!(outcome, Outcome::Done));
     for slot in [
         Slot::Policy,
@@ -146,7 +148,13 @@ fn each_call_of_the_desk_fails(rt: HostRuntime) -> Result<(), Fail> {
         assert!(rt; calls > 0);
         for call in 0..=calls {
             let fails = [(slot, call)];
-            let (outcome, desk) = run_over(&rt, POLICY.to_vec(alloc)?, capture(alloc)?, &fails)?;
+            let (outcome, desk) = run_over(
+                &rt,
+                alloc,
+                POLICY.to_vec(alloc)?,
+                capture(alloc)?,
+                &fails,
+            )?;
             assert_eq!(rt; is_fault_of(&outcome, slot), call < calls);
             assert_eq!(rt; matches!(outcome, Outcome::Done), call == calls);
             assert!(rt; call > 0 || is_untouched(&desk, slot));
