@@ -5,7 +5,7 @@ use crate::shown::shown_name;
 use std::alloc::AllocError;
 use std::fs::{File, OpenOptions};
 use std::io::Read;
-use std::os::unix::fs::MetadataExt;
+use std::os::unix::fs::{FileTypeExt, MetadataExt};
 use std::rt::Files;
 use std::{fs, io};
 use text_lines::Piece::Text;
@@ -121,11 +121,14 @@ fn say_one_file(page: &mut Page, name: &str, other: &str) -> Result<(), AllocErr
     page.say(&[Text(&name), Text(b" and "), Text(&other), Text(reason)])
 }
 
-// Whether two names lead to one file, as the system tells files apart: by device and number.
+// Whether two names lead to one file, as the system tells files apart: by device and number. A device of
+// characters may have many names.
 fn lead_to_one_file<R: Files>(rt: &R, name: &str, other: &str) -> bool {
     match (fs::metadata(rt, name), fs::metadata(rt, other)) {
         (Ok(told), Ok(known)) => {
-            told.ino() != 0 && (told.dev(), told.ino()) == (known.dev(), known.ino())
+            !told.file_type().is_char_device()
+                && told.ino() != 0
+                && (told.dev(), told.ino()) == (known.dev(), known.ino())
         }
         _ => false,
     }
