@@ -11,14 +11,7 @@ use Rattle.packet_fields.specs.Writing.{overwritten}
 use Rattle.packet_fields.proofs.Overwriting.{cong2, overwritten_own}
 use Rattle.packet_fields.proofs.Sealed.{header_sum_is}
 use Rattle.packet_fields.proofs.ChecksumSteps.{has_sum}
-
-eqb_refl : (m : ℕ) → (m == m) ≡ true
-eqb_refl m = eq-eqb m m refl
-
-is_changed_own : (ms : List ℕ) → is_changed ms ms ≡ false
-unfolding is_changed
-is_changed_own [] = refl
-is_changed_own (m ∷ ms) = rw (eqb_refl m) (is_changed_own ms)
+use Rattle.packet_fields.proofs.WordSums.{is_changed_own}
 
 pub adjusted_own : (checksum : ℕ) (ms : List ℕ) → adjusted checksum ms ms ≡ checksum
 adjusted_own checksum ms = cond-false (is_changed ms ms) (0xffff - folded ((0xffff - checksum) + change_sum ms ms)) checksum (is_changed_own ms)

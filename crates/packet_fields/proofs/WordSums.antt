@@ -1,6 +1,7 @@
 -- The steps of a checksum over words.
 use Rattle.std.proofs.Common.{◌≡◌, ◌≤◌, ◌+◌, ◌*◌, ◌-◌, ◌∙◌, sym, ap, ℕ, List, [], ◌∷◌, ◌++◌, ◌%◌, zero-add, length, drop, get_or, length-drop, refl, arith, true, false, Bool, ◌||◌, not}
 use Rattle.std.specs.Prelude.{◌==◌, if◌then◌else◌}
+use Rattle.std.proofs.lemmas.Bool.{eq-eqb}
 use Rattle.packet_fields.specs.Frames.{word}
 use Rattle.packet_fields.specs.Checksums.{words, change_sum, is_changed}
 use Rattle.packet_fields.proofs.Overwriting.{cong2}
@@ -28,6 +29,20 @@ pub words-none : (xs : List ℕ) → length xs ≡ 0 → words xs ≡ []
 unfolding words
 words-none [] none = refl
 words-none (x ∷ xs) none = absurd (omega arith)
+
+-- words that stay change nothing
+eqb_refl : (m : ℕ) → (m == m) ≡ true
+eqb_refl m = eq-eqb m m refl
+
+pub is_changed_own : (ms : List ℕ) → is_changed ms ms ≡ false
+unfolding is_changed
+is_changed_own [] = refl
+is_changed_own (m ∷ ms) = rw (eqb_refl m) (is_changed_own ms)
+
+change_sum_own : (ms : List ℕ) → change_sum ms ms ≡ 0
+unfolding change_sum
+change_sum_own [] = refl
+change_sum_own (m ∷ ms) = rw (eqb_refl m) (ap (λ (n : ℕ). 0 + n) (change_sum_own ms))
 
 -- what one word adds
 abbrev pub word_change : ℕ → ℕ → ℕ
@@ -101,6 +116,16 @@ at_words_none first now old new r s at none =
     record {
       sum_is = omega (arith, here, at.sum_is);
       changed = sym (or-false now.is_some) ∙ (ap (λ (b : Bool). now.is_some || b) (sym is_here) ∙ at.changed);
+    }
+
+-- equal bytes
+pub same_words : (first : Change) (old new : List ℕ) → old ≡ new → IsChange first first old new
+same_words first old new same =
+    let sums : change_sum (words old) (words new) ≡ 0 = ap (λ (xs : List ℕ). change_sum (words old) (words xs)) (sym same) ∙ change_sum_own (words old) in
+    let some : is_changed (words old) (words new) ≡ false = ap (λ (xs : List ℕ). is_changed (words old) (words xs)) (sym same) ∙ is_changed_own (words old) in
+    record {
+      sum_is = omega (arith, sums);
+      changed = sym (ap (λ (b : Bool). first.is_some || b) some ∙ or-false first.is_some);
     }
 
 pub words-append : (xs ys : List ℕ) → length xs % 2 ≡ 0 → words (xs ++ ys) ≡ words xs ++ words ys

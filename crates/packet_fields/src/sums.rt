@@ -49,6 +49,9 @@ impl Change {
         ensures is_some { result.is_some ≡ (self.is_some || is_changed (words old.now) (words new.now)) }
         ensures bound { result.sum ≤ self.sum + 65536 * length old.now + 65536 }
     {
+        if old == new {
+            return self;
+        }
         let mut change = self;
         let mut old_rest = old;
         let mut new_rest = new;
