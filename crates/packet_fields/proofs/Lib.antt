@@ -17,3 +17,4 @@ pub mod RightSegments
 pub mod RightFrames
 pub mod Fixed
 pub mod Rest
+pub mod SamePlaces

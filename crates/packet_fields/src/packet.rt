@@ -15,7 +15,7 @@ pub const HEADER: usize = 2;
 // The places of its fields, which RFC 791, 3.1, counts from the header's first byte.
 const TOS: usize = HEADER + 1;
 
-const TOTAL_LEN: usize = HEADER + 2;
+pub const TOTAL_LEN: usize = HEADER + 2;
 
 const FRAGMENT: usize = HEADER + 6;
 

@@ -1,17 +1,17 @@
 //! The checksums of a packet after a change.
-ghost use Rattle.std.specs.Prelude.{◌≡◌, ◌≤◌, ◌<◌, ◌+◌, ◌^◌, true, length, IfSome, if◌then◌else◌};
+ghost use Rattle.std.specs.Prelude.{◌≡◌, ◌≤◌, ◌<◌, ◌+◌, ◌^◌, ◌==◌, ◌&&◌, true, length, IfSome, if◌then◌else◌};
 ghost use Rattle.packet_fields.specs.Packets.{is_ipv4 as is_ipv4_of, header_len as header_len_of, data_span};
 ghost use Rattle.packet_fields.specs.Fields.{value};
 ghost use Rattle.packet_fields.specs.declared.field.Field.{Field};
 ghost use Rattle.packet_fields.specs.Writing.{overwritten, rest_of};
 ghost use Rattle.packet_fields.specs.Plans.{header_plan_of, segment_plan_of};
-ghost use Rattle.packet_fields.specs.Checksums.{has_same_places as has_same_places_of, same_header_plan, same_segment_plan, word_bytes, header_sealed, segment_sealed, packet_sealed, sealed, HasRightSums};
+ghost use Rattle.packet_fields.specs.Checksums.{same_header_plan, word_bytes, header_sealed, segment_sealed, packet_sealed, sealed, HasRightSums};
 ghost use Rattle.packet_fields.specs.Changes.{IsChange, header_bytes, segment_bytes, checksum_after};
 
 use crate::access::part;
 use crate::packet::{
-    HEADER, HEADER_SUM, PROTOCOL, SRC_IP, UDP, header_len, header_plan, is_ipv4, segment_at,
-    segment_plan, word,
+    HEADER, HEADER_SUM, PROTOCOL, SRC_IP, SegmentPlan, TOTAL_LEN, UDP, header_len, is_ipv4,
+    segment_at, segment_plan, word,
 };
 use crate::places::{packet_from, packet_place};
 use crate::plan::Span;
@@ -48,37 +48,36 @@ fn seal_frame(before: &[u8], after: &mut [u8])
 fn seal_packet(old: &[u8], new: &mut [u8])
     ensures { new.new ≡ packet_sealed old.now new.old }
 {
-    if has_same_places(old, new) {
+    if !has_same_headers(old, new) {
+        return;
+    }
+    let plan = segment_plan(old);
+    if plan == segment_plan(new) {
         seal_header(old, new);
-        seal_segment(old, new);
+        seal_segment(old, new, &plan);
     }
 }
 
-/// Do two packets have IPv4 headers, and the same places and fixed values?
-#[tactic(auto, unfolding(crate::specs::Checksums::has_same_places))]
-fn has_same_places(old: &[u8], new: &[u8]) -> bool
-    ensures { result ≡ has_same_places_of old.now new.now }
+/// Do two packets have IPv4 headers with the same places and fixed values?
+fn has_same_headers(old: &[u8], new: &[u8]) -> bool
+    ensures { result ≡ (is_ipv4_of old.now && (is_ipv4_of new.now && ((length old.now == length new.now) && ((header_len_of old.now == header_len_of new.now) && same_header_plan (header_plan_of old.now) (header_plan_of new.now))))) }
 {
     is_ipv4(old)
         && is_ipv4(new)
         && old.len() == new.len()
         && header_len(old) == header_len(new)
         && has_same_header(old, new)
-        && has_same_segment(old, new)
 }
 
-/// Do the IPv4 headers of two packets have the same places and fixed values?
+/// Do the IPv4 headers of two packets of the same length have the same places and fixed values?
 fn has_same_header(old: &[u8], new: &[u8]) -> bool
+    requires old_ipv4 { is_ipv4_of old.now ≡ true }
+    requires new_ipv4 { is_ipv4_of new.now ≡ true }
+    requires same_len { length old.now ≡ length new.now }
     ensures { result ≡ same_header_plan (header_plan_of old.now) (header_plan_of new.now) }
 {
-    header_plan(old) == header_plan(new)
-}
-
-/// Do the transport headers of two packets have the same places and fixed values?
-fn has_same_segment(old: &[u8], new: &[u8]) -> bool
-    ensures { result ≡ same_segment_plan (segment_plan_of old.now) (segment_plan_of new.now) }
-{
-    segment_plan(old) == segment_plan(new)
+    (old.len() <= PROTOCOL || old[PROTOCOL] == new[PROTOCOL])
+        && (old.len() < TOTAL_LEN + 2 || word(old, TOTAL_LEN) == word(new, TOTAL_LEN))
 }
 
 /// Adjusts the header checksum of a packet of the same lengths.
@@ -109,14 +108,18 @@ fn header_change(old: &[u8], new: &[u8], end: usize) -> Change
         .with_bytes(&old[SRC_IP..end], &new[SRC_IP..end])
 }
 
-/// Adjusts the TCP or UDP checksum of a packet of the same lengths and places.
-fn seal_segment(old: &[u8], new: &mut [u8])
+/// Adjusts the TCP or UDP checksum of a packet of the same lengths and places, where the old one has this
+/// plan.
+fn seal_segment(old: &[u8], new: &mut [u8], plan: &SegmentPlan)
+    requires plan { plan.now ≡ segment_plan_of old.now }
+    requires payload { IfSome plan.now.payload (λ s. s.at + s.len ≤ length old.now) }
+    requires short { IfSome plan.now.payload (λ s. s.len ≤ 65537) }
+    requires sum_at { IfSome plan.now.sum_at (λ at. at + 2 ≤ length old.now) }
     requires same_len { length old.now ≡ length new.old }
     requires same_header { header_len_of old.now ≡ header_len_of new.old }
     requires same_data { data_span old.now ≡ data_span new.old }
     ensures { new.new ≡ segment_sealed old.now new.old }
 {
-    let plan = segment_plan(old);
     if let Some(at) = plan.sum_at {
         let change = segment_change(old, new, segment_at(old), plan.payload);
         let checksum = segment_checksum(old[PROTOCOL] == UDP, word(old, at), change);
