@@ -42,7 +42,7 @@ span_from (Some s) (Some t) same =
     let both = and_parts (s.at == t.at) (s.len == t.len) same in
     ap (λ (x : Span). Some x) (span_parts s t (eqb-true s.at t.at both.0) (eqb-true s.len t.len both.1))
 
-number_from : (a b : Option ℕ) → same_number a b ≡ true → a ≡ b
+pub number_from : (a b : Option ℕ) → same_number a b ≡ true → a ≡ b
 number_from None None same = refl
 number_from None (Some n) same = absurd (false≢true same)
 number_from (Some m) None same = absurd (false≢true same)

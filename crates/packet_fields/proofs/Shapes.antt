@@ -48,7 +48,7 @@ pub is_tcp-same : (p q : List ℕ) → SameShape p q → is_tcp q ≡ is_tcp p
 is_tcp-same p q s = cc
 
 -- the span of the data, as a function of what decides it
-abbrev data_span_by : Bool → Bool → ℕ → ℕ → ℕ → Option Span
+abbrev pub data_span_by : Bool → Bool → ℕ → ℕ → ℕ → Option Span
 data_span_by there udp offset start end =
     if (there && (udp || (nat_lt (start + 12) end && nat_le 5 offset))) && nat_le (if udp then start + 8 else 4 * offset + start) end
     then Some (record { at = if udp then start + 8 else 4 * offset + start; len = end - (if udp then start + 8 else 4 * offset + start) }) else None

@@ -1,7 +1,8 @@
 -- For proofs: what the bytes under a checksum change in it.
-use Rattle.std.specs.Prelude.{◌≡◌, ◌<◌, ℕ, ◌+◌, ◌-◌, ◌^◌, List, ◌++◌, take, drop, Bool, if◌then◌else◌, ◌==◌, Option}
-use Rattle.packet_fields.specs.Packets.{in_header}
-use Rattle.packet_fields.specs.Checksums.{words, is_changed, change_sum, folded, data_of}
+use Rattle.std.specs.Prelude.{◌≡◌, ◌<◌, ℕ, ◌+◌, ◌-◌, ◌^◌, List, ◌++◌, length, take, drop, Bool, if◌then◌else◌, ◌==◌, ◌&&◌, Option}
+use Rattle.packet_fields.specs.Packets.{in_header, is_ipv4, header_len}
+use Rattle.packet_fields.specs.Plans.{header_plan_of}
+use Rattle.packet_fields.specs.Checksums.{words, is_changed, change_sum, folded, data_of, same_header_plan}
 use Rattle.packet_fields.specs.declared.plan.Span.{Span}
 use Rattle.packet_fields.specs.declared.sums.Change.{Change}
 
@@ -26,3 +27,7 @@ applied checksum change = if change.is_some then 0xffff - folded ((0xffff - chec
 abbrev pub checksum_after : Bool → ℕ → Change → ℕ
 checksum_after is_udp checksum change =
     if is_udp then (if checksum == 0 then 0 else (if applied checksum change == 0 then 0xffff else applied checksum change)) else applied checksum change
+
+-- two IPv4 packets of one length and one header length, with the same places and fixed values of their headers
+abbrev pub has_same_headers : List ℕ → List ℕ → Bool
+has_same_headers p q = is_ipv4 p && (is_ipv4 q && ((length p == length q) && ((header_len p == header_len q) && same_header_plan (header_plan_of p) (header_plan_of q))))

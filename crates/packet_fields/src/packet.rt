@@ -1,8 +1,9 @@
 //! The headers of a packet, which begins with its EtherType.
 ghost use Rattle.std.specs.Prelude.{◌≡◌, ◌≤◌, ◌+◌, ◌^◌, ◌<◌, ◌&&◌, ◌||◌, ◌*◌, ◌%◌, length, slice_index, IsTrue, IfSome, true};
 ghost use Rattle.packet_fields.specs.Frames.{word as word_of};
-ghost use Rattle.packet_fields.specs.Packets.{span_within, byte_within, place_within, is_ipv4 as is_ipv4_of, has_transport as has_transport_of, header_len as header_len_of, segment_at as segment_at_of, datagram_end as datagram_end_of, data_span as data_span_of, is_tcp, is_udp};
+ghost use Rattle.packet_fields.specs.Packets.{span_within, byte_within, place_within, is_ipv4 as is_ipv4_of, has_transport as has_transport_of, header_len as header_len_of, segment_at as segment_at_of, datagram_end as datagram_end_of, data_span as data_span_of, control_bits, is_tcp, is_udp};
 ghost use Rattle.packet_fields.specs.Plans.{header_plan_of, segment_plan_of};
+ghost use Rattle.packet_fields.specs.Checksums.{same_span, same_number};
 
 use crate::plan::Span;
 use byteorder::{BigEndian, ByteOrder};
@@ -253,4 +254,17 @@ pub fn segment_plan(packet: &[u8]) -> SegmentPlan
         control_bits: byte(!is_udp, end, packet, start + TCP_CONTROL),
         sum_at: place(true, end, start + sum, 2),
     }
+}
+
+/// Do the data and the control bits of a TCP packet lie and stand as in a plan?
+pub fn has_data_of(packet: &[u8], plan: &SegmentPlan) -> bool
+    requires there { IsTrue (has_transport_of packet.now) }
+    requires room { 12 ≤ length packet.now }
+    requires tcp { is_tcp packet.now ≡ true }
+    ensures { result ≡ (same_span plan.now.payload (data_span_of packet.now) && same_number plan.now.control_bits (control_bits packet.now)) }
+{
+    let start = segment_at(packet);
+    let end = datagram_end(packet);
+    plan.payload == data_span(packet, start, end)
+        && plan.control_bits == byte(true, end, packet, start + TCP_CONTROL)
 }

@@ -1,17 +1,17 @@
 //! The checksums of a packet after a change.
-ghost use Rattle.std.specs.Prelude.{◌≡◌, ◌≤◌, ◌<◌, ◌+◌, ◌^◌, ◌==◌, ◌&&◌, true, length, IfSome, if◌then◌else◌};
+ghost use Rattle.std.specs.Prelude.{◌≡◌, ◌≤◌, ◌<◌, ◌+◌, ◌^◌, true, length, IfSome, if◌then◌else◌};
 ghost use Rattle.packet_fields.specs.Packets.{is_ipv4 as is_ipv4_of, header_len as header_len_of, data_span};
 ghost use Rattle.packet_fields.specs.Fields.{value};
 ghost use Rattle.packet_fields.specs.declared.field.Field.{Field};
 ghost use Rattle.packet_fields.specs.Writing.{overwritten, rest_of};
 ghost use Rattle.packet_fields.specs.Plans.{header_plan_of, segment_plan_of};
-ghost use Rattle.packet_fields.specs.Checksums.{same_header_plan, word_bytes, header_sealed, segment_sealed, packet_sealed, sealed, HasRightSums};
-ghost use Rattle.packet_fields.specs.Changes.{IsChange, header_bytes, segment_bytes, checksum_after};
+ghost use Rattle.packet_fields.specs.Checksums.{same_header_plan, same_segment_plan, word_bytes, header_sealed, segment_sealed, packet_sealed, sealed, HasRightSums};
+ghost use Rattle.packet_fields.specs.Changes.{IsChange, header_bytes, segment_bytes, checksum_after, has_same_headers as has_same_headers_of};
 
 use crate::access::part;
 use crate::packet::{
-    HEADER, HEADER_SUM, PROTOCOL, SRC_IP, SegmentPlan, TOTAL_LEN, UDP, header_len, is_ipv4,
-    segment_at, segment_plan, word,
+    HEADER, HEADER_SUM, PROTOCOL, SRC_IP, SegmentPlan, TOTAL_LEN, UDP, has_data_of, has_transport,
+    header_len, is_ipv4, segment_at, segment_plan, word,
 };
 use crate::places::{packet_from, packet_place};
 use crate::plan::Span;
@@ -52,7 +52,7 @@ fn seal_packet(old: &[u8], new: &mut [u8])
         return;
     }
     let plan = segment_plan(old);
-    if plan == segment_plan(new) {
+    if has_same_segment(old, new, &plan) {
         seal_header(old, new);
         seal_segment(old, new, &plan);
     }
@@ -60,7 +60,7 @@ fn seal_packet(old: &[u8], new: &mut [u8])
 
 /// Do two packets have IPv4 headers with the same places and fixed values?
 fn has_same_headers(old: &[u8], new: &[u8]) -> bool
-    ensures { result ≡ (is_ipv4_of old.now && (is_ipv4_of new.now && ((length old.now == length new.now) && ((header_len_of old.now == header_len_of new.now) && same_header_plan (header_plan_of old.now) (header_plan_of new.now))))) }
+    ensures { result ≡ has_same_headers_of old.now new.now }
 {
     is_ipv4(old)
         && is_ipv4(new)
@@ -78,6 +78,19 @@ fn has_same_header(old: &[u8], new: &[u8]) -> bool
 {
     (old.len() <= PROTOCOL || old[PROTOCOL] == new[PROTOCOL])
         && (old.len() < TOTAL_LEN + 2 || word(old, TOTAL_LEN) == word(new, TOTAL_LEN))
+}
+
+/// Do the transport headers of two packets with the same header have the same places and fixed values,
+/// where the old one has this plan?
+fn has_same_segment(old: &[u8], new: &[u8], plan: &SegmentPlan) -> bool
+    requires plan { plan.now ≡ segment_plan_of old.now }
+    requires headers { has_same_headers_of old.now new.now ≡ true }
+    ensures { result ≡ same_segment_plan (segment_plan_of old.now) (segment_plan_of new.now) }
+{
+    if plan.src_port.is_none() {
+        return *plan == segment_plan(new);
+    }
+    has_transport(new) && (old[PROTOCOL] == UDP || has_data_of(new, plan))
 }
 
 /// Adjusts the header checksum of a packet of the same lengths.
