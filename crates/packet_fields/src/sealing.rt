@@ -153,7 +153,7 @@ fn segment_change(old: &[u8], new: &[u8], start: usize, payload: Option<Span>) -
         .with_bytes(&old[SRC_IP..SRC_IP + 8], &new[SRC_IP..SRC_IP + 8])
         .with_bytes(&old[start..start + 4], &new[start..start + 4]);
     match payload {
-        Some(span) => change.with_bytes(part(old, span), part(new, span)),
+        Some(span) => change.with_data(part(old, span), part(new, span)),
         None => change,
     }
 }

@@ -49,9 +49,6 @@ impl Change {
         ensures is_some { result.is_some ≡ (self.is_some || is_changed (words old.now) (words new.now)) }
         ensures bound { result.sum ≤ self.sum + 65536 * length old.now + 65536 }
     {
-        if old == new {
-            return self;
-        }
         let mut change = self;
         let mut old_rest = old;
         let mut new_rest = new;
@@ -64,6 +61,21 @@ impl Change {
             return change.with_word(u16::from(old_rest[0]) * 256, u16::from(new_rest[0]) * 256);
         }
         change
+    }
+
+    /// The same of data, which may be long and seldom changes: to compare it is far cheaper than to sum it.
+    pub fn with_data(self, old: &[u8], new: &[u8]) -> Self
+        requires same { length old.now ≡ length new.now }
+        requires short { length old.now ≤ 2 ^ 17 }
+        requires room { self.sum < 2 ^ 36 }
+        ensures sum { result.sum ≡ self.sum + change_sum (words old.now) (words new.now) }
+        ensures is_some { result.is_some ≡ (self.is_some || is_changed (words old.now) (words new.now)) }
+        ensures bound { result.sum ≤ self.sum + 65536 * length old.now + 65536 }
+    {
+        if old == new {
+            return self;
+        }
+        self.with_bytes(old, new)
     }
 
     /// A checksum after the change.

@@ -26,11 +26,11 @@ returns-in-Some c =
     let second : c.with_bytes-change.result.sum ≤ 65536 * 14 = omega (arith, first, c.with_bytes-change.ensures.bound, length-take 4 (drop c.args.start c.args.old.now)) in
     let s = c.in-Some.span in
     let short : s.len ≤ 65537 = MatchOption-at_some ⊤ (λ s. s.len ≤ 65537) s c.in-Some.is c.requires.short in
-    let third : c.with_bytes-in-Some.result.sum < 65536 * 70000 = omega (arith, second, short, c.part.ensures.len, c.with_bytes-in-Some.ensures.bound) in
+    let third : c.with_data.result.sum < 65536 * 70000 = omega (arith, second, short, c.part.ensures.len, c.with_data.ensures.bound) in
     let four : c.args.start + 4 - c.args.start ≡ 4 = omega arith in
-    let whole = segment_changed_some c.args.start s c.args.old.now c.args.new.now c.none.result c.with_bytes.result c.with_bytes-change.result c.with_bytes-in-Some.result c.requires.same c.requires.addresses c.requires.ports c.none.ensures
+    let whole = segment_changed_some c.args.start s c.args.old.now c.args.new.now c.none.result c.with_bytes.result c.with_bytes-change.result c.with_data.result c.requires.same c.requires.addresses c.requires.ports c.none.ensures
     (record { total = c.with_bytes.ensures.sum; some_word = c.with_bytes.ensures.is_some; small = omega (arith, first) })
     (step_at (take 4 (drop c.args.start c.args.old.now)) (take 4 (drop c.args.start c.args.new.now)) (take (c.args.start + 4 - c.args.start) (drop c.args.start c.args.old.now)) (take (c.args.start + 4 - c.args.start) (drop c.args.start c.args.new.now)) c.with_bytes.result c.with_bytes-change.result
     (ap (λ (n : ℕ). take n (drop c.args.start c.args.old.now)) four) (ap (λ (n : ℕ). take n (drop c.args.start c.args.new.now)) four) c.with_bytes-change.ensures.sum c.with_bytes-change.ensures.is_some (omega (arith, second)))
-    (step_at (take s.len (drop s.at c.args.old.now)) (take s.len (drop s.at c.args.new.now)) c.part.result.now c.part-in-Some.result.now c.with_bytes-change.result c.with_bytes-in-Some.result c.part.ensures.part c.part-in-Some.ensures.part c.with_bytes-in-Some.ensures.sum c.with_bytes-in-Some.ensures.is_some (omega (arith, third))) in
-    subst (λ (o : Option Span). IsChange (segment_bytes c.args.start o c.args.old.now) (segment_bytes c.args.start o c.args.new.now) c.with_bytes-in-Some.result) (sym c.in-Some.is) whole
+    (step_at (take s.len (drop s.at c.args.old.now)) (take s.len (drop s.at c.args.new.now)) c.part.result.now c.part-in-Some.result.now c.with_bytes-change.result c.with_data.result c.part.ensures.part c.part-in-Some.ensures.part c.with_data.ensures.sum c.with_data.ensures.is_some (omega (arith, third))) in
+    subst (λ (o : Option Span). IsChange (segment_bytes c.args.start o c.args.old.now) (segment_bytes c.args.start o c.args.new.now) c.with_data.result) (sym c.in-Some.is) whole

@@ -1,9 +1,8 @@
 use Rattle.std.proofs.Common.{◌+◌, ◌*◌, ◌||◌, not, ◌∙◌, ℕ, arith}
 use Rattle.std.specs.Prelude.{◌==◌}
-use Rattle.std.specs.Cmp.Lexicographic.{same_text}
 use Rattle.std.proofs.lemmas.List.{take_rest}
 use Rattle.packet_fields.proofs.Overwriting.{cong2}
-use Rattle.packet_fields.proofs.WordSums.{at_words_more, at_words_one, at_words_none, same_words, word_change}
+use Rattle.packet_fields.proofs.WordSums.{at_words_more, at_words_one, at_words_none, word_change}
 use Rattle.packet_fields.proofs.sums.Change.with_bytes.Goals as goal
 
 pub words-preserved : goal.words-preserved
@@ -34,9 +33,3 @@ returns-clause-sum c =
 pub returns-clause-is_some : goal.returns-clause-is_some
 returns-clause-is_some c =
     (at_words_none c.args.self c.words.change c.args.old.now c.args.new.now c.words.old_rest.now c.words.new_rest.now c.words.invariant (omega arith)).changed
-
-pub returns-then-eq-clause-sum : goal.returns-then-eq-clause-sum
-returns-then-eq-clause-sum c = (same_words c.args.self c.args.old.now c.args.new.now (same_text c.args.old.now c.args.new.now c.if-eq.ensures)).sum_is
-
-pub returns-then-eq-clause-is_some : goal.returns-then-eq-clause-is_some
-returns-then-eq-clause-is_some c = (same_words c.args.self c.args.old.now c.args.new.now (same_text c.args.old.now c.args.new.now c.if-eq.ensures)).changed
