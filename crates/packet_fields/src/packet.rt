@@ -145,6 +145,7 @@ pub fn has_transport(packet: &[u8]) -> bool
 }
 
 /// The places of the IPv4 header.
+#[inline(always)]
 pub fn header_plan(packet: &[u8]) -> HeaderPlan
     ensures plan { result ≡ header_plan_of packet.now }
     ensures tos { IfSome result.tos (λ s. s.at + s.len ≤ length packet.now) }
@@ -203,6 +204,7 @@ fn datagram_end(packet: &[u8]) -> usize
 }
 
 /// Where the data behind a transport header that begins at `start` lies, below `end`.
+#[inline(always)]
 fn data_span(packet: &[u8], start: usize, end: usize) -> Option<Span>
     requires there { IsTrue (has_transport_of packet.now) }
     requires room { 12 ≤ length packet.now }
@@ -226,6 +228,7 @@ fn data_span(packet: &[u8], start: usize, end: usize) -> Option<Span>
 }
 
 /// The places of the transport header.
+#[inline(always)]
 pub fn segment_plan(packet: &[u8]) -> SegmentPlan
     ensures plan { result ≡ segment_plan_of packet.now }
     ensures src_port { IfSome result.src_port (λ s. s.at + s.len ≤ length packet.now) }

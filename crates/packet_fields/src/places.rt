@@ -97,6 +97,7 @@ fn tag_place(frame: &[u8], start: usize) -> Option<Span>
 }
 
 /// The span that lies `by` bytes further behind.
+#[inline(always)]
 fn moved(span: Option<Span>, by: usize) -> Option<Span>
     requires { IfSome span (λ s. s.at + s.len + by ≤ usize.MAX) }
     ensures { result ≡ option_map (moved_of by) span }
