@@ -181,14 +181,19 @@ unfolding merged_parts
 merged_by_op f op first old now is s =
     ap (λ (b : Option ℕ). part_behind f now b (packet_parts first f)) (ap branch_of is ∙ op_branch f (last_writer old f)) ∙ same_behind f old now (last_writer old f) (packet_parts first f) s
 
+-- the part at the index is still the first
+pub way_here : (f : Field) (i : ℕ) (first was : PlainApart) (old : List Arrival) → number_of f ≡ i → was ≡ on_way i first old → packet_parts was f ≡ packet_parts first f
+way_here f i first was old is e = ap (λ (m : Parts). m f) (way_parts i first was old e) ∙ way_by i (merged_parts first old) (packet_parts first) f false (lt_self (number_of f) i is)
+
 -- one part more
+pub put_more : (f : Field) (i : ℕ) (part : Option PlainPart) (first was next : PlainApart) (old : List Arrival) → number_of f ≡ i → part ≡ merged_parts first old f → was ≡ on_way i first old → next ≡ with_parts was (changed f part (packet_parts was)) → next ≡ on_way (i + 1) first old
+put_more f i part first was next old is made e step =
+    step
+    ∙ (ap (λ (w : PlainApart). with_parts w (changed f part (packet_parts was))) e
+    ∙ (ap (λ (m : Parts). with_parts first (changed f part m)) (way_parts i first was old e)
+    ∙ ap (λ (m : Parts). with_parts first m) (fun_ext (λ g. way_next f i (merged_parts first old) (packet_parts first) part g is made))))
+
+-- by an operation
 pub put_next : (f : Field) (i : ℕ) (op : MergeOp) (first was next : PlainApart) (old now : List Arrival) → number_of f ≡ i → op ≡ op_of old f → SameIn f old now → was ≡ on_way i first old → next ≡ with_parts was (changed f (part_behind f now (branch_of op) (packet_parts was f)) (packet_parts was)) → next ≡ on_way (i + 1) first old
 put_next f i op first was next old now is made s e step =
-    let done = merged_parts first old in
-    let parts : packet_parts was ≡ way i done (packet_parts first) = way_parts i first was old e in
-    let here : packet_parts was f ≡ packet_parts first f = ap (λ (m : Parts). m f) parts ∙ way_by i done (packet_parts first) f false (lt_self (number_of f) i is) in
-    let part : part_behind f now (branch_of op) (packet_parts was f) ≡ done f = ap (λ (o : Option PlainPart). part_behind f now (branch_of op) o) here ∙ merged_by_op f op first old now made s in
-    step
-    ∙ (ap (λ (w : PlainApart). with_parts w (changed f (part_behind f now (branch_of op) (packet_parts was f)) (packet_parts was))) e
-    ∙ (ap (λ (m : Parts). with_parts first (changed f (part_behind f now (branch_of op) (packet_parts was f)) m)) parts
-    ∙ ap (λ (m : Parts). with_parts first m) (fun_ext (λ g. way_next f i done (packet_parts first) (part_behind f now (branch_of op) (packet_parts was f)) g is part))))
+    put_more f i (part_behind f now (branch_of op) (packet_parts was f)) first was next old is (ap (λ (o : Option PlainPart). part_behind f now (branch_of op) o) (way_here f i first was old is e) ∙ merged_by_op f op first old now made s) e step

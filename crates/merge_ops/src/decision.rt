@@ -87,7 +87,7 @@ ghost use Rattle.packet_fields.specs.declared.field.Field.{Field};
 ghost use Rattle.action_profile.specs.FieldSets.{all_fields, has};
 ghost use Rattle.merge_ops.specs.Taking.{writes_in};
 
-pub(crate) fn ops_of(arrivals: &[Arrival]) -> [MergeOp; 10]
+fn ops_of(arrivals: &[Arrival]) -> [MergeOp; 10]
     requires { length arrivals.now < 2 ^ 32 }
     ensures { result ≡ map (op_for arrivals.now) all_fields }
 {

@@ -53,7 +53,7 @@ pub fn merge<R: Wait>(rt: &R, base: Base, arrivals: &mut Vec<Arrival>) -> Merged
 }
 
 /// Puts the part of each field in.
-pub(crate) fn put_parts(gathered: &mut Gathered, arrivals: &mut [Arrival], ops: &[MergeOp; 10])
+fn put_parts(gathered: &mut Gathered, arrivals: &mut [Arrival], ops: &[MergeOp; 10])
     requires listed { gathered.old.parts ≡ as_list (packet_parts gathered.old) }
     requires ops { ops.now ≡ map (op_of arrivals.old) every_field }
     ensures parts { gathered.new ≡ with_parts gathered.old (merged_parts gathered.old arrivals.old) }

@@ -20,13 +20,13 @@ finish-requires-2 c =
     let base = c.requires.0 in
     let came = c.requires.2 in
     let is : c.part-gathered.result.0 ≡ base = same_Some c.part-gathered.result.0 base (sym c.part-gathered.ensures.base ∙ c.requires.1) in
-    let made : c.put_parts.new.gathered ≡ with_parts base (merged_parts base (Version v ∷ [])) =
-    c.put_parts.ensures.parts
+    let made : c.put_all_back.new.gathered ≡ with_parts base (merged_parts base (Version v ∷ [])) =
+    c.put_all_back.ensures.parts
     ∙ (ap (λ (w : PlainApart). with_parts w (merged_parts w (Version c.part-gathered.result.1 ∷ []))) is
     ∙ (ap (λ (w : PlainVersion). with_parts base (merged_parts base (Version w ∷ []))) c.part-gathered.ensures.version
     ∙ ap (with_parts base) (alone_merged base v c.written_is_own.ensures.unwritten))) in
     let kept : AreTags (packet_parts c.part-gathered.result.0 Tag) = subst (λ (w : PlainApart). AreTags (packet_parts w Tag)) (sym is) (kept_tags came.whole came.touches base (Version v ∷ []) came.from) in
-    whole_behind came.whole came.touches base c.put_parts.new.gathered (Version v ∷ []) (map (op_of (Version v ∷ [])) all_fields) came.from (alone_goes_on v) made (c.put_parts.ensures.tags kept)
+    whole_behind came.whole came.touches base c.put_all_back.new.gathered (Version v ∷ []) (map (op_of (Version v ∷ [])) all_fields) came.from (alone_goes_on v) made (c.put_all_back.ensures.tags kept)
 
 pub returns : goal.returns
 returns c =
@@ -34,7 +34,7 @@ returns c =
     let g = c.part-gathered.result.0 in
     let made : c.finish-2.result ≡ merged_packet g (Version v ∷ []) =
     c.finish-2.ensures
-    ∙ (c.put_parts.ensures.parts
+    ∙ (c.put_all_back.ensures.parts
     ∙ (ap (λ (w : PlainVersion). with_parts g (merged_parts g (Version w ∷ []))) c.part-gathered.ensures.version
     ∙ ap (with_parts g) (alone_merged g v c.written_is_own.ensures.unwritten))) in
     subst (λ (o : Option PlainApart). IfSome o (λ base. c.finish-2.result ≡ merged_packet base (Version v ∷ []))) (sym c.part-gathered.ensures.base) made
