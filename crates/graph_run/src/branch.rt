@@ -12,6 +12,7 @@ ghost use Rattle.graph_run.specs.Staging.{Holds, IsReady, IsCarried, IsCarriedBy
 use chain_walk::values_stay_well_formed;
 use merge_ops::Arrival;
 use net_functions::Function;
+use nfp_outside::Gate;
 use packet_version::{Verdict, Version};
 use std::alloc::AllocError;
 use std::sync::Wait;
@@ -43,9 +44,12 @@ pub fn step_on<F: Function, R: Wait>(
 }
 
 /// The functions of a branch at these chain positions, one after another on a version of a packet, until one
-/// drops it.
-pub(crate) fn run_branch<F: Function, R: Wait>(
+/// drops it. Each passes the gate before its step.
+pub(crate) fn run_branch<F: Function, G: Gate, R: Wait>(
     rt: &R,
+    gate: &G,
+    chain: u32,
+    number: u32,
     functions: &mut [F],
     positions: &[u32],
     version: Version,
@@ -61,6 +65,7 @@ pub(crate) fn run_branch<F: Function, R: Wait>(
     values_stay_well_formed::<F>();
     let mut version = version;
     for position in positions {
+        gate.pass(rt, chain, *position, number);
         let function = &mut functions[*position as usize - 1];
         match step_on(rt, function, version, *position)? {
             Arrival::Version(after) => version = after,

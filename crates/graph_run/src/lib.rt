@@ -17,7 +17,7 @@
 //! whole packet (`packet_version`); a stage of branches that are not forbidden beside each other gives what
 //! its functions give one after another (`graph_law`); and a whole frame walks as its fields do
 //! (`chain_walk`). Here the code is tied to these laws: a branch (`run_branch`), a stage, a packet, a
-//! burst.
+//! burst. [`run_gated`] does the same past a gate.
 //!
 //! Checksums are left out (frames that go out are not sealed), and so are threads.
 #![tactic(auto)]
@@ -35,5 +35,5 @@ pub use laws::{
     branches_hold_what_is_named, dealt_versions_go_on, due_copies_are_counted,
     merged_packets_go_on, versions_go_on,
 };
-pub use plain::{count_adders, is_of, run_plain};
+pub use plain::{count_adders, is_of, run_gated, run_plain};
 pub use running::Running;

@@ -11,15 +11,19 @@ use graph_compile::{Graph, lawful_graph_is_staged, stages_rise};
 use graph_law::{fields_stay, graph_is_chain, profiles_stay, stage_reached};
 use merge_ops::Merged;
 use net_functions::Function;
+use nfp_outside::Gate;
 use packet_version::{Tally, join, split};
 use std::alloc::{AllocError, Global};
 use std::sync::Wait;
 
 /// Leads a packet, captured at `time` in nanoseconds, through the stages of a graph, one after another, until
 /// it is dropped or goes out. So many of the functions add a tag.
-pub(crate) fn run_packet<F: Function, R: Wait>(
+pub(crate) fn run_packet<F: Function, G: Gate, R: Wait>(
     rt: &R,
     alloc: Global,
+    gate: &G,
+    chain: u32,
+    number: u32,
     functions: &mut [F],
     graph: &Graph,
     taggers: u32,
@@ -45,7 +49,9 @@ pub(crate) fn run_packet<F: Function, R: Wait>(
     frames_are_built_again::<F>();
     let mut whole = split(alloc, frame, time, taggers)?;
     for stage in graph.stages.as_slice() {
-        match run_stage(rt, alloc, functions, stage, whole, tally)? {
+        match run_stage(
+            rt, alloc, gate, chain, number, functions, stage, whole, tally,
+        )? {
             Merged::Whole(next) => whole = next,
             Merged::Gone(position) => return Ok(Fate::Gone(position)),
             Merged::Short => return Err(AllocError),

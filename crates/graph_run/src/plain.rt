@@ -13,6 +13,7 @@ use chain_walk::{Fate, packets_walk_in_a_row};
 use classifier::{Burst, Item};
 use graph_compile::Graph;
 use net_functions::Function;
+use nfp_outside::{Gate, OpenGate};
 use packet_version::Tally;
 use pcap_io::Unit;
 use std::alloc::{AllocError, Global};
@@ -38,17 +39,38 @@ pub fn run_plain<F: Function + Drop, R: Wait>(
     ensures leads { IfOk result (λ ran. Leads F.behaviour run (packets_taken unit chain burst.now.items) tally.old tally.new ran.0 ran.1.items) }
     ensures refused { OnErr result (RaisesUpTo (copies_made run.graph.stages (packets_taken unit chain burst.now.items) (fates F.behaviour run.functions (packets_taken unit chain burst.now.items))) tally.old tally.new) }
 {
+    run_gated(rt, alloc, run, burst, unit, chain, tally, &OpenGate)
+}
+
+/// The same as [`run_plain`] does, and each step of a function passes the gate first, with the numbers of the chain, the
+/// function and the packet's record.
+pub fn run_gated<F: Function + Drop, G: Gate, R: Wait>(
+    rt: &R,
+    alloc: Global,
+    run: Running<F>,
+    burst: &Burst,
+    unit: Unit,
+    chain: u32,
+    tally: &mut Tally,
+    gate: &G,
+) -> Result<(Running<F>, Vec<Fate>), AllocError>
+    requires few { length burst.now.items ≤ 65536 }
+    ensures leads { IfOk result (λ ran. Leads F.behaviour run (packets_taken unit chain burst.now.items) tally.old tally.new ran.0 ran.1.items) }
+    ensures refused { OnErr result (RaisesUpTo (copies_made run.graph.stages (packets_taken unit chain burst.now.items) (fates F.behaviour run.functions (packets_taken unit chain burst.now.items))) tally.old tally.new) }
+{
     packets_walk_in_a_row::<F>();
     let Running {
         mut functions,
         graph,
     } = run;
     let taggers = count_adders(&functions);
-    let mut fates = Vec::new(alloc);
-    for item in burst.items.as_slice() {
+    let items = burst.items.as_slice();
+    let mut fates = Vec::with_capacity(alloc, items.len())?;
+    for item in items {
         run_item(
             rt,
             alloc,
+            gate,
             &mut functions,
             &graph,
             taggers,
@@ -63,9 +85,10 @@ pub fn run_plain<F: Function + Drop, R: Wait>(
 }
 
 /// Leads a packet through the graph where it is of the chain, and adds its fate to those that ended before.
-fn run_item<F: Function, R: Wait>(
+fn run_item<F: Function, G: Gate, R: Wait>(
     rt: &R,
     alloc: Global,
+    gate: &G,
     functions: &mut [F],
     graph: &Graph,
     taggers: u32,
@@ -87,7 +110,19 @@ fn run_item<F: Function, R: Wait>(
     }
     let time = item.packet.time(unit);
     let frame = item.packet.frame.bytes();
-    let fate = run_packet(rt, alloc, functions, graph, taggers, time, frame, tally)?;
+    let fate = run_packet(
+        rt,
+        alloc,
+        gate,
+        chain,
+        item.number,
+        functions,
+        graph,
+        taggers,
+        time,
+        frame,
+        tally,
+    )?;
     ended.push(fate)?;
     Ok(())
 }

@@ -13,14 +13,18 @@ use merge_ops::{
     Merged, last_writer_is_greatest, merge, merge_only, merged_is_written_last, written_is_made,
 };
 use net_functions::Function;
+use nfp_outside::Gate;
 use packet_version::{Apart, Tally, deal, deal_whole};
 use std::alloc::{AllocError, Global};
 use std::sync::Wait;
 
 /// Leads a packet through the branches of a stage, one branch after another.
-pub(crate) fn run_stage<F: Function, R: Wait>(
+pub(crate) fn run_stage<F: Function, G: Gate, R: Wait>(
     rt: &R,
     alloc: Global,
+    gate: &G,
+    chain: u32,
+    number: u32,
     functions: &mut [F],
     stage: &Stage,
     whole: Apart,
@@ -34,16 +38,23 @@ pub(crate) fn run_stage<F: Function, R: Wait>(
     ensures refused { OnErr result (RaisesUpTo (stage_copies stage.now whole) tally.old tally.new) }
 {
     if stage.branches.as_slice().len() == 1 {
-        run_only(rt, alloc, functions, stage, whole, tally)
+        run_only(
+            rt, alloc, gate, chain, number, functions, stage, whole, tally,
+        )
     } else {
-        run_branches(rt, alloc, functions, stage, whole, tally)
+        run_branches(
+            rt, alloc, gate, chain, number, functions, stage, whole, tally,
+        )
     }
 }
 
 /// Leads a packet through the only branch of a stage, which has it whole.
-fn run_only<F: Function, R: Wait>(
+fn run_only<F: Function, G: Gate, R: Wait>(
     rt: &R,
     alloc: Global,
+    gate: &G,
+    chain: u32,
+    number: u32,
     functions: &mut [F],
     stage: &Stage,
     whole: Apart,
@@ -65,14 +76,17 @@ fn run_only<F: Function, R: Wait>(
     let touch = stage.parts.touches.as_slice()[0];
     let version = deal_whole(alloc, whole, touch, &stage.parts.modes, tally)?;
     let positions = stage.branches.as_slice()[0].positions.as_slice();
-    let arrival = run_branch(rt, functions, positions, version)?;
+    let arrival = run_branch(rt, gate, chain, number, functions, positions, version)?;
     Ok(merge_only(arrival))
 }
 
 /// Leads a packet through the branches of a stage, each of which has a version of it.
-fn run_branches<F: Function, R: Wait>(
+fn run_branches<F: Function, G: Gate, R: Wait>(
     rt: &R,
     alloc: Global,
+    gate: &G,
+    chain: u32,
+    number: u32,
     functions: &mut [F],
     stage: &Stage,
     whole: Apart,
@@ -96,7 +110,7 @@ fn run_branches<F: Function, R: Wait>(
     let mut index = 0;
     for version in versions {
         let positions = branches[index].positions.as_slice();
-        let arrival = run_branch(rt, functions, positions, version)?;
+        let arrival = run_branch(rt, gate, chain, number, functions, positions, version)?;
         arrivals.push(arrival)?;
         index += 1;
     }

@@ -4,20 +4,20 @@ use Rattle.graph_run.specs.Packets.{packets_taken}
 use Rattle.graph_run.proofs.Bursting.{HasRunItems, items_begin, walked_copies}
 use Rattle.graph_run.proofs.Led.{led}
 use Rattle.graph_run.proofs.Single.{wrote_back, item_taken, item_refused}
-use Rattle.graph_run.proofs.plain.run_plain.Goals as goal
+use Rattle.graph_run.proofs.plain.run_gated.Goals as goal
 
 pub loop-item-init : goal.loop-item-init
-loop-item-init g c = subst (λ r. HasRunItems g.F.Function.behaviour c.run.inside.graph c.args.unit c.args.chain c.args.burst.now.items r.functions c.run.inside.functions.items 0 c.new-fates.result.items c.args.tally.now c.args.tally.now) c.run.view_is
-    (items_begin g.F.Function.behaviour c.run.inside.graph c.args.unit c.args.chain c.args.burst.now.items c.run.inside.functions.items c.new-fates.result.items c.args.tally.now c.new-fates.ensures.items)
+loop-item-init g c = subst (λ r. HasRunItems g.F.Function.behaviour c.run.inside.graph c.args.unit c.args.chain c.args.burst.now.items r.functions c.run.inside.functions.items 0 c.in_ok-fates.fates.items c.args.tally.now c.args.tally.now) c.run.view_is
+    (items_begin g.F.Function.behaviour c.run.inside.graph c.args.unit c.args.chain c.args.burst.now.items c.run.inside.functions.items c.in_ok-fates.fates.items c.args.tally.now c.in_ok-fates.ensures.items)
 
 pub returns-in_err-run_item-clause-refused : goal.returns-in_err-run_item-clause-refused
 returns-in_err-run_item-clause-refused g c = let within = subst (λ r. RaisesUpTo (walked_copies g.F.Function.behaviour r.graph.stages c.args.run.functions (packets_taken c.args.unit c.args.chain c.args.burst.now.items)) c.args.tally.now c.run_item.new.tally) c.run.view_is (item_refused g.F.Function.behaviour c.run.inside.graph c.args.unit c.args.chain c.args.burst.now.items c.args.run.functions c.loop-item.functions.items c.deref_mut.result.now c.loop-item.item-index c.loop-item.fates.items c.args.tally.now c.loop-item.tally c.run_item.new.tally c.item-item.result
-    c.packets_walk_in_a_row.ensures.fates c.packets_walk_in_a_row.ensures.functions c.packets_walk_in_a_row.ensures.count c.loop-item.invariant (subst (λ l. c.loop-item.item-index < length l) c.as_slice-item-items.ensures c.loop-item-test.true) (c.item-item.is ∙ ap (λ l. get_or l c.loop-item.item-index c.item-item.result) c.as_slice-item-items.ensures) c.deref_mut.ensures.value c.in_err-run_item.ensures.refused) in search rules
+    c.packets_walk_in_a_row.ensures.fates c.packets_walk_in_a_row.ensures.functions c.packets_walk_in_a_row.ensures.count c.loop-item.invariant (subst (λ l. c.loop-item.item-index < length l) c.as_slice-items.ensures c.loop-item-test.true) (c.item-item.is ∙ ap (λ l. get_or l c.loop-item.item-index c.item-item.result) c.as_slice-items.ensures) c.deref_mut.ensures.value c.in_err-run_item.ensures.refused) in search rules
 
 pub loop-item-preserved : goal.loop-item-preserved
 loop-item-preserved g c = item_taken g.F.Function.behaviour c.run.inside.graph c.args.unit c.args.chain c.args.burst.now.items c.args.run.functions c.loop-item.functions.items c.deref_mut.result.now c.run_item.new.functions _ c.loop-item.item-index c.loop-item.fates.items _ c.args.tally.now c.loop-item.tally c.run_item.new.tally c.item-item.result
-    c.packets_walk_in_a_row.ensures.fates c.packets_walk_in_a_row.ensures.functions c.packets_walk_in_a_row.ensures.count g.met.F.Function.keeps c.loop-item.invariant (subst (λ l. c.loop-item.item-index < length l) c.as_slice-item-items.ensures c.loop-item-test.true) (c.item-item.is ∙ ap (λ l. get_or l c.loop-item.item-index c.item-item.result) c.as_slice-item-items.ensures) c.deref_mut.ensures.value (wrote_back _ c.run_item.new.functions _ (c.run_item.auto.functions ∙ c.deref_mut.ensures.len)) c.in_ok-run_item.ensures.functions c.in_ok-run_item.ensures.fates c.in_ok-run_item.ensures.counted
+    c.packets_walk_in_a_row.ensures.fates c.packets_walk_in_a_row.ensures.functions c.packets_walk_in_a_row.ensures.count g.met.F.Function.keeps c.loop-item.invariant (subst (λ l. c.loop-item.item-index < length l) c.as_slice-items.ensures c.loop-item-test.true) (c.item-item.is ∙ ap (λ l. get_or l c.loop-item.item-index c.item-item.result) c.as_slice-items.ensures) c.deref_mut.ensures.value (wrote_back _ c.run_item.new.functions _ (c.run_item.auto.functions ∙ c.deref_mut.ensures.len)) c.in_ok-run_item.ensures.functions c.in_ok-run_item.ensures.fates c.in_ok-run_item.ensures.counted
 
 pub returns-clause-leads : goal.returns-clause-leads
 returns-clause-leads g c = led g.F.Function.behaviour c.args.run c.run.inside.graph c.args.unit c.args.chain c.args.burst.now.items c.loop-item.functions.items c.loop-item.item-index c.loop-item.fates.items c.args.tally.now c.loop-item.tally g.met.F.Function.keeps
-    c.packets_walk_in_a_row.ensures.within (ap (λ r. r.graph) c.run.view_is) (subst (λ l. length l ≤ c.loop-item.item-index) c.as_slice-item-items.ensures c.loop-item-test.false) c.loop-item.invariant
+    c.packets_walk_in_a_row.ensures.within (ap (λ r. r.graph) c.run.view_is) (subst (λ l. length l ≤ c.loop-item.item-index) c.as_slice-items.ensures c.loop-item-test.false) c.loop-item.invariant
