@@ -10,4 +10,3 @@ pub mod Dealt
 pub mod Started
 pub mod Rowed
 pub mod Single
-pub mod Lots

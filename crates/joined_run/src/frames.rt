@@ -27,8 +27,8 @@ pub fn split_packets(
     ensures numbers { IfOk result (λ apart. length apart.0.items ≡ length apart.1.items) }
     ensures packets { IfOk result (λ apart. AreSplit taggers (packets_taken unit chain items.now) apart.1.items) }
 {
-    let mut numbers = Vec::new(alloc);
-    let mut packets = Vec::new(alloc);
+    let mut numbers = Vec::with_capacity(alloc, items.len())?;
+    let mut packets = Vec::with_capacity(alloc, items.len())?;
     for item in items {
         if is_of(item, chain) {
             let frame = item.packet.frame.bytes();

@@ -9,10 +9,10 @@ ghost use Rattle.graph_run.specs.Packets.{packets_taken};
 use crate::frames::{join_packets, split_packets};
 use crate::laws::bursts_in_parts_lead;
 use crate::stages::run_stages;
-use chain_walk::{Fate, packets_walk_in_a_row};
+use chain_walk::Fate;
 use classifier::{Burst, Item};
 use graph_compile::{Graph, Stage};
-use graph_run::{Running, count_adders};
+use graph_run::{Running, count_adders, run_gated};
 use net_functions::Function;
 use nfp_outside::Gate;
 use packet_version::Tally;
@@ -25,7 +25,7 @@ use std::thread::Threads;
 /// stage and then all through the next, and gives the fate of each, in their order. The branches of a stage
 /// run side by side, and behind it so many mergers, of which there may be 1 to 16: merger `i` has the
 /// packets whose number among those of the chain, counted from 0, leaves `i` when divided by their count.
-/// Where every stage has one branch, the packets go in lots, one lot through all stages before the next.
+/// Where every stage has one branch, nothing runs side by side, and each packet goes through all stages before the next.
 /// Each step of a function passes the gate first. Frames that go out are not sealed yet.
 ///
 /// Every packet ends as if it walked through the functions of the chain one after another, each as the
@@ -52,17 +52,13 @@ pub fn run_joined<F: Function + Drop + Send, G: Gate + Sync, R: Threads + Wait +
     let (functions, graph) = run.into_parts();
     let single = is_single(&graph);
     let run = Running::new(functions, graph);
-    let items = burst.items.as_slice();
     if single {
-        run_in_lots(rt, alloc, gate, run, items, unit, chain, mergers, tally)
+        run_gated(rt, alloc, run, burst, unit, chain, tally, gate)
     } else {
-        run_lot(rt, alloc, gate, run, items, unit, chain, mergers, tally)
+        let items = burst.items.as_slice();
+        run_at_once(rt, alloc, gate, run, items, unit, chain, mergers, tally)
     }
 }
-
-/// So many items at most are led through a graph at once where nothing runs side by side: their packets in parts
-/// stay in the caches.
-const LOT: usize = 32;
 
 /// Has every stage one branch, so that nothing runs side by side?
 fn is_single(graph: &Graph) -> bool
@@ -78,37 +74,9 @@ fn has_one_branch(stage: &Stage) -> bool
     stage.branches.as_slice().len() == 1
 }
 
-/// Leads the packets of these items that are of the chain through the graph, lot by lot, and gives the fate of each.
-fn run_in_lots<F: Function + Drop + Send, G: Gate + Sync, R: Threads + Wait + Sync>(
-    rt: &R,
-    alloc: Global,
-    gate: &G,
-    run: Running<F>,
-    items: &[Item],
-    unit: Unit,
-    chain: u32,
-    mergers: u32,
-    tally: &mut Tally,
-) -> Result<(Running<F>, Vec<Fate>), AllocError>
-    requires few { length items.now ≤ 65536 }
-    requires some_mergers { 1 ≤ mergers }
-    requires few_mergers { mergers ≤ 16 }
-    ensures leads { IfOk result (λ ran. Leads F.behaviour run (packets_taken unit chain items.now) tally.old tally.new ran.0 ran.1.items) }
-    ensures refused { OnErr result (RaisesUpTo (copies_made run.graph.stages (packets_taken unit chain items.now) (fates F.behaviour run.functions (packets_taken unit chain items.now))) tally.old tally.new) }
-{
-    packets_walk_in_a_row::<F>();
-    let mut run = run;
-    let mut fates = Vec::with_capacity(alloc, items.len())?;
-    for lot in items.chunks(LOT) {
-        let (after, mut ended) = run_lot(rt, alloc, gate, run, lot, unit, chain, mergers, tally)?;
-        fates.append(&mut ended)?;
-        run = after;
-    }
-    Ok((run, fates))
-}
-
-/// Leads the packets of these items that are of the chain through the graph, all at once, and gives the fate of each.
-fn run_lot<F: Function + Drop + Send, G: Gate + Sync, R: Threads + Wait + Sync>(
+/// Leads the packets of these items that are of the chain through the graph, all through one stage before the next, and gives
+/// the fate of each.
+fn run_at_once<F: Function + Drop + Send, G: Gate + Sync, R: Threads + Wait + Sync>(
     rt: &R,
     alloc: Global,
     gate: &G,

@@ -7,7 +7,7 @@ use Rattle.joined_run.proofs.frames.split_packets.Goals as goal
 use Rattle.joined_run.proofs.frames.split_packets.Goals.{then-is_of+in_ok-whole+in_ok-push+in_ok-push-2, else-is_of}
 
 pub loop-item-init : goal.loop-item-init
-loop-item-init c = split_none c.args.taggers c.args.unit c.args.chain c.args.items.now c.new-numbers.result.items c.new-packets.result.items c.new-numbers.ensures.items c.new-packets.ensures.items
+loop-item-init c = split_none c.args.taggers c.args.unit c.args.chain c.args.items.now c.in_ok-numbers.numbers.items c.in_ok-packets.packets.items c.in_ok-numbers.ensures.items c.in_ok-packets.ensures.items
 
 pub loop-item-preserved : goal.loop-item-preserved
 loop-item-preserved c =

@@ -3,7 +3,7 @@ use Rattle.graph_run.specs.Packets.{packets_taken}
 use Rattle.joined_run.specs.Ended.{HasEnded}
 use Rattle.joined_run.proofs.Apart.{split_count, taken_few}
 use Rattle.joined_run.proofs.Walked.{ended_so, split_so, up_so, all_up_so}
-use Rattle.joined_run.proofs.joined.run_lot.Goals as goal
+use Rattle.joined_run.proofs.joined.run_at_once.Goals as goal
 
 pub run_stages-requires-clause-enter : goal.run_stages-requires-clause-enter
 run_stages-requires-clause-enter g c κs within =
