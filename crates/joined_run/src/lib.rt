@@ -10,8 +10,8 @@
 //! packet whole. Behind the last stage the functions are put together in chain order, and the packets to
 //! frames.
 //!
-//! Where every stage has one branch, nothing runs side by side, and a burst goes through the graph in lots of a
-//! few packets, one lot after another, since so few stay in the caches from stage to stage. Else it goes whole.
+//! Where every stage has one branch, nothing could run side by side, and the burst goes through the graph packet
+//! by packet (`run_gated` of `graph_run`).
 //!
 //! Why this is the walk is told by `burst_law`: a branch never waits for another, so a stage may take all
 //! packets branch by branch; a packet is made of what the branches gave for it alone, so packets may be put
