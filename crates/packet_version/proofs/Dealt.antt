@@ -1,10 +1,11 @@
 -- A part that is dealt by the mode of its field.
-use Rattle.std.proofs.Common.{rules, ◌≡◌, ◌∙◌, ◌-◌, ℕ, Bool, true, false, List, [], ◌∷◌, map, sym, ap, refl, arith}
+use Rattle.std.proofs.Common.{rules, ◌≡◌, ◌∙◌, ◌-◌, ℕ, Bool, true, false, List, [], ◌∷◌, map, sym, ap, subst, refl, arith}
 use mathlib.Core.Path.{fun_ext}
 use Rattle.std.specs.Prelude.{if◌then◌else◌, count_by, position, Option, Some, None, option_map, OnOk, Result, Ok, Err, ◌||◌, ◌&&◌, not, ◌==◌}
-use Rattle.std.specs.List.{list_any}
+use Rattle.std.specs.List.{All, list_any}
 use Rattle.std.specs.Int.{bit_at}
 use Rattle.std.proofs.lemmas.Bool.{false≢true}
+use Rattle.std.proofs.lemmas.List.Elements.{All-map}
 use Rattle.packet_fields.specs.Fields.{number_of}
 use Rattle.packet_fields.specs.declared.field.Field.{Field}
 use Rattle.action_profile.specs.FieldSets.{has, joined}
@@ -164,6 +165,11 @@ stage_dealt ts parts fixed vs owned lent empty own loan =
     loan
     ∙ (ap (λ (xs : List PlainVersion). map (lent_to (kept_parts ts parts)) xs) (own ∙ ap (map (with_own parts)) empty)
     ∙ all_dealt parts (kept_parts ts parts) fixed ts (are_kept ts parts))
+
+-- none of them has anything of the packet with it
+pub owned_apart : (ts : List Touch) (parts : Parts) (fixed : Fixed) (vs owned : List PlainVersion) → vs ≡ map (λ t. nothing t fixed) ts → owned ≡ map (with_own parts) vs → All (λ v. v.kept ≡ None) owned
+owned_apart ts parts fixed vs owned empty own = subst (All (λ v. v.kept ≡ None)) (sym (own ∙ ap (map (with_own parts)) empty))
+    (All-map (λ v. v.kept ≡ None) (with_own parts) (map (λ t. nothing t fixed) ts) (All-map (λ v. (with_own parts v).kept ≡ None) (λ t. nothing t fixed) ts (λ k d below. refl)))
 
 -- the version that the only branch of a stage is dealt, with what is left of the packet
 pub whole_dealt : (t : Touch) (parts : Parts) (frame : List ℕ) (fixed : Fixed) (v : PlainVersion) (held : PlainHeld) → v ≡ with_own parts (nothing t fixed) → held ≡ record { parts = as_list (kept_parts (t ∷ []) parts); frame = frame } →

@@ -8,9 +8,9 @@ use Rattle.packet_fields.specs.Fields.{value}
 use Rattle.packet_fields.specs.Writing.{put, put_some, Fits, written_in, written, all_fields, AllFit, fields_of, blank, rest_of}
 use Rattle.packet_fields.specs.declared.field.Field.{Field}
 use Rattle.packet_fields.proofs.Walk.{all_fit_after, written-written, written-own, written-rest, blanks, blanks_fit, fields_fit}
-use Rattle.packet_version.specs.Parts.{PlainPart, Parts, values_of, writer_in}
+use Rattle.packet_version.specs.Parts.{PlainPart, Parts, values_of, writer_in, by_writer}
 use Rattle.packet_version.specs.Splitting.{IsWhole, split_parts, fresh, spare_room}
-use Rattle.packet_version.specs.Places.{place_of, part_in, parts_in, beside, parts_beside}
+use Rattle.packet_version.specs.Places.{place_of, part_in, parts_in, parts_within, writer_at, beside, parts_beside}
 use Rattle.packet_version.specs.declared.place.Place.{Place}
 use Rattle.packet_version.specs.declared.place.Place.TheVariants.{Inside, Gone, Outside}
 use Rattle.packet_version.proofs.Maps.{left_at}
@@ -116,28 +116,40 @@ turns_over parts fields i bytes whole past j =
 pub turns_begin : (parts : Parts) (fields : List Field) (bytes : List ℕ) → fields ≡ all_fields → AllFit (values_of parts) bytes → IsJoining (values_of parts) fields bytes (written (values_of parts) bytes)
 turns_begin parts fields bytes is fits = record { due = ap (λ (fs : List Field). written_in fs (values_of parts) bytes) is; fits = fits }
 
+written_by_value : (spare writer : ℕ) (o : Option (List ℕ)) → option_map (λ p. p.bytes) (option_map (by_writer writer) (option_map (fresh spare) o)) ≡ o
+written_by_value spare writer None = refl
+written_by_value spare writer (Some v) = refl
+
+-- the bytes of a part that is in the frame, whoever wrote it
+pub within_value : (taggers : ℕ) (frame writers : List ℕ) (f : Field) → option_map (λ p. p.bytes) (parts_within taggers frame writers f) ≡ value f frame
+within_value taggers frame writers f = written_by_value (spare_room taggers f) (writer_at writers f) (value f frame)
+
+-- a frame that has every part in it goes together again
+pub within_again : (taggers : ℕ) (frame writers : List ℕ) → written (values_of (parts_within taggers frame writers)) (rest_of frame) ≡ frame
+within_again taggers frame writers = ap (λ (v : Field → Option (List ℕ)). written v (rest_of frame)) (fun_ext (λ f. within_value taggers frame writers f)) ∙ written-rest frame
+
 -- what a part beside the frame has is what the packet has
-beside_value : (taggers : ℕ) (frame : List ℕ) (f : Field) (p : Place) → is_some (part_in taggers frame f p) ≡ is_some (value f frame) → option_map (λ q. q.bytes) (part_in taggers frame f p) ≡ option_or (option_map (λ q. q.bytes) (beside p)) (value f frame)
-beside_value taggers frame f Inside there = fresh_value (spare_room taggers f) (value f frame)
-beside_value taggers frame f Gone there = none_there (value f frame) there
+beside_value : (taggers : ℕ) (frame writers : List ℕ) (f : Field) (p : Place) → is_some (part_in taggers frame writers f p) ≡ is_some (value f frame) → option_map (λ q. q.bytes) (part_in taggers frame writers f p) ≡ option_or (option_map (λ q. q.bytes) (beside p)) (value f frame)
+beside_value taggers frame writers f Inside there = within_value taggers frame writers f
+beside_value taggers frame writers f Gone there = none_there (value f frame) there
   where
     none_there : (o : Option (List ℕ)) → false ≡ is_some o → None ≡ o
     none_there None e = refl
     none_there (Some v) e = absurd (cc)
-beside_value taggers frame f (Outside part) there = refl
+beside_value taggers frame writers f (Outside part) there = refl
 
-beside_fits : (taggers : ℕ) (frame : List ℕ) (f : Field) (p : Place) → IfSome (option_map (λ q. q.bytes) (part_in taggers frame f p)) (λ v. Fits f v frame) → IfSome (option_map (λ q. q.bytes) (beside p)) (λ v. Fits f v frame)
-beside_fits taggers frame f Inside fits = tt
-beside_fits taggers frame f Gone fits = tt
-beside_fits taggers frame f (Outside part) fits = fits
+beside_fits : (taggers : ℕ) (frame writers : List ℕ) (f : Field) (p : Place) → IfSome (option_map (λ q. q.bytes) (part_in taggers frame writers f p)) (λ v. Fits f v frame) → IfSome (option_map (λ q. q.bytes) (beside p)) (λ v. Fits f v frame)
+beside_fits taggers frame writers f Inside fits = tt
+beside_fits taggers frame writers f Gone fits = tt
+beside_fits taggers frame writers f (Outside part) fits = fits
 
-pub besides_fit : (taggers : ℕ) (frame : List ℕ) (places : List Place) → AllFit (values_of (parts_in taggers frame places)) frame → AllFit (values_of (parts_beside places)) frame
-besides_fit taggers frame places fits f = beside_fits taggers frame f (place_of places f) (fits f)
+pub besides_fit : (taggers : ℕ) (frame writers : List ℕ) (places : List Place) → AllFit (values_of (parts_in taggers frame writers places)) frame → AllFit (values_of (parts_beside places)) frame
+besides_fit taggers frame writers places fits f = beside_fits taggers frame writers f (place_of places f) (fits f)
 
 -- it is enough to write what stands beside the frame
-pub joined_beside : (taggers : ℕ) (frame : List ℕ) (places : List Place) → IsWhole (parts_in taggers frame places) frame → written (values_of (parts_beside places)) frame ≡ written (values_of (parts_in taggers frame places)) (rest_of frame)
-joined_beside taggers frame places w =
-    sym (written-whole (parts_in taggers frame places) frame w
-    ∙ (ap (λ (v : Field → Option (List ℕ)). written v frame) (fun_ext (λ f. beside_value taggers frame f (place_of places f) (w.there f)))
-    ∙ (sym (written-written (values_of (parts_beside places)) (fields_of frame) frame (besides_fit taggers frame places w.fits) (fields_fit frame))
+pub joined_beside : (taggers : ℕ) (frame writers : List ℕ) (places : List Place) → IsWhole (parts_in taggers frame writers places) frame → written (values_of (parts_beside places)) frame ≡ written (values_of (parts_in taggers frame writers places)) (rest_of frame)
+joined_beside taggers frame writers places w =
+    sym (written-whole (parts_in taggers frame writers places) frame w
+    ∙ (ap (λ (v : Field → Option (List ℕ)). written v frame) (fun_ext (λ f. beside_value taggers frame writers f (place_of places f) (w.there f)))
+    ∙ (sym (written-written (values_of (parts_beside places)) (fields_of frame) frame (besides_fit taggers frame writers places w.fits) (fields_fit frame))
     ∙ ap (λ (xs : List ℕ). written (values_of (parts_beside places)) xs) (written-own frame))))

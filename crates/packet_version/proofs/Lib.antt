@@ -4,6 +4,8 @@ pub mod Forming
 pub mod PartsOfBranch
 pub mod Viewing
 pub mod Keeping
+pub mod Within
+pub mod Bringing
 pub mod Tagging
 pub mod Mapping
 pub mod Counting
@@ -19,3 +21,5 @@ pub mod Rows
 pub mod Lawful
 pub mod Shaping
 pub mod Undealt
+pub mod InPacket
+pub mod PutTogether

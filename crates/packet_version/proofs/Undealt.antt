@@ -43,7 +43,7 @@ none_first p (t ∷ ts) zero none first = false≢true (sym none.0 ∙ first)
 none_first p (t ∷ ts) (suc k) none first = none_first p ts k none.1 first.1
 
 -- a field that nobody writes is shared
-is_shared : (ts : List Touch) (f : Field) → NoneOf (has_write f) ts → mode_of ts f ≡ Shared
+pub is_shared : (ts : List Touch) (f : Field) → NoneOf (has_write f) ts → mode_of ts f ≡ Shared
 is_shared ts f none = by_place (position (has_write f) ts) refl
   where
     by_place : (o : Option ℕ) → position (has_write f) ts ≡ o → mode_of ts f ≡ Shared

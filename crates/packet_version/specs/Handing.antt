@@ -1,11 +1,13 @@
 -- For proofs: the parts of a packet on their way to the versions of a stage's branches.
-use Rattle.std.specs.Prelude.{ℕ, Bool, not, ◌==◌, List, Option, Some, None, if◌then◌else◌, map, option_map, count_by}
+use Rattle.std.specs.Prelude.{ℕ, Bool, not, ◌==◌, ◌&&◌, List, Option, Some, None, if◌then◌else◌, map, option_map, count_by}
 use Rattle.packet_fields.specs.declared.field.Field.{Field}
+use Rattle.packet_fields.specs.declared.field.Field.TheVariants.{Tag, Payload}
+use Rattle.chain_walk.specs.declared.fixed.Fixed.{Fixed}
 use Rattle.action_profile.specs.FieldSets.{joined, is_none}
 use Rattle.action_profile.specs.Modes.{has_write}
 use Rattle.action_profile.specs.declared.parts.Touch.{Touch}
 use Rattle.packet_version.specs.Parts.{PlainPart, PlainHeld, Parts, as_map, as_list, changed, unwritten}
-use Rattle.packet_version.specs.Versions.{PlainVersion, version_parts, with_part, had_by}
+use Rattle.packet_version.specs.Versions.{PlainVersion, version_parts, with_part, had_by, left_by}
 use Rattle.packet_fields.specs.Writing.{rest_of}
 use Rattle.packet_version.specs.declared.base.Kept.{Kept}
 use Rattle.packet_version.specs.declared.base.Kept.TheVariants.{Own, Lent}
@@ -42,6 +44,10 @@ reads_more touch = not ((joined touch.reads touch.writes).0 == touch.writes.0)
 abbrev pub writes_some : Touch → Bool
 writes_some touch = not (is_none touch.writes)
 
+-- the branch writes no field but those of fixed length
+abbrev pub writes_few : Touch → Bool
+writes_few touch = not (has_write Tag touch) && not (has_write Payload touch)
+
 -- a version with a loan of these parts
 abbrev pub with_loan : Parts → PlainVersion → PlainVersion
 with_loan parts version = record version { parts = as_list (had_by version.touch (version_parts version) parts); kept = None }
@@ -53,11 +59,16 @@ with_packet held version = record version {
   kept = Some (record { parts = held.parts; rest = rest_of held.frame; fixed = version.fixed });
 }
 
--- a version without all that its branch doesn't write
-abbrev pub with_own_alone : PlainVersion → PlainVersion
-with_own_alone version = record version { parts = as_list (λ f. if has_write f version.touch then version_parts version f else None); kept = None }
+-- the version of a branch that has this packet and writes in it
+abbrev pub holding : PlainHeld → Touch → Fixed → PlainVersion
+holding held touch fixed = record {
+  parts = as_list (had_by touch (as_map held.parts) (as_map held.parts));
+  touch = touch;
+  fixed = fixed;
+  kept = Some (record { parts = as_list (left_by touch (as_map held.parts)); rest = rest_of held.frame; fixed = fixed });
+}
 
--- the same, where its branch reads of it
+-- a version with a loan of these parts, where its branch reads of them
 abbrev pub lent_to : Parts → PlainVersion → PlainVersion
 lent_to parts version = if reads_more version.touch then with_loan parts version else version
 

@@ -9,3 +9,4 @@ pub mod Lending
 pub mod ViewLending
 pub mod Dealing
 pub mod Handing
+pub mod Rejoining

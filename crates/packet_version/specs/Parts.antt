@@ -49,6 +49,10 @@ changed f part parts g = if is_field f g then part else parts g
 abbrev pub unwritten : PlainPart → PlainPart
 unwritten p = record p { writer = 0 }
 
+-- a part by this writer
+abbrev pub by_writer : ℕ → PlainPart → PlainPart
+by_writer writer p = record p { writer = writer }
+
 -- a part with other bytes, by this writer
 abbrev pub rewritten : List ℕ → ℕ → PlainPart → PlainPart
 rewritten bytes writer p = record p { bytes = bytes; writer = writer }

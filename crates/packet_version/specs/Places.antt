@@ -1,10 +1,10 @@
 -- For proofs: where the parts of a packet are.
-use Rattle.std.specs.Prelude.{◌≡◌, ◌≤◌, ℕ, List, [], ◌∷◌, length, Option, Some, None, Bool, true, false, map, slice_index_or}
-use Rattle.packet_fields.specs.Fields.{number_of}
+use Rattle.std.specs.Prelude.{◌≡◌, ◌≤◌, ℕ, List, [], ◌∷◌, length, Option, Some, None, Bool, true, false, map, slice_index_or, option_map}
+use Rattle.packet_fields.specs.Fields.{number_of, value}
 use Rattle.packet_fields.specs.Writing.{all_fields}
 use Rattle.packet_fields.specs.declared.field.Field.{Field}
-use Rattle.packet_version.specs.Parts.{PlainPart, Parts, unwritten}
-use Rattle.packet_version.specs.Splitting.{split_parts}
+use Rattle.packet_version.specs.Parts.{PlainPart, Parts, unwritten, rewritten, by_writer}
+use Rattle.packet_version.specs.Splitting.{split_parts, fresh}
 use Rattle.packet_version.specs.declared.place.Place.{Place}
 use Rattle.packet_version.specs.declared.place.Place.TheVariants.{Inside, Gone, Outside}
 
@@ -12,14 +12,22 @@ use Rattle.packet_version.specs.declared.place.Place.TheVariants.{Inside, Gone, 
 abbrev pub place_of : List Place → Field → Place
 place_of places f = slice_index_or places (number_of f) Inside
 
--- the part of a field, by its place
-abbrev pub part_in : ℕ → List ℕ → Field → Place → Option PlainPart
-part_in taggers frame f Inside = split_parts taggers frame f
-part_in taggers frame f Gone = None
-part_in taggers frame f (Outside part) = Some part
+-- who wrote the part of a field that is in the frame, 0 for nobody
+abbrev pub writer_at : List ℕ → Field → ℕ
+writer_at writers f = slice_index_or writers (number_of f) 0
 
-abbrev pub parts_in : ℕ → List ℕ → List Place → Parts
-parts_in taggers frame places f = part_in taggers frame f (place_of places f)
+-- the part of a field, by its place
+abbrev pub part_in : ℕ → List ℕ → List ℕ → Field → Place → Option PlainPart
+part_in taggers frame writers f Inside = option_map (by_writer (writer_at writers f)) (split_parts taggers frame f)
+part_in taggers frame writers f Gone = None
+part_in taggers frame writers f (Outside part) = Some part
+
+abbrev pub parts_in : ℕ → List ℕ → List ℕ → List Place → Parts
+parts_in taggers frame writers places f = part_in taggers frame writers f (place_of places f)
+
+-- the parts of a frame that has every part in it
+abbrev pub parts_within : ℕ → List ℕ → List ℕ → Parts
+parts_within taggers frame writers f = part_in taggers frame writers f Inside
 
 -- the part that stands beside the frame, where there is one
 abbrev pub beside : Place → Option PlainPart
@@ -41,6 +49,21 @@ inside_all = map (λ f. Inside) all_fields
 abbrev pub unwritten_place : Place → Place
 unwritten_place (Outside part) = Outside (unwritten part)
 unwritten_place place = place
+
+-- the same place, in whose part other bytes were written
+abbrev pub rewritten_place : List ℕ → ℕ → Place → Place
+rewritten_place bytes writer (Outside part) = Outside (rewritten bytes writer part)
+rewritten_place bytes writer place = place
+
+-- the place of a part that was made of one in the frame, where there is one
+abbrev pub place_made : Option PlainPart → Place
+place_made None = Inside
+place_made (Some part) = Outside part
+
+-- the same place, whose part was brought out of the frame
+abbrev pub brought : List ℕ → ℕ → Field → Place → Place
+brought frame writer f Inside = place_made (option_map (by_writer writer) (option_map (fresh 0) (value f frame)))
+brought frame writer f place = place
 
 -- a place for each field: where none is listed every part is in the frame
 abbrev pub opened : List Place → List Place

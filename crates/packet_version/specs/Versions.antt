@@ -1,6 +1,7 @@
 -- For proofs: what a branch of a stage has of a packet.
-use Rattle.std.specs.Prelude.{◌≡◌, List, length, Option, Some, None, Bool, true, ◌||◌, if◌then◌else◌}
+use Rattle.std.specs.Prelude.{◌≡◌, List, length, Option, Some, None, IfSome, Bool, true, false, ◌||◌, if◌then◌else◌}
 use Rattle.packet_fields.specs.declared.field.Field.{Field}
+use Rattle.packet_fields.specs.declared.field.Field.TheVariants.{Tag, Payload}
 use Rattle.action_profile.specs.Modes.{has_touch, has_write, only_reads}
 use Rattle.action_profile.specs.Profiles.{reads_of, writes_of}
 use Rattle.action_profile.specs.declared.parts.Touch.{Touch}
@@ -57,9 +58,24 @@ kept_by (Some (Whole held)) fixed = Some (record { parts = held.parts; rest = re
 abbrev pub had_by : Touch → Parts → Parts → Parts
 had_by touch own lent f = if has_write f touch then own f else (if only_reads f touch then lent f else None)
 
--- There is a place for each part of a branch's own, what is lent was written by nobody, and each part has its field's
--- length, the tags as whole tags.
-pub record IsHad (touch : Touch) (own : List (Option PlainPart)) (lent : Option (Loan PlainHeld)) : Type 0 where
-  pub there : (f : Field) → has_write f touch ≡ true → length own ≡ 10
-  pub unwritten : (f : Field) → writer_in (lent_parts lent f) ≡ 0
-  pub formed : (f : Field) → IsPartOf f (had_by touch (as_map own) (lent_parts lent) f)
+-- The same of a branch that has the packet with it and writes in it: every part is there. Else it has parts of its own, and a loan.
+abbrev pub had_in : Touch → Option PlainHeld → List (Option PlainPart) → Option (Loan PlainHeld) → Parts
+had_in touch None own lent = had_by touch (as_map own) (lent_parts lent)
+had_in touch (Some held) own lent = had_by touch (as_map held.parts) (as_map held.parts)
+
+-- the parts of a packet without those that a branch writes
+abbrev pub left_by : Touch → Parts → Parts
+left_by touch parts f = if has_write f touch then None else parts f
+
+-- what a branch has with it of the packet, beside what it writes
+abbrev pub kept_of : Touch → Option PlainHeld → Option (Loan PlainHeld) → Fixed → Option PlainApart
+kept_of touch None lent fixed = kept_by lent fixed
+kept_of touch (Some held) lent fixed = Some (record { parts = as_list (left_by touch (as_map held.parts)); rest = rest_of held.frame; fixed = fixed })
+
+-- There is a place for each part of a branch's own, unless it writes in the packet. What it doesn't write was written by nobody, and
+-- each part has its field's length, the tags as whole tags. In the packet a branch writes fields of fixed length alone.
+pub record IsHad (touch : Touch) (within : Option PlainHeld) (own : List (Option PlainPart)) (lent : Option (Loan PlainHeld)) : Type 0 where
+  pub there : within ≡ None → (f : Field) → has_write f touch ≡ true → length own ≡ 10
+  pub unwritten : (f : Field) → has_write f touch ≡ false → writer_in (had_in touch within own lent f) ≡ 0
+  pub formed : (f : Field) → IsPartOf f (had_in touch within own lent f)
+  pub few : IfSome within (λ held. (has_write Tag touch ≡ false) × (has_write Payload touch ≡ false))

@@ -62,8 +62,8 @@ abbrev pub alone : Field → Option (List ℕ) → Values
 alone f new g = if is_field f g then new else None
 
 -- what a view keeps: the version holds what the profile names
-pub record IsView (profile : Profile) (touch : Touch) (own : List (Option PlainPart)) (lent : Option (Loan PlainHeld)) : Type 0 where
-  pub had : IsHad touch own lent
+pub record IsView (profile : Profile) (touch : Touch) (within : Option PlainHeld) (own : List (Option PlainPart)) (lent : Option (Loan PlainHeld)) : Type 0 where
+  pub had : IsHad touch within own lent
   pub holds : HoldsNamed profile touch
 
 -- One field of a view became this part. Every other field is as it was, and so is all else: what the branch touches and has

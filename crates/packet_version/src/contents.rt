@@ -9,11 +9,14 @@ use std::alloc::{AllocError, Global};
 use std::marker::Model;
 use std::mem;
 
-/// A packet's frame, in which the parts are that no branch wrote, and those of the others that came back.
+/// A packet's frame, in which the parts are that no branch took out, and those of the others that came
+/// back.
 #[derive(Drop)]
 pub(crate) struct Contents {
     // A place for each field, or room for them as long as every part is in the frame.
     places: Vec<Place>,
+    // Who wrote the part of each field that is in the frame, 0 for nobody.
+    writers: [u32; 10],
     rest: Rest,
     taggers: u32,
 }
@@ -25,18 +28,21 @@ impl Model for Contents {
 
     ghost Value = { PlainHeld };
 
-    ghost view = { λ c. record { parts = as_list (parts_in c.taggers c.rest c.places.items); frame = c.rest } };
+    ghost view = { λ c. record { parts = as_list (parts_in c.taggers c.rest c.writers c.places.items); frame = c.rest } };
 
     ghost invariant = { λ c. ArePlaces (vec_capacity c.places) c.places.items };
 }
 
-ghost use Rattle.std.specs.Prelude.{◌≡◌, ◌≤◌, ◌+◌, [], Some, None, IfOk, OnOk, IfSome, IsTrue, length, vec_capacity, option_map};
+ghost use Rattle.std.specs.Prelude.{◌≡◌, ◌≢◌, ◌≤◌, ◌+◌, [], Some, None, IfOk, OnOk, IfSome, IsSome, IsSomeAnd, IsTrue, if◌then◌else◌, is_some, length, map, vec_capacity, option_map};
+ghost use Rattle.std.specs.Borrow.{sem};
 ghost use Rattle.std.specs.Option.{option_copied};
+ghost use Rattle.packet_fields.specs.Fields.{value};
 ghost use Rattle.packet_fields.specs.Writing.{rest_of, written, AllFit};
-ghost use Rattle.packet_version.specs.Parts.{PlainHeld, as_list, as_map, changed, unwritten, values_of};
-ghost use Rattle.packet_version.specs.Places.{inside_all, opened, parts_beside};
+ghost use Rattle.packet_version.specs.Parts.{PlainHeld, as_list, as_map, changed, unwritten, rewritten, by_writer, values_of, writers_of, IsPartOf};
+ghost use Rattle.packet_version.specs.Places.{brought, inside_all, is_outside, opened, parts_beside, place_made, place_of, unwritten_place};
+ghost use Rattle.packet_version.specs.Lending.{LendsContents};
 ghost use Rattle.packet_fields.specs.declared.field.Field.{Field};
-ghost use Rattle.packet_version.specs.Splitting.{split_parts, spare_room as spare_room_of, IsWhole};
+ghost use Rattle.packet_version.specs.Splitting.{fresh, split_parts, spare_room as spare_room_of, IsWhole};
 
 impl Contents {
     /// The frame with every part in it, of which the list of tags has room for `taggers` tags more, and no
@@ -48,16 +54,17 @@ impl Contents {
     {
         Contents {
             places,
+            writers: [0; 10],
             rest,
             taggers,
         }
     }
 
-    /// Is every part in the frame? Then nobody wrote it.
+    /// Is every part in the frame, and did nobody write any?
     pub(crate) fn is_inside(&self) -> bool
         ensures { IsTrue result → (f : Field) → option_map unwritten (as_map self.now.parts f) ≡ as_map self.now.parts f }
     {
-        self.places.is_empty()
+        self.places.is_empty() && self.writers == [0; 10]
     }
 
     /// The bytes of a field that is here.
@@ -88,14 +95,57 @@ impl Contents {
         }
     }
 
+    /// Who wrote the part of a field last, 0 for nobody.
+    pub(crate) fn writer(&self, field: Field) -> u32
+        ensures { result ≡ writers_of (as_map self.now.parts) field }
+    {
+        let number = field.number();
+        let inside = self.writers[number];
+        if self.places.is_empty() {
+            return writer_inside(&self.rest, field, inside);
+        }
+        match &self.places[number] {
+            Place::Inside => writer_inside(&self.rest, field, inside),
+            Place::Gone => 0,
+            Place::Outside(part) => part.writer(),
+        }
+    }
+
+    /// Leaves every part here, written by nobody.
+    pub(crate) fn forget_writers(&mut self)
+        ensures { self.new ≡ record self.old { parts = as_list (λ f. option_map unwritten (as_map self.old.parts f)) } }
+    {
+        self.writers = [0; 10];
+        forget_all(&mut self.places);
+    }
+
     /// Leaves the part of a field here, written by nobody.
     pub(crate) fn keep(&mut self, field: Field)
         ensures { self.new ≡ record self.old { parts = as_list (changed field (option_map unwritten (as_map self.old.parts field)) (as_map self.old.parts)) } }
     {
+        let number = field.number();
+        self.writers[number] = 0;
         if self.places.is_empty() {
             return;
         }
-        self.places[field.number()].forget_writer();
+        self.places[number].forget_writer();
+    }
+
+    /// Writes the bytes of a field that is here, other than the tags, as many as there are: in the frame,
+    /// where its part is there.
+    pub(crate) fn set(&mut self, field: Field, writer: u32, bytes: &[u8])
+        requires not_tag { field ≢ Field.Tag }
+        requires fits { IsSomeAnd (as_map self.old.parts field) (λ p. length bytes.now ≡ length p.bytes) }
+        ensures parts { self.new.parts ≡ as_list (changed field (option_map (rewritten bytes.now writer) (as_map self.old.parts field)) (as_map self.old.parts)) }
+        ensures rest { rest_of self.new.frame ≡ rest_of self.old.frame }
+    {
+        let number = field.number();
+        if stands_beside(&self.places, field) {
+            self.places[number].set(writer, bytes);
+        } else {
+            self.rest.put_value(field, bytes);
+            self.writers[number] = writer;
+        }
     }
 
     /// Takes the part of a field out.
@@ -104,12 +154,53 @@ impl Contents {
         ensures left { self.new ≡ record self.old { parts = as_list (changed field None (as_map self.old.parts)) } }
     {
         open(&mut self.places);
-        let place = mem::replace(&mut self.places[field.number()], Place::Gone);
+        let number = field.number();
+        let writer = self.writers[number];
+        let place = mem::replace(&mut self.places[number], Place::Gone);
         match place {
-            Place::Inside => split_part(alloc, &self.rest, field, self.taggers),
+            Place::Inside => split_part(alloc, &self.rest, field, self.taggers, writer),
             Place::Gone => Ok(None),
             Place::Outside(part) => Ok(Some(part)),
         }
+    }
+
+    /// Takes the part of a field of fixed length out. It takes no memory.
+    pub(crate) fn take_few(&mut self, field: Field) -> Option<Part>
+        requires not_tag { field ≢ Field.Tag }
+        requires not_payload { field ≢ Field.Payload }
+        requires formed { IsPartOf field (as_map self.old.parts field) }
+        ensures part { result ≡ as_map self.old.parts field }
+        ensures left { self.new ≡ record self.old { parts = as_list (changed field None (as_map self.old.parts)) } }
+    {
+        let alloc = *self.places.allocator();
+        open(&mut self.places);
+        let number = field.number();
+        let writer = self.writers[number];
+        let place = mem::replace(&mut self.places[number], Place::Gone);
+        match place {
+            Place::Inside => few_part(alloc, &self.rest, field, writer),
+            Place::Gone => None,
+            Place::Outside(part) => Some(part),
+        }
+    }
+
+    /// Lends the bytes of a field of fixed length that is here. What is left there is written by this
+    /// function. It takes no memory.
+    pub(crate) fn edit(&mut self, field: Field, writer: u32) -> &mut [u8]
+        requires not_tag { field ≢ Field.Tag }
+        requires not_payload { field ≢ Field.Payload }
+        requires formed { IsPartOf field (as_map self.old.parts field) }
+        requires present { IsSome (as_map self.old.parts field) }
+        ensures* writes_back { sem 𝓛 (LendsContents self.entry field writer result) }
+        ensures bytes { option_map (λ p. p.bytes) (as_map self.old.parts field) ≡ Some result.now }
+    {
+        let alloc = *self.places.allocator();
+        open(&mut self.places);
+        let number = field.number();
+        let inside = self.writers[number];
+        bring_out(&mut self.places[number], alloc, &self.rest, field, inside);
+        let place = &mut self.places[number];
+        place.edit(writer)
     }
 
     /// Puts a part into the place of its field.
@@ -137,6 +228,7 @@ impl Contents {
     {
         let Contents {
             places: _,
+            writers: _,
             rest,
             taggers: _,
         } = self;
@@ -157,6 +249,32 @@ fn put_all(alloc: Global, places: &[Place], rest: &mut Rest) -> Result<(), Alloc
         }
     }
     Ok(())
+}
+
+/// Who wrote the part of a field that is in the frame, if it is there at all.
+fn writer_inside(rest: &Rest, field: Field, writer: u32) -> u32
+    ensures { result ≡ (if is_some (value field rest.now) then writer else 0) }
+{
+    match rest.get(field) {
+        Some(_) => writer,
+        None => 0,
+    }
+}
+
+/// Does the part of a field stand beside the frame?
+fn stands_beside(places: &[Place], field: Field) -> bool
+    ensures { result ≡ is_outside (place_of places.now field) }
+{
+    matches!(places.get(field.number()), Some(Place::Outside(_)))
+}
+
+/// Leaves every part that stands beside a frame, written by nobody.
+fn forget_all(places: &mut [Place])
+    ensures { places.new ≡ map unwritten_place places.old }
+{
+    for place in places.iter_mut() {
+        place.forget_writer();
+    }
 }
 
 /// Leaves a place for each field, for which there is room.
@@ -183,18 +301,55 @@ fn open_all(places: &mut Vec<Place>)
     }
 }
 
-/// The part of a field that is in the frame.
+/// The part of a field that is in the frame, by this writer.
 fn split_part(
     alloc: Global,
     rest: &Rest,
     field: Field,
     taggers: u32,
+    writer: u32,
 ) -> Result<Option<Part>, AllocError>
-    ensures { IfOk result (λ part. part ≡ split_parts taggers rest.now field) }
+    ensures { IfOk result (λ part. part ≡ option_map (by_writer writer) (split_parts taggers rest.now field)) }
 {
     match rest.get(field) {
-        Some(bytes) => Ok(Some(Part::new(alloc, bytes, spare_room(field, taggers))?)),
+        Some(bytes) => {
+            let part = Part::new(alloc, bytes, spare_room(field, taggers))?;
+            Ok(Some(part.by(writer)))
+        }
         None => Ok(None),
+    }
+}
+
+/// The part of a field of fixed length that is in the frame, by this writer. It takes no memory.
+fn few_part(alloc: Global, rest: &Rest, field: Field, writer: u32) -> Option<Part>
+    requires not_tag { field ≢ Field.Tag }
+    requires not_payload { field ≢ Field.Payload }
+    ensures { result ≡ option_map (by_writer writer) (option_map (fresh 0) (value field rest.now)) }
+{
+    match rest.get(field) {
+        Some(bytes) => Some(Part::few(alloc, bytes, writer)),
+        None => None,
+    }
+}
+
+/// Brings the part of a field of fixed length out of the frame, where it is there. It takes no memory.
+fn bring_out(place: &mut Place, alloc: Global, rest: &Rest, field: Field, writer: u32)
+    requires not_tag { field ≢ Field.Tag }
+    requires not_payload { field ≢ Field.Payload }
+    ensures { place.new ≡ brought rest.now writer field place.old }
+{
+    if let Place::Inside = place {
+        *place = made_place(few_part(alloc, rest, field, writer));
+    }
+}
+
+/// Where a part is that was made of one in the frame.
+fn made_place(part: Option<Part>) -> Place
+    ensures { result ≡ place_made part }
+{
+    match part {
+        Some(part) => Place::Outside(part),
+        None => Place::Inside,
     }
 }
 

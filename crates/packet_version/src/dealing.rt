@@ -8,7 +8,7 @@ ghost use Rattle.packet_version.specs.Parts.{as_map, as_list, unwritten, IsPartO
 ghost use Rattle.packet_version.specs.Splitting.{packet_parts, IsWhole};
 ghost use Rattle.packet_version.specs.Versions.{nothing};
 ghost use Rattle.packet_version.specs.Dealing.{dealt, dealt_whole, based, kept_parts, RaisesByDue, RaisesWithinDue};
-ghost use Rattle.packet_version.specs.Handing.{touches_in, writes_some, with_own, without_fields};
+ghost use Rattle.packet_version.specs.Handing.{touches_in, writes_few, writes_some, with_own, without_fields};
 
 use crate::apart::Apart;
 use crate::base::Base;
@@ -18,6 +18,7 @@ use crate::tally::Tally;
 use crate::version::Version;
 use action_profile::{Mode, StageParts, Touch, all_fields};
 use chain_walk::Fixed;
+use packet_fields::Field;
 use std::alloc::{AllocError, Global};
 use std::slice;
 
@@ -62,9 +63,9 @@ pub fn deal(
 /// Makes the version of a stage's only branch, which has what it doesn't write of the packet with it.
 ///
 /// No other branch has any of the packet, so nothing is lent, and no base stands beside the version:
-/// [`Version::part`] gives it back. Else it is as [`deal`] says, and so is what it counts. Memory is taken
-/// for the parts of the branch where it writes some field, and for each of them that has room for more
-/// than 12 bytes.
+/// [`Version::rejoin`] puts the packet together again. Else it is as [`deal`] says, and so is what it counts.
+/// A branch that writes neither the tags nor the payload writes in the packet itself, and takes no memory.
+/// For another memory is taken for its parts, and for each of them that has room for more than 12 bytes.
 pub fn deal_whole(
     alloc: Global,
     whole: Apart,
@@ -81,11 +82,22 @@ pub fn deal_whole(
     ensures fits { IsWhole (packet_parts whole) whole.rest }
 {
     let Apart { mut held, fixed } = whole;
+    if is_few(touch) {
+        held.forget_writers();
+        return Ok(Version::in_packet(alloc, held, touch, fixed));
+    }
     let mut version = Version::empty(alloc, touch, fixed)?;
     let only = slice::from_mut(&mut version);
     deal_parts(alloc, &mut held, modes, only, tally)?;
     version.keep(held);
     Ok(version)
+}
+
+/// Does a branch write no field but those of fixed length?
+fn is_few(touch: Touch) -> bool
+    ensures { result ≡ writes_few touch }
+{
+    !touch.writes.has(Field::Tag) && !touch.writes.has(Field::Payload)
 }
 
 /// Versions without any field.

@@ -1,7 +1,7 @@
 //! Handing the parts of a packet to the versions of a stage's branches.
 
 ghost use Rattle.std.specs.Prelude.{◌≡◌, ◌-◌, ◌&&◌, Some, None, option_map, map, true, OnOk, OnErr, IfOk, position, if◌then◌else◌, is_ok};
-ghost use Rattle.std.specs.List.{list_any};
+ghost use Rattle.std.specs.List.{All, list_any};
 ghost use Rattle.packet_fields.specs.declared.field.Field.{Field};
 ghost use Rattle.action_profile.specs.Modes.{has_write, mode_of};
 ghost use Rattle.packet_version.specs.Parts.{as_map, writer_in, unwritten, IsValueOf, IsPartOf};
@@ -167,6 +167,7 @@ pub(crate) fn deal_field(
 fn lend_one(owner: &Owner<Held>, version: &mut Version) -> Result<(), AllocError>
     requires unwritten { (f : Field) → writer_in (as_map owner.now.parts f) ≡ 0 }
     requires formed { (f : Field) → IsPartOf f (as_map owner.now.parts f) }
+    requires apart { version.old.kept ≡ None }
     ensures { OnOk result (version.new ≡ lent_to (as_map owner.now.parts) version.old) }
 {
     if version.reads_more() {
@@ -179,6 +180,7 @@ fn lend_one(owner: &Owner<Held>, version: &mut Version) -> Result<(), AllocError
 fn lend_out(owner: &Owner<Held>, versions: &mut [Version]) -> Result<(), AllocError>
     requires unwritten { (f : Field) → writer_in (as_map owner.now.parts f) ≡ 0 }
     requires formed { (f : Field) → IsPartOf f (as_map owner.now.parts f) }
+    requires apart { All (λ v. v.kept ≡ None) versions.old }
     ensures { OnOk result (versions.new ≡ map (lent_to (as_map owner.now.parts)) versions.old) }
 {
     for version in versions.iter_mut() {
@@ -196,6 +198,7 @@ pub(crate) fn share_out(
 ) -> Result<Kept, AllocError>
     requires unwritten { (f : Field) → writer_in (as_map held.parts f) ≡ 0 }
     requires formed { (f : Field) → IsPartOf f (as_map held.parts f) }
+    requires apart { All (λ v. v.kept ≡ None) versions.old }
     ensures lent { OnOk result (versions.new ≡ map (lent_to (as_map held.parts)) versions.old) }
     ensures kept { IfOk result (λ kept. kept_in kept ≡ held) }
 {

@@ -7,10 +7,10 @@ use packet_fields::Field;
 use std::alloc::{AllocError, Global};
 use std::marker::Model;
 
-/// What is held of a packet: its frame, in which the parts are that no branch wrote, and those of the
+/// What is held of a packet: its frame, in which the parts are that no branch took out, and those of the
 /// others that came back.
 ///
-/// A part leaves the frame where a branch first writes it, so a field that nobody writes is never copied.
+/// A part leaves the frame where it is taken, so a field that nobody takes is never copied.
 #[derive(Drop)]
 pub(crate) struct Held {
     // On the heap, since a packet is moved often.
@@ -28,11 +28,13 @@ impl Model for Held {
     ghost invariant = { λ h. length h.contents.value.parts ≡ 10 };
 }
 
-ghost use Rattle.std.specs.Prelude.{◌≡◌, ◌+◌, Some, None, IfOk, IfSome, IsTrue, length, option_map};
+ghost use Rattle.std.specs.Prelude.{◌≡◌, ◌≢◌, ◌+◌, Some, None, IfOk, IfSome, IsSome, IsSomeAnd, IsTrue, length, option_map};
+ghost use Rattle.std.specs.Borrow.{sem};
 ghost use Rattle.std.specs.Option.{option_copied};
 ghost use Rattle.packet_fields.specs.declared.field.Field.{Field};
 ghost use Rattle.packet_fields.specs.Writing.{rest_of, written};
-ghost use Rattle.packet_version.specs.Parts.{PlainHeld, as_list, as_map, changed, unwritten, values_of};
+ghost use Rattle.packet_version.specs.Parts.{PlainHeld, as_list, as_map, changed, unwritten, rewritten, values_of, writers_of, IsPartOf};
+ghost use Rattle.packet_version.specs.Lending.{LendsHeld};
 ghost use Rattle.packet_version.specs.Splitting.{split_parts, IsWhole};
 
 impl Held {
@@ -46,7 +48,14 @@ impl Held {
         })
     }
 
-    /// Is every part in the frame? Then nobody wrote it.
+    /// There is a place for each field.
+    pub(crate) fn has_ten(&self)
+        ensures { length self.now.parts ≡ 10 }
+    {
+        let _ = &self.contents;
+    }
+
+    /// Is every part in the frame, and did nobody write any?
     pub(crate) fn is_inside(&self) -> bool
         ensures { IsTrue result → (f : Field) → option_map unwritten (as_map self.now.parts f) ≡ as_map self.now.parts f }
     {
@@ -67,11 +76,36 @@ impl Held {
         self.contents.spare(field)
     }
 
+    /// Who wrote the part of a field last, 0 for nobody.
+    pub(crate) fn writer(&self, field: Field) -> u32
+        ensures { result ≡ writers_of (as_map self.now.parts) field }
+    {
+        self.contents.writer(field)
+    }
+
+    /// Leaves every part here, written by nobody.
+    pub(crate) fn forget_writers(&mut self)
+        ensures { self.new ≡ record self.old { parts = as_list (λ f. option_map unwritten (as_map self.old.parts f)) } }
+    {
+        self.contents.forget_writers();
+    }
+
     /// Leaves the part of a field here, written by nobody.
     pub(crate) fn keep(&mut self, field: Field)
         ensures { self.new ≡ record self.old { parts = as_list (changed field (option_map unwritten (as_map self.old.parts field)) (as_map self.old.parts)) } }
     {
         self.contents.keep(field);
+    }
+
+    /// Writes the bytes of a field that is here, other than the tags, as many as there are: in the frame,
+    /// where its part is there.
+    pub(crate) fn set(&mut self, field: Field, writer: u32, bytes: &[u8])
+        requires not_tag { field ≢ Field.Tag }
+        requires fits { IsSomeAnd (as_map self.old.parts field) (λ p. length bytes.now ≡ length p.bytes) }
+        ensures parts { self.new.parts ≡ as_list (changed field (option_map (rewritten bytes.now writer) (as_map self.old.parts field)) (as_map self.old.parts)) }
+        ensures rest { rest_of self.new.frame ≡ rest_of self.old.frame }
+    {
+        self.contents.set(field, writer, bytes);
     }
 
     /// Takes the part of a field out.
@@ -80,6 +114,30 @@ impl Held {
         ensures left { self.new ≡ record self.old { parts = as_list (changed field None (as_map self.old.parts)) } }
     {
         self.contents.take(alloc, field)
+    }
+
+    /// Takes the part of a field of fixed length out. It takes no memory.
+    pub(crate) fn take_few(&mut self, field: Field) -> Option<Part>
+        requires not_tag { field ≢ Field.Tag }
+        requires not_payload { field ≢ Field.Payload }
+        requires formed { IsPartOf field (as_map self.old.parts field) }
+        ensures part { result ≡ as_map self.old.parts field }
+        ensures left { self.new ≡ record self.old { parts = as_list (changed field None (as_map self.old.parts)) } }
+    {
+        self.contents.take_few(field)
+    }
+
+    /// Lends the bytes of a field of fixed length that is here. What is left there is written by this
+    /// function. It takes no memory.
+    pub(crate) fn edit(&mut self, field: Field, writer: u32) -> &mut [u8]
+        requires not_tag { field ≢ Field.Tag }
+        requires not_payload { field ≢ Field.Payload }
+        requires formed { IsPartOf field (as_map self.old.parts field) }
+        requires present { IsSome (as_map self.old.parts field) }
+        ensures* writes_back { sem 𝓛 (LendsHeld self.entry field writer result) }
+        ensures bytes { option_map (λ p. p.bytes) (as_map self.old.parts field) ≡ Some result.now }
+    {
+        self.contents.edit(field, writer)
     }
 
     /// Puts a part into the place of its field.

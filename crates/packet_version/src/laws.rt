@@ -6,7 +6,7 @@ ghost use Rattle.action_profile.specs.Modes.{has_write};
 ghost use Rattle.packet_fields.specs.Writing.{over as values_over};
 ghost use Rattle.chain_walk.specs.Shown.{Values, AreWellFormed};
 ghost use Rattle.chain_walk.specs.Step.{nothing};
-ghost use Rattle.packet_version.specs.Parts.{Parts, rewritten, writers_of};
+ghost use Rattle.packet_version.specs.Parts.{AreTags, Parts, rewritten, writers_of};
 ghost use Rattle.packet_version.specs.Splitting.{PlainApart, IsWhole, IsShapedAs, packet_parts};
 ghost use Rattle.packet_version.specs.Versions.{version_parts};
 ghost use Rattle.packet_version.specs.Dealing.{dealt, dealt_parts, based, kept_parts};
@@ -66,6 +66,13 @@ pub fn later_write_stands_over()
 pub fn written_is_own(version: &Version)
     ensures unwritten { (f : Field) → has_write f version.now.touch ≡ false → writers_of (version_parts version.now) f ≡ 0 }
     ensures ten { length version.now.parts ≡ 10 }
+{
+    let _ = &version.touch;
+}
+
+/// The tags of a version are whole.
+pub fn tags_are_whole(version: &Version)
+    ensures { AreTags (version_parts version.now Field.Tag) }
 {
     let _ = &version.touch;
 }

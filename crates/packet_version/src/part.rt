@@ -33,7 +33,7 @@ impl Model for Part {
 impl Part {
     ghost use Rattle.std.specs.Prelude.{◌≡◌, ◌≤◌, ◌+◌, ◌++◌, length, drop, IfOk};
     ghost use Rattle.std.specs.Borrow.{sem};
-    ghost use Rattle.packet_version.specs.Parts.{unwritten, rewritten};
+    ghost use Rattle.packet_version.specs.Parts.{unwritten, rewritten, by_writer};
     ghost use Rattle.packet_version.specs.Lending.{LendsBytes};
     ghost use Rattle.packet_version.specs.Splitting.{fresh};
 
@@ -51,6 +51,21 @@ impl Part {
             writer: 0,
             room,
         })
+    }
+
+    /// A part of at most twelve bytes, by this writer. It takes no memory.
+    pub(crate) fn few(alloc: Global, bytes: &[u8], writer: u32) -> Part
+        requires { length bytes.now ≤ 12 }
+        ensures { result ≡ by_writer writer (fresh 0 bytes.now) }
+    {
+        let room = bytes.len();
+        let mut held = SmallVec::from_buf_and_len(alloc, [0; INLINE], room);
+        held.as_mut_slice().copy_from_slice(bytes);
+        Part {
+            bytes: held,
+            writer,
+            room,
+        }
     }
 
     /// The field's bytes.
@@ -72,6 +87,14 @@ impl Part {
         ensures { result ≡ unwritten self }
     {
         self.writer = 0;
+        self
+    }
+
+    /// The part as this function wrote it, 0 for nobody.
+    pub(crate) fn by(mut self, writer: u32) -> Part
+        ensures { result ≡ by_writer writer self }
+    {
+        self.writer = writer;
         self
     }
 

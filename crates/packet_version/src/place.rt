@@ -5,7 +5,7 @@ use crate::part::Part;
 /// Where a packet's part of a field is.
 #[derive(Drop)]
 pub(crate) enum Place {
-    /// In the frame, where the packet has the field at all. Nobody wrote it.
+    /// In the frame, where the packet has the field at all.
     Inside,
     /// A branch has it.
     Gone,
@@ -13,8 +13,10 @@ pub(crate) enum Place {
     Outside(Part),
 }
 
-ghost use Rattle.std.specs.Prelude.{◌≡◌};
-ghost use Rattle.packet_version.specs.Places.{unwritten_place};
+ghost use Rattle.std.specs.Prelude.{◌≡◌, true, length, IfSome};
+ghost use Rattle.std.specs.Borrow.{sem};
+ghost use Rattle.packet_version.specs.Places.{beside, is_outside, rewritten_place, unwritten_place};
+ghost use Rattle.packet_version.specs.Lending.{LendsPlace};
 
 impl Place {
     /// Leaves what is beside the frame as written by nobody.
@@ -23,6 +25,28 @@ impl Place {
     {
         if let Place::Outside(part) = self {
             part.forget_writer();
+        }
+    }
+
+    /// Writes the bytes of what is beside the frame, as many as there are.
+    pub(crate) fn set(&mut self, writer: u32, bytes: &[u8])
+        requires { IfSome (beside self.old) (λ p. length bytes.now ≡ length p.bytes) }
+        ensures { self.new ≡ rewritten_place bytes.now writer self.old }
+    {
+        if let Place::Outside(part) = self {
+            part.set(writer, bytes);
+        }
+    }
+
+    /// Sets the writer of what is beside the frame, and lends its bytes.
+    pub(crate) fn edit(&mut self, writer: u32) -> &mut [u8]
+        requires { is_outside self.old ≡ true }
+        ensures* writes_back { sem 𝓛 (LendsPlace self.entry writer result) }
+        ensures bytes { IfSome (beside self.old) (λ p. result.now ≡ p.bytes) }
+    {
+        match self {
+            Place::Outside(part) => part.edit(writer),
+            _ => unreachable!(),
         }
     }
 }

@@ -23,10 +23,10 @@ impl Model for Rest {
 }
 
 impl Rest {
-    ghost use Rattle.std.specs.Prelude.{◌≡◌, ◌≢◌, OnOk, IsTrue};
+    ghost use Rattle.std.specs.Prelude.{◌≡◌, ◌≢◌, OnOk, IfSome, IsTrue, length};
     ghost use Rattle.std.specs.Option.{option_copied};
-    ghost use Rattle.packet_fields.specs.Fields.{value, layout_of};
-    ghost use Rattle.packet_fields.specs.Writing.{put as put_in, Fits};
+    ghost use Rattle.packet_fields.specs.Fields.{value, layout_of, IsLengthOf};
+    ghost use Rattle.packet_fields.specs.Writing.{put as put_in, rest_of, Fits};
     ghost use Rattle.packet_fields.specs.declared.field.Field.{Field};
 
     pub(crate) fn new(bytes: Vec<u8>) -> Self
@@ -45,7 +45,8 @@ impl Rest {
 
     /// The bytes in a field's place.
     pub(crate) fn get(&self, field: Field) -> Option<&[u8]>
-        ensures { option_copied result ≡ value field self.now }
+        ensures value { option_copied result ≡ value field self.now }
+        ensures length { IfSome result (λ bytes. IsLengthOf field (length bytes.now)) }
     {
         packet_fields::get(field, &self.bytes, &self.plan)
     }
@@ -91,10 +92,14 @@ impl Rest {
         }
     }
 
-    fn put_value(&mut self, field: Field, bytes: &[u8])
+    /// Puts these bytes into the place of a field other than the tags.
+    pub(crate) fn put_value(&mut self, field: Field, bytes: &[u8])
         requires not_tag { field ≢ Field.Tag }
         requires fits { Fits field bytes.now self.old }
-        ensures { self.new ≡ put_in field bytes.now self.old }
+        ensures whole { self.new ≡ put_in field bytes.now self.old }
+        ensures written { value field self.new ≡ Some bytes.now }
+        ensures others { (g : Field) → field ≢ g → value g self.new ≡ value g self.old }
+        ensures rest { rest_of self.new ≡ rest_of self.old }
     {
         packet_fields::put(field, bytes, &mut self.bytes, &self.plan);
     }

@@ -1,6 +1,5 @@
 //! What a branch of a stage has of a packet.
 
-use crate::gathered::Gathered;
 use crate::held::Held;
 use crate::loan::Loan;
 use crate::part::Part;
@@ -15,9 +14,12 @@ use std::mem;
 use std::sync::Wait;
 
 /// A branch's version of a packet: the parts of the fields that the branch touches, and the packet's
-/// fixed values. Those that it writes are its own, and those that it only reads are lent to it.
+/// fixed values. Those that it writes are its own, and those that it only reads are lent to it. The only
+/// branch of a stage may have the packet itself, and write in it.
 #[derive(Drop)]
 pub struct Version {
+    // The packet, where the branch writes in it. Then it has no parts of its own, and nothing is lent.
+    pub(crate) within: Option<Held>,
     // A place for each field, or none where the branch writes nothing.
     pub(crate) own: Vec<Option<Part>>,
     // One loan has all that the branch only reads.
@@ -27,14 +29,14 @@ pub struct Version {
 }
 
 impl Model for Version {
-    ghost use Rattle.packet_version.specs.Parts.{as_map, as_list};
-    ghost use Rattle.packet_version.specs.Versions.{PlainVersion, had_by, lent_parts, kept_by, IsHad};
+    ghost use Rattle.packet_version.specs.Parts.{as_list};
+    ghost use Rattle.packet_version.specs.Versions.{PlainVersion, had_in, kept_of, IsHad};
 
     ghost Value = { PlainVersion };
 
-    ghost view = { λ v. record { parts = as_list (had_by v.touch (as_map v.own.items) (lent_parts v.lent)); touch = v.touch; fixed = v.fixed; kept = kept_by v.lent v.fixed } };
+    ghost view = { λ v. record { parts = as_list (had_in v.touch v.within v.own.items v.lent); touch = v.touch; fixed = v.fixed; kept = kept_of v.touch v.within v.lent v.fixed } };
 
-    ghost invariant = { λ v. IsHad v.touch v.own.items v.lent };
+    ghost invariant = { λ v. IsHad v.touch v.within v.own.items v.lent };
 }
 
 impl Version {
@@ -50,12 +52,14 @@ impl Version {
         ensures { result ≡ record { version = self; profile = profile.now; position = position } }
     {
         let Version {
+            within,
             own,
             lent,
             touch,
             fixed,
         } = self;
         View {
+            within,
             own,
             lent: claimed(rt, lent),
             touch,
@@ -72,14 +76,14 @@ impl Version {
     ghost use Rattle.action_profile.specs.Modes.{has_write};
     ghost use Rattle.packet_version.specs.Parts.{as_map, writer_in, writers_of, AreTags, IsValueOf, IsPartOf};
     ghost use Rattle.packet_version.specs.Versions.{version_parts, with_part, nothing};
-    ghost use Rattle.packet_version.specs.Handing.{reads_more, writes_some, with_loan, with_packet, with_own_alone};
-    ghost use Rattle.std.specs.Prelude.{IsSome};
+    ghost use Rattle.packet_version.specs.Handing.{holding, reads_more, writes_few, writes_some, with_loan, with_packet};
 
     /// A branch's version in which there is no field yet.
     pub(crate) fn empty(alloc: Global, touch: Touch, fixed: Fixed) -> Result<Version, AllocError>
         ensures { IfOk result (λ version. version ≡ nothing touch fixed) }
     {
         Ok(Version {
+            within: None,
             own: own_places(alloc, touch.writes)?,
             lent: None,
             touch,
@@ -125,6 +129,9 @@ impl Version {
         if !self.touch.writes.has(field) {
             return 0;
         }
+        if let Some(held) = &self.within {
+            return held.writer(field);
+        }
         match &self.own[field.number()] {
             Some(part) => part.writer(),
             None => 0,
@@ -137,13 +144,17 @@ impl Version {
         requires formed { IsValueOf field part.bytes }
         ensures { self.new ≡ with_part field (Some part) self.old }
     {
-        self.own[field.number()] = Some(part);
+        match &mut self.within {
+            Some(held) => held.put(field, part),
+            None => put_part(&mut self.own[field.number()], part),
+        }
     }
 
     /// Lends the branch a packet that nobody wrote, of which it sees what it only reads.
     pub(crate) fn lend(&mut self, reader: Reader<Held>)
         requires unwritten { (f : Field) → writer_in (as_map reader.parts f) ≡ 0 }
         requires formed { (f : Field) → IsPartOf f (as_map reader.parts f) }
+        requires apart { self.old.kept ≡ None }
         ensures { self.new ≡ with_loan (as_map reader.parts) self.old }
     {
         self.lent = Some(Loan::Shared(reader));
@@ -153,34 +164,27 @@ impl Version {
     pub(crate) fn keep(&mut self, held: Held)
         requires unwritten { (f : Field) → writer_in (as_map held.parts f) ≡ 0 }
         requires formed { (f : Field) → IsPartOf f (as_map held.parts f) }
+        requires apart { self.old.kept ≡ None }
         ensures { self.new ≡ with_packet held self.old }
     {
         self.lent = Some(Loan::Whole(held));
     }
 
-    /// Takes the packet back that was left with the only branch of a stage, and leaves that branch its own
-    /// parts alone.
-    pub fn part(self) -> (Gathered, Version)
-        requires { IsSome self.kept }
-        ensures base { self.kept ≡ Some result.0 }
-        ensures version { result.1 ≡ with_own_alone self }
+    /// The version of a branch that has the packet, which nobody wrote, and writes in it. It is the only one
+    /// of its stage.
+    pub(crate) fn in_packet(alloc: Global, held: Held, touch: Touch, fixed: Fixed) -> Version
+        requires unwritten { (f : Field) → writer_in (as_map held.parts f) ≡ 0 }
+        requires formed { (f : Field) → IsPartOf f (as_map held.parts f) }
+        requires few { writes_few touch ≡ true }
+        ensures { result ≡ holding held touch fixed }
     {
-        let Version {
-            own,
-            lent,
-            touch,
-            fixed,
-        } = self;
-        let Some(Loan::Whole(held)) = lent else {
-            unreachable!()
-        };
-        let version = Version {
-            own,
+        Version {
+            within: Some(held),
+            own: Vec::new(alloc),
             lent: None,
             touch,
             fixed,
-        };
-        (Gathered { held, fixed }, version)
+        }
     }
 
     /// Takes the branch's own part of a field away.
@@ -191,11 +195,14 @@ impl Version {
         // The tags of a version are whole.
         ensures tags { field ≡ Field.Tag → AreTags result }
     {
-        mem::replace(&mut self.own[field.number()], None)
+        match &mut self.within {
+            Some(held) => held.take_few(field),
+            None => mem::replace(&mut self.own[field.number()], None),
+        }
     }
 }
 
-ghost use Rattle.std.specs.Prelude.{◌≡◌, None, IfOk, [], map, if◌then◌else◌};
+ghost use Rattle.std.specs.Prelude.{◌≡◌, Some, None, IfOk, [], map, if◌then◌else◌};
 ghost use Rattle.packet_fields.specs.Writing.{all_fields as every_field};
 ghost use Rattle.action_profile.specs.FieldSets.{is_none};
 
@@ -218,6 +225,13 @@ fn empty_places(alloc: Global) -> Result<Vec<Option<Part>>, AllocError>
         own.push(None)?;
     }
     Ok(own)
+}
+
+/// Puts a part into its place. One that lay there is let go.
+fn put_part(place: &mut Option<Part>, part: Part)
+    ensures { place.new ≡ Some part }
+{
+    *place = Some(part);
 }
 
 /// A claim on what is lent.

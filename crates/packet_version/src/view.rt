@@ -15,6 +15,7 @@ use std::mem;
 /// A version as one function sees it: what its profile names, and nothing else. A view can't be
 /// dropped: [`View::end`] gives the version back.
 pub struct View {
+    pub(crate) within: Option<Held>,
     pub(crate) own: Vec<Option<Part>>,
     pub(crate) lent: Option<Loan<Shown<Held>>>,
     pub(crate) touch: Touch,
@@ -24,15 +25,15 @@ pub struct View {
 }
 
 impl Model for View {
-    ghost use Rattle.packet_version.specs.Parts.{as_map, as_list};
-    ghost use Rattle.packet_version.specs.Versions.{had_by, lent_parts, kept_by};
+    ghost use Rattle.packet_version.specs.Parts.{as_list};
+    ghost use Rattle.packet_version.specs.Versions.{had_in, kept_of};
     ghost use Rattle.packet_version.specs.Views.{PlainView, IsView};
 
     ghost Value = { PlainView };
 
-    ghost view = { λ v. record { version = record { parts = as_list (had_by v.touch (as_map v.own.items) (lent_parts v.lent)); touch = v.touch; fixed = v.fixed; kept = kept_by v.lent v.fixed }; profile = v.profile; position = v.position } };
+    ghost view = { λ v. record { version = record { parts = as_list (had_in v.touch v.within v.own.items v.lent); touch = v.touch; fixed = v.fixed; kept = kept_of v.touch v.within v.lent v.fixed }; profile = v.profile; position = v.position } };
 
-    ghost invariant = { λ v. IsView v.profile v.touch v.own.items v.lent };
+    ghost invariant = { λ v. IsView v.profile v.touch v.within v.own.items v.lent };
 }
 
 impl View {
@@ -42,7 +43,7 @@ impl View {
     ghost use Rattle.packet_fields.specs.Fields.{IsLengthOf};
     ghost use Rattle.packet_fields.specs.declared.field.Field.{Field};
     ghost use Rattle.action_profile.specs.Profiles.{reads_of, writes_of};
-    ghost use Rattle.packet_version.specs.Parts.{IsPartOf};
+    ghost use Rattle.packet_version.specs.Parts.{AreTags};
     ghost use Rattle.packet_version.specs.Versions.{names, with_part};
     ghost use Rattle.packet_version.specs.Views.{seen_parts, seen_values, wrote, pushed, popped, HasBytes, HasTagRoom};
     ghost use Rattle.packet_version.specs.ViewLending.{LendsField};
@@ -73,6 +74,9 @@ impl View {
         requires named { names self.now.profile field ≡ true }
         ensures { option_copied result ≡ seen_values self.now field }
     {
+        if let Some(held) = &self.within {
+            return held.bytes(field);
+        }
         if self.touch.writes.has(field) {
             return own_bytes(&self.own[field.number()]);
         }
@@ -87,9 +91,10 @@ impl View {
         requires fits { HasBytes self.old field (λ old. length value.now ≡ length old) }
         ensures { self.new ≡ wrote field value.now self.old }
     {
-        let held = self.take(field);
-        let part = rewritten(held, self.position, value);
-        self.put(field, part);
+        match &mut self.within {
+            Some(held) => held.set(field, self.position, value),
+            None => set_part(&mut self.own[field.number()], self.position, value),
+        }
     }
 
     /// Lends the bytes of a field that is present and that the profile reads and writes, other than the
@@ -102,6 +107,10 @@ impl View {
         ensures* writes_back { sem 𝓛 (LendsField self.entry field result) }
         ensures bytes { seen_values self.old field ≡ Some result.now }
     {
+        if self.within.is_some() {
+            let within = &mut self.within;
+            return edit_within(within, field, self.position);
+        }
         let part = &mut self.own[field.number()];
         edit_part(part, self.position)
     }
@@ -114,9 +123,9 @@ impl View {
         requires room { HasTagRoom self.old }
         ensures { self.new ≡ pushed tag self.old }
     {
-        let held = self.take(Field::Tag);
+        let held = self.take_tags();
         let part = with_first_tag(held, self.position, tag);
-        self.put(Field::Tag, part);
+        self.put_tags(part);
     }
 
     /// Takes the first tag away, where there is one.
@@ -125,28 +134,28 @@ impl View {
         requires tagged { HasBytes self.old Field.Tag (λ tags. 0 < length tags) }
         ensures { self.new ≡ popped self.old }
     {
-        let held = self.take(Field::Tag);
+        let held = self.take_tags();
         let part = without_first_tag(held, self.position);
-        self.put(Field::Tag, part);
+        self.put_tags(part);
     }
 
-    /// Takes the part of a field away.
-    fn take(&mut self, field: Field) -> Option<Part>
-        requires written { writes_of self.old.profile field ≡ true }
-        ensures part { result ≡ seen_parts self.old field }
-        ensures left { self.new ≡ record self.old { version = with_part field None self.old.version } }
-        ensures formed { IsPartOf field result }
+    /// Takes the tags away. A branch that writes tags has them beside the packet.
+    fn take_tags(&mut self) -> Option<Part>
+        requires written { writes_of self.old.profile Field.Tag ≡ true }
+        ensures part { result ≡ seen_parts self.old Field.Tag }
+        ensures left { self.new ≡ record self.old { version = with_part Field.Tag None self.old.version } }
+        ensures tags { AreTags result }
     {
-        mem::replace(&mut self.own[field.number()], None)
+        mem::replace(&mut self.own[Field::Tag.number()], None)
     }
 
-    /// Puts a part, or none, into the place of a field.
-    fn put(&mut self, field: Field, part: Option<Part>)
-        requires written { writes_of self.old.profile field ≡ true }
-        requires formed { IsPartOf field part }
-        ensures { self.new ≡ record self.old { version = with_part field part self.old.version } }
+    /// Puts tags, or none, into their place.
+    fn put_tags(&mut self, part: Option<Part>)
+        requires written { writes_of self.old.profile Field.Tag ≡ true }
+        requires tags { AreTags part }
+        ensures { self.new ≡ record self.old { version = with_part Field.Tag part self.old.version } }
     {
-        self.own[field.number()] = part;
+        self.own[Field::Tag.number()] = part;
     }
 
     /// When the packet was captured, in nanoseconds.
@@ -189,6 +198,7 @@ impl View {
         ensures { result ≡ self.version }
     {
         let View {
+            within,
             own,
             lent,
             touch,
@@ -197,6 +207,7 @@ impl View {
             position: _,
         } = self;
         Version {
+            within,
             own,
             lent: released(lent),
             touch,
@@ -205,10 +216,13 @@ impl View {
     }
 }
 
-ghost use Rattle.std.specs.Prelude.{◌≡◌, ◌≤◌, ◌<◌, ◌+◌, ◌++◌, true, drop, length, option_map, IsSomeAnd};
+ghost use Rattle.std.specs.Prelude.{◌≡◌, ◌≢◌, ◌≤◌, ◌<◌, ◌+◌, ◌++◌, Some, true, drop, length, option_map, IsSome, IfSome, IsSomeAnd};
+ghost use Rattle.std.specs.Borrow.{sem};
+ghost use Rattle.packet_fields.specs.declared.field.Field.{Field};
+ghost use Rattle.packet_version.specs.Lending.{LendsWithin};
 ghost use Rattle.packet_fields.specs.Frames.{is_tpid, word};
 ghost use Rattle.std.specs.Option.{option_copied};
-ghost use Rattle.packet_version.specs.Parts.{AreTags, values_of, rewritten as rewritten_part};
+ghost use Rattle.packet_version.specs.Parts.{AreTags, IsPartOf, as_map, values_of, rewritten as rewritten_part};
 ghost use Rattle.packet_version.specs.Versions.{lent_parts};
 
 /// The bytes of a field of what is lent.
@@ -232,14 +246,29 @@ fn own_bytes(part: &Option<Part>) -> Option<&[u8]>
     }
 }
 
-/// A part that is there, with other bytes by this writer.
-fn rewritten(part: Option<Part>, writer: u32, bytes: &[u8]) -> Option<Part>
-    requires { IsSomeAnd part (λ p. length bytes.now ≡ length p.bytes) }
-    ensures { result ≡ option_map (rewritten_part bytes.now writer) part }
+/// Lends the bytes of a field of fixed length that is in the packet, where there is one.
+fn edit_within(within: &mut Option<Held>, field: Field, writer: u32) -> &mut [u8]
+    requires not_tag { field ≢ Field.Tag }
+    requires not_payload { field ≢ Field.Payload }
+    requires formed { IfSome within.old (λ held. IsPartOf field (as_map held.parts field)) }
+    requires present { IsSomeAnd within.old (λ held. IsSome (as_map held.parts field)) }
+    ensures* writes_back { sem 𝓛 (LendsWithin within.entry field writer result) }
+    ensures bytes { IfSome within.old (λ held. option_map (λ p. p.bytes) (as_map held.parts field) ≡ Some result.now) }
 {
-    let mut part = part?;
-    part.set(writer, bytes);
-    Some(part)
+    match within {
+        Some(held) => held.edit(field, writer),
+        None => unreachable!(),
+    }
+}
+
+/// Writes other bytes by this writer into a part that is there.
+fn set_part(part: &mut Option<Part>, writer: u32, bytes: &[u8])
+    requires { IsSomeAnd part.old (λ p. length bytes.now ≡ length p.bytes) }
+    ensures { part.new ≡ option_map (rewritten_part bytes.now writer) part.old }
+{
+    if let Some(part) = part {
+        part.set(writer, bytes);
+    }
 }
 
 /// Tags that are there, with one more before them.

@@ -9,7 +9,7 @@ use Rattle.packet_version.specs.Splitting.{PlainApart, IsWhole, packet_parts}
 use Rattle.packet_version.specs.Versions.{PlainVersion, nothing}
 use Rattle.packet_version.specs.Dealing.{dealt, based, kept_parts, copies_due, RaisesByDue, RaisesWithinDue}
 use Rattle.packet_version.specs.Handing.{touches_in, lent_to}
-use Rattle.packet_version.proofs.Dealt.{stage_dealt, kept_unwritten, kept_formed}
+use Rattle.packet_version.proofs.Dealt.{stage_dealt, owned_apart, kept_unwritten, kept_formed}
 use Rattle.packet_version.proofs.Forming.{whole_formed}
 use Rattle.packet_version.proofs.Handing.{on_err}
 use Rattle.packet_version.proofs.Maps.{as_map-listed}
@@ -52,6 +52,16 @@ returns-in_err-deal_parts-clause-refused c =
 
 pub returns-in_err-deal_parts-clause-fits : goal.returns-in_err-deal_parts-clause-fits
 returns-in_err-deal_parts-clause-fits c = subst (λ (w : PlainApart). IsWhole (packet_parts w) w.rest) c.whole.view_is (whole_to (as_map c.whole.inside.held.parts) c.whole.inside.held.frame c.whole.invariant)
+
+pub share_out-requires-clause-apart : goal.share_out-requires-clause-apart
+share_out-requires-clause-apart c =
+    let parts = as_map c.whole.inside.held.parts in
+    let fixed = c.whole.inside.fixed in
+    let touches = c.args.parts.now.touches in
+    let made : c.deref_mut.result.now ≡ map (λ t. nothing t fixed) touches = c.deref_mut.ensures.value ∙ (c.in_ok-versions.ensures ∙ ap (λ (ts : List Touch). map (λ t. nothing t fixed) ts) c.as_slice.ensures) in
+    let same : length c.deref_mut.result.now ≡ length c.in_ok-versions.versions.items = ap (λ (xs : List PlainVersion). length xs) c.deref_mut.ensures.value in
+    let owned : c.deref_mut-2.result.now ≡ c.deal_parts.new.versions = c.deref_mut-2.ensures.value ∙ take_at c.deal_parts.new.versions _ c.in_ok-versions.versions.len (omega (arith, c.in_ok-versions.versions.ok.0, c.deal_parts.auto.versions)) in
+    owned_apart touches parts fixed c.deref_mut.result.now c.deref_mut-2.result.now made (owned ∙ c.in_ok-deal_parts.ensures.given)
 
 pub share_out-requires-clause-unwritten : goal.share_out-requires-clause-unwritten
 share_out-requires-clause-unwritten c =

@@ -10,6 +10,7 @@ use Rattle.packet_version.specs.Handing.{touches_in, with_own}
 use Rattle.packet_version.proofs.Dealt.{whole_dealt, kept_unwritten, kept_formed}
 use Rattle.packet_version.proofs.Forming.{whole_formed}
 use Rattle.packet_version.proofs.Handing.{on_err}
+use Rattle.packet_version.proofs.InPacket.{packet_dealt, packet_unwritten, packet_formed, one_counted}
 use Rattle.packet_version.proofs.Maps.{as_map-listed}
 use Rattle.packet_version.proofs.PartsFitRest.{whole_to}
 use Rattle.packet_version.proofs.DealtByField.{touches_begin}
@@ -33,6 +34,15 @@ returns-in_err-deal_parts-clause-refused c =
 
 pub returns-in_err-deal_parts-clause-fits : goal.returns-in_err-deal_parts-clause-fits
 returns-in_err-deal_parts-clause-fits c = subst (λ (w : PlainApart). IsWhole (packet_parts w) w.rest) c.whole.view_is (whole_to (as_map c.whole.inside.held.parts) c.whole.inside.held.frame c.whole.invariant)
+
+pub keep-requires-clause-apart : goal.keep-requires-clause-apart
+keep-requires-clause-apart c =
+    let parts = as_map c.whole.inside.held.parts in
+    let t = c.args.touch in
+    let fixed = c.whole.inside.fixed in
+    let made : c.from_mut-only.result.now ≡ map (λ u. nothing u fixed) (t ∷ []) = c.from_mut-only.ensures.value ∙ ap (λ (v : PlainVersion). v ∷ []) c.in_ok-version.ensures in
+    let own : slice_index_or c.deal_parts.new.versions 0 c.in_ok-version.version ≡ with_own parts (nothing t fixed) = ap (λ (xs : List PlainVersion). slice_index_or xs 0 c.in_ok-version.version) (c.in_ok-deal_parts.ensures.given ∙ ap (λ (xs : List PlainVersion). map (with_own parts) xs) made) in
+    ap (λ (v : PlainVersion). v.kept) own
 
 pub keep-requires-clause-unwritten : goal.keep-requires-clause-unwritten
 keep-requires-clause-unwritten c =
@@ -76,3 +86,21 @@ returns-clause-counted c =
 
 pub returns-clause-fits : goal.returns-clause-fits
 returns-clause-fits c = subst (λ (w : PlainApart). IsWhole (packet_parts w) w.rest) c.whole.view_is (whole_to (as_map c.whole.inside.held.parts) c.whole.inside.held.frame c.whole.invariant)
+
+pub in_packet-requires-clause-unwritten : goal.in_packet-requires-clause-unwritten
+in_packet-requires-clause-unwritten c = packet_unwritten (as_map c.whole.inside.held.parts) c.whole.inside.held.frame c.forget_writers.new.self c.forget_writers.ensures
+
+pub in_packet-requires-clause-formed : goal.in_packet-requires-clause-formed
+in_packet-requires-clause-formed c = packet_formed (as_map c.whole.inside.held.parts) c.whole.inside.held.frame c.forget_writers.new.self c.forget_writers.ensures (whole_formed (as_map c.whole.inside.held.parts) c.whole.inside.held.frame c.whole.invariant)
+
+pub returns-then-is_few-clause-version : goal.returns-then-is_few-clause-version
+returns-then-is_few-clause-version c =
+    c.in_packet.ensures
+    ∙ (packet_dealt c.args.touch (as_map c.whole.inside.held.parts) c.whole.inside.held.frame c.whole.inside.fixed c.forget_writers.new.self c.forget_writers.ensures
+    ∙ ap (λ (w : PlainApart). dealt_whole w c.args.touch) c.whole.view_is)
+
+pub returns-then-is_few-clause-counted : goal.returns-then-is_few-clause-counted
+returns-then-is_few-clause-counted c = one_counted c.args.touch (packet_parts c.args.whole) c.args.tally.now
+
+pub returns-then-is_few-clause-fits : goal.returns-then-is_few-clause-fits
+returns-then-is_few-clause-fits c = subst (λ (w : PlainApart). IsWhole (packet_parts w) w.rest) c.whole.view_is (whole_to (as_map c.whole.inside.held.parts) c.whole.inside.held.frame c.whole.invariant)

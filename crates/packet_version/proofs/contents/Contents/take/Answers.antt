@@ -9,8 +9,9 @@ pub returns-clause-left : goal.returns-clause-left
 returns-clause-left c =
     let taggers = c.self.inside.taggers in
     let frame = c.self.inside.rest in
+    let writers = c.self.inside.writers in
     let places = c.open.new.places.items in
-    held_put taggers frame places c.number.result c.args.field c.replace-place.new.dest None c.args.self.now c.number.ensures.number c.number.ensures.below
+    held_put taggers frame writers places c.number-number.result c.args.field c.replace-place.new.dest None c.args.self.now c.number-number.ensures.number c.number-number.ensures.below
     (ap (λ (ps : List Place). length ps) c.open.ensures.places ∙ c.self.invariant.ten)
-    (ap (λ (p : Place). part_in taggers frame c.args.field p) c.replace-place.ensures.after)
-    (opened_held taggers frame c.self.inside.places.items places c.args.self.now c.open.ensures.places c.self.view_is)
+    (ap (λ (p : Place). part_in taggers frame writers c.args.field p) c.replace-place.ensures.after)
+    (opened_held taggers frame writers c.self.inside.places.items places c.args.self.now c.open.ensures.places c.self.view_is)
