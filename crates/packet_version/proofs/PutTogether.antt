@@ -1,13 +1,11 @@
 -- A packet that only one branch had is put together again.
-use Rattle.std.proofs.Common.{◌≡◌, ◌≢◌, ◌∙◌, ◌+◌, ℕ, Bool, true, false, List, sym, ap, refl, subst, length, set, arith}
+use Rattle.std.proofs.Common.{◌≡◌, ◌≢◌, ◌∙◌, ◌+◌, ℕ, Bool, true, false, List, sym, ap, refl, subst, length, arith}
 use mathlib.Core.Path.{fun_ext}
-use Rattle.std.specs.Prelude.{Option, Some, None, IfSome, is_some, if◌then◌else◌, ◌==◌, ◌&&◌, nat_lt}
-use Rattle.std.proofs.lemmas.Bool.Decides.{Decides-eqb, nat_tests}
-use Rattle.std.proofs.lemmas.List.{get_or-set_other}
+use Rattle.std.specs.Prelude.{Option, Some, None, IfSome, if◌then◌else◌, ◌==◌, ◌&&◌, nat_lt}
+use Rattle.std.proofs.lemmas.Bool.Decides.{nat_tests}
 use Rattle.packet_fields.specs.Fields.{number_of}
 use Rattle.packet_fields.specs.Writing.{rest_of}
 use Rattle.packet_fields.specs.declared.field.Field.{Field}
-use Rattle.packet_fields.specs.declared.field.Field.TheVariants.{LinkDst, LinkSrc, Tag, Tos, Ttl, SrcIp, DstIp, SrcPort, DstPort, Payload}
 use Rattle.action_profile.specs.Modes.{has_write}
 use Rattle.action_profile.specs.declared.parts.Touch.{Touch}
 use Rattle.chain_walk.specs.declared.fixed.Fixed.{Fixed}
@@ -17,7 +15,7 @@ use Rattle.packet_version.specs.Versions.{PlainVersion, version_parts, lent_part
 use Rattle.packet_version.specs.Rejoining.{rejoined_part, rejoined_by, rejoined_parts, with_rejoined}
 use Rattle.packet_version.specs.declared.loan.Loan.{Loan}
 use Rattle.packet_version.specs.declared.loan.Loan.TheVariants.{Whole}
-use Rattle.packet_version.proofs.DealtByField.{by_field, same_field}
+use Rattle.packet_version.proofs.DealtByField.{by_field}
 use Rattle.packet_version.proofs.Maps.{as_map-listed, as_list-again}
 use Rattle.packet_version.proofs.PartsFitRest.{whole_from}
 use Rattle.packet_version.proofs.PartsOfBranch.{version_of, version_as, parts_are, had_own, within_read}
@@ -47,39 +45,11 @@ way_next f i done left part g is here = by_field f g (changed f part (way i done
     ap (λ (b : Bool). if b then part else way i done left g) e
     ∙ sym (way_by (i + 1) done left g (nat_lt (number_of g) i) (lt_other (number_of g) i (λ s. apart (s ∙ sym is)))))
 
-way_none : (done left : Parts) (g : Field) → way 0 done left g ≡ left g
-way_none done left g = way_by 0 done left g false (grind (arith, nat_tests))
-
-way_all : (done left : Parts) (g : Field) → way 10 done left g ≡ done g
-way_all done left LinkDst = refl
-way_all done left LinkSrc = refl
-way_all done left Tag = refl
-way_all done left Tos = refl
-way_all done left Ttl = refl
-way_all done left SrcIp = refl
-way_all done left DstIp = refl
-way_all done left SrcPort = refl
-way_all done left DstPort = refl
-way_all done left Payload = refl
-
 abbrev pub on_way : ℕ → PlainApart → Parts → PlainApart
 on_way i first done = with_rejoined first (way i done (packet_parts first))
 
--- before the first field, and behind the last
-pub way_begins : (first : PlainApart) (done : Parts) → first.parts ≡ as_list (packet_parts first) → first ≡ on_way 0 first done
-way_begins first done listed =
-    ap (λ (ps : List (Option PlainPart)). let a : PlainApart = record { parts = ps; rest = first.rest; fixed = first.fixed } in a) (listed ∙ ap as_list (sym (fun_ext (way_none done (packet_parts first)))))
-
-pub way_ends : (i : ℕ) (first now : PlainApart) (done : Parts) → i ≡ 10 → now ≡ on_way i first done → now ≡ with_rejoined first done
-way_ends i first now done is e =
-    e ∙ (ap (λ (n : ℕ). on_way n first done) is ∙ ap (λ (m : Parts). with_rejoined first m) (fun_ext (way_all done (packet_parts first))))
-
 way_parts : (i : ℕ) (first was : PlainApart) (done : Parts) → was ≡ on_way i first done → packet_parts was ≡ way i done (packet_parts first)
 way_parts i first was done e = ap packet_parts e ∙ as_map-listed (way i done (packet_parts first))
-
--- the list of parts is that of a map on the way
-pub way_listed : (i : ℕ) (first was : PlainApart) (done : Parts) → was ≡ on_way i first done → was.parts ≡ as_list (packet_parts was)
-way_listed i first was done e = ap (λ (w : PlainApart). w.parts) e ∙ ap as_list (sym (way_parts i first was done e))
 
 -- one field more
 pub way_more : (f : Field) (i : ℕ) (touch : Touch) (own first_own : Parts) (first was next : PlainApart) → number_of f ≡ i → own f ≡ first_own f → was ≡ on_way i first (rejoined_by touch first_own (packet_parts first)) → next ≡ with_rejoined was (changed f (rejoined_by touch own (packet_parts was) f) (packet_parts was)) → next ≡ on_way (i + 1) first (rejoined_by touch first_own (packet_parts first))
@@ -91,34 +61,6 @@ way_more f i touch own first_own first was next is same e step =
     ∙ (ap (λ (w : PlainApart). with_rejoined w (changed f (rejoined_by touch own (packet_parts was) f) (packet_parts was))) e
     ∙ (ap (λ (m : Parts). with_rejoined first (changed f (rejoined_by touch own (packet_parts was) f) m)) (way_parts i first was done e)
     ∙ ap (λ (m : Parts). with_rejoined first m) (fun_ext (λ g. way_next f i done (packet_parts first) (rejoined_by touch own (packet_parts was) f) g is part))))
-
--- a part that was there, put again
-pub put_same : (f : Field) (base : PlainApart) (part : Option PlainPart) → base.parts ≡ as_list (packet_parts base) → part ≡ packet_parts base f → base ≡ with_rejoined base (changed f part (packet_parts base))
-put_same f base part listed is =
-    ap (λ (ps : List (Option PlainPart)). let a : PlainApart = record { parts = ps; rest = base.rest; fixed = base.fixed } in a)
-    (listed ∙ ap as_list (sym (fun_ext (λ g. by_field f g (changed f part (packet_parts base) g ≡ packet_parts base g)
-    (λ same e. ap (λ (b : Bool). if b then part else packet_parts base g) e ∙ (is ∙ ap (packet_parts base) same))
-    (λ apart e. ap (λ (b : Bool). if b then part else packet_parts base g) e)))))
-
--- a part that the branch didn't write, of a field that the packet has
-pub part_stays : (part : Option PlainPart) (p : PlainPart) (base : Option PlainPart) → part ≡ Some p → p.writer ≡ 0 → is_some base ≡ true → rejoined_part part base ≡ base
-part_stays part p base is zero there =
-    ap (λ (o : Option PlainPart). rejoined_part o base) is
-    ∙ (ap (λ (n : ℕ). if (n == 0) && is_some base then base else Some p) zero ∙ ap (λ (b : Bool). if b then base else Some p) there)
-
-zero_test : (n : ℕ) (b : Bool) → (n ≡ 0 → b ≡ false) → ((n == 0) && b) ≡ false
-zero_test n b other = by_test (n == 0) refl
-  where
-    by_test : (c : Bool) → (n == 0) ≡ c → (c && b) ≡ false
-    by_test true e = other ((Decides-eqb n 0).0 e)
-    by_test false e = refl
-
--- one that it wrote, or that the packet lacks
-pub part_taken : (part : Option PlainPart) (p : PlainPart) (base : Option PlainPart) → part ≡ Some p → (p.writer ≡ 0 → is_some base ≡ false) → rejoined_part part base ≡ Some p
-part_taken part p base is other = ap (λ (o : Option PlainPart). rejoined_part o base) is ∙ ap (λ (b : Bool). if b then base else Some p) (zero_test p.writer (is_some base) other)
-
-pub no_part_taken : (part base : Option PlainPart) → part ≡ None → rejoined_part part base ≡ base
-no_part_taken part base is = ap (λ (o : Option PlainPart). rejoined_part o base) is
 
 -- what a branch had that has its own parts beside the packet
 abbrev pub base_of : PlainHeld → Fixed → PlainApart
@@ -189,7 +131,3 @@ beside_whole old base now kept made whole =
 
 pub beside_again : (old : PlainVersion) (base now : PlainApart) → old.kept ≡ Some base → now ≡ with_rejoined base (rejoined_parts old base) → IfSome old.kept (λ b. now ≡ with_rejoined b (rejoined_parts old b))
 beside_again old base now kept made = subst (λ (o : Option PlainApart). IfSome o (λ b. now ≡ with_rejoined b (rejoined_parts old b))) (sym kept) made
-
--- other parts stay where one is taken away
-pub others_stay : (own : List (Option PlainPart)) (n : ℕ) (f g : Field) (o : Option PlainPart) → n ≡ number_of f → g ≢ f → as_map (set own n o) g ≡ as_map own g
-others_stay own n f g o is apart = get_or-set_other own n (number_of g) o None (λ same. apart (same_field g f (same ∙ is)))

@@ -9,12 +9,12 @@
 //! it reads and writes what the profile names and nothing else. What no branch has stays in the [`Base`];
 //! behind the stage it gathers the lent parts ([`Base::gather`]), takes those that the branches wrote
 //! ([`Version::take`], [`Gathered::put`]), and is a packet again ([`Gathered::finish`]). The only branch of a
-//! stage has the whole packet with it ([`deal_whole`]) and puts it together again ([`Version::rejoin`]): there is
-//! no base, and nothing is lent.
+//! stage has the whole packet with it ([`deal_whole`]) and puts it together again ([`Version::rejoin`]):
+//! there is no base, and nothing is lent.
 //!
 //! A part stays in its frame until a branch writes its field: then it is taken out, and [`join`] writes
-//! it back. The only branch of a stage writes a field of fixed length in the frame itself, unless it may
-//! write the tags or the payload. So a field that nobody writes is never copied, and all that a stage's branches only read is
+//! it back. The only branch of a stage writes in the frame itself, where it writes fields of fixed length
+//! alone. So a field that nobody writes is never copied, and all that a stage's branches only read is
 //! lent at once, with the frame.
 //!
 //! What is promised: a frame that was split and joined is the same frame, whatever its bytes; each branch
