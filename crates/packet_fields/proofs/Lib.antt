@@ -18,3 +18,4 @@ pub mod RightFrames
 pub mod Fixed
 pub mod Rest
 pub mod SamePlaces
+pub mod Outlines

@@ -81,7 +81,7 @@ headers_parts p q test =
       total = number_from (total_len p) (total_len q) numbers.1;
     }
 
-transport_long : (p : List ℕ) → has_transport p ≡ true → 11 < length p
+pub transport_long : (p : List ℕ) → has_transport p ≡ true → 11 < length p
 unfolding has_transport
 transport_long p there =
     let rest = (and_parts (is_ipv4 p) (nat_lt 11 (length p) && ((is_tcp p || is_udp p) && ((word p 8 % 8192 == 0) && nat_le (header_len p) (word p 4)))) there).1 in

@@ -5,3 +5,4 @@ pub mod Plans
 pub mod Writing
 pub mod Checksums
 pub mod Changes
+pub mod Outlines

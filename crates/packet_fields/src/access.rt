@@ -48,7 +48,7 @@ pub fn part(bytes: &[u8], span: Span) -> &[u8]
 }
 
 /// Writes the bytes of a span.
-fn overwrite(bytes: &mut [u8], span: Span, value: &[u8])
+pub fn overwrite(bytes: &mut [u8], span: Span, value: &[u8])
     requires inside { span.at + span.len ≤ length bytes.old }
     requires len { length value.now ≡ span.len }
     ensures { bytes.new ≡ overwritten span.at value.now bytes.old }

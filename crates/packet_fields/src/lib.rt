@@ -6,20 +6,22 @@
 //! none writes, in the headers of IPv4 (RFC 791), TCP (RFC 793) and UDP (RFC 768). It takes bytes of
 //! any kind and length: a capture that was cut, a later fragment or a header that is none has fewer
 //! fields, and no call reads past what was captured. [`get`] gives a field's bytes and [`put`] writes
-//! them; [`tags`] and [`with_tags`] are for the list of tags, whose length may change; [`seal`] adjusts
-//! the checksums once for all changes (RFC 1624). Only [`with_tags`] takes memory.
+//! them. An [`Outline`] does the same for one who asks for few fields: it keeps which headers there are,
+//! and finds a field where it is asked for. [`tags`] and [`with_tags`] are for the list of tags, whose
+//! length may change; [`seal`] adjusts the checksums once for all changes (RFC 1624). Only
+//! [`with_tags`] takes memory.
 //!
 //! What is promised, for all bytes: a field that was written has its value, and every other field, every
 //! place and the rest of the frame stay; a re-tagged frame has these tags; sealing changes no field,
 //! leaves a frame that did not change, and keeps right checksums right by the sum of RFC 1071.
 //!
 //! Contracts name a field's bytes by `value` of `packet_fields.specs.Fields`, its place by `span`, and
-//! the whole layout by `layout_of`; `IsLengthOf` of that module says how many bytes a field has. A
-//! frame that was written to is `put` and `with_tags` of `specs.Writing`; `written` and `rest_of` of
-//! that module take a frame apart into its fields and its rest, and `proofs.Walk` has their laws: a
-//! frame is built again from both, the fields of a frame that was written to are the new values over
-//! the old, and its rest stays. A sealed frame is `sealed` of `specs.Checksums`. A [`Frame`] is seen as
-//! the list of its bytes.
+//! the whole layout by `layout_of`; `IsLengthOf` of that module says how many bytes a field has. An
+//! outline is `outline_of` of `specs.Outlines`. A frame that was written to is `put` and `with_tags` of
+//! `specs.Writing`; `written` and `rest_of` of that module take a frame apart into its fields and its
+//! rest, and `proofs.Walk` has their laws: a frame is built again from both, the fields of a frame that
+//! was written to are the new values over the old, and its rest stays. A sealed frame is `sealed` of
+//! `specs.Checksums`. A [`Frame`] is seen as the list of its bytes.
 //!
 //! IPv6 is left out, and so are checksums as such: none is computed, and a wrong one stays wrong.
 #![tactic(auto)]
@@ -27,6 +29,7 @@
 mod access;
 mod field;
 mod frame;
+mod outline;
 mod packet;
 mod places;
 mod plan;
@@ -37,6 +40,7 @@ mod tagging;
 pub use access::{get, put};
 pub use field::Field;
 pub use frame::Frame;
+pub use outline::{Outline, Segment};
 pub use places::layout;
 pub use plan::{Layout, Span};
 pub use sealing::seal;

@@ -14,13 +14,13 @@ const IPV4: u16 = 0x0800;
 pub const HEADER: usize = 2;
 
 // The places of its fields, which RFC 791, 3.1, counts from the header's first byte.
-const TOS: usize = HEADER + 1;
+pub const TOS: usize = HEADER + 1;
 
 pub const TOTAL_LEN: usize = HEADER + 2;
 
 const FRAGMENT: usize = HEADER + 6;
 
-const TTL: usize = HEADER + 8;
+pub const TTL: usize = HEADER + 8;
 
 pub const PROTOCOL: usize = HEADER + 9;
 
@@ -28,16 +28,16 @@ pub const HEADER_SUM: usize = HEADER + 10;
 
 pub const SRC_IP: usize = HEADER + 12;
 
-const DST_IP: usize = HEADER + 16;
+pub const DST_IP: usize = HEADER + 16;
 
 // The places of fields of TCP and UDP, from the first byte of their header (RFC 793, 3.1; RFC 768).
-const SRC_PORT: usize = 0;
+pub const SRC_PORT: usize = 0;
 
-const DST_PORT: usize = 2;
+pub const DST_PORT: usize = 2;
 
 const TCP_OFFSET: usize = 12;
 
-const TCP_CONTROL: usize = 13;
+pub const TCP_CONTROL: usize = 13;
 
 const TCP_SUM: usize = 16;
 
@@ -45,7 +45,8 @@ const UDP_SUM: usize = 6;
 
 const UDP_HEADER_LEN: usize = 8;
 
-const TCP: u8 = 6;
+/// The protocol number of TCP (RFC 793).
+pub const TCP: u8 = 6;
 
 /// The protocol number of UDP (RFC 768).
 pub const UDP: u8 = 17;
@@ -107,7 +108,7 @@ fn place(there: bool, limit: usize, at: usize, len: usize) -> Option<usize>
 }
 
 /// The byte at a place that lies below a limit.
-fn byte(there: bool, limit: usize, bytes: &[u8], at: usize) -> Option<u8>
+pub fn byte(there: bool, limit: usize, bytes: &[u8], at: usize) -> Option<u8>
     requires { limit ≤ length bytes.now }
     ensures { result ≡ byte_within there limit bytes.now at }
 {
@@ -137,8 +138,18 @@ pub fn has_transport(packet: &[u8]) -> bool
     ensures room { IsTrue result → 12 ≤ length packet.now }
     ensures kind { IsTrue result → (is_tcp packet.now || is_udp packet.now) ≡ true }
 {
-    is_ipv4(packet)
-        && packet.len() > PROTOCOL
+    is_ipv4(packet) && has_segment(packet)
+}
+
+/// Does a TCP or UDP header begin behind this IPv4 header?
+#[tactic(auto, unfolding(crate::specs::Packets::has_transport))]
+pub fn has_segment(packet: &[u8]) -> bool
+    requires { is_ipv4_of packet.now ≡ true }
+    ensures there { result ≡ has_transport_of packet.now }
+    ensures room { IsTrue result → 12 ≤ length packet.now }
+    ensures kind { IsTrue result → (is_tcp packet.now || is_udp packet.now) ≡ true }
+{
+    packet.len() > PROTOCOL
         && (packet[PROTOCOL] == TCP || packet[PROTOCOL] == UDP)
         && word(packet, FRAGMENT) % 8192 == 0
         && 4 * u16::from(packet[HEADER] % 16) <= word(packet, TOTAL_LEN)
@@ -192,7 +203,7 @@ pub fn segment_at(packet: &[u8]) -> usize
 }
 
 /// Where the captured bytes of the datagram end.
-fn datagram_end(packet: &[u8]) -> usize
+pub fn datagram_end(packet: &[u8]) -> usize
     requires { 6 ≤ length packet.now }
     ensures end { result ≡ datagram_end_of packet.now }
     ensures inside { result ≤ length packet.now }
@@ -205,7 +216,7 @@ fn datagram_end(packet: &[u8]) -> usize
 
 /// Where the data behind a transport header that begins at `start` lies, below `end`.
 #[inline(always)]
-fn data_span(packet: &[u8], start: usize, end: usize) -> Option<Span>
+pub fn data_span(packet: &[u8], start: usize, end: usize) -> Option<Span>
     requires there { IsTrue (has_transport_of packet.now) }
     requires room { 12 ≤ length packet.now }
     requires begins { start ≡ segment_at_of packet.now }

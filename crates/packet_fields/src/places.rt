@@ -82,7 +82,7 @@ pub fn packet_from(frame: &[u8], start: usize) -> &[u8]
 }
 
 /// The bytes between the addresses and the EtherType.
-fn tag_place(frame: &[u8], start: usize) -> Option<Span>
+pub fn tag_place(frame: &[u8], start: usize) -> Option<Span>
     requires { start ≡ packet_at frame.now }
     ensures { result ≡ tag_span frame.now }
 {
@@ -98,7 +98,7 @@ fn tag_place(frame: &[u8], start: usize) -> Option<Span>
 
 /// The span that lies `by` bytes further behind.
 #[inline(always)]
-fn moved(span: Option<Span>, by: usize) -> Option<Span>
+pub fn moved(span: Option<Span>, by: usize) -> Option<Span>
     requires { IfSome span (λ s. s.at + s.len + by ≤ usize.MAX) }
     ensures { result ≡ option_map (moved_of by) span }
 {
