@@ -1,11 +1,11 @@
 -- The places that follow from an outline.
-use Rattle.std.proofs.Common.{◌≡◌, ◌≢◌, ◌≤◌, ◌+◌, ◌-◌, ◌∙◌, ℕ, List, length, length-drop, Bool, true, false, ◌&&◌, sym, ap, refl, arith, subst}
-use Rattle.std.specs.Prelude.{Option, Some, None, IfSome, option_map, if◌then◌else◌, nat_le}
+use Rattle.std.proofs.Common.{◌≡◌, ◌≢◌, ◌≤◌, ◌+◌, ◌-◌, ◌∙◌, ℕ, List, length, length-drop, true, false, ◌&&◌, sym, ap, refl, arith, subst}
+use Rattle.std.specs.Prelude.{Option, Some, None, IfSome, option_map, nat_le}
 use Rattle.std.proofs.lemmas.Bool.{and_parts, leb-true}
 use Rattle.std.proofs.lemmas.Option.{cond_some, same_Some, none-some}
 use Rattle.packet_fields.specs.Frames.{packet_at, packet}
 use Rattle.packet_fields.specs.Packets.{is_ipv4, has_transport, segment_at, datagram_end, has_data, data_at, data_span}
-use Rattle.packet_fields.specs.Fields.{in_frame, span}
+use Rattle.packet_fields.specs.Fields.{span}
 use Rattle.packet_fields.specs.Outlines.{outline_of, segment_in}
 use Rattle.packet_fields.specs.Writing.{put, Fits}
 use Rattle.packet_fields.specs.declared.outline.Outline.{Outline}
@@ -25,13 +25,10 @@ start_inside frame o own = let start : o.start ≡ packet_at frame = ap (λ (x :
 
 -- what an outline tells of a segment
 pub record HasSegment (frame : List ℕ) (o : Outline) (s : Segment) : Type 0 where
-  pub start : o.start ≡ packet_at frame
   pub there : has_transport (packet frame) ≡ true
-  pub at : s.at ≡ segment_at (packet frame)
   pub ends : s.end ≡ datagram_end (packet frame)
   pub payload : s.payload ≡ option_map (λ s. s.at) (data_span (packet frame))
   pub inside : s.end + o.start ≤ length frame
-  pub near : s.at ≤ 62
 
 pub has_segment : (frame : List ℕ) (o : Outline) (s : Segment) → o ≡ outline_of frame → o.segment ≡ Some s → HasSegment frame o s
 has_segment frame o s own is =
@@ -39,59 +36,26 @@ has_segment frame o s own is =
     let start : o.start ≡ packet_at frame = ap (λ (x : Outline). x.start) own in
     let test = cond_some (has_transport p) (record { at = segment_at p; end = datagram_end p; payload = option_map (λ (t : Span). t.at) (data_span p) }) s (sym (ap (λ (x : Outline). x.segment) own) ∙ is) in
     let ends : s.end ≡ datagram_end p = sym (ap (λ (x : Segment). x.end) test.1) in
-    let at : s.at ≡ segment_at p = sym (ap (λ (x : Segment). x.at) test.1) in
     record {
-      start = start;
       there = test.0;
-      at = at;
       ends = ends;
       payload = sym (ap (λ (x : Segment). x.payload) test.1);
       inside = omega (arith, start, ends, length-drop (packet_at frame) frame, packet_at-inside frame);
-      near = omega (arith, at);
     }
-
-no_cond : {A : Type 0} (b : Bool) (x : A) → (if b then Some x else None) ≡ None → b ≡ false
-no_cond true x is = absurd (none-some x (sym is))
-no_cond false x is = refl
-
-pub no_segment : (frame : List ℕ) (o : Outline) → o ≡ outline_of frame → o.segment ≡ None → has_transport (packet frame) ≡ false
-no_segment frame o own is =
-    let p = packet frame in
-    no_cond (has_transport p) (record { at = segment_at p; end = datagram_end p; payload = option_map (λ (t : Span). t.at) (data_span p) }) (sym (ap (λ (x : Outline). x.segment) own) ∙ is)
-
--- the place of the data
-none_mapped : (o : Option Span) → option_map (λ s. s.at) o ≡ None → o ≡ None
-none_mapped None is = refl
-none_mapped (Some s) is = absurd (none-some s.at (sym is))
 
 some_mapped : (o : Option Span) (n : ℕ) → option_map (λ s. s.at) o ≡ Some n → (s : Span) × (o ≡ Some s) × (s.at ≡ n)
 some_mapped None n is = absurd (none-some n is)
 some_mapped (Some s) n is = (s, refl, same_Some s.at n is)
 
-pub payload_none : (frame : List ℕ) (o : Outline) (s : Segment) → HasSegment frame o s → s.payload ≡ None → None ≡ in_frame frame (data_span (packet frame))
-payload_none frame o s h is = ap (λ (x : Option Span). in_frame frame x) (sym (none_mapped (data_span (packet frame)) (sym h.payload ∙ is)))
-
-pub payload_gone : (frame : List ℕ) → has_transport (packet frame) ≡ false → None ≡ in_frame frame (data_span (packet frame))
-payload_gone frame gone = cc
-
--- where the data begins, and where it ends
-pub record HasPayload (frame : List ℕ) (o : Outline) (s : Segment) (at : ℕ) : Type 0 where
-  pub below : at ≤ s.end
-  pub found : data_span (packet frame) ≡ Some (record { at = at; len = s.end - at })
-
-pub has_payload : (frame : List ℕ) (o : Outline) (s : Segment) (at : ℕ) → HasSegment frame o s → s.payload ≡ Some at → HasPayload frame o s at
-has_payload frame o s at h is =
+-- the data begins within the segment
+pub payload_below : (frame : List ℕ) (o : Outline) (s : Segment) (at : ℕ) → HasSegment frame o s → s.payload ≡ Some at → at ≤ s.end
+payload_below frame o s at h is =
     let p = packet frame in
     let t = some_mapped (data_span p) at (sym h.payload ∙ is) in
     let test = cond_some (has_data p && nat_le (data_at p) (datagram_end p)) (record { at = data_at p; len = datagram_end p - data_at p }) t.0 t.1 in
     let begins : data_at p ≡ at = ap (λ (x : Span). x.at) test.1 ∙ t.2 in
     let below : data_at p ≤ datagram_end p = leb-true (data_at p) (datagram_end p) (and_parts (has_data p) (nat_le (data_at p) (datagram_end p)) test.0).1 in
-    let ends = h.ends in
-    let same : datagram_end p - data_at p ≡ s.end - at = cc in
-    record {
-      below = omega (arith, begins, below, ends);
-      found = t.1 ∙ (ap (λ (x : Span). Some x) (sym test.1) ∙ cc);
-    }
+    omega (arith, begins, below, h.ends)
 
 -- no segment begins where no IPv4 header does
 pub no_header : (p : List ℕ) → is_ipv4 p ≡ false → None ≡ segment_in p

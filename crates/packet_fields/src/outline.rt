@@ -59,6 +59,7 @@ impl Outline {
     }
 
     /// Where a field of the frame lies, if it is present.
+    #[inline(always)]
     pub fn place(&self, field: Field, frame: &[u8]) -> Option<Span>
         requires { self.now ≡ outline_of frame.now }
         ensures place { result ≡ span field frame.now }
