@@ -35,7 +35,7 @@ ghost use Rattle.packet_version.specs.Splitting.{packet_parts, split_parts as sp
 /// Takes a frame of any bytes apart. The parts are written by nobody, and the list of tags has room for
 /// `taggers` tags more. `time` is when the packet was captured, in nanoseconds.
 ///
-/// Memory is taken for a copy of the frame, for its layout, and for the places of its parts.
+/// Memory is taken for a copy of the frame, for its outline, and for the places of its parts.
 pub fn split(alloc: Global, frame: &[u8], time: u64, taggers: u32) -> Result<Apart, AllocError>
     ensures parts { IfOk result (λ whole. packet_parts whole ≡ split_parts_of taggers frame.now) }
     ensures rest { IfOk result (λ whole. whole.rest ≡ rest_of frame.now) }
@@ -48,14 +48,7 @@ pub fn split(alloc: Global, frame: &[u8], time: u64, taggers: u32) -> Result<Apa
     ensures whole { IfOk result (λ whole. joined whole ≡ frame.now) }
 {
     let rest = Rest::new(Vec::from_slice(alloc, frame)?);
-    let plan = rest.plan();
-    let fixed = Fixed {
-        time,
-        ether_type: plan.ether_type,
-        proto: plan.proto,
-        ip_len: plan.ip_len,
-        tcp_flags: plan.tcp_flags,
-    };
+    let fixed = rest.fixed(time);
     let held = Held::new(alloc, rest, taggers)?;
     Ok(Apart { held, fixed })
 }

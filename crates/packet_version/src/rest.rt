@@ -1,46 +1,54 @@
 //! What is left of a frame without its fields.
 
-use packet_fields::{Field, Layout, layout};
+use chain_walk::Fixed;
+use packet_fields::{Field, Outline};
 use std::alloc::{AllocError, Global};
 use std::marker::Model;
 
-/// A frame whose fields are of no account, with its own layout.
+/// A frame whose fields are of no account, with its own outline.
 #[derive(Drop)]
 pub(crate) struct Rest {
     bytes: Vec<u8>,
-    plan: Layout,
+    outline: Outline,
 }
 
 impl Model for Rest {
     ghost use Rattle.std.specs.Prelude.{◌≡◌, List, ℕ};
-    ghost use Rattle.packet_fields.specs.Fields.{layout_of};
+    ghost use Rattle.packet_fields.specs.Outlines.{outline_of};
 
     ghost Value = { List ℕ };
 
     ghost view = { λ r. r.bytes.items };
 
-    ghost invariant = { λ r. r.plan ≡ layout_of r.bytes.items };
+    ghost invariant = { λ r. r.outline ≡ outline_of r.bytes.items };
 }
 
 impl Rest {
     ghost use Rattle.std.specs.Prelude.{◌≡◌, ◌≢◌, OnOk, IfSome, IsTrue, length};
     ghost use Rattle.std.specs.Option.{option_copied};
-    ghost use Rattle.packet_fields.specs.Fields.{value, layout_of, IsLengthOf};
+    ghost use Rattle.packet_fields.specs.Fields.{value, IsLengthOf};
     ghost use Rattle.packet_fields.specs.Writing.{put as put_in, rest_of, Fits};
+    ghost use Rattle.chain_walk.specs.Shown.{fixed_of};
     ghost use Rattle.packet_fields.specs.declared.field.Field.{Field};
 
     pub(crate) fn new(bytes: Vec<u8>) -> Self
         ensures { result ≡ bytes.items }
     {
-        let plan = layout(&bytes);
-        Rest { bytes, plan }
+        let outline = Outline::of(&bytes);
+        Rest { bytes, outline }
     }
 
-    /// The frame's own values.
-    pub(crate) fn plan(&self) -> &Layout
-        ensures { result.now ≡ layout_of self.now }
+    /// The fixed values of the frame, which was captured at `time`, in nanoseconds.
+    pub(crate) fn fixed(&self, time: u64) -> Fixed
+        ensures { result ≡ fixed_of time self.now }
     {
-        &self.plan
+        Fixed {
+            time,
+            ether_type: self.outline.ether_type(&self.bytes),
+            proto: self.outline.protocol(&self.bytes),
+            ip_len: self.outline.total_len(&self.bytes),
+            tcp_flags: self.outline.control_bits(&self.bytes),
+        }
     }
 
     /// The bytes in a field's place.
@@ -48,7 +56,7 @@ impl Rest {
         ensures value { option_copied result ≡ value field self.now }
         ensures length { IfSome result (λ bytes. IsLengthOf field (length bytes.now)) }
     {
-        packet_fields::get(field, &self.bytes, &self.plan)
+        self.outline.get(field, &self.bytes)
     }
 
     /// Puts these bytes into a field's place.
@@ -101,13 +109,13 @@ impl Rest {
         ensures others { (g : Field) → field ≢ g → value g self.new ≡ value g self.old }
         ensures rest { rest_of self.new ≡ rest_of self.old }
     {
-        packet_fields::put(field, bytes, &mut self.bytes, &self.plan);
+        self.outline.put(field, bytes, &mut self.bytes);
     }
 
     pub(crate) fn into_bytes(self) -> Vec<u8>
         ensures { result.items ≡ self }
     {
-        let Rest { bytes, plan: _ } = self;
+        let Rest { bytes, outline: _ } = self;
         bytes
     }
 }
