@@ -18,6 +18,7 @@ use std::alloc::AllocError;
 use std::sync::Wait;
 
 /// One function on a version of a packet: the version with what it wrote, or its drop.
+#[inline(always)]
 pub fn step_on<F: Function, R: Wait>(
     rt: &R,
     function: &mut F,
@@ -45,6 +46,7 @@ pub fn step_on<F: Function, R: Wait>(
 
 /// The functions of a branch at these chain positions, one after another on a version of a packet, until one
 /// drops it. Each passes the gate before its step.
+#[inline(always)]
 pub(crate) fn run_branch<F: Function, G: Gate, R: Wait>(
     rt: &R,
     gate: &G,

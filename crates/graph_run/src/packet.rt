@@ -18,6 +18,7 @@ use std::sync::Wait;
 
 /// Leads a packet, captured at `time` in nanoseconds, through the stages of a graph, one after another, until
 /// it is dropped or goes out. So many of the functions add a tag.
+#[inline(always)]
 pub(crate) fn run_packet<F: Function, G: Gate, R: Wait>(
     rt: &R,
     alloc: Global,

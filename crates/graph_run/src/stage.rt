@@ -19,6 +19,7 @@ use std::alloc::{AllocError, Global};
 use std::sync::Wait;
 
 /// Leads a packet through the branches of a stage, one branch after another.
+#[inline(always)]
 pub(crate) fn run_stage<F: Function, G: Gate, R: Wait>(
     rt: &R,
     alloc: Global,
@@ -49,6 +50,7 @@ pub(crate) fn run_stage<F: Function, G: Gate, R: Wait>(
 }
 
 /// Leads a packet through the only branch of a stage, which has it whole.
+#[inline(always)]
 fn run_only<F: Function, G: Gate, R: Wait>(
     rt: &R,
     alloc: Global,

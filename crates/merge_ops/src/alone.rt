@@ -15,6 +15,7 @@ use packet_version::{Apart, Version, tags_are_whole, written_is_own};
 ///
 /// What comes of it is as [`crate::merge`] makes it of that one arrival and of what the branch had of the
 /// packet beside its own parts, as the base.
+#[inline(always)]
 pub fn merge_only(arrival: Arrival) -> Merged
     requires { (base : PlainApart) × KeepsBase base arrival × AreArrivals base (arrival ∷ []) }
     ensures { (base : PlainApart) → KeepsBase base arrival → result ≡ merged base (arrival ∷ []) }
@@ -27,6 +28,7 @@ pub fn merge_only(arrival: Arrival) -> Merged
 }
 
 /// The packet that went on.
+#[inline(always)]
 fn merge_whole(version: Version) -> Apart
     requires { (base : PlainApart) × (version.kept ≡ Some base) × AreArrivals base (of_version version ∷ []) }
     ensures { IfSome version.kept (λ base. result ≡ merged_packet base (of_version version ∷ [])) }

@@ -80,6 +80,7 @@ impl Outline {
     }
 
     /// The bytes of a field, where it is present, by the frame's own outline.
+    #[inline(always)]
     pub fn get<'a>(&self, field: Field, frame: &'a [u8]) -> Option<&'a [u8]>
         requires { self.now ≡ outline_of frame.now }
         ensures value { option_copied result ≡ value_of field frame.now }

@@ -36,6 +36,7 @@ ghost use Rattle.packet_version.specs.Splitting.{packet_parts, split_parts as sp
 /// `taggers` tags more. `time` is when the packet was captured, in nanoseconds.
 ///
 /// Memory is taken for a copy of the frame, for its outline, and for the places of its parts.
+#[inline(always)]
 pub fn split(alloc: Global, frame: &[u8], time: u64, taggers: u32) -> Result<Apart, AllocError>
     ensures parts { IfOk result (λ whole. packet_parts whole ≡ split_parts_of taggers frame.now) }
     ensures rest { IfOk result (λ whole. whole.rest ≡ rest_of frame.now) }
@@ -55,6 +56,7 @@ pub fn split(alloc: Global, frame: &[u8], time: u64, taggers: u32) -> Result<Apa
 
 /// Puts a packet together again: its rest, with each part in its field's place. Memory is taken only
 /// where the tags were changed.
+#[inline(always)]
 pub fn join(alloc: Global, whole: Apart) -> Result<Frame, AllocError>
     ensures { IfOk result (λ frame. frame ≡ joined whole) }
 {

@@ -68,6 +68,7 @@ impl Contents {
     }
 
     /// The bytes of a field that is here.
+    #[inline(always)]
     pub(crate) fn bytes(&self, field: Field) -> Option<&[u8]>
         ensures { option_copied result ≡ values_of (as_map self.now.parts) field }
     {

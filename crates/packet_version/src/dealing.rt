@@ -66,6 +66,7 @@ pub fn deal(
 /// [`Version::rejoin`] puts the packet together again. Else it is as [`deal`] says, and so is what it counts.
 /// A branch that writes neither the tags nor the payload writes in the packet itself, and takes no memory.
 /// For another memory is taken for its parts, and for each of them that has room for more than 12 bytes.
+#[inline(always)]
 pub fn deal_whole(
     alloc: Global,
     whole: Apart,
@@ -94,6 +95,7 @@ pub fn deal_whole(
 }
 
 /// Does a branch write no field but those of fixed length?
+#[inline(always)]
 fn is_few(touch: Touch) -> bool
     ensures { result ≡ writes_few touch }
 {

@@ -39,6 +39,7 @@ ghost use Rattle.packet_version.specs.Splitting.{split_parts, IsWhole};
 
 impl Held {
     /// The frame with every part in it, of which the list of tags has room for `taggers` tags more.
+    #[inline(always)]
     pub(crate) fn new(alloc: Global, rest: Rest, taggers: u32) -> Result<Held, AllocError>
         ensures { IfOk result (λ held. held ≡ record { parts = as_list (split_parts taggers rest); frame = rest }) }
     {
@@ -63,6 +64,7 @@ impl Held {
     }
 
     /// The bytes of a field that is here.
+    #[inline(always)]
     pub(crate) fn bytes(&self, field: Field) -> Option<&[u8]>
         ensures { option_copied result ≡ values_of (as_map self.now.parts) field }
     {
@@ -148,6 +150,7 @@ impl Held {
     }
 
     /// The frame with each part in its field's place. Memory is taken only where the tags were changed.
+    #[inline(always)]
     pub(crate) fn join(self, alloc: Global) -> Result<Vec<u8>, AllocError>
         requires { IsWhole (as_map self.parts) self.frame }
         ensures { IfOk result (λ bytes. bytes.items ≡ written (values_of (as_map self.parts)) (rest_of self.frame)) }

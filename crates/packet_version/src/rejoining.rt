@@ -20,6 +20,7 @@ impl Version {
     /// Puts the packet together again behind a stage of one branch, which had it whole
     /// ([`crate::deal_whole`]): of each field that the branch wrote its part, and what the branch had of the
     /// packet beside. It takes no memory.
+    #[inline(always)]
     pub fn rejoin(self) -> Apart
         requires kept { IsSome self.kept }
         requires whole { IfSome self.kept (λ base. IsWhole (rejoined_parts self base) base.rest) }

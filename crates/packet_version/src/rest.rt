@@ -52,6 +52,7 @@ impl Rest {
     }
 
     /// The bytes in a field's place.
+    #[inline(always)]
     pub(crate) fn get(&self, field: Field) -> Option<&[u8]>
         ensures value { option_copied result ≡ value field self.now }
         ensures length { IfSome result (λ bytes. IsLengthOf field (length bytes.now)) }

@@ -172,6 +172,7 @@ impl Version {
 
     /// The version of a branch that has the packet, which nobody wrote, and writes in it. It is the only one
     /// of its stage.
+    #[inline(always)]
     pub(crate) fn in_packet(alloc: Global, held: Held, touch: Touch, fixed: Fixed) -> Version
         requires unwritten { (f : Field) → writer_in (as_map held.parts f) ≡ 0 }
         requires formed { (f : Field) → IsPartOf f (as_map held.parts f) }
@@ -247,6 +248,7 @@ fn claimed<R: Wait>(rt: &R, lent: Option<Loan<Reader<Held>>>) -> Option<Loan<Sho
 }
 
 /// The right to read again, with the claim given back.
+#[inline(always)]
 pub(crate) fn released(shown: Option<Loan<Shown<Held>>>) -> Option<Loan<Reader<Held>>>
     ensures { result ≡ shown }
 {

@@ -51,6 +51,7 @@ impl View {
 
     /// The bytes of a field that the profile reads, where the packet has it. There are as many as the field
     /// has, and the tags are whole.
+    #[inline(always)]
     pub fn get(&self, field: Field) -> Option<&[u8]>
         requires read { reads_of self.now.profile field ≡ true }
         ensures value { option_copied result ≡ seen_values self.now field }
@@ -70,6 +71,7 @@ impl View {
     }
 
     /// The bytes of a field that the profile names, where the packet has it.
+    #[inline(always)]
     fn bytes(&self, field: Field) -> Option<&[u8]>
         requires named { names self.now.profile field ≡ true }
         ensures { option_copied result ≡ seen_values self.now field }
@@ -194,6 +196,7 @@ impl View {
     }
 
     /// Gives the claim back, and the version with what was written.
+    #[inline(always)]
     pub fn end(self) -> Version
         ensures { result ≡ self.version }
     {
@@ -226,6 +229,7 @@ ghost use Rattle.packet_version.specs.Parts.{AreTags, IsPartOf, as_map, values_o
 ghost use Rattle.packet_version.specs.Versions.{lent_parts};
 
 /// The bytes of a field of what is lent.
+#[inline(always)]
 fn lent_bytes(lent: &Option<Loan<Shown<Held>>>, field: Field) -> Option<&[u8]>
     ensures { option_copied result ≡ values_of (lent_parts lent.now) field }
 {
