@@ -15,13 +15,14 @@ use nfp_outside::Gate;
 use pcap_io::Unit;
 use piped_run::{MergeWay, run_piped};
 use std::alloc::{AllocError, Global};
+use std::rt::Clock;
 use std::sync::Wait;
 use std::thread::Threads;
 
 /// Leads the packets of a burst through their chains, one chain after another, and gives the fates of each chain's packets. The
 /// dealers and branches of a chain's graph run side by side, and in each stage so many mergers put together, in this way, what the
 /// branches give.
-pub fn lead<R: Threads + Wait + Sync, G: Gate + Sync>(
+pub fn lead<R: Threads + Wait + Clock + Sync, G: Gate + Sync>(
     rt: &R,
     alloc: Global,
     chains: Items<ServiceChain>,
@@ -53,7 +54,7 @@ pub fn lead<R: Threads + Wait + Sync, G: Gate + Sync>(
 }
 
 // Leads the packets of a burst through the chain with this number that takes them.
-fn lead_chain<R: Threads + Wait + Sync, G: Gate + Sync>(
+fn lead_chain<R: Threads + Wait + Clock + Sync, G: Gate + Sync>(
     rt: &R,
     alloc: Global,
     chain: ServiceChain,

@@ -14,6 +14,7 @@ use pcap_io::Unit;
 use piped_run::MergeWay;
 use service_walk::fates_are_woven;
 use std::alloc::{AllocError, Global};
+use std::rt::Clock;
 use std::sync::Wait;
 use std::thread::Threads;
 
@@ -21,7 +22,7 @@ use std::thread::Threads;
 ///
 /// The branches of a stage run side by side, and behind them so many mergers, 1 to 16, which put together in this way what the branches
 /// give. Nothing that comes of a packet depends on how many there are, or on the way. Each step of a function passes the gate first.
-pub fn walk_burst<R: Threads + Wait + Sync, G: Gate + Sync>(
+pub fn walk_burst<R: Threads + Wait + Clock + Sync, G: Gate + Sync>(
     rt: &R,
     alloc: Global,
     service: Service,

@@ -15,6 +15,7 @@ use classifier::Burst;
 use nfp_outside::{Desk, Gate};
 use pcap_io::Unit;
 use std::alloc::Global;
+use std::rt::Clock;
 use std::sync::Wait;
 use std::thread::Threads;
 
@@ -32,7 +33,7 @@ impl<W: Sink + Drop> Passage<W> {
     /// Leads the packets of a burst through their chains, and puts the record of each that passes into Out, and then the line
     /// of each that is dropped into Report. So many mergers put together in this way what the branches of a stage give,
     /// and each step of a function passes the gate first.
-    pub fn run<R: Threads + Wait + Sync, D: Desk, G: Gate + Sync>(
+    pub fn run<R: Threads + Wait + Clock + Sync, D: Desk, G: Gate + Sync>(
         self,
         rt: &R,
         alloc: Global,

@@ -15,13 +15,14 @@ use classifier::Cutter;
 use nfp_outside::{Desk, Gate};
 use pcap_io::{CaptureFault, PcapFault, PcapRecord};
 use std::alloc::Global;
+use std::rt::Clock;
 use std::sync::Wait;
 use std::thread::Threads;
 
 /// Takes the records of the capture one after another, and runs each burst, of `burst` packets at most, where its last packet
 /// was read.
 pub fn run_records<
-    R: Threads + Wait + Sync,
+    R: Threads + Wait + Clock + Sync,
     D: Desk,
     S: Source + Drop,
     W: Sink + Drop,
@@ -82,7 +83,7 @@ pub fn run_records<
 }
 
 // Adds a packet to the open burst, with the chain that takes it, and runs the burst where this packet closes it.
-fn take<R: Threads + Wait + Sync, D: Desk, W: Sink + Drop, G: Gate + Sync>(
+fn take<R: Threads + Wait + Clock + Sync, D: Desk, W: Sink + Drop, G: Gate + Sync>(
     rt: &R,
     alloc: Global,
     desk: &mut D,
@@ -113,7 +114,7 @@ fn take<R: Threads + Wait + Sync, D: Desk, W: Sink + Drop, G: Gate + Sync>(
 }
 
 // Runs the open burst, and tells how the capture ended.
-fn end<R: Threads + Wait + Sync, D: Desk, W: Sink + Drop, G: Gate + Sync>(
+fn end<R: Threads + Wait + Clock + Sync, D: Desk, W: Sink + Drop, G: Gate + Sync>(
     rt: &R,
     alloc: Global,
     desk: &mut D,
@@ -138,7 +139,7 @@ fn end<R: Threads + Wait + Sync, D: Desk, W: Sink + Drop, G: Gate + Sync>(
 }
 
 // How a run ends where the next record couldn't be read. A fault of the capture ends it as its end does.
-fn stop<R: Threads + Wait + Sync, D: Desk, W: Sink + Drop, G: Gate + Sync>(
+fn stop<R: Threads + Wait + Clock + Sync, D: Desk, W: Sink + Drop, G: Gate + Sync>(
     rt: &R,
     alloc: Global,
     desk: &mut D,

@@ -18,6 +18,7 @@ use nfp_outside::{Desk, Gate};
 use pcap_io::Unit;
 use service_walk::chains_walk_apart;
 use std::alloc::Global;
+use std::rt::Clock;
 use std::sync::Wait;
 use std::thread::Threads;
 
@@ -30,7 +31,7 @@ use std::thread::Threads;
 /// The branches of a stage run side by side, and behind them so many mergers, 1 to 16, which put together in this way what the branches
 /// give: nothing that is put depends on how many, or on the way. Each step of a function passes the gate first.
 pub fn run_capture<
-    R: Threads + Wait + Sync,
+    R: Threads + Wait + Clock + Sync,
     D: Desk,
     S: Source + Drop,
     W: Sink + Drop,

@@ -62,6 +62,7 @@ pub fn run_gated<F: Function + Drop, G: Gate, R: Wait>(
     let Running {
         mut functions,
         graph,
+        pace,
     } = run;
     let taggers = count_adders(&functions);
     let items = burst.items.as_slice();
@@ -81,7 +82,12 @@ pub fn run_gated<F: Function + Drop, G: Gate, R: Wait>(
             tally,
         )?;
     }
-    Ok((Running { functions, graph }, fates))
+    let run = Running {
+        functions,
+        graph,
+        pace,
+    };
+    Ok((run, fates))
 }
 
 /// Leads a packet through the graph where it is of the chain, and adds its fate to those that ended before.

@@ -2,6 +2,7 @@
 
 use graph_compile::Graph;
 use net_functions::Function;
+use pace::Pace;
 use std::marker::Model;
 
 /// Functions in chain order, in the states in which the last packet left them, and a graph that is lawful
@@ -10,6 +11,8 @@ use std::marker::Model;
 pub struct Running<F: Function> {
     pub(crate) functions: Vec<F>,
     pub(crate) graph: Graph,
+    // By which way its bursts go. Contracts don't see it.
+    pub(crate) pace: Pace,
 }
 
 impl<F: Function> Model for Running<F> {
@@ -32,7 +35,11 @@ impl<F: Function> Running<F> {
         requires { IsRunning F.behaviour functions.items graph }
         ensures { result ≡ record { functions = functions.items; graph = graph } }
     {
-        Running { functions, graph }
+        Running {
+            functions,
+            graph,
+            pace: Pace::new(),
+        }
     }
 
     /// The functions in chain order, in the states in which the last packet left them, and their graph.
@@ -41,7 +48,11 @@ impl<F: Function> Running<F> {
         ensures graph { result.1 ≡ self.graph }
         ensures running { IsRunning F.behaviour result.0.items result.1 }
     {
-        let Running { functions, graph } = self;
+        let Running {
+            functions,
+            graph,
+            pace: _,
+        } = self;
         (functions, graph)
     }
 
@@ -50,5 +61,25 @@ impl<F: Function> Running<F> {
         ensures { result.now ≡ self.now.functions }
     {
         self.functions.as_slice()
+    }
+
+    /// The graph that the functions run in.
+    pub fn graph(&self) -> &Graph
+        ensures { result.now ≡ self.now.graph }
+    {
+        &self.graph
+    }
+
+    /// By which way the bursts of the chain go. Nothing that comes of a packet depends on it.
+    pub fn pace(&self) -> Pace {
+        self.pace
+    }
+
+    /// The same functions and graph, whose bursts go at this pace from now on.
+    pub fn paced(mut self, pace: Pace) -> Running<F>
+        ensures { result ≡ self }
+    {
+        self.pace = pace;
+        self
     }
 }

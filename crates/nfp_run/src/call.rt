@@ -13,6 +13,7 @@ use crate::note::put_note;
 use crate::outcome::Outcome;
 use nfp_outside::{Desk, Gate};
 use std::alloc::Global;
+use std::rt::Clock;
 use std::sync::Wait;
 use std::thread::Threads;
 
@@ -29,7 +30,7 @@ use std::thread::Threads;
 /// The branches of a stage run side by side, each on a thread of its own where one can be started, and behind them as many mergers
 /// as `--mergers` says. What the branches give comes to the mergers as `--merge` says: over links, or on a board. Each step of a
 /// function passes the gate first. What is due says nothing of any of these.
-pub fn nfp<R: Threads + Wait + Sync, D: Desk, G: Gate + Sync>(
+pub fn nfp<R: Threads + Wait + Clock + Sync, D: Desk, G: Gate + Sync>(
     rt: &R,
     alloc: Global,
     words: &[String],

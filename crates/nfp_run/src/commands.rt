@@ -12,12 +12,13 @@ use crate::run::run;
 use command_words::{Command, WordsFault, read_command};
 use nfp_outside::{Desk, Gate};
 use std::alloc::Global;
+use std::rt::Clock;
 use std::sync::Wait;
 use std::thread::Threads;
 
 /// Does what the words ask for.
 #[tactic(auto, using(crate::proofs::ShownPlans::plan_ran, crate::proofs::ShownPlans::demo_ran, crate::proofs::ShownPlans::usage_ran, crate::proofs::UnreadWords::unread_ran))]
-pub fn run_words<R: Threads + Wait + Sync, D: Desk, G: Gate + Sync>(
+pub fn run_words<R: Threads + Wait + Clock + Sync, D: Desk, G: Gate + Sync>(
     rt: &R,
     alloc: Global,
     words: &[String],

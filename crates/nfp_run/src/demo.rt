@@ -27,13 +27,14 @@ use item_list::Items;
 use nfp_outside::{Desk, Gate, Scales, Slot, Weight, weights_add_up};
 use policy_judge::judge;
 use std::alloc::{AllocError, Global};
+use std::rt::Clock;
 use std::sync::Wait;
 use std::thread::Threads;
 
 /// Leads the capture of this seed and count through the demo's policy, in bursts of at most so many packets, with so many mergers and
 /// in the way that the options say, and tells how many packets came out, and how long and heavy the texts are that a run would write.
 /// No slot is touched.
-pub fn demo<R: Threads + Wait + Sync, G: Gate + Sync>(
+pub fn demo<R: Threads + Wait + Clock + Sync, G: Gate + Sync>(
     rt: &R,
     alloc: Global,
     input: DemoInput,
@@ -49,7 +50,7 @@ pub fn demo<R: Threads + Wait + Sync, G: Gate + Sync>(
     }
 }
 
-fn text<R: Threads + Wait + Sync, G: Gate + Sync>(
+fn text<R: Threads + Wait + Clock + Sync, G: Gate + Sync>(
     rt: &R,
     alloc: Global,
     input: DemoInput,
@@ -80,7 +81,7 @@ fn demo_service(alloc: Global) -> Result<Service, AllocError>
 
 // The numbers of the summary. Scales never fail, so where the run broke off there was no memory.
 #[tactic(auto, using(crate::proofs::DemoRuns::summed_demo))]
-fn weigh<R: Threads + Wait + Sync, G: Gate + Sync>(
+fn weigh<R: Threads + Wait + Clock + Sync, G: Gate + Sync>(
     rt: &R,
     alloc: Global,
     service: Service,
@@ -106,7 +107,7 @@ fn weigh<R: Threads + Wait + Sync, G: Gate + Sync>(
 }
 
 // Leads the demo's capture through these chains, and puts what is written of it into the slots of a desk.
-fn lead<R: Threads + Wait + Sync, D: Desk, G: Gate + Sync>(
+fn lead<R: Threads + Wait + Clock + Sync, D: Desk, G: Gate + Sync>(
     rt: &R,
     alloc: Global,
     desk: &mut D,

@@ -27,11 +27,12 @@ use command_words::{FileNames, RunOptions};
 use nfp_outside::{Desk, Gate, Slot};
 use pcap_io::{CaptureHead, Reader};
 use std::alloc::Global;
+use std::rt::Clock;
 use std::sync::Wait;
 use std::thread::Threads;
 
 /// Runs the chains of the policy over the capture. The words are accepted, and nothing is put into Note.
-pub fn run<R: Threads + Wait + Sync, D: Desk, G: Gate + Sync>(
+pub fn run<R: Threads + Wait + Clock + Sync, D: Desk, G: Gate + Sync>(
     rt: &R,
     alloc: Global,
     names: &FileNames<'_>,
@@ -90,7 +91,7 @@ fn closed(ended: Ended) -> Ending
 }
 
 // Attaches Out and Report, puts the head that is written into Out, and runs the capture into both.
-fn attach_and_run<R: Threads + Wait + Sync, D: Desk, G: Gate + Sync>(
+fn attach_and_run<R: Threads + Wait + Clock + Sync, D: Desk, G: Gate + Sync>(
     rt: &R,
     alloc: Global,
     desk: &mut D,

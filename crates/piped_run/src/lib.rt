@@ -15,7 +15,9 @@
 //! The functions of the chain are split among the branches that own them, and put together in chain order
 //! once all nodes have ended. [`branch_turn`] is a branch's work on one packet: its functions one after
 //! another, until one drops it. Where a graph has one stage of one branch, or no stage, nothing could run
-//! beside it, and the burst runs in the caller's thread; a burst without packets starts no thread.
+//! beside it, and the burst runs in the caller's thread; a burst without packets starts no thread. Where steps
+//! are so light that threads cost more than they save, which the clock tells of the bursts before (`pace`), a
+//! burst goes through the graph on the caller's thread (`run_gated` of `graph_run`).
 //!
 //! Why this is the walk is told by `stream_law`: what is due on each link is fixed before the first step, and
 //! what comes behind the last stage is what packets give that walk through the chain one after another.

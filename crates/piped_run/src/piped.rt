@@ -9,16 +9,19 @@ use crate::pipe::pipe_packets;
 use chain_walk::Fate;
 use classifier::Burst;
 use graph_compile::Graph;
-use graph_run::{Running, count_adders};
+use graph_run::{Running, count_adders, run_gated};
 use joined_run::{bursts_in_parts_lead, join_packets, run_joined, split_packets};
 use net_functions::Function;
 use nfp_outside::Gate;
 use node_run::MergeWay;
+use pace::{Lead, Pace};
 use packet_version::Tally;
 use pcap_io::Unit;
 use std::alloc::{AllocError, Global};
+use std::rt::Clock;
 use std::sync::Wait;
 use std::thread::Threads;
+use std::time::Instant;
 
 /// Leads the packets of a burst that are of the chain with this number through the graph, and gives the fate
 /// of each, in their order. In each stage one dealer deals the packets, each branch takes what it is dealt
@@ -27,13 +30,15 @@ use std::thread::Threads;
 /// leaves `i` when divided by their count. Dealers, branches and mergers of all stages run side by side, each
 /// on a thread of its own where one can be started; the threads are joined before the call returns. Where
 /// the graph has no stage but one of one branch, nothing could run beside it, and all runs in the caller's
-/// thread. Each step of a function passes the gate first. Frames that go out are not sealed yet.
+/// thread. So does a burst that goes alone by the pace of the run: where threads took longer for the bursts
+/// before, by the clock, than one thread does. The first burst of a run goes on threads. Each step of a
+/// function passes the gate first. Frames that go out are not sealed yet.
 ///
 /// Every packet ends as if it walked through the functions of the chain one after another, each as the
 /// packet before left it, and so do the functions' states. The tally rises by the copies that were made.
 /// The one refusal is want of memory: the functions are gone then, and the tally may have risen by copies
 /// that were made.
-pub fn run_piped<F: Function + Drop + Send, G: Gate + Sync, R: Threads + Wait + Sync>(
+pub fn run_piped<F: Function + Drop + Send, G: Gate + Sync, R: Threads + Wait + Clock + Sync>(
     rt: &R,
     alloc: Global,
     run: Running<F>,
@@ -51,15 +56,33 @@ pub fn run_piped<F: Function + Drop + Send, G: Gate + Sync, R: Threads + Wait + 
     ensures leads { IfOk result (λ ran. Leads F.behaviour run (packets_taken unit chain burst.now.items) tally.old tally.new ran.0 ran.1.items) }
     ensures refused { OnErr result (RaisesUpTo (copies_made run.graph.stages (packets_taken unit chain burst.now.items) (fates F.behaviour run.functions (packets_taken unit chain burst.now.items))) tally.old tally.new) }
 {
-    let (functions, graph) = run.into_parts();
-    let single = is_single(&graph);
-    let run = Running::new(functions, graph);
-    if single {
-        run_joined(rt, alloc, run, burst, unit, chain, tally, mergers, gate)
-    } else {
-        run_stages(
+    if is_single(run.graph()) {
+        return run_joined(rt, alloc, run, burst, unit, chain, tally, mergers, gate);
+    }
+    let mut pace = run.pace();
+    let lead = pace.lead();
+    let start = Instant::now(rt).ok();
+    let (run, fates) = match lead {
+        Lead::Threads => run_stages(
             rt, alloc, run, burst, unit, chain, tally, mergers, gate, way,
-        )
+        )?,
+        Lead::Alone => run_gated(rt, alloc, run, burst, unit, chain, tally, gate)?,
+    };
+    tell(rt, &mut pace, lead, fates.len() as u32, start);
+    Ok((run.paced(pace), fates))
+}
+
+/// Tells the pace what so many packets took by this way, where the clock says it.
+fn tell<R: Clock>(rt: &R, pace: &mut Pace, lead: Lead, packets: u32, start: Option<Instant>) {
+    let Some(start) = start else {
+        return;
+    };
+    let Ok(took) = start.elapsed(rt) else {
+        return;
+    };
+    if packets > 0 {
+        let nanos = u64::try_from(took.as_nanos()).unwrap_or(u64::MAX);
+        pace.tell(lead, packets, nanos);
     }
 }
 

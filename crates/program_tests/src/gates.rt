@@ -5,6 +5,7 @@ use crate::states::{BEHIND, BESIDE};
 use nfp_outside::{FixedDesk, Gate};
 use nfp_run::{Outcome, nfp};
 use std::alloc::Global;
+use std::rt::Clock;
 use std::sync::Wait;
 use std::sync::atomic::Ordering::SeqCst;
 use std::sync::atomic::{AtomicBool, AtomicU64};
@@ -105,7 +106,7 @@ impl Steps {
 }
 
 // Runs a policy over a capture, by this way of merging, and says whether two steps met.
-fn meets<R: Threads + Wait + Sync>(
+fn meets<R: Threads + Wait + Clock + Sync>(
     rt: &R,
     alloc: Global,
     policy: &[u8],
@@ -151,7 +152,7 @@ fn two_flows(alloc: Global) -> Result<Vec<u8>, Fail> {
 }
 
 // What the steps of a run with these options add up to, where it is done.
-fn sums_of<R: Threads + Wait + Sync>(
+fn sums_of<R: Threads + Wait + Clock + Sync>(
     rt: &R,
     alloc: Global,
     policy: &[u8],

@@ -5,6 +5,7 @@ use nfp_outside::{MemDesk, OpenGate, Slot};
 use nfp_run::{Outcome, nfp};
 use pcap_io::CaptureFault;
 use std::alloc::{AllocError, Global};
+use std::rt::Clock;
 use std::sync::Wait;
 use std::test::Fail;
 use std::thread::Threads;
@@ -13,7 +14,7 @@ use std::thread::Threads;
 const LONGEST_POLICY: usize = 1_048_576;
 
 // A run over a desk in memory that fails at these calls, and what it left.
-fn run_over<R: Threads + Wait + Sync>(
+fn run_over<R: Threads + Wait + Clock + Sync>(
     rt: &R,
     alloc: Global,
     policy: Vec<u8>,

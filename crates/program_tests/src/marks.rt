@@ -5,6 +5,7 @@ use nfp_outside::{FixedDesk, OpenGate, Slot};
 use nfp_run::{Outcome, nfp};
 use std::alloc::{AllocError, Global};
 use std::process::Abort;
+use std::rt::Clock;
 use std::sync::Wait;
 use std::test::Fail;
 use std::thread::Threads;
@@ -92,7 +93,7 @@ fn push_datagram(
 
 // Leads a capture through a policy, with one merger, two and many, over links and on boards, and compares what it gives.
 fn compare(
-    rt: &(impl Abort + AllocGlobal + Threads + Wait + Sync),
+    rt: &(impl Abort + AllocGlobal + Threads + Wait + Clock + Sync),
     policy: &[u8],
     capture: &[u8],
     out: &[u8],

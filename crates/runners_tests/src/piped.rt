@@ -14,13 +14,14 @@ use packet_version::Tally;
 use pcap_io::Unit;
 use piped_run::{MergeWay, branch_turn, run_piped};
 use std::alloc::{AllocError, Global};
+use std::rt::Clock;
 use std::sync::Wait;
 use std::sync::atomic::{AtomicU64, Ordering};
 use std::test::Fail;
 use std::thread::Threads;
 
 /// The fates of three packets that so many mergers put together in this way.
-fn fates_by<R: Threads + Wait + Sync>(
+fn fates_by<R: Threads + Wait + Clock + Sync>(
     rt: &R,
     alloc: Global,
     run: Running<NetFunction>,
@@ -91,7 +92,7 @@ fn are_hopped(fates: &[Fate]) -> bool {
 }
 
 /// One, two and the most mergers, by this way: is each of the three packets dropped by the second function?
-fn all_are_shut_out<R: Threads + Wait + Sync>(
+fn all_are_shut_out<R: Threads + Wait + Clock + Sync>(
     rt: &R,
     alloc: Global,
     way: MergeWay,
@@ -107,7 +108,7 @@ fn all_are_shut_out<R: Threads + Wait + Sync>(
 }
 
 /// One, two and the most mergers, by this way: do the three packets go out in their order?
-fn all_are_hopped<R: Threads + Wait + Sync>(
+fn all_are_hopped<R: Threads + Wait + Clock + Sync>(
     rt: &R,
     alloc: Global,
     way: MergeWay,

@@ -1,10 +1,11 @@
 //! Leads the same burst of packets through the chain of a policy again and again, through the graph on one thread, through the
 //! graph on threads that are joined behind each stage, or with each dealer, branch and merger on a thread of its own, or by the walk
 //! of whole frames, or looks for the patterns of its functions alone, or reads the same bytes: what `bench/walk` and `bench/payload`
-//! measure. Its words are `graph`, `joined`, `piped`, `board`, `walk`, `search`, `pass` or `none`, how often, the length of each frame
-//! in bytes, the policy, how many mergers (1 where it isn't said), and how many packets a burst has (1,024). `piped` and `board` are
-//! the same run of threads: in `piped` what branches give goes over links to the mergers, in `board` onto a board. The functions of the
-//! first chain are taken as declared.
+//! measure. Its words are `graph`, `joined`, `threads`, `piped`, `board`, `walk`, `search`, `pass` or `none`, how often, the length of
+//! each frame in bytes, the policy, how many mergers (1 where it isn't said), and how many packets a burst has (1,024). `piped` and
+//! `board` are the run by which the program goes, which takes threads where they pay: in `piped` what branches give goes over links to
+//! the mergers, in `board` onto a board. In `threads` each burst goes as the first one of `piped` does. The functions of the first
+//! chain are taken as declared.
 #![tactic(auto)]
 
 ghost use Rattle.std.specs.Prelude.{◌≤◌, length, vec_len};
@@ -21,7 +22,7 @@ use policy_text::{BuildFault, ChainPolicy, FunctionDecl, parse};
 use runs::{Counts, Way, by_walk, through_graph, through_threads};
 use search::{pass, search};
 use std::alloc::Global;
-use std::rt::Files;
+use std::rt::{Clock, Files};
 use std::sync::Wait;
 use std::thread::Threads;
 use std::{env, fs, io};
@@ -60,7 +61,7 @@ struct Run<'a> {
 }
 
 fn lead(
-    rt: &(impl Alloc<A = Global> + Print + Threads + Wait + Sync),
+    rt: &(impl Alloc<A = Global> + Print + Threads + Wait + Clock + Sync),
     run: &Run,
     chain: &ChainPolicy,
 ) -> io::Result<()> {
@@ -77,6 +78,7 @@ fn lead(
     match run.mode {
         "graph" => tell(rt, through_graph(rt, alloc, functions, &burst, rounds)?),
         "joined" => tell_threads(rt, functions, &burst, run, Way::Joined),
+        "threads" => tell_threads(rt, functions, &burst, run, Way::Threads),
         "piped" => tell_threads(rt, functions, &burst, run, Way::Piped(MergeWay::Inbox)),
         "board" => tell_threads(rt, functions, &burst, run, Way::Piped(MergeWay::Board)),
         "walk" => {
@@ -90,7 +92,7 @@ fn lead(
 }
 
 fn tell_threads(
-    rt: &(impl Alloc<A = Global> + Print + Threads + Wait + Sync),
+    rt: &(impl Alloc<A = Global> + Print + Threads + Wait + Clock + Sync),
     functions: Vec<NetFunction>,
     burst: &Burst,
     run: &Run,

@@ -10,11 +10,13 @@ use graph_run::{Running, run_plain};
 use joined_run::run_joined;
 use net_functions::{Function, NetFunction};
 use nfp_outside::OpenGate;
+use pace::Pace;
 use packet_fields::Frame;
 use packet_version::Tally;
 use pcap_io::Unit;
 use piped_run::{MergeWay, run_piped};
 use std::alloc::{AllocError, Global};
+use std::rt::Clock;
 use std::sync::Wait;
 use std::thread::Threads;
 
@@ -80,12 +82,15 @@ pub fn through_graph(
 pub enum Way {
     /// All packets through one stage, its branches on threads that are joined behind it, and then all through the next.
     Joined,
-    /// Each dealer, branch and merger of the graph on a thread of its own; what branches give comes together so.
+    /// As the program goes: the dealers, branches and mergers of the graph on threads of their own, where that is quicker; what branches
+    /// give comes together so.
     Piped(MergeWay),
+    /// The same by links, but each burst on threads.
+    Threads,
 }
 
 /// The burst through the graph on threads, again and again. A number of mergers that is out of range is 1.
-pub fn through_threads<R: Threads + Wait + Sync>(
+pub fn through_threads<R: Threads + Wait + Clock + Sync>(
     rt: &R,
     alloc: Global,
     functions: Vec<NetFunction>,
@@ -113,7 +118,7 @@ pub fn through_threads<R: Threads + Wait + Sync>(
     Ok(Counts { out, copies })
 }
 
-fn one_round<R: Threads + Wait + Sync>(
+fn one_round<R: Threads + Wait + Clock + Sync>(
     rt: &R,
     alloc: Global,
     run: Running<NetFunction>,
@@ -132,6 +137,14 @@ fn one_round<R: Threads + Wait + Sync>(
         Way::Piped(merge) => run_piped(
             rt, alloc, run, burst, unit, 0, tally, mergers, &OpenGate, merge,
         ),
+        Way::Threads => {
+            // The first burst of a pace goes on threads.
+            let run = run.paced(Pace::new());
+            let merge = MergeWay::Inbox;
+            run_piped(
+                rt, alloc, run, burst, unit, 0, tally, mergers, &OpenGate, merge,
+            )
+        }
     }
 }
 
