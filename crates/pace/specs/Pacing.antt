@@ -1,4 +1,4 @@
--- By which way a burst goes.
+-- For proofs: by which way a burst goes.
 use Rattle.std.specs.Prelude.{ℕ, ◌==◌, ◌-◌, Bool, not, nat_lt, if◌then◌else◌, Option, Some, None}
 use Rattle.pace.specs.declared.pace.Lead.{Lead}
 use Rattle.pace.specs.declared.pace.Lead.TheVariants.{Threads, Alone}
