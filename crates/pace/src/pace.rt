@@ -1,7 +1,10 @@
 //! What either way took, and the choice.
 
-/// A burst whose packets took as many nanoseconds each on threads isn't tried on one: what threads cost is a small part of that.
+/// As many nanoseconds a packet are far more than what threads cost it.
 const HEAVY: u64 = 8_000;
+
+/// And as many more are what it may cost a burst to start its threads and to join them.
+const STARTING: u64 = 500_000;
 
 /// How many bursts go by until one goes by the slower way.
 const BETWEEN: u32 = 63;
@@ -23,22 +26,25 @@ pub struct Pace {
     pub threads: Option<u64>,
     /// On one thread, where that was tried.
     pub alone: Option<u64>,
+    /// Did the last burst on threads take so long that what threads cost is a small part of it?
+    pub heavy: bool,
     /// How many bursts go by until one goes by the slower way.
     pub left: u32,
 }
 
-ghost use Rattle.std.specs.Prelude.{◌≡◌, ◌<◌, ◌/◌, Some, None};
-ghost use Rattle.pace.specs.Pacing.{lead_of, left_behind};
+ghost use Rattle.std.specs.Prelude.{◌≡◌, ◌<◌, ◌/◌, Some, None, false};
+ghost use Rattle.pace.specs.Pacing.{lead_of, left_behind, is_heavy};
 ghost use Rattle.pace.specs.declared.pace.Lead.{Lead};
 
 impl Pace {
     /// Neither way was tried.
     pub fn new() -> Pace
-        ensures { result ≡ record { threads = None; alone = None; left = 63 } }
+        ensures { result ≡ record { threads = None; alone = None; heavy = false; left = 63 } }
     {
         Pace {
             threads: None,
             alone: None,
+            heavy: false,
             left: BETWEEN,
         }
     }
@@ -51,7 +57,7 @@ impl Pace {
             return Lead::Threads;
         };
         let is_alone = match self.alone {
-            None => threads < HEAVY,
+            None => !self.heavy,
             Some(alone) => (alone < threads) != (self.left == 0),
         };
         if is_alone { Lead::Alone } else { Lead::Threads }
@@ -60,12 +66,15 @@ impl Pace {
     /// A burst with so many packets, of which there were some, went this way and took so many nanoseconds.
     pub fn tell(&mut self, lead: Lead, packets: u32, nanos: u64)
         requires some { 0 < packets }
-        ensures threads { lead ≡ Lead.Threads → self.new ≡ record self.old { threads = Some (nanos / packets); left = left_behind self.old.left } }
+        ensures threads { lead ≡ Lead.Threads → self.new ≡ record self.old { threads = Some (nanos / packets); heavy = is_heavy packets nanos; left = left_behind self.old.left } }
         ensures alone { lead ≡ Lead.Alone → self.new ≡ record self.old { alone = Some (nanos / packets); left = left_behind self.old.left } }
     {
         let each = Some(nanos / u64::from(packets));
         match lead {
-            Lead::Threads => self.threads = each,
+            Lead::Threads => {
+                self.threads = each;
+                self.heavy = nanos >= STARTING + HEAVY * u64::from(packets);
+            }
             Lead::Alone => self.alone = each,
         }
         self.left = match self.left {
