@@ -68,13 +68,13 @@ pub fn run_piped<F: Function + Drop + Send, G: Gate + Sync, R: Threads + Wait + 
         )?,
         Lead::Alone => run_gated(rt, alloc, run, burst, unit, chain, tally, gate)?,
     };
-    tell(rt, &mut pace, lead, fates.len() as u32, start);
+    tell(rt, &mut pace, lead, fates.len(), start);
     Ok((run.paced(pace), fates))
 }
 
 /// Tells the pace what so many packets took by this way, where the clock says it.
-fn tell<R: Clock>(rt: &R, pace: &mut Pace, lead: Lead, packets: u32, start: Option<Instant>) {
-    let Some(start) = start else {
+fn tell<R: Clock>(rt: &R, pace: &mut Pace, lead: Lead, packets: usize, start: Option<Instant>) {
+    let (Some(start), Ok(packets)) = (start, u32::try_from(packets)) else {
         return;
     };
     let Ok(took) = start.elapsed(rt) else {
