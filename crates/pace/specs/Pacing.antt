@@ -1,5 +1,5 @@
 -- For proofs: by which way a burst goes.
-use Rattle.std.specs.Prelude.{ℕ, ◌==◌, ◌+◌, ◌-◌, ◌*◌, Bool, not, nat_le, nat_lt, if◌then◌else◌, Option, Some, None}
+use Rattle.std.specs.Prelude.{ℕ, ◌==◌, ◌&&◌, ◌+◌, ◌-◌, ◌*◌, Bool, not, nat_le, nat_lt, if◌then◌else◌, Option, Some, None}
 use Rattle.pace.specs.declared.pace.Lead.{Lead}
 use Rattle.pace.specs.declared.pace.Lead.TheVariants.{Threads, Alone}
 use Rattle.pace.specs.declared.pace.Pace.{Pace}
@@ -8,10 +8,11 @@ use Rattle.pace.specs.declared.pace.Pace.{Pace}
 abbrev pub quicker : Bool → ℕ → ℕ → Lead
 quicker others threads alone = if (if others then not (nat_lt alone threads) else nat_lt alone threads) then Alone else Threads
 
--- on threads until that was tried, then on one thread unless the last burst was heavy, and then by what either took
+-- on threads until that was tried, then on one thread, where the last burst was heavy only once it is the other's turn, and then by
+-- what either took
 abbrev pub way_by : Bool → Bool → Option ℕ → Option ℕ → Lead
 way_by others heavy None alone = Threads
-way_by others heavy (Some threads) None = if heavy then Threads else Alone
+way_by others heavy (Some threads) None = if heavy && not others then Threads else Alone
 way_by others heavy (Some threads) (Some alone) = quicker others threads alone
 
 abbrev pub lead_of : Pace → Lead

@@ -57,7 +57,7 @@ impl Pace {
             return Lead::Threads;
         };
         let is_alone = match self.alone {
-            None => !self.heavy,
+            None => !self.heavy || self.left == 0,
             Some(alone) => (alone < threads) != (self.left == 0),
         };
         if is_alone { Lead::Alone } else { Lead::Threads }

@@ -17,7 +17,7 @@ use crate::plan::Span;
 pub struct Outline {
     /// Where the packet begins: at its EtherType, or at the frame's end where there is none.
     pub start: usize,
-    /// Does an IPv4 header begin there?  (RFC 791, 3.1)
+    /// Does an IPv4 header begin there? (RFC 791, 3.1)
     pub has_header: bool,
     /// The TCP or UDP segment, where one begins.
     pub segment: Option<Segment>,
