@@ -8,21 +8,21 @@ ghost use Rattle.policy_text.specs.declared.seen.TagSeen.{TagSeen};
 ghost use Rattle.frame_seen.specs.Seeing.{outermost, seen_of};
 
 use byteorder::{BigEndian, ByteOrder};
-use packet_fields::{Field, get, layout};
+use packet_fields::{Field, Outline};
 use policy_text::{Seen, TagSeen};
 
 /// What clauses see of a frame. Takes no memory.
 pub fn seen(frame: &[u8]) -> Seen
     ensures { result ≡ seen_of frame.now }
 {
-    let plan = layout(frame);
+    let outline = Outline::of(frame);
     Seen {
-        tag: seen_tags(get(Field::Tag, frame, &plan)),
-        src: seen_address(get(Field::SrcIp, frame, &plan)),
-        dst: seen_address(get(Field::DstIp, frame, &plan)),
-        sport: seen_port(get(Field::SrcPort, frame, &plan)),
-        dport: seen_port(get(Field::DstPort, frame, &plan)),
-        proto: plan.proto,
+        tag: seen_tags(outline.get(Field::Tag, frame)),
+        src: seen_address(outline.get(Field::SrcIp, frame)),
+        dst: seen_address(outline.get(Field::DstIp, frame)),
+        sport: seen_port(outline.get(Field::SrcPort, frame)),
+        dport: seen_port(outline.get(Field::DstPort, frame)),
+        proto: outline.protocol(frame),
     }
 }
 
