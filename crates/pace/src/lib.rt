@@ -2,8 +2,8 @@
 //!
 //! Whether threads pay depends on how heavy the steps of a chain are, on the packets and on the machine, and nobody knows it before
 //! it was tried. A [`Pace`] keeps what a packet took by either way when a burst last went by it, and says by which the next one
-//! goes: on threads first; then on one, once, unless the burst took so long that what threads cost hardly counts; and from then on by
-//! the way that took less. Each 64th burst goes by the other way, whatever the bursts before it took, since packets and the machine
+//! goes: the first on threads, the second on one; and from then on each on threads where these spared a fifth of the time, and else on
+//! one, since threads take processors that others may need. Each 64th burst goes by the other way, since packets and the machine
 //! change.
 //!
 //! Nothing that comes of a packet depends on a pace. What is promised here is only the choice, by `lead_of` of `specs/Pacing.antt`, and
