@@ -9,6 +9,7 @@ ghost use Rattle.message_boards.specs.Kept.{IsTaking};
 use crossbeam_utils::Backoff;
 use merge_board::{Board, MergerSeat};
 use message_links::Parcel;
+use ruled_links::pause;
 use std::marker::Model;
 use std::sync::{Arc, Wait};
 
@@ -81,7 +82,7 @@ impl<P> BoardInlets<P> {
             if self.look(row) {
                 return;
             }
-            backoff.snooze();
+            pause(rt, &backoff);
         }
         unreachable!()
     }

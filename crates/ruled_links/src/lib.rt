@@ -14,7 +14,8 @@
 //! though another has put it.
 //!
 //! Contracts see each end as what its owner knows: what is due, and what was put or what was taken. A
-//! link never refuses a message below its capacity, and only [`link`] takes memory.
+//! link never refuses a message below its capacity, and only [`link`] takes memory. Who waits for long sleeps in between ([`pause`]), since
+//! a thread that asks again and again takes a processor from those that work.
 //!
 //! What is left out: that a call which waits ever returns. A taker waits for ever for a message that
 //! nobody puts. Nor does a contract say that [`Taker::try_take`] finds a message that is there.
@@ -26,9 +27,11 @@ mod laws;
 mod putter;
 mod rule;
 mod taker;
+mod waiting;
 
 pub use ends::{Counts, finish, link};
 pub use fit::{LinkDue, LinkFit};
 pub use laws::due_messages_go_one_by_one;
 pub use putter::Putter;
 pub use taker::Taker;
+pub use waiting::pause;

@@ -4,6 +4,7 @@ ghost use Rattle.ruled_links.specs.Fitting.{FitsAt};
 
 use crate::fit::LinkFit;
 use crate::rule::{Knowledge, Queue, Taken};
+use crate::waiting::pause;
 use crossbeam_queue::Pass;
 use crossbeam_utils::Backoff;
 use std::marker::Model;
@@ -54,7 +55,7 @@ impl<T: LinkFit> Taker<T> {
             if let Some(message) = self.try_take(rt) {
                 return message;
             }
-            backoff.snooze();
+            pause(rt, &backoff);
         }
         unreachable!()
     }
