@@ -12,7 +12,7 @@ pub enum Lead {
     Alone,
 }
 
-/// What a packet took by either way, in nanoseconds, when a burst last went by it. Contracts see these, and how many bursts go by until
+/// What a packet takes by either way, in nanoseconds, by the bursts that went by it. Contracts see these, and how many bursts go by until
 /// one goes by the other way.
 #[derive(Clone, Copy, PartialEq, Eq, Debug)]
 pub struct Pace {
@@ -25,7 +25,7 @@ pub struct Pace {
 }
 
 ghost use Rattle.std.specs.Prelude.{◌≡◌, ◌<◌, ◌/◌, Some, None};
-ghost use Rattle.pace.specs.Pacing.{lead_of, left_behind, pays};
+ghost use Rattle.pace.specs.Pacing.{lead_of, kept, left_behind, pays};
 ghost use Rattle.pace.specs.declared.pace.Lead.{Lead};
 
 impl Pace {
@@ -60,13 +60,13 @@ impl Pace {
     /// A burst with so many packets, of which there were some, went this way and took so many nanoseconds.
     pub fn tell(&mut self, lead: Lead, packets: u32, nanos: u64)
         requires some { 0 < packets }
-        ensures threads { lead ≡ Lead.Threads → self.new ≡ record self.old { threads = Some (nanos / packets); left = left_behind self.old.left } }
-        ensures alone { lead ≡ Lead.Alone → self.new ≡ record self.old { alone = Some (nanos / packets); left = left_behind self.old.left } }
+        ensures threads { lead ≡ Lead.Threads → self.new ≡ record self.old { threads = Some (kept self.old.threads (nanos / packets)); left = left_behind self.old.left } }
+        ensures alone { lead ≡ Lead.Alone → self.new ≡ record self.old { alone = Some (kept self.old.alone (nanos / packets)); left = left_behind self.old.left } }
     {
-        let each = Some(nanos / u64::from(packets));
+        let each = nanos / u64::from(packets);
         match lead {
-            Lead::Threads => self.threads = each,
-            Lead::Alone => self.alone = each,
+            Lead::Threads => self.threads = Some(kept(self.threads, each)),
+            Lead::Alone => self.alone = Some(kept(self.alone, each)),
         }
         self.left = match self.left {
             0 => BETWEEN,
@@ -75,9 +75,19 @@ impl Pace {
     }
 }
 
-/// Do threads spare a fifth of the time of one?
+/// Do threads spare a tenth of the time of one?
 fn pays(threads: u64, alone: u64) -> bool
     ensures { result ≡ pays threads alone }
 {
-    threads <= alone - alone / 5
+    threads <= alone - alone / 10
+}
+
+/// What is kept of what a packet took by a way, `before` and in this burst.
+fn kept(before: Option<u64>, each: u64) -> u64
+    ensures { result ≡ kept before each }
+{
+    match before {
+        None => each,
+        Some(before) => each.min(before.saturating_add(before / 16)),
+    }
 }
