@@ -1,5 +1,5 @@
 -- For proofs: by which way a burst goes.
-use Rattle.std.specs.Prelude.{ℕ, ◌==◌, ◌+◌, ◌-◌, ◌/◌, min, Bool, not, nat_le, if◌then◌else◌, Option, Some, None}
+use Rattle.std.specs.Prelude.{ℕ, ◌+◌, ◌-◌, ◌/◌, min, Bool, nat_le, nat_lt, if◌then◌else◌, Option, Some, None}
 use Rattle.pace.specs.declared.pace.Lead.{Lead}
 use Rattle.pace.specs.declared.pace.Lead.TheVariants.{Threads, Alone}
 use Rattle.pace.specs.declared.pace.Pace.{Pace}
@@ -8,25 +8,22 @@ use Rattle.pace.specs.declared.pace.Pace.{Pace}
 abbrev pub pays : ℕ → ℕ → Bool
 pays threads alone = nat_le threads (alone - alone / 10)
 
--- on threads where these pay, or where it is the other's turn just not so
-abbrev pub better : Bool → ℕ → ℕ → Lead
-better others threads alone = if (if others then not (pays threads alone) else pays threads alone) then Threads else Alone
+-- by what a packet takes on threads and on one
+abbrev pub better : Option ℕ → Option ℕ → Lead
+better (Some threads) (Some alone) = if pays threads alone then Threads else Alone
+better (Some threads) None = Threads
+better None alone = Threads
 
--- on threads until that was tried, then on one thread until that was, and then by what either took
-abbrev pub way_by : Bool → Option ℕ → Option ℕ → Lead
-way_by others None alone = Threads
-way_by others (Some threads) None = Alone
-way_by others (Some threads) (Some alone) = better others threads alone
-
+-- of each round the first 8 bursts go on threads, the next 2 on one thread, and the others by the better way
 abbrev pub lead_of : Pace → Lead
-lead_of pace = way_by (pace.left == 0) pace.threads pace.alone
+lead_of pace = if nat_lt pace.turn 8 then Threads else (if nat_lt pace.turn 10 then Alone else better pace.threads pace.alone)
+
+-- a round has 512 bursts
+abbrev pub next_turn : ℕ → ℕ
+next_turn turn = if nat_lt turn 511 then turn + 1 else 0
 
 -- what is kept of what a packet took by a way: the least that was seen, which rises by a sixteenth with each burst, since what disturbs a
 -- burst only delays it
 abbrev pub kept : Option ℕ → ℕ → ℕ
 kept None each = each
 kept (Some before) each = min each (before + before / 16)
-
--- how many bursts are left once one went: behind the one that went by the other way there are 63 again
-abbrev pub left_behind : ℕ → ℕ
-left_behind left = if left == 0 then 63 else left - 1

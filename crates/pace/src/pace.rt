@@ -1,7 +1,13 @@
 //! What either way took, and the choice.
 
-/// How many bursts go by until one goes by the other way.
-const BETWEEN: u32 = 63;
+/// Bursts are counted in rounds of so many.
+const ROUND: u32 = 512;
+
+/// So many bursts of a round go on threads first,
+const ON_THREADS: u32 = 8;
+
+/// and those behind them on one thread, up to this number.
+const TRIED: u32 = 10;
 
 /// The ways of a burst.
 #[derive(Clone, Copy, PartialEq, Eq, Debug)]
@@ -12,31 +18,30 @@ pub enum Lead {
     Alone,
 }
 
-/// What a packet takes by either way, in nanoseconds, by the bursts that went by it. Contracts see these, and how many bursts go by until
-/// one goes by the other way.
+/// What a packet takes by either way, in nanoseconds, by the bursts that went by it, and how many bursts of this round went.
 #[derive(Clone, Copy, PartialEq, Eq, Debug)]
 pub struct Pace {
     /// On threads, where that was tried.
     pub threads: Option<u64>,
     /// On one thread, where that was tried.
     pub alone: Option<u64>,
-    /// How many bursts go by until one goes by the other way.
-    pub left: u32,
+    /// The number of the next burst in its round, from 0.
+    pub turn: u32,
 }
 
 ghost use Rattle.std.specs.Prelude.{◌≡◌, ◌<◌, ◌/◌, Some, None};
-ghost use Rattle.pace.specs.Pacing.{lead_of, kept, left_behind, pays};
+ghost use Rattle.pace.specs.Pacing.{better, kept, lead_of, next_turn, pays};
 ghost use Rattle.pace.specs.declared.pace.Lead.{Lead};
 
 impl Pace {
     /// Neither way was tried.
     pub fn new() -> Pace
-        ensures { result ≡ record { threads = None; alone = None; left = 63 } }
+        ensures { result ≡ record { threads = None; alone = None; turn = 0 } }
     {
         Pace {
             threads: None,
             alone: None,
-            left: BETWEEN,
+            turn: 0,
         }
     }
 
@@ -44,33 +49,40 @@ impl Pace {
     pub fn lead(&self) -> Lead
         ensures { result ≡ lead_of self.now }
     {
-        let Some(threads) = self.threads else {
+        if self.turn < ON_THREADS {
             return Lead::Threads;
-        };
-        let Some(alone) = self.alone else {
+        }
+        if self.turn < TRIED {
             return Lead::Alone;
-        };
-        if pays(threads, alone) != (self.left == 0) {
-            Lead::Threads
-        } else {
-            Lead::Alone
+        }
+        self.better()
+    }
+
+    /// The way that is better, as far as that is known.
+    fn better(&self) -> Lead
+        ensures { result ≡ better self.now.threads self.now.alone }
+    {
+        match (self.threads, self.alone) {
+            (Some(threads), Some(alone)) if !pays(threads, alone) => Lead::Alone,
+            _ => Lead::Threads,
         }
     }
 
     /// A burst with so many packets, of which there were some, went this way and took so many nanoseconds.
     pub fn tell(&mut self, lead: Lead, packets: u32, nanos: u64)
         requires some { 0 < packets }
-        ensures threads { lead ≡ Lead.Threads → self.new ≡ record self.old { threads = Some (kept self.old.threads (nanos / packets)); left = left_behind self.old.left } }
-        ensures alone { lead ≡ Lead.Alone → self.new ≡ record self.old { alone = Some (kept self.old.alone (nanos / packets)); left = left_behind self.old.left } }
+        ensures threads { lead ≡ Lead.Threads → self.new ≡ record self.old { threads = Some (kept self.old.threads (nanos / packets)); turn = next_turn self.old.turn } }
+        ensures alone { lead ≡ Lead.Alone → self.new ≡ record self.old { alone = Some (kept self.old.alone (nanos / packets)); turn = next_turn self.old.turn } }
     {
         let each = nanos / u64::from(packets);
         match lead {
             Lead::Threads => self.threads = Some(kept(self.threads, each)),
             Lead::Alone => self.alone = Some(kept(self.alone, each)),
         }
-        self.left = match self.left {
-            0 => BETWEEN,
-            left => left - 1,
+        self.turn = if self.turn < ROUND - 1 {
+            self.turn + 1
+        } else {
+            0
         };
     }
 }
