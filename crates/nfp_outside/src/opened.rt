@@ -46,10 +46,12 @@ impl<F: OpenFile + Drop> Target<F> {
         identity_of(&self.file)
     }
 
-    /// Empties the file, once. What is no file on a disk, as a pipe, holds nothing.
+    /// Empties the file, once. What is no file on a disk, as a pipe, holds nothing. A file that is empty already is left alone: some
+    /// file systems bring what is written to the disk before they close a file that was emptied.
     pub fn empty(&mut self) -> io::Result<()> {
         if !self.is_emptied {
-            if self.file.metadata()?.is_file() {
+            let told = self.file.metadata()?;
+            if told.is_file() && told.len() > 0 {
                 self.file.set_len(0)?;
             }
             self.is_emptied = true;
