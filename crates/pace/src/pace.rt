@@ -1,13 +1,13 @@
 //! What either way took, and the choice.
 
-/// Bursts are counted in rounds of so many.
-const ROUND: u32 = 512;
+/// Packets are counted in rounds of so many.
+const ROUND: u32 = 524_288;
 
-/// So many bursts of a round go on threads first,
-const ON_THREADS: u32 = 8;
+/// The bursts of so many go on threads first,
+const ON_THREADS: u32 = 8_192;
 
 /// and those behind them on one thread, up to this number.
-const TRIED: u32 = 10;
+const TRIED: u32 = 10_240;
 
 /// The ways of a burst.
 #[derive(Clone, Copy, PartialEq, Eq, Debug)]
@@ -18,19 +18,19 @@ pub enum Lead {
     Alone,
 }
 
-/// What a packet takes by either way, in nanoseconds, by the bursts that went by it, and how many bursts of this round went.
+/// What a packet takes by either way, in nanoseconds, by the bursts that went by it, and how far this round is.
 #[derive(Clone, Copy, PartialEq, Eq, Debug)]
 pub struct Pace {
     /// On threads, where that was tried.
     pub threads: Option<u64>,
     /// On one thread, where that was tried.
     pub alone: Option<u64>,
-    /// The number of the next burst in its round, from 0.
+    /// How many packets of this round went.
     pub turn: u32,
 }
 
 ghost use Rattle.std.specs.Prelude.{◌≡◌, ◌<◌, ◌/◌, Some, None};
-ghost use Rattle.pace.specs.Pacing.{better, kept, lead_of, next_turn, pays};
+ghost use Rattle.pace.specs.Pacing.{better, end_of_part, kept, lead_of, next_turn, pays};
 ghost use Rattle.pace.specs.declared.pace.Lead.{Lead};
 
 impl Pace {
@@ -71,19 +71,28 @@ impl Pace {
     /// A burst with so many packets, of which there were some, went this way and took so many nanoseconds.
     pub fn tell(&mut self, lead: Lead, packets: u32, nanos: u64)
         requires some { 0 < packets }
-        ensures threads { lead ≡ Lead.Threads → self.new ≡ record self.old { threads = Some (kept self.old.threads (nanos / packets)); turn = next_turn self.old.turn } }
-        ensures alone { lead ≡ Lead.Alone → self.new ≡ record self.old { alone = Some (kept self.old.alone (nanos / packets)); turn = next_turn self.old.turn } }
+        ensures threads { lead ≡ Lead.Threads → self.new ≡ record self.old { threads = Some (kept self.old.threads (nanos / packets)); turn = next_turn self.old.turn packets } }
+        ensures alone { lead ≡ Lead.Alone → self.new ≡ record self.old { alone = Some (kept self.old.alone (nanos / packets)); turn = next_turn self.old.turn packets } }
     {
         let each = nanos / u64::from(packets);
         match lead {
             Lead::Threads => self.threads = Some(kept(self.threads, each)),
             Lead::Alone => self.alone = Some(kept(self.alone, each)),
         }
-        self.turn = if self.turn < ROUND - 1 {
-            self.turn + 1
+        self.turn = self.turn.saturating_add(packets).min(self.end_of_part()) % ROUND;
+    }
+
+    /// Where this part of the round ends.
+    fn end_of_part(&self) -> u32
+        ensures { result ≡ end_of_part self.now.turn }
+    {
+        if self.turn < ON_THREADS {
+            ON_THREADS
+        } else if self.turn < TRIED {
+            TRIED
         } else {
-            0
-        };
+            ROUND
+        }
     }
 }
 
