@@ -30,9 +30,9 @@ use std::time::Instant;
 /// leaves `i` when divided by their count. Dealers, branches and mergers of all stages run side by side, each
 /// on a thread of its own where one can be started; the threads are joined before the call returns. Where
 /// the graph has no stage but one of one branch, nothing could run beside it, and all runs in the caller's
-/// thread. So does a burst that goes alone by the pace of the run: where threads took longer for the bursts
-/// before, by the clock, than one thread does. The first burst of a run goes on threads. Each step of a
-/// function passes the gate first. Frames that go out are not sealed yet.
+/// thread. So does a burst that goes alone by the pace of the run (`pace`): where threads spared too little of
+/// the time of one for the bursts before, by the clock, or where one thread is tried. The first burst of a run
+/// goes on threads. Each step of a function passes the gate first. Frames that go out are not sealed yet.
 ///
 /// Every packet ends as if it walked through the functions of the chain one after another, each as the
 /// packet before left it, and so do the functions' states. The tally rises by the copies that were made.
