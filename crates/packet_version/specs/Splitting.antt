@@ -2,11 +2,12 @@
 use Rattle.std.specs.Prelude.{◌≡◌, ◌≢◌, ℕ, ◌+◌, ◌*◌, List, length, true, Option, IfSome, option_map, is_some, if◌then◌else◌}
 use Rattle.packet_fields.specs.Frames.{is_tag_list}
 use Rattle.packet_fields.specs.Fields.{value}
-use Rattle.packet_fields.specs.Writing.{written, AllFit}
+use Rattle.packet_fields.specs.Writing.{written, rest_of, AllFit}
 use Rattle.packet_fields.specs.declared.field.Field.{Field}
 use Rattle.packet_fields.specs.declared.field.Field.TheVariants.{Tag}
 use Rattle.action_profile.specs.Profiles.{is_tag}
-use Rattle.packet_version.specs.Parts.{PlainPart, Parts, as_map, values_of}
+use Rattle.chain_walk.specs.Shown.{fixed_of}
+use Rattle.packet_version.specs.Parts.{PlainPart, Parts, as_list, as_map, values_of}
 use Rattle.chain_walk.specs.declared.fixed.Fixed.{Fixed}
 
 -- The parts of a packet in the fields' order, what is left of its frame without them, and its fixed values.
@@ -29,6 +30,10 @@ fresh spare bytes = record { bytes = bytes; writer = 0; room = length bytes + sp
 -- the part of each field of a frame
 abbrev pub split_parts : ℕ → List ℕ → Parts
 split_parts taggers frame f = option_map (fresh (spare_room taggers f)) (value f frame)
+
+-- a frame taken apart, which was captured at this time
+abbrev pub taken_apart : ℕ → ℕ → List ℕ → PlainApart
+taken_apart taggers time frame = record { parts = as_list (split_parts taggers frame); rest = rest_of frame; fixed = fixed_of time frame }
 
 -- the frame of some parts: its rest, with each part in its field's place
 abbrev pub joined : PlainApart → List ℕ

@@ -30,7 +30,7 @@ impl Model for Apart {
 ghost use Rattle.std.specs.Prelude.{◌≡◌, IfOk};
 ghost use Rattle.packet_fields.specs.Writing.{rest_of};
 ghost use Rattle.chain_walk.specs.Shown.{fixed_of};
-ghost use Rattle.packet_version.specs.Splitting.{packet_parts, split_parts as split_parts_of, joined, IsWhole};
+ghost use Rattle.packet_version.specs.Splitting.{packet_parts, split_parts as split_parts_of, taken_apart, joined, IsWhole};
 
 /// Takes a frame of any bytes apart. The parts are written by nobody, and the list of tags has room for
 /// `taggers` tags more. `time` is when the packet was captured, in nanoseconds.
@@ -38,6 +38,7 @@ ghost use Rattle.packet_version.specs.Splitting.{packet_parts, split_parts as sp
 /// Memory is taken for a copy of the frame, for its outline, and for the places of its parts.
 #[inline(always)]
 pub fn split(alloc: Global, frame: &[u8], time: u64, taggers: u32) -> Result<Apart, AllocError>
+    ensures apart { IfOk result (λ whole. whole ≡ taken_apart taggers time frame.now) }
     ensures parts { IfOk result (λ whole. packet_parts whole ≡ split_parts_of taggers frame.now) }
     ensures rest { IfOk result (λ whole. whole.rest ≡ rest_of frame.now) }
     ensures fixed { IfOk result (λ whole. whole.fixed ≡ fixed_of time frame.now) }
