@@ -24,7 +24,8 @@ use Rattle.burst_law.specs.Frames.{message_of, fate_of, fates_of}
 use Rattle.graph_run.specs.Carrying.{values_in}
 use Rattle.graph_run.specs.Counting.{reached, copies_in, copies_of, copies_made}
 use Rattle.joined_run.specs.Leaving.{KeepsRest, KeepsRests}
-use Rattle.joined_run.specs.Messages.{as_message, fate_behind}
+use Rattle.joined_run.specs.Messages.{as_message}
+use Rattle.merge_ops.specs.Fates.{fate_behind}
 use Rattle.joined_run.specs.Splits.{AreSplit}
 use Rattle.joined_run.proofs.Following.{rests_head}
 

@@ -20,7 +20,8 @@ use Rattle.graph_run.specs.Leading.{Leads}
 use Rattle.graph_run.specs.Rooms.{adders_from}
 use Rattle.graph_run.specs.Running.{PlainRunning, profiles_of}
 use Rattle.joined_run.specs.Ended.{HasEnded}
-use Rattle.joined_run.specs.Messages.{as_message, fate_behind}
+use Rattle.joined_run.specs.Messages.{as_message}
+use Rattle.merge_ops.specs.Fates.{fate_behind}
 use Rattle.joined_run.specs.Splits.{AreSplit}
 use Rattle.joined_run.proofs.Apart.{messages_split}
 use Rattle.joined_run.proofs.Fated.{BuiltAgain, FatesInBursts, fates_behind, copies_walked}

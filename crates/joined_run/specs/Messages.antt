@@ -2,10 +2,7 @@
 use Rattle.std.specs.Prelude.{ℕ, List}
 use Rattle.std.specs.List.{sum_by}
 use Rattle.packet_fields.specs.declared.field.Field.{Field}
-use Rattle.chain_walk.specs.declared.walk.Fate.{Fate}
-use Rattle.chain_walk.specs.declared.walk.Fate.TheVariants as fates
 use Rattle.graph_compile.specs.declared.graph.Stage.{Stage}
-use Rattle.packet_version.specs.Splitting.{joined}
 use Rattle.merge_ops.specs.declared.merging.Merged.{Merged}
 use Rattle.merge_ops.specs.declared.merging.Merged.TheVariants.{Whole, Gone, Short}
 use Rattle.burst_law.specs.Bursts.{Message, Message.Here, Message.Lost}
@@ -17,12 +14,6 @@ abbrev pub as_message : Merged → Message
 as_message (Whole whole) = Here whole.fixed (values_in whole)
 as_message (Gone p) = Lost p
 as_message Short = Lost 0
-
--- the fate of a packet behind the last stage; no packet of a run is short
-abbrev pub fate_behind : Merged → Fate
-fate_behind (Whole whole) = fates.Out (joined whole)
-fate_behind (Gone p) = fates.Gone p
-fate_behind Short = fates.Gone 0
 
 -- the copies of a field that a stage makes of these packets
 abbrev pub burst_copies : Stage → List Message → Field → ℕ

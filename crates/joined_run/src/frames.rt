@@ -1,14 +1,14 @@
 //! The frames of a burst, taken apart before the first stage and put together behind the last.
 ghost use Rattle.std.specs.Prelude.{◌≡◌, length, map, IfOk};
 ghost use Rattle.graph_run.specs.Packets.{packets_taken};
-ghost use Rattle.joined_run.specs.Messages.{fate_behind};
+ghost use Rattle.merge_ops.specs.Fates.{fate_behind};
 ghost use Rattle.joined_run.specs.Splits.{AreSplit};
 
 use chain_walk::Fate;
 use classifier::Item;
 use graph_run::is_of;
 use merge_ops::Merged;
-use packet_version::{join, split};
+use packet_version::split;
 use pcap_io::Unit;
 use std::alloc::{AllocError, Global};
 
@@ -49,18 +49,7 @@ pub fn join_packets(alloc: Global, packets: Vec<Merged>) -> Result<Vec<Fate>, Al
 {
     let mut fates = Vec::with_capacity(alloc, packets.len())?;
     for packet in packets {
-        fates.push(join_packet(alloc, packet)?)?;
+        fates.push(packet.into_fate(alloc)?)?;
     }
     Ok(fates)
-}
-
-/// The fate of a packet behind the last stage.
-fn join_packet(alloc: Global, packet: Merged) -> Result<Fate, AllocError>
-    ensures { IfOk result (λ fate. fate ≡ fate_behind packet) }
-{
-    match packet {
-        Merged::Whole(whole) => Ok(Fate::Out(join(alloc, whole)?)),
-        Merged::Gone(position) => Ok(Fate::Gone(position)),
-        Merged::Short => Err(AllocError),
-    }
 }

@@ -1,3 +1,4 @@
 pub mod Merging
 pub mod Taking
 pub mod Behind
+pub mod Fates

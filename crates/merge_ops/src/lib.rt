@@ -13,6 +13,8 @@
 //! [`last_writer_is_greatest`] says who wrote last, and [`unwritten_is_same`] that a packet which nobody
 //! wrote comes back as the same frame.
 //!
+//! Behind the last stage [`Merged::into_fate`] puts the parts of a packet that goes on together to its frame.
+//!
 //! What `merge` needs of the arrivals stands in `specs/Behind.antt`: one from each branch of the base's
 //! stage, in branch order, each with the fields that its branch was dealt. [`dealt_are_arrivals`] and
 //! [`written_is_made`] give it from what was dealt and then written.
@@ -21,6 +23,7 @@
 mod alone;
 mod arrival;
 mod decision;
+mod fate;
 mod laws;
 mod merging;
 

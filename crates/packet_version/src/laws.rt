@@ -7,7 +7,8 @@ ghost use Rattle.packet_fields.specs.Writing.{over as values_over};
 ghost use Rattle.chain_walk.specs.Shown.{Values, AreWellFormed};
 ghost use Rattle.chain_walk.specs.Step.{nothing};
 ghost use Rattle.packet_version.specs.Parts.{AreTags, Parts, rewritten, writers_of};
-ghost use Rattle.packet_version.specs.Splitting.{PlainApart, IsWhole, IsShapedAs, packet_parts};
+ghost use Rattle.packet_fields.specs.Writing.{rest_of};
+ghost use Rattle.packet_version.specs.Splitting.{PlainApart, IsWhole, IsShapedAs, packet_parts, split_parts, taken_apart};
 ghost use Rattle.packet_version.specs.Versions.{version_parts};
 ghost use Rattle.packet_version.specs.Dealing.{dealt, dealt_parts, based, kept_parts};
 ghost use Rattle.packet_version.specs.Views.{PlainView, seen_parts, seen_values, wrote, pushed, popped, wrote_all, rewritten_by, alone, HasBytes, WroteAlone};
@@ -18,6 +19,12 @@ ghost use Rattle.action_profile.specs.Profiles.{writes_of};
 use crate::version::Version;
 use crate::view::View;
 use packet_fields::Field;
+
+/// A frame of any bytes that is taken apart has a part for each of its fields, and these fit what is left of it.
+pub fn frames_come_apart()
+    ensures parts { (taggers time : ℕ) (frame : List ℕ) → packet_parts (taken_apart taggers time frame) ≡ split_parts taggers frame }
+    ensures fits { (taggers time : ℕ) (frame : List ℕ) → IsWhole (packet_parts (taken_apart taggers time frame)) (rest_of frame) }
+{}
 
 /// What is read after a write: the new bytes, by this function, in the field that was written, and in each
 /// other field what was there, with its writer.

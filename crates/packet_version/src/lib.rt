@@ -56,9 +56,9 @@ pub use chain_walk::{Fixed, Verdict};
 pub use dealing::{deal, deal_whole};
 pub use gathered::Gathered;
 pub use laws::{
-    dealt_is_read, later_write_stands_over, left_is_read, shape_fits, tags_are_whole,
-    unwritten_stays, view_is_formed, write_apart, written_is_one_value, written_is_own,
-    written_is_read,
+    dealt_is_read, frames_come_apart, later_write_stands_over, left_is_read, shape_fits,
+    tags_are_whole, unwritten_stays, view_is_formed, write_apart, written_is_one_value,
+    written_is_own, written_is_read,
 };
 pub use part::{Part, copy};
 pub use tally::Tally;

@@ -1,6 +1,6 @@
 use Rattle.std.proofs.Common.{◌≡◌, ◌++◌, map}
 use Rattle.std.specs.Vec.Iter.{into_iter_items}
-use Rattle.joined_run.specs.Messages.{fate_behind}
+use Rattle.merge_ops.specs.Fates.{fate_behind}
 use Rattle.joined_run.proofs.frames.join_packets.Given as goal
 
 abbrev pub invariant-loop-packet : goal.invariant-loop-packet

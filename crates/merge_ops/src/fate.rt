@@ -1,0 +1,26 @@
+//! What a packet comes to behind the last stage.
+
+ghost use Rattle.std.specs.Prelude.{◌≡◌, ◌≢◌, IfOk, OnOk};
+ghost use Rattle.merge_ops.specs.Fates.{fate_behind};
+
+use crate::merging::Merged;
+use chain_walk::Fate;
+use packet_version::join;
+use std::alloc::{AllocError, Global};
+
+impl Merged {
+    /// The fate of a packet behind the last stage: it goes out as its parts put together to a frame, which is
+    /// not sealed yet, or is gone.
+    ///
+    /// The one refusal is want of memory. A packet that is short ends so too.
+    pub fn into_fate(self, alloc: Global) -> Result<Fate, AllocError>
+        ensures fate { IfOk result (λ fate. fate ≡ fate_behind self) }
+        ensures found { OnOk result (self ≢ Merged.Short) }
+    {
+        match self {
+            Merged::Whole(whole) => Ok(Fate::Out(join(alloc, whole)?)),
+            Merged::Gone(position) => Ok(Fate::Gone(position)),
+            Merged::Short => Err(AllocError),
+        }
+    }
+}
