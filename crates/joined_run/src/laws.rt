@@ -17,7 +17,7 @@ ghost use Rattle.merge_ops.specs.declared.arrival.Arrival.{Arrival};
 ghost use Rattle.merge_ops.specs.declared.merging.Merged.{Merged};
 ghost use Rattle.joined_run.specs.Ended.{HasEnded};
 ghost use Rattle.joined_run.specs.Leaving.{LeavesBurst};
-ghost use Rattle.joined_run.specs.Messages.{as_message}
+ghost use Rattle.joined_run.specs.Messages.{as_message};
 ghost use Rattle.merge_ops.specs.Fates.{fate_behind};
 ghost use Rattle.joined_run.specs.Ready.{AllEnter, IsBurstReady};
 ghost use Rattle.joined_run.specs.Splits.{AreSplit};

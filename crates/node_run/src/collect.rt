@@ -1,49 +1,47 @@
 //! What comes out behind the last stage.
-ghost use Rattle.std.specs.Prelude.{◌≡◌, ◌++◌, ◌∷◌, [], ℕ, suc, List, map, All, IfOk, OnOk, vec_capacity};
+ghost use Rattle.std.specs.Prelude.{◌≡◌, [], ℕ, suc, List, map, All, IfOk, OnOk, vec_capacity};
 ghost use Rattle.packet_version.specs.Splitting.{PlainApart};
 ghost use Rattle.message_links.specs.Messages.{PlainMessage};
-ghost use Rattle.stage_nodes.specs.Streams.{of_merged};
-ghost use Rattle.node_run.specs.Runs.{Collects, is_whole};
+ghost use Rattle.merge_ops.specs.Fates.{fate_behind};
+ghost use Rattle.stage_nodes.specs.Streams.{as_merged};
+ghost use Rattle.node_run.specs.Runs.{Collects, is_found};
 
-use merge_ops::Merged;
-use stage_nodes::Source;
+use chain_walk::Fate;
+use stage_nodes::Supply;
 use std::alloc::{AllocError, Global};
 use std::sync::Wait;
 
-/// So many packets that come from the source. It refuses where one is short, or where there is no memory for
-/// them.
-pub(crate) fn collect<R: Wait>(
+/// The fates of so many packets, each as it comes from behind the last stage. It refuses where one is short,
+/// or where there is no memory for them.
+pub(crate) fn collect<S: Supply + Drop, R: Wait>(
     rt: &R,
     alloc: Global,
-    source: Source,
+    source: S,
     count: u32,
-) -> Result<Vec<Merged>, AllocError>
-    requires { (all : List (PlainMessage PlainApart)) × Collects count count [] source all }
-    ensures packets { (all : List (PlainMessage PlainApart)) → Collects count count [] source all → IfOk result (λ packets. map of_merged packets.items ≡ all) }
-    ensures whole { IfOk result (λ packets. All is_whole packets.items) }
+) -> Result<Vec<Fate>, AllocError>
+    requires { (all : List (PlainMessage PlainApart)) × Collects S.comes count count [] source all }
+    ensures fates { (all : List (PlainMessage PlainApart)) → Collects S.comes count count [] source all → IfOk result (λ fates. fates.items ≡ map fate_behind (map as_merged all)) }
+    ensures found { (all : List (PlainMessage PlainApart)) → Collects S.comes count count [] source all → OnOk result (All is_found all) }
 {
     let mut source = source;
-    let mut packets = Vec::with_capacity(alloc, count as usize)?;
+    let mut fates = Vec::with_capacity(alloc, count as usize)?;
     for _packet in 0..count {
-        collect_one(rt, &mut source, &mut packets)?;
+        collect_one(rt, alloc, &mut source, &mut fates)?;
     }
-    Ok(packets)
+    Ok(fates)
 }
 
-/// The next packet.
-fn collect_one<R: Wait>(
+/// The fate of the next packet.
+fn collect_one<S: Supply, R: Wait>(
     rt: &R,
-    source: &mut Source,
-    packets: &mut Vec<Merged>,
+    alloc: Global,
+    source: &mut S,
+    fates: &mut Vec<Fate>,
 ) -> Result<(), AllocError>
-    requires { (n : ℕ) × (all : List (PlainMessage PlainApart)) × Collects (suc n) (vec_capacity packets.old) packets.old.items source.old all }
-    ensures { OnOk result ((n : ℕ) (all : List (PlainMessage PlainApart)) → Collects (suc n) (vec_capacity packets.old) packets.old.items source.old all → Collects n (vec_capacity packets.new) packets.new.items source.new all) }
+    requires { (n : ℕ) × (all : List (PlainMessage PlainApart)) × Collects S.comes (suc n) (vec_capacity fates.old) fates.old.items source.old all }
+    ensures { OnOk result ((n : ℕ) (all : List (PlainMessage PlainApart)) → Collects S.comes (suc n) (vec_capacity fates.old) fates.old.items source.old all → Collects S.comes n (vec_capacity fates.new) fates.new.items source.new all) }
 {
-    match source.next(rt) {
-        Merged::Short => Err(AllocError),
-        packet => {
-            packets.push_reserved(packet);
-            Ok(())
-        }
-    }
+    let fate = source.next(rt, alloc).into_fate(alloc)?;
+    fates.push_reserved(fate);
+    Ok(())
 }

@@ -41,6 +41,7 @@ mod branches;
 mod collect;
 mod ended;
 mod fans;
+mod first;
 mod meeting;
 mod mergers;
 mod node;

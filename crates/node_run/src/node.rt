@@ -1,18 +1,19 @@
 //! A node of any kind.
 ghost use Rattle.node_run.specs.Nodes.{Keeps, is_ready};
 
+use message_links::Inlets;
 use nfp_outside::Gate;
-use packet_version::Tally;
+use packet_version::{Apart, Tally};
 use stage_nodes::{Branch, BranchWork, Dealer, Merger, run_branch, run_dealer, run_merger};
 use std::alloc::Global;
 use std::snapshot::Snapshot;
 use std::sync::Wait;
 use std::thread::Promise;
 
-/// A dealer, a branch or a merger, with its ends of links and of boards.
+/// A dealer of a stage behind another, a branch or a merger, with its ends of links and of boards.
 #[derive(Drop)]
 pub(crate) enum Node<F> {
-    Dealer(Dealer),
+    Dealer(Dealer<Inlets<Apart>>),
     Branch(Branch<F>),
     Merger(Merger),
 }

@@ -1,177 +1,254 @@
 //! The whole run.
 ghost use Rattle.std.specs.Prelude.{◌≡◌, ◌<◌, ◌≤◌, ◌++◌, ◌∷◌, [], ℕ, List, length, map, All, IfOk, OnOk, vec_capacity, false};
-ghost use Rattle.std.specs.List.{list_any};
 ghost use Rattle.packet_fields.specs.declared.field.Field.{Field};
 ghost use Rattle.packet_version.specs.Splitting.{PlainApart};
 ghost use Rattle.packet_version.specs.Tallies.{count_of, raised};
-ghost use Rattle.message_links.specs.Messages.{PlainMessage, is_short};
-ghost use Rattle.stage_nodes.specs.Streams.{copies_along, ends_of, of_merged, through};
+ghost use Rattle.merge_ops.specs.Fates.{fate_behind};
+ghost use Rattle.message_links.specs.Messages.{PlainMessage};
+ghost use Rattle.stage_nodes.specs.Streams.{as_merged, copies_along, ends_of, through};
 ghost use Rattle.stage_nodes.specs.Flows.{MayPassAll};
-ghost use Rattle.stage_nodes.specs.Dues.{ComesFrom};
+ghost use Rattle.node_run.specs.Firsts.{IsFirst};
 ghost use Rattle.node_run.specs.Nodes.{added, copies_by_all, gather, is_ready};
-ghost use Rattle.node_run.specs.Runs.{CanRun, HasRun, IsLaid, flat};
+ghost use Rattle.node_run.specs.Runs.{CanRun, HasRun, IsLaid, Lays, MayLay, flat, is_found};
 ghost use Rattle.node_run.specs.Stages.{plain_stage};
 ghost use Rattle.node_run.specs.Starts.{node_of};
 
 use crate::collect::collect;
-use crate::meeting::MergeWay;
+use crate::first::{Dealt, First, deal_first};
+use crate::meeting::{MergeWay, take_first};
 use crate::node::{Done, Node};
 use crate::stage::StageWork;
 use crate::start::{Started, finish, start};
-use crate::wire::wire_stage;
-use merge_ops::Merged;
+use crate::wire::{Wired, wire_stage};
+use chain_walk::Fate;
+use message_links::{Inlets, Parcel};
 use nfp_outside::Gate;
-use packet_version::Tally;
-use stage_nodes::{BranchWork, Source};
+use packet_version::{Apart, Tally};
+use ruled_links::LinkDue;
+use stage_nodes::{BranchWork, Supply};
 use std::alloc::{AllocError, Global};
 use std::marker::Brand;
 use std::sync::Wait;
 use std::thread;
 use std::thread::{Scope, Threads};
 
-/// Leads a burst of packets through the stages: in each a dealer deals every packet to the branches, which take
-/// them in the packets' order, and so many mergers put together what comes of them, each its share in turn. What
-/// the branches give comes to the mergers in the way asked for.
+/// Leads so many packets, as they come, through the stages: in each a dealer deals every packet to the branches,
+/// which take them in the packets' order, and so many mergers put together what comes of them, each its share in
+/// turn. What the branches give comes to the mergers in the way asked for. `D.due` are the packets that come.
 ///
-/// Each dealer, branch and merger is a node on a thread of its own where one can be started, else the caller
-/// runs it, at once and to its end. All links and boards are made before the first step, with room for every
-/// message. What comes of the burst doesn't depend on the number of mergers, on the way or on the order of
+/// The caller deals the packets of the first stage, and collects the fate of each behind the last. Each other
+/// dealer, each branch and each merger is a node on a thread of its own where one can be started, else the caller
+/// runs it to its end once it has dealt. All links and boards are made before the first step, with room for every
+/// message. What comes of the packets doesn't depend on the number of mergers, on the way or on the order of
 /// steps. The one refusal is want of memory, wherever it is found; all threads are joined before it returns.
-pub fn run_nodes<F: BranchWork + Drop + Send, R: Threads + Wait + Sync, G: Gate + Sync>(
+pub fn run_nodes<
+    F: BranchWork + Drop + Send,
+    S: Supply + Drop,
+    D: LinkDue<Parcel<Apart>>,
+    R: Threads + Wait + Sync,
+    G: Gate + Sync,
+>(
     rt: &R,
     alloc: Global,
     gate: &G,
     stages: Vec<StageWork<F>>,
-    packets: Vec<Merged>,
+    packets: S,
+    count: u32,
     mergers: u32,
     way: MergeWay,
-) -> Result<(Vec<F>, Vec<Merged>, Tally), AllocError>
+) -> Result<(Vec<F>, Vec<Fate>, Tally), AllocError>
     requires some { 0 < mergers }
     requires few_mergers { mergers ≤ 16 }
-    requires few { length packets.items < 65537 }
-    requires pass { MayPassAll F.kit F.may (map plain_stage stages.items) (map of_merged packets.items) }
+    requires few { count < 65537 }
+    requires many { length D.due ≡ count }
+    requires come { S.comes packets D.due }
+    requires pass { MayPassAll F.kit F.may (map plain_stage stages.items) D.due }
 
     // The functions of all branches, in the stages' order, as they are when each branch has had all packets.
-    ensures functions { IfOk result (λ ran. ran.0.items ≡ flat (ends_of F.kit (map plain_stage stages.items) (map of_merged packets.items))) }
+    ensures functions { IfOk result (λ ran. ran.0.items ≡ flat (ends_of F.kit (map plain_stage stages.items) D.due)) }
 
-    // What comes of each packet behind all stages, in the packets' order.
-    ensures packets { IfOk result (λ ran. map of_merged ran.1.items ≡ through F.kit (map plain_stage stages.items) (map of_merged packets.items)) }
+    // The fate of each packet behind all stages, in the packets' order.
+    ensures fates { IfOk result (λ ran. ran.1.items ≡ map fate_behind (map as_merged (through F.kit (map plain_stage stages.items) D.due))) }
 
     // Memory was found for each of them.
-    ensures whole { IfOk result (λ ran. list_any (λ m. is_short (of_merged m)) ran.1.items ≡ false) }
+    ensures found { OnOk result (All is_found (through F.kit (map plain_stage stages.items) D.due)) }
 
     // The copies of each field that the dealers made.
-    ensures counted { IfOk result (λ ran. (f : Field) → count_of ran.2 f ≡ raised 0 (copies_along F.kit (map plain_stage stages.items) (map of_merged packets.items) f)) }
+    ensures counted { IfOk result (λ ran. (f : Field) → count_of ran.2 f ≡ raised 0 (copies_along F.kit (map plain_stage stages.items) D.due f)) }
 {
-    let count = packets.len() as u32;
-    let mut nodes = Vec::new(alloc);
-    let source = wire_all(alloc, stages, packets, mergers, way, count, &mut nodes)?;
+    let mut stages = stages;
+    if stages.is_empty() {
+        let fates = collect(rt, alloc, packets, count)?;
+        return Ok((Vec::new(alloc), fates, Tally::new()));
+    }
+    let work = take_first(&mut stages);
+    let wired = wire_stage::<F, S, D>(alloc, work, packets, mergers, way, count)?;
+    let Wired {
+        dealer,
+        mut nodes,
+        next,
+    } = wired;
+    let behind = wire_all(alloc, stages, next, mergers, way, count, &mut nodes)?;
     let started = Vec::with_capacity(alloc, nodes.len())?;
-    run_scoped(rt, alloc, gate, nodes, started, source, count)
+    let first = First::Due(dealer);
+    run_scoped(rt, alloc, gate, first, nodes, started, behind, count)
 }
 
-/// The nodes of all stages, to whose first the packets come; gives where packets come from behind the last.
+/// The nodes of stages behind the first, to which packets come from the source; gives where they come from behind
+/// the last.
 fn wire_all<F: BranchWork + Drop>(
     alloc: Global,
     stages: Vec<StageWork<F>>,
-    packets: Vec<Merged>,
+    source: Inlets<Apart>,
     mergers: u32,
     way: MergeWay,
     count: u32,
     nodes: &mut Vec<Node<F>>,
-) -> Result<Source, AllocError>
+) -> Result<Inlets<Apart>, AllocError>
     requires some { 0 < mergers }
     requires few_mergers { mergers ≤ 16 }
     requires few { count < 65537 }
-    requires many { length packets.items ≡ count }
-    requires pass { MayPassAll F.kit F.may (map plain_stage stages.items) (map of_merged packets.items) }
-    requires empty { nodes.old.items ≡ [] }
-    ensures { IfOk result (λ source. IsLaid F.kit F.may count (map plain_stage stages.items) (map of_merged packets.items) source nodes.new.items) }
+    requires lays { MayLay F.kit F.may count (map plain_stage stages.items) source nodes.old.items }
+    ensures { IfOk result (λ behind. (xs : List (PlainMessage PlainApart)) (fs : List F) (c : Field → ℕ) →
+        Lays F.kit F.may count (map plain_stage stages.items) source xs nodes.old.items fs c →
+        IsLaid F.kit F.may count (map plain_stage stages.items) xs behind nodes.new.items fs c) }
 {
-    let mut source = Source::of_burst(packets);
+    let mut source = source;
     for work in stages {
-        let next = wire_stage::<F, Brand>(alloc, work, source, mergers, way, count, nodes)?;
-        source = Source::of_mergers(next);
+        let wired = wire_stage::<F, Inlets<Apart>, Brand>(alloc, work, source, mergers, way, count)?;
+        source = push_stage(wired, nodes)?;
     }
     Ok(source)
 }
 
+/// The nodes of one stage more; gives where packets come from behind it.
+fn push_stage<F: BranchWork + Drop>(
+    wired: Wired<F, Inlets<Apart>>,
+    nodes: &mut Vec<Node<F>>,
+) -> Result<Inlets<Apart>, AllocError>
+    ensures next { IfOk result (λ next. next ≡ wired.next) }
+    ensures nodes { OnOk result (nodes.new.items ≡ nodes.old.items ++ Node.Dealer wired.dealer ∷ wired.nodes.items) }
+{
+    let Wired {
+        dealer,
+        nodes: mut others,
+        next,
+    } = wired;
+    nodes.push(Node::Dealer(dealer))?;
+    nodes.append(&mut others)?;
+    Ok(next)
+}
+
 /// Runs the nodes on threads, all of which are joined before it returns.
-fn run_scoped<F: BranchWork + Drop + Send, R: Threads + Wait + Sync, G: Gate + Sync>(
+fn run_scoped<
+    F: BranchWork + Drop + Send,
+    S: Supply + Drop,
+    R: Threads + Wait + Sync,
+    G: Gate + Sync,
+>(
     rt: &R,
     alloc: Global,
     gate: &G,
+    first: First<S>,
     nodes: Vec<Node<F>>,
     started: Vec<Started<F>>,
-    source: Source,
+    behind: Inlets<Apart>,
     count: u32,
-) -> Result<(Vec<F>, Vec<Merged>, Tally), AllocError>
-    requires run { (due : List (PlainMessage PlainApart)) × CanRun F.kit F.may nodes.items started.items (vec_capacity started) count source due }
-    ensures { (due : List (PlainMessage PlainApart)) → CanRun F.kit F.may nodes.items started.items (vec_capacity started) count source due → IfOk result (λ ran. HasRun F.kit nodes.items due ran.0.items ran.1.items ran.2) }
+) -> Result<(Vec<F>, Vec<Fate>, Tally), AllocError>
+    requires run { (copies : Field → ℕ) × (due : List (PlainMessage PlainApart)) × CanRun F.kit F.may S.comes copies first nodes.items started.items (vec_capacity started) count behind due }
+    ensures { (copies : Field → ℕ) (due : List (PlainMessage PlainApart)) → CanRun F.kit F.may S.comes copies first nodes.items started.items (vec_capacity started) count behind due → IfOk result (λ ran. HasRun F.kit copies nodes.items due ran.0.items ran.1.items ran.2) }
 {
     thread::scope(
         thread::scope_env(),
         rt,
-        move |scope| -> Result<(Vec<F>, Vec<Merged>, Tally), AllocError>
-            requires { (due : List (PlainMessage PlainApart)) × CanRun F.kit F.may nodes.items started.items (vec_capacity started) count source due }
-            ensures { (due : List (PlainMessage PlainApart)) → CanRun F.kit F.may nodes.items started.items (vec_capacity started) count source due → IfOk result (λ ran. HasRun F.kit nodes.items due ran.0.items ran.1.items ran.2) }
-        { run_started(scope, rt, alloc, gate, nodes, started, source, count) },
+        move |scope| -> Result<(Vec<F>, Vec<Fate>, Tally), AllocError>
+            requires { (copies : Field → ℕ) × (due : List (PlainMessage PlainApart)) × CanRun F.kit F.may S.comes copies first nodes.items started.items (vec_capacity started) count behind due }
+            ensures { (copies : Field → ℕ) (due : List (PlainMessage PlainApart)) → CanRun F.kit F.may S.comes copies first nodes.items started.items (vec_capacity started) count behind due → IfOk result (λ ran. HasRun F.kit copies nodes.items due ran.0.items ran.1.items ran.2) }
+        { run_started(scope, rt, alloc, gate, first, nodes, started, behind, count) },
     )
 }
 
-/// Starts the nodes, collects what comes behind the last stage, and waits for the nodes.
-fn run_started<'s, E, F: BranchWork + Drop + Send + 's, R: Threads + Wait + Sync, G: Gate + Sync>(
+/// Starts the nodes, deals the packets to the first stage, collects what comes behind the last, and waits for the
+/// nodes.
+fn run_started<
+    's,
+    E,
+    F: BranchWork + Drop + Send + 's,
+    S: Supply + Drop,
+    R: Threads + Wait + Sync,
+    G: Gate + Sync,
+>(
     scope: &Scope<'s, E>,
     rt: &'s R,
     alloc: Global,
     gate: &'s G,
+    first: First<S>,
     nodes: Vec<Node<F>>,
     started: Vec<Started<F>>,
-    source: Source,
+    behind: Inlets<Apart>,
     count: u32,
-) -> Result<(Vec<F>, Vec<Merged>, Tally), AllocError>
-    requires { (due : List (PlainMessage PlainApart)) × CanRun F.kit F.may nodes.items started.items (vec_capacity started) count source due }
-    ensures { (due : List (PlainMessage PlainApart)) → CanRun F.kit F.may nodes.items started.items (vec_capacity started) count source due → IfOk result (λ ran. HasRun F.kit nodes.items due ran.0.items ran.1.items ran.2) }
+) -> Result<(Vec<F>, Vec<Fate>, Tally), AllocError>
+    requires { (copies : Field → ℕ) × (due : List (PlainMessage PlainApart)) × CanRun F.kit F.may S.comes copies first nodes.items started.items (vec_capacity started) count behind due }
+    ensures { (copies : Field → ℕ) (due : List (PlainMessage PlainApart)) → CanRun F.kit F.may S.comes copies first nodes.items started.items (vec_capacity started) count behind due → IfOk result (λ ran. HasRun F.kit copies nodes.items due ran.0.items ran.1.items ran.2) }
 {
-    let started = start_all(scope, rt, alloc, gate, nodes, started);
-    let packets = collect(rt, alloc, source, count)?;
-    let (functions, tally) = finish_all(rt, alloc, started)?;
-    Ok((functions, packets, tally))
+    let (first, started) = start_all(scope, rt, alloc, gate, first, nodes, started);
+    let dealt = deal_first(rt, alloc, first);
+    let fates = collect(rt, alloc, behind, count)?;
+    let (functions, tally) = finish_all(rt, alloc, dealt, started)?;
+    Ok((functions, fates, tally))
 }
 
 /// Starts nodes in their order.
-fn start_all<'s, E, F: BranchWork + Drop + Send + 's, R: Threads + Wait + Sync, G: Gate + Sync>(
+fn start_all<
+    's,
+    E,
+    F: BranchWork + Drop + Send + 's,
+    S: Supply + Drop,
+    R: Threads + Wait + Sync,
+    G: Gate + Sync,
+>(
     scope: &Scope<'s, E>,
     rt: &'s R,
     alloc: Global,
     gate: &'s G,
+    first: First<S>,
     nodes: Vec<Node<F>>,
     started: Vec<Started<F>>,
-) -> Vec<Started<F>>
+) -> (First<S>, Vec<Started<F>>)
+    requires first { (copies : Field → ℕ) × IsFirst S.comes copies first }
     requires ready { All (is_ready F.kit F.may) nodes.items }
     requires empty { started.items ≡ [] }
     requires room { length nodes.items ≤ vec_capacity started }
-    ensures { map node_of result.items ≡ nodes.items }
+    ensures first { (copies : Field → ℕ) → IsFirst S.comes copies first → IsFirst S.comes copies result.0 }
+    ensures nodes { map node_of result.1.items ≡ nodes.items }
 {
+    let mut first = first;
     let mut started = started;
     for node in nodes {
-        started.push_reserved(start(scope, rt, alloc, gate, node));
+        let (left, one) = start(scope, rt, alloc, gate, first, node);
+        first = left;
+        started.push_reserved(one);
     }
-    started
+    (first, started)
 }
 
-/// Waits for the nodes in their order: the functions that they give back, and the copies that they made. It
-/// refuses where memory was short.
+/// Waits for the nodes in their order: the functions that they give back, and the copies that they and the first
+/// dealer made. It refuses where memory was short.
 fn finish_all<F: BranchWork + Drop, R: Threads>(
     rt: &R,
     alloc: Global,
+    dealt: Dealt,
     started: Vec<Started<F>>,
 ) -> Result<(Vec<F>, Tally), AllocError>
     ensures functions { IfOk result (λ ended. ended.0.items ≡ gather F.kit (map node_of started.items)) }
-    ensures counted { IfOk result (λ ended. (f : Field) → count_of ended.1 f ≡ raised 0 (copies_by_all f (map node_of started.items))) }
+    ensures counted { IfOk result (λ ended. (f : Field) → count_of ended.1 f ≡ raised (count_of dealt.tally f) (copies_by_all f (map node_of started.items))) }
+    ensures found { OnOk result (dealt.short ≡ false) }
 {
+    if dealt.short {
+        return Err(AllocError);
+    }
     let mut functions = Vec::new(alloc);
-    let mut tally = Tally::new();
+    let mut tally = dealt.tally;
     for one in started {
         keep(&mut functions, &mut tally, finish(rt, one))?;
     }

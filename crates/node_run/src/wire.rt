@@ -1,12 +1,10 @@
 //! The links of a stage, where its branches meet its mergers, and the nodes at their ends.
-ghost use Rattle.std.specs.Prelude.{◌≡◌, ◌+◌, ◌<◌, ◌≤◌, ◌++◌, ℕ, List, length, map, IfOk, OnOk};
-ghost use Rattle.packet_fields.specs.declared.field.Field.{Field};
+ghost use Rattle.std.specs.Prelude.{◌≡◌, ◌<◌, ◌≤◌, length, map, IfOk};
 ghost use Rattle.message_links.specs.Turns.{shares};
-ghost use Rattle.stage_nodes.specs.Streams.{base_of, dealer_copies, passed, stayed};
+ghost use Rattle.stage_nodes.specs.Streams.{base_of, passed};
 ghost use Rattle.stage_nodes.specs.Flows.{MayPass};
-ghost use Rattle.stage_nodes.specs.Dues.{ComesFrom};
-ghost use Rattle.node_run.specs.Nodes.{AreNodes, coming_from};
 ghost use Rattle.node_run.specs.Stages.{plain_stage};
+ghost use Rattle.node_run.specs.Wired.{IsWired};
 
 use crate::branches::{Branches, wire_branches};
 use crate::fans::fan;
@@ -18,29 +16,34 @@ use action_profile::StageParts;
 use message_links::{Inlets, Outlets, Parcel};
 use packet_version::{Apart, Base};
 use ruled_links::LinkDue;
-use stage_nodes::{BranchWork, Dealer, Source};
+use stage_nodes::{BranchWork, Dealer, Supply};
 use std::alloc::{AllocError, Global};
 use std::marker::Brand;
 
-/// The nodes of a stage, to which so many packets come from the source; gives the inlets from its mergers.
-pub(crate) fn wire_stage<F: BranchWork + Drop, D: LinkDue<Parcel<Apart>>>(
+/// The nodes of a stage: its dealer, its branches and mergers, and the inlets from its mergers.
+#[derive(Drop)]
+pub(crate) struct Wired<F, S> {
+    pub(crate) dealer: Dealer<S>,
+    pub(crate) nodes: Vec<Node<F>>,
+    pub(crate) next: Inlets<Apart>,
+}
+
+/// The nodes of a stage, to which so many packets come from the source.
+pub(crate) fn wire_stage<F: BranchWork + Drop, S: Supply + Drop, D: LinkDue<Parcel<Apart>>>(
     alloc: Global,
     work: StageWork<F>,
-    source: Source,
+    source: S,
     mergers: u32,
     way: MergeWay,
     count: u32,
-    nodes: &mut Vec<Node<F>>,
-) -> Result<Inlets<Apart>, AllocError>
-    requires due { D.due ≡ coming_from count source }
-    requires takes { ComesFrom source D.due }
+) -> Result<Wired<F, S>, AllocError>
+    requires takes { S.comes source D.due }
     requires some { 0 < mergers }
     requires few_mergers { mergers ≤ 16 }
     requires few { count < 65537 }
     requires many { length D.due ≡ count }
     requires pass { MayPass F.kit F.may (plain_stage work) D.due }
-    ensures next { IfOk result (λ next. next ≡ shares mergers (passed F.kit (plain_stage work) D.due)) }
-    ensures nodes { OnOk result ((fs : List F) (c : Field → ℕ) → AreNodes F.kit F.may nodes.old.items fs c → AreNodes F.kit F.may nodes.new.items (fs ++ stayed F.kit work.parts.touches work.branches.items D.due) (λ f. c f + dealer_copies work.parts.touches D.due f)) }
+    ensures { IfOk result (λ w. IsWired F.kit F.may S.comes mergers count (plain_stage work) D.due source w) }
 {
     let (from_mergers, next) = next_fan::<F, D, Brand>(alloc, &work, mergers, count)?;
     let StageWork { parts, branches } = work;
@@ -57,18 +60,21 @@ pub(crate) fn wire_stage<F: BranchWork + Drop, D: LinkDue<Parcel<Apart>>>(
     let wired = wire_branches::<F, D>(alloc, touches, branches, outlets, mergers, count)?;
     let Branches {
         versions,
-        nodes: mut members,
+        mut nodes,
     } = wired;
-    nodes.push(Node::Dealer(Dealer {
+    wire_mergers(to_mergers, inlets, from_mergers, mergers, count, &mut nodes)?;
+    let dealer = Dealer {
         parts,
         source,
         versions,
         bases,
         count,
-    }))?;
-    nodes.append(&mut members)?;
-    wire_mergers(to_mergers, inlets, from_mergers, mergers, count, nodes)?;
-    Ok(next)
+    };
+    Ok(Wired {
+        dealer,
+        nodes,
+        next,
+    })
 }
 
 /// The links from the dealer to the mergers.

@@ -30,6 +30,7 @@
 #![tactic(auto)]
 
 mod back;
+mod frames;
 mod laws;
 mod owned;
 mod pipe;

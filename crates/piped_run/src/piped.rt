@@ -5,12 +5,13 @@ ghost use Rattle.graph_run.specs.Counting.{RaisesUpTo, copies_made};
 ghost use Rattle.graph_run.specs.Leading.{Leads};
 ghost use Rattle.graph_run.specs.Packets.{packets_taken};
 
-use crate::pipe::pipe_packets;
+use crate::frames::{Frames, numbers_of};
+use crate::pipe::pipe_frames;
 use chain_walk::Fate;
 use classifier::Burst;
 use graph_compile::Graph;
 use graph_run::{Running, count_adders, run_gated};
-use joined_run::{bursts_in_parts_lead, join_packets, run_joined, split_packets};
+use joined_run::{bursts_in_parts_lead, run_joined};
 use net_functions::Function;
 use nfp_outside::Gate;
 use node_run::MergeWay;
@@ -109,11 +110,16 @@ fn run_stages<F: Function + Drop + Send, G: Gate + Sync, R: Threads + Wait + Syn
     let (functions, graph) = run.into_parts();
     let taggers = count_adders(&functions);
     let items = burst.items.as_slice();
-    let (numbers, packets) = split_packets(alloc, items, unit, chain, taggers)?;
-    let (functions, packets) = pipe_packets(
-        rt, alloc, gate, chain, &numbers, &graph, functions, packets, mergers, way, tally,
+    let numbers = numbers_of(alloc, items, chain)?;
+    let frames = Frames {
+        rest: items,
+        unit,
+        chain,
+        taggers,
+    };
+    let (functions, fates) = pipe_frames(
+        rt, alloc, gate, &numbers, &graph, functions, frames, mergers, way, tally,
     )?;
-    let fates = join_packets(alloc, packets)?;
     Ok((Running::new(functions, graph), fates))
 }
 

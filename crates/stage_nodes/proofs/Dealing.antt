@@ -14,7 +14,7 @@ use Rattle.packet_version.specs.Tallies.{count_of, raised}
 use Rattle.message_links.specs.Messages.{PlainMessage, PlainMessage.Live, PlainMessage.Nil, PlainMessage.Short, Fits, Owing, first, rest, front, turned, is_short, word}
 use Rattle.message_links.specs.Turns.{shares}
 use Rattle.stage_nodes.specs.Streams.{parted, base_of, due_of, dealer_copies}
-use Rattle.stage_nodes.specs.Dues.{PlainSource, ComesFrom, DealerDue, NothingOwed}
+use Rattle.stage_nodes.specs.Dues.{DealerDue, NothingOwed}
 use Rattle.stage_nodes.specs.Turns.{HasMore, DealerReady, RaisesByMessage, Stops, Splits, DealerAt}
 use Rattle.stage_nodes.proofs.Shares.{turned_shares, no_shares}
 use Rattle.stage_nodes.proofs.Ends.{due_is, begins, Front, front_of, one_more, none_more}
@@ -50,56 +50,56 @@ row_live [] whole = refl
 row_live (t ∷ touches) whole = ap (λ y. Live (dealt whole t) ∷ y) (row_live touches whole)
 
 -- the packet that comes next, and the links at it
-pub record DealerTurn (touches : List Touch) (source : PlainSource) (versions : List (List (PlainMessage PlainVersion))) (bases : List (List (PlainMessage PlainApart))) : Type 0 where
+pub record DealerTurn {S : Type 0} (comes : S → List (PlainMessage PlainApart) → Type 0) (touches : List Touch) (source : S) (versions : List (List (PlainMessage PlainVersion))) (bases : List (List (PlainMessage PlainApart))) : Type 0 where
   pub next : PlainMessage PlainApart
   pub later : List (PlainMessage PlainApart)
-  pub comes : ComesFrom source (next ∷ later)
+  pub takes : comes source (next ∷ later)
   pub owing : All Owing versions
   pub row : map first versions ≡ map (λ t. parted t next) touches
   pub base : Front bases (base_of touches next)
   pub words : (q : ℕ) → next ≡ Nil q → All (λ l. Fits (first l) (Nil q)) versions
 
-pub dealer_turn : (parts : StageParts) (source : PlainSource) (versions : List (List (PlainMessage PlainVersion))) (bases : List (List (PlainMessage PlainApart))) → DealerReady parts source versions bases → DealerTurn parts.touches source versions bases
-dealer_turn parts source versions bases r =
+pub dealer_turn : {S : Type 0} {comes : S → List (PlainMessage PlainApart) → Type 0} (parts : StageParts) (source : S) (versions : List (List (PlainMessage PlainVersion))) (bases : List (List (PlainMessage PlainApart))) → DealerReady comes parts source versions bases → DealerTurn comes parts.touches source versions bases
+dealer_turn {S} {comes} parts source versions bases r =
     let d = r.2 in
     let b = begins r.1 r.0 d.many in
     let gives : versions ≡ streams_of parts.touches (b.head ∷ b.tail) = d.gives ∙ ap (streams_of parts.touches) b.is in record {
       next = b.head;
       later = b.tail;
-      comes = subst (ComesFrom source) b.is d.takes;
+      takes = subst (comes source) b.is d.takes;
       owing = subst (All Owing) (sym gives) (streams_owing parts.touches b.head b.tail);
       row = ap (map first) gives ∙ streams_first parts.touches b.head b.tail;
       base = front_of d.mergers (base_of parts.touches b.head) (map (base_of parts.touches) b.tail) bases d.some (d.gives_bases ∙ ap (λ y. shares d.mergers (map (base_of parts.touches) y)) b.is);
       words = λ q e. subst (All (λ l. Fits (first l) (Nil q))) (sym (gives ∙ ap (λ y. streams_of parts.touches (y ∷ b.tail)) e)) (streams_words parts.touches q b.tail);
     }
 
-pub has_more : (parts : StageParts) (source : PlainSource) (versions : List (List (PlainMessage PlainVersion))) (bases : List (List (PlainMessage PlainApart))) → DealerReady parts source versions bases → HasMore source
-has_more parts source versions bases r = let t = dealer_turn parts source versions bases r in (t.next, t.later, t.comes)
+pub has_more : {S : Type 0} {comes : S → List (PlainMessage PlainApart) → Type 0} (parts : StageParts) (source : S) (versions : List (List (PlainMessage PlainVersion))) (bases : List (List (PlainMessage PlainApart))) → DealerReady comes parts source versions bases → HasMore comes source
+has_more {S} {comes} parts source versions bases r = let t = dealer_turn parts source versions bases r in (t.next, t.later, t.takes)
 
 -- what came fits the packet that comes next
-abbrev pub FitsNext : PlainSource → PlainMessage PlainApart → Type 0
-FitsNext source message = (x : PlainMessage PlainApart) (xs : List (PlainMessage PlainApart)) → ComesFrom source (x ∷ xs) → Fits x message
+abbrev pub FitsNext : {S : Type 0} → (S → List (PlainMessage PlainApart) → Type 0) → S → PlainMessage PlainApart → Type 0
+FitsNext comes source message = (x : PlainMessage PlainApart) (xs : List (PlainMessage PlainApart)) → comes source (x ∷ xs) → Fits x message
 
-came_live : (touches : List Touch) (source : PlainSource) (versions : List (List (PlainMessage PlainVersion))) (bases : List (List (PlainMessage PlainApart))) (message : PlainMessage PlainApart) (whole : PlainApart)
-    → (t : DealerTurn touches source versions bases) → FitsNext source message → message ≡ Live whole → t.next ≡ Live whole
-came_live touches source versions bases message whole t fits live = sym (due_is t.next message (fits t.next t.later t.comes) (ap is_short live)) ∙ live
+came_live : {S : Type 0} {comes : S → List (PlainMessage PlainApart) → Type 0} (touches : List Touch) (source : S) (versions : List (List (PlainMessage PlainVersion))) (bases : List (List (PlainMessage PlainApart))) (message : PlainMessage PlainApart) (whole : PlainApart)
+    → (t : DealerTurn comes touches source versions bases) → FitsNext comes source message → message ≡ Live whole → t.next ≡ Live whole
+came_live {S} {comes} touches source versions bases message whole t fits live = sym (due_is t.next message (fits t.next t.later t.takes) (ap is_short live)) ∙ live
 
-pub row_due : (touches : List Touch) (source : PlainSource) (versions : List (List (PlainMessage PlainVersion))) (bases : List (List (PlainMessage PlainApart))) (message : PlainMessage PlainApart) (old new : List ℕ) (base : PlainApart) (row : List PlainVersion)
-    → DealerTurn touches source versions bases → FitsNext source message → Splits touches message old new base row → map (λ p. Live p) row ≡ map first versions
-row_due touches source versions bases message old new base row t fits s =
+pub row_due : {S : Type 0} {comes : S → List (PlainMessage PlainApart) → Type 0} (touches : List Touch) (source : S) (versions : List (List (PlainMessage PlainVersion))) (bases : List (List (PlainMessage PlainApart))) (message : PlainMessage PlainApart) (old new : List ℕ) (base : PlainApart) (row : List PlainVersion)
+    → DealerTurn comes touches source versions bases → FitsNext comes source message → Splits touches message old new base row → map (λ p. Live p) row ≡ map first versions
+row_due {S} {comes} touches source versions bases message old new base row t fits s =
     ap (map (λ p. Live p)) s.given ∙ row_live touches s.whole ∙ sym (t.row ∙ ap (λ y. map (λ t. parted t y) touches) (came_live touches source versions bases message s.whole t fits s.live))
 
-pub base_fits : (touches : List Touch) (source : PlainSource) (versions : List (List (PlainMessage PlainVersion))) (bases : List (List (PlainMessage PlainApart))) (message : PlainMessage PlainApart) (old new : List ℕ) (base : PlainApart) (row : List PlainVersion) (reply : PlainMessage PlainApart)
-    → DealerTurn touches source versions bases → FitsNext source message → Splits touches message old new base row → Fits (Live base) reply → Fits (first (front bases)) reply
-base_fits touches source versions bases message old new base row reply t fits s boxed =
+pub base_fits : {S : Type 0} {comes : S → List (PlainMessage PlainApart) → Type 0} (touches : List Touch) (source : S) (versions : List (List (PlainMessage PlainVersion))) (bases : List (List (PlainMessage PlainApart))) (message : PlainMessage PlainApart) (old new : List ℕ) (base : PlainApart) (row : List PlainVersion) (reply : PlainMessage PlainApart)
+    → DealerTurn comes touches source versions bases → FitsNext comes source message → Splits touches message old new base row → Fits (Live base) reply → Fits (first (front bases)) reply
+base_fits {S} {comes} touches source versions bases message old new base row reply t fits s boxed =
     subst (λ y. Fits y reply) (sym (t.base.is ∙ ap (base_of touches) (came_live touches source versions bases message s.whole t fits s.live) ∙ ap (λ y. Live y) (sym s.stays))) boxed
 
-pub words_fit : (touches : List Touch) (source : PlainSource) (versions : List (List (PlainMessage PlainVersion))) (bases : List (List (PlainMessage PlainApart))) (message : PlainMessage PlainApart) (short : Bool) (old new : List ℕ) (position : Option ℕ)
-    → DealerTurn touches source versions bases → FitsNext source message → Stops touches message short old new position
+pub words_fit : {S : Type 0} {comes : S → List (PlainMessage PlainApart) → Type 0} (touches : List Touch) (source : S) (versions : List (List (PlainMessage PlainVersion))) (bases : List (List (PlainMessage PlainApart))) (message : PlainMessage PlainApart) (short : Bool) (old new : List ℕ) (position : Option ℕ)
+    → DealerTurn comes touches source versions bases → FitsNext comes source message → Stops touches message short old new position
     → All (λ l. Fits (first l) (word position)) versions × Fits (first (front bases)) (word position)
-words_fit touches source versions bases message short old new None t fits st = (all_short versions, inr refl)
-words_fit touches source versions bases message short old new (Some q) t fits st =
-    let is : t.next ≡ Nil q = sym (due_is t.next message (fits t.next t.later t.comes) (ap is_short st.1)) ∙ st.1 in
+words_fit {S} {comes} touches source versions bases message short old new None t fits st = (all_short versions, inr refl)
+words_fit {S} {comes} touches source versions bases message short old new (Some q) t fits st =
+    let is : t.next ≡ Nil q = sym (due_is t.next message (fits t.next t.later t.takes) (ap is_short st.1)) ∙ st.1 in
     (t.words q is, inl (sym (t.base.is ∙ ap (base_of touches) is)))
 
 -- a packet that was dealt, or had been dropped before, was counted
@@ -120,14 +120,14 @@ word_counted touches message short after old new (Some q) st e w = record { ampl
 raised_twice : (c d s : ℕ) → raised (raised c d) s ≡ raised c (d + s)
 raised_twice c d s = omega arith
 
-pub dealer_goes_on : (parts : StageParts) (n : ℕ) (xs : List (PlainMessage PlainApart)) (short after : Bool) (counts counts' : List ℕ) (source source' : PlainSource) (versions versions' : List (List (PlainMessage PlainVersion))) (bases bases' : List (List (PlainMessage PlainApart))) (message : PlainMessage PlainApart)
-    → DealerAt parts (suc n) xs short counts source versions bases → FitsNext source message
-    → ((x : PlainMessage PlainApart) (xs : List (PlainMessage PlainApart)) → ComesFrom source (x ∷ xs) → ComesFrom source' xs) → versions' ≡ map rest versions → bases' ≡ turned bases
-    → (after ≡ false → WasCounted parts.touches message short counts counts') → DealerAt parts n xs after counts' source' versions' bases'
-dealer_goes_on parts n xs short after counts counts' source source' versions versions' bases bases' message a fits left v t h =
+pub dealer_goes_on : {S : Type 0} {comes : S → List (PlainMessage PlainApart) → Type 0} (parts : StageParts) (n : ℕ) (xs : List (PlainMessage PlainApart)) (short after : Bool) (counts counts' : List ℕ) (source source' : S) (versions versions' : List (List (PlainMessage PlainVersion))) (bases bases' : List (List (PlainMessage PlainApart))) (message : PlainMessage PlainApart)
+    → DealerAt comes parts (suc n) xs short counts source versions bases → FitsNext comes source message
+    → ((x : PlainMessage PlainApart) (xs : List (PlainMessage PlainApart)) → comes source (x ∷ xs) → comes source' xs) → versions' ≡ map rest versions → bases' ≡ turned bases
+    → (after ≡ false → WasCounted parts.touches message short counts counts') → DealerAt comes parts n xs after counts' source' versions' bases'
+dealer_goes_on {S} {comes} parts n xs short after counts counts' source source' versions versions' bases bases' message a fits left v t h =
     let d = a.due in
     let b = begins a.coming n d.many in
-    let comes = subst (ComesFrom source) b.is d.takes in record {
+    let here = subst (comes source) b.is d.takes in record {
       coming = b.tail;
       due = record {
         mergers = d.mergers;
@@ -136,13 +136,13 @@ dealer_goes_on parts n xs short after counts counts' source source' versions ver
         branches = d.branches;
         few = d.few;
         many = b.many;
-        takes = left b.head b.tail comes;
+        takes = left b.head b.tail here;
         gives = v ∙ ap (map rest) (d.gives ∙ ap (streams_of parts.touches) b.is) ∙ streams_rest parts.touches b.head b.tail;
         gives_bases = t ∙ ap turned (d.gives_bases ∙ ap (λ y. shares d.mergers (map (base_of parts.touches) y)) b.is) ∙ turned_shares d.mergers (base_of parts.touches b.head) (map (base_of parts.touches) b.tail) d.some;
       };
       counted = λ w f.
           let k = h w in
-          let is = due_is b.head message (fits b.head b.tail comes) k.there in
+          let is = due_is b.head message (fits b.head b.tail here) k.there in
           ap (λ c. raised c (dealer_copies parts.touches b.tail f)) (k.counted f ∙ ap (λ y. raised (count_of counts f) (due_of parts.touches f y)) is)
           ∙ raised_twice (count_of counts f) (due_of parts.touches f b.head) (dealer_copies parts.touches b.tail f)
           ∙ ap (raised (count_of counts f)) (sym (sum_by-cons (due_of parts.touches f) b.head b.tail) ∙ ap (λ y. dealer_copies parts.touches y f) (sym b.is))
@@ -151,50 +151,50 @@ dealer_goes_on parts n xs short after counts counts' source source' versions ver
 
 -- over a count of packets
 
-pub dealer_begins : (parts : StageParts) (n : ℕ) (xs : List (PlainMessage PlainApart)) (counts : List ℕ) (source : PlainSource) (versions : List (List (PlainMessage PlainVersion))) (bases : List (List (PlainMessage PlainApart)))
-    → DealerDue parts n xs source versions bases → ((f : Field) → count_of counts f ≡ 0) → DealerAt parts (n - 0) xs false counts source versions bases
-dealer_begins parts n xs counts source versions bases d none = record {
+pub dealer_begins : {S : Type 0} {comes : S → List (PlainMessage PlainApart) → Type 0} (parts : StageParts) (n : ℕ) (xs : List (PlainMessage PlainApart)) (counts : List ℕ) (source : S) (versions : List (List (PlainMessage PlainVersion))) (bases : List (List (PlainMessage PlainApart)))
+    → DealerDue comes parts n xs source versions bases → ((f : Field) → count_of counts f ≡ 0) → DealerAt comes parts (n - 0) xs false counts source versions bases
+dealer_begins {S} {comes} parts n xs counts source versions bases d none = record {
   coming = xs;
-  due = subst (λ m. DealerDue parts m xs source versions bases) (sym (sub-zero n)) d;
+  due = subst (λ m. DealerDue comes parts m xs source versions bases) (sym (sub-zero n)) d;
   counted = λ w f. ap (λ c. raised c (dealer_copies parts.touches xs f)) (none f);
 }
 
-pub dealer_at : (parts : StageParts) (count i : ℕ) (xs : List (PlainMessage PlainApart)) (short : Bool) (counts : List ℕ) (source : PlainSource) (versions : List (List (PlainMessage PlainVersion))) (bases : List (List (PlainMessage PlainApart))) → i < count
-    → DealerAt parts (count - i) xs short counts source versions bases → DealerAt parts (suc (count - (i + 1))) xs short counts source versions bases
-dealer_at parts count i xs short counts source versions bases lt d = subst (λ n. DealerAt parts n xs short counts source versions bases) (one_more count i lt) d
+pub dealer_at : {S : Type 0} {comes : S → List (PlainMessage PlainApart) → Type 0} (parts : StageParts) (count i : ℕ) (xs : List (PlainMessage PlainApart)) (short : Bool) (counts : List ℕ) (source : S) (versions : List (List (PlainMessage PlainVersion))) (bases : List (List (PlainMessage PlainApart))) → i < count
+    → DealerAt comes parts (count - i) xs short counts source versions bases → DealerAt comes parts (suc (count - (i + 1))) xs short counts source versions bases
+dealer_at {S} {comes} parts count i xs short counts source versions bases lt d = subst (λ n. DealerAt comes parts n xs short counts source versions bases) (one_more count i lt) d
 
-pub dealer_same : (parts parts' : StageParts) (n : ℕ) (xs : List (PlainMessage PlainApart)) (short : Bool) (counts : List ℕ) (source : PlainSource) (versions : List (List (PlainMessage PlainVersion))) (bases : List (List (PlainMessage PlainApart)))
-    → parts' ≡ parts → DealerAt parts n xs short counts source versions bases → DealerAt parts' n xs short counts source versions bases
-dealer_same parts parts' n xs short counts source versions bases e a = subst (λ p. DealerAt p n xs short counts source versions bases) (sym e) a
+pub dealer_same : {S : Type 0} {comes : S → List (PlainMessage PlainApart) → Type 0} (parts parts' : StageParts) (n : ℕ) (xs : List (PlainMessage PlainApart)) (short : Bool) (counts : List ℕ) (source : S) (versions : List (List (PlainMessage PlainVersion))) (bases : List (List (PlainMessage PlainApart)))
+    → parts' ≡ parts → DealerAt comes parts n xs short counts source versions bases → DealerAt comes parts' n xs short counts source versions bases
+dealer_same {S} {comes} parts parts' n xs short counts source versions bases e a = subst (λ p. DealerAt comes p n xs short counts source versions bases) (sym e) a
 
 raised_none : (c : ℕ) → raised c 0 ≡ c
 raised_none c = omega arith
 
-all_counted : (parts : StageParts) (xs : List (PlainMessage PlainApart)) (short : Bool) (counts : List ℕ) (source : PlainSource) (versions : List (List (PlainMessage PlainVersion))) (bases : List (List (PlainMessage PlainApart)))
-    → DealerAt parts 0 xs short counts source versions bases → short ≡ false → (f : Field) → count_of counts f ≡ raised 0 (dealer_copies parts.touches xs f)
-all_counted parts xs short counts source versions bases a w f = over a.coming a.due.many (a.counted w f)
+all_counted : {S : Type 0} {comes : S → List (PlainMessage PlainApart) → Type 0} (parts : StageParts) (xs : List (PlainMessage PlainApart)) (short : Bool) (counts : List ℕ) (source : S) (versions : List (List (PlainMessage PlainVersion))) (bases : List (List (PlainMessage PlainApart)))
+    → DealerAt comes parts 0 xs short counts source versions bases → short ≡ false → (f : Field) → count_of counts f ≡ raised 0 (dealer_copies parts.touches xs f)
+all_counted {S} {comes} parts xs short counts source versions bases a w f = over a.coming a.due.many (a.counted w f)
   where
     over : (coming : List (PlainMessage PlainApart)) → length coming ≡ 0 → raised (count_of counts f) (dealer_copies parts.touches coming f) ≡ raised 0 (dealer_copies parts.touches xs f) → count_of counts f ≡ raised 0 (dealer_copies parts.touches xs f)
     over [] none e = sym (raised_none (count_of counts f)) ∙ e
     over (x ∷ coming) none e = absurd (omega arith)
 
-pub dealer_done : (parts : StageParts) (count i : ℕ) (xs : List (PlainMessage PlainApart)) (short : Bool) (counts : List ℕ) (source : PlainSource) (versions : List (List (PlainMessage PlainVersion))) (bases : List (List (PlainMessage PlainApart))) → count ≤ i
-    → DealerAt parts (count - i) xs short counts source versions bases → short ≡ false → (f : Field) → count_of counts f ≡ raised 0 (dealer_copies parts.touches xs f)
-dealer_done parts count i xs short counts source versions bases le d = all_counted parts xs short counts source versions bases (subst (λ n. DealerAt parts n xs short counts source versions bases) (none_more count i le) d)
+pub dealer_done : {S : Type 0} {comes : S → List (PlainMessage PlainApart) → Type 0} (parts : StageParts) (count i : ℕ) (xs : List (PlainMessage PlainApart)) (short : Bool) (counts : List ℕ) (source : S) (versions : List (List (PlainMessage PlainVersion))) (bases : List (List (PlainMessage PlainApart))) → count ≤ i
+    → DealerAt comes parts (count - i) xs short counts source versions bases → short ≡ false → (f : Field) → count_of counts f ≡ raised 0 (dealer_copies parts.touches xs f)
+dealer_done {S} {comes} parts count i xs short counts source versions bases le d = all_counted parts xs short counts source versions bases (subst (λ n. DealerAt comes parts n xs short counts source versions bases) (none_more count i le) d)
 
 no_streams : (touches : List Touch) → NothingOwed (streams_of touches [])
 no_streams [] = All-nil _
 no_streams (t ∷ touches) = All-cons (λ l. l ≡ []) [] (streams_of touches []) refl (no_streams touches)
 
 -- no version and no base is due any more
-all_given : (parts : StageParts) (xs : List (PlainMessage PlainApart)) (short : Bool) (counts : List ℕ) (source : PlainSource) (versions : List (List (PlainMessage PlainVersion))) (bases : List (List (PlainMessage PlainApart)))
-    → DealerAt parts 0 xs short counts source versions bases → NothingOwed versions × NothingOwed bases
-all_given parts xs short counts source versions bases a = over a.coming a.due.many a.due.gives a.due.gives_bases
+all_given : {S : Type 0} {comes : S → List (PlainMessage PlainApart) → Type 0} (parts : StageParts) (xs : List (PlainMessage PlainApart)) (short : Bool) (counts : List ℕ) (source : S) (versions : List (List (PlainMessage PlainVersion))) (bases : List (List (PlainMessage PlainApart)))
+    → DealerAt comes parts 0 xs short counts source versions bases → NothingOwed versions × NothingOwed bases
+all_given {S} {comes} parts xs short counts source versions bases a = over a.coming a.due.many a.due.gives a.due.gives_bases
   where
     over : (coming : List (PlainMessage PlainApart)) → length coming ≡ 0 → versions ≡ streams_of parts.touches coming → bases ≡ shares a.due.mergers (map (base_of parts.touches) coming) → NothingOwed versions × NothingOwed bases
     over [] none v b = (subst NothingOwed (sym v) (no_streams parts.touches), subst NothingOwed (sym b) (no_shares a.due.mergers 0 a.due.mergers))
     over (x ∷ coming) none v b = absurd (omega arith)
 
-pub dealer_gave : (parts : StageParts) (count i : ℕ) (xs : List (PlainMessage PlainApart)) (short : Bool) (counts : List ℕ) (source : PlainSource) (versions : List (List (PlainMessage PlainVersion))) (bases : List (List (PlainMessage PlainApart))) → count ≤ i
-    → DealerAt parts (count - i) xs short counts source versions bases → NothingOwed versions × NothingOwed bases
-dealer_gave parts count i xs short counts source versions bases le d = all_given parts xs short counts source versions bases (subst (λ n. DealerAt parts n xs short counts source versions bases) (none_more count i le) d)
+pub dealer_gave : {S : Type 0} {comes : S → List (PlainMessage PlainApart) → Type 0} (parts : StageParts) (count i : ℕ) (xs : List (PlainMessage PlainApart)) (short : Bool) (counts : List ℕ) (source : S) (versions : List (List (PlainMessage PlainVersion))) (bases : List (List (PlainMessage PlainApart))) → count ≤ i
+    → DealerAt comes parts (count - i) xs short counts source versions bases → NothingOwed versions × NothingOwed bases
+dealer_gave {S} {comes} parts count i xs short counts source versions bases le d = all_given parts xs short counts source versions bases (subst (λ n. DealerAt comes parts n xs short counts source versions bases) (none_more count i le) d)

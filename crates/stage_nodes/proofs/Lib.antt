@@ -1,6 +1,6 @@
 mod Shares
 mod Ends
-mod Sourcing
+mod Supplying
 mod Branching
 mod Dealing
 mod Gathering

@@ -4,35 +4,28 @@ use Rattle.action_profile.specs.Modes.{modes_of}
 use Rattle.action_profile.specs.declared.parts.StageParts.{StageParts}
 use Rattle.packet_version.specs.Splitting.{PlainApart}
 use Rattle.packet_version.specs.Versions.{PlainVersion}
-use Rattle.merge_ops.specs.declared.merging.Merged.{Merged}
 use Rattle.message_links.specs.Messages.{PlainMessage}
 use Rattle.message_links.specs.Turns.{shares}
-use Rattle.stage_nodes.specs.Streams.{Kit, parted, base_of, of_merged, ran, left, merged_rows}
+use Rattle.stage_nodes.specs.Streams.{Kit, parted, base_of, ran, left, merged_rows}
 use Rattle.stage_nodes.specs.Flows.{MayTakeAll, AllBelong}
 
--- Where a dealer takes packets from: the burst itself, or the mergers of the stage before, in turn.
-pub data PlainSource : Type 0 where
-  FromBurst : (packets : List Merged) → PlainSource
-  FromMergers : (inlets : List (List (PlainMessage PlainApart))) → PlainSource
-
--- these come from it
-abbrev pub ComesFrom : PlainSource → List (PlainMessage PlainApart) → Type 0
-ComesFrom (FromBurst packets) xs = map of_merged packets ≡ xs
-ComesFrom (FromMergers inlets) xs = (m : ℕ) × (0 < m) × (inlets ≡ shares m xs)
+-- these come from the mergers of a stage, in turn
+abbrev pub ComesFrom : List (List (PlainMessage PlainApart)) → List (PlainMessage PlainApart) → Type 0
+ComesFrom inlets xs = (m : ℕ) × (0 < m) × (inlets ≡ shares m xs)
 
 -- nothing is due any more on any of these links
 abbrev pub NothingOwed : {A : Type 0} → List (List A) → Type 0
 NothingOwed links = All (λ due. due ≡ []) links
 
--- n packets, which are these, are still to come to a dealer, and its links fit
-pub record DealerDue (parts : StageParts) (n : ℕ) (xs : List (PlainMessage PlainApart)) (source : PlainSource) (versions : List (List (PlainMessage PlainVersion))) (bases : List (List (PlainMessage PlainApart))) : Type 0 where
+-- n packets, which are these, are still to come to a dealer from what supplies it, and its links fit
+pub record DealerDue {S : Type 0} (comes : S → List (PlainMessage PlainApart) → Type 0) (parts : StageParts) (n : ℕ) (xs : List (PlainMessage PlainApart)) (source : S) (versions : List (List (PlainMessage PlainVersion))) (bases : List (List (PlainMessage PlainApart))) : Type 0 where
   pub mergers : ℕ
   pub some : 0 < mergers
   pub modes : parts.modes ≡ modes_of parts.touches
   pub branches : 0 < length parts.touches
   pub few : length parts.touches ≤ 64
   pub many : length xs ≡ n
-  pub takes : ComesFrom source xs
+  pub takes : comes source xs
   pub gives : versions ≡ map (λ t. map (parted t) xs) parts.touches
   pub gives_bases : bases ≡ shares mergers (map (base_of parts.touches) xs)
 

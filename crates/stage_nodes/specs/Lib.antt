@@ -1,7 +1,6 @@
 pub mod Streams
 pub mod Flows
 pub mod Dues
-pub mod Sources
 pub mod Turns
 pub mod Gathering
 pub mod Meetings

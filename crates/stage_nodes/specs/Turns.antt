@@ -12,17 +12,17 @@ use Rattle.merge_ops.specs.Behind.{AreArrivals}
 use Rattle.merge_ops.specs.Taking.{merged}
 use Rattle.message_links.specs.Messages.{PlainMessage, PlainMessage.Live, PlainMessage.Nil, PlainMessage.Short}
 use Rattle.stage_nodes.specs.Streams.{Kit, of_merged, due_of, dealer_copies}
-use Rattle.stage_nodes.specs.Dues.{PlainSource, ComesFrom, DealerDue, BranchDue, MergerDue}
+use Rattle.stage_nodes.specs.Dues.{DealerDue, BranchDue, MergerDue}
 use Rattle.stage_nodes.specs.declared.dealer.Dealt.{Dealt}
 use Rattle.stage_nodes.specs.declared.dealer.Dealt.TheVariants.{Row, Word}
 
--- something is still to come from a source
-abbrev pub HasMore : PlainSource → Type 0
-HasMore source = (x : PlainMessage PlainApart) × (xs : List (PlainMessage PlainApart)) × ComesFrom source (x ∷ xs)
+-- something is still to come from what supplies a dealer
+abbrev pub HasMore : {S : Type 0} → (S → List (PlainMessage PlainApart) → Type 0) → S → Type 0
+HasMore comes source = (x : PlainMessage PlainApart) × (xs : List (PlainMessage PlainApart)) × comes source (x ∷ xs)
 
 -- the links of a node fit, and something is still to come
-abbrev pub DealerReady : StageParts → PlainSource → List (List (PlainMessage PlainVersion)) → List (List (PlainMessage PlainApart)) → Type 0
-DealerReady parts source versions bases = (n : ℕ) × (xs : List (PlainMessage PlainApart)) × DealerDue parts (suc n) xs source versions bases
+abbrev pub DealerReady : {S : Type 0} → (S → List (PlainMessage PlainApart) → Type 0) → StageParts → S → List (List (PlainMessage PlainVersion)) → List (List (PlainMessage PlainApart)) → Type 0
+DealerReady comes parts source versions bases = (n : ℕ) × (xs : List (PlainMessage PlainApart)) × DealerDue comes parts (suc n) xs source versions bases
 
 abbrev pub BranchReady : {F : Type 0} → Kit F → (F → ℕ → PlainVersion → Type 0) → ℕ → Bool → F → List (PlainMessage PlainVersion) → List (List (PlainMessage PlainVersion)) → Type 0
 BranchReady {F} k may p short f inlet outlets = (n : ℕ) × (end : F) × BranchDue k may p (suc n) end short f inlet outlets
@@ -50,9 +50,9 @@ Deals touches x short old new (Row base row) = (short ≡ false) × Splits touch
 Deals touches x short old new (Word position) = Stops touches x short old new position
 
 -- So many packets of a dealer are still to come, and its counts are those of the packets that came.
-pub record DealerAt (parts : StageParts) (n : ℕ) (xs : List (PlainMessage PlainApart)) (short : Bool) (counts : List ℕ) (source : PlainSource) (versions : List (List (PlainMessage PlainVersion))) (bases : List (List (PlainMessage PlainApart))) : Type 0 where
+pub record DealerAt {S : Type 0} (comes : S → List (PlainMessage PlainApart) → Type 0) (parts : StageParts) (n : ℕ) (xs : List (PlainMessage PlainApart)) (short : Bool) (counts : List ℕ) (source : S) (versions : List (List (PlainMessage PlainVersion))) (bases : List (List (PlainMessage PlainApart))) : Type 0 where
   pub coming : List (PlainMessage PlainApart)
-  pub due : DealerDue parts n coming source versions bases
+  pub due : DealerDue comes parts n coming source versions bases
   pub counted : short ≡ false → (f : Field) → raised (count_of counts f) (dealer_copies parts.touches coming f) ≡ raised 0 (dealer_copies parts.touches xs f)
 
 -- what came from the branches belongs to a base

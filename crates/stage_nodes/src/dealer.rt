@@ -9,7 +9,7 @@ ghost use Rattle.stage_nodes.specs.Streams.{dealer_copies, of_merged};
 ghost use Rattle.stage_nodes.specs.Dues.{DealerDue, NothingOwed};
 ghost use Rattle.stage_nodes.specs.Turns.{DealerAt, DealerReady, Deals};
 
-use crate::source::Source;
+use crate::supply::Supply;
 use action_profile::StageParts;
 use merge_ops::Merged;
 use message_links::{Outlets, boxed, message_without};
@@ -17,12 +17,12 @@ use packet_version::{Base, Tally, Version, deal};
 use std::alloc::Global;
 use std::sync::Wait;
 
-/// A dealer: so many packets come from its source. It deals each to the branches of its stage, and gives
+/// A dealer: so many packets come from its supply. It deals each to the branches of its stage, and gives
 /// what stays of it to the mergers in turn.
 #[derive(Drop)]
-pub struct Dealer {
+pub struct Dealer<S> {
     pub parts: StageParts,
-    pub source: Source,
+    pub source: S,
     pub versions: Outlets<Version>,
     pub bases: Outlets<Base>,
     pub count: u32,
@@ -40,10 +40,14 @@ pub(crate) enum Dealt {
 /// Runs a dealer until all its packets came: gives the copies that it made, and says whether memory was
 /// short. From the first packet on for which it was, it says so of all: whatever memory is refused, it gives
 /// one message for each that it owes.
-pub fn run_dealer<R: Wait>(rt: &R, alloc: Global, dealer: &mut Dealer) -> (Tally, bool)
-    requires due { (xs : List (PlainMessage PlainApart)) × DealerDue dealer.old.parts dealer.old.count xs dealer.old.source dealer.old.versions dealer.old.bases }
+pub fn run_dealer<S: Supply, R: Wait>(
+    rt: &R,
+    alloc: Global,
+    dealer: &mut Dealer<S>,
+) -> (Tally, bool)
+    requires due { (xs : List (PlainMessage PlainApart)) × DealerDue S.comes dealer.old.parts dealer.old.count xs dealer.old.source dealer.old.versions dealer.old.bases }
     ensures counted { (xs : List (PlainMessage PlainApart)) →
-        DealerDue dealer.old.parts dealer.old.count xs dealer.old.source dealer.old.versions dealer.old.bases → result.1 ≡ false →
+        DealerDue S.comes dealer.old.parts dealer.old.count xs dealer.old.source dealer.old.versions dealer.old.bases → result.1 ≡ false →
         (f : Field) → count_of result.0 f ≡ raised 0 (dealer_copies dealer.old.parts.touches xs f) }
     ensures versions_given { NothingOwed dealer.new.versions }
     ensures bases_given { NothingOwed dealer.new.bases }
@@ -56,16 +60,16 @@ pub fn run_dealer<R: Wait>(rt: &R, alloc: Global, dealer: &mut Dealer) -> (Tally
     (tally, short)
 }
 
-impl Dealer {
+impl<S: Supply> Dealer<S> {
     /// The next packet; says whether the dealer is short from now on.
     fn deal_next<R: Wait>(&mut self, rt: &R, alloc: Global, tally: &mut Tally, short: bool) -> bool
-        requires ready { DealerReady self.old.parts self.old.source self.old.versions self.old.bases }
+        requires ready { DealerReady S.comes self.old.parts self.old.source self.old.versions self.old.bases }
         ensures at { (n : ℕ) (xs : List (PlainMessage PlainApart)) →
-            DealerAt self.old.parts (suc n) xs short tally.old self.old.source self.old.versions self.old.bases →
-            DealerAt self.old.parts n xs result tally.new self.new.source self.new.versions self.new.bases }
+            DealerAt S.comes self.old.parts (suc n) xs short tally.old self.old.source self.old.versions self.old.bases →
+            DealerAt S.comes self.old.parts n xs result tally.new self.new.source self.new.versions self.new.bases }
         ensures parts { self.new.parts ≡ self.old.parts }
     {
-        let packet = self.source.next(rt);
+        let packet = self.source.next(rt, alloc);
         match dealing(alloc, &self.parts, packet, short, tally) {
             Dealt::Row(base, row) => {
                 let found = self.versions.give_each(rt, alloc, row);

@@ -1,8 +1,7 @@
 //! The nodes of a stage: a dealer, branches and mergers, which work side by side on a stream of packets.
 //!
-//! A [`Dealer`] takes packets one after another from its [`Source`], which is a burst or the mergers of the
-//! stage before, and deals each: a version goes to each branch, and what stays of the packet to the mergers
-//! in turn. A [`Branch`] leads the versions that it is dealt through its functions ([`BranchWork`]), in the
+//! A [`Dealer`] takes packets one after another from its [`Supply`], which may be the mergers of the stage
+//! before, and deals each: a version goes to each branch, and what stays of the packet to the mergers in turn. A [`Branch`] leads the versions that it is dealt through its functions ([`BranchWork`]), in the
 //! packets' order, and gives what comes of each to the mergers in turn. A [`Merger`] takes of each of its
 //! packets what the branches made of it and what stayed of it, puts it together again (`merge_ops`), and
 //! gives it to the dealer behind. Branches and mergers meet in one of two ways, and neither node knows which:
@@ -35,7 +34,7 @@ mod dealer;
 mod from_branches;
 mod link_rows;
 mod merger;
-mod source;
+mod supply;
 mod to_mergers;
 mod work;
 
@@ -43,6 +42,6 @@ pub use branch::{Branch, run_branch};
 pub use dealer::{Dealer, run_dealer};
 pub use from_branches::FromBranches;
 pub use merger::{Merger, run_merger};
-pub use source::Source;
+pub use supply::Supply;
 pub use to_mergers::ToMergers;
 pub use work::BranchWork;
