@@ -3,8 +3,8 @@ use Rattle.std.proofs.Common.{◌≡◌, ◌<◌, ◌≤◌, ◌+◌, ◌-◌, �
 use Rattle.packet_version.specs.Splitting.{PlainApart}
 use Rattle.message_links.specs.Messages.{PlainMessage, first, front, turned}
 use Rattle.message_links.specs.Turns.{share, share_len, shares_from, shares}
-use Rattle.stage_nodes.specs.Dues.{PlainSource, PlainSource.FromBurst, PlainSource.FromMergers, ComesFrom}
-use Rattle.node_run.specs.Nodes.{in_turn, coming_from}
+use Rattle.stage_nodes.specs.Dues.{ComesFrom}
+use Rattle.node_run.specs.Nodes.{in_turn}
 
 later_shares : {A : Type 0} (m i c : ℕ) (x : A) (xs : List A) → shares_from m (suc i) c (x ∷ xs) ≡ shares_from m i c xs
 unfolding shares_from share
@@ -36,9 +36,8 @@ taken_in_turn m (x ∷ xs) lt =
     ∙ ap (λ ls. x ∷ in_turn (length xs) ls) (turned_shares m x xs lt)
     ∙ ap (λ ys. x ∷ ys) (taken_in_turn m xs lt)
 
-pub came_all : (source : PlainSource) (n : ℕ) (xs : List (PlainMessage PlainApart)) → ComesFrom source xs → length xs ≡ n → xs ≡ coming_from n source
-came_all (FromBurst packets) n xs c l = sym c
-came_all (FromMergers inlets) n xs c l = sym (ap (λ ls. in_turn n ls) c.2 ∙ ap (λ i. in_turn i (shares c.0 xs)) (sym l) ∙ taken_in_turn c.0 xs c.1)
+pub came_all : (inlets : List (List (PlainMessage PlainApart))) (n : ℕ) (xs : List (PlainMessage PlainApart)) → ComesFrom inlets xs → length xs ≡ n → xs ≡ in_turn n inlets
+came_all inlets n xs c l = sym (ap (λ ls. in_turn n ls) c.2 ∙ ap (λ i. in_turn i (shares c.0 xs)) (sym l) ∙ taken_in_turn c.0 xs c.1)
 
 -- lengths
 

@@ -3,6 +3,8 @@ use Rattle.std.proofs.Common.{◌≡◌, ◌<◌, ◌≤◌, ◌+◌, ◌-◌, �
 use Rattle.std.proofs.lemmas.List.{append-nil, drop_more, length-map}
 use Rattle.std.proofs.lemmas.List.Elements.{All-append, All-nil, All-cons}
 use Rattle.packet_fields.specs.declared.field.Field.{Field}
+use Rattle.action_profile.specs.Modes.{modes_of}
+use Rattle.action_profile.specs.declared.parts.StageParts.{StageParts}
 use Rattle.action_profile.specs.declared.parts.Touch.{Touch}
 use Rattle.packet_version.specs.Splitting.{PlainApart}
 use Rattle.packet_version.specs.Versions.{PlainVersion}
@@ -10,15 +12,15 @@ use Rattle.message_links.specs.Messages.{PlainMessage, first, rest}
 use Rattle.message_links.specs.Turns.{share, share_len, shares_from, shares, columns_from}
 use Rattle.stage_nodes.specs.Streams.{Kit, PlainStage, parted, base_of, moved, joined, ran, left, came_from, stayed, merged_rows, passed, dealer_copies}
 use Rattle.stage_nodes.specs.Flows.{MayTakeAll, AllMayTake, Belongs, AllBelong, MayPass}
-use Rattle.stage_nodes.specs.Dues.{PlainSource, ComesFrom, DealerDue, BranchDue, MergerDue}
+use Rattle.stage_nodes.specs.Dues.{ComesFrom, DealerDue, BranchDue, MergerDue}
 use Rattle.stage_nodes.specs.declared.branch.Branch.{Branch}
-use Rattle.stage_nodes.specs.declared.dealer.Dealer.{Dealer}
 use Rattle.stage_nodes.specs.declared.merger.Merger.{Merger}
 use Rattle.node_run.specs.declared.branches.Branches.{Branches}
 use Rattle.node_run.specs.declared.node.Node.{Node}
 use Rattle.node_run.specs.declared.node.Node.TheVariants as node
-use Rattle.node_run.specs.Nodes.{AreNodes, added, coming_from, copies_by, copies_by_all, gather, is_ready, left_by, no_copies}
-use Rattle.node_run.specs.Wired.{AreWired, AreWiring, MergersFit, all_parted}
+use Rattle.node_run.specs.declared.wire.WiredStage.{WiredStage}
+use Rattle.node_run.specs.Nodes.{AreNodes, added, in_turn, copies_by, copies_by_all, gather, is_ready, left_by, no_copies}
+use Rattle.node_run.specs.Wired.{AreWired, AreWiring, IsWired, MergersFit, all_parted}
 use Rattle.node_run.proofs.Shares.{share_long}
 
 -- an iterator at its end has nothing left
@@ -367,39 +369,40 @@ mergers_fit k may m count s xs bases outlets inlets p many b o i =
       gives = o;
     }
 
-dealer_ready : {F : Type 0} (k : Kit F) (may : F → ℕ → PlainVersion → Type 0) (m count : ℕ) (s : PlainStage F) (xs : List (PlainMessage PlainApart)) (source : PlainSource) (bases : List (List (PlainMessage PlainApart))) (w : Branches F)
-    → MayPass k may s xs → 0 < m → length xs ≡ count → ComesFrom source xs → bases ≡ shares m (map (base_of s.parts.touches) xs) → AreWired k may s.parts.touches s.branches xs w
-    → DealerDue s.parts count xs source w.versions bases
-dealer_ready k may m count s xs source bases w p lt many c b h = record {
-  mergers = m;
-  some = lt;
-  modes = p.modes;
-  branches = p.some;
-  few = p.few;
-  many = many;
-  takes = c;
-  gives = h.versions;
-  gives_bases = b;
+pub is_wired : {F S : Type 0} (k : Kit F) (may : F → ℕ → PlainVersion → Type 0) (comes : S → List (PlainMessage PlainApart) → Type 0) (m count : ℕ) (s : PlainStage F) (xs : List (PlainMessage PlainApart)) (source : S) (b : Branches F) (w : WiredStage F S)
+    → MayPass k may s xs → 0 < m → length xs ≡ count → comes source xs → AreWired k may s.parts.touches s.branches xs b
+    → w.dealer.source ≡ source → w.dealer.count ≡ count → w.dealer.parts ≡ s.parts → w.dealer.versions ≡ b.versions → w.dealer.bases ≡ shares m (map (base_of s.parts.touches) xs)
+    → w.next ≡ shares m (passed k s xs)
+    → ((gs : List F) (e : Field → ℕ) → AreNodes k may b.nodes.items gs e → AreNodes k may w.nodes.items gs e)
+    → IsWired k may comes m count s xs source w
+is_wired {F} {S} k may comes m count s xs source b w p lt many takes h src n parts v bases next mergers = record {
+  source_is = src;
+  many = n;
+  touches = ap (λ (p : StageParts). p.touches) parts;
+  due = record {
+    mergers = m;
+    some = lt;
+    modes = subst (λ (p : StageParts). p.modes ≡ modes_of p.touches) (sym parts) p.modes;
+    branches = subst (λ (p : StageParts). 0 < length p.touches) (sym parts) p.some;
+    few = subst (λ (p : StageParts). length p.touches ≤ 64) (sym parts) p.few;
+    many = many ∙ sym n;
+    takes = subst (λ y. comes y xs) (sym src) takes;
+    gives = v ∙ h.versions ∙ ap (λ (p : StageParts). all_parted p.touches xs) (sym parts);
+    gives_bases = bases ∙ ap (λ (p : StageParts). shares m (map (base_of p.touches) xs)) (sym parts);
+  };
+  nodes = mergers (stayed k s.parts.touches s.branches xs) no_copies h.nodes;
+  next = next;
 }
 
-pub stage_added : {F : Type 0} (k : Kit F) (may : F → ℕ → PlainVersion → Type 0) (m count : ℕ) (s : PlainStage F) (xs : List (PlainMessage PlainApart)) (d : Dealer) (w : Branches F) (old one two new : List (Node F)) (fs : List F) (c : Field → ℕ)
-    → MayPass k may s xs → 0 < m → length xs ≡ count → ComesFrom d.source xs → xs ≡ coming_from count d.source
-    → d.parts ≡ s.parts → d.count ≡ count → d.versions ≡ w.versions → d.bases ≡ shares m (map (base_of s.parts.touches) xs)
-    → AreWired k may s.parts.touches s.branches xs w
-    → one ≡ old ++ node.Dealer d ∷ [] → two ≡ one ++ w.nodes.items
-    → ((gs : List F) (e : Field → ℕ) → AreNodes k may two gs e → AreNodes k may new gs e)
-    → AreNodes k may old fs c → AreNodes k may new (fs ++ stayed k s.parts.touches s.branches xs) (λ f. c f + dealer_copies s.parts.touches xs f)
-stage_added {F} k may m count s xs d w old one two new fs c p lt many takes come parts n v b h a e mergers nodes =
-    let due = dealer_ready k may m count s xs d.source d.bases w p lt many takes b h in
-    let come' : xs ≡ coming_from d.count d.source = come ∙ ap (λ y. coming_from y d.source) (sym n) in
-    let r : is_ready k may (node.Dealer d) =
-    subst (λ y. DealerDue y d.count (coming_from d.count d.source) d.source d.versions d.bases) (sym parts)
-    (subst (λ y. DealerDue s.parts d.count (coming_from d.count d.source) d.source y d.bases) (sym v)
-    (subst (λ y. DealerDue s.parts d.count y d.source w.versions d.bases) come'
-    (subst (λ y. DealerDue s.parts y xs d.source w.versions d.bases) (sym n) due))) in
-    let pushed = nodes_push k may old one (node.Dealer d) fs c a r nodes in
-    let joined = nodes_append k may one w.nodes.items _ (stayed k s.parts.touches s.branches xs) _ no_copies pushed h.nodes in
-    mergers (fs ++ stayed k s.parts.touches s.branches xs) (λ f. c f + dealer_copies s.parts.touches xs f)
-    (nodes_are k may (one ++ w.nodes.items) two _ (fs ++ stayed k s.parts.touches s.branches xs) _ (λ f. c f + dealer_copies s.parts.touches xs f) joined e
-    (ap (λ y. y ++ stayed k s.parts.touches s.branches xs) (sym (append-nil fs)))
-    (λ f. let q : dealer_copies s.parts.touches xs f ≡ copies_by {F = F} f (node.Dealer d) = ap (λ y. dealer_copies s.parts.touches y f) come' ∙ ap (λ y. dealer_copies y.touches (coming_from d.count d.source) f) (sym parts) in omega (arith, q)))
+pub stage_pushed : {F : Type 0} (k : Kit F) (may : F → ℕ → PlainVersion → Type 0) (m count : ℕ) (s : PlainStage F) (source : List (List (PlainMessage PlainApart))) (w : WiredStage F (List (List (PlainMessage PlainApart)))) (old new : List (Node F)) (fs : List F) (c : Field → ℕ)
+    → IsWired k may ComesFrom m count s (in_turn count source) source w → new ≡ old ++ node.Dealer w.dealer ∷ w.nodes.items → AreNodes k may old fs c
+    → AreNodes k may new (fs ++ stayed k s.parts.touches s.branches (in_turn count source)) (λ f. c f + dealer_copies s.parts.touches (in_turn count source) f)
+stage_pushed {F} k may m count s source w old new fs c i e nodes =
+    let d = w.dealer in
+    let xs = in_turn count source in
+    let gone = stayed k s.parts.touches s.branches xs in
+    let come : xs ≡ in_turn d.count d.source = λ j. in_turn (sym i.many j) (sym i.source_is j) in
+    let ready : is_ready k may (node.Dealer d) = subst (λ y. DealerDue ComesFrom d.parts d.count y d.source d.versions d.bases) come i.due in
+    let own = nodes_append k may (node.Dealer d ∷ []) w.nodes.items [] gone _ no_copies (one_node k may (node.Dealer d) ready) i.nodes in
+    nodes_are k may (old ++ node.Dealer d ∷ w.nodes.items) new _ (fs ++ gone) _ (λ f. c f + dealer_copies s.parts.touches xs f) (nodes_append k may old (node.Dealer d ∷ w.nodes.items) fs gone c _ nodes own) e refl
+    (λ f. let q : dealer_copies s.parts.touches xs f ≡ copies_by {F = F} f (node.Dealer d) = ap (λ y. dealer_copies y xs f) (sym i.touches) ∙ ap (λ y. dealer_copies d.parts.touches y f) come in omega (arith, q))

@@ -1,4 +1,5 @@
 pub mod Nodes
+pub mod Firsts
 pub mod Starts
 pub mod Stages
 pub mod Wired

@@ -1,12 +1,11 @@
 -- For proofs: what a node needs, and what it gives back.
-use Rattle.std.specs.Prelude.{◌≡◌, ◌+◌, ℕ, zero, suc, List, [], ◌∷◌, map, All, Option, Some, None, false}
+use Rattle.std.specs.Prelude.{◌≡◌, ◌+◌, ℕ, zero, suc, List, [], ◌∷◌, All, Option, Some, None, false}
 use Rattle.packet_fields.specs.declared.field.Field.{Field}
-use Rattle.packet_version.specs.Splitting.{PlainApart}
 use Rattle.packet_version.specs.Tallies.{count_of, raised}
 use Rattle.packet_version.specs.Versions.{PlainVersion}
 use Rattle.message_links.specs.Messages.{PlainMessage, first, front, turned}
-use Rattle.stage_nodes.specs.Streams.{Kit, left, of_merged, dealer_copies}
-use Rattle.stage_nodes.specs.Dues.{PlainSource, PlainSource.FromBurst, PlainSource.FromMergers, DealerDue, BranchDue, MergerDue}
+use Rattle.stage_nodes.specs.Streams.{Kit, left, dealer_copies}
+use Rattle.stage_nodes.specs.Dues.{ComesFrom, DealerDue, BranchDue, MergerDue}
 use Rattle.node_run.specs.declared.node.Node.{Node}
 use Rattle.node_run.specs.declared.node.Node.TheVariants.{Dealer, Branch, Merger}
 use Rattle.node_run.specs.declared.node.Done.{Done}
@@ -16,14 +15,9 @@ unfoldable pub in_turn : {P : Type 0} → ℕ → List (List (PlainMessage P)) �
 in_turn zero inlets = []
 in_turn (suc n) inlets = first (front inlets) ∷ in_turn n (turned inlets)
 
--- so many packets that come from a source
-abbrev pub coming_from : ℕ → PlainSource → List (PlainMessage PlainApart)
-coming_from n (FromBurst packets) = map of_merged packets
-coming_from n (FromMergers inlets) = in_turn n inlets
-
 -- the links of a node fit each other
 abbrev pub is_ready : {F : Type 0} → Kit F → (F → ℕ → PlainVersion → Type 0) → Node F → Type 0
-is_ready k may (Dealer d) = DealerDue d.parts d.count (coming_from d.count d.source) d.source d.versions d.bases
+is_ready k may (Dealer d) = DealerDue ComesFrom d.parts d.count (in_turn d.count d.source) d.source d.versions d.bases
 is_ready k may (Branch b) = BranchDue k may 0 b.count (left k b.work b.inlet) false b.work b.inlet b.outlets
 is_ready k may (Merger m) = MergerDue m.count m.base m.inlets m.outlet
 
@@ -34,7 +28,7 @@ left_by k (Branch b) = Some (left k b.work b.inlet)
 left_by k (Merger m) = None
 
 abbrev pub copies_by : {F : Type 0} → Field → Node F → ℕ
-copies_by f (Dealer d) = dealer_copies d.parts.touches (coming_from d.count d.source) f
+copies_by f (Dealer d) = dealer_copies d.parts.touches (in_turn d.count d.source) f
 copies_by f (Branch b) = 0
 copies_by f (Merger m) = 0
 

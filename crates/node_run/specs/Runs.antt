@@ -4,12 +4,15 @@ use Rattle.packet_fields.specs.declared.field.Field.{Field}
 use Rattle.packet_version.specs.Splitting.{PlainApart}
 use Rattle.packet_version.specs.Tallies.{count_of, raised}
 use Rattle.packet_version.specs.Versions.{PlainVersion}
-use Rattle.merge_ops.specs.declared.merging.Merged.{Merged}
+use Rattle.chain_walk.specs.declared.walk.Fate.{Fate}
+use Rattle.merge_ops.specs.Fates.{fate_behind}
 use Rattle.message_links.specs.Messages.{PlainMessage, is_short}
-use Rattle.stage_nodes.specs.Streams.{Kit, PlainStage, of_merged, through, ends_of, copies_along}
+use Rattle.stage_nodes.specs.Streams.{Kit, PlainStage, as_merged, through, ends_of, copies_along}
 use Rattle.stage_nodes.specs.Flows.{MayPassAll}
-use Rattle.stage_nodes.specs.Dues.{PlainSource, ComesFrom}
+use Rattle.stage_nodes.specs.Dues.{ComesFrom}
+use Rattle.node_run.specs.Firsts.{IsFirst}
 use Rattle.node_run.specs.Nodes.{AreNodes, copies_by_all, gather, is_ready}
+use Rattle.node_run.specs.declared.first.First.{First}
 use Rattle.node_run.specs.declared.node.Node.{Node}
 
 -- the lists, one after another
@@ -18,36 +21,43 @@ flat [] = []
 flat (x ∷ xs) = x ++ flat xs
 
 -- memory was found for the packet
-abbrev pub is_whole : Merged → Type 0
-is_whole packet = is_short (of_merged packet) ≡ false
+abbrev pub is_found : PlainMessage PlainApart → Type 0
+is_found packet = is_short packet ≡ false
 
--- n packets are still to be collected; these are all others
-pub record Collects (n room : ℕ) (packets : List Merged) (source : PlainSource) (all : List (PlainMessage PlainApart)) : Type 0 where
+-- their fates behind the last stage
+abbrev pub fates_behind : List (PlainMessage PlainApart) → List Fate
+fates_behind packets = map fate_behind (map as_merged packets)
+
+-- n packets are still to be collected; these are all, and these the fates of the others
+pub record Collects {S : Type 0} (comes : S → List (PlainMessage PlainApart) → Type 0) (n room : ℕ) (fates : List Fate) (source : S) (all : List (PlainMessage PlainApart)) : Type 0 where
+  pub came : List (PlainMessage PlainApart)
   pub coming : List (PlainMessage PlainApart)
   pub many : length coming ≡ n
-  pub fits : length packets + n ≤ room
-  pub takes : ComesFrom source coming
-  pub so_far : map of_merged packets ++ coming ≡ all
-  pub whole : All is_whole packets
+  pub fits : length fates + n ≤ room
+  pub takes : comes source coming
+  pub so_far : came ++ coming ≡ all
+  pub told : fates ≡ fates_behind came
+  pub found : All is_found came
 
--- some stages are laid; these are still to be laid, and so many packets come from the source to the next
-pub record AreLaid {F : Type 0} (k : Kit F) (may : F → ℕ → PlainVersion → Type 0) (count : ℕ) (all : List (PlainStage F)) (xs : List (PlainMessage PlainApart)) (todo : List (PlainStage F)) (source : PlainSource) (laid : List (Node F)) : Type 0 where
+-- Some stages are laid; these are still to be laid, and so many packets come from the source to the next. Behind the last these packets
+-- come, and these functions are left and so many copies made.
+pub record AreLaid {F : Type 0} (k : Kit F) (may : F → ℕ → PlainVersion → Type 0) (count : ℕ) (packets : List (PlainMessage PlainApart)) (functions : List F) (copies : Field → ℕ) (todo : List (PlainStage F)) (source : List (List (PlainMessage PlainApart))) (laid : List (Node F)) : Type 0 where
   pub coming : List (PlainMessage PlainApart)
   pub long : length coming ≡ count
   pub takes : ComesFrom source coming
   pub pass : MayPassAll k may todo coming
-  pub packets : through k todo coming ≡ through k all xs
-  pub functions : List F
-  pub copies : Field → ℕ
-  pub nodes : AreNodes k may laid functions copies
-  pub gives : functions ++ flat (ends_of k todo coming) ≡ flat (ends_of k all xs)
-  pub counted : (f : Field) → copies f + copies_along k todo coming f ≡ copies_along k all xs f
+  pub comes : through k todo coming ≡ packets
+  pub kept : List F
+  pub made : Field → ℕ
+  pub nodes : AreNodes k may laid kept made
+  pub gives : kept ++ flat (ends_of k todo coming) ≡ functions
+  pub counted : (f : Field) → made f + copies_along k todo coming f ≡ copies f
 
--- all stages are laid, and so many packets come from the source behind the last
-pub record IsLaid {F : Type 0} (k : Kit F) (may : F → ℕ → PlainVersion → Type 0) (count : ℕ) (all : List (PlainStage F)) (xs : List (PlainMessage PlainApart)) (source : PlainSource) (laid : List (Node F)) : Type 0 where
-  pub long : length (through k all xs) ≡ count
-  pub takes : ComesFrom source (through k all xs)
-  pub nodes : AreNodes k may laid (flat (ends_of k all xs)) (copies_along k all xs)
+-- All stages are laid: so many packets, which are these, come from the source behind the last.
+pub record IsLaid {F : Type 0} (k : Kit F) (may : F → ℕ → PlainVersion → Type 0) (count : ℕ) (packets : List (PlainMessage PlainApart)) (functions : List F) (copies : Field → ℕ) (source : List (List (PlainMessage PlainApart))) (laid : List (Node F)) : Type 0 where
+  pub long : length packets ≡ count
+  pub takes : ComesFrom source packets
+  pub nodes : AreNodes k may laid functions copies
 
 -- nodes are started, but for these
 pub record AreStarted {N S : Type 0} (node_of : S → N) (ready : N → Type 0) (room : ℕ) (all todo : List N) (started : List S) : Type 0 where
@@ -55,17 +65,19 @@ pub record AreStarted {N S : Type 0} (node_of : S → N) (ready : N → Type 0) 
   pub ready_rest : All ready todo
   pub fits : length started + length todo ≤ room
 
--- nodes are ready to be started, with room for as many handles, and what comes behind the last can be collected
-pub record CanRun {F S : Type 0} (k : Kit F) (may : F → ℕ → PlainVersion → Type 0) (nodes : List (Node F)) (started : List S) (room count : ℕ) (source : PlainSource) (due : List (PlainMessage PlainApart)) : Type 0 where
+-- the first dealer may deal, nodes are ready to be started, with room for as many handles, and what comes behind the last can be
+-- collected
+pub record CanRun {F S H : Type 0} (k : Kit F) (may : F → ℕ → PlainVersion → Type 0) (comes : S → List (PlainMessage PlainApart) → Type 0) (copies : Field → ℕ) (first : First S) (nodes : List (Node F)) (started : List H) (room count : ℕ) (behind : List (List (PlainMessage PlainApart))) (due : List (PlainMessage PlainApart)) : Type 0 where
+  pub deals : IsFirst comes copies first
   pub ready : All (is_ready k may) nodes
   pub empty : started ≡ []
   pub fits : length nodes ≤ room
   pub long : length due ≡ count
-  pub takes : ComesFrom source due
+  pub takes : ComesFrom behind due
 
--- what a run of these nodes gave, where this was due behind the last stage
-pub record HasRun {F : Type 0} (k : Kit F) (nodes : List (Node F)) (due : List (PlainMessage PlainApart)) (functions : List F) (packets : List Merged) (tally : List ℕ) : Type 0 where
+-- what a run of these nodes gave, where this was due behind the last stage and the first dealer made so many copies
+pub record HasRun {F : Type 0} (k : Kit F) (copies : Field → ℕ) (nodes : List (Node F)) (due : List (PlainMessage PlainApart)) (functions : List F) (fates : List Fate) (tally : List ℕ) : Type 0 where
   pub gives : functions ≡ gather k nodes
-  pub comes : map of_merged packets ≡ due
-  pub whole : All is_whole packets
-  pub counted : (f : Field) → count_of tally f ≡ raised 0 (copies_by_all f nodes)
+  pub told : fates ≡ fates_behind due
+  pub found : All is_found due
+  pub counted : (f : Field) → count_of tally f ≡ raised 0 (copies f + copies_by_all f nodes)

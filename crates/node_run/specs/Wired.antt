@@ -5,11 +5,13 @@ use Rattle.packet_version.specs.Splitting.{PlainApart}
 use Rattle.packet_version.specs.Versions.{PlainVersion}
 use Rattle.message_links.specs.Messages.{PlainMessage, front, rest}
 use Rattle.message_links.specs.Turns.{shares, shares_from, columns_from}
-use Rattle.stage_nodes.specs.Streams.{Kit, parted, came_from, stayed, merged_rows}
+use Rattle.stage_nodes.specs.Dues.{DealerDue}
+use Rattle.stage_nodes.specs.Streams.{Kit, PlainStage, parted, came_from, passed, stayed, merged_rows}
 use Rattle.stage_nodes.specs.Flows.{AllMayTake, AllBelong}
 use Rattle.node_run.specs.Nodes.{AreNodes, no_copies}
 use Rattle.node_run.specs.declared.branches.Branches.{Branches}
 use Rattle.node_run.specs.declared.meeting.Meeting.{Meeting}
+use Rattle.node_run.specs.declared.wire.WiredStage.{WiredStage}
 
 -- what a dealer gives each branch
 abbrev pub all_parted : List Touch → List (PlainMessage PlainApart) → List (List (PlainMessage PlainVersion))
@@ -51,6 +53,15 @@ pub record AreWiring {F : Type 0} (k : Kit F) (may : F → ℕ → PlainVersion 
   pub functions : List F
   pub nodes : AreNodes k may w.nodes.items functions no_copies
   pub gives : functions ++ stayed k (drop j touches) todo xs ≡ stayed k touches fs xs
+
+-- a stage is wired, to which these packets come
+pub record IsWired {F S : Type 0} (k : Kit F) (may : F → ℕ → PlainVersion → Type 0) (comes : S → List (PlainMessage PlainApart) → Type 0) (m count : ℕ) (s : PlainStage F) (xs : List (PlainMessage PlainApart)) (source : S) (w : WiredStage F S) : Type 0 where
+  pub source_is : w.dealer.source ≡ source
+  pub many : w.dealer.count ≡ count
+  pub touches : w.dealer.parts.touches ≡ s.parts.touches
+  pub due : DealerDue comes w.dealer.parts w.dealer.count xs w.dealer.source w.dealer.versions w.dealer.bases
+  pub nodes : AreNodes k may w.nodes.items (stayed k s.parts.touches s.branches xs) no_copies
+  pub next : w.next ≡ shares m (passed k s xs)
 
 -- the ends of c mergers, of m, from merger i on
 pub record MergersFit (m i c count : ℕ) (bases : List (List (PlainMessage PlainApart))) (inlets : List (List (List (PlainMessage PlainVersion)))) (outlets : List (List (PlainMessage PlainApart))) : Type 0 where

@@ -1,10 +1,8 @@
 //! What comes out behind the last stage.
-ghost use Rattle.std.specs.Prelude.{◌≡◌, [], ℕ, suc, List, map, All, IfOk, OnOk, vec_capacity};
+ghost use Rattle.std.specs.Prelude.{◌≡◌, [], ℕ, suc, List, All, IfOk, OnOk, vec_capacity};
 ghost use Rattle.packet_version.specs.Splitting.{PlainApart};
 ghost use Rattle.message_links.specs.Messages.{PlainMessage};
-ghost use Rattle.merge_ops.specs.Fates.{fate_behind};
-ghost use Rattle.stage_nodes.specs.Streams.{as_merged};
-ghost use Rattle.node_run.specs.Runs.{Collects, is_found};
+ghost use Rattle.node_run.specs.Runs.{Collects, fates_behind, is_found};
 
 use chain_walk::Fate;
 use stage_nodes::Supply;
@@ -20,7 +18,7 @@ pub(crate) fn collect<S: Supply + Drop, R: Wait>(
     count: u32,
 ) -> Result<Vec<Fate>, AllocError>
     requires { (all : List (PlainMessage PlainApart)) × Collects S.comes count count [] source all }
-    ensures fates { (all : List (PlainMessage PlainApart)) → Collects S.comes count count [] source all → IfOk result (λ fates. fates.items ≡ map fate_behind (map as_merged all)) }
+    ensures fates { (all : List (PlainMessage PlainApart)) → Collects S.comes count count [] source all → IfOk result (λ fates. fates.items ≡ fates_behind all) }
     ensures found { (all : List (PlainMessage PlainApart)) → Collects S.comes count count [] source all → OnOk result (All is_found all) }
 {
     let mut source = source;

@@ -3,13 +3,12 @@ ghost use Rattle.std.specs.Prelude.{◌≡◌, ◌<◌, ◌≤◌, ◌++◌, ◌
 ghost use Rattle.packet_fields.specs.declared.field.Field.{Field};
 ghost use Rattle.packet_version.specs.Splitting.{PlainApart};
 ghost use Rattle.packet_version.specs.Tallies.{count_of, raised};
-ghost use Rattle.merge_ops.specs.Fates.{fate_behind};
 ghost use Rattle.message_links.specs.Messages.{PlainMessage};
-ghost use Rattle.stage_nodes.specs.Streams.{as_merged, copies_along, ends_of, through};
+ghost use Rattle.stage_nodes.specs.Streams.{copies_along, ends_of, through};
 ghost use Rattle.stage_nodes.specs.Flows.{MayPassAll};
 ghost use Rattle.node_run.specs.Firsts.{IsFirst};
 ghost use Rattle.node_run.specs.Nodes.{added, copies_by_all, gather, is_ready};
-ghost use Rattle.node_run.specs.Runs.{CanRun, HasRun, IsLaid, Lays, MayLay, flat, is_found};
+ghost use Rattle.node_run.specs.Runs.{AreLaid, CanRun, HasRun, IsLaid, fates_behind, flat, is_found};
 ghost use Rattle.node_run.specs.Stages.{plain_stage};
 ghost use Rattle.node_run.specs.Starts.{node_of};
 
@@ -19,7 +18,7 @@ use crate::meeting::{MergeWay, take_first};
 use crate::node::{Done, Node};
 use crate::stage::StageWork;
 use crate::start::{Started, finish, start};
-use crate::wire::{Wired, wire_stage};
+use crate::wire::{WiredStage, wire_stage};
 use chain_walk::Fate;
 use message_links::{Inlets, Parcel};
 use nfp_outside::Gate;
@@ -68,7 +67,7 @@ pub fn run_nodes<
     ensures functions { IfOk result (λ ran. ran.0.items ≡ flat (ends_of F.kit (map plain_stage stages.items) D.due)) }
 
     // The fate of each packet behind all stages, in the packets' order.
-    ensures fates { IfOk result (λ ran. ran.1.items ≡ map fate_behind (map as_merged (through F.kit (map plain_stage stages.items) D.due))) }
+    ensures fates { IfOk result (λ ran. ran.1.items ≡ fates_behind (through F.kit (map plain_stage stages.items) D.due)) }
 
     // Memory was found for each of them.
     ensures found { OnOk result (All is_found (through F.kit (map plain_stage stages.items) D.due)) }
@@ -83,7 +82,7 @@ pub fn run_nodes<
     }
     let work = take_first(&mut stages);
     let wired = wire_stage::<F, S, D>(alloc, work, packets, mergers, way, count)?;
-    let Wired {
+    let WiredStage {
         dealer,
         mut nodes,
         next,
@@ -108,10 +107,10 @@ fn wire_all<F: BranchWork + Drop>(
     requires some { 0 < mergers }
     requires few_mergers { mergers ≤ 16 }
     requires few { count < 65537 }
-    requires lays { MayLay F.kit F.may count (map plain_stage stages.items) source nodes.old.items }
-    ensures { IfOk result (λ behind. (xs : List (PlainMessage PlainApart)) (fs : List F) (c : Field → ℕ) →
-        Lays F.kit F.may count (map plain_stage stages.items) source xs nodes.old.items fs c →
-        IsLaid F.kit F.may count (map plain_stage stages.items) xs behind nodes.new.items fs c) }
+    requires lays { (packets : List (PlainMessage PlainApart)) × (functions : List F) × (copies : Field → ℕ) × AreLaid F.kit F.may count packets functions copies (map plain_stage stages.items) source nodes.old.items }
+    ensures { IfOk result (λ behind. (packets : List (PlainMessage PlainApart)) (functions : List F) (copies : Field → ℕ) →
+        AreLaid F.kit F.may count packets functions copies (map plain_stage stages.items) source nodes.old.items →
+        IsLaid F.kit F.may count packets functions copies behind nodes.new.items) }
 {
     let mut source = source;
     for work in stages {
@@ -123,13 +122,13 @@ fn wire_all<F: BranchWork + Drop>(
 
 /// The nodes of one stage more; gives where packets come from behind it.
 fn push_stage<F: BranchWork + Drop>(
-    wired: Wired<F, Inlets<Apart>>,
+    wired: WiredStage<F, Inlets<Apart>>,
     nodes: &mut Vec<Node<F>>,
 ) -> Result<Inlets<Apart>, AllocError>
     ensures next { IfOk result (λ next. next ≡ wired.next) }
     ensures nodes { OnOk result (nodes.new.items ≡ nodes.old.items ++ Node.Dealer wired.dealer ∷ wired.nodes.items) }
 {
-    let Wired {
+    let WiredStage {
         dealer,
         nodes: mut others,
         next,

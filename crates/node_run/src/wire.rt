@@ -22,7 +22,7 @@ use std::marker::Brand;
 
 /// The nodes of a stage: its dealer, its branches and mergers, and the inlets from its mergers.
 #[derive(Drop)]
-pub(crate) struct Wired<F, S> {
+pub(crate) struct WiredStage<F, S> {
     pub(crate) dealer: Dealer<S>,
     pub(crate) nodes: Vec<Node<F>>,
     pub(crate) next: Inlets<Apart>,
@@ -36,7 +36,7 @@ pub(crate) fn wire_stage<F: BranchWork + Drop, S: Supply + Drop, D: LinkDue<Parc
     mergers: u32,
     way: MergeWay,
     count: u32,
-) -> Result<Wired<F, S>, AllocError>
+) -> Result<WiredStage<F, S>, AllocError>
     requires takes { S.comes source D.due }
     requires some { 0 < mergers }
     requires few_mergers { mergers ≤ 16 }
@@ -70,7 +70,7 @@ pub(crate) fn wire_stage<F: BranchWork + Drop, S: Supply + Drop, D: LinkDue<Parc
         bases,
         count,
     };
-    Ok(Wired {
+    Ok(WiredStage {
         dealer,
         nodes,
         next,

@@ -5,5 +5,5 @@ use Rattle.node_run.proofs.collect.collect.Given as goal
 
 abbrev pub invariant-loop-packet : goal.invariant-loop-packet
 invariant-loop-packet g l =
-    ((all : _) × Collects (l.count - l._packet) (vec_capacity l.packets) l.packets.items l.source all) ×
-    ((all : _) → Collects l.count l.count [] l.initial.source all → Collects (l.count - l._packet) (vec_capacity l.packets) l.packets.items l.source all)
+    ((all : _) × Collects g.S.Supply.comes (l.count - l._packet) (vec_capacity l.fates) l.fates.items l.source all) ×
+    ((all : _) → Collects g.S.Supply.comes l.count l.count [] l.initial.source all → Collects g.S.Supply.comes (l.count - l._packet) (vec_capacity l.fates) l.fates.items l.source all)

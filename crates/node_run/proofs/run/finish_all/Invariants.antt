@@ -11,4 +11,4 @@ invariant-loop-one g l =
     (goal.iterator-loop-one g).can_next l.one-iterator ×
     (goal.iterator-loop-one g).is_finite l.one-iterator ×
     (l.functions.items ++ gather g.F.BranchWork.kit (map node_of (into_iter_items l.one-iterator)) ≡ gather g.F.BranchWork.kit (map node_of l.fn.started.items)) ×
-    ((f : Field) → raised (count_of l.tally f) (copies_by_all f (map node_of (into_iter_items l.one-iterator))) ≡ raised 0 (copies_by_all f (map node_of l.fn.started.items)))
+    ((f : Field) → raised (count_of l.tally f) (copies_by_all f (map node_of (into_iter_items l.one-iterator))) ≡ raised (count_of l.fn.dealt.tally f) (copies_by_all f (map node_of l.fn.started.items)))

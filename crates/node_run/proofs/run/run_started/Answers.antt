@@ -1,22 +1,28 @@
 use Rattle.std.proofs.Common.{◌∙◌, ap}
-use Rattle.packet_version.specs.Tallies.{raised}
-use Rattle.node_run.specs.Nodes.{copies_by_all, gather}
-use Rattle.node_run.proofs.Running.{to_collect}
+use Rattle.node_run.specs.Nodes.{gather}
+use Rattle.stage_nodes.specs.Dues.{ComesFrom}
+use Rattle.node_run.proofs.Running.{to_collect, counted_with}
 use Rattle.node_run.proofs.run.run_started.Goals as goal
 
-pub start_all-started-requires-clause-ready : goal.start_all-started-requires-clause-ready
-start_all-started-requires-clause-ready g c κs within = c.requires.1.ready
+pub start_all-first-requires-clause-first : goal.start_all-first-requires-clause-first
+start_all-first-requires-clause-first g c κs within = (c.requires.0, c.requires.2.deals)
 
-pub start_all-started-requires-clause-empty : goal.start_all-started-requires-clause-empty
-start_all-started-requires-clause-empty g c κs within = c.requires.1.empty
+pub start_all-first-requires-clause-ready : goal.start_all-first-requires-clause-ready
+start_all-first-requires-clause-ready g c κs within = c.requires.2.ready
+
+pub start_all-first-requires-clause-empty : goal.start_all-first-requires-clause-empty
+start_all-first-requires-clause-empty g c κs within = c.requires.2.empty
+
+pub deal_first-dealt-requires : goal.deal_first-dealt-requires
+deal_first-dealt-requires g c = (c.requires.0, c.start_all-first.ensures.first c.requires.0 c.requires.2.deals)
 
 pub collect-requires : goal.collect-requires
-collect-requires g c = (c.requires.0, to_collect _ _ c.requires.0 c.requires.1.long c.requires.1.takes)
+collect-requires g c = (c.requires.1, to_collect ComesFrom _ _ c.requires.1 c.requires.2.long c.requires.2.takes)
 
 pub returns : goal.returns
-returns g c due h = record {
-  gives = c.in_ok-functions.ensures.functions ∙ ap (gather g.F.BranchWork.kit) c.start_all-started.ensures;
-  comes = c.in_ok-packets.ensures.packets due (to_collect _ _ due h.long h.takes);
-  whole = c.in_ok-packets.ensures.whole;
-  counted = λ f. c.in_ok-functions.ensures.counted f ∙ ap (λ y. raised 0 (copies_by_all f y)) c.start_all-started.ensures;
+returns g c copies due h = record {
+  gives = c.in_ok-functions.ensures.functions ∙ ap (gather g.F.BranchWork.kit) c.start_all-first.ensures.nodes;
+  told = c.in_ok-fates.ensures.fates due (to_collect ComesFrom _ _ due h.long h.takes);
+  found = c.in_ok-fates.ensures.found due (to_collect ComesFrom _ _ due h.long h.takes);
+  counted = λ f. counted_with _ _ _ _ _ copies f (c.deal_first-dealt.ensures copies (c.start_all-first.ensures.first copies h.deals)) c.in_ok-functions.ensures.found c.start_all-first.ensures.nodes (c.in_ok-functions.ensures.counted f);
 }

@@ -1,0 +1,27 @@
+-- For proofs: the dealer of the first stage.
+use Rattle.std.specs.Prelude.{◌≡◌, ℕ, List, false}
+use Rattle.packet_fields.specs.declared.field.Field.{Field}
+use Rattle.packet_version.specs.Splitting.{PlainApart}
+use Rattle.packet_version.specs.Tallies.{count_of, raised}
+use Rattle.message_links.specs.Messages.{PlainMessage}
+use Rattle.stage_nodes.specs.Dues.{DealerDue}
+use Rattle.stage_nodes.specs.Streams.{dealer_copies}
+use Rattle.stage_nodes.specs.declared.dealer.Dealer.{Dealer}
+use Rattle.node_run.specs.declared.first.Dealt.{Dealt}
+use Rattle.node_run.specs.declared.first.First.{First}
+use Rattle.node_run.specs.declared.first.First.TheVariants.{Due, Over}
+
+-- its links fit, and it is due to make so many copies of each field
+pub record IsDue {S : Type 0} (comes : S → List (PlainMessage PlainApart) → Type 0) (copies : Field → ℕ) (d : Dealer S) : Type 0 where
+  pub coming : List (PlainMessage PlainApart)
+  pub due : DealerDue comes d.parts d.count coming d.source d.versions d.bases
+  pub makes : (f : Field) → dealer_copies d.parts.touches coming f ≡ copies f
+
+-- it made so many, unless memory was short
+abbrev pub HasDealt : (Field → ℕ) → Dealt → Type 0
+HasDealt copies dealt = dealt.short ≡ false → (f : Field) → count_of dealt.tally f ≡ raised 0 (copies f)
+
+-- it is still to be run, or was run
+abbrev pub IsFirst : {S : Type 0} → (S → List (PlainMessage PlainApart) → Type 0) → (Field → ℕ) → First S → Type 0
+IsFirst comes copies (Due d) = IsDue comes copies d
+IsFirst comes copies (Over dealt) = HasDealt copies dealt
