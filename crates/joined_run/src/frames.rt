@@ -17,7 +17,7 @@ use std::alloc::{AllocError, Global};
 /// room for as many tags more.
 ///
 /// The one refusal is want of memory.
-pub fn split_packets(
+pub(crate) fn split_packets(
     alloc: Global,
     items: &[Item],
     unit: Unit,
@@ -44,7 +44,7 @@ pub fn split_packets(
 /// frame, which is not sealed yet, or is gone.
 ///
 /// The one refusal is want of memory. A packet that is short ends so too.
-pub fn join_packets(alloc: Global, packets: Vec<Merged>) -> Result<Vec<Fate>, AllocError>
+pub(crate) fn join_packets(alloc: Global, packets: Vec<Merged>) -> Result<Vec<Fate>, AllocError>
     ensures { IfOk result (λ fates. fates.items ≡ map fate_behind packets.items) }
 {
     let mut fates = Vec::with_capacity(alloc, packets.len())?;

@@ -16,9 +16,8 @@
 //! Why this is the walk is told by `burst_law`: a branch never waits for another, so a stage may take all
 //! packets branch by branch; a packet is made of what the branches gave for it alone, so packets may be put
 //! together by any merger. A stage (`run_stage`) is told in terms of that law, and so is the burst over all stages.
-//! What both rest on is told for other runners too: [`split_packets`] takes the frames apart and [`join_packets`]
-//! puts them together, [`taken_packets_make_a_stage`] ties what the branches of a stage gave to the law, and
-//! [`bursts_in_parts_lead`] ties a burst of packets in parts to whole frames that walk.
+//! What both rest on is told for other runners too: [`taken_packets_make_a_stage`] ties what the branches of a stage
+//! gave to the law, and [`bursts_in_parts_lead`] ties a burst of packets in parts to whole frames that walk.
 //!
 //! Each step of a function passes the gate first. No clause speaks of the gate, of threads, or of what
 //! goes on at the same time: what is promised holds for every schedule.
@@ -34,6 +33,5 @@ mod stages;
 mod works;
 
 pub use chain_walk::Fate;
-pub use frames::{join_packets, split_packets};
 pub use joined::run_joined;
 pub use laws::{bursts_in_parts_lead, taken_packets_make_a_stage};

@@ -114,7 +114,9 @@ fn wire_all<F: BranchWork + Drop>(
 {
     let mut source = source;
     for work in stages {
-        let wired = wire_stage::<F, Inlets<Apart>, Brand>(alloc, work, source, mergers, way, count)?;
+        let wired = wire_stage::<F, Inlets<Apart>, Brand>(
+            alloc, work, source, mergers, way, count,
+        )?;
         source = push_stage(wired, nodes)?;
     }
     Ok(source)

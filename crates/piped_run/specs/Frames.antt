@@ -3,27 +3,30 @@ use Rattle.std.specs.Prelude.{◌≡◌, ℕ, List, map}
 use Rattle.chain_walk.specs.Packets.{Packet}
 use Rattle.chain_walk.specs.Step.{Behaviour}
 use Rattle.chain_walk.specs.declared.walk.Fate.{Fate}
-use Rattle.graph_compile.specs.declared.graph.Graph.{Graph}
-use Rattle.packet_version.specs.Splitting.{PlainApart, taken_apart}
+use Rattle.packet_version.specs.Splitting.{taken_apart}
 use Rattle.merge_ops.specs.Fates.{fate_behind}
 use Rattle.merge_ops.specs.declared.merging.Merged.{Merged}
 use Rattle.merge_ops.specs.declared.merging.Merged.TheVariants.{Whole}
-use Rattle.joined_run.specs.Ended.{HasEnded}
-use Rattle.message_links.specs.Messages.{PlainMessage, PlainMessage.Live}
+use Rattle.burst_law.specs.Bursts.{chain_burst}
+use Rattle.joined_run.specs.Leaving.{KeepsRests}
+use Rattle.joined_run.specs.Messages.{as_message}
 
--- a packet in parts, with room for so many tags more
-abbrev pub parts_of : ℕ → Packet → PlainApart
-parts_of taggers p = taken_apart taggers p.time p.frame
+-- Packets that are still to be taken apart, each with room for so many tags more.
+pub record PlainFrames : Type 0 where
+  pub taggers : ℕ
+  pub packets : List Packet
 
--- as a message, and as what comes to a stage
-abbrev pub live_of : ℕ → Packet → PlainMessage PlainApart
-live_of taggers p = Live (parts_of taggers p)
+-- a packet in parts
+abbrev pub apart_of : ℕ → Packet → Merged
+apart_of taggers p = Whole (taken_apart taggers p.time p.frame)
 
-abbrev pub apart_of : ℕ → List Packet → List Merged
-apart_of taggers packets = map (λ p. Whole (parts_of taggers p)) packets
+abbrev pub all_apart : PlainFrames → List Merged
+all_apart frames = map (apart_of frames.taggers) frames.packets
 
--- Packets in parts ended as those of a burst that walks through the chain, and these are their fates.
-pub record PassesAll {F : Type 0} (b : Behaviour F) (graph : Graph) (functions : List F) (apart : List Merged) (after : List F) (fates : List Fate) (old new : List ℕ) : Type 0 where
+-- Packets in parts end as those of a burst that walks through the chain, and these are their fates. What is left of a frame without its
+-- fields stays.
+pub record EndsAs {F : Type 0} (b : Behaviour F) (functions : List F) (apart : List Merged) (fates : List Fate) : Type 0 where
   pub behind : List Merged
   pub fated : fates ≡ map fate_behind behind
-  pub ended : HasEnded b (record { functions = functions; graph = graph }) apart after behind old new
+  pub packets_are : map as_message behind ≡ (chain_burst b functions (map as_message apart)).gives
+  pub rests : KeepsRests apart behind

@@ -4,7 +4,7 @@ ghost use Rattle.pcap_io.specs.declared.capture.Unit.{Unit as TimeUnit};
 ghost use Rattle.graph_run.specs.Packets.{packet_of, packets_taken};
 ghost use Rattle.message_links.specs.Messages.{Fits};
 ghost use Rattle.stage_nodes.specs.Streams.{of_merged};
-ghost use Rattle.piped_run.specs.Frames.{live_of};
+ghost use Rattle.piped_run.specs.Frames.{apart_of};
 
 use classifier::Item;
 use graph_run::is_of;
@@ -13,24 +13,48 @@ use packet_version::split;
 use pcap_io::Unit;
 use stage_nodes::Supply;
 use std::alloc::{AllocError, Global};
+use std::marker::Model;
 use std::sync::Wait;
 
-/// What is left of a burst, whose packets of the chain with this number are taken apart as they are asked for.
-/// Each gets room for so many tags more.
+/// What is left of a burst, whose packets of one chain are taken apart as they are asked for, each with room for so
+/// many tags more. Contracts see the packets that are left.
 #[derive(Drop)]
 pub(crate) struct Frames<'a> {
-    pub(crate) rest: &'a [Item],
-    pub(crate) unit: Unit,
-    pub(crate) chain: u32,
-    pub(crate) taggers: u32,
+    rest: &'a [Item],
+    unit: Unit,
+    chain: u32,
+    taggers: u32,
+}
+
+impl<'a> Model for Frames<'a> {
+    ghost use Rattle.graph_run.specs.Packets.{packets_taken};
+    ghost use Rattle.piped_run.specs.Frames.{PlainFrames};
+
+    ghost Value = { PlainFrames };
+
+    ghost view = { λ f. record { taggers = f.taggers; packets = packets_taken f.unit f.chain f.rest.now } };
+}
+
+impl<'a> Frames<'a> {
+    /// The packets of these items that are of the chain with this number.
+    pub(crate) fn new(items: &'a [Item], unit: Unit, chain: u32, taggers: u32) -> Frames<'a>
+        ensures { result ≡ record { taggers = taggers; packets = packets_taken unit chain items.now } }
+    {
+        Frames {
+            rest: items,
+            unit,
+            chain,
+            taggers,
+        }
+    }
 }
 
 impl<'a> Supply for Frames<'a> {
     ghost use Rattle.std.specs.Prelude.{◌≡◌, map};
-    ghost use Rattle.graph_run.specs.Packets.{packets_taken};
-    ghost use Rattle.piped_run.specs.Frames.{live_of};
+    ghost use Rattle.stage_nodes.specs.Streams.{of_merged};
+    ghost use Rattle.piped_run.specs.Frames.{all_apart};
 
-    ghost comes = { λ f xs. xs ≡ map (live_of f.taggers) (packets_taken f.unit f.chain f.rest.now) };
+    ghost comes = { λ f xs. xs ≡ map of_merged (all_apart f) };
 
     fn next<R: Wait>(&mut self, _rt: &R, alloc: Global) -> Merged {
         'items: while let Some((item, rest)) = self.rest.split_first() {
@@ -45,17 +69,26 @@ impl<'a> Supply for Frames<'a> {
 
 /// The packet of an item in parts, or the word that memory is short.
 fn take_apart(alloc: Global, item: &Item, unit: Unit, taggers: u32) -> Merged
-    ensures { Fits (live_of taggers (packet_of unit item.now)) (of_merged result) }
+    ensures { Fits (of_merged (apart_of taggers (packet_of unit item.now))) (of_merged result) }
 {
-    match split(alloc, item.packet.frame.bytes(), item.packet.time(unit), taggers) {
+    match split(
+        alloc,
+        item.packet.frame.bytes(),
+        item.packet.time(unit),
+        taggers,
+    ) {
         Ok(whole) => Merged::Whole(whole),
         Err(_) => Merged::Short,
     }
 }
 
-/// The record numbers of the packets of a burst that are of the chain with this number, in their order. The one
+/// The record numbers of the packets of these items that are of the chain with this number, in their order. The one
 /// refusal is want of memory.
-pub(crate) fn numbers_of(alloc: Global, items: &[Item], chain: u32) -> Result<Vec<u32>, AllocError>
+pub(crate) fn numbers_of(
+    alloc: Global,
+    items: &[Item],
+    chain: u32,
+) -> Result<Vec<u32>, AllocError>
     ensures { (unit : TimeUnit) → IfOk result (λ numbers. length numbers.items ≡ length (packets_taken unit chain items.now)) }
 {
     let mut numbers = Vec::with_capacity(alloc, items.len())?;

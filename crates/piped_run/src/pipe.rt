@@ -1,12 +1,13 @@
 //! A burst of packets through the stages of a graph, whose dealers, branches and mergers are nodes.
-ghost use Rattle.std.specs.Prelude.{◌≡◌, ◌≤◌, length, IfOk, OnErr, map};
+ghost use Rattle.std.specs.Prelude.{◌≡◌, ◌≤◌, length, map, All, IfOk, OnOk, OnErr};
+ghost use Rattle.burst_law.specs.Bursts.{chain_burst};
 ghost use Rattle.burst_law.specs.Copies.{chain_copies};
-ghost use Rattle.graph_run.specs.Counting.{RaisesUpTo};
-ghost use Rattle.graph_run.specs.Packets.{packets_taken};
-ghost use Rattle.graph_run.specs.Rooms.{adders_from};
+ghost use Rattle.graph_run.specs.Counting.{RaisesAll, RaisesUpTo};
 ghost use Rattle.graph_run.specs.Running.{IsRunning, profiles_of};
 ghost use Rattle.joined_run.specs.Messages.{as_message};
-ghost use Rattle.piped_run.specs.Frames.{PassesAll, apart_of};
+ghost use Rattle.joined_run.specs.Ready.{AllEnter};
+ghost use Rattle.joined_run.specs.Works.{Fits};
+ghost use Rattle.piped_run.specs.Frames.{EndsAs, all_apart};
 
 use crate::back::end_works;
 use crate::frames::Frames;
@@ -17,11 +18,10 @@ use branch_owners::{put_together, split_functions};
 use burst_law::burst_is_chain;
 use chain_walk::Fate;
 use graph_compile::Graph;
-use joined_run::bursts_in_parts_lead;
 use net_functions::Function;
 use nfp_outside::Gate;
 use node_run::{MergeWay, run_nodes};
-use packet_version::{Tally, frames_come_apart};
+use packet_version::Tally;
 use std::alloc::{AllocError, Global};
 use std::marker::Brand;
 use std::sync::Wait;
@@ -39,6 +39,7 @@ pub(crate) fn pipe_frames<F: Function + Drop + Send, G: Gate + Sync, R: Threads 
     rt: &R,
     alloc: Global,
     gate: &G,
+    chain: u32,
     numbers: &[u32],
     graph: &Graph,
     functions: Vec<F>,
@@ -48,28 +49,30 @@ pub(crate) fn pipe_frames<F: Function + Drop + Send, G: Gate + Sync, R: Threads 
     tally: &mut Tally,
 ) -> Result<(Vec<F>, Vec<Fate>), AllocError>
     requires running { IsRunning F.behaviour functions.items graph.now }
-    requires taggers { frames.taggers ≡ adders_from (profiles_of F.behaviour functions.items) 1 }
-    requires numbers { length numbers.now ≡ length (packets_taken frames.unit frames.chain frames.rest.now) }
-    requires few { length (packets_taken frames.unit frames.chain frames.rest.now) ≤ 65536 }
+    requires enter { AllEnter (profiles_of F.behaviour functions.items) 1 (all_apart frames) }
+    requires fits { All Fits (all_apart frames) }
+    requires numbers { length numbers.now ≡ length (all_apart frames) }
+    requires few { length (all_apart frames) ≤ 65536 }
     requires some_mergers { 1 ≤ mergers }
     requires few_mergers { mergers ≤ 16 }
-    ensures passes { IfOk result (λ left. PassesAll F.behaviour graph.now functions.items (apart_of frames.taggers (packets_taken frames.unit frames.chain frames.rest.now)) left.0.items left.1.items tally.old tally.new) }
-    ensures refused { OnErr result (RaisesUpTo (λ f. chain_copies F.behaviour graph.now.stages f functions.items (map as_message (apart_of frames.taggers (packets_taken frames.unit frames.chain frames.rest.now)))) tally.old tally.new) }
+    ensures functions { IfOk result (λ left. left.0.items ≡ (chain_burst F.behaviour functions.items (map as_message (all_apart frames))).state) }
+    ensures fates { IfOk result (λ left. EndsAs F.behaviour functions.items (all_apart frames) left.1.items) }
+    ensures running { IfOk result (λ left. IsRunning F.behaviour left.0.items graph.now) }
+    ensures counted { OnOk result (RaisesAll (λ f. chain_copies F.behaviour graph.now.stages f functions.items (map as_message (all_apart frames))) tally.old tally.new) }
+    ensures refused { OnErr result (RaisesUpTo (λ f. chain_copies F.behaviour graph.now.stages f functions.items (map as_message (all_apart frames))) tally.old tally.new) }
 {
     functions_keep_to_profiles::<F>();
     burst_is_chain::<F>();
-    frames_come_apart();
-    bursts_in_parts_lead::<F>();
     nodes_walk_the_chain::<F>();
-    let count = numbers.len() as u32;
-    if count == 0 {
+    if numbers.is_empty() {
         return Ok((functions, Vec::new(alloc)));
     }
     let stages = graph.stages.as_slice();
     let owners = functions.len();
+    let count = numbers.len() as u32;
     let mergers = mergers.min(count);
     let owned = split_functions(alloc, stages, functions)?;
-    let works = begin_works(alloc, stages, owned, numbers, frames.chain)?;
+    let works = begin_works(alloc, stages, owned, numbers, chain)?;
     let (works, fates, made) = run_nodes::<OwnedFunctions<F>, Frames, Brand, R, G>(
         rt, alloc, gate, works, frames, count, mergers, way,
     )?;

@@ -16,7 +16,7 @@ use net_functions::Function;
 use nfp_outside::Gate;
 use node_run::MergeWay;
 use pace::{Lead, Pace};
-use packet_version::Tally;
+use packet_version::{Tally, frames_come_apart};
 use pcap_io::Unit;
 use std::alloc::{AllocError, Global};
 use std::rt::Clock;
@@ -107,18 +107,14 @@ fn run_stages<F: Function + Drop + Send, G: Gate + Sync, R: Threads + Wait + Syn
     ensures refused { OnErr result (RaisesUpTo (copies_made run.graph.stages (packets_taken unit chain burst.now.items) (fates F.behaviour run.functions (packets_taken unit chain burst.now.items))) tally.old tally.new) }
 {
     bursts_in_parts_lead::<F>();
+    frames_come_apart();
     let (functions, graph) = run.into_parts();
     let taggers = count_adders(&functions);
     let items = burst.items.as_slice();
     let numbers = numbers_of(alloc, items, chain)?;
-    let frames = Frames {
-        rest: items,
-        unit,
-        chain,
-        taggers,
-    };
+    let frames = Frames::new(items, unit, chain, taggers);
     let (functions, fates) = pipe_frames(
-        rt, alloc, gate, &numbers, &graph, functions, frames, mergers, way, tally,
+        rt, alloc, gate, chain, &numbers, &graph, functions, frames, mergers, way, tally,
     )?;
     Ok((Running::new(functions, graph), fates))
 }

@@ -37,10 +37,13 @@ wire_all-requires-clause-lays g c = (_, _, _, first_laid g.F.BranchWork.kit g.F.
 
 pub run_scoped-requires-clause-run : goal.run_scoped-requires-clause-run
 run_scoped-requires-clause-run g c κs within =
-    let laid = c.in_ok-behind.ensures _ _ _ (first_laid g.F.BranchWork.kit g.F.BranchWork.may g.S.Supply.comes c.args.mergers c.args.count _ _ (plain_stage c.take_first-work.result) g.D.LinkDue.due _ c.in_ok-wired.wired c.requires.some c.requires.many c.requires.pass (ap (map plain_stage) c.take_first-work.ensures) c.in_ok-wired.ensures) in
-    (_, _, can_run g.F.BranchWork.kit g.F.BranchWork.may g.S.Supply.comes c.args.count _ _ _ _ _ _ _ _ _
-        (first_due g.F.BranchWork.kit g.F.BranchWork.may g.S.Supply.comes c.args.mergers c.args.count (plain_stage c.take_first-work.result) g.D.LinkDue.due _ c.in_ok-wired.wired c.in_ok-wired.ensures)
-        laid c.in_ok-started.ensures.items (omega (arith, c.in_ok-started.ensures.capacity, c.len.ensures, c.wire_all.new.nodes.ok.0)))
+    let laid = c.in_ok-behind.ensures _ _ _ (first_laid g.F.BranchWork.kit g.F.BranchWork.may g.S.Supply.comes c.args.mergers c.args.count _ _ (plain_stage c.take_first-work.result) g.D.LinkDue.due _ c.in_ok-wired.wired c.requires.some c.requires.many c.requires.pass (ap (map plain_stage) c.take_first-work.ensures) c.in_ok-wired.ensures) in (
+      _,
+      _,
+      can_run g.F.BranchWork.kit g.F.BranchWork.may g.S.Supply.comes c.args.count _ _ _ _ _ _ _ _ _
+          (first_due g.F.BranchWork.kit g.F.BranchWork.may g.S.Supply.comes c.args.mergers c.args.count (plain_stage c.take_first-work.result) g.D.LinkDue.due _ c.in_ok-wired.wired c.in_ok-wired.ensures)
+          laid c.in_ok-started.ensures.items (omega (arith, c.in_ok-started.ensures.capacity, c.len.ensures, c.wire_all.new.nodes.ok.0)),
+    )
 
 pub returns-clause-functions : goal.returns-clause-functions
 returns-clause-functions g c =
@@ -48,8 +51,8 @@ returns-clause-functions g c =
     let laid = c.in_ok-behind.ensures _ _ _ (first_laid g.F.BranchWork.kit g.F.BranchWork.may g.S.Supply.comes c.args.mergers c.args.count _ _ (plain_stage c.take_first-work.result) g.D.LinkDue.due _ c.in_ok-wired.wired c.requires.some c.requires.many c.requires.pass row c.in_ok-wired.ensures) in
     let made = dealer_copies (plain_stage c.take_first-work.result).parts.touches g.D.LinkDue.due in
     let runs = can_run g.F.BranchWork.kit g.F.BranchWork.may g.S.Supply.comes c.args.count _ _ _ made _ _ _ _ _
-        (first_due g.F.BranchWork.kit g.F.BranchWork.may g.S.Supply.comes c.args.mergers c.args.count (plain_stage c.take_first-work.result) g.D.LinkDue.due _ c.in_ok-wired.wired c.in_ok-wired.ensures)
-        laid c.in_ok-started.ensures.items (omega (arith, c.in_ok-started.ensures.capacity, c.len.ensures, c.wire_all.new.nodes.ok.0)) in
+    (first_due g.F.BranchWork.kit g.F.BranchWork.may g.S.Supply.comes c.args.mergers c.args.count (plain_stage c.take_first-work.result) g.D.LinkDue.due _ c.in_ok-wired.wired c.in_ok-wired.ensures)
+    laid c.in_ok-started.ensures.items (omega (arith, c.in_ok-started.ensures.capacity, c.len.ensures, c.wire_all.new.nodes.ok.0)) in
     ok_so (λ ran. HasRun g.F.BranchWork.kit made c.wire_all.new.nodes.items (through g.F.BranchWork.kit (map plain_stage c.args.stages.items) g.D.LinkDue.due) ran.0.items ran.1.items ran.2) _ c.run_scoped.result
     (c.run_scoped.ensures made _ runs) (λ ran r. r.gives ∙ laid.nodes.gives)
 
@@ -59,8 +62,8 @@ returns-clause-fates g c =
     let laid = c.in_ok-behind.ensures _ _ _ (first_laid g.F.BranchWork.kit g.F.BranchWork.may g.S.Supply.comes c.args.mergers c.args.count _ _ (plain_stage c.take_first-work.result) g.D.LinkDue.due _ c.in_ok-wired.wired c.requires.some c.requires.many c.requires.pass row c.in_ok-wired.ensures) in
     let made = dealer_copies (plain_stage c.take_first-work.result).parts.touches g.D.LinkDue.due in
     let runs = can_run g.F.BranchWork.kit g.F.BranchWork.may g.S.Supply.comes c.args.count _ _ _ made _ _ _ _ _
-        (first_due g.F.BranchWork.kit g.F.BranchWork.may g.S.Supply.comes c.args.mergers c.args.count (plain_stage c.take_first-work.result) g.D.LinkDue.due _ c.in_ok-wired.wired c.in_ok-wired.ensures)
-        laid c.in_ok-started.ensures.items (omega (arith, c.in_ok-started.ensures.capacity, c.len.ensures, c.wire_all.new.nodes.ok.0)) in
+    (first_due g.F.BranchWork.kit g.F.BranchWork.may g.S.Supply.comes c.args.mergers c.args.count (plain_stage c.take_first-work.result) g.D.LinkDue.due _ c.in_ok-wired.wired c.in_ok-wired.ensures)
+    laid c.in_ok-started.ensures.items (omega (arith, c.in_ok-started.ensures.capacity, c.len.ensures, c.wire_all.new.nodes.ok.0)) in
     ok_so (λ ran. HasRun g.F.BranchWork.kit made c.wire_all.new.nodes.items (through g.F.BranchWork.kit (map plain_stage c.args.stages.items) g.D.LinkDue.due) ran.0.items ran.1.items ran.2) _ c.run_scoped.result
     (c.run_scoped.ensures made _ runs) (λ ran r. r.told)
 
@@ -70,8 +73,8 @@ returns-clause-found g c =
     let laid = c.in_ok-behind.ensures _ _ _ (first_laid g.F.BranchWork.kit g.F.BranchWork.may g.S.Supply.comes c.args.mergers c.args.count _ _ (plain_stage c.take_first-work.result) g.D.LinkDue.due _ c.in_ok-wired.wired c.requires.some c.requires.many c.requires.pass row c.in_ok-wired.ensures) in
     let made = dealer_copies (plain_stage c.take_first-work.result).parts.touches g.D.LinkDue.due in
     let runs = can_run g.F.BranchWork.kit g.F.BranchWork.may g.S.Supply.comes c.args.count _ _ _ made _ _ _ _ _
-        (first_due g.F.BranchWork.kit g.F.BranchWork.may g.S.Supply.comes c.args.mergers c.args.count (plain_stage c.take_first-work.result) g.D.LinkDue.due _ c.in_ok-wired.wired c.in_ok-wired.ensures)
-        laid c.in_ok-started.ensures.items (omega (arith, c.in_ok-started.ensures.capacity, c.len.ensures, c.wire_all.new.nodes.ok.0)) in
+    (first_due g.F.BranchWork.kit g.F.BranchWork.may g.S.Supply.comes c.args.mergers c.args.count (plain_stage c.take_first-work.result) g.D.LinkDue.due _ c.in_ok-wired.wired c.in_ok-wired.ensures)
+    laid c.in_ok-started.ensures.items (omega (arith, c.in_ok-started.ensures.capacity, c.len.ensures, c.wire_all.new.nodes.ok.0)) in
     on_ok_so (λ ran. HasRun g.F.BranchWork.kit made c.wire_all.new.nodes.items (through g.F.BranchWork.kit (map plain_stage c.args.stages.items) g.D.LinkDue.due) ran.0.items ran.1.items ran.2) _ c.run_scoped.result
     (c.run_scoped.ensures made _ runs) (λ ran r. r.found)
 
@@ -81,7 +84,7 @@ returns-clause-counted g c =
     let laid = c.in_ok-behind.ensures _ _ _ (first_laid g.F.BranchWork.kit g.F.BranchWork.may g.S.Supply.comes c.args.mergers c.args.count _ _ (plain_stage c.take_first-work.result) g.D.LinkDue.due _ c.in_ok-wired.wired c.requires.some c.requires.many c.requires.pass row c.in_ok-wired.ensures) in
     let made = dealer_copies (plain_stage c.take_first-work.result).parts.touches g.D.LinkDue.due in
     let runs = can_run g.F.BranchWork.kit g.F.BranchWork.may g.S.Supply.comes c.args.count _ _ _ made _ _ _ _ _
-        (first_due g.F.BranchWork.kit g.F.BranchWork.may g.S.Supply.comes c.args.mergers c.args.count (plain_stage c.take_first-work.result) g.D.LinkDue.due _ c.in_ok-wired.wired c.in_ok-wired.ensures)
-        laid c.in_ok-started.ensures.items (omega (arith, c.in_ok-started.ensures.capacity, c.len.ensures, c.wire_all.new.nodes.ok.0)) in
+    (first_due g.F.BranchWork.kit g.F.BranchWork.may g.S.Supply.comes c.args.mergers c.args.count (plain_stage c.take_first-work.result) g.D.LinkDue.due _ c.in_ok-wired.wired c.in_ok-wired.ensures)
+    laid c.in_ok-started.ensures.items (omega (arith, c.in_ok-started.ensures.capacity, c.len.ensures, c.wire_all.new.nodes.ok.0)) in
     ok_so (λ ran. HasRun g.F.BranchWork.kit made c.wire_all.new.nodes.items (through g.F.BranchWork.kit (map plain_stage c.args.stages.items) g.D.LinkDue.due) ran.0.items ran.1.items ran.2) _ c.run_scoped.result
     (c.run_scoped.ensures made _ runs) (λ ran r f. r.counted f ∙ ap (raised 0) (ap (λ y. made f + y) (laid.nodes.makes f) ∙ copies_of_all g.F.BranchWork.kit _ _ (plain_stage c.take_first-work.result) g.D.LinkDue.due f row))

@@ -12,9 +12,12 @@ pub start-left-requires-clause-first : goal.start-left-requires-clause-first
 start-left-requires-clause-first g c κs within = (c.requires.first.0, c.loop-node.invariant.3 c.requires.first.0 c.requires.first.1)
 
 pub loop-node-preserved : goal.loop-node-preserved
-loop-node-preserved g c =
-    (tt, tt, started_more node_of (is_ready g.F.BranchWork.kit g.F.BranchWork.may) _ _ _ _ _ c.in-Some.node _ _ _ c.loop-node.invariant.2 c.in-Some.ensures.steps.0 c.start-left.ensures.node c.push_reserved.ensures.items c.push_reserved.ensures.capacity,
-     λ copies f. c.start-left.ensures.first copies (c.loop-node.invariant.3 copies f))
+loop-node-preserved g c = (
+  tt,
+  tt,
+  started_more node_of (is_ready g.F.BranchWork.kit g.F.BranchWork.may) _ _ _ _ _ c.in-Some.node _ _ _ c.loop-node.invariant.2 c.in-Some.ensures.steps.0 c.start-left.ensures.node c.push_reserved.ensures.items c.push_reserved.ensures.capacity,
+  λ copies f. c.start-left.ensures.first copies (c.loop-node.invariant.3 copies f),
+)
 
 pub returns-clause-first : goal.returns-clause-first
 returns-clause-first g c = λ copies f. c.loop-node.invariant.3 copies f

@@ -17,4 +17,4 @@ invariant-loop-work g l =
     (goal.iterator-loop-work g).is_finite l.work-iterator ×
     ((packets : List (PlainMessage PlainApart)) × (functions : _) × (copies : Field → ℕ) × AreLaid g.F.BranchWork.kit g.F.BranchWork.may l.count packets functions copies (map plain_stage (into_iter_items l.work-iterator)) l.source l.nodes.items) ×
     ((packets : List (PlainMessage PlainApart)) (functions : _) (copies : Field → ℕ) → AreLaid g.F.BranchWork.kit g.F.BranchWork.may l.count packets functions copies (map plain_stage l.fn.stages.items) l.initial.source l.fn.nodes.items →
-        AreLaid g.F.BranchWork.kit g.F.BranchWork.may l.count packets functions copies (map plain_stage (into_iter_items l.work-iterator)) l.source l.nodes.items)
+    AreLaid g.F.BranchWork.kit g.F.BranchWork.may l.count packets functions copies (map plain_stage (into_iter_items l.work-iterator)) l.source l.nodes.items)
