@@ -3,9 +3,11 @@
 //! [`run_nodes`] leads a burst of packets through the stages of a graph. In each stage a dealer takes the
 //! packets in their order and deals each to the branches; a branch leads every version that it is dealt
 //! through its functions; and the mergers put together what comes of a packet from all branches, merger i of
-//! m the packets i, i + m, i + 2m and so on. Dealers, branches and mergers are the nodes of `stage_nodes`. Each
-//! runs on a thread of its own where one can be started; else the caller runs it at once, to its end, and goes
-//! on with the next.
+//! m the packets i, i + m, i + 2m and so on. Dealers, branches and mergers are the nodes of `stage_nodes`. The
+//! caller runs the dealer of the first stage, which asks for one packet of the burst after another, and then
+//! puts the packets that come behind the last stage together to their frames. Each other node runs on a thread
+//! of its own where one can be started; else the caller runs it to its end, once it has dealt all packets, and
+//! goes on with the next.
 //!
 //! What the branches of a stage give comes to its mergers in one of two ways ([`MergeWay`]). Over links, each
 //! branch has a link to each merger, and a merger asks its links in branch order. On a board (`message_boards`),
@@ -17,10 +19,10 @@
 //!
 //! Who waits for whom: a branch waits for its dealer, a merger for the dealer and the branches of its stage, a
 //! dealer for the mergers of the stage before, and the caller for the mergers of the last stage. The first
-//! dealer has the burst itself. Whoever waits looks again and again, and pauses between two looks. Nobody waits
-//! for room, since all links, boards and tables are made before the first node starts, with room for all that
-//! is due on them (`message_links`); so a node can be run before those that take from it, and nodes are
-//! started in the order in which packets come to them.
+//! dealer waits for nobody: it has the burst itself. Whoever waits looks again and again, and pauses between two
+//! looks. Nobody waits for room, since all links, boards and tables are made before the first node starts, with
+//! room for all that is due on them (`message_links`); so a node can be run before those that take from it, and
+//! nodes are started in the order in which packets come to them.
 //!
 //! What is promised, over all interleavings: what comes of the packets is what the stages make of them one
 //! after another (`through` of `stage_nodes`' definitions), each branch's functions are those after all its
@@ -31,8 +33,8 @@
 //!
 //! How it is laid out: `fans` makes the links by which a stream is shared in turn, `meeting` where the branches
 //! of a stage meet its mergers, by `over_links` or `on_board`, `branches`, `mergers` and `wire` the nodes of a
-//! stage, `start` starts and joins a node, `collect` takes what comes behind the last stage, and `run` puts it
-//! all together.
+//! stage, `first` runs the dealer of the first stage, `start` starts and joins a node, `collect` takes what comes
+//! behind the last stage, and `run` puts it all together.
 //!
 //! What is left out: that a call which waits ever returns, and so that a run ends.
 #![tactic(auto)]

@@ -3,3 +3,4 @@ mod Starting
 mod Ending
 mod Passing
 mod Leading
+mod Framing

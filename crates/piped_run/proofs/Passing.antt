@@ -9,8 +9,9 @@ use Rattle.graph_compile.specs.Facts.{IsLawful, IsFull}
 use Rattle.graph_compile.specs.declared.graph.Graph.{Graph}
 use Rattle.graph_compile.specs.declared.graph.Stage.{Stage}
 use Rattle.packet_version.specs.Tallies.{count_of, raised}
+use Rattle.chain_walk.specs.declared.walk.Fate.{Fate}
+use Rattle.merge_ops.specs.Fates.{fate_behind}
 use Rattle.merge_ops.specs.declared.merging.Merged.{Merged}
-use Rattle.merge_ops.specs.declared.merging.Merged.TheVariants as ends
 use Rattle.burst_law.specs.Stations.{Turn, one_by_one}
 use Rattle.burst_law.specs.Owned.{owned_by}
 use Rattle.burst_law.specs.Bursts.{Message, chain_burst}
@@ -21,9 +22,10 @@ use Rattle.graph_run.specs.Running.{IsRunning}
 use Rattle.joined_run.specs.Leaving.{KeepsRests}
 use Rattle.joined_run.specs.Messages.{as_message}
 use Rattle.stage_nodes.specs.Streams.{PlainStage, of_merged, as_merged, through, ends_of}
-use Rattle.node_run.specs.Runs.{flat}
+use Rattle.node_run.specs.Runs.{fates_behind, flat}
 use Rattle.stream_law.specs.Owned.{PlainOwned, owned_kit}
 use Rattle.stream_law.specs.Works.{works_of}
+use Rattle.piped_run.specs.Frames.{EndsAs}
 use Rattle.piped_run.proofs.Starting.{owned_many}
 
 -- the laws that are cited
@@ -77,18 +79,16 @@ ends_fit {F} stages ends functions is = counted ends ∙ ap (map (λ own. length
     counted [] = refl
     counted (l ∷ ends) = λ i. sym (length-map l (λ o. o.functions)) i ∷ counted ends i
 
--- a packet as a message, and back again
-there_and_back : (packets : List Merged) → map as_merged (map of_merged packets) ≡ packets
-there_and_back [] = refl
-there_and_back (ends.Whole w ∷ packets) = λ i. ends.Whole w ∷ there_and_back packets i
-there_and_back (ends.Gone p ∷ packets) = λ i. ends.Gone p ∷ there_and_back packets i
-there_and_back (ends.Short ∷ packets) = λ i. ends.Short ∷ there_and_back packets i
-
 -- the packets behind the last stage
-pub came_through : {F : Type 0} (b : Behaviour F) (works was : List (PlainStage (PlainOwned F))) (packets after : List Merged) → works ≡ was → map of_merged after ≡ through (owned_kit b) works (map of_merged packets) →
-    map as_merged (through (owned_kit b) was (map of_merged packets)) ≡ after
-came_through {F} b works was packets after is came =
-    ap (λ (l : List (PlainStage (PlainOwned F))). map as_merged (through (owned_kit b) l (map of_merged packets))) (sym is) ∙ ap (map as_merged) (sym came) ∙ there_and_back after
+pub ended_as : {F : Type 0} (b : Behaviour F) (works was : List (PlainStage (PlainOwned F))) (functions : List F) (packets : List Merged) (fates : List Fate) → works ≡ was → fates ≡ fates_behind (through (owned_kit b) works (map of_merged packets)) →
+    map as_message (map as_merged (through (owned_kit b) was (map of_merged packets))) ≡ (chain_burst b functions (map as_message packets)).gives → KeepsRests packets (map as_merged (through (owned_kit b) was (map of_merged packets))) →
+    EndsAs b functions packets fates
+ended_as {F} b works was functions packets fates is told ended rests = record {
+  behind = map as_merged (through (owned_kit b) was (map of_merged packets));
+  fated = told ∙ ap (λ (l : List (PlainStage (PlainOwned F))). fates_behind (through (owned_kit b) l (map of_merged packets))) is;
+  packets_are = ended;
+  rests = rests;
+}
 
 -- counts that rise by what was counted from nothing
 raised_twice : (old made new n : ℕ) → made ≡ raised 0 n → new ≡ raised old made → new ≡ raised old n
@@ -130,6 +130,15 @@ none_passed b graph functions [] tally none = record {
   counted = λ f. nothing (count_of tally f) ∙ ap (raised (count_of tally f)) (sym (no_copies b graph functions f));
 }
 none_passed b graph functions (m ∷ apart) tally none = absurd (omega arith)
+
+no_fates : (apart : List Merged) → length apart ≡ 0 → ◌≡◌ {A = List Fate} [] (map fate_behind apart)
+no_fates [] none = refl
+no_fates (m ∷ apart) none = absurd (omega arith)
+
+pub none_ends : {F : Type 0} (b : Behaviour F) (graph : Graph) (functions : List F) (apart : List Merged) (tally : List ℕ) (fates : List Fate) → length apart ≡ 0 → fates ≡ [] → EndsAs b functions apart fates
+none_ends b graph functions apart tally fates none is =
+    let passed = none_passed b graph functions apart tally none in
+    record { behind = apart; fated = is ∙ no_fates apart none; packets_are = passed.packets_are; rests = passed.rests }
 
 -- the functions behind the last stage, by stage and branch again
 pub gone_back : {F V : Type 0} (items : V → List (List F)) (b : Behaviour F) (graph : Graph) (stages : List Stage) (functions : List F) (packets : List Merged) (works was : List (PlainStage (PlainOwned F))) (done : List (PlainOwned F)) (owned : List V) →

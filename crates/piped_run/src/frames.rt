@@ -84,11 +84,7 @@ fn take_apart(alloc: Global, item: &Item, unit: Unit, taggers: u32) -> Merged
 
 /// The record numbers of the packets of these items that are of the chain with this number, in their order. The one
 /// refusal is want of memory.
-pub(crate) fn numbers_of(
-    alloc: Global,
-    items: &[Item],
-    chain: u32,
-) -> Result<Vec<u32>, AllocError>
+pub(crate) fn numbers_of(alloc: Global, items: &[Item], chain: u32) -> Result<Vec<u32>, AllocError>
     ensures { (unit : TimeUnit) → IfOk result (λ numbers. length numbers.items ≡ length (packets_taken unit chain items.now)) }
 {
     let mut numbers = Vec::with_capacity(alloc, items.len())?;

@@ -3,8 +3,9 @@
 //! [`run_piped`] does what `run_joined` of `joined_run` does, and promises the same word for word: the packets
 //! end as those that walk through the chain one after another, and so do the functions; the tally rises by the
 //! same copies; want of memory is the one refusal. The way is another: no stage waits for the stage before it.
-//! Each stage has a dealer, its branches and its mergers, and each of these is a node with a thread of its own
-//! where one can be started. A dealer takes a packet, deals it to the branches, and takes the next while they
+//! Each stage has a dealer, its branches and its mergers, and each of these is a node. The first dealer runs in the
+//! caller's thread and takes frames apart as it deals them; each other node has a thread of its own where one can
+//! be started. A dealer takes a packet, deals it to the branches, and takes the next while they
 //! are still at work; a branch takes what it is dealt in the packets' order; a merger puts together what the
 //! branches gave of a packet, and gives it to the next stage's dealer. So a packet may be in the first stage
 //! while the one before it is in the last. The nodes give each other messages over links of one giver and one
@@ -21,8 +22,9 @@
 //!
 //! Why this is the walk is told by `stream_law`: what is due on each link is fixed before the first step, and
 //! what comes behind the last stage is what packets give that walk through the chain one after another.
-//! Here the graph is made the works of nodes (`works`), the nodes are run (`node_run`), and their functions are
-//! given back (`back`); frames are taken apart before and put together behind as in `joined_run`.
+//! Here the graph is made the works of nodes (`works`), frames are taken apart one after another (`frames`), the
+//! nodes are run and put packets together to frames behind the last stage (`node_run`), and their functions are
+//! given back (`back`).
 //!
 //! Each step of a function passes the gate first. No clause speaks of the gate, of threads, or of what goes
 //! on at the same time: what is promised holds for every schedule in which the run ends. That it ends is not

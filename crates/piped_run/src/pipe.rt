@@ -55,11 +55,11 @@ pub(crate) fn pipe_frames<F: Function + Drop + Send, G: Gate + Sync, R: Threads 
     requires few { length (all_apart frames) ≤ 65536 }
     requires some_mergers { 1 ≤ mergers }
     requires few_mergers { mergers ≤ 16 }
-    ensures functions { IfOk result (λ left. left.0.items ≡ (chain_burst F.behaviour functions.items (map as_message (all_apart frames))).state) }
-    ensures fates { IfOk result (λ left. EndsAs F.behaviour functions.items (all_apart frames) left.1.items) }
+    ensures functions { IfOk result (λ left. left.0.items ≡ (chain_burst F.behaviour functions.items (map as_message (all_apart frames.entry))).state) }
+    ensures fates { IfOk result (λ left. EndsAs F.behaviour functions.items (all_apart frames.entry) left.1.items) }
     ensures running { IfOk result (λ left. IsRunning F.behaviour left.0.items graph.now) }
-    ensures counted { OnOk result (RaisesAll (λ f. chain_copies F.behaviour graph.now.stages f functions.items (map as_message (all_apart frames))) tally.old tally.new) }
-    ensures refused { OnErr result (RaisesUpTo (λ f. chain_copies F.behaviour graph.now.stages f functions.items (map as_message (all_apart frames))) tally.old tally.new) }
+    ensures counted { OnOk result (RaisesAll (λ f. chain_copies F.behaviour graph.now.stages f functions.items (map as_message (all_apart frames.entry))) tally.old tally.new) }
+    ensures refused { OnErr result (RaisesUpTo (λ f. chain_copies F.behaviour graph.now.stages f functions.items (map as_message (all_apart frames.entry))) tally.old tally.new) }
 {
     functions_keep_to_profiles::<F>();
     burst_is_chain::<F>();
