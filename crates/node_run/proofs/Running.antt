@@ -25,7 +25,7 @@ use Rattle.node_run.specs.declared.first.First.{First}
 use Rattle.node_run.specs.declared.wire.WiredStage.{WiredStage}
 use Rattle.node_run.specs.Firsts.{IsDue, IsFirst}
 use Rattle.node_run.specs.Nodes.{AreNodes, Keeps, added, in_turn, copies_by, copies_by_all, gather, no_copies}
-use Rattle.node_run.specs.Runs.{AreLaid, AreStarted, CanRun, Collects, IsLaid, fates_behind, flat, is_found}
+use Rattle.node_run.specs.Runs.{AreLaid, AreStarted, CanRun, Collects, HasLed, HasRun, IsLaid, fates_behind, flat, is_found}
 use Rattle.node_run.specs.Wired.{IsWired}
 use Rattle.node_run.proofs.Shares.{came_all}
 use Rattle.node_run.proofs.Wiring.{nodes_are, passed_length, stage_pushed}
@@ -237,10 +237,20 @@ pub can_run : {F S H : Type 0} (k : Kit F) (may : F → ℕ → PlainVersion →
     → IsFirst comes made first → IsLaid k may count packets functions copies behind laid → started ≡ [] → length laid ≤ room → CanRun k may comes made first laid started room count behind packets
 can_run k may comes count room packets functions made copies first behind laid started d h e le = record { deals = d; ready = h.nodes.ready; empty = e; fits = le; long = h.long; takes = h.takes }
 
--- the copies of all dealers
-pub copies_of_all : {F : Type 0} (k : Kit F) (all todo : List (PlainStage F)) (s : PlainStage F) (xs : List (PlainMessage PlainApart)) (f : Field) → all ≡ s ∷ todo → dealer_copies s.parts.touches xs f + copies_along k todo (passed k s xs) f ≡ copies_along k all xs f
+-- what a run of the laid nodes gave is what the stages make of the packets
+copies_of_all : {F : Type 0} (k : Kit F) (all todo : List (PlainStage F)) (s : PlainStage F) (xs : List (PlainMessage PlainApart)) (f : Field) → all ≡ s ∷ todo → dealer_copies s.parts.touches xs f + copies_along k todo (passed k s xs) f ≡ copies_along k all xs f
 unfolding copies_along
 copies_of_all k all todo s xs f t = ap (λ y. copies_along k y xs f) (sym t)
+
+pub led_by : {F : Type 0} (k : Kit F) (may : F → ℕ → PlainVersion → Type 0) (count : ℕ) (all todo : List (PlainStage F)) (s : PlainStage F) (xs : List (PlainMessage PlainApart)) (behind : List (List (PlainMessage PlainApart))) (laid : List (Node F)) (functions : List F) (fates : List Fate) (tally : List ℕ)
+    → all ≡ s ∷ todo → IsLaid k may count (through k all xs) (flat (ends_of k all xs)) (λ f. copies_along k todo (passed k s xs) f) behind laid
+    → HasRun k (dealer_copies s.parts.touches xs) laid (through k all xs) functions fates tally → HasLed k all xs functions fates tally
+led_by k may count all todo s xs behind laid functions fates tally t h r = record {
+  gives = r.gives ∙ h.nodes.gives;
+  told = r.told;
+  found = r.found;
+  counted = λ f. r.counted f ∙ ap (raised 0) (ap (λ y. dealer_copies s.parts.touches xs f + y) (h.nodes.makes f) ∙ copies_of_all k all todo s xs f t);
+}
 
 -- no stage
 pub none_through : {F : Type 0} (k : Kit F) (all : List (PlainStage F)) (xs : List (PlainMessage PlainApart)) → all ≡ [] → through k all xs ≡ xs

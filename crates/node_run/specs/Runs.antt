@@ -81,3 +81,10 @@ pub record HasRun {F : Type 0} (k : Kit F) (copies : Field → ℕ) (nodes : Lis
   pub told : fates ≡ fates_behind due
   pub found : All is_found due
   pub counted : (f : Field) → count_of tally f ≡ raised 0 (copies f + copies_by_all f nodes)
+
+-- what the nodes of these stages made of these packets: the functions that are left, the packets' fates, and the copies
+pub record HasLed {F : Type 0} (k : Kit F) (stages : List (PlainStage F)) (xs : List (PlainMessage PlainApart)) (functions : List F) (fates : List Fate) (tally : List ℕ) : Type 0 where
+  pub gives : functions ≡ flat (ends_of k stages xs)
+  pub told : fates ≡ fates_behind (through k stages xs)
+  pub found : All is_found (through k stages xs)
+  pub counted : (f : Field) → count_of tally f ≡ raised 0 (copies_along k stages xs f)

@@ -8,7 +8,7 @@ ghost use Rattle.stage_nodes.specs.Streams.{copies_along, ends_of, through};
 ghost use Rattle.stage_nodes.specs.Flows.{MayPassAll};
 ghost use Rattle.node_run.specs.Firsts.{IsFirst};
 ghost use Rattle.node_run.specs.Nodes.{added, copies_by_all, gather, is_ready};
-ghost use Rattle.node_run.specs.Runs.{AreLaid, CanRun, HasRun, IsLaid, fates_behind, flat, is_found};
+ghost use Rattle.node_run.specs.Runs.{AreLaid, CanRun, HasLed, HasRun, IsLaid, fates_behind, flat, is_found};
 ghost use Rattle.node_run.specs.Stages.{plain_stage};
 ghost use Rattle.node_run.specs.Starts.{node_of};
 
@@ -75,11 +75,40 @@ pub fn run_nodes<
     // The copies of each field that the dealers made.
     ensures counted { IfOk result (λ ran. (f : Field) → count_of ran.2 f ≡ raised 0 (copies_along F.kit (map plain_stage stages.items) D.due f)) }
 {
-    let mut stages = stages;
     if stages.is_empty() {
         let fates = collect(rt, alloc, packets, count)?;
         return Ok((Vec::new(alloc), fates, Tally::new()));
     }
+    run_stages::<F, S, D, R, G>(rt, alloc, gate, stages, packets, count, mergers, way)
+}
+
+/// The same where there is a stage.
+fn run_stages<
+    F: BranchWork + Drop + Send,
+    S: Supply + Drop,
+    D: LinkDue<Parcel<Apart>>,
+    R: Threads + Wait + Sync,
+    G: Gate + Sync,
+>(
+    rt: &R,
+    alloc: Global,
+    gate: &G,
+    stages: Vec<StageWork<F>>,
+    packets: S,
+    count: u32,
+    mergers: u32,
+    way: MergeWay,
+) -> Result<(Vec<F>, Vec<Fate>, Tally), AllocError>
+    requires stages { 0 < length stages.items }
+    requires some { 0 < mergers }
+    requires few_mergers { mergers ≤ 16 }
+    requires few { count < 65537 }
+    requires many { length D.due ≡ count }
+    requires come { S.comes packets D.due }
+    requires pass { MayPassAll F.kit F.may (map plain_stage stages.items) D.due }
+    ensures { IfOk result (λ ran. HasLed F.kit (map plain_stage stages.items) D.due ran.0.items ran.1.items ran.2) }
+{
+    let mut stages = stages;
     let work = take_first(&mut stages);
     let wired = wire_stage::<F, S, D>(alloc, work, packets, mergers, way, count)?;
     let WiredStage {
