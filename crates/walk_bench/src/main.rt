@@ -1,11 +1,11 @@
 //! Leads the same burst of packets through the chain of a policy again and again, through the graph on one thread, through the
-//! graph on threads that are joined behind each stage, or with each dealer, branch and merger on a thread of its own, or by the walk
+//! graph on threads that are joined behind each stage, or with its dealers, branches and mergers side by side, or by the walk
 //! of whole frames, or looks for the patterns of its functions alone, or reads the same bytes: what `bench/walk` and `bench/payload`
 //! measure. Its words are `graph`, `joined`, `threads`, `piped`, `board`, `walk`, `search`, `pass` or `none`, how often, the length of
 //! each frame in bytes, the policy, how many mergers (1 where it isn't said), and how many packets a burst has (1,024). `piped` and
 //! `board` are the run by which the program goes, which takes threads where they pay: in `piped` what branches give goes over links to
 //! the mergers, in `board` onto a board. In `threads` each burst goes as the first one of `piped` does. The functions of the first
-//! chain are taken as declared.
+//! chain are taken as declared. Of the bursts that are led through a chain stderr has the nanoseconds of the one that took least.
 #![tactic(auto)]
 
 ghost use Rattle.std.specs.Prelude.{◌≤◌, length, vec_len};
@@ -19,7 +19,7 @@ use frames::{BURST, burst_of};
 use net_functions::{NetFunction, build};
 use piped_run::MergeWay;
 use policy_text::{BuildFault, ChainPolicy, FunctionDecl, parse};
-use runs::{Counts, Way, by_walk, through_graph, through_threads};
+use runs::{Counts, Least, Way, by_walk, through_graph, through_threads};
 use search::{pass, search};
 use std::alloc::Global;
 use std::rt::{Clock, Files};
@@ -61,7 +61,7 @@ struct Run<'a> {
 }
 
 fn lead(
-    rt: &(impl Alloc<A = Global> + Print + Threads + Wait + Clock + Sync),
+    rt: &(impl Alloc<A = Global> + Print + Eprint + Threads + Wait + Clock + Sync),
     run: &Run,
     chain: &ChainPolicy,
 ) -> io::Result<()> {
@@ -82,7 +82,8 @@ fn lead(
         "piped" => tell_threads(rt, functions, &burst, run, Way::Piped(MergeWay::Inbox)),
         "board" => tell_threads(rt, functions, &burst, run, Way::Piped(MergeWay::Board)),
         "walk" => {
-            let out = by_walk(rt, alloc, &mut functions, &burst, rounds)?;
+            let (out, least) = by_walk(rt, alloc, &mut functions, &burst, rounds)?;
+            tell_least(rt, least)?;
             println!(rt; "out {out}")
         }
         "search" => println!(rt; "found {}", search(&functions, &burst, rounds)),
@@ -92,7 +93,7 @@ fn lead(
 }
 
 fn tell_threads(
-    rt: &(impl Alloc<A = Global> + Print + Threads + Wait + Clock + Sync),
+    rt: &(impl Alloc<A = Global> + Print + Eprint + Threads + Wait + Clock + Sync),
     functions: Vec<NetFunction>,
     burst: &Burst,
     run: &Run,
@@ -113,9 +114,17 @@ fn tell_threads(
     tell(rt, counts)
 }
 
-fn tell(rt: &impl Print, counts: Counts) -> io::Result<()> {
+fn tell(rt: &(impl Print + Eprint), counts: Counts) -> io::Result<()> {
     let (out, copies) = (counts.out, counts.copies);
+    tell_least(rt, counts.least)?;
     println!(rt; "out {out} copies {copies}")
+}
+
+fn tell_least(rt: &impl Eprint, least: Least) -> io::Result<()> {
+    match least.0 {
+        Some(nanos) => eprintln!(rt; "least {nanos}"),
+        None => Ok(()),
+    }
 }
 
 fn main(rt: HostRuntime) -> io::Result<()> {

@@ -19,12 +19,35 @@ use std::alloc::{AllocError, Global};
 use std::rt::Clock;
 use std::sync::Wait;
 use std::thread::Threads;
+use std::time::Instant;
 
-/// How many packets went out, and how many copies were made of parts.
+/// How many packets went out, how many copies were made of parts, and the time of the burst that took least.
 #[derive(Drop)]
 pub struct Counts {
     pub out: u64,
     pub copies: u64,
+    pub least: Least,
+}
+
+/// The nanoseconds of the burst that took least, where the clock told any.
+#[derive(Clone, Copy)]
+pub struct Least(pub Option<u64>);
+
+impl Least {
+    /// With a burst that began then, and is at its end.
+    fn with<R: Clock>(self, rt: &R, start: Option<Instant>) -> Least {
+        let Some(start) = start else {
+            return self;
+        };
+        let Ok(took) = start.elapsed(rt) else {
+            return self;
+        };
+        let nanos = u64::try_from(took.as_nanos()).unwrap_or(u64::MAX);
+        match self.0 {
+            Some(least) => Least(Some(least.min(nanos))),
+            None => Least(Some(nanos)),
+        }
+    }
 }
 
 fn profiles_of<F: Function>(alloc: Global, functions: &[F]) -> Result<Vec<Profile>, AllocError>
@@ -55,8 +78,8 @@ fn outs(fates: &[Fate]) -> u64 {
 }
 
 /// The burst through the graph on one thread, again and again.
-pub fn through_graph(
-    rt: &impl Wait,
+pub fn through_graph<R: Wait + Clock>(
+    rt: &R,
     alloc: Global,
     functions: Vec<NetFunction>,
     burst: &Burst,
@@ -68,13 +91,16 @@ pub fn through_graph(
     let mut run = make_running(alloc, functions)?;
     let mut tally = Tally::new();
     let mut out = 0u64;
+    let mut least = Least(None);
     for _round in 0..rounds {
+        let start = Instant::now(rt).ok();
         let (next, fates) = run_plain(rt, alloc, run, burst, Unit::Micro, 0, &mut tally)?;
+        least = least.with(rt, start);
         run = next;
         out = out.wrapping_add(outs(&fates));
     }
     let copies = copies_in(&tally);
-    Ok(Counts { out, copies })
+    Ok(Counts { out, copies, least })
 }
 
 /// How a burst goes through the graph on threads.
@@ -109,13 +135,16 @@ pub fn through_threads<R: Threads + Wait + Clock + Sync>(
     let mut run = make_running(alloc, functions)?;
     let mut tally = Tally::new();
     let mut out = 0u64;
+    let mut least = Least(None);
     for _round in 0..rounds {
+        let start = Instant::now(rt).ok();
         let (next, fates) = one_round(rt, alloc, run, burst, &mut tally, way, mergers)?;
+        least = least.with(rt, start);
         run = next;
         out = out.wrapping_add(outs(&fates));
     }
     let copies = copies_in(&tally);
-    Ok(Counts { out, copies })
+    Ok(Counts { out, copies, least })
 }
 
 fn one_round<R: Threads + Wait + Clock + Sync>(
@@ -157,21 +186,24 @@ fn copies_in(tally: &Tally) -> u64 {
     copies
 }
 
-/// The burst by the walk of whole frames, again and again: how many packets went out.
-pub fn by_walk(
-    rt: &impl Wait,
+/// The burst by the walk of whole frames, again and again: how many packets went out, and the burst that took least.
+pub fn by_walk<R: Wait + Clock>(
+    rt: &R,
     alloc: Global,
     functions: &mut [NetFunction],
     burst: &Burst,
     rounds: u32,
-) -> Result<u64, AllocError>
+) -> Result<(u64, Least), AllocError>
     requires { length functions.old ≤ 64 }
 {
     let mut out = 0u64;
+    let mut least = Least(None);
     for _round in 0..rounds {
+        let start = Instant::now(rt).ok();
         out = out.wrapping_add(walk_all(rt, alloc, functions, burst)?);
+        least = least.with(rt, start);
     }
-    Ok(out)
+    Ok((out, least))
 }
 
 fn walk_all(
