@@ -8,7 +8,8 @@
 //!
 //! Kinds whose rules ask for clauses share [`read_fit`], which reads them, and [`first_met`], the first rule that a packet meets.
 //!
-//! What a line does to a function is left to its kind.
+//! What a line does to a function is left to its kind. What the lines of a function say is kept as [`SharedItems`], so that the
+//! same function can be there once more without a second copy of them.
 #![tactic(auto)]
 
 mod laws;
@@ -16,8 +17,10 @@ mod line;
 mod reading;
 mod rule;
 mod settings;
+mod shared;
 
 pub use laws::least_refused_line;
 pub use line::FunctionLine;
 pub use reading::read_lines;
 pub use rule::{Fitting, first_met, read_fit};
+pub use shared::SharedItems;
