@@ -1,18 +1,19 @@
 //! Makes a firewall of the lines that declare it.
 
-use crate::firewall::Firewall;
+use crate::firewall::{Firewall, Rule};
 use crate::lines::FirewallLine;
-use function_lines::read_lines;
+use function_lines::{SharedItems, read_lines};
 use item_list::Items;
 use policy_text::{BuildFault, FunctionDecl};
 use std::alloc::{AllocError, Global};
+use std::marker::Model;
 
 impl Firewall {
-    ghost use Rattle.std.specs.Prelude.{◌≡◌, IfOk, OnOk};
+    ghost use Rattle.std.specs.Prelude.{◌≡◌, IfOk};
     ghost use Rattle.action_profile.specs.declared.kind.Kind.{Kind};
     ghost use Rattle.function_lines.specs.Builds.{Builds};
     ghost use Rattle.nf_filter.specs.Lines.{firewall_lines};
-    ghost use Rattle.nf_filter.specs.Firewalls.{open_firewall, with_line, firewall_by};
+    ghost use Rattle.nf_filter.specs.Firewalls.{firewall_by};
 
     /// Makes the firewall that is declared, or names the least line of the declaration that is
     /// refused: one that is no line of a firewall, or a second `set default`.
@@ -28,18 +29,38 @@ impl Firewall {
     fn of_lines(alloc: Global, lines: Items<FirewallLine>) -> Result<Firewall, AllocError>
         ensures { IfOk result (λ firewall. firewall ≡ firewall_by lines) }
     {
-        let mut firewall = Firewall::open(alloc);
+        let mut draft = Draft::open(alloc);
         'lines: for line in lines.into_vec() {
-            firewall.take(line)?;
+            draft.take(line)?;
         }
-        Ok(firewall)
+        draft.into_firewall(alloc)
     }
+}
+
+/// A firewall that may still get rules.
+#[derive(Drop)]
+struct Draft {
+    default: bool,
+    rules: Items<Rule>,
+}
+
+impl Model for Draft {
+    ghost use Rattle.nf_filter.specs.declared.firewall.Firewall.{Firewall};
+
+    ghost Value = { Firewall };
+
+    ghost view = { λ d. record { default = d.default; rules = d.rules } };
+}
+
+impl Draft {
+    ghost use Rattle.std.specs.Prelude.{◌≡◌, IfOk, OnOk};
+    ghost use Rattle.nf_filter.specs.Firewalls.{open_firewall, with_line};
 
     // Allows every packet.
-    fn open(alloc: Global) -> Firewall
+    fn open(alloc: Global) -> Draft
         ensures { result ≡ open_firewall }
     {
-        Firewall {
+        Draft {
             default: true,
             rules: Items::new(Vec::new(alloc)),
         }
@@ -54,5 +75,14 @@ impl Firewall {
             FirewallLine::Rule(rule) => self.rules.push(rule)?,
         }
         Ok(())
+    }
+
+    // With its rules ready to be shared.
+    fn into_firewall(self, alloc: Global) -> Result<Firewall, AllocError>
+        ensures { IfOk result (λ firewall. firewall ≡ self) }
+    {
+        let Draft { default, rules } = self;
+        let rules = SharedItems::new(alloc, rules)?;
+        Ok(Firewall { default, rules })
     }
 }

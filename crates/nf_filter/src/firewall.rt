@@ -2,8 +2,7 @@
 use crate::verdict::verdict;
 use chain_walk::Verdict;
 use frame_seen::{seen_address, seen_port, seen_tags};
-use function_lines::{Fitting, first_met};
-use item_list::Items;
+use function_lines::{Fitting, SharedItems, first_met};
 use packet_fields::Field;
 use packet_version::{View, unwritten_stays};
 use policy_text::{Match, Seen};
@@ -29,12 +28,22 @@ impl Fitting for Rule {
 pub struct Firewall {
     /// Does a packet pass that meets no rule?
     pub default: bool,
-    pub rules: Items<Rule>,
+    pub rules: SharedItems<Rule>,
 }
 
 impl Firewall {
-    ghost use Rattle.std.specs.Prelude.{◌≡◌};
+    ghost use Rattle.std.specs.Prelude.{◌≡◌, IfOk};
     ghost use Rattle.nf_filter.specs.Firewalls.{passes};
+
+    /// The same firewall once more, with the same rules in memory. Its one refusal is want of memory.
+    pub fn try_clone(&self) -> Result<Firewall, AllocError>
+        ensures { IfOk result (λ same. same ≡ self.now) }
+    {
+        Ok(Firewall {
+            default: self.default,
+            rules: self.rules.try_clone()?,
+        })
+    }
 
     /// Does a packet of which this is seen pass?
     #[tactic(auto, unfolding(crate::specs::Firewalls::passes))]

@@ -16,6 +16,9 @@
 //! searches the bytes that the view lends ([`Signature::step`]), and takes no memory. Its meaning is `signature_behaviour` of
 //! `specs/Signatures.antt`, and that it keeps to its profile is `signature_keeps` of `specs/SignatureLaws.antt`. A pattern that
 //! begins in one packet and ends in another is not found: no packet is remembered.
+//!
+//! Neither keeps a state, so the same function may be in several places: [`Firewall::try_clone`] and [`Signature::try_clone`] give it
+//! once more, over the same rules or patterns in memory.
 #![tactic(auto)]
 
 mod build;

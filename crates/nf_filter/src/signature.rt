@@ -1,8 +1,7 @@
 //! A signature, and what it decides.
 use crate::verdict::verdict;
 use chain_walk::Verdict;
-use function_lines::read_lines;
-use item_list::Items;
+use function_lines::{SharedItems, read_lines};
 use packet_fields::Field;
 use packet_version::{View, unwritten_stays};
 use patterns::{Pattern, first_occurring};
@@ -13,11 +12,11 @@ use std::alloc::{AllocError, Global};
 #[derive(Debug, Drop)]
 pub struct Signature {
     /// Each with the search for it, which was made when the signature was.
-    pub patterns: Items<Pattern>,
+    pub patterns: SharedItems<Pattern>,
 }
 
 impl Signature {
-    ghost use Rattle.std.specs.Prelude.{◌≡◌, Ok, true, is_ok};
+    ghost use Rattle.std.specs.Prelude.{◌≡◌, Ok, true, is_ok, IfOk};
     ghost use Rattle.action_profile.specs.declared.kind.Kind.{Kind};
     ghost use Rattle.packet_version.specs.Views.{viewed, wrote_all};
     ghost use Rattle.function_lines.specs.Builds.{Builds};
@@ -31,7 +30,18 @@ impl Signature {
         ensures { Builds pattern_lines signature_by decl.now result }
     {
         let patterns = read_lines::<Pattern>(alloc, decl)?;
-        Ok(Signature { patterns })
+        Ok(Signature {
+            patterns: SharedItems::new(alloc, patterns)?,
+        })
+    }
+
+    /// The same signature once more, with the same patterns in memory. Its one refusal is want of memory.
+    pub fn try_clone(&self) -> Result<Signature, AllocError>
+        ensures { IfOk result (λ same. same ≡ self.now) }
+    {
+        Ok(Signature {
+            patterns: self.patterns.try_clone()?,
+        })
     }
 
     /// Judges one packet through a view of a signature's profile, by the bytes that the view lends. It writes nothing

@@ -8,6 +8,7 @@ use action_profile::{Kind, profile};
 use chain_walk::Fate;
 use classifier::{Burst, Item};
 use fixtures::UDP;
+use function_lines::SharedItems;
 use graph_compile::compile;
 use graph_run::{Running, run_plain};
 use item_list::Items;
@@ -24,20 +25,18 @@ pub(crate) fn open_and_shut(alloc: Global) -> Result<Vec<NetFunction>, AllocErro
     ensures { IfOk result (λ functions. map net_behaviour.profile functions.items ≡ profile_of Kind.Firewall ∷ profile_of Kind.Firewall ∷ []) }
 {
     let mut functions = Vec::with_capacity(alloc, 2)?;
-    functions.push(firewall(alloc, true))?;
-    functions.push(firewall(alloc, false))?;
+    functions.push(firewall(alloc, true)?)?;
+    functions.push(firewall(alloc, false)?)?;
     Ok(functions)
 }
 
 /// A firewall without rules.
 #[tactic(auto, unfolding(net_functions::specs::NetFunctions::profile_by))]
-pub(crate) fn firewall(alloc: Global, default: bool) -> NetFunction
-    ensures { net_behaviour.profile result ≡ profile_of Kind.Firewall }
+pub(crate) fn firewall(alloc: Global, default: bool) -> Result<NetFunction, AllocError>
+    ensures { IfOk result (λ firewall. net_behaviour.profile firewall ≡ profile_of Kind.Firewall) }
 {
-    NetFunction::Firewall(Firewall {
-        default,
-        rules: Items::new(Vec::new(alloc)),
-    })
+    let rules = SharedItems::new(alloc, Items::new(Vec::new(alloc)))?;
+    Ok(NetFunction::Firewall(Firewall { default, rules }))
 }
 
 fn packet(alloc: Global) -> Result<Frame, AllocError> {

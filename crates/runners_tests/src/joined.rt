@@ -42,7 +42,7 @@ pub(crate) fn open_and_hop(alloc: Global) -> Result<Vec<NetFunction>, AllocError
     ensures { IfOk result (λ functions. map net_behaviour.profile functions.items ≡ profile_of Kind.Firewall ∷ profile_of Kind.Hop ∷ []) }
 {
     let mut functions = Vec::with_capacity(alloc, 2)?;
-    functions.push(firewall(alloc, true))?;
+    functions.push(firewall(alloc, true)?)?;
     functions.push(NetFunction::Hop(Hop))?;
     Ok(functions)
 }
