@@ -21,7 +21,8 @@
 //! `specs/Nexthops.antt`, `hop_behaviour` of `specs/Hops.antt`, `tagger_behaviour` of `specs/Taggers.antt`,
 //! `untagger_behaviour` of `specs/Untaggers.antt` and `redactor_behaviour` of `specs/Redactors.antt`. They see a packet through a view
 //! of a version of it (`step`), and take no memory there. That they keep to their profiles are `marker_keeps`, `nexthop_keeps`, `hop_keeps`, `tagger_keeps`,
-//! `untagger_keeps` and `redactor_keeps`, each in a file of `specs/` of its own. None has a state, so none has lines that tell it.
+//! `untagger_keeps` and `redactor_keeps`, each in a file of `specs/` of its own. None has a state, so none has lines that tell it, and the same function may be in several
+//! places: `try_clone` gives it once more, over the same rules or patterns in memory, and a hop and an untagger are `Copy`.
 //!
 //! In other words than the steps, [`new_tag_is_outermost`] says that clauses see the VLAN id of a new tag, and that an untagger takes
 //! it off again.

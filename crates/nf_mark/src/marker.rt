@@ -6,8 +6,7 @@ mod lines;
 use crate::present::has_field;
 use chain_walk::Verdict;
 use frame_seen::{seen_address, seen_port};
-use function_lines::{Fitting, first_met};
-use item_list::Items;
+use function_lines::{Fitting, SharedItems, first_met};
 use packet_fields::Field;
 use packet_version::{View, unwritten_stays, written_is_one_value};
 use policy_text::{Match, Seen, TagSeen};
@@ -32,11 +31,11 @@ impl Fitting for MarkRule {
 /// Rules, of which the first that a packet meets says its type of service.
 #[derive(Debug, Drop)]
 pub struct Marker {
-    pub rules: Items<MarkRule>,
+    pub rules: SharedItems<MarkRule>,
 }
 
 impl Marker {
-    ghost use Rattle.std.specs.Prelude.{◌≡◌, Ok, length, true, is_ok, IsSome};
+    ghost use Rattle.std.specs.Prelude.{◌≡◌, Ok, length, true, is_ok, IsSome, IfOk};
     ghost use Rattle.action_profile.specs.Profiles.{profile_of};
     ghost use Rattle.action_profile.specs.declared.kind.Kind.{Kind};
     ghost use Rattle.packet_fields.specs.declared.field.Field.{Field};
@@ -82,6 +81,15 @@ impl Marker {
             Some(rule) => Some(rule.tos),
             None => None,
         }
+    }
+
+    /// The same marker once more, with the same rules in memory. Its one refusal is want of memory.
+    pub fn try_clone(&self) -> Result<Marker, AllocError>
+        ensures { IfOk result (λ same. same ≡ self.now) }
+    {
+        Ok(Marker {
+            rules: self.rules.try_clone()?,
+        })
     }
 
     /// Appends the lines of its state, of which a marker has none.

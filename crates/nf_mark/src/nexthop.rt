@@ -7,8 +7,7 @@ use crate::link_address::LinkAddress;
 use crate::present::has_field;
 use chain_walk::Verdict;
 use frame_seen::seen_address;
-use function_lines::{Fitting, first_met};
-use item_list::Items;
+use function_lines::{Fitting, SharedItems, first_met};
 use packet_fields::Field;
 use packet_version::{View, later_write_stands_over, unwritten_stays, written_is_one_value};
 use policy_text::{Match, Seen, TagSeen};
@@ -36,11 +35,11 @@ impl Fitting for NexthopRule {
 /// Rules, of which the first whose prefix holds a packet's destination says over which link it goes.
 #[derive(Debug, Drop)]
 pub struct Nexthop {
-    pub rules: Items<NexthopRule>,
+    pub rules: SharedItems<NexthopRule>,
 }
 
 impl Nexthop {
-    ghost use Rattle.std.specs.Prelude.{◌≡◌, Ok, true, is_ok, IsSome};
+    ghost use Rattle.std.specs.Prelude.{◌≡◌, Ok, true, is_ok, IsSome, IfOk};
     ghost use Rattle.std.specs.Option.{option_copied};
     ghost use Rattle.action_profile.specs.Profiles.{profile_of};
     ghost use Rattle.action_profile.specs.declared.kind.Kind.{Kind};
@@ -79,6 +78,15 @@ impl Nexthop {
             return None;
         }
         first_met(self.rules.as_slice(), &seen_in(view))
+    }
+
+    /// The same nexthop once more, with the same rules in memory. Its one refusal is want of memory.
+    pub fn try_clone(&self) -> Result<Nexthop, AllocError>
+        ensures { IfOk result (λ same. same ≡ self.now) }
+    {
+        Ok(Nexthop {
+            rules: self.rules.try_clone()?,
+        })
     }
 
     /// Appends the lines of its state, of which a nexthop has none.

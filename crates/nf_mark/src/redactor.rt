@@ -1,7 +1,6 @@
 //! A redactor, and what it overwrites.
 use chain_walk::Verdict;
-use function_lines::read_lines;
-use item_list::Items;
+use function_lines::{SharedItems, read_lines};
 use packet_fields::Field;
 use packet_version::{View, unwritten_stays, written_is_one_value};
 use patterns::{Pattern, first_occurring, redact};
@@ -12,11 +11,11 @@ use std::alloc::{AllocError, Global};
 #[derive(Debug, Drop)]
 pub struct Redactor {
     /// Each with the search for it, which was made when the redactor was.
-    pub patterns: Items<Pattern>,
+    pub patterns: SharedItems<Pattern>,
 }
 
 impl Redactor {
-    ghost use Rattle.std.specs.Prelude.{◌≡◌, Ok, true, is_ok};
+    ghost use Rattle.std.specs.Prelude.{◌≡◌, Ok, true, is_ok, IfOk};
     ghost use Rattle.action_profile.specs.Profiles.{profile_of};
     ghost use Rattle.action_profile.specs.declared.kind.Kind.{Kind};
     ghost use Rattle.packet_fields.specs.declared.field.Field.{Field};
@@ -32,7 +31,18 @@ impl Redactor {
         ensures { Builds pattern_lines redactor_by decl.now result }
     {
         let patterns = read_lines::<Pattern>(alloc, decl)?;
-        Ok(Redactor { patterns })
+        Ok(Redactor {
+            patterns: SharedItems::new(alloc, patterns)?,
+        })
+    }
+
+    /// The same redactor once more, with the same patterns in memory. Its one refusal is want of memory.
+    pub fn try_clone(&self) -> Result<Redactor, AllocError>
+        ensures { IfOk result (λ same. same ≡ self.now) }
+    {
+        Ok(Redactor {
+            patterns: self.patterns.try_clone()?,
+        })
     }
 
     /// Overwrites the patterns in the data of one packet, through a view of a redactor's profile, in the bytes that the view

@@ -6,8 +6,7 @@ mod lines;
 use crate::present::has_field;
 use chain_walk::Verdict;
 use frame_seen::{seen_address, seen_tags};
-use function_lines::{Fitting, first_met};
-use item_list::Items;
+use function_lines::{Fitting, SharedItems, first_met};
 use packet_fields::Field;
 use packet_version::{View, unwritten_stays, written_is_one_value};
 use policy_text::{Match, Seen};
@@ -33,11 +32,11 @@ impl Fitting for TagRule {
 /// Rules, of which the first that a packet meets says which tag it gets.
 #[derive(Debug, Drop)]
 pub struct Tagger {
-    pub rules: Items<TagRule>,
+    pub rules: SharedItems<TagRule>,
 }
 
 impl Tagger {
-    ghost use Rattle.std.specs.Prelude.{◌≡◌, Ok, true, is_ok, IsSome};
+    ghost use Rattle.std.specs.Prelude.{◌≡◌, Ok, true, is_ok, IsSome, IfOk};
     ghost use Rattle.action_profile.specs.Profiles.{profile_of};
     ghost use Rattle.action_profile.specs.declared.kind.Kind.{Kind};
     ghost use Rattle.packet_fields.specs.declared.field.Field.{Field};
@@ -85,6 +84,15 @@ impl Tagger {
             Some(rule) => Some(rule.control),
             None => None,
         }
+    }
+
+    /// The same tagger once more, with the same rules in memory. Its one refusal is want of memory.
+    pub fn try_clone(&self) -> Result<Tagger, AllocError>
+        ensures { IfOk result (λ same. same ≡ self.now) }
+    {
+        Ok(Tagger {
+            rules: self.rules.try_clone()?,
+        })
     }
 
     /// Appends the lines of its state, of which a tagger has none.

@@ -1,7 +1,7 @@
 //! Makes a marker of the lines that declare it.
 
 use crate::marker::{MarkRule, Marker};
-use function_lines::read_lines;
+use function_lines::{SharedItems, read_lines};
 use policy_text::{BuildFault, FunctionDecl};
 use std::alloc::Global;
 
@@ -19,6 +19,8 @@ impl Marker {
         ensures { Builds marker_lines marker_by decl.now result }
     {
         let rules = read_lines::<MarkRule>(alloc, decl)?;
-        Ok(Marker { rules })
+        Ok(Marker {
+            rules: SharedItems::new(alloc, rules)?,
+        })
     }
 }

@@ -1,7 +1,7 @@
 //! Makes a nexthop of the lines that declare it.
 
 use crate::nexthop::{Nexthop, NexthopRule};
-use function_lines::read_lines;
+use function_lines::{SharedItems, read_lines};
 use policy_text::{BuildFault, FunctionDecl};
 use std::alloc::Global;
 
@@ -19,6 +19,8 @@ impl Nexthop {
         ensures { Builds nexthop_lines nexthop_by decl.now result }
     {
         let rules = read_lines::<NexthopRule>(alloc, decl)?;
-        Ok(Nexthop { rules })
+        Ok(Nexthop {
+            rules: SharedItems::new(alloc, rules)?,
+        })
     }
 }

@@ -1,7 +1,7 @@
 //! Makes a tagger of the lines that declare it.
 
 use crate::tagger::{TagRule, Tagger};
-use function_lines::read_lines;
+use function_lines::{SharedItems, read_lines};
 use policy_text::{BuildFault, FunctionDecl};
 use std::alloc::Global;
 
@@ -19,6 +19,8 @@ impl Tagger {
         ensures { Builds tagger_lines tagger_by decl.now result }
     {
         let rules = read_lines::<TagRule>(alloc, decl)?;
-        Ok(Tagger { rules })
+        Ok(Tagger {
+            rules: SharedItems::new(alloc, rules)?,
+        })
     }
 }
