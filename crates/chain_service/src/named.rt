@@ -4,7 +4,7 @@ use action_profile::Profile;
 use net_functions::{Function, NetFunction};
 use packet_version::{Verdict, View};
 use policy_text::Name;
-use std::alloc::AllocError;
+use std::alloc::{AllocError, Global};
 
 /// A function with its name.
 #[derive(Debug, Drop)]
@@ -42,6 +42,14 @@ impl Function for NamedFunction {
 
     fn state_line(&self, place: usize, out: &mut Vec<u8>) -> Result<(), AllocError> {
         self.function.state_line(place, out)
+    }
+
+    fn try_clone(&self, alloc: Global) -> Result<Option<NamedFunction>, AllocError> {
+        let Some(function) = self.function.try_clone(alloc)? else {
+            return Ok(None);
+        };
+        let name = Name::new(self.name.bytes().to_vec(alloc)?);
+        Ok(Some(NamedFunction { name, function }))
     }
 
     ghost keeps = { named_keeps };

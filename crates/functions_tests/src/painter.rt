@@ -6,7 +6,7 @@ use action_profile::{FieldSet, Profile};
 use net_functions::Function;
 use packet_fields::Field;
 use packet_version::{Verdict, View, unwritten_stays, view_is_formed};
-use std::alloc::AllocError;
+use std::alloc::{AllocError, Global};
 
 #[derive(Drop)]
 pub struct Painter {
@@ -59,6 +59,11 @@ impl Function for Painter {
 
     fn state_line(&self, _place: usize, out: &mut Vec<u8>) -> Result<(), AllocError> {
         Ok(out.push(self.count)?)
+    }
+
+    // It keeps a state.
+    fn try_clone(&self, _alloc: Global) -> Result<Option<Painter>, AllocError> {
+        Ok(None)
     }
 
     ghost keeps = { painter_keeps (λ f. f.count) (λ n. record { count = n }) };

@@ -1,5 +1,5 @@
 //! A network function that sees a packet through a view.
-ghost use Rattle.std.specs.Prelude.{◌≡◌, ◌<◌, ◌++◌, ℕ, List, [], length, slice_index_or, true, IfOk, OnOk, OnErr, IsSome};
+ghost use Rattle.std.specs.Prelude.{◌≡◌, ◌<◌, ◌++◌, ℕ, List, [], length, slice_index_or, true, not, is_some, IfOk, OnOk, OnErr, IsSome, IfSome};
 ghost use Rattle.std.specs.List.{flat_map};
 ghost use Rattle.packet_fields.specs.declared.field.Field.{Field};
 ghost use Rattle.chain_walk.specs.Step.{Behaviour};
@@ -8,10 +8,10 @@ ghost use Rattle.packet_version.specs.Views.{seen_parts, viewed, wrote_all, HasT
 
 use action_profile::Profile;
 use packet_version::{Verdict, View};
-use std::alloc::AllocError;
+use std::alloc::{AllocError, Global};
 
 /// A network function of any kind.
-pub trait Function {
+pub trait Function: Sized {
     /// What each function may do, and what it does by what it is shown.
     ghost behaviour: { Behaviour Self };
 
@@ -53,6 +53,12 @@ pub trait Function {
         requires inside { place < length (rows self.now) }
         ensures line { OnOk result (out.new.items ≡ out.old.items ++ slice_index_or (rows self.now) place []) }
         ensures stays { OnErr result (out.new.items ≡ out.old.items) };
+
+    /// The same function once more, where it keeps no state: that of a function with a state can't be in two places.
+    /// Its one refusal is want of memory.
+    fn try_clone(&self, alloc: Global) -> Result<Option<Self>, AllocError>
+        ensures same { IfOk result (λ found. IfSome found (λ function. function ≡ self.now)) }
+        ensures which { IfOk result (λ found. is_some found ≡ not (behaviour.profile self.now).state) };
 
     /// It does what its profile says, and no more.
     ghost keeps: { KeepsProfile behaviour };

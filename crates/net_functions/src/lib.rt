@@ -2,7 +2,8 @@
 //!
 //! A [`Function`] acts on one packet after another through a [`packet_version::View`] of its own profile. What
 //! it does is its `behaviour` (of `chain_walk`), a function of what it is shown alone: whoever runs it
-//! sees the same step whether the packet is whole or in parts. `keeps` says that it keeps to its profile.
+//! sees the same step whether the packet is whole or in parts. `keeps` says that it keeps to its profile. A function whose profile
+//! says that it keeps no state can be had once more ([`Function::try_clone`]), so that several threads run it at once.
 //! [`NetFunction`] is a function of any kind, and [`build`] makes the one that a policy
 //! declares, or names the least line of the declaration that is refused. `frame_walk` leads whole frames
 //! through functions of any kind, with the same behaviour.

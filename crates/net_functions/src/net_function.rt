@@ -7,7 +7,7 @@ use nf_mark::{Hop, Marker, Nexthop, Redactor, Tagger, Untagger};
 use nf_observe::{Limiter, Monitor};
 use nf_translate::{Balancer, Nat};
 use packet_version::{Verdict, View};
-use std::alloc::AllocError;
+use std::alloc::{AllocError, Global};
 
 /// A network function of any kind that is built.
 #[derive(Debug, Drop)]
@@ -123,6 +123,31 @@ impl Function for NetFunction {
             NetFunction::Monitor(monitor) => monitor.state_line(place, out),
             NetFunction::Limiter(limiter) => limiter.state_line(place, out),
             _ => unreachable!(),
+        }
+    }
+
+    #[tactic(auto, unfolding(crate::specs::NetFunctions::profile_by))]
+    fn try_clone(&self, _alloc: Global) -> Result<Option<NetFunction>, AllocError> {
+        match self {
+            NetFunction::Firewall(firewall) => Ok(Some(NetFunction::Firewall(
+                firewall.try_clone()?,
+            ))),
+            NetFunction::Marker(marker) => Ok(Some(NetFunction::Marker(marker.try_clone()?))),
+            NetFunction::Tagger(tagger) => Ok(Some(NetFunction::Tagger(tagger.try_clone()?))),
+            NetFunction::Signature(signature) => Ok(Some(NetFunction::Signature(
+                signature.try_clone()?,
+            ))),
+            NetFunction::Nexthop(nexthop) => Ok(Some(NetFunction::Nexthop(nexthop.try_clone()?))),
+            NetFunction::Redactor(redactor) => Ok(Some(NetFunction::Redactor(
+                redactor.try_clone()?,
+            ))),
+            NetFunction::Hop(hop) => Ok(Some(NetFunction::Hop(*hop))),
+            NetFunction::Untagger(untagger) => Ok(Some(NetFunction::Untagger(*untagger))),
+            // These keep a state.
+            NetFunction::Nat(_)
+            | NetFunction::Balancer(_)
+            | NetFunction::Monitor(_)
+            | NetFunction::Limiter(_) => Ok(None),
         }
     }
 
