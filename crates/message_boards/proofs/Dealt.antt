@@ -1,13 +1,10 @@
 -- The ends of a board, made one after another.
-use Rattle.std.proofs.Common.{◌≡◌, ◌<◌, ◌≤◌, ◌+◌, ◌∙◌, ℕ, zero, suc, List, [], ◌∷◌, ◌++◌, length, map, drop, drop-cons, refl, arith, ap, sym, subst}
-use Rattle.std.proofs.Math.Nat.{mod-eq_of_lt}
+use Rattle.std.proofs.Common.{◌≡◌, ◌<◌, ◌≤◌, ◌+◌, ◌∙◌, ℕ, zero, suc, List, [], ◌∷◌, ◌++◌, length, drop, drop-cons, slice_index_or, refl, arith, ap, sym, subst}
 use Rattle.std.proofs.lemmas.List.Elements.{All-get_or}
 use Rattle.merge_board.specs.Rule.{has}
 use Rattle.merge_board.specs.Ends.{Sized, BranchEnd, MergerEnd, each, new_branch, new_merger}
-use Rattle.message_links.specs.Turns.{share, shares, columns_from, columns}
-use Rattle.message_boards.specs.Rows.{row_of, each_share}
+use Rattle.message_boards.specs.Rows.{row_of}
 use Rattle.message_boards.specs.Kept.{HasRoom, IsGiving, IsTaking}
-use Rattle.message_boards.proofs.Columns.{each_later}
 
 -- so many in a row, from number i on
 unfoldable pub numbered : {S : Type 0} → (ℕ → S) → ℕ → ℕ → List S
@@ -72,29 +69,29 @@ none_left n (x ∷ xs) z e = absurd (omega arith)
 
 module _ {T : Type 0} (board : Sized) (due : List (List T)) where
   -- the outlets of so many branches are made, and these seats are left
-  pub record OutletsSoFar (seats : List (BranchEnd T)) (outlets : List (List (List T))) : Type 0 where
+  pub record OutletsSoFar (seats : List (BranchEnd T)) (outlets : List (List T)) : Type 0 where
     pub next : ℕ
     pub left : ℕ
     pub of_board : seats ≡ numbered (new_branch board.board due) next left
     pub count : next + left ≡ length due
-    pub so_far : outlets ++ map (shares board.mergers) (drop next due) ≡ map (shares board.mergers) due
+    pub so_far : outlets ++ drop next due ≡ due
 
-  pub outlets_begin : (seats : List (BranchEnd T)) (outlets : List (List (List T))) → HasRoom board due → seats ≡ each (new_branch board.board due) board.branches → outlets ≡ []
+  pub outlets_begin : (seats : List (BranchEnd T)) (outlets : List (List T)) → HasRoom board due → seats ≡ each (new_branch board.board due) board.branches → outlets ≡ []
       → OutletsSoFar seats outlets
   outlets_begin seats outlets room is none = record {
     next = 0;
     left = board.branches;
     of_board = is ∙ each_numbered (new_branch board.board due) board.branches;
     count = omega (arith, room.rows);
-    so_far = ap (λ y. y ++ map (shares board.mergers) due) none;
+    so_far = ap (λ y. y ++ due) none;
   }
 
   -- the next seat, and what is so once its outlets are made
-  pub record BranchTurn (seats : List (BranchEnd T)) (s : BranchEnd T) (ss : List (BranchEnd T)) (outlets : List (List (List T))) : Type 0 where
-    pub giving : IsGiving board s 0
-    pub made : (more : List (List (List T))) → more ≡ outlets ++ shares board.mergers (row_of s.due s.branch) ∷ [] → OutletsSoFar ss more
+  pub record BranchTurn (seats : List (BranchEnd T)) (s : BranchEnd T) (ss : List (BranchEnd T)) (outlets : List (List T)) : Type 0 where
+    pub giving : (b : Sized) → b ≡ board → IsGiving b s 0
+    pub made : (more : List (List T)) → more ≡ outlets ++ row_of s.due s.branch ∷ [] → OutletsSoFar ss more
 
-  pub branch_turn : (seats : List (BranchEnd T)) (s : BranchEnd T) (ss : List (BranchEnd T)) (outlets : List (List (List T))) → HasRoom board due
+  pub branch_turn : (seats : List (BranchEnd T)) (s : BranchEnd T) (ss : List (BranchEnd T)) (outlets : List (List T)) → HasRoom board due
       → OutletsSoFar seats outlets → seats ≡ s ∷ ss → BranchTurn seats s ss outlets
   branch_turn seats s ss outlets room was e =
       let t = next_of (new_branch board.board due) was.next was.left s ss seats was.of_board e in
@@ -102,11 +99,10 @@ module _ {T : Type 0} (board : Sized) (due : List (List T)) where
       let row : row_of s.due s.branch ≡ row_of due was.next = ap (λ (x : BranchEnd T). row_of x.due x.branch) t.first_is in
       let long : length (row_of due was.next) ≤ board.pids = All-get_or (λ (l : List T). length l ≤ board.pids) due was.next [] here room.long in
       let more : suc was.next ≡ was.next + 1 = omega arith in record {
-        giving = record {
-          own = ap (λ (x : BranchEnd T). x.board) t.first_is;
-          long = omega (arith, long, ap length row);
-          few = room.few;
-          mergers = room.mergers;
+        giving = λ b same. record {
+          own = ap (λ (x : BranchEnd T). x.board) t.first_is ∙ sym (ap (λ (x : Sized). x.board) same);
+          long = omega (arith, long, ap length row, ap (λ (x : Sized). x.pids) same);
+          few = omega (arith, room.few, ap (λ (x : Sized). x.pids) same);
           ahead = λ p above. ap (λ (x : BranchEnd T). has x.put p) t.first_is;
         };
         made = λ ends is. record {
@@ -115,76 +111,30 @@ module _ {T : Type 0} (board : Sized) (due : List (List T)) where
           of_board = t.others;
           count = omega (arith, t.count, was.count);
           so_far =
-              ap (λ y. y ++ map (shares board.mergers) (drop (was.next + 1) due)) (is ∙ ap (λ y. outlets ++ shares board.mergers y ∷ []) row)
-              ∙ shift outlets (shares board.mergers (row_of due was.next)) (map (shares board.mergers) (drop (was.next + 1) due))
-              ∙ sym (ap (λ y. outlets ++ map (shares board.mergers) y) (drop-cons due was.next [] here ∙ ap (λ k. row_of due was.next ∷ drop k due) more))
+              ap (λ y. y ++ drop (was.next + 1) due) (is ∙ ap (λ y. outlets ++ y ∷ []) row)
+              ∙ shift outlets (row_of due was.next) (drop (was.next + 1) due)
+              ∙ sym (ap (λ y. outlets ++ y) (drop-cons due was.next [] here ∙ ap (λ k. row_of due was.next ∷ drop k due) more))
               ∙ was.so_far;
         };
       }
 
-  pub outlets_end : (seats : List (BranchEnd T)) (outlets : List (List (List T))) → OutletsSoFar seats outlets → seats ≡ [] → outlets ≡ map (shares board.mergers) due
+  pub outlets_end : (seats : List (BranchEnd T)) (outlets : List (List T)) → OutletsSoFar seats outlets → seats ≡ [] → outlets ≡ due
   outlets_end seats outlets was none =
       let over = none_of (new_branch board.board due) was.next was.left seats was.of_board none in
-      sym (nothing_more outlets) ∙ sym (ap (λ y. outlets ++ map (shares board.mergers) y) (drop_all was.next due (omega (arith, over, was.count)))) ∙ was.so_far
+      sym (nothing_more outlets) ∙ sym (ap (λ y. outlets ++ y) (drop_all was.next due (omega (arith, over, was.count)))) ∙ was.so_far
 
-  -- the inlets of the mergers before this one are made, and these seats are left
-  pub record InletsSoFar (next : ℕ) (seats : List (MergerEnd T)) (inlets : List (List (List T))) : Type 0 where
-    pub left : ℕ
-    pub of_board : seats ≡ numbered (new_merger board.board due) next left
-    pub count : next + left ≡ board.mergers
-    pub so_far : inlets ++ columns_from board.mergers next left due ≡ columns board.mergers due
+  pub one_seat : (seats : List (MergerEnd T)) → seats ≡ each (new_merger board.board due) 1 → length seats ≡ 1
+  one_seat seats is = ap length is
 
-  pub inlets_begin : (seats : List (MergerEnd T)) (inlets : List (List (List T))) → seats ≡ each (new_merger board.board due) board.mergers → inlets ≡ [] → InletsSoFar 0 seats inlets
-  inlets_begin seats inlets is none = record {
-    left = board.mergers;
-    of_board = is ∙ each_numbered (new_merger board.board due) board.mergers;
-    count = omega arith;
-    so_far = ap (λ y. y ++ columns board.mergers due) none;
+  pub first_seat : (s : MergerEnd T) (seats : List (MergerEnd T)) → seats ≡ each (new_merger board.board due) 1 → s ≡ slice_index_or seats 0 s → s ≡ new_merger board.board due 0
+  first_seat s seats is at = at ∙ ap (λ y. slice_index_or y 0 s) is
+
+  -- the seat of the one merger, which has taken nothing
+  pub only_taking : (s : MergerEnd T) (branches : ℕ) → HasRoom board due → s ≡ new_merger board.board due 0 → branches ≡ board.branches → IsTaking board s branches 0
+  only_taking s branches room is same = record {
+    own = ap (λ (x : MergerEnd T). x.board) is;
+    room = subst (λ (y : List (List T)). HasRoom board y) (sym (ap (λ (x : MergerEnd T). x.due) is)) room;
+    each_branch = same;
+    only = ap (λ (x : MergerEnd T). x.merger) is;
+    ahead = λ p above. ap (λ (x : MergerEnd T). has x.done p) is;
   }
-
-  -- the next seat, and what is so once its inlets are made
-  pub record MergerTurn (next : ℕ) (s : MergerEnd T) (ss : List (MergerEnd T)) (inlets : List (List (List T))) : Type 0 where
-    pub inside : next < board.mergers
-    pub taking : IsTaking board s board.branches board.mergers next
-    pub made : (more : List (List (List T))) → more ≡ inlets ++ each_share board.mergers next s.due ∷ [] → InletsSoFar (next + 1) ss more
-
-  columns_more : (next left : ℕ) → columns_from board.mergers next (suc left) due ≡ map (share board.mergers next) due ∷ columns_from board.mergers (suc next) left due
-  unfolding columns_from
-  columns_more next left = refl
-
-  pub merger_turn : (next : ℕ) (seats : List (MergerEnd T)) (s : MergerEnd T) (ss : List (MergerEnd T)) (inlets : List (List (List T))) → HasRoom board due
-      → InletsSoFar next seats inlets → seats ≡ s ∷ ss → MergerTurn next s ss inlets
-  merger_turn next seats s ss inlets room was e =
-      let t = next_of (new_merger board.board due) next was.left s ss seats was.of_board e in
-      let here : next < board.mergers = omega (arith, t.count, was.count) in
-      let same : s.due ≡ due = ap (λ (x : MergerEnd T). x.due) t.first_is in
-      let more : suc next ≡ next + 1 = omega arith in record {
-        inside = here;
-        taking = record {
-          own = ap (λ (x : MergerEnd T). x.board) t.first_is;
-          room = subst (λ (y : List (List T)). HasRoom board y) (sym same) room;
-          each_branch = refl;
-          each_merger = refl;
-          turn = mod-eq_of_lt here ∙ sym (ap (λ (x : MergerEnd T). x.merger) t.first_is);
-          ahead = λ p above. ap (λ (x : MergerEnd T). has x.done p) t.first_is;
-        };
-        made = λ ends is. record {
-          left = t.left;
-          of_board = t.others;
-          count = omega (arith, t.count, was.count);
-          so_far =
-              ap (λ y. y ++ columns_from board.mergers (next + 1) t.left due) (is ∙ ap (λ y. inlets ++ each_share board.mergers next y ∷ []) same)
-              ∙ shift inlets (each_share board.mergers next due) (columns_from board.mergers (next + 1) t.left due)
-              ∙ ap (λ y. inlets ++ y ∷ columns_from board.mergers (next + 1) t.left due) (sym (each_later board.mergers next due))
-              ∙ ap (λ k. inlets ++ map (share board.mergers next) due ∷ columns_from board.mergers k t.left due) (sym more)
-              ∙ ap (λ y. inlets ++ y) (sym (columns_more next t.left))
-              ∙ ap (λ k. inlets ++ columns_from board.mergers next k due) (sym t.count)
-              ∙ was.so_far;
-        };
-      }
-
-  pub inlets_end : (next : ℕ) (seats : List (MergerEnd T)) (inlets : List (List (List T))) → InletsSoFar next seats inlets → seats ≡ [] → inlets ≡ columns board.mergers due
-  unfolding columns_from
-  inlets_end next seats inlets was none =
-      let over = none_of (new_merger board.board due) next was.left seats was.of_board none in
-      sym (nothing_more inlets) ∙ sym (ap (λ k. inlets ++ columns_from board.mergers next k due) over) ∙ was.so_far

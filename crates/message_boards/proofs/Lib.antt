@@ -1,3 +1,3 @@
-mod Columns
 mod Dealt
-mod Shares
+mod Giving
+mod Taking

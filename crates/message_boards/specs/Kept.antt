@@ -1,16 +1,15 @@
 -- For proofs: what the fields of each end keep.
-use Rattle.std.specs.Prelude.{◌≡◌, ◌<◌, ◌≤◌, ◌%◌, ℕ, false, List, length, All}
+use Rattle.std.specs.Prelude.{◌≡◌, ◌≤◌, ℕ, false, List, length, All}
 use Rattle.merge_board.specs.Rule.{has}
 use Rattle.merge_board.specs.Ends.{Sized, BranchEnd, MergerEnd}
 use Rattle.message_boards.specs.Rows.{row_of}
 
--- the board has room for these rows, one for each branch, and for the sizes that a board has
+-- the board has one merger, and room for these rows, one for each branch
 pub record HasRoom {T : Type 0} (board : Sized) (due : List (List T)) : Type 0 where
   pub rows : length due ≡ board.branches
   pub long : All (λ row. length row ≤ board.pids) due
   pub few : board.pids ≤ 65536
-  pub mergers : 0 < board.mergers
-  pub few_mergers : board.mergers ≤ 16
+  pub one : board.mergers ≡ 1
 
 -- none of these packets is this one or one behind it
 abbrev pub NoneFrom : ℕ → List ℕ → Type 0
@@ -21,14 +20,12 @@ pub record IsGiving {T : Type 0} (board : Sized) (seat : BranchEnd T) (next : �
   pub own : seat.board ≡ board.board
   pub long : length (row_of seat.due seat.branch) ≤ board.pids
   pub few : board.pids ≤ 65536
-  pub mergers : 0 < board.mergers
   pub ahead : NoneFrom next seat.put
 
--- the seat is the board's, and takes its packets in their order
-pub record IsTaking {T : Type 0} (board : Sized) (seat : MergerEnd T) (branches mergers next : ℕ) : Type 0 where
+-- the seat is that of the board's one merger, and takes the packets in their order
+pub record IsTaking {T : Type 0} (board : Sized) (seat : MergerEnd T) (branches next : ℕ) : Type 0 where
   pub own : seat.board ≡ board.board
   pub room : HasRoom board seat.due
   pub each_branch : branches ≡ board.branches
-  pub each_merger : mergers ≡ board.mergers
-  pub turn : next % board.mergers ≡ seat.merger
+  pub only : seat.merger ≡ 0
   pub ahead : NoneFrom next seat.done

@@ -1,19 +1,18 @@
 //! A board of messages is made with all its seats.
-ghost use Rattle.std.specs.Prelude.{◌≡◌, ◌<◌, ◌≤◌, length, map, All, IfOk};
+ghost use Rattle.std.specs.Prelude.{◌≡◌, ◌<◌, ◌≤◌, length, All, IfOk};
 ghost use Rattle.std.specs.Arc.{arc_value};
 ghost use Rattle.merge_board.specs.Ends.{each, new_branch, new_merger};
-ghost use Rattle.message_links.specs.Turns.{columns, shares};
 ghost use Rattle.message_boards.specs.Kept.{HasRoom};
 
 use crate::inlets::{BoardInlets, inlets_of};
-use crate::outlets::{BoardOutlets, outlets_of};
+use crate::outlet::{BoardOutlet, outlet_of};
 use merge_board::{Board, BoardDue, BranchSeat, MergerSeat, Seats};
 use message_links::Parcel;
 use std::alloc::{AllocError, Global};
 use std::sync::Arc;
 
-/// Makes a board for so many packets at most, and gives its ends: the outlets of each branch, and the inlets of
-/// each merger. Its one refusal is want of memory, and no later call takes any.
+/// Makes a board for the packets of one merger, so many at most, and gives its ends: the outlet of each branch,
+/// and the merger's inlets. Its one refusal is want of memory, and no later call takes any.
 ///
 /// What is due on it is `D.due`, a row for each branch. A caller makes the board in a function that is generic
 /// in `D` and requires what `D.due` is; where it calls this function with `Brand` for `D`, its proof picks the
@@ -21,23 +20,21 @@ use std::sync::Arc;
 pub fn board_ends<P: Drop, D: BoardDue<Parcel<P>>>(
     alloc: Global,
     branches: u32,
-    mergers: u32,
     count: u32,
-) -> Result<(Vec<BoardOutlets<P>>, Vec<BoardInlets<P>>), AllocError>
+) -> Result<(Vec<BoardOutlet<P>>, BoardInlets<P>), AllocError>
     requires branches { (0 < branches) × (branches ≤ 64) }
-    requires mergers { (0 < mergers) × (mergers ≤ 16) }
     requires few { count < 65537 }
     requires rows { length D.due ≡ branches }
     requires long { All (λ row. length row ≤ count) D.due }
-    ensures outlets { IfOk result (λ e. e.0.items ≡ map (shares mergers) D.due) }
-    ensures inlets { IfOk result (λ e. e.1.items ≡ columns mergers D.due) }
+    ensures outlets { IfOk result (λ e. e.0.items ≡ D.due) }
+    ensures inlets { IfOk result (λ e. e.1 ≡ D.due) }
 {
     let packets = at_least_one(count);
-    let (board, seats) = Board::<Parcel<P>>::new::<D>(alloc, packets, branches, mergers)?;
+    let (board, seats) = Board::<Parcel<P>>::new::<D>(alloc, packets, branches, 1)?;
     let board = Arc::new(alloc, board)?;
     let Seats { branch, merger } = seats;
     let outlets = all_outlets::<P, D>(alloc, &board, branch)?;
-    let inlets = all_inlets::<P, D>(alloc, &board, merger, branches, mergers)?;
+    let inlets = only_inlets::<P, D>(board, merger, branches);
     Ok((outlets, inlets))
 }
 
@@ -50,44 +47,36 @@ fn at_least_one(count: u32) -> u32
     count.max(1)
 }
 
-// The outlets of each branch, in order.
+// The outlet of each branch, in order.
 fn all_outlets<P: Drop, D: BoardDue<Parcel<P>>>(
     alloc: Global,
     board: &Arc<Board<Parcel<P>>>,
     seats: Vec<BranchSeat<Parcel<P>>>,
-) -> Result<Vec<BoardOutlets<P>>, AllocError>
+) -> Result<Vec<BoardOutlet<P>>, AllocError>
     requires seats { seats.items ≡ each (new_branch (arc_value board.now).board D.due) (arc_value board.now).branches }
     requires room { HasRoom (arc_value board.now) D.due }
-    ensures { IfOk result (λ o. o.items ≡ map (shares (arc_value board.now).mergers) D.due) }
+    ensures { IfOk result (λ o. o.items ≡ D.due) }
 {
     let mut outlets = Vec::new(alloc);
     for seat in seats {
         let shared = Arc::try_clone(board)?;
-        outlets.push(outlets_of(shared, seat))?;
+        outlets.push(outlet_of(shared, seat))?;
     }
     Ok(outlets)
 }
 
-// The inlets of each merger, in order: the first packet of the merger i is the packet i.
-fn all_inlets<P: Drop, D: BoardDue<Parcel<P>>>(
-    alloc: Global,
-    board: &Arc<Board<Parcel<P>>>,
-    seats: Vec<MergerSeat<Parcel<P>>>,
+// The inlets of the one merger.
+#[tactic(auto, using(crate::proofs::Dealt::one_seat))]
+fn only_inlets<P: Drop, D: BoardDue<Parcel<P>>>(
+    board: Arc<Board<Parcel<P>>>,
+    mut seats: Vec<MergerSeat<Parcel<P>>>,
     branches: u32,
-    mergers: u32,
-) -> Result<Vec<BoardInlets<P>>, AllocError>
-    requires seats { seats.items ≡ each (new_merger (arc_value board.now).board D.due) mergers }
-    requires room { HasRoom (arc_value board.now) D.due }
-    requires branches { (arc_value board.now).branches ≡ branches }
-    requires mergers { (arc_value board.now).mergers ≡ mergers }
-    ensures { IfOk result (λ i. i.items ≡ columns mergers D.due) }
+) -> BoardInlets<P>
+    requires seats { seats.items ≡ each (new_merger (arc_value board).board D.due) 1 }
+    requires room { HasRoom (arc_value board) D.due }
+    requires branches { (arc_value board).branches ≡ branches }
+    ensures { result ≡ D.due }
 {
-    let mut inlets = Vec::new(alloc);
-    let mut next = 0;
-    for seat in seats {
-        let shared = Arc::try_clone(board)?;
-        inlets.push(inlets_of(shared, seat, branches, mergers, next))?;
-        next += 1;
-    }
-    Ok(inlets)
+    let seat = seats.remove(0);
+    inlets_of(board, seat, branches)
 }

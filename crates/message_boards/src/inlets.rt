@@ -1,9 +1,9 @@
-//! The seat of a merger at a board, from which it takes a row of messages for each packet of its own.
+//! The seat of the merger at a board, from which it takes a row of messages for each packet.
 ghost use Rattle.std.specs.Prelude.{◌≡◌, ◌<◌, ◌≤◌, [], length, map, All, IsTrue, IsFalse};
 ghost use Rattle.std.specs.Vec.{vec_capacity};
 ghost use Rattle.std.specs.Arc.{arc_value};
 ghost use Rattle.message_links.specs.Messages.{AllFit, Owing, first, rest};
-ghost use Rattle.message_boards.specs.Rows.{each_share};
+ghost use Rattle.message_boards.specs.Rows.{each_rest};
 ghost use Rattle.message_boards.specs.Kept.{IsTaking};
 
 use crossbeam_utils::Backoff;
@@ -13,14 +13,13 @@ use ruled_links::pause;
 use std::marker::Model;
 use std::sync::{Arc, Wait};
 
-/// The seat of a merger at a board: what the branches give of its packets, one packet after another. Contracts
-/// see it as the messages that are still due from each branch to this merger.
+/// The seat of the merger at a board: what the branches give of its packets, one packet after another. Contracts
+/// see it as the messages that are still due from each branch.
 #[derive(Drop)]
 pub struct BoardInlets<P> {
     board: Arc<Board<Parcel<P>>>,
     seat: MergerSeat<Parcel<P>>,
     branches: u32,
-    mergers: u32,
     next: u32,
 }
 
@@ -28,33 +27,30 @@ impl<P> Model for BoardInlets<P> {
     ghost use Rattle.std.specs.Prelude.{List};
     ghost use Rattle.std.specs.Arc.{arc_value};
     ghost use Rattle.message_links.specs.Messages.{PlainMessage};
-    ghost use Rattle.message_boards.specs.Rows.{each_share};
+    ghost use Rattle.message_boards.specs.Rows.{each_rest};
     ghost use Rattle.message_boards.specs.Kept.{IsTaking};
 
     ghost Value = { List (List (PlainMessage P)) };
 
-    ghost view = { λ i. each_share i.mergers i.next i.seat.due };
+    ghost view = { λ i. each_rest i.next i.seat.due };
 
-    ghost invariant = { λ i. IsTaking (arc_value i.board) i.seat i.branches i.mergers i.next };
+    ghost invariant = { λ i. IsTaking (arc_value i.board) i.seat i.branches i.next };
 }
 
-// The inlets of a seat that has taken nothing, from this packet on.
+// The inlets of a seat that has taken nothing.
 pub(crate) fn inlets_of<P>(
     board: Arc<Board<Parcel<P>>>,
     seat: MergerSeat<Parcel<P>>,
     branches: u32,
-    mergers: u32,
-    first: u32,
 ) -> BoardInlets<P>
-    requires { IsTaking (arc_value board) seat branches mergers first }
-    ensures { result ≡ each_share mergers first seat.due }
+    requires { IsTaking (arc_value board) seat branches 0 }
+    ensures { result ≡ seat.due }
 {
     BoardInlets {
         board,
         seat,
         branches,
-        mergers,
-        next: first,
+        next: 0,
     }
 }
 
@@ -66,7 +62,7 @@ impl<P> BoardInlets<P> {
         self.branches as usize
     }
 
-    /// Waits until every branch has given its message of this merger's next packet, and takes them into `row`, in
+    /// Waits until every branch has given its message of the next packet, and takes them into `row`, in
     /// the order of the branches. It takes no memory, and pauses between two looks.
     pub fn accept_row<R: Wait>(&mut self, rt: &R, row: &mut Vec<Parcel<P>>)
         requires some { 0 < length self.old }
@@ -102,7 +98,7 @@ impl<P> BoardInlets<P> {
         if self.board.poll(&mut self.seat, self.next, row).is_none() {
             return false;
         }
-        self.next += self.mergers;
+        self.next += 1;
         true
     }
 }

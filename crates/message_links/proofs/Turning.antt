@@ -1,5 +1,5 @@
 -- A stream that is shared in turn, element by element.
-use Rattle.std.proofs.Common.{◌≡◌, ◌<◌, ◌+◌, ◌∙◌, ℕ, zero, suc, pred, List, [], ◌∷◌, ◌++◌, length, refl, arith, ap}
+use Rattle.std.proofs.Common.{◌≡◌, ◌<◌, ◌+◌, ◌∙◌, ℕ, zero, suc, pred, List, [], ◌∷◌, ◌++◌, length, map, refl, arith, ap}
 use Rattle.message_links.specs.Messages.{front, turned}
 use Rattle.message_links.specs.Turns.{share, shares_from, shares, share_len}
 
@@ -39,3 +39,20 @@ unfolding share share_len
 share_long m i [] = refl
 share_long m zero (x ∷ xs) = ap suc (share_long m (pred m) xs)
 share_long m (suc i) (x ∷ xs) = share_long m i xs
+
+-- every element from the first on
+whole_share : {A : Type 0} (xs : List A) → share 1 0 xs ≡ xs
+unfolding share
+whole_share [] = refl
+whole_share (x ∷ xs) = ap (λ y. x ∷ y) (whole_share xs)
+
+pub one_share : {A : Type 0} (xs : List A) → shares 1 xs ≡ xs ∷ []
+unfolding shares_from
+one_share xs = ap (λ y. y ∷ []) (whole_share xs)
+
+-- a share of what is made of each element
+pub share_image : {A B : Type 0} (g : A → B) (m i : ℕ) (xs : List A) → share m i (map g xs) ≡ map g (share m i xs)
+unfolding share
+share_image g m i [] = refl
+share_image g m zero (x ∷ xs) = ap (λ y. g x ∷ y) (share_image g m (pred m) xs)
+share_image g m (suc i) (x ∷ xs) = share_image g m i xs

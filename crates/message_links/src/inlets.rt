@@ -1,5 +1,5 @@
 //! Several ends of links from which messages are accepted, in order.
-ghost use Rattle.std.specs.Prelude.{◌≡◌, ◌<◌, ◌++◌, ◌∷◌, [], length, map, All, IfOk, OnOk, slice_index_or, slice_set};
+ghost use Rattle.std.specs.Prelude.{◌≡◌, ◌<◌, ◌++◌, ◌∷◌, [], length, OnOk, slice_index_or, slice_set};
 ghost use Rattle.message_links.specs.Messages.{Fits, Owing, first, front, plain, rest, turned};
 
 use crate::inlet::Inlet;
@@ -88,28 +88,4 @@ fn accept_from<P, R: Wait>(rt: &R, list: &mut [Inlet<P>], place: usize) -> Messa
     ensures after { list.new ≡ slice_set list.old place (rest (slice_index_or list.old place [])) }
 {
     list[place].accept(rt)
-}
-
-fn take_from<P>(rows: &mut [Inlets<P>], place: usize) -> Inlet<P>
-    requires inside { place < length rows.old }
-    requires some { Owing (slice_index_or rows.old place []) }
-    ensures result { result ≡ front (slice_index_or rows.old place []) }
-    ensures after { rows.new ≡ slice_set rows.old place (rest (slice_index_or rows.old place [])) }
-{
-    rows[place].take_first()
-}
-
-/// Takes the first inlet of each away, in order. Its one refusal is want of memory, which says nothing of the
-/// inlets that are left.
-pub fn take_row<P: Drop>(alloc: Global, rows: &mut [Inlets<P>]) -> Result<Inlets<P>, AllocError>
-    requires { All Owing rows.old }
-    ensures row { IfOk result (λ row. row ≡ map front rows.old) }
-    ensures after { OnOk result (rows.new ≡ map rest rows.old) }
-{
-    let mut row = Inlets::new(alloc);
-    for index in 0..rows.len() {
-        let inlet = take_from(rows, index);
-        row.push(inlet)?;
-    }
-    Ok(row)
 }

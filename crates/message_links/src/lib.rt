@@ -5,8 +5,9 @@
 //! that memory was short. [`edge`] makes a link for such messages and gives its two ends. The thread that
 //! owns the [`Outlet`] gives messages by [`Outlet::give`]; the one that owns the [`Inlet`] waits for the
 //! next by [`Inlet::accept`]. [`Outlets`] and [`Inlets`] are several ends in order: one that takes turns
-//! goes to the back once it was used, and a row is one message for each end. A [`Parcel`] is a message as a
-//! link carries it; a board may carry it too.
+//! goes to the back once it was used, and a row is one message for each end. [`Fans`] are several streams,
+//! each of which is shared in turn to its own outlets: a message for each stream goes into the next outlet
+//! of that stream. A [`Parcel`] is a message as a link carries it; a board may carry it too.
 //!
 //! Contracts see a message without its box, and each end as the list of the messages that are still due on
 //! it, in order. So an end needs no name, no capacity and no history: to give the next due message leaves
@@ -16,15 +17,17 @@
 //! What is promised: a message is given only where one is due, and only the due one or [`Message::Short`];
 //! what is accepted is the due one or `Short`. No message is lost, doubled or overtaken, since the ends are
 //! those of a link under its rule. Want of memory never stops a stream: where a part finds no box, `Short`
-//! goes in its place, and the two ends stay in step. [`edge`] and [`take_row`] refuse for want of memory,
+//! goes in its place, and the two ends stay in step. [`edge`] refuses for want of memory,
 //! and so do the `push` calls; nothing else is refused. That links which share a stream in turn each hold
-//! every m-th message is a law, [`shares_go_in_turn`].
+//! every m-th message is a law, [`shares_go_in_turn`]; that it is all the same whether a stream is shared
+//! before or after each of its elements is made into another is a law too, [`shares_of_images`].
 //!
 //! What is left out: that a call which waits ever returns. An inlet waits for ever for a message that
 //! nobody gives.
 #![tactic(auto)]
 
 mod edges;
+mod fans;
 mod inlet;
 mod inlets;
 mod laws;
@@ -34,9 +37,10 @@ mod outlets;
 mod parcel;
 
 pub use edges::edge;
+pub use fans::Fans;
 pub use inlet::Inlet;
-pub use inlets::{Inlets, take_row};
-pub use laws::shares_go_in_turn;
+pub use inlets::Inlets;
+pub use laws::{shares_go_in_turn, shares_of_images};
 pub use message::{Message, boxed, message_without};
 pub use outlet::Outlet;
 pub use outlets::Outlets;

@@ -1,4 +1,5 @@
 pub mod Shares
 pub mod Wiring
+pub mod Replicating
 pub mod Meets
 pub mod Running

@@ -1,8 +1,8 @@
 -- The shares of a stream, message by message.
-use Rattle.std.proofs.Common.{◌≡◌, ◌<◌, ◌≤◌, ◌+◌, ◌-◌, ◌∙◌, ℕ, zero, suc, pred, List, [], ◌∷◌, ◌++◌, length, refl, arith, ap, sym}
+use Rattle.std.proofs.Common.{◌≡◌, ◌<◌, ◌≤◌, ◌+◌, ◌-◌, ◌∙◌, ℕ, zero, suc, pred, List, [], ◌∷◌, ◌++◌, length, map, refl, arith, ap, sym}
 use Rattle.packet_version.specs.Splitting.{PlainApart}
-use Rattle.message_links.specs.Messages.{PlainMessage, first, front, turned}
-use Rattle.message_links.specs.Turns.{share, share_len, shares_from, shares}
+use Rattle.message_links.specs.Messages.{PlainMessage, first, front, rest, turned}
+use Rattle.message_links.specs.Turns.{share, share_len, shares_from, shares, columns_from}
 use Rattle.stage_nodes.specs.Dues.{ComesFrom}
 use Rattle.node_run.specs.Nodes.{in_turn}
 
@@ -38,6 +38,46 @@ taken_in_turn m (x ∷ xs) lt =
 
 pub came_all : (inlets : List (List (PlainMessage PlainApart))) (n : ℕ) (xs : List (PlainMessage PlainApart)) → ComesFrom inlets xs → length xs ≡ n → xs ≡ in_turn n inlets
 came_all inlets n xs c l = sym (ap (λ ls. in_turn n ls) c.2 ∙ ap (λ i. in_turn i (shares c.0 xs)) (sym l) ∙ taken_in_turn c.0 xs c.1)
+
+-- what each merger takes of some streams, merger by merger
+
+pub no_columns : {A : Type 0} (m : ℕ) (rows : List (List A)) → columns_from m 0 0 rows ≡ []
+unfolding columns_from
+no_columns m rows = refl
+
+last_columns : {A : Type 0} (m i c : ℕ) (rows : List (List A)) → columns_from m i c rows ++ map (share m (i + c)) rows ∷ [] ≡ columns_from m i (suc c) rows
+unfolding columns_from
+last_columns m i zero rows = ap (λ n. map (share m n) rows ∷ []) (omega arith)
+last_columns m i (suc c) rows =
+    ap (λ y. map (share m i) rows ∷ y) (ap (λ n. columns_from m (suc i) c rows ++ map (share m n) rows ∷ []) (omega arith) ∙ last_columns m (suc i) c rows)
+
+pub columns_more : {A : Type 0} (m i : ℕ) (rows x : List (List A)) (ls more : List (List (List A))) → ls ≡ columns_from m 0 i rows → x ≡ map (share m i) rows → more ≡ ls ++ x ∷ [] → more ≡ columns_from m 0 (i + 1) rows
+columns_more m i rows x ls more e is add =
+    add ∙ ap (λ y. y ++ x ∷ []) e ∙ ap (λ y. columns_from m 0 i rows ++ y ∷ []) (is ∙ ap (λ n. map (share m n) rows) (omega arith)) ∙ last_columns m 0 i rows ∙ ap (λ n. columns_from m 0 n rows) (omega arith)
+
+-- the first of each merger's are the first stream's shares, and the rest those of the others
+pub columns_front : {A : Type 0} (m i c : ℕ) (row : List A) (rows : List (List A)) → map front (columns_from m i c (row ∷ rows)) ≡ shares_from m i c row
+unfolding columns_from shares_from
+columns_front m i zero row rows = refl
+columns_front m i (suc c) row rows = ap (λ y. share m i row ∷ y) (columns_front m (suc i) c row rows)
+
+pub columns_rest : {A : Type 0} (m i c : ℕ) (row : List A) (rows : List (List A)) → map rest (columns_from m i c (row ∷ rows)) ≡ columns_from m i c rows
+unfolding columns_from
+columns_rest m i zero row rows = refl
+columns_rest m i (suc c) row rows = ap (λ y. map (share m i) rows ∷ y) (columns_rest m (suc i) c row rows)
+
+-- a stream that one link has is that link's
+all_shared : {A : Type 0} (xs : List A) → share 1 0 xs ≡ xs
+unfolding share
+all_shared [] = refl
+all_shared (x ∷ xs) = ap (λ y. x ∷ y) (all_shared xs)
+
+pub one_share : {A : Type 0} (xs : List A) → shares 1 xs ≡ xs ∷ []
+unfolding shares_from
+one_share xs = ap (λ y. y ∷ []) (all_shared xs)
+
+pub some_share : {A : Type 0} (xs : List A) (ls : List (List A)) → ls ≡ shares 1 xs → 0 < length ls
+some_share xs ls e = omega (arith, ap length (e ∙ one_share xs))
 
 -- lengths
 

@@ -8,11 +8,11 @@ use Rattle.action_profile.specs.declared.parts.StageParts.{StageParts}
 use Rattle.action_profile.specs.declared.parts.Touch.{Touch}
 use Rattle.packet_version.specs.Splitting.{PlainApart}
 use Rattle.packet_version.specs.Versions.{PlainVersion}
-use Rattle.message_links.specs.Messages.{PlainMessage, first, rest}
-use Rattle.message_links.specs.Turns.{share, share_len, shares_from, shares, columns_from}
+use Rattle.message_links.specs.Messages.{PlainMessage, Owing, first, front, rest}
+use Rattle.message_links.specs.Turns.{share, share_len, shares_from, shares, columns, columns_from}
 use Rattle.stage_nodes.specs.Streams.{Kit, PlainStage, parted, base_of, moved, joined, ran, left, came_from, stayed, merged_rows, passed, dealer_copies}
-use Rattle.stage_nodes.specs.Flows.{MayTakeAll, AllMayTake, Belongs, AllBelong, MayPass}
-use Rattle.stage_nodes.specs.Dues.{ComesFrom, DealerDue, BranchDue, MergerDue}
+use Rattle.stage_nodes.specs.Flows.{MayTakeAll, MayTakeEach, AllMayTake, Belongs, AllBelong, MayPass}
+use Rattle.stage_nodes.specs.Dues.{AreFanned, ComesFrom, DealerDue, BranchDue, MergerDue}
 use Rattle.stage_nodes.specs.declared.branch.Branch.{Branch}
 use Rattle.stage_nodes.specs.declared.merger.Merger.{Merger}
 use Rattle.node_run.specs.declared.branches.Branches.{Branches}
@@ -20,15 +20,15 @@ use Rattle.node_run.specs.declared.node.Node.{Node}
 use Rattle.node_run.specs.declared.node.Node.TheVariants as node
 use Rattle.node_run.specs.declared.wire.WiredStage.{WiredStage}
 use Rattle.node_run.specs.Nodes.{AreNodes, added, in_turn, copies_by, copies_by_all, gather, is_ready, left_by, no_copies}
-use Rattle.node_run.specs.Wired.{AreWired, AreWiring, IsWired, MergersFit, all_parted}
-use Rattle.node_run.proofs.Shares.{share_long}
+use Rattle.node_run.specs.Wired.{AreWired, AreWiring, IsFanned, IsWired, MergersFit}
+use Rattle.node_run.proofs.Shares.{share_long, one_share, columns_front, columns_rest}
 
 -- an iterator at its end has nothing left
 pub none_left : {A : Type 0} (n : ℕ) (xs : List A) → n ≡ 0 → length xs ≡ n → xs ≡ []
 none_left n [] z e = refl
 none_left n (x ∷ xs) z e = absurd (omega (arith, z, e))
 
-tail_is : {A : Type 0} {x y : A} {xs ys : List A} → ◌≡◌ {A = List A} (x ∷ xs) (y ∷ ys) → (x ≡ y) × (xs ≡ ys)
+pub tail_is : {A : Type 0} {x y : A} {xs ys : List A} → ◌≡◌ {A = List A} (x ∷ xs) (y ∷ ys) → (x ≡ y) × (xs ≡ ys)
 tail_is e = (cc, cc)
 
 -- lengths
@@ -46,8 +46,8 @@ merged_length (b ∷ bases) columns = ap suc (merged_length bases (map rest colu
 pub passed_length : {F : Type 0} (k : Kit F) (s : PlainStage F) (xs : List (PlainMessage PlainApart)) → length (passed k s xs) ≡ length xs
 passed_length k s xs = merged_length (map (base_of s.parts.touches) xs) (came_from k s.parts.touches s.branches xs) ∙ length-map xs (base_of s.parts.touches)
 
-pub parted_many : (t : Touch) (count : ℕ) (xs : List (PlainMessage PlainApart)) (due : List (PlainMessage PlainVersion)) → due ≡ map (parted t) xs → length xs ≡ count → length due ≤ count
-parted_many t count xs due e many = omega (arith, ap length e, length-map xs (parted t), many)
+pub parted_many : (t : Touch) (count : ℕ) (xs : List (PlainMessage PlainApart)) (due : List (PlainMessage PlainVersion)) → due ≡ map (parted t) xs → length xs ≡ count → length due ≡ count
+parted_many t count xs due e many = ap length e ∙ length-map xs (parted t) ∙ many
 
 pub ran_many : {F : Type 0} (k : Kit F) (f : F) (t : Touch) (count : ℕ) (xs : List (PlainMessage PlainApart)) (due : List (PlainMessage PlainVersion)) → due ≡ ran k f (map (parted t) xs) → length xs ≡ count → length due ≡ count
 ran_many k f t count xs due e many = ap length e ∙ ran_length k f (map (parted t) xs) ∙ length-map xs (parted t) ∙ many
@@ -83,6 +83,7 @@ gather_append k (n ∷ ns) more = ap (added (left_by k n)) (gather_append k ns m
     add : (n : Node _) → added (left_by k n) (gather k ns ++ gather k more) ≡ added (left_by k n) (gather k ns) ++ gather k more
     add (node.Dealer d) = refl
     add (node.Branch b) = refl
+    add (node.Replica b) = refl
     add (node.Merger m) = refl
 
 copies_append : {F : Type 0} (f : Field) (ns more : List (Node F)) → copies_by_all f (ns ++ more) ≡ copies_by_all f ns + copies_by_all f more
@@ -98,7 +99,7 @@ no_nodes k may nodes n = record {
   makes = λ f. ap (copies_by_all f) n;
 }
 
-one_node : {F : Type 0} (k : Kit F) (may : F → ℕ → PlainVersion → Type 0) (n : Node F) → is_ready k may n → AreNodes k may (n ∷ []) (added (left_by k n) []) (λ f. copies_by f n)
+pub one_node : {F : Type 0} (k : Kit F) (may : F → ℕ → PlainVersion → Type 0) (n : Node F) → is_ready k may n → AreNodes k may (n ∷ []) (added (left_by k n) []) (λ f. copies_by f n)
 unfolding gather copies_by_all
 one_node k may n r = record {
   ready = All-cons (is_ready k may) n [] r (All-nil (is_ready k may));
@@ -106,7 +107,7 @@ one_node k may n r = record {
   makes = λ f. omega arith;
 }
 
-nodes_append : {F : Type 0} (k : Kit F) (may : F → ℕ → PlainVersion → Type 0) (ns more : List (Node F)) (fs gs : List F) (c d : Field → ℕ)
+pub nodes_append : {F : Type 0} (k : Kit F) (may : F → ℕ → PlainVersion → Type 0) (ns more : List (Node F)) (fs gs : List F) (c d : Field → ℕ)
     → AreNodes k may ns fs c → AreNodes k may more gs d → AreNodes k may (ns ++ more) (fs ++ gs) (λ f. c f + d f)
 nodes_append k may ns more fs gs c d a b = record {
   ready = All-append (is_ready k may) ns more a.ready b.ready;
@@ -122,55 +123,73 @@ nodes_are k may ns new fs gs c d a n g e = record {
   makes = λ f. ap (copies_by_all f) n ∙ a.makes f ∙ sym (e f);
 }
 
-nodes_push : {F : Type 0} (k : Kit F) (may : F → ℕ → PlainVersion → Type 0) (ns new : List (Node F)) (n : Node F) (fs : List F) (c : Field → ℕ)
+pub nodes_push : {F : Type 0} (k : Kit F) (may : F → ℕ → PlainVersion → Type 0) (ns new : List (Node F)) (n : Node F) (fs : List F) (c : Field → ℕ)
     → new ≡ ns ++ n ∷ [] → is_ready k may n → AreNodes k may ns fs c → AreNodes k may new (fs ++ added (left_by k n) []) (λ f. c f + copies_by f n)
 nodes_push k may ns new n fs c e r a =
     nodes_are k may (ns ++ n ∷ []) new _ _ _ _ (nodes_append k may ns (n ∷ []) fs (added (left_by k n) []) c (λ f. copies_by f n) a (one_node k may n r)) e refl (λ f. refl)
 
--- a branch
+-- a branch of one node
 
-branch_ready : {F : Type 0} (k : Kit F) (may : F → ℕ → PlainVersion → Type 0) (m count : ℕ) (f : F) (xs inlet : List (PlainMessage PlainVersion)) (outlets : List (List (PlainMessage PlainVersion)))
-    → 0 < m → length xs ≡ count → MayTakeAll k may f 0 xs → inlet ≡ xs → outlets ≡ shares m (ran k f xs) → BranchDue k may 0 count (left k f inlet) false f inlet outlets
-branch_ready k may m count f xs inlet outlets lt many take i o = record {
+-- the numbers of packets, one after another
+may_each : {F : Type 0} (k : Kit F) (may : F → ℕ → PlainVersion → Type 0) (f : F) (p : ℕ) (xs : List (PlainMessage PlainVersion)) → MayTakeAll k may f p xs → MayTakeEach k may 1 f p xs
+unfolding MayTakeAll MayTakeEach
+may_each k may f p [] all = tt
+may_each k may f p (x ∷ xs) all =
+    let up : suc p ≡ p + 1 = omega arith in
+    (all.0, subst (λ n. MayTakeEach k may 1 (moved k f x) n xs) up (may_each k may (moved k f x) (suc p) xs all.1))
+
+branch_due : {F : Type 0} (k : Kit F) (may : F → ℕ → PlainVersion → Type 0) (m count : ℕ) (f : F) (xs inlet : List (PlainMessage PlainVersion)) (outlets : List (List (PlainMessage PlainVersion)))
+    → 0 < m → count < 65537 → length xs ≡ count → MayTakeAll k may f 0 xs → inlet ≡ xs → outlets ≡ shares m (ran k f xs) → BranchDue k may 1 0 count (left k f inlet) false f inlet outlets
+branch_due k may m count f xs inlet outlets lt few many take i o = record {
   mergers = m;
   now = f;
   some = lt;
   many = ap length i ∙ many;
-  take = subst (MayTakeAll k may f 0) (sym i) take;
+  few = omega (arith, few);
+  take = subst (MayTakeEach k may 1 f 0) (sym i) (may_each k may f 0 xs take);
   gives = o ∙ ap (λ y. shares m (ran k f y)) (sym i);
   same = λ _. refl;
   ends = refl;
 }
 
-pub branch_added : {F : Type 0} (k : Kit F) (may : F → ℕ → PlainVersion → Type 0) (m count : ℕ) (t : Touch) (xs : List (PlainMessage PlainApart)) (b : Branch F) (old new : List (Node F)) (fs : List F) (c : Field → ℕ)
-    → 0 < m → length xs ≡ count → MayTakeAll k may b.work 0 (map (parted t) xs) → b.inlet ≡ map (parted t) xs → b.outlets ≡ shares m (ran k b.work (map (parted t) xs)) → b.count ≡ count
+pub branch_added : {F : Type 0} (k : Kit F) (may : F → ℕ → PlainVersion → Type 0) (m count : ℕ) (t : Touch) (xs : List (PlainMessage PlainApart)) (b : Branch F) (inlets inlets' : List (List (PlainMessage PlainVersion))) (old new : List (Node F)) (fs : List F) (c : Field → ℕ)
+    → 0 < m → count < 65537 → length xs ≡ count → MayTakeAll k may b.work 0 (map (parted t) xs) → inlets ≡ shares 1 (map (parted t) xs) → inlets ≡ b.inlet ∷ inlets'
+    → b.outlets ≡ shares m (ran k b.work (map (parted t) xs)) → b.first ≡ 0 → b.step ≡ 1 → b.count ≡ count
     → new ≡ old ++ node.Branch b ∷ [] → AreNodes k may old fs c → AreNodes k may new (fs ++ left k b.work (map (parted t) xs) ∷ []) c
-branch_added k may m count t xs b old new fs c lt many take i o e n a =
-    let due : BranchDue k may 0 count (left k b.work b.inlet) false b.work b.inlet b.outlets =
-    branch_ready k may m count b.work (map (parted t) xs) b.inlet b.outlets lt (length-map xs (parted t) ∙ many) take i o in
-    let r : is_ready k may (node.Branch b) = subst (λ y. BranchDue k may 0 y (left k b.work b.inlet) false b.work b.inlet b.outlets) (sym e) due in
+branch_added k may m count t xs b inlets inlets' old new fs c lt few many take is first o p s e n a =
+    let i : b.inlet ≡ map (parted t) xs = (tail_is (sym first ∙ is ∙ one_share (map (parted t) xs))).0 in
+    let due : BranchDue k may 1 0 count (left k b.work b.inlet) false b.work b.inlet b.outlets =
+    branch_due k may m count b.work (map (parted t) xs) b.inlet b.outlets lt few (length-map xs (parted t) ∙ many) take i o in
+    let r : is_ready k may (node.Branch b) =
+    subst (λ y. BranchDue k may b.step b.first y (left k b.work b.inlet) false b.work b.inlet b.outlets) (sym e)
+    (subst (λ y. BranchDue k may b.step y count (left k b.work b.inlet) false b.work b.inlet b.outlets) (sym p)
+    (subst (λ y. BranchDue k may y 0 count (left k b.work b.inlet) false b.work b.inlet b.outlets) (sym s) due)) in
     nodes_are k may new new _ _ _ _ (nodes_push k may old new (node.Branch b) fs c n r a) refl (ap (λ y. fs ++ left k b.work y ∷ []) (sym i)) (λ f. omega arith)
+
+pub fanned_one : (m : ℕ) (xs : List (PlainMessage PlainVersion)) (fan : List (List (PlainMessage PlainVersion))) (old new : List (List (List (PlainMessage PlainVersion))))
+    → 0 < m → fan ≡ shares m xs → new ≡ old ++ fan ∷ [] → IsFanned xs old new
+fanned_one m xs fan old new lt e n = (fan, (m, lt, e), n)
 
 -- the branches of a stage
 
 pub none_wired : {F : Type 0} (k : Kit F) (may : F → ℕ → PlainVersion → Type 0) (touches : List Touch) (fs : List F) (m : ℕ) (xs : List (PlainMessage PlainApart)) (todo : List F) (given : List (List (List (PlainMessage PlainVersion)))) (w : Branches F)
-    → todo ≡ fs → length fs ≡ length touches → AllMayTake k may touches fs xs → given ≡ map (shares m) (came_from k touches fs xs) → w.versions ≡ [] → w.nodes.items ≡ [] → AreWiring k may touches fs m xs 0 todo given w
+    → todo ≡ fs → length fs ≡ length touches → AllMayTake k may touches fs xs → given ≡ columns m (came_from k touches fs xs) → w.versions ≡ [] → w.nodes.items ≡ [] → AreWiring k may touches fs m xs 0 todo given w
 none_wired k may touches fs m xs todo given w t owners take g v n = record {
   many = omega (arith, ap length t, owners);
-  versions = ap (λ y. y ++ all_parted touches xs) v;
-  outlets = g ∙ ap (λ y. map (shares m) (came_from k touches y xs)) (sym t);
+  versions = λ later h. subst (λ y. AreFanned touches xs (y ++ later)) (sym v) h;
+  ends = g ∙ ap (λ y. columns m (came_from k touches y xs)) (sym t);
   take = subst (λ y. AllMayTake k may touches y xs) (sym t) take;
   functions = [];
   nodes = no_nodes k may w.nodes.items n;
   gives = ap (λ y. stayed k touches y xs) t;
 }
 
--- the branch that is wired next, with this touch and these functions, and the outlets that it gets
+-- the branch that is wired next, with this touch and these functions, and the ends that it gets
 pub record BranchNext {F : Type 0} (k : Kit F) (may : F → ℕ → PlainVersion → Type 0) (touches : List Touch) (m : ℕ) (xs : List (PlainMessage PlainApart)) (j : ℕ) (todo : List F) (f : F) (touch : Touch) (given : List (List (List (PlainMessage PlainVersion)))) : Type 0 where
   pub touch_is : drop j touches ≡ touch ∷ drop (j + 1) touches
   pub take : MayTakeAll k may f 0 (map (parted touch) xs)
   pub take_later : AllMayTake k may (drop (j + 1) touches) todo xs
-  pub outlets_are : given ≡ shares m (ran k f (map (parted touch) xs)) ∷ map (shares m) (came_from k (drop (j + 1) touches) todo xs)
+  pub ends_are : given ≡ columns m (ran k f (map (parted touch) xs) ∷ came_from k (drop (j + 1) touches) todo xs)
 
 pub is_next : {F : Type 0} (k : Kit F) (may : F → ℕ → PlainVersion → Type 0) (touches : List Touch) (fs : List F) (m : ℕ) (xs : List (PlainMessage PlainApart)) (j : ℕ) (was todo : List F) (f : F) (given : List (List (List (PlainMessage PlainVersion)))) (w : Branches F)
     → AreWiring k may touches fs m xs j was given w → was ≡ f ∷ todo → j < length touches
@@ -187,31 +206,40 @@ branch_next k may touches fs m xs j was todo f none given w h t =
       touch_is = d;
       take = b.0;
       take_later = b.1;
-      outlets_are = h.outlets ∙ ap (λ y. map (shares m) (came_from k (drop j touches) y xs)) t ∙ ap (λ y. map (shares m) (came_from k y (f ∷ todo) xs)) d;
+      ends_are = h.ends ∙ ap (λ y. columns m (came_from k (drop j touches) y xs)) t ∙ ap (λ y. columns m (came_from k y (f ∷ todo) xs)) d;
     }
 
--- some outlets are left for the next branch, and the first of them are its own
-pub outlets_left : {F : Type 0} (k : Kit F) (may : F → ℕ → PlainVersion → Type 0) (touches : List Touch) (m : ℕ) (xs : List (PlainMessage PlainApart)) (j : ℕ) (todo : List F) (f : F) (touch : Touch) (given : List (List (List (PlainMessage PlainVersion))))
-    → BranchNext k may touches m xs j todo f touch given → 0 < length given
-outlets_left k may touches m xs j todo f touch given h = omega (arith, ap length h.outlets_are)
+columns_owing : {A : Type 0} (m i c : ℕ) (rows : List (List A)) → 0 < length rows → All Owing (columns_from m i c rows)
+unfolding columns_from
+columns_owing m i zero rows some = All-nil Owing
+columns_owing m i (suc c) rows some =
+    let long = length-map rows (share m i) in
+    let here : Owing (map (share m i) rows) = omega (arith, some, long) in
+    All-cons Owing (map (share m i) rows) (columns_from m (suc i) c rows) here (columns_owing m (suc i) c rows some)
 
-pub outlets_own : {F : Type 0} (k : Kit F) (may : F → ℕ → PlainVersion → Type 0) (touches : List Touch) (m : ℕ) (xs : List (PlainMessage PlainApart)) (j : ℕ) (todo : List F) (f : F) (touch : Touch) (given given' : List (List (List (PlainMessage PlainVersion)))) (own : List (List (PlainMessage PlainVersion)))
-    → BranchNext k may touches m xs j todo f touch given → given ≡ own ∷ given' → own ≡ shares m (ran k f (map (parted touch) xs))
-outlets_own k may touches m xs j todo f touch given given' own h g = (tail_is (sym g ∙ h.outlets_are)).0
+-- each merger has an end left for the next branch, and the first of each is its own
+pub ends_left : {F : Type 0} (k : Kit F) (may : F → ℕ → PlainVersion → Type 0) (touches : List Touch) (m : ℕ) (xs : List (PlainMessage PlainApart)) (j : ℕ) (todo : List F) (f : F) (touch : Touch) (given : List (List (List (PlainMessage PlainVersion))))
+    → BranchNext k may touches m xs j todo f touch given → All Owing given
+ends_left k may touches m xs j todo f touch given h = subst (All Owing) (sym h.ends_are) (columns_owing m 0 m (ran k f (map (parted touch) xs) ∷ came_from k (drop (j + 1) touches) todo xs) (omega arith))
 
-pub wired_more : {F : Type 0} (k : Kit F) (may : F → ℕ → PlainVersion → Type 0) (touches : List Touch) (fs : List F) (m : ℕ) (xs : List (PlainMessage PlainApart)) (j : ℕ) (was todo : List F) (f : F) (touch : Touch) (given given' : List (List (List (PlainMessage PlainVersion)))) (own : List (List (PlainMessage PlainVersion))) (w new : Branches F)
-    → AreWiring k may touches fs m xs j was given w → was ≡ f ∷ todo → BranchNext k may touches m xs j todo f touch given → given ≡ own ∷ given'
-    → new.versions ≡ w.versions ++ map (parted touch) xs ∷ []
+pub ends_own : {F : Type 0} (k : Kit F) (may : F → ℕ → PlainVersion → Type 0) (touches : List Touch) (m : ℕ) (xs : List (PlainMessage PlainApart)) (j : ℕ) (todo : List F) (f : F) (touch : Touch) (given : List (List (List (PlainMessage PlainVersion)))) (own : List (List (PlainMessage PlainVersion)))
+    → BranchNext k may touches m xs j todo f touch given → own ≡ map front given → own ≡ shares m (ran k f (map (parted touch) xs))
+ends_own k may touches m xs j todo f touch given own h e =
+    e ∙ ap (map front) h.ends_are ∙ columns_front m 0 m (ran k f (map (parted touch) xs)) (came_from k (drop (j + 1) touches) todo xs)
+
+pub wired_more : {F : Type 0} (k : Kit F) (may : F → ℕ → PlainVersion → Type 0) (touches : List Touch) (fs : List F) (m : ℕ) (xs : List (PlainMessage PlainApart)) (j : ℕ) (was todo : List F) (f : F) (touch : Touch) (given given' : List (List (List (PlainMessage PlainVersion)))) (w new : Branches F)
+    → AreWiring k may touches fs m xs j was given w → was ≡ f ∷ todo → BranchNext k may touches m xs j todo f touch given → given' ≡ map rest given
+    → IsFanned (map (parted touch) xs) w.versions new.versions
     → ((gs : List F) (c : Field → ℕ) → AreNodes k may w.nodes.items gs c → AreNodes k may new.nodes.items (gs ++ left k f (map (parted touch) xs) ∷ []) c)
     → AreWiring k may touches fs m xs (j + 1) todo given' new
-unfolding stayed
-wired_more k may touches fs m xs j was todo f touch given given' own w new h t b g v n = record {
+unfolding stayed AreFanned
+wired_more k may touches fs m xs j was todo f touch given given' w new h t b g v n = record {
   many = omega (arith, h.many, ap length t);
-  versions = ap (λ y. y ++ all_parted (drop (j + 1) touches) xs) v
-      ∙ append_assoc w.versions (map (parted touch) xs ∷ []) (all_parted (drop (j + 1) touches) xs)
-      ∙ ap (λ y. w.versions ++ all_parted y xs) (sym b.touch_is)
-      ∙ h.versions;
-  outlets = (tail_is (sym g ∙ b.outlets_are)).1;
+  versions = λ later r.
+      let both : AreFanned (touch ∷ drop (j + 1) touches) xs (v.0 ∷ later) = (v.1, r) in
+      subst (AreFanned touches xs) (sym (ap (λ y. y ++ later) v.2 ∙ append_assoc w.versions (v.0 ∷ []) later))
+      (h.versions (v.0 ∷ later) (subst (λ y. AreFanned y xs (v.0 ∷ later)) (sym b.touch_is) both));
+  ends = g ∙ ap (map rest) b.ends_are ∙ columns_rest m 0 m (ran k f (map (parted touch) xs)) (came_from k (drop (j + 1) touches) todo xs);
   take = b.take_later;
   functions = h.functions ++ left k f (map (parted touch) xs) ∷ [];
   nodes = n h.functions no_copies h.nodes;
@@ -229,10 +257,10 @@ drop_none (suc n) (x ∷ xs) le = drop_none n xs (omega arith)
 
 pub all_wired : {F : Type 0} (k : Kit F) (may : F → ℕ → PlainVersion → Type 0) (touches : List Touch) (fs : List F) (m : ℕ) (xs : List (PlainMessage PlainApart)) (j : ℕ) (todo : List F) (given : List (List (List (PlainMessage PlainVersion)))) (w : Branches F)
     → AreWiring k may touches fs m xs j todo given w → todo ≡ [] → AreWired k may touches fs xs w
-unfolding stayed
+unfolding stayed AreFanned
 all_wired k may touches fs m xs j todo given w h t =
     let none : drop j touches ≡ [] = drop_none j touches (omega (arith, h.many, ap length t)) in record {
-      versions = sym (append-nil w.versions) ∙ ap (λ y. w.versions ++ all_parted y xs) (sym none) ∙ h.versions;
+      versions = subst (AreFanned touches xs) (append-nil w.versions) (h.versions [] (subst (λ y. AreFanned y xs []) (sym none) tt));
       nodes = nodes_are k may w.nodes.items w.nodes.items h.functions (stayed k touches fs xs) no_copies no_copies h.nodes refl
           (sym (sym (append-nil h.functions) ∙ ap (λ y. h.functions ++ stayed k y todo xs) (sym none) ∙ h.gives)) (λ f. refl);
     }
@@ -280,13 +308,13 @@ share_belong m zero (b ∷ bases) columns h = (
 )
 share_belong m (suc i) (b ∷ bases) columns h = subst (λ y. AllBelong (share m i bases) y) (sym (share_later m i columns)) (share_belong m i bases (map rest columns) h.1)
 
-all_tail : {A : Type 0} (R : A → Type 0) (x : A) (xs : List A) → All R (x ∷ xs) → All R xs
+pub all_tail : {A : Type 0} (R : A → Type 0) (x : A) (xs : List A) → All R (x ∷ xs) → All R xs
 all_tail R x xs h k d lt = h (suc k) d (omega arith)
 
-all_head : {A : Type 0} (R : A → Type 0) (x : A) (xs : List A) → All R (x ∷ xs) → R x
+pub all_head : {A : Type 0} (R : A → Type 0) (x : A) (xs : List A) → All R (x ∷ xs) → R x
 all_head R x xs h = h 0 x (omega arith)
 
-share_even : {P : Type 0} (m i count own : ℕ) (columns : List (List (PlainMessage P))) → own ≡ share_len m i count → All (λ column. length column ≡ count) columns → All (λ column. length column ≡ own) (map (share m i) columns)
+pub share_even : {P : Type 0} (m i count own : ℕ) (columns : List (List (PlainMessage P))) → own ≡ share_len m i count → All (λ column. length column ≡ count) columns → All (λ column. length column ≡ own) (map (share m i) columns)
 share_even m i count own [] w a = All-nil _
 share_even m i count own (c ∷ columns) w a =
     All-cons (λ column. length column ≡ own) (share m i c) (map (share m i) columns)
@@ -387,7 +415,7 @@ is_wired {F} {S} k may comes m count s xs source b w p lt many takes h src n par
     few = subst (λ (p : StageParts). length p.touches ≤ 64) (sym parts) p.few;
     many = many ∙ sym n;
     takes = subst (λ y. comes y xs) (sym src) takes;
-    gives = v ∙ h.versions ∙ ap (λ (p : StageParts). all_parted p.touches xs) (sym parts);
+    gives = subst (λ (p : StageParts). AreFanned p.touches xs w.dealer.versions) (sym parts) (subst (AreFanned s.parts.touches xs) (sym v) h.versions);
     gives_bases = bases ∙ ap (λ (p : StageParts). shares m (map (base_of p.touches) xs)) (sym parts);
   };
   nodes = mergers (stayed k s.parts.touches s.branches xs) no_copies h.nodes;

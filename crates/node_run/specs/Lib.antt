@@ -4,3 +4,4 @@ pub mod Starts
 pub mod Stages
 pub mod Wired
 pub mod Runs
+pub mod Replicas

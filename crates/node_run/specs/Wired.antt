@@ -1,54 +1,43 @@
 -- For proofs: how the nodes of a stage hang together.
-use Rattle.std.specs.Prelude.{◌≡◌, ◌<◌, ◌≤◌, ◌+◌, ◌++◌, ℕ, zero, suc, List, [], ◌∷◌, length, map, drop, All}
+use Rattle.std.specs.Prelude.{◌≡◌, ◌<◌, ◌≤◌, ◌+◌, ◌++◌, ℕ, List, [], ◌∷◌, length, map, drop, All}
 use Rattle.action_profile.specs.declared.parts.Touch.{Touch}
 use Rattle.packet_version.specs.Splitting.{PlainApart}
 use Rattle.packet_version.specs.Versions.{PlainVersion}
-use Rattle.message_links.specs.Messages.{PlainMessage, front, rest}
-use Rattle.message_links.specs.Turns.{shares, shares_from, columns_from}
-use Rattle.stage_nodes.specs.Dues.{DealerDue}
-use Rattle.stage_nodes.specs.Streams.{Kit, PlainStage, parted, came_from, passed, stayed, merged_rows}
+use Rattle.message_links.specs.Messages.{PlainMessage}
+use Rattle.message_links.specs.Turns.{share, shares, shares_from, columns, columns_from}
+use Rattle.stage_nodes.specs.Dues.{AreFanned, AreShared, DealerDue}
+use Rattle.stage_nodes.specs.Streams.{Kit, PlainStage, came_from, passed, stayed, merged_rows}
 use Rattle.stage_nodes.specs.Flows.{AllMayTake, AllBelong}
 use Rattle.node_run.specs.Nodes.{AreNodes, no_copies}
 use Rattle.node_run.specs.declared.branches.Branches.{Branches}
 use Rattle.node_run.specs.declared.meeting.Meeting.{Meeting}
 use Rattle.node_run.specs.declared.wire.WiredStage.{WiredStage}
 
--- what a dealer gives each branch
-abbrev pub all_parted : List Touch → List (PlainMessage PlainApart) → List (List (PlainMessage PlainVersion))
-all_parted touches xs = map (λ t. map (parted t) xs) touches
+-- what comes from each branch meets m mergers: both the branches' ends and the merger's have its share of each branch's
+pub record Meets (m : ℕ) (rows : List (List (PlainMessage PlainVersion))) (w : Meeting) : Type 0 where
+  pub ends : w.ends.items ≡ columns m rows
+  pub inlets : w.inlets.items ≡ columns m rows
 
--- what comes from each branch meets m mergers: a branch's end has its share for each merger, and a merger's its share of each branch's
-pub record Meets (m : ℕ) (columns : List (List (PlainMessage PlainVersion))) (w : Meeting) : Type 0 where
-  pub outlets : w.outlets.items ≡ map (shares m) columns
-  pub inlets : w.inlets.items ≡ columns_from m 0 m columns
-
--- j branches of a stage have their links to m mergers; those behind them are still to get theirs
-pub record AreLinked {F : Type 0} (k : Kit F) (touches : List Touch) (fs : List F) (m : ℕ) (xs : List (PlainMessage PlainApart)) (j : ℕ) (ends : List (List (List (PlainMessage PlainVersion)))) : Type 0 where
+-- j branches of a stage have their links to merger i of m; those behind them are still to get theirs
+pub record AreLinked {F : Type 0} (k : Kit F) (touches : List Touch) (fs : List F) (m i : ℕ) (xs : List (PlainMessage PlainApart)) (j : ℕ) (ends : List (List (PlainMessage PlainVersion))) : Type 0 where
   pub many : length ends ≡ j
   pub inside : j ≤ length touches
-  pub shared : ends ++ map (shares m) (came_from k (drop j touches) (drop j fs) xs) ≡ map (shares m) (came_from k touches fs xs)
+  pub shared : ends ++ map (share m i) (came_from k (drop j touches) (drop j fs) xs) ≡ map (share m i) (came_from k touches fs xs)
 
--- the first c of each row, place by place
-unfoldable pub sides : {A : Type 0} → ℕ → List (List (List A)) → List (List (List A))
-sides zero rows = []
-sides (suc c) rows = map front rows ∷ sides c (map rest rows)
-
--- the inlets of so many mergers are made; c are still to be made, of what is left of each row
-pub record AreSides {A : Type 0} (m c : ℕ) (all rows : List (List (List A))) (made : List (List (List A))) : Type 0 where
-  pub many : length rows ≡ length all
-  pub even : All (λ row. length row ≡ c) rows
-  pub so_far : made ++ sides c rows ≡ sides m all
+-- one stream more is shared in turn
+abbrev pub IsFanned : List (PlainMessage PlainVersion) → List (List (List (PlainMessage PlainVersion))) → List (List (List (PlainMessage PlainVersion))) → Type 0
+IsFanned xs old new = (fan : List (List (PlainMessage PlainVersion))) × AreShared fan xs × (new ≡ old ++ fan ∷ [])
 
 -- the branches of a stage
 pub record AreWired {F : Type 0} (k : Kit F) (may : F → ℕ → PlainVersion → Type 0) (touches : List Touch) (fs : List F) (xs : List (PlainMessage PlainApart)) (w : Branches F) : Type 0 where
-  pub versions : w.versions ≡ all_parted touches xs
+  pub versions : AreFanned touches xs w.versions
   pub nodes : AreNodes k may w.nodes.items (stayed k touches fs xs) no_copies
 
--- j branches of a stage; those behind them are still to be wired, and these outlets to be given to them
+-- j branches of a stage; those behind them are still to be wired, and these ends to be given to them
 pub record AreWiring {F : Type 0} (k : Kit F) (may : F → ℕ → PlainVersion → Type 0) (touches : List Touch) (fs : List F) (m : ℕ) (xs : List (PlainMessage PlainApart)) (j : ℕ) (todo : List F) (given : List (List (List (PlainMessage PlainVersion)))) (w : Branches F) : Type 0 where
   pub many : j + length todo ≡ length touches
-  pub versions : w.versions ++ all_parted (drop j touches) xs ≡ all_parted touches xs
-  pub outlets : given ≡ map (shares m) (came_from k (drop j touches) todo xs)
+  pub versions : (later : List (List (List (PlainMessage PlainVersion)))) → AreFanned (drop j touches) xs later → AreFanned touches xs (w.versions ++ later)
+  pub ends : given ≡ columns m (came_from k (drop j touches) todo xs)
   pub take : AllMayTake k may (drop j touches) todo xs
   pub functions : List F
   pub nodes : AreNodes k may w.nodes.items functions no_copies

@@ -1,59 +1,62 @@
 //! The branches of a stage, with their links from the dealer and their ends of where they meet the mergers.
-ghost use Rattle.std.specs.Prelude.{◌≡◌, ◌<◌, ◌++◌, ◌∷◌, [], ℕ, List, length, map, IfOk, OnOk};
+ghost use Rattle.std.specs.Prelude.{◌≡◌, ◌<◌, ◌≤◌, ◌++◌, ◌∷◌, [], ℕ, List, length, map, All, IfOk, OnOk};
 ghost use Rattle.packet_fields.specs.declared.field.Field.{Field};
-ghost use Rattle.message_links.specs.Turns.{shares};
+ghost use Rattle.message_links.specs.Messages.{Owing, front, rest};
+ghost use Rattle.message_links.specs.Turns.{columns, shares};
 ghost use Rattle.stage_nodes.specs.Streams.{came_from, left, parted, ran};
 ghost use Rattle.stage_nodes.specs.Flows.{AllMayTake, MayTakeAll};
 ghost use Rattle.node_run.specs.Nodes.{AreNodes};
-ghost use Rattle.node_run.specs.Wired.{AreWired};
+ghost use Rattle.node_run.specs.Wired.{AreWired, IsFanned};
 
-use crate::meeting::take_first;
+use crate::fans::fan;
 use crate::node::Node;
+use crate::replicas::{replicas_of, wire_replicas};
 use action_profile::Touch;
-use message_links::{Inlet, Outlet, Outlets, Parcel, edge};
+use message_links::{Fans, Inlets, Outlets, Parcel};
 use packet_version::{Apart, Version};
 use ruled_links::LinkDue;
-use stage_nodes::{Branch, BranchWork, ToMergers};
+use stage_nodes::{Branch, BranchWork, ToMergers, take_ends};
 use std::alloc::{AllocError, Global};
 use std::marker::Brand;
 
-/// The branches of a stage: what the dealer gives them, and the branches.
+/// The branches of a stage: what the dealer gives them, and their nodes.
 #[derive(Drop)]
 pub(crate) struct Branches<F> {
-    pub(crate) versions: Outlets<Version>,
+    pub(crate) versions: Fans<Version>,
     pub(crate) nodes: Vec<Node<F>>,
 }
 
-/// The branches with these touches and functions, each with its outlets to the mergers, for so many packets.
+/// The branches with these touches and functions, each with its ends to the mergers, for so many packets.
 pub(crate) fn wire_branches<F: BranchWork + Drop, D: LinkDue<Parcel<Apart>>>(
     alloc: Global,
     touches: &[Touch],
     functions: Vec<F>,
-    outlets: Vec<ToMergers>,
+    ends: Vec<ToMergers>,
     mergers: u32,
     count: u32,
 ) -> Result<Branches<F>, AllocError>
     requires some { 0 < mergers }
+    requires few_mergers { mergers ≤ 16 }
     requires few { count < 65537 }
     requires many { length D.due ≡ count }
     requires owners { length functions.items ≡ length touches.now }
     requires take { AllMayTake F.kit F.may touches.now functions.items D.due }
-    requires outlets { outlets.items ≡ map (shares mergers) (came_from F.kit touches.now functions.items D.due) }
+    requires ends { ends.items ≡ columns mergers (came_from F.kit touches.now functions.items D.due) }
     ensures { IfOk result (λ w. AreWired F.kit F.may touches.now functions.items D.due w) }
 {
-    let mut outlets = outlets;
+    let mut ends = ends;
     let mut wired = Branches {
-        versions: Outlets::new(alloc),
+        versions: Fans::new(alloc),
         nodes: Vec::new(alloc),
     };
     let mut branch = 0;
     for work in functions {
-        let to_mergers = take_first(&mut outlets);
+        let own = next_ends(alloc, &mut ends)?;
         wire_branch::<F, D>(
             alloc,
             touches[branch],
             work,
-            to_mergers,
+            own,
             mergers,
             count,
             &mut wired,
@@ -63,12 +66,49 @@ pub(crate) fn wire_branches<F: BranchWork + Drop, D: LinkDue<Parcel<Apart>>>(
     Ok(wired)
 }
 
-/// One branch more, which gives into these outlets.
+/// The ends of the next branch, one to each merger.
+fn next_ends(alloc: Global, ends: &mut Vec<ToMergers>) -> Result<ToMergers, AllocError>
+    requires { All Owing ends.old.items }
+    ensures row { IfOk result (λ row. row ≡ map front ends.old.items) }
+    ensures after { OnOk result (ends.new.items ≡ map rest ends.old.items) }
+{
+    take_ends(alloc, ends.as_mut_slice())
+}
+
+/// One branch more, which gives into these ends. Where its functions keep no state and there are several mergers,
+/// it has a node for each of them, and else one for all.
 fn wire_branch<F: BranchWork + Drop, D: LinkDue<Parcel<Apart>>>(
     alloc: Global,
     touch: Touch,
     work: F,
-    outlets: ToMergers,
+    ends: ToMergers,
+    mergers: u32,
+    count: u32,
+    wired: &mut Branches<F>,
+) -> Result<(), AllocError>
+    requires some { 0 < mergers }
+    requires few_mergers { mergers ≤ 16 }
+    requires few { count < 65537 }
+    requires many { length D.due ≡ count }
+    requires take { MayTakeAll F.kit F.may work 0 (map (parted touch) D.due) }
+    requires ends { ends ≡ shares mergers (ran F.kit work (map (parted touch) D.due)) }
+    ensures versions { OnOk result (IsFanned (map (parted touch) D.due) wired.old.versions wired.new.versions) }
+    ensures nodes { OnOk result ((fs : List F) (c : Field → ℕ) → AreNodes F.kit F.may wired.old.nodes.items fs c → AreNodes F.kit F.may wired.new.nodes.items (fs ++ left F.kit work (map (parted touch) D.due) ∷ []) c) }
+{
+    if mergers > 1
+        && let Some(replicas) = replicas_of(alloc, &work, mergers - 1)?
+    {
+        return wire_replicas::<F, D>(alloc, touch, work, replicas, ends, mergers, count, wired);
+    }
+    wire_alone::<F, D>(alloc, touch, work, ends, mergers, count, wired)
+}
+
+/// One branch more, with one node.
+fn wire_alone<F: BranchWork + Drop, D: LinkDue<Parcel<Apart>>>(
+    alloc: Global,
+    touch: Touch,
+    work: F,
+    ends: ToMergers,
     mergers: u32,
     count: u32,
     wired: &mut Branches<F>,
@@ -77,31 +117,35 @@ fn wire_branch<F: BranchWork + Drop, D: LinkDue<Parcel<Apart>>>(
     requires few { count < 65537 }
     requires many { length D.due ≡ count }
     requires take { MayTakeAll F.kit F.may work 0 (map (parted touch) D.due) }
-    requires outlets { outlets ≡ shares mergers (ran F.kit work (map (parted touch) D.due)) }
-    ensures versions { OnOk result (wired.new.versions ≡ wired.old.versions ++ map (parted touch) D.due ∷ []) }
+    requires ends { ends ≡ shares mergers (ran F.kit work (map (parted touch) D.due)) }
+    ensures versions { OnOk result (IsFanned (map (parted touch) D.due) wired.old.versions wired.new.versions) }
     ensures nodes { OnOk result ((fs : List F) (c : Field → ℕ) → AreNodes F.kit F.may wired.old.nodes.items fs c → AreNodes F.kit F.may wired.new.nodes.items (fs ++ left F.kit work (map (parted touch) D.due) ∷ []) c) }
 {
-    let (outlet, inlet) = version_edge::<D, Brand>(alloc, touch, count)?;
-    wired.versions.push(outlet)?;
+    let (versions, mut inlets) = version_fan::<D, Brand>(alloc, touch, 1, count)?;
+    wired.versions.push(versions)?;
     wired.nodes.push(Node::Branch(Branch {
-        inlet,
-        outlets,
+        inlet: inlets.take_first(),
+        outlets: ends,
         work,
+        first: 0,
+        step: 1,
         count,
     }))?;
     Ok(())
 }
 
-/// The link from the dealer to a branch.
-fn version_edge<D: LinkDue<Parcel<Apart>>, E: LinkDue<Parcel<Version>>>(
+/// The links from the dealer to a branch that has so many nodes.
+pub(crate) fn version_fan<D: LinkDue<Parcel<Apart>>, E: LinkDue<Parcel<Version>>>(
     alloc: Global,
     touch: Touch,
+    nodes: u32,
     count: u32,
-) -> Result<(Outlet<Version>, Inlet<Version>), AllocError>
+) -> Result<(Outlets<Version>, Inlets<Version>), AllocError>
     requires due { E.due ≡ map (parted touch) D.due }
+    requires some { 0 < nodes }
     requires few { count < 65537 }
     requires many { length D.due ≡ count }
-    ensures { IfOk result (λ e. (e.0 ≡ map (parted touch) D.due) × (e.1 ≡ map (parted touch) D.due)) }
+    ensures { IfOk result (λ e. (e.0 ≡ shares nodes (map (parted touch) D.due)) × (e.1 ≡ shares nodes (map (parted touch) D.due))) }
 {
-    edge::<Version, E>(alloc, count)
+    fan::<Version, E>(alloc, nodes, count)
 }

@@ -9,12 +9,17 @@
 //! of its own where one can be started; else the caller runs it to its end, once it has dealt all packets, and
 //! goes on with the next.
 //!
+//! A branch whose functions keep no state has a node for each merger, its replicas: each has the versions of its
+//! merger's packets, which the dealer gives in turn, and gives what its functions make of them to that merger. Such
+//! functions make of a share of some versions what is that share of what they make of all. The first node has the
+//! branch's functions and gives them back, and each other has the same functions once more, which it drops.
+//!
 //! What the branches of a stage give comes to its mergers in one of two ways ([`MergeWay`]). Over links, each
-//! branch has a link to each merger, and a merger asks its links in branch order. On a board (`message_boards`),
-//! the stage has a word for each packet and a place for each branch's version: a branch puts what it gives and
-//! marks the word, and a merger looks at the words of its packets in rising order, each until all branches have
-//! marked it. Either is a `Meeting`: an end for each branch and one for each merger, seen as the messages that
-//! are still due on it. Both are made under one contract, so the nodes of a stage are wired from a meeting
+//! branch has a link to each merger, and a merger asks its links in branch order. On boards (`message_boards`),
+//! each merger has a word for each of its packets and a place for each branch's version: a branch puts what it
+//! gives and marks the word, and the merger looks at the words in rising order, each until all branches have
+//! marked it. Either is a `Meeting`: for each merger the ends of the branches and its own, seen as the messages
+//! that are still due on them. Both are made under one contract, so the nodes of a stage are wired from a meeting
 //! alike, whichever way it was made.
 //!
 //! Who waits for whom: a branch waits for its dealer, a merger for the dealer and the branches of its stage, a
@@ -32,8 +37,8 @@
 //! threads are joined on every way out.
 //!
 //! How it is laid out: `fans` makes the links by which a stream is shared in turn, `meeting` where the branches
-//! of a stage meet its mergers, by `over_links` or `on_board`, `branches`, `mergers` and `wire` the nodes of a
-//! stage, `first` runs the dealer of the first stage, `start` starts and joins a node, `collect` takes what comes
+//! of a stage meet its mergers, by `over_links` or `on_board`, `branches`, `replicas`, `mergers` and `wire` the
+//! nodes of a stage, `first` runs the dealer of the first stage, `start` starts and joins a node, `collect` takes what comes
 //! behind the last stage, and `run` puts it all together.
 //!
 //! What is left out: that a call which waits ever returns, and so that a run ends.
@@ -49,6 +54,7 @@ mod mergers;
 mod node;
 mod on_board;
 mod over_links;
+mod replicas;
 mod run;
 mod stage;
 mod start;

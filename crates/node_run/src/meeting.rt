@@ -1,5 +1,6 @@
 //! Where what comes from the branches of a stage meets its mergers.
-ghost use Rattle.std.specs.Prelude.{◌≡◌, ◌<◌, ◌≤◌, ◌∷◌, length, IfOk};
+ghost use Rattle.std.specs.Prelude.{◌≡◌, ◌<◌, ◌≤◌, ◌∷◌, length, map, IfOk};
+ghost use Rattle.message_links.specs.Turns.{share};
 ghost use Rattle.stage_nodes.specs.Streams.{came_from};
 ghost use Rattle.node_run.specs.Wired.{Meets};
 
@@ -18,14 +19,14 @@ use std::marker::Brand;
 pub enum MergeWay {
     /// Over links, which the mergers ask.
     Inbox,
-    /// On a board, where each branch puts what it gives and each merger looks.
+    /// On boards, one for each merger, where each branch puts what it gives and the merger looks.
     Board,
 }
 
-/// The ends of a stage's branches, in branch order, and those of its mergers.
+/// For each merger of a stage the ends of the branches, in branch order, and its own.
 #[derive(Drop)]
 pub(crate) struct Meeting {
-    pub(crate) outlets: Vec<ToMergers>,
+    pub(crate) ends: Vec<ToMergers>,
     pub(crate) inlets: Vec<FromBranches>,
 }
 
@@ -41,15 +42,47 @@ pub(crate) fn meet<F: BranchWork, D: LinkDue<Parcel<Apart>>>(
 ) -> Result<Meeting, AllocError>
     requires branches { (0 < length touches.now) × (length touches.now ≤ 64) }
     requires owners { length functions.now ≡ length touches.now }
-    requires mergers { (0 < mergers) × (mergers ≤ 16) }
+    requires some { 0 < mergers }
     requires few { count < 65537 }
     requires many { length D.due ≡ count }
     ensures { IfOk result (λ w. Meets mergers (came_from F.kit touches.now functions.now D.due) w) }
 {
+    let mut ends = Vec::new(alloc);
+    let mut inlets = Vec::new(alloc);
+    for merger in 0..mergers {
+        let (own, from_branches) = meet_merger::<F, D>(
+            alloc, way, touches, functions, mergers, merger, count,
+        )?;
+        ends.push(own)?;
+        inlets.push(from_branches)?;
+    }
+    Ok(Meeting { ends, inlets })
+}
+
+/// Where the branches meet one merger, which has its share of the packets.
+fn meet_merger<F: BranchWork, D: LinkDue<Parcel<Apart>>>(
+    alloc: Global,
+    way: MergeWay,
+    touches: &[Touch],
+    functions: &[F],
+    mergers: u32,
+    merger: u32,
+    count: u32,
+) -> Result<(ToMergers, FromBranches), AllocError>
+    requires branches { (0 < length touches.now) × (length touches.now ≤ 64) }
+    requires owners { length functions.now ≡ length touches.now }
+    requires some { 0 < mergers }
+    requires few { count < 65537 }
+    requires many { length D.due ≡ count }
+    ensures ends { IfOk result (λ e. e.0 ≡ map (share mergers merger) (came_from F.kit touches.now functions.now D.due)) }
+    ensures inlets { IfOk result (λ e. e.1 ≡ map (share mergers merger) (came_from F.kit touches.now functions.now D.due)) }
+{
     match way {
-        MergeWay::Inbox => meet_over_links::<F, D>(alloc, touches, functions, mergers, count),
+        MergeWay::Inbox => {
+            meet_over_links::<F, D>(alloc, touches, functions, mergers, merger, count)
+        }
         MergeWay::Board => {
-            meet_on_board::<F, D, Brand>(alloc, touches, functions, mergers, count)
+            meet_on_board::<F, D, Brand>(alloc, touches, functions, mergers, merger, count)
         }
     }
 }

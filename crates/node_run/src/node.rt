@@ -10,16 +10,18 @@ use std::snapshot::Snapshot;
 use std::sync::Wait;
 use std::thread::Promise;
 
-/// A dealer of a stage behind another, a branch or a merger, with its ends of links and of boards.
+/// A dealer of a stage behind another, a branch, a replica of one that keeps no state, or a merger, with its ends
+/// of links and of boards.
 #[derive(Drop)]
 pub(crate) enum Node<F> {
     Dealer(Dealer<Inlets<Apart>>),
     Branch(Branch<F>),
+    Replica(Branch<F>),
     Merger(Merger),
 }
 
-/// What a node gives back: a branch its functions, a dealer the copies that it made, and each whether it
-/// found that memory was short. A merger says so of the packets that it gives.
+/// What a node gives back: a branch its functions, unless it is a replica, a dealer the copies that it made, and
+/// each whether it found that memory was short. A merger says so of the packets that it gives.
 #[derive(Drop)]
 pub(crate) struct Done<F> {
     pub(crate) function: Option<F>,
@@ -28,7 +30,7 @@ pub(crate) struct Done<F> {
 }
 
 /// Runs a node to its end.
-pub(crate) fn run_node<F: BranchWork, R: Wait, G: Gate>(
+pub(crate) fn run_node<F: BranchWork + Drop, R: Wait, G: Gate>(
     rt: &R,
     alloc: Global,
     gate: &G,
@@ -50,6 +52,14 @@ pub(crate) fn run_node<F: BranchWork, R: Wait, G: Gate>(
             let short = run_branch(rt, alloc, gate, &mut branch);
             Done {
                 function: Some(branch.work),
+                tally: Tally::new(),
+                short,
+            }
+        }
+        Node::Replica(mut branch) => {
+            let short = run_branch(rt, alloc, gate, &mut branch);
+            Done {
+                function: None,
                 tally: Tally::new(),
                 short,
             }

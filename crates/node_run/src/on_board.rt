@@ -1,67 +1,52 @@
-//! A stage's branches and mergers meet on a board.
-ghost use Rattle.std.specs.Prelude.{◌≡◌, ◌<◌, ◌≤◌, length, All, IfOk};
-ghost use Rattle.message_links.specs.Messages.{Owing};
+//! A stage's branches and a merger meet on a board.
+ghost use Rattle.std.specs.Prelude.{◌≡◌, ◌<◌, ◌≤◌, length, map, IfOk};
+ghost use Rattle.message_links.specs.Turns.{share};
 ghost use Rattle.stage_nodes.specs.Streams.{came_from};
-ghost use Rattle.node_run.specs.Wired.{Meets};
 
-use crate::meeting::Meeting;
+use crate::fans::share_count;
 use action_profile::Touch;
 use merge_board::BoardDue;
-use message_boards::{BoardInlets, BoardOutlets, board_ends};
+use message_boards::{BoardOutlet, board_ends};
 use message_links::Parcel;
 use packet_version::{Apart, Version};
 use ruled_links::LinkDue;
-use stage_nodes::{BranchWork, FromBranches, ToMergers};
+use stage_nodes::{BranchWork, FromBranches, ToMerger, ToMergers};
 use std::alloc::{AllocError, Global};
 
-/// A board for the branches with these touches and functions and so many mergers, for so many packets.
+/// A board for the branches with these touches and functions and one of so many mergers, for its share of so many
+/// packets: the branches' seats, and the merger's.
 pub(crate) fn meet_on_board<F: BranchWork, D: LinkDue<Parcel<Apart>>, E: BoardDue<Parcel<Version>>>(
     alloc: Global,
     touches: &[Touch],
     functions: &[F],
     mergers: u32,
+    merger: u32,
     count: u32,
-) -> Result<Meeting, AllocError>
-    requires due { E.due ≡ came_from F.kit touches.now functions.now D.due }
+) -> Result<(ToMergers, FromBranches), AllocError>
+    requires due { E.due ≡ map (share mergers merger) (came_from F.kit touches.now functions.now D.due) }
     requires branches { (0 < length touches.now) × (length touches.now ≤ 64) }
     requires owners { length functions.now ≡ length touches.now }
-    requires mergers { (0 < mergers) × (mergers ≤ 16) }
+    requires some { 0 < mergers }
     requires few { count < 65537 }
     requires many { length D.due ≡ count }
-    ensures { IfOk result (λ w. Meets mergers (came_from F.kit touches.now functions.now D.due) w) }
+    ensures ends { IfOk result (λ e. e.0 ≡ map (share mergers merger) (came_from F.kit touches.now functions.now D.due)) }
+    ensures inlets { IfOk result (λ e. e.1 ≡ map (share mergers merger) (came_from F.kit touches.now functions.now D.due)) }
 {
     let branches = touches.len() as u32;
-    let (outlets, inlets) = board_ends::<Version, E>(alloc, branches, mergers, count)?;
-    let outlets = branch_outlets(alloc, outlets)?;
-    let inlets = merger_inlets(alloc, inlets)?;
-    Ok(Meeting { outlets, inlets })
+    let own = share_count(count, mergers, merger);
+    let (seats, inlets) = board_ends::<Version, E>(alloc, branches, own)?;
+    let ends = branch_ends(alloc, seats)?;
+    let from_branches = FromBranches::of_board(alloc, inlets)?;
+    Ok((ends, from_branches))
 }
 
 /// The branches' seats as what a branch gives into.
-fn branch_outlets(
-    alloc: Global,
-    seats: Vec<BoardOutlets<Version>>,
-) -> Result<Vec<ToMergers>, AllocError>
-    ensures { IfOk result (λ outlets. outlets.items ≡ seats.items) }
+fn branch_ends(alloc: Global, seats: Vec<BoardOutlet<Version>>) -> Result<ToMergers, AllocError>
+    ensures { IfOk result (λ ends. ends ≡ seats.items) }
 {
-    let mut outlets = Vec::new(alloc);
+    let mut ends = ToMergers::new(alloc);
     for seat in seats {
-        outlets.push(ToMergers::of_board(seat))?;
+        ends.push(ToMerger::of_board(seat))?;
     }
-    Ok(outlets)
-}
-
-/// The mergers' seats as what a merger takes from.
-fn merger_inlets(
-    alloc: Global,
-    seats: Vec<BoardInlets<Version>>,
-) -> Result<Vec<FromBranches>, AllocError>
-    requires { All Owing seats.items }
-    ensures { IfOk result (λ inlets. inlets.items ≡ seats.items) }
-{
-    let mut inlets = Vec::new(alloc);
-    for seat in seats {
-        inlets.push(FromBranches::of_board(alloc, seat)?)?;
-    }
-    Ok(inlets)
+    Ok(ends)
 }

@@ -49,7 +49,7 @@ pub(crate) fn wire_stage<F: BranchWork + Drop, S: Supply + Drop, D: LinkDue<Parc
     let StageWork { parts, branches } = work;
     let (bases, to_mergers) = base_fan::<D, Brand>(alloc, &parts, mergers, count)?;
     let touches = parts.touches.as_slice();
-    let Meeting { outlets, inlets } = meet::<F, D>(
+    let Meeting { ends, inlets } = meet::<F, D>(
         alloc,
         way,
         touches,
@@ -57,7 +57,7 @@ pub(crate) fn wire_stage<F: BranchWork + Drop, S: Supply + Drop, D: LinkDue<Parc
         mergers,
         count,
     )?;
-    let wired = wire_branches::<F, D>(alloc, touches, branches, outlets, mergers, count)?;
+    let wired = wire_branches::<F, D>(alloc, touches, branches, ends, mergers, count)?;
     let Branches {
         versions,
         mut nodes,

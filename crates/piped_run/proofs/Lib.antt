@@ -4,3 +4,4 @@ mod Ending
 mod Passing
 mod Leading
 mod Framing
+mod Cloning

@@ -7,10 +7,11 @@
 //! caller's thread and takes frames apart as it deals them; each other node has a thread of its own where one can
 //! be started. A dealer takes a packet, deals it to the branches, and takes the next while they
 //! are still at work; a branch takes what it is dealt in the packets' order; a merger puts together what the
-//! branches gave of a packet, and gives it to the next stage's dealer. So a packet may be in the first stage
+//! branches gave of a packet, and gives it to the next stage's dealer. A branch whose functions keep no state, by
+//! their profiles, has a node for each merger, with the same functions. So a packet may be in the first stage
 //! while the one before it is in the last. The nodes give each other messages over links of one giver and one
 //! taker each. What branches give to mergers goes over such links too ([`MergeWay::Inbox`]), or each branch puts
-//! it in its place on the stage's board, and a merger looks at a packet's word until it has the bit of each
+//! it in its place on the merger's board, which looks at a packet's word until it has the bit of each
 //! branch ([`MergeWay::Board`]). The two ways have one contract, which says nothing of the way.
 //!
 //! The functions of the chain are split among the branches that own them, and put together in chain order

@@ -1,13 +1,14 @@
 //! The functions that a branch owns, as the work of a node.
-ghost use Rattle.std.specs.Prelude.{◌≡◌, false};
+ghost use Rattle.std.specs.Prelude.{◌≡◌, false, All, IfOk, IfSome, IsSome};
 
+use crate::laws::functions_keep_to_profiles;
 use crate::turn::branch_turn;
 use message_links::Message;
 use net_functions::Function;
 use nfp_outside::Gate;
 use packet_version::Version;
 use stage_nodes::BranchWork;
-use std::alloc::Global;
+use std::alloc::{AllocError, Global};
 use std::marker::Model;
 use std::sync::Wait;
 
@@ -30,7 +31,7 @@ impl<F> Model for OwnedFunctions<F> {
     ghost view = { λ o. record { functions = o.functions.items; positions = o.positions.items; packets = length o.numbers.items } };
 }
 
-impl<F: Function> BranchWork for OwnedFunctions<F> {
+impl<F: Function + Drop> BranchWork for OwnedFunctions<F> {
     ghost use Rattle.stream_law.specs.Owned.{owned_kit, owned_may};
 
     ghost kit = { owned_kit F.behaviour };
@@ -62,4 +63,49 @@ impl<F: Function> BranchWork for OwnedFunctions<F> {
             gone => gone,
         }
     }
+
+    fn try_clone(&self, alloc: Global) -> Result<Option<Self>, AllocError> {
+        functions_keep_to_profiles::<F>();
+        let Some(functions) = clone_all(alloc, self.functions.as_slice())? else {
+            return Ok(None);
+        };
+        let work = beside(alloc, self, functions)?;
+        Ok(Some(work))
+    }
+}
+
+/// These functions, with all that a work has beside its own.
+fn beside<F: Drop>(
+    alloc: Global,
+    work: &OwnedFunctions<F>,
+    functions: Vec<F>,
+) -> Result<OwnedFunctions<F>, AllocError>
+    ensures { IfOk result (λ other. other ≡ record work.now { functions = functions.items }) }
+{
+    let positions = Vec::from_slice(alloc, work.positions.as_slice())?;
+    let numbers = Vec::from_slice(alloc, work.numbers.as_slice())?;
+    Ok(OwnedFunctions {
+        functions,
+        positions,
+        numbers,
+        chain: work.chain,
+    })
+}
+
+/// The same functions once more, if none of them keeps a state.
+fn clone_all<F: Function + Drop>(
+    alloc: Global,
+    functions: &[F],
+) -> Result<Option<Vec<F>>, AllocError>
+    ensures same { IfOk result (λ found. IfSome found (λ all. all.items ≡ functions.now)) }
+    ensures stateless { IfOk result (λ found. IsSome found → All (λ f. (F.behaviour.profile f).state ≡ false) functions.now) }
+{
+    let mut all = Vec::with_capacity(alloc, functions.len())?;
+    for function in functions {
+        match function.try_clone(alloc)? {
+            Some(same) => all.push(same)?,
+            None => return Ok(None),
+        }
+    }
+    Ok(Some(all))
 }

@@ -28,7 +28,8 @@ use std::time::Instant;
 /// of each, in their order. In each stage one dealer deals the packets, each branch takes what it is dealt
 /// of them in their order, and so many mergers, of which there may be 1 to 16, put together in this way what
 /// the branches give: merger `i` has the packets whose number among those of the chain, counted from 0,
-/// leaves `i` when divided by their count. Dealers, branches and mergers of all stages run side by side, the
+/// leaves `i` when divided by their count. A branch whose functions keep no state has a node for each merger,
+/// which takes that merger's packets, and every other branch has one for all. Dealers, branches and mergers of all stages run side by side, the
 /// first dealer in the caller's thread and each other on one of its own where one can be started; the threads
 /// are joined before the call returns. Where the graph has no stage but one of one branch, nothing could run
 /// beside it, and all runs in the caller's thread. So does a burst that goes alone by the pace of the run

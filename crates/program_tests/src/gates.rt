@@ -142,6 +142,17 @@ fn gate_pipelined(rt: HostRuntime) -> Result<(), Fail> {
     Ok(())
 }
 
+// The firewall of the first stage on both packets: it keeps no state, so each of the two mergers has a node of it.
+#[test]
+fn gate_replicas(rt: HostRuntime) -> Result<(), Fail> {
+    let alloc = rt.alloc();
+    for way in ["inbox", "board"] {
+        let meeting = Meeting::new((1, 1), (1, 2));
+        assert!(rt; meets(&rt, alloc, STAGES, two_flows(alloc)?, way, &meeting)?);
+    }
+    Ok(())
+}
+
 // Two packets, the second from port 1001.
 fn two_flows(alloc: Global) -> Result<Vec<u8>, Fail> {
     let mut two = capture_from(alloc, &[1, 1])?;

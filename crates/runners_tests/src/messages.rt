@@ -3,7 +3,7 @@ ghost use Rattle.std.specs.Prelude.{◌≡◌, ◌∷◌, [], IfOk};
 ghost use Rattle.message_links.specs.Messages.{PlainMessage.Live, PlainMessage.Nil, PlainMessage.Short};
 
 use message_links::{
-    Inlet, Inlets, Message, Outlet, Outlets, Parcel, boxed, edge, message_without, take_row,
+    Fans, Inlet, Inlets, Message, Outlet, Outlets, Parcel, boxed, edge, message_without,
 };
 use ruled_links::LinkDue;
 use std::alloc::{AllocError, Global};
@@ -79,17 +79,26 @@ fn alone(alloc: Global, inlet: Inlet<u32>) -> Result<Inlets<u32>, AllocError>
     Ok(list)
 }
 
+/// The one outlet of a stream.
+fn unshared(alloc: Global, outlet: Outlet<u32>) -> Result<Outlets<u32>, AllocError>
+    ensures { IfOk result (λ list. list ≡ outlet ∷ []) }
+{
+    let mut list = Outlets::new(alloc);
+    list.push(outlet)?;
+    Ok(list)
+}
+
 /// Whether two parts found memory, and what came of them and of the position behind each.
 fn in_rows<R: Wait>(rt: &R, alloc: Global) -> Result<(bool, [Came; 4]), AllocError> {
     let (outlet, inlet) = two_due::<Brand>(alloc, 5, 2)?;
     let (other_outlet, other_inlet) = two_due::<Brand>(alloc, 6, 2)?;
-    let mut outlets = Outlets::new(alloc);
-    outlets.push(outlet)?;
-    outlets.push(other_outlet)?;
-    let mut rows = [alone(alloc, inlet)?, alone(alloc, other_inlet)?];
-    let mut inlets = take_row(alloc, &mut rows)?;
-    let found = outlets.give_each(rt, alloc, Vec::from_array(alloc, [5, 6])?);
-    outlets.give_word(rt, Some(2));
+    let mut fans = Fans::new(alloc);
+    fans.push(unshared(alloc, outlet)?)?;
+    fans.push(unshared(alloc, other_outlet)?)?;
+    let mut inlets = alone(alloc, inlet)?;
+    inlets.push(other_inlet)?;
+    let found = fans.give_each(rt, alloc, Vec::from_array(alloc, [5, 6])?);
+    fans.give_word(rt, Some(2));
     let first = taken(inlets.accept_next(rt));
     let second = taken(inlets.accept_at(rt, 0));
     let third = taken(inlets.accept_next(rt));

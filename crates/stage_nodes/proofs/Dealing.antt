@@ -11,92 +11,105 @@ use Rattle.packet_version.specs.Splitting.{PlainApart}
 use Rattle.packet_version.specs.Versions.{PlainVersion}
 use Rattle.packet_version.specs.Dealing.{dealt}
 use Rattle.packet_version.specs.Tallies.{count_of, raised}
-use Rattle.message_links.specs.Messages.{PlainMessage, PlainMessage.Live, PlainMessage.Nil, PlainMessage.Short, Fits, Owing, first, rest, front, turned, is_short, word}
+use Rattle.message_links.specs.Messages.{PlainMessage, PlainMessage.Live, PlainMessage.Nil, PlainMessage.Short, Fits, Owing, first, front, turned, is_short, word}
 use Rattle.message_links.specs.Turns.{shares}
 use Rattle.stage_nodes.specs.Streams.{parted, base_of, due_of, dealer_copies}
-use Rattle.stage_nodes.specs.Dues.{DealerDue, NothingOwed}
+use Rattle.stage_nodes.specs.Dues.{AreFanned, DealerDue, NothingOwed}
 use Rattle.stage_nodes.specs.Turns.{HasMore, DealerReady, RaisesByMessage, Stops, Splits, DealerAt}
 use Rattle.stage_nodes.proofs.Shares.{turned_shares, no_shares}
 use Rattle.stage_nodes.proofs.Ends.{due_is, begins, Front, front_of, one_more, none_more}
 
--- what is due on the links to the branches, and once each has its version of the next packet
-abbrev streams_of : List Touch → List (PlainMessage PlainApart) → List (List (PlainMessage PlainVersion))
-streams_of touches xs = map (λ t. map (parted t) xs) touches
+-- what is due on the links of the branches' nodes, and once each branch has its version of the next packet
 
-streams_owing : (touches : List Touch) (x : PlainMessage PlainApart) (xs : List (PlainMessage PlainApart)) → All Owing (streams_of touches (x ∷ xs))
-streams_owing [] x xs = All-nil _
-streams_owing (t ∷ touches) x xs =
-    let here : Owing (map (parted t) (x ∷ xs)) = omega arith in
-    All-cons Owing (map (parted t) (x ∷ xs)) (streams_of touches (x ∷ xs)) here (streams_owing touches x xs)
+fans_owing : (touches : List Touch) (x : PlainMessage PlainApart) (xs : List (PlainMessage PlainApart)) (fans : List (List (List (PlainMessage PlainVersion)))) → AreFanned touches (x ∷ xs) fans → All (λ fan. Owing (front fan)) fans
+unfolding AreFanned
+fans_owing [] x xs [] h = All-nil _
+fans_owing [] x xs (fan ∷ fans) h = absurd h
+fans_owing (t ∷ touches) x xs [] h = absurd h
+fans_owing (t ∷ touches) x xs (fan ∷ fans) h =
+    All-cons (λ fan. Owing (front fan)) fan fans (front_of h.0.0 (parted t x) (map (parted t) xs) fan h.0.1 h.0.2).owing (fans_owing touches x xs fans h.1)
 
-streams_first : (touches : List Touch) (x : PlainMessage PlainApart) (xs : List (PlainMessage PlainApart)) → map first (streams_of touches (x ∷ xs)) ≡ map (λ t. parted t x) touches
-streams_first [] x xs = refl
-streams_first (t ∷ touches) x xs = ap (λ y. parted t x ∷ y) (streams_first touches x xs)
+fans_first : (touches : List Touch) (x : PlainMessage PlainApart) (xs : List (PlainMessage PlainApart)) (fans : List (List (List (PlainMessage PlainVersion)))) → AreFanned touches (x ∷ xs) fans → map (λ fan. first (front fan)) fans ≡ map (λ t. parted t x) touches
+unfolding AreFanned
+fans_first [] x xs [] h = refl
+fans_first [] x xs (fan ∷ fans) h = absurd h
+fans_first (t ∷ touches) x xs [] h = absurd h
+fans_first (t ∷ touches) x xs (fan ∷ fans) h =
+    ap (λ y. y ∷ map (λ fan. first (front fan)) fans) (front_of h.0.0 (parted t x) (map (parted t) xs) fan h.0.1 h.0.2).is
+    ∙ ap (λ y. parted t x ∷ y) (fans_first touches x xs fans h.1)
 
-streams_rest : (touches : List Touch) (x : PlainMessage PlainApart) (xs : List (PlainMessage PlainApart)) → map rest (streams_of touches (x ∷ xs)) ≡ streams_of touches xs
-streams_rest [] x xs = refl
-streams_rest (t ∷ touches) x xs = ap (λ y. map (parted t) xs ∷ y) (streams_rest touches x xs)
+fans_turned : (touches : List Touch) (x : PlainMessage PlainApart) (xs : List (PlainMessage PlainApart)) (fans : List (List (List (PlainMessage PlainVersion)))) → AreFanned touches (x ∷ xs) fans → AreFanned touches xs (map turned fans)
+unfolding AreFanned
+fans_turned [] x xs [] h = tt
+fans_turned [] x xs (fan ∷ fans) h = absurd h
+fans_turned (t ∷ touches) x xs [] h = absurd h
+fans_turned (t ∷ touches) x xs (fan ∷ fans) h =
+    ((h.0.0, h.0.1, ap turned h.0.2 ∙ turned_shares h.0.0 (parted t x) (map (parted t) xs) h.0.1), fans_turned touches x xs fans h.1)
 
-streams_words : (touches : List Touch) (q : ℕ) (xs : List (PlainMessage PlainApart)) → All (λ l. Fits (first l) (Nil q)) (streams_of touches (Nil q ∷ xs))
-streams_words [] q xs = All-nil _
-streams_words (t ∷ touches) q xs = All-cons (λ l. Fits (first l) (Nil q)) (map (parted t) (Nil q ∷ xs)) (streams_of touches (Nil q ∷ xs)) (inl refl) (streams_words touches q xs)
+fans_words : (touches : List Touch) (q : ℕ) (xs : List (PlainMessage PlainApart)) (fans : List (List (List (PlainMessage PlainVersion)))) → AreFanned touches (Nil q ∷ xs) fans → All (λ fan. Fits (first (front fan)) (Nil q)) fans
+unfolding AreFanned
+fans_words [] q xs [] h = All-nil _
+fans_words [] q xs (fan ∷ fans) h = absurd h
+fans_words (t ∷ touches) q xs [] h = absurd h
+fans_words (t ∷ touches) q xs (fan ∷ fans) h =
+    All-cons (λ fan. Fits (first (front fan)) (Nil q)) fan fans (inl (sym (front_of h.0.0 (parted t (Nil q)) (map (parted t) xs) fan h.0.1 h.0.2).is)) (fans_words touches q xs fans h.1)
 
-all_short : (ls : List (List (PlainMessage PlainVersion))) → All (λ l. Fits (first l) Short) ls
+all_short : (fans : List (List (List (PlainMessage PlainVersion)))) → All (λ fan. Fits (first (front fan)) Short) fans
 all_short [] = All-nil _
-all_short (l ∷ ls) = All-cons (λ y. Fits (first y) Short) l ls (inr refl) (all_short ls)
+all_short (fan ∷ fans) = All-cons (λ y. Fits (first (front y)) Short) fan fans (inr refl) (all_short fans)
 
 row_live : (touches : List Touch) (whole : PlainApart) → map (λ p. Live p) (map (dealt whole) touches) ≡ map (λ t. parted t (Live whole)) touches
 row_live [] whole = refl
 row_live (t ∷ touches) whole = ap (λ y. Live (dealt whole t) ∷ y) (row_live touches whole)
 
 -- the packet that comes next, and the links at it
-pub record DealerTurn {S : Type 0} (comes : S → List (PlainMessage PlainApart) → Type 0) (touches : List Touch) (source : S) (versions : List (List (PlainMessage PlainVersion))) (bases : List (List (PlainMessage PlainApart))) : Type 0 where
+pub record DealerTurn {S : Type 0} (comes : S → List (PlainMessage PlainApart) → Type 0) (touches : List Touch) (source : S) (versions : List (List (List (PlainMessage PlainVersion)))) (bases : List (List (PlainMessage PlainApart))) : Type 0 where
   pub next : PlainMessage PlainApart
   pub later : List (PlainMessage PlainApart)
   pub takes : comes source (next ∷ later)
-  pub owing : All Owing versions
-  pub row : map first versions ≡ map (λ t. parted t next) touches
+  pub owing : All (λ fan. Owing (front fan)) versions
+  pub row : map (λ fan. first (front fan)) versions ≡ map (λ t. parted t next) touches
   pub base : Front bases (base_of touches next)
-  pub words : (q : ℕ) → next ≡ Nil q → All (λ l. Fits (first l) (Nil q)) versions
+  pub words : (q : ℕ) → next ≡ Nil q → All (λ fan. Fits (first (front fan)) (Nil q)) versions
 
-pub dealer_turn : {S : Type 0} {comes : S → List (PlainMessage PlainApart) → Type 0} (parts : StageParts) (source : S) (versions : List (List (PlainMessage PlainVersion))) (bases : List (List (PlainMessage PlainApart))) → DealerReady comes parts source versions bases → DealerTurn comes parts.touches source versions bases
+pub dealer_turn : {S : Type 0} {comes : S → List (PlainMessage PlainApart) → Type 0} (parts : StageParts) (source : S) (versions : List (List (List (PlainMessage PlainVersion)))) (bases : List (List (PlainMessage PlainApart))) → DealerReady comes parts source versions bases → DealerTurn comes parts.touches source versions bases
 dealer_turn {S} {comes} parts source versions bases r =
     let d = r.2 in
     let b = begins r.1 r.0 d.many in
-    let gives : versions ≡ streams_of parts.touches (b.head ∷ b.tail) = d.gives ∙ ap (streams_of parts.touches) b.is in record {
+    let gives : AreFanned parts.touches (b.head ∷ b.tail) versions = subst (λ y. AreFanned parts.touches y versions) b.is d.gives in record {
       next = b.head;
       later = b.tail;
       takes = subst (comes source) b.is d.takes;
-      owing = subst (All Owing) (sym gives) (streams_owing parts.touches b.head b.tail);
-      row = ap (map first) gives ∙ streams_first parts.touches b.head b.tail;
+      owing = fans_owing parts.touches b.head b.tail versions gives;
+      row = fans_first parts.touches b.head b.tail versions gives;
       base = front_of d.mergers (base_of parts.touches b.head) (map (base_of parts.touches) b.tail) bases d.some (d.gives_bases ∙ ap (λ y. shares d.mergers (map (base_of parts.touches) y)) b.is);
-      words = λ q e. subst (All (λ l. Fits (first l) (Nil q))) (sym (gives ∙ ap (λ y. streams_of parts.touches (y ∷ b.tail)) e)) (streams_words parts.touches q b.tail);
+      words = λ q e. fans_words parts.touches q b.tail versions (subst (λ y. AreFanned parts.touches (y ∷ b.tail) versions) e gives);
     }
 
-pub has_more : {S : Type 0} {comes : S → List (PlainMessage PlainApart) → Type 0} (parts : StageParts) (source : S) (versions : List (List (PlainMessage PlainVersion))) (bases : List (List (PlainMessage PlainApart))) → DealerReady comes parts source versions bases → HasMore comes source
+pub has_more : {S : Type 0} {comes : S → List (PlainMessage PlainApart) → Type 0} (parts : StageParts) (source : S) (versions : List (List (List (PlainMessage PlainVersion)))) (bases : List (List (PlainMessage PlainApart))) → DealerReady comes parts source versions bases → HasMore comes source
 has_more {S} {comes} parts source versions bases r = let t = dealer_turn parts source versions bases r in (t.next, t.later, t.takes)
 
 -- what came fits the packet that comes next
 abbrev pub FitsNext : {S : Type 0} → (S → List (PlainMessage PlainApart) → Type 0) → S → PlainMessage PlainApart → Type 0
 FitsNext comes source message = (x : PlainMessage PlainApart) (xs : List (PlainMessage PlainApart)) → comes source (x ∷ xs) → Fits x message
 
-came_live : {S : Type 0} {comes : S → List (PlainMessage PlainApart) → Type 0} (touches : List Touch) (source : S) (versions : List (List (PlainMessage PlainVersion))) (bases : List (List (PlainMessage PlainApart))) (message : PlainMessage PlainApart) (whole : PlainApart)
+came_live : {S : Type 0} {comes : S → List (PlainMessage PlainApart) → Type 0} (touches : List Touch) (source : S) (versions : List (List (List (PlainMessage PlainVersion)))) (bases : List (List (PlainMessage PlainApart))) (message : PlainMessage PlainApart) (whole : PlainApart)
     → (t : DealerTurn comes touches source versions bases) → FitsNext comes source message → message ≡ Live whole → t.next ≡ Live whole
 came_live {S} {comes} touches source versions bases message whole t fits live = sym (due_is t.next message (fits t.next t.later t.takes) (ap is_short live)) ∙ live
 
-pub row_due : {S : Type 0} {comes : S → List (PlainMessage PlainApart) → Type 0} (touches : List Touch) (source : S) (versions : List (List (PlainMessage PlainVersion))) (bases : List (List (PlainMessage PlainApart))) (message : PlainMessage PlainApart) (old new : List ℕ) (base : PlainApart) (row : List PlainVersion)
-    → DealerTurn comes touches source versions bases → FitsNext comes source message → Splits touches message old new base row → map (λ p. Live p) row ≡ map first versions
+pub row_due : {S : Type 0} {comes : S → List (PlainMessage PlainApart) → Type 0} (touches : List Touch) (source : S) (versions : List (List (List (PlainMessage PlainVersion)))) (bases : List (List (PlainMessage PlainApart))) (message : PlainMessage PlainApart) (old new : List ℕ) (base : PlainApart) (row : List PlainVersion)
+    → DealerTurn comes touches source versions bases → FitsNext comes source message → Splits touches message old new base row → map (λ p. Live p) row ≡ map (λ fan. first (front fan)) versions
 row_due {S} {comes} touches source versions bases message old new base row t fits s =
     ap (map (λ p. Live p)) s.given ∙ row_live touches s.whole ∙ sym (t.row ∙ ap (λ y. map (λ t. parted t y) touches) (came_live touches source versions bases message s.whole t fits s.live))
 
-pub base_fits : {S : Type 0} {comes : S → List (PlainMessage PlainApart) → Type 0} (touches : List Touch) (source : S) (versions : List (List (PlainMessage PlainVersion))) (bases : List (List (PlainMessage PlainApart))) (message : PlainMessage PlainApart) (old new : List ℕ) (base : PlainApart) (row : List PlainVersion) (reply : PlainMessage PlainApart)
+pub base_fits : {S : Type 0} {comes : S → List (PlainMessage PlainApart) → Type 0} (touches : List Touch) (source : S) (versions : List (List (List (PlainMessage PlainVersion)))) (bases : List (List (PlainMessage PlainApart))) (message : PlainMessage PlainApart) (old new : List ℕ) (base : PlainApart) (row : List PlainVersion) (reply : PlainMessage PlainApart)
     → DealerTurn comes touches source versions bases → FitsNext comes source message → Splits touches message old new base row → Fits (Live base) reply → Fits (first (front bases)) reply
 base_fits {S} {comes} touches source versions bases message old new base row reply t fits s boxed =
     subst (λ y. Fits y reply) (sym (t.base.is ∙ ap (base_of touches) (came_live touches source versions bases message s.whole t fits s.live) ∙ ap (λ y. Live y) (sym s.stays))) boxed
 
-pub words_fit : {S : Type 0} {comes : S → List (PlainMessage PlainApart) → Type 0} (touches : List Touch) (source : S) (versions : List (List (PlainMessage PlainVersion))) (bases : List (List (PlainMessage PlainApart))) (message : PlainMessage PlainApart) (short : Bool) (old new : List ℕ) (position : Option ℕ)
+pub words_fit : {S : Type 0} {comes : S → List (PlainMessage PlainApart) → Type 0} (touches : List Touch) (source : S) (versions : List (List (List (PlainMessage PlainVersion)))) (bases : List (List (PlainMessage PlainApart))) (message : PlainMessage PlainApart) (short : Bool) (old new : List ℕ) (position : Option ℕ)
     → DealerTurn comes touches source versions bases → FitsNext comes source message → Stops touches message short old new position
-    → All (λ l. Fits (first l) (word position)) versions × Fits (first (front bases)) (word position)
+    → All (λ fan. Fits (first (front fan)) (word position)) versions × Fits (first (front bases)) (word position)
 words_fit {S} {comes} touches source versions bases message short old new None t fits st = (all_short versions, inr refl)
 words_fit {S} {comes} touches source versions bases message short old new (Some q) t fits st =
     let is : t.next ≡ Nil q = sym (due_is t.next message (fits t.next t.later t.takes) (ap is_short st.1)) ∙ st.1 in
@@ -120,9 +133,9 @@ word_counted touches message short after old new (Some q) st e w = record { ampl
 raised_twice : (c d s : ℕ) → raised (raised c d) s ≡ raised c (d + s)
 raised_twice c d s = omega arith
 
-pub dealer_goes_on : {S : Type 0} {comes : S → List (PlainMessage PlainApart) → Type 0} (parts : StageParts) (n : ℕ) (xs : List (PlainMessage PlainApart)) (short after : Bool) (counts counts' : List ℕ) (source source' : S) (versions versions' : List (List (PlainMessage PlainVersion))) (bases bases' : List (List (PlainMessage PlainApart))) (message : PlainMessage PlainApart)
+pub dealer_goes_on : {S : Type 0} {comes : S → List (PlainMessage PlainApart) → Type 0} (parts : StageParts) (n : ℕ) (xs : List (PlainMessage PlainApart)) (short after : Bool) (counts counts' : List ℕ) (source source' : S) (versions versions' : List (List (List (PlainMessage PlainVersion)))) (bases bases' : List (List (PlainMessage PlainApart))) (message : PlainMessage PlainApart)
     → DealerAt comes parts (suc n) xs short counts source versions bases → FitsNext comes source message
-    → ((x : PlainMessage PlainApart) (xs : List (PlainMessage PlainApart)) → comes source (x ∷ xs) → comes source' xs) → versions' ≡ map rest versions → bases' ≡ turned bases
+    → ((x : PlainMessage PlainApart) (xs : List (PlainMessage PlainApart)) → comes source (x ∷ xs) → comes source' xs) → versions' ≡ map turned versions → bases' ≡ turned bases
     → (after ≡ false → WasCounted parts.touches message short counts counts') → DealerAt comes parts n xs after counts' source' versions' bases'
 dealer_goes_on {S} {comes} parts n xs short after counts counts' source source' versions versions' bases bases' message a fits left v t h =
     let d = a.due in
@@ -137,7 +150,7 @@ dealer_goes_on {S} {comes} parts n xs short after counts counts' source source' 
         few = d.few;
         many = b.many;
         takes = left b.head b.tail here;
-        gives = v ∙ ap (map rest) (d.gives ∙ ap (streams_of parts.touches) b.is) ∙ streams_rest parts.touches b.head b.tail;
+        gives = subst (AreFanned parts.touches b.tail) (sym v) (fans_turned parts.touches b.head b.tail versions (subst (λ y. AreFanned parts.touches y versions) b.is d.gives));
         gives_bases = t ∙ ap turned (d.gives_bases ∙ ap (λ y. shares d.mergers (map (base_of parts.touches) y)) b.is) ∙ turned_shares d.mergers (base_of parts.touches b.head) (map (base_of parts.touches) b.tail) d.some;
       };
       counted = λ w f.
@@ -151,7 +164,7 @@ dealer_goes_on {S} {comes} parts n xs short after counts counts' source source' 
 
 -- over a count of packets
 
-pub dealer_begins : {S : Type 0} {comes : S → List (PlainMessage PlainApart) → Type 0} (parts : StageParts) (n : ℕ) (xs : List (PlainMessage PlainApart)) (counts : List ℕ) (source : S) (versions : List (List (PlainMessage PlainVersion))) (bases : List (List (PlainMessage PlainApart)))
+pub dealer_begins : {S : Type 0} {comes : S → List (PlainMessage PlainApart) → Type 0} (parts : StageParts) (n : ℕ) (xs : List (PlainMessage PlainApart)) (counts : List ℕ) (source : S) (versions : List (List (List (PlainMessage PlainVersion)))) (bases : List (List (PlainMessage PlainApart)))
     → DealerDue comes parts n xs source versions bases → ((f : Field) → count_of counts f ≡ 0) → DealerAt comes parts (n - 0) xs false counts source versions bases
 dealer_begins {S} {comes} parts n xs counts source versions bases d none = record {
   coming = xs;
@@ -159,18 +172,18 @@ dealer_begins {S} {comes} parts n xs counts source versions bases d none = recor
   counted = λ w f. ap (λ c. raised c (dealer_copies parts.touches xs f)) (none f);
 }
 
-pub dealer_at : {S : Type 0} {comes : S → List (PlainMessage PlainApart) → Type 0} (parts : StageParts) (count i : ℕ) (xs : List (PlainMessage PlainApart)) (short : Bool) (counts : List ℕ) (source : S) (versions : List (List (PlainMessage PlainVersion))) (bases : List (List (PlainMessage PlainApart))) → i < count
+pub dealer_at : {S : Type 0} {comes : S → List (PlainMessage PlainApart) → Type 0} (parts : StageParts) (count i : ℕ) (xs : List (PlainMessage PlainApart)) (short : Bool) (counts : List ℕ) (source : S) (versions : List (List (List (PlainMessage PlainVersion)))) (bases : List (List (PlainMessage PlainApart))) → i < count
     → DealerAt comes parts (count - i) xs short counts source versions bases → DealerAt comes parts (suc (count - (i + 1))) xs short counts source versions bases
 dealer_at {S} {comes} parts count i xs short counts source versions bases lt d = subst (λ n. DealerAt comes parts n xs short counts source versions bases) (one_more count i lt) d
 
-pub dealer_same : {S : Type 0} {comes : S → List (PlainMessage PlainApart) → Type 0} (parts parts' : StageParts) (n : ℕ) (xs : List (PlainMessage PlainApart)) (short : Bool) (counts : List ℕ) (source : S) (versions : List (List (PlainMessage PlainVersion))) (bases : List (List (PlainMessage PlainApart)))
+pub dealer_same : {S : Type 0} {comes : S → List (PlainMessage PlainApart) → Type 0} (parts parts' : StageParts) (n : ℕ) (xs : List (PlainMessage PlainApart)) (short : Bool) (counts : List ℕ) (source : S) (versions : List (List (List (PlainMessage PlainVersion)))) (bases : List (List (PlainMessage PlainApart)))
     → parts' ≡ parts → DealerAt comes parts n xs short counts source versions bases → DealerAt comes parts' n xs short counts source versions bases
 dealer_same {S} {comes} parts parts' n xs short counts source versions bases e a = subst (λ p. DealerAt comes p n xs short counts source versions bases) (sym e) a
 
 raised_none : (c : ℕ) → raised c 0 ≡ c
 raised_none c = omega arith
 
-all_counted : {S : Type 0} {comes : S → List (PlainMessage PlainApart) → Type 0} (parts : StageParts) (xs : List (PlainMessage PlainApart)) (short : Bool) (counts : List ℕ) (source : S) (versions : List (List (PlainMessage PlainVersion))) (bases : List (List (PlainMessage PlainApart)))
+all_counted : {S : Type 0} {comes : S → List (PlainMessage PlainApart) → Type 0} (parts : StageParts) (xs : List (PlainMessage PlainApart)) (short : Bool) (counts : List ℕ) (source : S) (versions : List (List (List (PlainMessage PlainVersion)))) (bases : List (List (PlainMessage PlainApart)))
     → DealerAt comes parts 0 xs short counts source versions bases → short ≡ false → (f : Field) → count_of counts f ≡ raised 0 (dealer_copies parts.touches xs f)
 all_counted {S} {comes} parts xs short counts source versions bases a w f = over a.coming a.due.many (a.counted w f)
   where
@@ -178,23 +191,26 @@ all_counted {S} {comes} parts xs short counts source versions bases a w f = over
     over [] none e = sym (raised_none (count_of counts f)) ∙ e
     over (x ∷ coming) none e = absurd (omega arith)
 
-pub dealer_done : {S : Type 0} {comes : S → List (PlainMessage PlainApart) → Type 0} (parts : StageParts) (count i : ℕ) (xs : List (PlainMessage PlainApart)) (short : Bool) (counts : List ℕ) (source : S) (versions : List (List (PlainMessage PlainVersion))) (bases : List (List (PlainMessage PlainApart))) → count ≤ i
+pub dealer_done : {S : Type 0} {comes : S → List (PlainMessage PlainApart) → Type 0} (parts : StageParts) (count i : ℕ) (xs : List (PlainMessage PlainApart)) (short : Bool) (counts : List ℕ) (source : S) (versions : List (List (List (PlainMessage PlainVersion)))) (bases : List (List (PlainMessage PlainApart))) → count ≤ i
     → DealerAt comes parts (count - i) xs short counts source versions bases → short ≡ false → (f : Field) → count_of counts f ≡ raised 0 (dealer_copies parts.touches xs f)
 dealer_done {S} {comes} parts count i xs short counts source versions bases le d = all_counted parts xs short counts source versions bases (subst (λ n. DealerAt comes parts n xs short counts source versions bases) (none_more count i le) d)
 
-no_streams : (touches : List Touch) → NothingOwed (streams_of touches [])
-no_streams [] = All-nil _
-no_streams (t ∷ touches) = All-cons (λ l. l ≡ []) [] (streams_of touches []) refl (no_streams touches)
+fans_given : (touches : List Touch) (fans : List (List (List (PlainMessage PlainVersion)))) → AreFanned touches [] fans → All NothingOwed fans
+unfolding AreFanned
+fans_given [] [] h = All-nil _
+fans_given [] (fan ∷ fans) h = absurd h
+fans_given (t ∷ touches) [] h = absurd h
+fans_given (t ∷ touches) (fan ∷ fans) h = All-cons NothingOwed fan fans (subst NothingOwed (sym h.0.2) (no_shares h.0.0 0 h.0.0)) (fans_given touches fans h.1)
 
 -- no version and no base is due any more
-all_given : {S : Type 0} {comes : S → List (PlainMessage PlainApart) → Type 0} (parts : StageParts) (xs : List (PlainMessage PlainApart)) (short : Bool) (counts : List ℕ) (source : S) (versions : List (List (PlainMessage PlainVersion))) (bases : List (List (PlainMessage PlainApart)))
-    → DealerAt comes parts 0 xs short counts source versions bases → NothingOwed versions × NothingOwed bases
+all_given : {S : Type 0} {comes : S → List (PlainMessage PlainApart) → Type 0} (parts : StageParts) (xs : List (PlainMessage PlainApart)) (short : Bool) (counts : List ℕ) (source : S) (versions : List (List (List (PlainMessage PlainVersion)))) (bases : List (List (PlainMessage PlainApart)))
+    → DealerAt comes parts 0 xs short counts source versions bases → All NothingOwed versions × NothingOwed bases
 all_given {S} {comes} parts xs short counts source versions bases a = over a.coming a.due.many a.due.gives a.due.gives_bases
   where
-    over : (coming : List (PlainMessage PlainApart)) → length coming ≡ 0 → versions ≡ streams_of parts.touches coming → bases ≡ shares a.due.mergers (map (base_of parts.touches) coming) → NothingOwed versions × NothingOwed bases
-    over [] none v b = (subst NothingOwed (sym v) (no_streams parts.touches), subst NothingOwed (sym b) (no_shares a.due.mergers 0 a.due.mergers))
+    over : (coming : List (PlainMessage PlainApart)) → length coming ≡ 0 → AreFanned parts.touches coming versions → bases ≡ shares a.due.mergers (map (base_of parts.touches) coming) → All NothingOwed versions × NothingOwed bases
+    over [] none v b = (fans_given parts.touches versions v, subst NothingOwed (sym b) (no_shares a.due.mergers 0 a.due.mergers))
     over (x ∷ coming) none v b = absurd (omega arith)
 
-pub dealer_gave : {S : Type 0} {comes : S → List (PlainMessage PlainApart) → Type 0} (parts : StageParts) (count i : ℕ) (xs : List (PlainMessage PlainApart)) (short : Bool) (counts : List ℕ) (source : S) (versions : List (List (PlainMessage PlainVersion))) (bases : List (List (PlainMessage PlainApart))) → count ≤ i
-    → DealerAt comes parts (count - i) xs short counts source versions bases → NothingOwed versions × NothingOwed bases
+pub dealer_gave : {S : Type 0} {comes : S → List (PlainMessage PlainApart) → Type 0} (parts : StageParts) (count i : ℕ) (xs : List (PlainMessage PlainApart)) (short : Bool) (counts : List ℕ) (source : S) (versions : List (List (List (PlainMessage PlainVersion)))) (bases : List (List (PlainMessage PlainApart))) → count ≤ i
+    → DealerAt comes parts (count - i) xs short counts source versions bases → All NothingOwed versions × NothingOwed bases
 dealer_gave {S} {comes} parts count i xs short counts source versions bases le d = all_given parts xs short counts source versions bases (subst (λ n. DealerAt comes parts n xs short counts source versions bases) (none_more count i le) d)

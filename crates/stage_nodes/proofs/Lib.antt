@@ -6,3 +6,4 @@ mod Dealing
 mod Gathering
 mod Merging
 mod Rows
+mod Sweeps

@@ -1,5 +1,5 @@
 -- For proofs: packets that may go through stages.
-use Rattle.std.specs.Prelude.{◌≡◌, ◌<◌, ◌≤◌, ℕ, suc, List, [], ◌∷◌, length, map}
+use Rattle.std.specs.Prelude.{◌≡◌, ◌<◌, ◌≤◌, ◌+◌, ℕ, suc, List, [], ◌∷◌, length, map}
 use Rattle.action_profile.specs.Modes.{modes_of}
 use Rattle.action_profile.specs.declared.parts.Touch.{Touch}
 use Rattle.packet_version.specs.Splitting.{PlainApart}
@@ -18,6 +18,11 @@ MayTake may f p Short = Unit {0}
 unfoldable pub MayTakeAll : {F : Type 0} → Kit F → (F → ℕ → PlainVersion → Type 0) → F → ℕ → List (PlainMessage PlainVersion) → Type 0
 MayTakeAll k may f p [] = Unit {0}
 MayTakeAll k may f p (x ∷ xs) = MayTake may f p x × MayTakeAll k may (moved k f x) (suc p) xs
+
+-- and these, of which each but the first is of the packet so many behind the one before
+unfoldable pub MayTakeEach : {F : Type 0} → Kit F → (F → ℕ → PlainVersion → Type 0) → ℕ → F → ℕ → List (PlainMessage PlainVersion) → Type 0
+MayTakeEach k may step f p [] = Unit {0}
+MayTakeEach k may step f p (x ∷ xs) = MayTake may f p x × MayTakeEach k may step (moved k f x) (p + step) xs
 
 -- so may each branch, of what it is dealt of these packets
 unfoldable pub AllMayTake : {F : Type 0} → Kit F → (F → ℕ → PlainVersion → Type 0) → List Touch → List F → List (PlainMessage PlainApart) → Type 0

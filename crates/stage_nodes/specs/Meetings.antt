@@ -7,10 +7,10 @@ use Rattle.stage_nodes.specs.declared.to_mergers.Outward.TheVariants as out
 use Rattle.stage_nodes.specs.declared.from_branches.Inward.{Inward}
 use Rattle.stage_nodes.specs.declared.from_branches.Inward.TheVariants as into
 
--- from a branch to each merger
-abbrev pub due_outward : Outward → List (List (PlainMessage PlainVersion))
-due_outward (out.Links outlets) = outlets
-due_outward (out.Board outlets) = outlets
+-- from a branch to a merger
+abbrev pub due_outward : Outward → List (PlainMessage PlainVersion)
+due_outward (out.Link outlet) = outlet
+due_outward (out.Board outlet) = outlet
 
 -- from each branch to a merger
 abbrev pub due_inward : Inward → List (List (PlainMessage PlainVersion))

@@ -21,11 +21,11 @@ abbrev pub HasMore : {S : Type 0} → (S → List (PlainMessage PlainApart) → 
 HasMore comes source = (x : PlainMessage PlainApart) × (xs : List (PlainMessage PlainApart)) × comes source (x ∷ xs)
 
 -- the links of a node fit, and something is still to come
-abbrev pub DealerReady : {S : Type 0} → (S → List (PlainMessage PlainApart) → Type 0) → StageParts → S → List (List (PlainMessage PlainVersion)) → List (List (PlainMessage PlainApart)) → Type 0
+abbrev pub DealerReady : {S : Type 0} → (S → List (PlainMessage PlainApart) → Type 0) → StageParts → S → List (List (List (PlainMessage PlainVersion))) → List (List (PlainMessage PlainApart)) → Type 0
 DealerReady comes parts source versions bases = (n : ℕ) × (xs : List (PlainMessage PlainApart)) × DealerDue comes parts (suc n) xs source versions bases
 
-abbrev pub BranchReady : {F : Type 0} → Kit F → (F → ℕ → PlainVersion → Type 0) → ℕ → Bool → F → List (PlainMessage PlainVersion) → List (List (PlainMessage PlainVersion)) → Type 0
-BranchReady {F} k may p short f inlet outlets = (n : ℕ) × (end : F) × BranchDue k may p (suc n) end short f inlet outlets
+abbrev pub BranchReady : {F : Type 0} → Kit F → (F → ℕ → PlainVersion → Type 0) → ℕ → ℕ → Bool → F → List (PlainMessage PlainVersion) → List (List (PlainMessage PlainVersion)) → Type 0
+BranchReady {F} k may step p short f inlet outlets = (n : ℕ) × (end : F) × BranchDue k may step p (suc n) end short f inlet outlets
 
 -- the counts rise by the copies that are due of a message's packet
 abbrev pub RaisesByMessage : List Touch → PlainMessage PlainApart → List ℕ → List ℕ → Type 0
@@ -50,7 +50,7 @@ Deals touches x short old new (Row base row) = (short ≡ false) × Splits touch
 Deals touches x short old new (Word position) = Stops touches x short old new position
 
 -- So many packets of a dealer are still to come, and its counts are those of the packets that came.
-pub record DealerAt {S : Type 0} (comes : S → List (PlainMessage PlainApart) → Type 0) (parts : StageParts) (n : ℕ) (xs : List (PlainMessage PlainApart)) (short : Bool) (counts : List ℕ) (source : S) (versions : List (List (PlainMessage PlainVersion))) (bases : List (List (PlainMessage PlainApart))) : Type 0 where
+pub record DealerAt {S : Type 0} (comes : S → List (PlainMessage PlainApart) → Type 0) (parts : StageParts) (n : ℕ) (xs : List (PlainMessage PlainApart)) (short : Bool) (counts : List ℕ) (source : S) (versions : List (List (List (PlainMessage PlainVersion)))) (bases : List (List (PlainMessage PlainApart))) : Type 0 where
   pub coming : List (PlainMessage PlainApart)
   pub due : DealerDue comes parts n coming source versions bases
   pub counted : short ≡ false → (f : Field) → raised (count_of counts f) (dealer_copies parts.touches coming f) ≡ raised 0 (dealer_copies parts.touches xs f)

@@ -14,13 +14,16 @@ use packet_version::Version;
 use std::alloc::Global;
 use std::sync::Wait;
 
-/// A branch: so many versions come from the dealer, in the packets' order. It leads each through its
-/// functions, and gives what comes of it to the mergers in turn.
+/// A branch, or one of its nodes where it has several: so many versions come from the dealer, in the packets'
+/// order, the first of the packet with this number in the burst, counted from 0, and each other of the packet so
+/// many behind it. It leads each through its functions, and gives what comes of it to its mergers in turn.
 #[derive(Drop)]
 pub struct Branch<F> {
     pub inlet: Inlet<Version>,
     pub outlets: ToMergers,
     pub work: F,
+    pub first: u32,
+    pub step: u32,
     pub count: u32,
 }
 
@@ -33,13 +36,15 @@ pub fn run_branch<F: BranchWork, R: Wait, G: Gate>(
     gate: &G,
     branch: &mut Branch<F>,
 ) -> bool
-    requires due { (end : F) × BranchDue F.kit F.may 0 branch.old.count end false branch.old.work branch.old.inlet branch.old.outlets }
+    requires due { (end : F) × BranchDue F.kit F.may branch.old.step branch.old.first branch.old.count end false branch.old.work branch.old.inlet branch.old.outlets }
     ensures functions { result ≡ false → branch.new.work ≡ left F.kit branch.old.work branch.old.inlet }
     ensures given { NothingOwed branch.new.outlets }
 {
     let mut short = false;
-    for place in 0..branch.count {
+    let mut place = branch.first;
+    for _version in 0..branch.count {
         short = branch.turn_next(rt, alloc, gate, place, short);
+        place += branch.step;
     }
     short
 }
@@ -54,10 +59,12 @@ impl<F: BranchWork> Branch<F> {
         place: u32,
         short: bool,
     ) -> bool
-        requires ready { BranchReady F.kit F.may place short self.old.work self.old.inlet self.old.outlets }
+        requires ready { BranchReady F.kit F.may self.old.step place short self.old.work self.old.inlet self.old.outlets }
         ensures due { (n : ℕ) (end : F) →
-            BranchDue F.kit F.may place (suc n) end short self.old.work self.old.inlet self.old.outlets →
-            BranchDue F.kit F.may (suc place) n end result self.new.work self.new.inlet self.new.outlets }
+            BranchDue F.kit F.may self.old.step place (suc n) end short self.old.work self.old.inlet self.old.outlets →
+            BranchDue F.kit F.may self.old.step (place + self.old.step) n end result self.new.work self.new.inlet self.new.outlets }
+        ensures step { self.new.step ≡ self.old.step }
+        ensures count { self.new.count ≡ self.old.count }
     {
         let message = self.inlet.accept(rt);
         let reply = answer(rt, alloc, gate, &mut self.work, place, message, short);

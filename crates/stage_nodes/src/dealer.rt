@@ -1,5 +1,5 @@
 //! The node of a dealer.
-ghost use Rattle.std.specs.Prelude.{◌≡◌, ◌<◌, ◌≤◌, ℕ, suc, false, List, length};
+ghost use Rattle.std.specs.Prelude.{◌≡◌, ◌<◌, ◌≤◌, ℕ, suc, false, List, length, All};
 ghost use Rattle.packet_fields.specs.declared.field.Field.{Field};
 ghost use Rattle.action_profile.specs.Modes.{modes_of};
 ghost use Rattle.packet_version.specs.Splitting.{PlainApart};
@@ -12,18 +12,18 @@ ghost use Rattle.stage_nodes.specs.Turns.{DealerAt, DealerReady, Deals};
 use crate::supply::Supply;
 use action_profile::StageParts;
 use merge_ops::Merged;
-use message_links::{Outlets, boxed, message_without};
+use message_links::{Fans, Outlets, boxed, message_without};
 use packet_version::{Base, Tally, Version, deal};
 use std::alloc::Global;
 use std::sync::Wait;
 
-/// A dealer: so many packets come from its supply. It deals each to the branches of its stage, and gives
-/// what stays of it to the mergers in turn.
+/// A dealer: so many packets come from its supply. It deals each to the branches of its stage, whose nodes, where
+/// a branch has several, take turns, and gives what stays of it to the mergers in turn.
 #[derive(Drop)]
 pub struct Dealer<S> {
     pub parts: StageParts,
     pub source: S,
-    pub versions: Outlets<Version>,
+    pub versions: Fans<Version>,
     pub bases: Outlets<Base>,
     pub count: u32,
 }
@@ -49,7 +49,7 @@ pub fn run_dealer<S: Supply, R: Wait>(
     ensures counted { (xs : List (PlainMessage PlainApart)) →
         DealerDue S.comes dealer.old.parts dealer.old.count xs dealer.old.source dealer.old.versions dealer.old.bases → result.1 ≡ false →
         (f : Field) → count_of result.0 f ≡ raised 0 (dealer_copies dealer.old.parts.touches xs f) }
-    ensures versions_given { NothingOwed dealer.new.versions }
+    ensures versions_given { All NothingOwed dealer.new.versions }
     ensures bases_given { NothingOwed dealer.new.bases }
 {
     let mut tally = Tally::new();

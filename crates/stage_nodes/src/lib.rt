@@ -1,15 +1,17 @@
 //! The nodes of a stage: a dealer, branches and mergers, which work side by side on a stream of packets.
 //!
 //! A [`Dealer`] takes packets one after another from its [`Supply`], which may be the mergers of the stage
-//! before, and deals each: a version goes to each branch, and what stays of the packet to the mergers in turn. A [`Branch`] leads the versions that it is dealt through its functions ([`BranchWork`]), in the
-//! packets' order, and gives what comes of each to the mergers in turn. A [`Merger`] takes of each of its
-//! packets what the branches made of it and what stayed of it, puts it together again (`merge_ops`), and
-//! gives it to the dealer behind. Branches and mergers meet in one of two ways, and neither node knows which:
-//! [`ToMergers`] and [`FromBranches`] are ends of links (`message_links`), where the merger asks one branch
-//! after another, or seats at the stage's board (`message_boards`), where each branch puts what it gives and
-//! the merger looks until all is there. Each node owns its ends of links and its seat, and shares nothing
-//! else, so it can run on a thread of its own: [`run_dealer`], [`run_branch`] and [`run_merger`] run one until
-//! all its packets went through it.
+//! before, and deals each: a version goes to each branch, and what stays of the packet to the mergers in turn.
+//! A [`Branch`] leads the versions that it is dealt through its functions ([`BranchWork`]), in the packets' order,
+//! and gives what comes of each to its mergers in turn. Where functions keep no state, a branch may have several
+//! nodes with the same functions ([`BranchWork::try_clone`]), to which the dealer gives versions in turn. A
+//! [`Merger`] takes of each of its packets what the branches made of it and what stayed of it, puts it together
+//! again (`merge_ops`), and gives it to the dealer behind. Branches and mergers meet in one of two ways, and
+//! neither node knows which: [`ToMerger`] and [`FromBranches`] are ends of links (`message_links`), where the
+//! merger asks one branch after another, or seats at the merger's board (`message_boards`), where each branch puts
+//! what it gives and the merger looks until all is there. Each node owns its ends of links and its seats, and
+//! shares nothing else, so it can run on a thread of its own: [`run_dealer`], [`run_branch`] and [`run_merger`] run
+//! one until all its packets went through it.
 //!
 //! A packet that was dropped goes on as a word that says where, through every node behind. Where a node
 //! finds no memory it gives a word that says so, of that packet and of all behind it: each node gives one
@@ -43,5 +45,5 @@ pub use dealer::{Dealer, run_dealer};
 pub use from_branches::FromBranches;
 pub use merger::{Merger, run_merger};
 pub use supply::Supply;
-pub use to_mergers::ToMergers;
+pub use to_mergers::{ToMerger, ToMergers, take_ends};
 pub use work::BranchWork;

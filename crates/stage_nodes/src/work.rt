@@ -1,5 +1,5 @@
 //! What the functions of a branch do with what comes of a packet.
-ghost use Rattle.std.specs.Prelude.{◌≡◌, ℕ, false};
+ghost use Rattle.std.specs.Prelude.{◌≡◌, ℕ, false, IfOk, IfSome, IsSome};
 ghost use Rattle.packet_version.specs.Versions.{PlainVersion};
 ghost use Rattle.message_links.specs.Messages.{is_short, plain};
 ghost use Rattle.stage_nodes.specs.Flows.{MayTake};
@@ -8,7 +8,7 @@ ghost use Rattle.stage_nodes.specs.Streams.{Kit, gave, moved};
 use message_links::Message;
 use nfp_outside::Gate;
 use packet_version::Version;
-use std::alloc::Global;
+use std::alloc::{AllocError, Global};
 use std::sync::Wait;
 
 /// The functions of a branch with their states, which lead one version after another through themselves.
@@ -34,4 +34,10 @@ pub trait BranchWork {
         requires may { MayTake may self.old place (plain message) }
         ensures turned { is_short (plain result) ≡ false →
             (plain result ≡ gave kit self.old (plain message)) × (self.new ≡ moved kit self.old (plain message)) };
+
+    /// The same functions once more, if there may be several of them at work: only where they keep no state, and
+    /// so are after each version what they were before it. The one refusal is want of memory.
+    fn try_clone(&self, alloc: Global) -> Result<Option<Self>, AllocError>
+        ensures same { IfOk result (λ found. IfSome found (λ work. work ≡ self.now)) }
+        ensures stateless { IfOk result (λ found. IsSome found → (v : PlainVersion) → kit.after self.now v ≡ self.now) };
 }

@@ -1,4 +1,4 @@
-use Rattle.message_links.proofs.Turning.{first_share, turned_shares, shares_count, share_long}
+use Rattle.message_links.proofs.Turning.{first_share, turned_shares, shares_count, share_long, one_share}
 use Rattle.message_links.proofs.laws.shares_go_in_turn.Goals as goal
 
 pub returns-clause-front : goal.returns-clause-front
@@ -12,3 +12,6 @@ returns-clause-count g c m xs = shares_count m 0 m xs
 
 pub returns-clause-long : goal.returns-clause-long
 returns-clause-long g c = share_long
+
+pub returns-clause-one : goal.returns-clause-one
+returns-clause-one g c = one_share

@@ -1,34 +1,34 @@
-use Rattle.std.proofs.Common.{sym}
+use Rattle.std.proofs.Common.{sym, ◌∙◌}
 use Rattle.merge_ops.specs.Behind.{no_touch}
-use Rattle.node_run.proofs.Wiring.{none_left, none_wired, is_next, branch_next, outlets_left, outlets_own, wired_more, all_wired}
+use Rattle.node_run.proofs.Wiring.{none_left, none_wired, is_next, branch_next, ends_left, ends_own, wired_more, all_wired}
 use Rattle.node_run.proofs.branches.wire_branches.Goals as goal
 
 pub loop-work-init : goal.loop-work-init
 loop-work-init g c =
-    (tt, tt, none_wired g.F.BranchWork.kit g.F.BranchWork.may _ _ _ _ _ _ _ c.into_iter-work-iterator.ensures.into_iter_gives.0 c.requires.owners c.requires.take c.requires.outlets c.new.ensures c.new-2.ensures.items)
+    (tt, tt, none_wired g.F.BranchWork.kit g.F.BranchWork.may _ _ _ _ _ _ _ c.into_iter-work-iterator.ensures.into_iter_gives.0 c.requires.owners c.requires.take c.requires.ends c.new.ensures c.new-2.ensures.items)
 
 pub bounds-touches-branch : goal.bounds-touches-branch
 bounds-touches-branch g c = is_next g.F.BranchWork.kit g.F.BranchWork.may _ _ _ _ _ _ _ c.in-Some.work _ _ c.loop-work.invariant.2 c.in-Some.ensures.steps.0
 
-pub take_first-to_mergers-requires : goal.take_first-to_mergers-requires
-take_first-to_mergers-requires g c =
+pub next_ends-requires : goal.next_ends-requires
+next_ends-requires g c =
     let b = branch_next g.F.BranchWork.kit g.F.BranchWork.may _ _ _ _ _ _ _ c.in-Some.work no_touch _ _ c.loop-work.invariant.2 c.in-Some.ensures.steps.0 in
-    outlets_left g.F.BranchWork.kit g.F.BranchWork.may _ _ _ _ _ c.in-Some.work _ _ b
+    ends_left g.F.BranchWork.kit g.F.BranchWork.may _ _ _ _ _ c.in-Some.work _ _ b
 
 pub wire_branch-requires-clause-take : goal.wire_branch-requires-clause-take
 wire_branch-requires-clause-take g c =
     (branch_next g.F.BranchWork.kit g.F.BranchWork.may _ _ _ _ _ _ _ c.in-Some.work no_touch _ _ c.loop-work.invariant.2 c.in-Some.ensures.steps.0).take
 
-pub wire_branch-requires-clause-outlets : goal.wire_branch-requires-clause-outlets
-wire_branch-requires-clause-outlets g c =
+pub wire_branch-requires-clause-ends : goal.wire_branch-requires-clause-ends
+wire_branch-requires-clause-ends g c =
     let b = branch_next g.F.BranchWork.kit g.F.BranchWork.may _ _ _ _ _ _ _ c.in-Some.work no_touch _ _ c.loop-work.invariant.2 c.in-Some.ensures.steps.0 in
-    outlets_own g.F.BranchWork.kit g.F.BranchWork.may _ _ _ _ _ c.in-Some.work _ _ _ _ b c.take_first-to_mergers.ensures
+    ends_own g.F.BranchWork.kit g.F.BranchWork.may _ _ _ _ _ c.in-Some.work _ _ _ b c.in_ok-own.ensures.row
 
 pub loop-work-preserved : goal.loop-work-preserved
 loop-work-preserved g c =
     let b = branch_next g.F.BranchWork.kit g.F.BranchWork.may _ _ _ _ _ _ _ c.in-Some.work no_touch _ _ c.loop-work.invariant.2 c.in-Some.ensures.steps.0 in
     let e = c.in_ok-wire_branch.ensures in
-    (tt, tt, wired_more g.F.BranchWork.kit g.F.BranchWork.may _ _ _ g.D.LinkDue.due _ _ _ c.in-Some.work _ _ _ _ _ _ c.loop-work.invariant.2 c.in-Some.ensures.steps.0 b c.take_first-to_mergers.ensures e.versions e.nodes)
+    (tt, tt, wired_more g.F.BranchWork.kit g.F.BranchWork.may _ _ _ g.D.LinkDue.due _ _ _ c.in-Some.work _ _ _ _ _ c.loop-work.invariant.2 c.in-Some.ensures.steps.0 b c.in_ok-own.ensures.after e.versions e.nodes)
 
 pub returns : goal.returns
 returns g c = all_wired g.F.BranchWork.kit g.F.BranchWork.may _ _ _ _ c.loop-work.branch _ _ _ c.loop-work.invariant.2 (none_left _ _ c.in-None.ensures.steps.0 (sym c.loop-work.work-iterator.rest.ok.0))

@@ -6,4 +6,4 @@ abbrev pub invariant-loop-work : goal.invariant-loop-work
 invariant-loop-work g l =
     (goal.iterator-loop-work g).can_next l.work-iterator ×
     (goal.iterator-loop-work g).is_finite l.work-iterator ×
-    AreWiring g.F.BranchWork.kit g.F.BranchWork.may l.touches l.fn.functions.items l.mergers g.D.LinkDue.due l.branch (into_iter_items l.work-iterator) l.outlets.items l.wired
+    AreWiring g.F.BranchWork.kit g.F.BranchWork.may l.touches l.fn.functions.items l.mergers g.D.LinkDue.due l.branch (into_iter_items l.work-iterator) l.ends.items l.wired

@@ -1,5 +1,10 @@
+use Rattle.std.proofs.Common.{◌≡◌, ◌≤◌}
+use Rattle.message_links.specs.Turns.{columns_from}
 use Rattle.stage_nodes.specs.Streams.{came_from}
 use Rattle.node_run.proofs.meeting.meet.Given as goal
 
-abbrev pub ghosts-meet_on_board : goal.ghosts-meet_on_board
-ghosts-meet_on_board g a = record { due = came_from g.F.BranchWork.kit a.touches.now a.functions.now g.D.LinkDue.due }
+abbrev pub invariant-loop-merger : goal.invariant-loop-merger
+invariant-loop-merger g l =
+    (l.ends.items ≡ columns_from l.mergers 0 l.merger (came_from g.F.BranchWork.kit l.touches l.functions g.D.LinkDue.due)) ×
+    (l.inlets.items ≡ columns_from l.mergers 0 l.merger (came_from g.F.BranchWork.kit l.touches l.functions g.D.LinkDue.due)) ×
+    (l.merger ≤ l.mergers)

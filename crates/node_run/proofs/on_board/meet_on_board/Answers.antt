@@ -1,15 +1,15 @@
-use Rattle.std.proofs.Common.{arith}
-use Rattle.node_run.proofs.Meets.{board_rows, board_long, seats_owing}
+use Rattle.std.proofs.Common.{◌∙◌, ap, length, arith}
+use Rattle.node_run.proofs.Meets.{board_long, shares_many}
 use Rattle.node_run.proofs.on_board.meet_on_board.Goals as goal
 
 pub board_ends-requires-clause-rows : goal.board_ends-requires-clause-rows
-board_ends-requires-clause-rows g c = board_rows g.F.BranchWork.kit c.args.touches.now c.args.functions.now g.D.LinkDue.due g.E.BoardDue.due c.requires.due c.requires.owners
+board_ends-requires-clause-rows g c = shares_many g.F.BranchWork.kit c.args.touches.now c.args.functions.now c.args.mergers c.args.merger g.D.LinkDue.due g.E.BoardDue.due c.requires.due c.requires.owners
 
 pub board_ends-requires-clause-long : goal.board_ends-requires-clause-long
 board_ends-requires-clause-long g c =
-    board_long g.F.BranchWork.kit c.args.touches.now c.args.functions.now g.D.LinkDue.due c.args.count g.E.BoardDue.due c.requires.due c.requires.many
+    board_long g.F.BranchWork.kit c.args.touches.now c.args.functions.now c.args.mergers c.args.merger g.D.LinkDue.due c.args.count c.share_count-own.result g.E.BoardDue.due c.requires.due c.requires.many c.share_count-own.ensures.share
 
-pub merger_inlets-requires : goal.merger_inlets-requires
-merger_inlets-requires g c =
-    let long = board_rows g.F.BranchWork.kit c.args.touches.now c.args.functions.now g.D.LinkDue.due g.E.BoardDue.due c.requires.due c.requires.owners in
-    seats_owing c.args.mergers g.E.BoardDue.due _ c.in_ok-outlets.ensures.inlets (omega (arith, long, c.requires.branches.0))
+pub of_board-requires : goal.of_board-requires
+of_board-requires g c =
+    let long = shares_many g.F.BranchWork.kit c.args.touches.now c.args.functions.now c.args.mergers c.args.merger g.D.LinkDue.due g.E.BoardDue.due c.requires.due c.requires.owners in
+    omega (arith, ap length c.in_ok-seats.ensures.inlets, long, c.requires.branches.0)

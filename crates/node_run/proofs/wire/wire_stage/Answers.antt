@@ -4,14 +4,14 @@ use Rattle.node_run.proofs.Wiring.{is_wired, mergers_fit, wired_by}
 use Rattle.node_run.proofs.Meets.{meets_by}
 use Rattle.node_run.proofs.wire.wire_stage.Goals as goal
 
-pub wire_branches-requires-clause-outlets : goal.wire_branches-requires-clause-outlets
-wire_branches-requires-clause-outlets g c = (meets_by g.F.BranchWork.kit _ _ _ _ c.args.mergers g.D.LinkDue.due _ c.in_ok-outlets.ensures refl c.as_slice.ensures.value).outlets
+pub wire_branches-requires-clause-ends : goal.wire_branches-requires-clause-ends
+wire_branches-requires-clause-ends g c = (meets_by g.F.BranchWork.kit _ _ _ _ c.args.mergers g.D.LinkDue.due _ c.in_ok-ends.ensures refl c.as_slice.ensures.value).ends
 
 pub wire_mergers-requires-clause-fits : goal.wire_mergers-requires-clause-fits
 wire_mergers-requires-clause-fits g c =
     mergers_fit g.F.BranchWork.kit g.F.BranchWork.may c.args.mergers c.args.count (plain_stage c.args.work) g.D.LinkDue.due _ _ _
     c.requires.pass c.requires.many c.in_ok-bases.ensures.1 c.in_ok-from_mergers.ensures.0
-    (meets_by g.F.BranchWork.kit _ _ _ _ c.args.mergers g.D.LinkDue.due _ c.in_ok-outlets.ensures c.as_slice-touches.ensures c.as_slice.ensures.value).inlets
+    (meets_by g.F.BranchWork.kit _ _ _ _ c.args.mergers g.D.LinkDue.due _ c.in_ok-ends.ensures c.as_slice-touches.ensures c.as_slice.ensures.value).inlets
 
 pub returns : goal.returns
 returns g c =

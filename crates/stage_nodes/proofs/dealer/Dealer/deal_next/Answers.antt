@@ -41,5 +41,5 @@ returns-after-not-found-clause-at g c = λ n xs at. dealer_goes_on _ _ _ _ _ _ _
     (λ w. split_counted _ _ _ _ _ _ _ c.in-Row.ensures.0 c.in-Row.ensures.1)
 
 pub returns-in-Word-clause-at : goal.returns-in-Word-clause-at
-returns-in-Word-clause-at g c = λ n xs at. dealer_goes_on _ _ _ _ _ _ _ _ _ _ _ _ _ (of_merged c.next-packet.result) at c.next-packet.ensures.next c.next-packet.ensures.left c.give_word.ensures c.give_next-in-Word.ensures
+returns-in-Word-clause-at g c = λ n xs at. dealer_goes_on _ _ _ _ _ _ _ _ _ _ _ _ _ (of_merged c.next-packet.result) at c.next-packet.ensures.next c.next-packet.ensures.left c.give_word.ensures.after c.give_next-in-Word.ensures
     (word_counted _ (of_merged c.next-packet.result) c.args.short c.is_none.result _ _ c.in-Word.position c.in-Word.ensures c.is_none.ensures)

@@ -1,0 +1,25 @@
+-- For proofs: the nodes of a branch that keeps no state, one for each merger.
+use Rattle.std.specs.Prelude.{◌≡◌, ℕ, List, length, All}
+use Rattle.packet_version.specs.Versions.{PlainVersion}
+use Rattle.message_links.specs.Messages.{PlainMessage}
+use Rattle.message_links.specs.Turns.{shares_from}
+use Rattle.stage_nodes.specs.Streams.{Kit, ran}
+use Rattle.stage_nodes.specs.Flows.{MayTakeAll}
+
+-- its functions are after each version what they were before it
+abbrev pub KeepsNothing : {F : Type 0} → Kit F → F → Type 0
+KeepsNothing k f = (v : PlainVersion) → k.after f v ≡ f
+
+-- these are the same functions, so many times
+pub record AreReplicas {F : Type 0} (k : Kit F) (f : F) (count : ℕ) (replicas : List F) : Type 0 where
+  pub many : length replicas ≡ count
+  pub same : All (λ replica. replica ≡ f) replicas
+  pub nothing : KeepsNothing k f
+
+-- the ends of c nodes, for the mergers from i on, of m, which share these versions
+pub record ReplicasFit {F : Type 0} (k : Kit F) (may : F → ℕ → PlainVersion → Type 0) (f : F) (m i c count : ℕ) (versions : List (PlainMessage PlainVersion)) (inlets : List (List (PlainMessage PlainVersion))) (ends : List (List (PlainMessage PlainVersion))) : Type 0 where
+  pub many : length versions ≡ count
+  pub nothing : KeepsNothing k f
+  pub take : MayTakeAll k may f 0 versions
+  pub takes : inlets ≡ shares_from m i c versions
+  pub gives : ends ≡ shares_from m i c (ran k f versions)
