@@ -1,14 +1,15 @@
 -- What comes from the branches of a stage meets its mergers, over links or on boards.
-use Rattle.std.proofs.Common.{◌≡◌, ◌<◌, ◌≤◌, ◌+◌, ◌∙◌, ℕ, zero, suc, List, [], ◌∷◌, ◌++◌, length, map, drop, refl, arith, ap, sym, subst, All, append_assoc, length-append}
+use Rattle.std.proofs.Common.{◌≡◌, ◌<◌, ◌≤◌, ◌+◌, ◌∙◌, ℕ, List, [], ◌∷◌, ◌++◌, length, map, drop, arith, ap, sym, subst, All, append_assoc, length-append}
 use Rattle.std.proofs.lemmas.List.{append-nil, length-map}
 use Rattle.action_profile.specs.declared.parts.Touch.{Touch}
 use Rattle.packet_version.specs.Splitting.{PlainApart}
 use Rattle.packet_version.specs.Versions.{PlainVersion}
 use Rattle.message_links.specs.Messages.{PlainMessage}
-use Rattle.message_links.specs.Turns.{share, share_len, columns_from}
-use Rattle.stage_nodes.specs.Streams.{Kit, parted, ran, came_from}
+use Rattle.message_links.specs.Turns.{share, share_len}
+use Rattle.stage_nodes.specs.Streams.{Kit, PlainStage, parted, ran, came_from}
+use Rattle.stage_nodes.specs.Flows.{MayPass}
 use Rattle.node_run.specs.declared.meeting.Meeting.{Meeting}
-use Rattle.node_run.specs.Wired.{AreLinked, Meets}
+use Rattle.node_run.specs.Wired.{AreLinked, MayMeet, Meets}
 use Rattle.node_run.proofs.Wiring.{came_even, came_many, drop_none, share_even}
 
 -- over links: branch by branch
@@ -56,6 +57,18 @@ board_long k touches fs m i xs count own due e many is =
     subst (All (λ row. length row ≤ own)) (sym e) (λ n d lt. let long = share_even m i count own (came_from k touches fs xs) is (came_even k touches fs xs count many) n d lt in omega (arith, long))
 
 -- merger by merger
+
+pub may_meet : {F : Type 0} (k : Kit F) (may : F → ℕ → PlainVersion → Type 0) (s : PlainStage F) (touches : List Touch) (fs : List F) (m count : ℕ) (xs : List (PlainMessage PlainApart))
+    → MayPass k may s xs → touches ≡ s.parts.touches → fs ≡ s.branches → 0 < m → count < 65537 → length xs ≡ count → MayMeet touches fs m count xs
+may_meet k may s touches fs m count xs p t f some few many =
+    let of_stage : MayMeet s.parts.touches s.branches m count xs = record {
+      branches = (p.some, p.few);
+      owners = p.owners;
+      some = some;
+      few = few;
+      many = many;
+    } in
+    subst (λ y. MayMeet y fs m count xs) (sym t) (subst (λ y. MayMeet s.parts.touches y m count xs) (sym f) of_stage)
 
 pub meets_by : {F : Type 0} (k : Kit F) (touches touches' : List Touch) (fs fs' : List F) (m : ℕ) (xs : List (PlainMessage PlainApart)) (w : Meeting)
     → Meets m (came_from k touches fs xs) w → touches ≡ touches' → fs ≡ fs' → Meets m (came_from k touches' fs' xs) w

@@ -1,6 +1,5 @@
 -- The nodes of a branch that keeps no state.
-use Rattle.std.proofs.Common.{◌≡◌, ◌<◌, ◌≤◌, ◌+◌, ◌-◌, ◌*◌, ◌∙◌, ℕ, zero, suc, pred, List, [], ◌∷◌, ◌++◌, length, refl, arith, ap, sym, subst, false, All, length-append, mul-le-mul_right, Option, Some, None}
-use Rattle.std.specs.Prelude.{IfSome, IsSome}
+use Rattle.std.proofs.Common.{◌≡◌, ◌<◌, ◌≤◌, ◌+◌, ◌-◌, ◌*◌, ◌∙◌, ℕ, zero, suc, pred, List, [], ◌∷◌, ◌++◌, length, refl, arith, ap, sym, subst, false, All, length-append, mul-le-mul_right}
 use Rattle.std.proofs.lemmas.List.{append-nil}
 use Rattle.std.proofs.lemmas.List.Elements.{All-nil, All-push}
 use Rattle.packet_fields.specs.declared.field.Field.{Field}
@@ -206,13 +205,6 @@ pub record AreMade {F : Type 0} (k : Kit F) (f : F) (i : ℕ) (made : List F) : 
   pub many : length made ≡ i
   pub same : All (λ replica. replica ≡ f) made
   pub nothing : 0 < i → KeepsNothing k f
-
-pub some_is : {A : Type 0} (P : A → Type 0) (o : Option A) (x : A) → IfSome o P → o ≡ Some x → P x
-some_is P (Some y) x h e = let same : y ≡ x = cc in subst P same h
-some_is P None x h e = absurd cc
-
-pub is_some_by : {A : Type 0} (o : Option A) (x : A) → o ≡ Some x → IsSome o
-is_some_by o x e = subst IsSome (sym e) refl
 
 pub none_made : {F : Type 0} (k : Kit F) (f : F) (made : List F) → made ≡ [] → AreMade k f 0 made
 none_made k f made e = record {

@@ -1,17 +1,26 @@
 -- For proofs: how the nodes of a stage hang together.
 use Rattle.std.specs.Prelude.{◌≡◌, ◌<◌, ◌≤◌, ◌+◌, ◌++◌, ℕ, List, [], ◌∷◌, length, map, drop, All}
+use Rattle.packet_fields.specs.declared.field.Field.{Field}
 use Rattle.action_profile.specs.declared.parts.Touch.{Touch}
 use Rattle.packet_version.specs.Splitting.{PlainApart}
 use Rattle.packet_version.specs.Versions.{PlainVersion}
 use Rattle.message_links.specs.Messages.{PlainMessage}
 use Rattle.message_links.specs.Turns.{share, shares, shares_from, columns, columns_from}
 use Rattle.stage_nodes.specs.Dues.{AreFanned, AreShared, DealerDue}
-use Rattle.stage_nodes.specs.Streams.{Kit, PlainStage, came_from, passed, stayed, merged_rows}
-use Rattle.stage_nodes.specs.Flows.{AllMayTake, AllBelong}
+use Rattle.stage_nodes.specs.Streams.{Kit, PlainStage, came_from, left, parted, passed, ran, stayed, merged_rows}
+use Rattle.stage_nodes.specs.Flows.{AllMayTake, AllBelong, MayTakeAll}
 use Rattle.node_run.specs.Nodes.{AreNodes, no_copies}
 use Rattle.node_run.specs.declared.branches.Branches.{Branches}
 use Rattle.node_run.specs.declared.meeting.Meeting.{Meeting}
 use Rattle.node_run.specs.declared.wire.WiredStage.{WiredStage}
+
+-- branches with these touches and functions may meet m mergers, for so many packets, which are these
+pub record MayMeet {F : Type 0} (touches : List Touch) (fs : List F) (m count : ℕ) (xs : List (PlainMessage PlainApart)) : Type 0 where
+  pub branches : (0 < length touches) × (length touches ≤ 64)
+  pub owners : length fs ≡ length touches
+  pub some : 0 < m
+  pub few : count < 65537
+  pub many : length xs ≡ count
 
 -- what comes from each branch meets m mergers: both the branches' ends and the merger's have its share of each branch's
 pub record Meets (m : ℕ) (rows : List (List (PlainMessage PlainVersion))) (w : Meeting) : Type 0 where
@@ -27,6 +36,20 @@ pub record AreLinked {F : Type 0} (k : Kit F) (touches : List Touch) (fs : List 
 -- one stream more is shared in turn
 abbrev pub IsFanned : List (PlainMessage PlainVersion) → List (List (List (PlainMessage PlainVersion))) → List (List (List (PlainMessage PlainVersion))) → Type 0
 IsFanned xs old new = (fan : List (List (PlainMessage PlainVersion))) × AreShared fan xs × (new ≡ old ++ fan ∷ [])
+
+-- a branch may be wired to m mergers, into these ends, for so many packets, which are these
+pub record MayWire {F : Type 0} (k : Kit F) (may : F → ℕ → PlainVersion → Type 0) (touch : Touch) (f : F) (m count : ℕ) (xs : List (PlainMessage PlainApart)) (given : List (List (PlainMessage PlainVersion))) : Type 0 where
+  pub some : 0 < m
+  pub few_mergers : m ≤ 16
+  pub few : count < 65537
+  pub many : length xs ≡ count
+  pub take : MayTakeAll k may f 0 (map (parted touch) xs)
+  pub ends : given ≡ shares m (ran k f (map (parted touch) xs))
+
+-- one branch more is wired: it is given its part of these packets, and gives back the functions that are left after them
+pub record HasWired {F : Type 0} (k : Kit F) (may : F → ℕ → PlainVersion → Type 0) (touch : Touch) (f : F) (xs : List (PlainMessage PlainApart)) (old new : Branches F) : Type 0 where
+  pub versions : IsFanned (map (parted touch) xs) old.versions new.versions
+  pub nodes : (fs : List F) (c : Field → ℕ) → AreNodes k may old.nodes.items fs c → AreNodes k may new.nodes.items (fs ++ left k f (map (parted touch) xs) ∷ []) c
 
 -- the branches of a stage
 pub record AreWired {F : Type 0} (k : Kit F) (may : F → ℕ → PlainVersion → Type 0) (touches : List Touch) (fs : List F) (xs : List (PlainMessage PlainApart)) (w : Branches F) : Type 0 where

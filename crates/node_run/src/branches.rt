@@ -1,12 +1,10 @@
 //! The branches of a stage, with their links from the dealer and their ends of where they meet the mergers.
-ghost use Rattle.std.specs.Prelude.{◌≡◌, ◌<◌, ◌≤◌, ◌++◌, ◌∷◌, [], ℕ, List, length, map, All, IfOk, OnOk};
-ghost use Rattle.packet_fields.specs.declared.field.Field.{Field};
+ghost use Rattle.std.specs.Prelude.{◌≡◌, ◌<◌, ◌≤◌, length, map, All, IfOk, OnOk};
 ghost use Rattle.message_links.specs.Messages.{Owing, front, rest};
 ghost use Rattle.message_links.specs.Turns.{columns, shares};
-ghost use Rattle.stage_nodes.specs.Streams.{came_from, left, parted, ran};
-ghost use Rattle.stage_nodes.specs.Flows.{AllMayTake, MayTakeAll};
-ghost use Rattle.node_run.specs.Nodes.{AreNodes};
-ghost use Rattle.node_run.specs.Wired.{AreWired, IsFanned};
+ghost use Rattle.stage_nodes.specs.Streams.{came_from, parted};
+ghost use Rattle.stage_nodes.specs.Flows.{AllMayTake};
+ghost use Rattle.node_run.specs.Wired.{AreWired, HasWired, MayWire};
 
 use crate::fans::fan;
 use crate::node::Node;
@@ -86,14 +84,8 @@ fn wire_branch<F: BranchWork + Drop, D: LinkDue<Parcel<Apart>>>(
     count: u32,
     wired: &mut Branches<F>,
 ) -> Result<(), AllocError>
-    requires some { 0 < mergers }
-    requires few_mergers { mergers ≤ 16 }
-    requires few { count < 65537 }
-    requires many { length D.due ≡ count }
-    requires take { MayTakeAll F.kit F.may work 0 (map (parted touch) D.due) }
-    requires ends { ends ≡ shares mergers (ran F.kit work (map (parted touch) D.due)) }
-    ensures versions { OnOk result (IsFanned (map (parted touch) D.due) wired.old.versions wired.new.versions) }
-    ensures nodes { OnOk result ((fs : List F) (c : Field → ℕ) → AreNodes F.kit F.may wired.old.nodes.items fs c → AreNodes F.kit F.may wired.new.nodes.items (fs ++ left F.kit work (map (parted touch) D.due) ∷ []) c) }
+    requires { MayWire F.kit F.may touch work mergers count D.due ends }
+    ensures { OnOk result (HasWired F.kit F.may touch work D.due wired.old wired.new) }
 {
     if mergers > 1
         && let Some(replicas) = replicas_of(alloc, &work, mergers - 1)?
@@ -113,13 +105,8 @@ fn wire_alone<F: BranchWork + Drop, D: LinkDue<Parcel<Apart>>>(
     count: u32,
     wired: &mut Branches<F>,
 ) -> Result<(), AllocError>
-    requires some { 0 < mergers }
-    requires few { count < 65537 }
-    requires many { length D.due ≡ count }
-    requires take { MayTakeAll F.kit F.may work 0 (map (parted touch) D.due) }
-    requires ends { ends ≡ shares mergers (ran F.kit work (map (parted touch) D.due)) }
-    ensures versions { OnOk result (IsFanned (map (parted touch) D.due) wired.old.versions wired.new.versions) }
-    ensures nodes { OnOk result ((fs : List F) (c : Field → ℕ) → AreNodes F.kit F.may wired.old.nodes.items fs c → AreNodes F.kit F.may wired.new.nodes.items (fs ++ left F.kit work (map (parted touch) D.due) ∷ []) c) }
+    requires { MayWire F.kit F.may touch work mergers count D.due ends }
+    ensures { OnOk result (HasWired F.kit F.may touch work D.due wired.old wired.new) }
 {
     let (versions, mut inlets) = version_fan::<D, Brand>(alloc, touch, 1, count)?;
     wired.versions.push(versions)?;

@@ -1,8 +1,8 @@
 //! Where what comes from the branches of a stage meets its mergers.
-ghost use Rattle.std.specs.Prelude.{◌≡◌, ◌<◌, ◌≤◌, ◌∷◌, length, map, IfOk};
+ghost use Rattle.std.specs.Prelude.{◌≡◌, ◌<◌, ◌∷◌, length, map, IfOk};
 ghost use Rattle.message_links.specs.Turns.{share};
 ghost use Rattle.stage_nodes.specs.Streams.{came_from};
-ghost use Rattle.node_run.specs.Wired.{Meets};
+ghost use Rattle.node_run.specs.Wired.{MayMeet, Meets};
 
 use crate::on_board::meet_on_board;
 use crate::over_links::meet_over_links;
@@ -40,11 +40,7 @@ pub(crate) fn meet<F: BranchWork, D: LinkDue<Parcel<Apart>>>(
     mergers: u32,
     count: u32,
 ) -> Result<Meeting, AllocError>
-    requires branches { (0 < length touches.now) × (length touches.now ≤ 64) }
-    requires owners { length functions.now ≡ length touches.now }
-    requires some { 0 < mergers }
-    requires few { count < 65537 }
-    requires many { length D.due ≡ count }
+    requires { MayMeet touches.now functions.now mergers count D.due }
     ensures { IfOk result (λ w. Meets mergers (came_from F.kit touches.now functions.now D.due) w) }
 {
     let mut ends = Vec::new(alloc);
@@ -69,11 +65,7 @@ fn meet_merger<F: BranchWork, D: LinkDue<Parcel<Apart>>>(
     merger: u32,
     count: u32,
 ) -> Result<(ToMergers, FromBranches), AllocError>
-    requires branches { (0 < length touches.now) × (length touches.now ≤ 64) }
-    requires owners { length functions.now ≡ length touches.now }
-    requires some { 0 < mergers }
-    requires few { count < 65537 }
-    requires many { length D.due ≡ count }
+    requires { MayMeet touches.now functions.now mergers count D.due }
     ensures ends { IfOk result (λ e. e.0 ≡ map (share mergers merger) (came_from F.kit touches.now functions.now D.due)) }
     ensures inlets { IfOk result (λ e. e.1 ≡ map (share mergers merger) (came_from F.kit touches.now functions.now D.due)) }
 {

@@ -1,7 +1,8 @@
 //! A stage's branches and a merger meet over links, one from each branch.
-ghost use Rattle.std.specs.Prelude.{◌≡◌, ◌<◌, ◌≤◌, length, map, IfOk};
+ghost use Rattle.std.specs.Prelude.{◌≡◌, ◌<◌, length, map, IfOk};
 ghost use Rattle.message_links.specs.Turns.{share};
 ghost use Rattle.stage_nodes.specs.Streams.{came_from, parted, ran};
+ghost use Rattle.node_run.specs.Wired.{MayMeet};
 
 use crate::fans::share_count;
 use action_profile::Touch;
@@ -22,11 +23,7 @@ pub(crate) fn meet_over_links<F: BranchWork, D: LinkDue<Parcel<Apart>>>(
     merger: u32,
     count: u32,
 ) -> Result<(ToMergers, FromBranches), AllocError>
-    requires branches { (0 < length touches.now) × (length touches.now ≤ 64) }
-    requires owners { length functions.now ≡ length touches.now }
-    requires some { 0 < mergers }
-    requires few { count < 65537 }
-    requires many { length D.due ≡ count }
+    requires { MayMeet touches.now functions.now mergers count D.due }
     ensures ends { IfOk result (λ e. e.0 ≡ map (share mergers merger) (came_from F.kit touches.now functions.now D.due)) }
     ensures inlets { IfOk result (λ e. e.1 ≡ map (share mergers merger) (came_from F.kit touches.now functions.now D.due)) }
 {

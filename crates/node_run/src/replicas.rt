@@ -1,13 +1,11 @@
 //! A branch that keeps no state has a node for each merger, each with functions of its own.
-ghost use Rattle.std.specs.Prelude.{◌≡◌, ◌<◌, ◌≤◌, ◌++◌, ◌+◌, ◌-◌, ◌∷◌, [], ℕ, suc, List, length, map, IfOk, IfSome, OnOk};
+ghost use Rattle.std.specs.Prelude.{◌≡◌, ◌<◌, ◌≤◌, ◌++◌, ◌+◌, ◌-◌, ◌∷◌, [], ℕ, suc, List, IfOk, IfSome, OnOk};
 ghost use Rattle.packet_fields.specs.declared.field.Field.{Field};
 ghost use Rattle.packet_version.specs.Versions.{PlainVersion};
 ghost use Rattle.message_links.specs.Messages.{PlainMessage};
-ghost use Rattle.message_links.specs.Turns.{shares};
-ghost use Rattle.stage_nodes.specs.Streams.{left, parted, ran};
-ghost use Rattle.stage_nodes.specs.Flows.{MayTakeAll};
+ghost use Rattle.stage_nodes.specs.Streams.{left};
 ghost use Rattle.node_run.specs.Nodes.{AreNodes, branch_ready};
-ghost use Rattle.node_run.specs.Wired.{IsFanned};
+ghost use Rattle.node_run.specs.Wired.{HasWired, MayWire};
 ghost use Rattle.node_run.specs.Replicas.{AreReplicas, ReplicasFit};
 
 use crate::branches::{Branches, version_fan};
@@ -53,14 +51,8 @@ pub(crate) fn wire_replicas<F: BranchWork + Drop, D: LinkDue<Parcel<Apart>>>(
     wired: &mut Branches<F>,
 ) -> Result<(), AllocError>
     requires replicas { AreReplicas F.kit work (mergers - 1) replicas.items }
-    requires some { 0 < mergers }
-    requires few_mergers { mergers ≤ 16 }
-    requires few { count < 65537 }
-    requires many { length D.due ≡ count }
-    requires take { MayTakeAll F.kit F.may work 0 (map (parted touch) D.due) }
-    requires ends { ends ≡ shares mergers (ran F.kit work (map (parted touch) D.due)) }
-    ensures versions { OnOk result (IsFanned (map (parted touch) D.due) wired.old.versions wired.new.versions) }
-    ensures nodes { OnOk result ((fs : List F) (c : Field → ℕ) → AreNodes F.kit F.may wired.old.nodes.items fs c → AreNodes F.kit F.may wired.new.nodes.items (fs ++ left F.kit work (map (parted touch) D.due) ∷ []) c) }
+    requires branch { MayWire F.kit F.may touch work mergers count D.due ends }
+    ensures { OnOk result (HasWired F.kit F.may touch work D.due wired.old wired.new) }
 {
     let (versions, inlets) = version_fan::<D, Brand>(alloc, touch, mergers, count)?;
     wired.versions.push(versions)?;

@@ -1,4 +1,4 @@
-use Rattle.std.proofs.Common.{sym, ◌∙◌}
+use Rattle.std.proofs.Common.{sym}
 use Rattle.merge_ops.specs.Behind.{no_touch}
 use Rattle.node_run.proofs.Wiring.{none_left, none_wired, is_next, branch_next, ends_left, ends_own, wired_more, all_wired}
 use Rattle.node_run.proofs.branches.wire_branches.Goals as goal
@@ -15,14 +15,16 @@ next_ends-requires g c =
     let b = branch_next g.F.BranchWork.kit g.F.BranchWork.may _ _ _ _ _ _ _ c.in-Some.work no_touch _ _ c.loop-work.invariant.2 c.in-Some.ensures.steps.0 in
     ends_left g.F.BranchWork.kit g.F.BranchWork.may _ _ _ _ _ c.in-Some.work _ _ b
 
-pub wire_branch-requires-clause-take : goal.wire_branch-requires-clause-take
-wire_branch-requires-clause-take g c =
-    (branch_next g.F.BranchWork.kit g.F.BranchWork.may _ _ _ _ _ _ _ c.in-Some.work no_touch _ _ c.loop-work.invariant.2 c.in-Some.ensures.steps.0).take
-
-pub wire_branch-requires-clause-ends : goal.wire_branch-requires-clause-ends
-wire_branch-requires-clause-ends g c =
-    let b = branch_next g.F.BranchWork.kit g.F.BranchWork.may _ _ _ _ _ _ _ c.in-Some.work no_touch _ _ c.loop-work.invariant.2 c.in-Some.ensures.steps.0 in
-    ends_own g.F.BranchWork.kit g.F.BranchWork.may _ _ _ _ _ c.in-Some.work _ _ _ b c.in_ok-own.ensures.row
+pub wire_branch-requires : goal.wire_branch-requires
+wire_branch-requires g c =
+    let b = branch_next g.F.BranchWork.kit g.F.BranchWork.may _ _ _ _ _ _ _ c.in-Some.work no_touch _ _ c.loop-work.invariant.2 c.in-Some.ensures.steps.0 in record {
+      some = c.requires.some;
+      few_mergers = c.requires.few_mergers;
+      few = c.requires.few;
+      many = c.requires.many;
+      take = b.take;
+      ends = ends_own g.F.BranchWork.kit g.F.BranchWork.may _ _ _ _ _ c.in-Some.work _ _ _ b c.in_ok-own.ensures.row;
+    }
 
 pub loop-work-preserved : goal.loop-work-preserved
 loop-work-preserved g c =

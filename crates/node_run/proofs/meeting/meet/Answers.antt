@@ -7,6 +7,9 @@ use Rattle.node_run.proofs.meeting.meet.Goals as goal
 pub loop-merger-init : goal.loop-merger-init
 loop-merger-init g c = (c.new-ends.ensures.items ∙ sym (no_columns _ _), c.new-inlets.ensures.items ∙ sym (no_columns _ _), omega arith)
 
+pub meet_merger-requires : goal.meet_merger-requires
+meet_merger-requires g c = c.requires
+
 pub loop-merger-preserved : goal.loop-merger-preserved
 loop-merger-preserved g c =
     let i = c.loop-merger.invariant in

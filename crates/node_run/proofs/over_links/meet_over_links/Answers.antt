@@ -7,6 +7,15 @@ use Rattle.node_run.proofs.over_links.meet_over_links.Goals as goal
 pub loop-branch-init : goal.loop-branch-init
 loop-branch-init g c = (none_linked g.F.BranchWork.kit _ _ _ _ _ _ c.new-ends.ensures, none_linked g.F.BranchWork.kit _ _ _ _ _ _ c.new-inlets.ensures)
 
+pub branch_link-requires-clause-some : goal.branch_link-requires-clause-some
+branch_link-requires-clause-some g c = c.requires.some
+
+pub branch_link-requires-clause-few : goal.branch_link-requires-clause-few
+branch_link-requires-clause-few g c = c.requires.few
+
+pub branch_link-requires-clause-many : goal.branch_link-requires-clause-many
+branch_link-requires-clause-many g c = c.requires.many
+
 pub loop-branch-preserved : goal.loop-branch-preserved
 loop-branch-preserved g c =
     let k = g.F.BranchWork.kit in

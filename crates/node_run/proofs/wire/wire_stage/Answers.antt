@@ -1,8 +1,13 @@
 use Rattle.std.proofs.Common.{refl}
 use Rattle.node_run.specs.Stages.{plain_stage}
 use Rattle.node_run.proofs.Wiring.{is_wired, mergers_fit, wired_by}
-use Rattle.node_run.proofs.Meets.{meets_by}
+use Rattle.node_run.proofs.Meets.{may_meet, meets_by}
 use Rattle.node_run.proofs.wire.wire_stage.Goals as goal
+
+pub meet-requires : goal.meet-requires
+meet-requires g c =
+    may_meet g.F.BranchWork.kit g.F.BranchWork.may (plain_stage c.args.work) _ _ c.args.mergers c.args.count g.D.LinkDue.due
+    c.requires.pass c.as_slice-touches.ensures c.as_slice.ensures.value c.requires.some c.requires.few c.requires.many
 
 pub wire_branches-requires-clause-ends : goal.wire_branches-requires-clause-ends
 wire_branches-requires-clause-ends g c = (meets_by g.F.BranchWork.kit _ _ _ _ c.args.mergers g.D.LinkDue.due _ c.in_ok-ends.ensures refl c.as_slice.ensures.value).ends
