@@ -483,6 +483,26 @@ def two_names(bench):
             yield f'{name} was changed: it is {slot} and {same}'
 
 
+# Standard output or standard error in a file of the run.
+
+
+def led_into_a_file(bench):
+    """Standard output or standard error leads into the file that is to be Out or Report: it is refused, and no file loses anything."""
+    slot, stream = bench.rng.choice(['out', 'report']), bench.rng.choice([1, 2])
+    stood = b'what stood in it\n'
+    name = str(bench.folder.path / 'old')
+    with open(name, 'wb') as file:
+        file.write(stood)
+    with open(name, 'ab') as file:
+        os.set_inheritable(file.fileno(), True)
+        came = bench.run([(os.POSIX_SPAWN_DUP2, file.fileno(), stream)], prints=stream != 1, **{slot: name})
+    line = f'write fault: {slot}\n'
+    yield from faulty(bench, came, 5, '' if stream == 1 else line)
+    left = thrown_runs.contents(name)
+    if not left.startswith(stood) or (stream == 1 and left != stood + line.encode()):
+        yield f'{name} was changed: it is {slot}, and stream {stream} leads there: {left[:200]!r}'
+
+
 TROUBLES = [
     full_disk,
     full_disk,
@@ -505,4 +525,5 @@ TROUBLES = [
     little_memory,
     two_names,
     two_names,
+    led_into_a_file,
 ]

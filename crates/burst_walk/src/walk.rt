@@ -20,8 +20,9 @@ use std::thread::Threads;
 
 /// Leads the packets of a burst through their chains, and gives where each ended, none for one that no chain takes.
 ///
-/// The branches of a stage run side by side, and behind them so many mergers, 1 to 16, which put together in this way what the branches
-/// give. Nothing that comes of a packet depends on how many there are, or on the way. Each step of a function passes the gate first.
+/// Where the burst goes on threads, the branches of a stage run side by side, and behind them at most so many mergers, 1 to 16, which put
+/// together in this way what the branches give; else it goes on the caller's thread, by the pace of its chain. Nothing that comes of a
+/// packet depends on that. Each step of a function passes the gate first.
 pub fn walk_burst<R: Threads + Wait + Clock + Sync, G: Gate + Sync>(
     rt: &R,
     alloc: Global,

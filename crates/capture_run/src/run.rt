@@ -28,8 +28,9 @@ use std::thread::Threads;
 /// burst is full, which is of `burst` packets at most, or the capture ends. What is put of a whole capture doesn't depend on that;
 /// but a want of memory or a fault of a slot leaves those unwritten that were read since the last burst.
 ///
-/// The branches of a stage run side by side, and behind them so many mergers, 1 to 16, which put together in this way what the branches
-/// give: nothing that is put depends on how many, or on the way. Each step of a function passes the gate first.
+/// Where a burst goes on threads, the branches of a stage run side by side, and behind them at most so many mergers, 1 to 16, which put
+/// together in this way what the branches give; else it goes on the caller's thread, by the pace of its chain. Nothing that is put
+/// depends on that. Each step of a function passes the gate first.
 pub fn run_capture<
     R: Threads + Wait + Clock + Sync,
     D: Desk,

@@ -12,4 +12,6 @@ named_keeps = record {
   state = λ fixed f v h. ap (λ function. record f { function = function }) (net_keeps.state fixed f.function v h);
   lengths = λ fixed f v x other formed. net_keeps.lengths fixed f.function v x other formed;
   tags = λ fixed f v whole. net_keeps.tags fixed f.function v whole;
+  adds = λ fixed f v h. net_keeps.adds fixed f.function v h;
+  removes = λ fixed f v h. net_keeps.removes fixed f.function v h;
 }

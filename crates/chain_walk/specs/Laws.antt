@@ -1,5 +1,5 @@
 -- For proofs: what every network function keeps to.
-use Rattle.std.specs.Prelude.{◌≡◌, ◌≢◌, ◌≤◌, ◌+◌, true, false, ◌&&◌, if◌then◌else◌, length, None, is_some, IfSome, IsSomeAnd}
+use Rattle.std.specs.Prelude.{◌≡◌, ◌≢◌, ◌≤◌, ◌+◌, true, false, ◌&&◌, if◌then◌else◌, length, drop, None, is_some, IfSome, IsSomeAnd}
 use Rattle.packet_fields.specs.Frames.{is_tag_list}
 use Rattle.packet_fields.specs.Fields.{IsLengthOf}
 use Rattle.packet_fields.specs.declared.field.Field.{Field}
@@ -25,3 +25,9 @@ pub record KeepsProfile {F : Type 0} (b : Behaviour F) : Type 0 where
   -- the tags are whole, and at most one more where the profile adds
   pub tags : (fixed : Fixed) (f : F) (v : Values) → IfSome (v Tag) (λ old. is_tag_list old ≡ true) →
       IfSome ((stepped b fixed f v).written Tag) (λ new. (is_tag_list new ≡ true) × IsSomeAnd (v Tag) (λ old. length new ≤ length old + (if (b.profile f).adds then 4 else 0)))
+  -- where the profile adds, one tag comes before the others, which stay
+  pub adds : (fixed : Fixed) (f : F) (v : Values) → (b.profile f).adds ≡ true →
+      IfSome ((stepped b fixed f v).written Tag) (λ new. IsSomeAnd (v Tag) (λ old. (length new ≡ length old + 4) × (drop 4 new ≡ old)))
+  -- where it removes, the first tag goes, and the others stay
+  pub removes : (fixed : Fixed) (f : F) (v : Values) → (b.profile f).removes ≡ true →
+      IfSome ((stepped b fixed f v).written Tag) (λ new. IsSomeAnd (v Tag) (λ old. new ≡ drop 4 old))

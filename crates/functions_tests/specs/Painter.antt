@@ -59,4 +59,6 @@ painter_keeps count make = record {
   state = λ fixed f v h. absurd cc;
   lengths = λ fixed f v x other formed. chosen (λ t. IfSome (t.written x) (λ new. IsSomeAnd (v x) (λ old. length new ≡ length old))) (nat_le 2 (count f)) _ _ tt (painted_length v x (count f) formed);
   tags = λ fixed f v whole. chosen (λ t. IfSome (t.written Tag) (λ new. (is_tag_list new ≡ true) × IsSomeAnd (v Tag) (λ old. length new ≤ length old + 0))) (nat_le 2 (count f)) _ _ tt tt;
+  adds = λ fixed f v h. absurd cc;
+  removes = λ fixed f v h. absurd cc;
 }

@@ -50,7 +50,7 @@ pub fn run_joined<F: Function + Drop + Send, G: Gate + Sync, R: Threads + Wait +
     ensures refused { OnErr result (RaisesUpTo (copies_made run.graph.stages (packets_taken unit chain burst.now.items) (fates F.behaviour run.functions (packets_taken unit chain burst.now.items))) tally.old tally.new) }
 {
     let (functions, graph) = run.into_parts();
-    let single = is_single(&graph);
+    let single = has_single_branches(&graph);
     let run = Running::new(functions, graph);
     if single {
         run_gated(rt, alloc, run, burst, unit, chain, tally, gate)
@@ -61,7 +61,7 @@ pub fn run_joined<F: Function + Drop + Send, G: Gate + Sync, R: Threads + Wait +
 }
 
 /// Has every stage one branch, so that nothing runs side by side?
-fn is_single(graph: &Graph) -> bool
+fn has_single_branches(graph: &Graph) -> bool
     ensures { result ≡ list_all (λ stage. length stage.branches == 1) graph.now.stages }
 {
     graph.stages.as_slice().iter().all(has_one_branch)

@@ -1,5 +1,5 @@
 -- For proofs: functions of every kind do what their profiles say, and no more.
-use Rattle.std.specs.Prelude.{◌≡◌, ◌≢◌, ◌≤◌, ◌+◌, ℕ, List, false, true, ◌&&◌, if◌then◌else◌, length, Option, None, is_some, IfSome, IsSomeAnd, refl}
+use Rattle.std.specs.Prelude.{◌≡◌, ◌≢◌, ◌≤◌, ◌+◌, ℕ, List, false, true, ◌&&◌, if◌then◌else◌, length, drop, Option, None, is_some, IfSome, IsSomeAnd, refl}
 use Rattle.std.proofs.Common.{◌∙◌, ap, sym, subst}
 use Rattle.packet_fields.specs.Frames.{is_tag_list}
 use Rattle.packet_fields.specs.Fields.{IsLengthOf}
@@ -54,6 +54,10 @@ record Keeps (f : NetFunction) : Type 0 where
       IfSome ((stepped net_behaviour fixed f v).written x) (λ new. IsSomeAnd (v x) (λ old. length new ≡ length old))
   tags : (fixed : Fixed) (v : Values) → IfSome (v Tag) (λ old. is_tag_list old ≡ true) →
       IfSome ((stepped net_behaviour fixed f v).written Tag) (λ new. (is_tag_list new ≡ true) × IsSomeAnd (v Tag) (λ old. length new ≤ length old + (if (net_behaviour.profile f).adds then 4 else 0)))
+  adds : (fixed : Fixed) (v : Values) → (net_behaviour.profile f).adds ≡ true →
+      IfSome ((stepped net_behaviour fixed f v).written Tag) (λ new. IsSomeAnd (v Tag) (λ old. (length new ≡ length old + 4) × (drop 4 new ≡ old)))
+  removes : (fixed : Fixed) (v : Values) → (net_behaviour.profile f).removes ≡ true →
+      IfSome ((stepped net_behaviour fixed f v).written Tag) (λ new. IsSomeAnd (v Tag) (λ old. new ≡ drop 4 old))
 
 same_step : {F : Type 0} (b : Behaviour F) (make : F → NetFunction) → IsKind b make → (fixed : Fixed) (f : F) (v : Values) → stepped net_behaviour fixed (make f) v ≡ as_any make (stepped b fixed f v)
 same_step b make is fixed f v = ap (λ p. net_behaviour.step (make f) (shown_by p fixed v)) (is.profile f) ∙ is.step f (shown_by (b.profile f) fixed v)
@@ -69,6 +73,12 @@ kind_keeps {F = F} b make is keeps f = record {
   tags = λ fixed v whole.
       subst (λ (p : Profile). IfSome ((stepped net_behaviour fixed (make f) v).written Tag) (λ new. (is_tag_list new ≡ true) × IsSomeAnd (v Tag) (λ old. length new ≤ length old + (if p.adds then 4 else 0)))) (sym (is.profile f))
       (subst (λ (w : Option (List ℕ)). IfSome w (λ new. (is_tag_list new ≡ true) × IsSomeAnd (v Tag) (λ old. length new ≤ length old + (if (b.profile f).adds then 4 else 0)))) (sym (ap (λ t. t.written Tag) (same fixed v))) (keeps.tags fixed f v whole));
+  adds = λ fixed v h.
+      subst (λ (w : Option (List ℕ)). IfSome w (λ new. IsSomeAnd (v Tag) (λ old. (length new ≡ length old + 4) × (drop 4 new ≡ old)))) (sym (ap (λ t. t.written Tag) (same fixed v)))
+      (keeps.adds fixed f v (subst (λ (p : Profile). p.adds ≡ true) (is.profile f) h));
+  removes = λ fixed v h.
+      subst (λ (w : Option (List ℕ)). IfSome w (λ new. IsSomeAnd (v Tag) (λ old. new ≡ drop 4 old))) (sym (ap (λ t. t.written Tag) (same fixed v)))
+      (keeps.removes fixed f v (subst (λ (p : Profile). p.removes ≡ true) (is.profile f) h));
 }
   where
     same : (fixed : Fixed) (v : Values) → stepped net_behaviour fixed (make f) v ≡ as_any make (stepped b fixed f v)
@@ -145,4 +155,6 @@ net_keeps = record {
   state = λ fixed f v h. (each_keeps f).state fixed v h;
   lengths = λ fixed f v x other formed. (each_keeps f).lengths fixed v x other formed;
   tags = λ fixed f v whole. (each_keeps f).tags fixed v whole;
+  adds = λ fixed f v h. (each_keeps f).adds fixed v h;
+  removes = λ fixed f v h. (each_keeps f).removes fixed v h;
 }

@@ -1,5 +1,5 @@
 //! A network function that sees a packet through a view.
-ghost use Rattle.std.specs.Prelude.{◌≡◌, ◌<◌, ◌++◌, ℕ, List, [], length, slice_index_or, true, not, is_some, IfOk, OnOk, OnErr, IsSome, IfSome};
+ghost use Rattle.std.specs.Prelude.{◌≡◌, ◌<◌, ◌++◌, ℕ, List, [], length, slice_index_or, true, false, not, is_some, IsOk, IfOk, OnOk, OnErr, IsSome, IfSome};
 ghost use Rattle.std.specs.List.{flat_map};
 ghost use Rattle.packet_fields.specs.declared.field.Field.{Field};
 ghost use Rattle.chain_walk.specs.Step.{Behaviour};
@@ -26,7 +26,7 @@ pub trait Function: Sized {
         ensures { result ≡ behaviour.profile self.now };
 
     /// Acts on one packet, which it sees through a view of its own profile. A function that may add a tag
-    /// finds room for it.
+    /// finds room for it, and one that keeps no state wants no memory.
     fn step(&mut self, view: &mut View) -> Result<Verdict, AllocError>
         requires profile { view.old.profile ≡ behaviour.profile self.old }
         requires room { (behaviour.profile self.old).adds ≡ true → IsSome (seen_parts view.old Field.Tag) → HasTagRoom view.old }
@@ -35,12 +35,16 @@ pub trait Function: Sized {
         ensures view { OnOk result (view.new ≡ wrote_all (viewed behaviour self.old view.old).written view.old) }
         // Where memory runs out, nothing has changed.
         ensures function_stays { OnErr result (self.new ≡ self.old) }
-        ensures view_stays { OnErr result (view.new ≡ view.old) };
+        ensures view_stays { OnErr result (view.new ≡ view.old) }
+        // Memory is for a state alone.
+        ensures stateless { (behaviour.profile self.old).state ≡ false → IsOk result };
 
-    /// Appends the lines that show its state. Where memory runs out, it appends nothing.
+    /// Appends the lines that show its state. Where memory runs out, it appends nothing. A function that keeps no state wants
+    /// none.
     fn state_lines(&self, out: &mut Vec<u8>) -> Result<(), AllocError>
         ensures lines { OnOk result (out.new.items ≡ out.old.items ++ lines self.now) }
-        ensures stays { OnErr result (out.new.items ≡ out.old.items) };
+        ensures stays { OnErr result (out.new.items ≡ out.old.items) }
+        ensures stateless { (behaviour.profile self.now).state ≡ false → IsOk result };
 
     /// How many lines show its state.
     fn state_count(&self) -> usize

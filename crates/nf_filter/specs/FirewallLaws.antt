@@ -11,4 +11,6 @@ firewall_keeps = record {
   state = λ fixed f v h. refl;
   lengths = λ fixed f v x other old. tt;
   tags = λ fixed f v old. tt;
+  adds = λ fixed f v h. absurd cc;
+  removes = λ fixed f v h. absurd cc;
 }

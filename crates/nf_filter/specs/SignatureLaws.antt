@@ -11,4 +11,6 @@ signature_keeps = record {
   state = λ fixed s v h. refl;
   lengths = λ fixed s v x other old. tt;
   tags = λ fixed s v old. tt;
+  adds = λ fixed f v h. absurd cc;
+  removes = λ fixed f v h. absurd cc;
 }

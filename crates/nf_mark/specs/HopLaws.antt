@@ -31,4 +31,6 @@ hop_keeps = record {
   state = λ fixed h v none. refl;
   lengths = λ fixed h v x other formed. lengths_only (hop_behaviour.profile h) v Ttl _ (λ no_tag. one_byte (v Ttl)) x other formed;
   tags = λ fixed h v whole. tt;
+  adds = λ fixed f v h. absurd cc;
+  removes = λ fixed f v h. absurd cc;
 }

@@ -28,4 +28,6 @@ marker_keeps = record {
   state = λ fixed m v h. refl;
   lengths = λ fixed m v x other formed. lengths_only (marker_behaviour.profile m) v Tos _ (λ no_tag. one_byte (v Tos) _) x other formed;
   tags = λ fixed m v whole. tt;
+  adds = λ fixed f v h. absurd cc;
+  removes = λ fixed f v h. absurd cc;
 }

@@ -105,4 +105,6 @@ nexthop_keeps = record {
   state = λ fixed n v h. refl;
   lengths = λ fixed n v x other formed. lengths v _ x formed;
   tags = λ fixed n v whole. tags v _ _;
+  adds = λ fixed f v h. absurd cc;
+  removes = λ fixed f v h. absurd cc;
 }

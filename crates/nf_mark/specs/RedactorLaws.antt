@@ -59,4 +59,6 @@ redactor_keeps = record {
   state = λ fixed r v h. refl;
   lengths = λ fixed r v x other old. lengths fixed r v x;
   tags = λ fixed r v old. tt;
+  adds = λ fixed f v h. absurd cc;
+  removes = λ fixed f v h. absurd cc;
 }

@@ -1,5 +1,5 @@
 -- For proofs: a tagger does what its profile says, and no more.
-use Rattle.std.specs.Prelude.{◌≡◌, ◌≤◌, ◌+◌, ℕ, List, length, ◌++◌, false, true, Option, Some, None, is_some, IfSome, IsSomeAnd, refl}
+use Rattle.std.specs.Prelude.{◌≡◌, ◌≤◌, ◌+◌, ℕ, List, length, drop, ◌++◌, false, true, Option, Some, None, is_some, IfSome, IsSomeAnd, refl}
 use Rattle.std.proofs.Common.{true≢false, arith}
 use Rattle.packet_fields.specs.Frames.{is_tag_list}
 use Rattle.packet_fields.specs.declared.field.Field.TheVariants.{Tag}
@@ -22,6 +22,11 @@ whole_tags None old whole = tt
 whole_tags (Some c) None whole = tt
 whole_tags (Some c) (Some tags) whole = (one_more c tags whole, omega arith)
 
+put_before : (control : Option ℕ) (old : Option (List ℕ)) → IfSome (tagged control old) (λ new. IsSomeAnd old (λ o. (length new ≡ length o + 4) × (drop 4 new ≡ o)))
+put_before None old = tt
+put_before (Some c) None = tt
+put_before (Some c) (Some tags) = (omega arith, refl)
+
 pub tagger_keeps : KeepsProfile tagger_behaviour
 tagger_keeps = record {
   stays = λ fixed t v. refl;
@@ -30,4 +35,6 @@ tagger_keeps = record {
   state = λ fixed t v none. refl;
   lengths = λ fixed t v x other formed. lengths_only (tagger_behaviour.profile t) v Tag _ (λ never tags_formed. absurd (never refl)) x other formed;
   tags = λ fixed t v whole. whole_tags _ (v Tag) whole;
+  adds = λ fixed t v h. put_before _ (v Tag);
+  removes = λ fixed f v h. absurd cc;
 }

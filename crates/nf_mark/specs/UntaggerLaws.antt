@@ -27,6 +27,14 @@ whole_tags (Some tags) whole = by (length tags == 0)
     by true = tt
     by false = (left_whole tags whole, omega (arith, length-drop 4 tags))
 
+first_gone : (old : Option (List ℕ)) → IfSome (untagged old) (λ new. IsSomeAnd old (λ o. new ≡ drop 4 o))
+first_gone None = tt
+first_gone (Some tags) = by (length tags == 0)
+  where
+    by : (b : Bool) → IfSome (if b then None else Some (drop 4 tags)) (λ new. new ≡ drop 4 tags)
+    by true = tt
+    by false = refl
+
 pub untagger_keeps : KeepsProfile untagger_behaviour
 untagger_keeps = record {
   stays = λ fixed u v. refl;
@@ -35,4 +43,6 @@ untagger_keeps = record {
   state = λ fixed u v none. refl;
   lengths = λ fixed u v x other formed. lengths_only (untagger_behaviour.profile u) v Tag _ (λ never tags_formed. absurd (never refl)) x other formed;
   tags = λ fixed u v whole. whole_tags (v Tag) whole;
+  adds = λ fixed f v h. absurd cc;
+  removes = λ fixed u v h. first_gone (v Tag);
 }

@@ -1,4 +1,6 @@
+pub mod Conforming
 pub mod Counting
+pub mod OwnBuckets
 pub mod Rows
 pub mod Spending
 pub mod Widths

@@ -88,6 +88,16 @@ stays_filled = refl
 fills_up : filled 1000 1500 (2 ^ 64 - 1) (record { tokens = 3; moment = 0 }) ≡ full 1500 (2 ^ 64 - 1)
 fills_up = refl
 
+-- what one source spends, another doesn't lack, and a new source stands last
+abbrev two_sources : Limiter
+two_sources = record limiter { sources = (9, record { tokens = 0; moment = 5 }) ∷ (7, record { tokens = 500000000000; moment = 6 }) ∷ [] }
+
+spends_its_own : limited (limited limiter 9 1500 5).after 7 1000 6 ≡ record { after = two_sources; verdict = Pass; written = nothing }
+spends_its_own = refl
+
+drops_one_of_two : (limited two_sources 9 1 6).verdict ≡ Drop
+drops_one_of_two = refl
+
 -- without an address or a length a packet passes, and nothing changes
 passes_others : limited_by limiter None (Some 20) 5 ≡ record { after = limiter; verdict = Pass; written = nothing }
 passes_others = refl

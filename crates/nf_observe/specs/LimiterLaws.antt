@@ -33,4 +33,6 @@ limiter_keeps = record {
   state = λ fixed l v h. absurd cc;
   lengths = λ fixed l v x other old. if_none _ _ (writes_none fixed l v x);
   tags = λ fixed l v old. if_none _ _ (writes_none fixed l v Tag);
+  adds = λ fixed f v h. absurd cc;
+  removes = λ fixed f v h. absurd cc;
 }

@@ -11,4 +11,6 @@ monitor_keeps = record {
   state = λ fixed m v h. absurd cc;
   lengths = λ fixed m v x other old. tt;
   tags = λ fixed m v old. tt;
+  adds = λ fixed f v h. absurd cc;
+  removes = λ fixed f v h. absurd cc;
 }

@@ -18,6 +18,23 @@ bytes_paid rate burst b [] = 0
 bytes_paid rate burst b (p ∷ later) =
     (if affords (filled rate burst p.0 b) p.1 then p.1 else 0) + bytes_paid rate burst (paid (filled rate burst p.0 b) p.1) later
 
+-- the bytes of all of them
+abbrev pub bytes_of : List Arrival → ℕ
+bytes_of [] = 0
+bytes_of (p ∷ later) = p.1 + bytes_of later
+
+-- Up to each of these packets, what has been sent since a moment is no more than so many tokens and what the rate brought
+-- since then; so many bytes were sent before them.
+abbrev pub IsCovered : ℕ → ℕ → ℕ → ℕ → List Arrival → Type 0
+IsCovered rate tokens moment sent [] = Unit {0}
+IsCovered rate tokens moment sent (p ∷ later) = (tokens_of (sent + p.1) ≤ tokens + (p.0 - moment) * rate) × IsCovered rate tokens moment (sent + p.1) later
+
+-- The packets keep to a rate: from each of them to each behind it they have no more bytes than a burst and what the rate
+-- brought meanwhile.
+abbrev pub IsConforming : ℕ → ℕ → List Arrival → Type 0
+IsConforming rate burst [] = Unit {0}
+IsConforming rate burst (p ∷ later) = IsCovered rate (tokens_of burst) p.0 0 (p ∷ later) × IsConforming rate burst later
+
 -- Time didn't go back, and what was paid, with what is left, is no more than what was there and what came meanwhile.
 pub record IsWithinRate (rate : ℕ) (before after : TokenBucket) (bytes : ℕ) : Type 0 where
   pub later : before.moment ≤ after.moment

@@ -1,16 +1,19 @@
 //! What counts of flows and token buckets are worth.
-ghost use Rattle.std.specs.Prelude.{◌≡◌, ℕ, ◌+◌, ◌-◌, ◌*◌, ◌≤◌, List, [], ◌∷◌, ◌++◌, is_some, if◌then◌else◌};
+ghost use Rattle.std.specs.Prelude.{◌≡◌, ◌≢◌, ℕ, ◌+◌, ◌-◌, ◌*◌, ◌≤◌, List, [], ◌∷◌, ◌++◌, is_some, if◌then◌else◌};
 ghost use Rattle.std.specs.Map.{keys_of};
-ghost use Rattle.nf_observe.specs.Buckets.{tokens_of, full};
+ghost use Rattle.nf_observe.specs.Buckets.{tokens_of, full, filled, affords, paid};
 ghost use Rattle.nf_observe.specs.Counting.{Sight, flows_with, counts_of, of_flow, totals};
 ghost use Rattle.first_sight.specs.FirstSight.{belonging};
 ghost use Rattle.nf_observe.specs.Flows.{counted};
 ghost use Rattle.nf_observe.specs.SameFlow.{is_same_flow};
-ghost use Rattle.nf_observe.specs.Spending.{Arrival, left_by, bytes_paid, IsWithinRate};
+ghost use Rattle.nf_observe.specs.Spending.{Arrival, left_by, bytes_paid, bytes_of, IsConforming, IsWithinRate};
+ghost use Rattle.nf_observe.specs.Limiters.{limited, bucket_of, verdict_by};
+ghost use Rattle.nf_observe.specs.declared.limiter.Limiter.{Limiter};
 ghost use Rattle.nf_observe.specs.declared.bucket.TokenBucket.{TokenBucket};
 ghost use Rattle.nf_observe.specs.declared.flow.FiveTuple.{FiveTuple};
 ghost use Rattle.nf_observe.specs.declared.flow.FlowCounts.{FlowCounts};
 
+use crate::bucket::TokenBucket;
 use crate::flow::{FiveTuple, FlowCounts};
 use first_sight::noted_is_found;
 
@@ -32,3 +35,22 @@ pub fn buckets_keep_the_rate()
     ensures new { (rate burst time : ℕ) (packets : List Arrival) →
         tokens_of (bytes_paid rate burst (full burst time) packets) ≤ tokens_of burst + ((left_by rate burst (full burst time) packets).moment - time) * rate }
 {}
+
+/// A source that keeps to its rate loses nothing: where its packets, from each of them to each behind it, have no more bytes
+/// than a burst and what the rate brought meanwhile, a bucket that is new at the first pays for all of them.
+pub fn conforming_sources_pass()
+    ensures { (rate burst : ℕ) (first : Arrival) (later : List Arrival) → IsConforming rate burst (first ∷ later) →
+        bytes_paid rate burst (full burst first.0) (first ∷ later) ≡ bytes_of (first ∷ later) }
+{}
+
+/// Each source has a bucket of its own, which alone decides on its packets and pays for them: what comes from one source
+/// leaves the buckets of all others as they are.
+pub fn sources_have_their_own_buckets()
+    ensures decides { (l : Limiter) (source bytes time : ℕ) → (limited l source bytes time).verdict ≡ verdict_by (affords (bucket_of l source time) bytes) }
+    ensures pays { (l : Limiter) (source bytes time later : ℕ) →
+        bucket_of (limited l source bytes time).after source later ≡ filled l.rate l.burst later (paid (bucket_of l source time) bytes) }
+    ensures others { (l : Limiter) (source other bytes time later : ℕ) → other ≢ source →
+        bucket_of (limited l source bytes time).after other later ≡ bucket_of l other later }
+{
+    noted_is_found::<u32, TokenBucket>();
+}

@@ -9,7 +9,8 @@
 //! at first, holds the tokens of a burst and fills by the rate; a packet passes where its bucket pays for it.
 //! A token is what a rate of one byte a second brings in one nanosecond, so no fraction is ever lost. What
 //! comes in a span is computed in 128 bits, and nothing wraps. [`buckets_keep_the_rate`] says that no bucket
-//! pays for more than a burst and what the rate brings. `set rate` and `set burst` set a limiter up,
+//! pays for more than a burst and what the rate brings, [`conforming_sources_pass`] that a source which keeps to the
+//! rate loses nothing, and [`sources_have_their_own_buckets`] that no source spends what another has. `set rate` and `set burst` set a limiter up,
 //! and both have to be there: [`Limiter::build`] names the least line that is refused.
 //!
 //! As functions of a chain they have one meaning each, `monitor_behaviour` of `specs/Monitors.antt` and
@@ -33,6 +34,9 @@ mod state_lines;
 
 pub use bucket::TokenBucket;
 pub use flow::{Endpoint, FiveTuple, FlowCounts};
-pub use laws::{buckets_keep_the_rate, flows_count_their_packets};
+pub use laws::{
+    buckets_keep_the_rate, conforming_sources_pass, flows_count_their_packets,
+    sources_have_their_own_buckets,
+};
 pub use limiter::{Limiter, LimiterLine};
 pub use monitor::{Monitor, MonitorLine};

@@ -1,5 +1,5 @@
 -- Endpoints that are known, and their places.
-use Rattle.std.proofs.Common.{◌≡◌, ◌<◌, ◌≤◌, ◌+◌, ℕ, suc, List, [], ◌∷◌, ◌++◌, length, Bool, true, false, not, cond, ◌&&◌, ◌||◌, Some, slice_get, refl, sym, ap, subst, true≢false, length-append, arith}
+use Rattle.std.proofs.Common.{◌≡◌, ◌∙◌, ◌<◌, ◌≤◌, ◌+◌, ℕ, suc, List, [], ◌∷◌, ◌++◌, length, Bool, true, false, not, cond, ◌&&◌, ◌||◌, Some, slice_get, refl, sym, ap, subst, true≢false, length-append, arith}
 use Rattle.std.specs.Prelude.{if◌then◌else◌}
 use Rattle.std.proofs.lemmas.Bool.{eqb-true, eq-eqb}
 use Rattle.std.proofs.lemmas.List.{append-nil}
@@ -108,3 +108,16 @@ seen_length known e most before inside = by (is_known known e) refl
     by : (b : Bool) → is_known known e ≡ b → length (if b then known else known ++ e ∷ []) ≤ most
     by true h = before
     by false h = let place = new_place known e h in let more = length-append known (e ∷ []) in omega (arith, place, more, inside)
+
+pub known_at : (known : List Endpoint) (e : Endpoint) → is_known known e ≡ true → slice_get known (place_of known e) ≡ Some e
+known_at known e h = subst (λ (b : Bool). slice_get (if b then known else known ++ e ∷ []) (place_of known e) ≡ Some e) h (at_place known e)
+
+-- endpoints that are known and have one place are equal
+pub one_place : (known : List Endpoint) (a b : Endpoint) → is_known known a ≡ true → is_known known b ≡ true → place_of known a ≡ place_of known b → a ≡ b
+one_place known a b ha hb same = some_is (sym (known_at known a ha) ∙ ap (slice_get known) same ∙ known_at known b hb)
+  where
+    some_is : Some a ≡ Some b → a ≡ b
+    some_is e = cc
+
+pub grows_by_one : (known : List Endpoint) (e : Endpoint) → is_known known e ≡ false → length (with_endpoint known e) ≡ length known + 1
+grows_by_one known e h = subst (λ (b : Bool). length (if b then known else known ++ e ∷ []) ≡ length known + 1) (sym h) (length-append known (e ∷ []))

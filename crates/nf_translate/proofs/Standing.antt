@@ -8,10 +8,10 @@ use Rattle.chain_walk.specs.Step.{Step}
 use Rattle.nf_translate.specs.declared.endpoint.Endpoint.{Endpoint}
 use Rattle.nf_translate.specs.declared.nat.NatSettings.{NatSettings}
 use Rattle.nf_translate.specs.Endpoints.{is_known, place_of, with_endpoint}
-use Rattle.nf_translate.specs.Balancers.{PlainBalancer, balanced, backend_at}
+use Rattle.nf_translate.specs.Balancers.{PlainBalancer, balanced, backend_at, to_address}
 use Rattle.nf_translate.specs.Nats.{PlainNat, public_port, port_at, place_at, of_protocol, mapped, leaving, coming, translated}
 use Rattle.nf_translate.specs.Standing.{KeepsBackend, HasPorts}
-use Rattle.nf_translate.proofs.Known.{at_place, keeps_place, stays_known, new_place, known_place, IsLater, same_later, seen_later, seen_length}
+use Rattle.nf_translate.proofs.Known.{at_place, one_place, keeps_place, stays_known, new_place, known_place, IsLater, same_later, seen_later, seen_length}
 
 keeps_by : (flow : Endpoint) (b : PlainBalancer) (flows : List Endpoint) → IsLater b.flows flows → is_known b.flows flow ≡ true → KeepsBackend flow b (record b { flows = flows })
 keeps_by flow b flows later known = record {
@@ -124,3 +124,15 @@ all_taken n source has none =
     let place = new_place n.mappings source (is_new n source has none) in
     let beyond = past _ _ none in
     omega (arith, has, place, beyond)
+
+-- a port is given once
+pub given_once : (n : PlainNat) (a b : Endpoint) (port : ℕ) → is_known n.mappings a ≡ true → is_known n.mappings b ≡ true →
+    port_at n.settings (place_of n.mappings a) ≡ Some port → port_at n.settings (place_of n.mappings b) ≡ Some port → a ≡ b
+given_once n a b port ha hb pa pb =
+    let mine = port_is _ (public_port n.settings (place_of n.mappings a)) port pa in
+    let other = port_is _ (public_port n.settings (place_of n.mappings b)) port pb in
+    one_place n.mappings a b ha hb (omega (arith, mine, other))
+
+-- the backends take turns
+pub takes_turn : (b : PlainBalancer) (flow : Endpoint) → is_known b.flows flow ≡ false → (balanced b (Some flow)).written ≡ to_address (backend_at b.settings (length b.flows))
+takes_turn b flow new = ap (λ place. to_address (backend_at b.settings place)) (new_place b.flows flow new)

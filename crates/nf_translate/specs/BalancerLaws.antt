@@ -86,4 +86,6 @@ balancer_keeps = record {
   state = λ fixed b v h. absurd (true≢false h);
   lengths = λ fixed b v x other formed. lengths fixed b v x formed;
   tags = λ fixed b v whole. subst (λ (w : Option (List ℕ)). IfSome w (λ new. (is_tag_list new ≡ true) × IsSomeAnd (v Tag) (λ old. length new ≤ length old + 0))) (sym (others_stay fixed b v Tag refl)) tt;
+  adds = λ fixed f v h. absurd cc;
+  removes = λ fixed f v h. absurd cc;
 }

@@ -156,4 +156,6 @@ nat_keeps = record {
   state = λ fixed n v h. absurd (true≢false h);
   lengths = λ fixed n v x other formed. lengths fixed n v x formed;
   tags = λ fixed n v whole. subst (λ (w : Option (List ℕ)). IfSome w (λ new. (is_tag_list new ≡ true) × IsSomeAnd (v Tag) (λ old. length new ≤ length old + 0))) (sym (writes fixed n v Tag refl)) tt;
+  adds = λ fixed f v h. absurd cc;
+  removes = λ fixed f v h. absurd cc;
 }

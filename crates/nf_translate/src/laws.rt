@@ -6,23 +6,28 @@ ghost use Rattle.chain_walk.specs.Step.{stepped};
 ghost use Rattle.chain_walk.specs.declared.fixed.Fixed.{Fixed};
 ghost use Rattle.nf_translate.specs.declared.endpoint.Endpoint.{Endpoint};
 ghost use Rattle.nf_translate.specs.Endpoints.{is_known, place_of};
-ghost use Rattle.nf_translate.specs.Balancers.{PlainBalancer, balanced, balancer_behaviour};
+ghost use Rattle.nf_translate.specs.Balancers.{PlainBalancer, backend_at, balanced, balancer_behaviour, to_address};
 ghost use Rattle.nf_translate.specs.Nats.{PlainNat, leaving, mapped, nat_behaviour, nat_of, port_at};
 ghost use Rattle.nf_translate.specs.Standing.{KeepsBackend, HasPorts};
 
 /// Once a packet of a flow came, the balancer knows the flow, and the flow keeps its backend, whatever packets
-/// come.
+/// come. The backends take turns as listed: a flow that is new gets the one whose turn it is by the number of flows before it.
 pub fn flows_keep_their_backends()
     ensures known { (b : PlainBalancer) (flow : Endpoint) → is_known (balanced b (Some flow)).after.flows flow ≡ true }
     ensures kept { (fixed : Fixed) (b : PlainBalancer) (v : Values) (flow : Endpoint) → is_known b.flows flow ≡ true → KeepsBackend flow b (stepped balancer_behaviour fixed b v).after }
+    ensures turns { (b : PlainBalancer) (flow : Endpoint) → is_known b.flows flow ≡ false → (balanced b (Some flow)).written ≡ to_address (backend_at b.settings (length b.flows)) }
+    ensures one_more { (b : PlainBalancer) (flow : Endpoint) → is_known b.flows flow ≡ false → length (balanced b (Some flow)).after.flows ≡ length b.flows + 1 }
 {}
 
 /// Once a packet left by a public port, what is sent to that port by the same protocol comes back to where the packet
-/// came from, whatever packets come.
+/// came from, whatever packets come. No public port is given twice, whatever the protocols: endpoints that have one port are
+/// one endpoint.
 pub fn packets_come_back()
     ensures back { (n : PlainNat) (source : Endpoint) (address port : ℕ) → port_at n.settings (place_of n.mappings source) ≡ Some port →
         mapped (leaving n source (Some port)).after (record { proto = source.proto; address = address; port = port }) ≡ Some source }
     ensures kept { (fixed : Fixed) (n : PlainNat) (v : Values) (public inside : Endpoint) → mapped n public ≡ Some inside → mapped (stepped nat_behaviour fixed n v).after public ≡ Some inside }
+    ensures once { (n : PlainNat) (a b : Endpoint) (port : ℕ) → is_known n.mappings a ≡ true → is_known n.mappings b ≡ true →
+        port_at n.settings (place_of n.mappings a) ≡ Some port → port_at n.settings (place_of n.mappings b) ≡ Some port → a ≡ b }
 {}
 
 /// There are never more mappings than ports, so no port is left only for an endpoint that is new, and only where all

@@ -4,8 +4,8 @@
 //! What that call promises is the program's theorem. Where bytes that the desk had gathered for a file were lost, no line
 //! was put, and the program tells that file itself.
 //!
-//! The desk is watched. Where the environment has `NFP_PROGRESS=1`, a long run shows on standard error how far it is, and what is
-//! to be done about an outcome is told there too. Nothing that is promised speaks of either.
+//! The desk is watched. Where the environment has `NFP_PROGRESS=1` and standard error is a terminal, a long run shows there how far
+//! it is; what is to be done about an outcome is told on standard error too. Nothing that is promised speaks of either.
 #![tactic(auto)]
 
 mod help;

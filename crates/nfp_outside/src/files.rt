@@ -7,8 +7,11 @@ ghost use Rattle.std.specs.String.{string_bytes};
 ghost use Rattle.nfp_outside.specs.Slots.{at_slot};
 
 use crate::desk::Desk;
-use crate::opened::{Identity, Target, identity_of};
+use crate::opened::{
+    Identity, OpenFault, STANDARD_ERROR, STANDARD_OUTPUT, Target, identity_of, identity_of_stream,
+};
 use crate::port::Port;
+use crate::reason::Reason;
 use crate::slot::{DeskFault, Slot};
 use std::alloc::Global;
 use std::fs::{File, OpenFile, OpenOptions};
@@ -26,7 +29,8 @@ const GATHERED: usize = 65536;
 /// file. It tells no bytes.
 ///
 /// A file to read must be there; a file to write is made, or made empty. Out or Report whose name
-/// leads to a file that is attached already isn't attached, and no file is emptied for it. Both are
+/// leads to a file that is attached already, or to a regular file to which standard output or
+/// standard error leads, isn't attached, and no file is emptied for it. Both are
 /// emptied once Report is attached; without it Out is, before it takes its first bytes. Files are
 /// told apart by device and number; where the system has none, and for devices of characters, none
 /// is the same as another.
@@ -68,26 +72,63 @@ impl<R: Files + Print + AllocGlobal + Drop> FileDesk<R> {
     }
 
     // A file to write that isn't attached yet. It holds what it held.
-    fn open_target(&self, name: &str) -> Result<BufWriter<Target<R::File>>, DeskFault> {
+    fn open_target(&self, name: &str) -> Result<BufWriter<Target<R::File>>, OpenFault> {
         let file = OpenOptions::new()
             .write(true)
             .create(true)
             .open(&self.rt, name)
-            .map_err(|_| DeskFault::Failed)?;
+            .map_err(|error| OpenFault::Failed(Reason::System(error)))?;
         let target = Target::new(file);
-        if self.has_open(target.identity()) {
-            return Err(DeskFault::Failed);
+        if let Some(identity) = target.identity()
+            && let Some(holder) = self.holder(identity)
+        {
+            return Err(OpenFault::Failed(holder));
         }
-        BufWriter::with_capacity(self.rt.alloc(), GATHERED, target).map_err(|_| DeskFault::NoMemory)
+        BufWriter::with_capacity(self.rt.alloc(), GATHERED, target).map_err(|_| OpenFault::NoMemory)
     }
 
-    // Whether what is told from others so is attached here.
-    fn has_open(&self, identity: Option<Identity>) -> bool {
-        identity.is_some()
-            && (source_identity(&self.policy) == identity
-                || source_identity(&self.capture) == identity
-                || target_identity(&self.out) == identity
-                || target_identity(&self.report) == identity)
+    // What has the file that is told from others so: a slot, or a stream of the program's own.
+    fn holder(&self, identity: Identity) -> Option<Reason> {
+        let held = [
+            (
+                source_identity(&self.policy),
+                Reason::AttachedAt(Slot::Policy),
+            ),
+            (
+                source_identity(&self.capture),
+                Reason::AttachedAt(Slot::Capture),
+            ),
+            (target_identity(&self.out), Reason::AttachedAt(Slot::Out)),
+            (
+                target_identity(&self.report),
+                Reason::AttachedAt(Slot::Report),
+            ),
+            (
+                identity_of_stream(&self.rt, STANDARD_OUTPUT),
+                Reason::StandardOutput,
+            ),
+            (
+                identity_of_stream(&self.rt, STANDARD_ERROR),
+                Reason::StandardError,
+            ),
+        ];
+        for (known, holder) in held {
+            if known == Some(identity) {
+                return Some(holder);
+            }
+        }
+        None
+    }
+
+    /// Why the last call on a slot failed that did, or its gathered bytes were lost. Nothing where none did, and for Note.
+    pub fn reason(&self, slot: Slot) -> Option<Reason> {
+        match slot {
+            Slot::Policy => self.policy.reason,
+            Slot::Capture => self.capture.reason,
+            Slot::Out => self.out.reason,
+            Slot::Report => self.report.reason,
+            Slot::Note => None,
+        }
     }
 
     /// Hands on to the files what was gathered, and tells the first slot whose gathered bytes were
@@ -114,7 +155,7 @@ impl<R: Files + Print + AllocGlobal + Drop> Desk for FileDesk<R> {
         (port_view d.out) (port_view d.report) (stream_view d.note_faults) };
 
     /// `Failed` where the file can't be opened, and at Out and Report also where it is one that is
-    /// attached already. The count of the slot rises by one then, and in no other case.
+    /// attached already, or to which standard output or standard error leads. The count of the slot rises by one then, and in no other case.
     #[tactic(auto, unfolding(crate::specs::Slots::at_slot))]
     fn attach(&mut self, slot: Slot, name: &str) -> Result<(), DeskFault>
         requires not_note { slot ≢ Slot.Note }
@@ -219,9 +260,9 @@ fn copy_of(alloc: Global, name: &str) -> Result<String, DeskFault>
 }
 
 // A file to read, with a buffer in front of it.
-fn open<R: Files + AllocGlobal>(rt: &R, name: &str) -> Result<BufReader<R::File>, DeskFault> {
-    let file = File::open(rt, name).map_err(|_| DeskFault::Failed)?;
-    BufReader::with_capacity(rt.alloc(), READ_AHEAD, file).map_err(|_| DeskFault::NoMemory)
+fn open<R: Files + AllocGlobal>(rt: &R, name: &str) -> Result<BufReader<R::File>, OpenFault> {
+    let file = File::open(rt, name).map_err(|error| OpenFault::Failed(Reason::System(error)))?;
+    BufReader::with_capacity(rt.alloc(), READ_AHEAD, file).map_err(|_| OpenFault::NoMemory)
 }
 
 fn source_identity<F: Read + OpenFile + Drop>(port: &Port<BufReader<F>>) -> Option<Identity> {
@@ -243,9 +284,9 @@ fn target_identity<F: Write + OpenFile + Drop>(
 // A file to write whose bytes are gone, or which can't be emptied.
 fn emptied<F: Write + OpenFile + Drop>(
     mut writer: BufWriter<Target<F>>,
-) -> Result<BufWriter<Target<F>>, DeskFault> {
+) -> Result<BufWriter<Target<F>>, OpenFault> {
     match writer.get_mut().empty() {
         Ok(()) => Ok(writer),
-        Err(_) => Err(DeskFault::Failed),
+        Err(error) => Err(OpenFault::Failed(Reason::System(error))),
     }
 }

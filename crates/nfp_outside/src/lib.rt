@@ -19,7 +19,7 @@
 //! What is put into a file through [`FileDesk`] is gathered, and handed on in pieces of 64 KiB. So a
 //! failed write of gathered bytes counts where it is found: at the call of their own slot that
 //! needed the room, or at that of Note, before which all that was gathered is handed on.
-//! [`FileDesk::hand_on`] tells the slot that lost them. What is still gathered when the desk is
+//! [`FileDesk::hand_on`] tells the slot that lost them. Why a slot failed [`FileDesk::reason`] tells; nothing is promised of it. What is still gathered when the desk is
 //! dropped goes to its file then, where it can.
 //!
 //! Left out: that a file was kept by the system, locks on files, and any wait for a reader.
@@ -34,6 +34,7 @@ mod held;
 mod memory;
 mod opened;
 mod port;
+mod reason;
 mod scales;
 mod slot;
 mod weight;
@@ -44,6 +45,7 @@ pub use files::FileDesk;
 pub use fixed::FixedDesk;
 pub use gate::{Gate, OpenGate};
 pub use memory::MemDesk;
+pub use reason::Reason;
 pub use scales::Scales;
 pub use slot::{DeskFault, OutsideFault, Slot};
 pub use weight::{Weight, weights_add_up};

@@ -1,9 +1,20 @@
 // Files as a desk opens them: what tells one from another, and when one to write is emptied.
 
-use std::fs::OpenFile;
-use std::io;
+use crate::reason::Reason;
+use std::fs::{Metadata, OpenFile};
 use std::io::Write;
 use std::os::unix::fs::{FileTypeExt, MetadataExt};
+use std::rt::Files;
+use std::{fs, io};
+
+/// Why a file wasn't opened.
+#[derive(Clone, Copy, Debug)]
+pub enum OpenFault {
+    /// It can't be had, for this reason.
+    Failed(Reason),
+    /// There was no memory for its buffer.
+    NoMemory,
+}
 
 /// What tells a file from every other: its device, and its number there.
 #[derive(Clone, Copy, Debug, PartialEq, Eq)]
@@ -15,16 +26,35 @@ pub struct Identity {
 /// What an open file is told from others by, where the system says it. A terminal and other devices
 /// of characters have nothing that could be lost, and are told from none.
 pub fn identity_of(file: &impl OpenFile) -> Option<Identity> {
-    let Ok(told) = file.metadata() else {
-        return None;
-    };
-    if told.file_type().is_char_device() || told.ino() == 0 {
-        return None;
+    match file.metadata() {
+        Ok(told) if !told.file_type().is_char_device() => identity_in(&told),
+        _ => None,
     }
-    Some(Identity {
-        device: told.dev(),
-        number: told.ino(),
-    })
+}
+
+/// Where the system shows to what file standard output leads.
+pub const STANDARD_OUTPUT: &str = "/proc/self/fd/1";
+
+/// Where the system shows to what file standard error leads.
+pub const STANDARD_ERROR: &str = "/proc/self/fd/2";
+
+/// What a regular file is told from others by to which a stream of the program's own leads. Nothing where it leads to no such
+/// file, or the system doesn't show it.
+pub fn identity_of_stream<R: Files>(rt: &R, stream: &str) -> Option<Identity> {
+    match fs::metadata(rt, stream) {
+        Ok(told) if told.is_file() => identity_in(&told),
+        _ => None,
+    }
+}
+
+fn identity_in(told: &Metadata) -> Option<Identity> {
+    match told.ino() {
+        0 => None,
+        number => Some(Identity {
+            device: told.dev(),
+            number,
+        }),
+    }
 }
 
 /// A file to write, which holds what it held until it is emptied or takes its first bytes.

@@ -1,10 +1,11 @@
-// A slot over a file: the name, the file once there is one, and the count of its faults.
+// A slot over a file: the name, the file once there is one, the count of its faults, and why the last of them came.
 ghost use Rattle.std.specs.Prelude.{◌≡◌, ◌≤◌, IfOk, OnOk, OnErr, IsErrOf, None};
 ghost use Rattle.std.specs.String.{string_bytes};
 ghost use Rattle.nfp_outside.specs.Outside.{KeepsSlot, HasCause, IsRisen, CountsFailure, one_more, Attaches, Reads, Writes, fresh_slot};
 ghost use Rattle.nfp_outside.specs.Port.{port_view};
 
-use crate::opened::Target;
+use crate::opened::{OpenFault, Target};
+use crate::reason::Reason;
 use crate::slot::{DeskFault, Slot};
 use std::fs::OpenFile;
 use std::io::{BufWriter, Read, Write};
@@ -15,6 +16,7 @@ pub struct Port<F> {
     pub name: Option<String>,
     pub file: Option<F>,
     pub faults: u64,
+    pub reason: Option<Reason>,
 }
 
 impl<F: Drop> Port<F> {
@@ -25,11 +27,12 @@ impl<F: Drop> Port<F> {
             name: None,
             file: None,
             faults: 0,
+            reason: None,
         }
     }
 
-    // Counts a failure.
-    fn fail(&mut self) -> DeskFault
+    // Counts a failure, and keeps why it came.
+    fn fail(&mut self, reason: Reason) -> DeskFault
         ensures keeps { KeepsSlot (port_view self.old) (port_view self.new) }
         ensures later { self.old.faults ≤ self.new.faults }
         ensures risen { IsRisen self.old.faults self.new.faults }
@@ -37,6 +40,7 @@ impl<F: Drop> Port<F> {
         ensures failed { result ≡ DeskFault.Failed }
     {
         self.faults = self.faults.saturating_add(1);
+        self.reason = Some(reason);
         DeskFault::Failed
     }
 
@@ -45,14 +49,14 @@ impl<F: Drop> Port<F> {
         &mut self,
         slot: Slot,
         name: String,
-        opened: Result<F, DeskFault>,
+        opened: Result<F, OpenFault>,
     ) -> Result<(), DeskFault>
         ensures ok { OnOk result
             (Attaches slot (string_bytes name) (port_view self.old) (port_view self.new)) }
         ensures err { OnErr result (KeepsSlot (port_view self.old) (port_view self.new)) }
         ensures cause { HasCause (port_view self.old) (port_view self.new) result }
         ensures counted { CountsFailure self.old.faults self.new.faults result }
-        ensures want { IsErrOf result DeskFault.NoMemory → IsErrOf opened DeskFault.NoMemory }
+        ensures want { IsErrOf result DeskFault.NoMemory → IsErrOf opened OpenFault.NoMemory }
     {
         match opened {
             Ok(file) => {
@@ -60,8 +64,8 @@ impl<F: Drop> Port<F> {
                 self.file = Some(file);
                 Ok(())
             }
-            Err(DeskFault::Failed) => Err(self.fail()),
-            Err(DeskFault::NoMemory) => Err(DeskFault::NoMemory),
+            Err(OpenFault::Failed(reason)) => Err(self.fail(reason)),
+            Err(OpenFault::NoMemory) => Err(DeskFault::NoMemory),
         }
     }
 }
@@ -74,12 +78,13 @@ impl<F: Read + Drop> Port<F> {
         ensures no_want { IsErrOf result DeskFault.NoMemory → ⊥ }
         ensures counted { CountsFailure self.old.faults self.new.faults result }
     {
-        if let Some(file) = &mut self.file
-            && let Ok(count) = file.read(into)
-        {
-            return Ok(count);
+        match &mut self.file {
+            Some(file) => match file.read(into) {
+                Ok(count) => Ok(count),
+                Err(error) => Err(self.fail(Reason::System(error))),
+            },
+            None => Err(self.fail(Reason::TookNothing)),
         }
-        Err(self.fail())
     }
 }
 
@@ -93,13 +98,14 @@ impl<F: Write + Drop> Port<F> {
         ensures no_want { IsErrOf result DeskFault.NoMemory → ⊥ }
         ensures counted { CountsFailure self.old.faults self.new.faults result }
     {
-        if let Some(file) = &mut self.file
-            && let Ok(count) = file.write(bytes)
-            && (count > 0 || bytes.is_empty())
-        {
-            return Ok(count);
+        match &mut self.file {
+            Some(file) => match file.write(bytes) {
+                Ok(count) if count > 0 || bytes.is_empty() => Ok(count),
+                Ok(_) => Err(self.fail(Reason::TookNothing)),
+                Err(error) => Err(self.fail(Reason::System(error))),
+            },
+            None => Err(self.fail(Reason::TookNothing)),
         }
-        Err(self.fail())
     }
 
     // Hands on what was gathered in front of the file, unless a call of this slot has failed. Tells
@@ -108,7 +114,13 @@ impl<F: Write + Drop> Port<F> {
         ensures { port_view self.new ≡ port_view self.old }
     {
         match &mut self.file {
-            Some(file) if self.faults == 0 => file.flush().is_ok(),
+            Some(file) if self.faults == 0 => match file.flush() {
+                Ok(()) => true,
+                Err(error) => {
+                    self.reason = Some(Reason::System(error));
+                    false
+                }
+            },
             _ => true,
         }
     }

@@ -14,7 +14,7 @@ use Rattle.command_words.specs.declared.usage.UsageFault.{UsageFault}
 use Rattle.command_words.specs.Words.{Command, Run, Plan, Demo}
 use Rattle.nfp_run.specs.Closing.{outcome_seen, untold, Notes}
 use Rattle.nfp_run.specs.Due.{due_of_command}
-use Rattle.nfp_run.specs.Answers.{IsDue, WhereTold, HasNames, name_of, BothAttached, NoneAttached, FaultAttaches, RunAttaches, AttachesDue, ReachesCapture, PolicyCause, ReadFaultCause, WriteFaultCause}
+use Rattle.nfp_run.specs.Answers.{IsDue, WhereRead, HasNames, name_of, BothAttached, NoneAttached, FaultAttaches, RunAttaches, AttachesDue, ReachesCapture, PolicyCause, ReadFaultCause, WriteFaultCause}
 use Rattle.nfp_run.proofs.CallAnswers.{Called, called_done, policy_beside, capture_beside, out_beside, report_beside}
 
 -- the names of Out and Report stay while the line is put into Note
@@ -207,10 +207,10 @@ called_write_faults command old mid new ended result called slots.Note e = by_no
     )
 
 pub called_note_fault : (command : Result Command UsageFault) (old mid new : Slot → SlotView) (ended : Ending) (result : Outcome) → Called command old mid new ended result →
-    result ≡ WriteFault slots.Note → WhereTold old (λ p c. IsDue (due_of_command command p c) old new Done)
+    result ≡ WriteFault slots.Note → WhereRead command old (λ p c. IsDue (due_of_command command p c) old new Done)
 called_note_fault command old mid new ended result called e = by_notes called.notes
   where
-    by_notes : Notes ended (mid slots.Note) (new slots.Note) result → WhereTold old (λ p c. IsDue (due_of_command command p c) old new Done)
+    by_notes : Notes ended (mid slots.Note) (new slots.Note) result → WhereRead command old (λ p c. IsDue (due_of_command command p c) old new Done)
     by_notes (inl (is, a)) = absurd (called.ran.no_note_fault (sym is ∙ e))
     by_notes (inr (inl (is, a))) = let h : OutOfMemory ≡ WriteFault slots.Note = sym is ∙ e in absurd cc
     by_notes (inr (inr (is, r, a))) =

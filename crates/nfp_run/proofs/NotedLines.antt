@@ -1,9 +1,9 @@
 -- What Note holds where the work was done, and where memory ran out.
-use Rattle.std.proofs.Common.{◌≡◌, ◌≢◌, ◌⊎◌, ◌∙◌, inl, inr, ℕ, List, [], ◌∷◌, ◌++◌, refl, sym, subst}
+use Rattle.std.proofs.Common.{◌≡◌, ◌≢◌, ◌⊎◌, ◌∙◌, inl, inr, ℕ, List, [], ◌∷◌, ◌++◌, refl, ap, sym, subst}
 use Rattle.std.specs.Prelude.{Result}
 use Rattle.nfp_outside.specs.declared.slot.Slot.{Slot}
 use Rattle.nfp_outside.specs.declared.slot.Slot.TheVariants as slots
-use Rattle.nfp_outside.specs.Outside.{SlotView, Appends, AppendsPrefix}
+use Rattle.nfp_outside.specs.Outside.{SlotView, IsRisen, Appends, AppendsPrefix}
 use Rattle.nfp_run.specs.declared.outcome.Outcome.{Outcome}
 use Rattle.nfp_run.specs.declared.outcome.Outcome.TheVariants.{Done, Usage, Policy, Capture, ReadFault, WriteFault, OutOfMemory}
 use Rattle.nfp_run.specs.declared.ending.Ending.{Ending}
@@ -14,9 +14,9 @@ use Rattle.nfp_run.specs.Notes.{read_fault_text, write_fault_text}
 use Rattle.nfp_run.specs.Due.{due_of_command}
 use Rattle.nfp_run.specs.Closing.{outcome_seen, untold, text_of, Notes}
 use Rattle.nfp_run.specs.Ran.{Ran}
-use Rattle.nfp_run.specs.Answers.{IsFinal, NoneRose, WhereTold, Leaves, NotesPrefix}
+use Rattle.nfp_run.specs.Answers.{IsFinal, NoneRose, WhereRead, Leaves, NotesPrefix, ReadFaultCause, WriteFaultCause}
 use Rattle.nfp_outside.specs.Adding.{prefix_whole}
-use Rattle.nfp_run.proofs.CallAnswers.{Called, if_told, told_always, whole_here, leaves_to, no_fault, out_beside, report_beside}
+use Rattle.nfp_run.proofs.CallAnswers.{Called, if_read, read_always, whole_here, leaves_to, no_fault, policy_beside, capture_beside, out_beside, report_beside}
 
 untold_is_not_done : (outcome : Outcome) → untold outcome ≢ Done
 untold_is_not_done Done e = cc
@@ -28,24 +28,43 @@ untold_is_not_done (WriteFault s) e = cc
 untold_is_not_done OutOfMemory e = cc
 
 pub called_done_noted : (command : Result Command UsageFault) (old mid new : Slot → SlotView) (ended : Ending) (result : Outcome) → Called command old mid new ended result → result ≡ Done →
-    WhereTold old (λ p c. Appends (due_of_command command p c).note (old slots.Note) (new slots.Note))
+    WhereRead command old (λ p c. Appends (due_of_command command p c).note (old slots.Note) (new slots.Note))
 called_done_noted command old mid new ended result called done = by_notes called.notes
   where
-    by_notes : Notes ended (mid slots.Note) (new slots.Note) result → WhereTold old (λ p c. Appends (due_of_command command p c).note (old slots.Note) (new slots.Note))
-    by_notes (inl (is, a)) = if_told (old slots.Policy).bytes (old slots.Capture).bytes _ _
+    by_notes : Notes ended (mid slots.Note) (new slots.Note) result → WhereRead command old (λ p c. Appends (due_of_command command p c).note (old slots.Note) (new slots.Note))
+    by_notes (inl (is, a)) = if_read command old _ _
         (λ p c ends. whole_here (text_of ended) (due_of_command command p c).note (old slots.Note) (mid slots.Note) (new slots.Note) called.ran.note_stays ends.note a)
         (called.ran.due (subst IsFinal (sym (sym is ∙ done)) tt))
     by_notes (inr (inl (is, a))) = absurd cc
     by_notes (inr (inr (is, r, a))) = absurd (untold_is_not_done (outcome_seen ended) (sym is ∙ done))
 
--- The text that tells an end: the one that is due, the line of a fault, or nothing.
-abbrev IsTold : List ℕ → List ℕ → Type 0
-IsTold note text = (text ≡ note) ⊎ ((s : Slot) × (text ≡ read_fault_text s)) ⊎ ((s : Slot) × (text ≡ write_fault_text s)) ⊎ (text ≡ [])
+-- The text that tells an end: the one that is due, the line of a fault of a slot whose count rose, or nothing.
+abbrev IsTold : (Slot → SlotView) → (Slot → SlotView) → List ℕ → List ℕ → Type 0
+IsTold old mid note text =
+    (text ≡ note)
+    ⊎ ((s : Slot) × (s ≢ slots.Note) × IsRisen (old s).faults (mid s).faults × (text ≡ read_fault_text s))
+    ⊎ ((s : Slot) × (s ≢ slots.Note) × IsRisen (old s).faults (mid s).faults × (text ≡ write_fault_text s))
+    ⊎ (text ≡ [])
 
-due_told : (command : Result Command UsageFault) (old mid : Slot → SlotView) (ended : Ending) → Ran command old mid ended → IsFinal (outcome_seen ended) → WhereTold old (λ p c. IsTold (due_of_command command p c).note (text_of ended))
-due_told command old mid ended ran final = if_told (old slots.Policy).bytes (old slots.Capture).bytes _ _ (λ p c ends. inl ends.note) (ran.due final)
+due_told : (command : Result Command UsageFault) (old mid : Slot → SlotView) (ended : Ending) → Ran command old mid ended → IsFinal (outcome_seen ended) → WhereRead command old (λ p c. IsTold old mid (due_of_command command p c).note (text_of ended))
+due_told command old mid ended ran final = if_read command old _ _ (λ p c ends. inl ends.note) (ran.due final)
 
-told_text : (command : Result Command UsageFault) (old mid : Slot → SlotView) (ended : Ending) → Ran command old mid ended → WhereTold old (λ p c. IsTold (due_of_command command p c).note (text_of ended))
+-- a fault of a slot comes where its count rose, and it isn't Note's
+risen_reading : (command : Result Command UsageFault) (old mid : Slot → SlotView) (s : Slot) → ReadFaultCause command old mid s → (s ≢ slots.Note) × IsRisen (old s).faults (mid s).faults
+risen_reading command old mid slots.Policy h = (policy_beside, h.1)
+risen_reading command old mid slots.Capture h = (capture_beside, h.1)
+risen_reading command old mid slots.Out h = absurd h
+risen_reading command old mid slots.Report h = absurd h
+risen_reading command old mid slots.Note h = absurd h
+
+risen_writing : (command : Result Command UsageFault) (old mid : Slot → SlotView) (s : Slot) → s ≢ slots.Note → WriteFaultCause command old mid s → (s ≢ slots.Note) × IsRisen (old s).faults (mid s).faults
+risen_writing command old mid slots.Out other h = (out_beside, h.1)
+risen_writing command old mid slots.Report other h = (report_beside, h.1)
+risen_writing command old mid slots.Note other h = absurd (other refl)
+risen_writing command old mid slots.Policy other h = absurd h
+risen_writing command old mid slots.Capture other h = absurd h
+
+told_text : (command : Result Command UsageFault) (old mid : Slot → SlotView) (ended : Ending) → Ran command old mid ended → WhereRead command old (λ p c. IsTold old mid (due_of_command command p c).note (text_of ended))
 told_text command old mid (Completed totals) ran = due_told command old mid (Completed totals) ran tt
 told_text command old mid (Shown text) ran = due_told command old mid (Shown text) ran tt
 told_text command old mid (Refused refusal) ran = due_told command old mid (Refused refusal) ran tt
@@ -53,9 +72,9 @@ told_text command old mid (Stopped Done) ran = due_told command old mid (Stopped
 told_text command old mid (Stopped (Usage fault)) ran = due_told command old mid (Stopped (Usage fault)) ran tt
 told_text command old mid (Stopped (Policy fault)) ran = due_told command old mid (Stopped (Policy fault)) ran tt
 told_text command old mid (Stopped (Capture fault)) ran = due_told command old mid (Stopped (Capture fault)) ran tt
-told_text command old mid (Stopped (ReadFault s)) ran = told_always (old slots.Policy).bytes (old slots.Capture).bytes _ (λ p c. inr (inl (s, refl)))
-told_text command old mid (Stopped (WriteFault s)) ran = told_always (old slots.Policy).bytes (old slots.Capture).bytes _ (λ p c. inr (inr (inl (s, refl))))
-told_text command old mid (Stopped OutOfMemory) ran = told_always (old slots.Policy).bytes (old slots.Capture).bytes _ (λ p c. inr (inr (inr refl)))
+told_text command old mid (Stopped (ReadFault s)) ran = read_always command old _ (λ p c. inr (inl (s, (risen_reading command old mid s (ran.read_faults s refl)).0, (risen_reading command old mid s (ran.read_faults s refl)).1, refl)))
+told_text command old mid (Stopped (WriteFault s)) ran = read_always command old _ (λ p c. inr (inr (inl (s, (risen_writing command old mid s (λ e. ran.no_note_fault (ap WriteFault e)) (ran.write_faults s refl)).0, (risen_writing command old mid s (λ e. ran.no_note_fault (ap WriteFault e)) (ran.write_faults s refl)).1, refl))))
+told_text command old mid (Stopped OutOfMemory) ran = read_always command old _ (λ p c. inr (inr (inr refl)))
 
 nothing_in_front : (done rest : List ℕ) → [] ≡ done ++ rest → done ≡ []
 nothing_in_front [] rest e = refl
@@ -68,16 +87,26 @@ nothing_before old new a = subst (λ d. Appends d old new) (nothing_in_front a.d
 of_nothing : (note : List ℕ) (old new : SlotView) → AppendsPrefix [] old new → AppendsPrefix note old new
 of_nothing note old new a = record { done = []; rest = note; parts = refl; appended = nothing_before old new a }
 
-prefix_told : (note text : List ℕ) (old new : SlotView) → IsTold note text → AppendsPrefix text old new → NotesPrefix note old new
-prefix_told note text old new (inl e) a = inl (subst (λ t. AppendsPrefix t old new) e a)
-prefix_told note text old new (inr (inl (s, e))) a = inr (inl (s, subst (λ t. AppendsPrefix t old new) e a))
-prefix_told note text old new (inr (inr (inl (s, e)))) a = inr (inr (s, subst (λ t. AppendsPrefix t old new) e a))
-prefix_told note text old new (inr (inr (inr e))) a = inl (of_nothing note old new (subst (λ t. AppendsPrefix t old new) e a))
+-- the slots beside Note, and Note before its line, are those in the middle
+prefix_told : (note text : List ℕ) (old mid new : Slot → SlotView) → mid slots.Note ≡ old slots.Note → ((s : Slot) → s ≢ slots.Note → new s ≡ mid s) → IsTold old mid note text → AppendsPrefix text (mid slots.Note) (new slots.Note) → NotesPrefix note old new
+prefix_told note text old mid new stays beside told a = by told
+  where
+    put : (line : List ℕ) → text ≡ line → AppendsPrefix line (old slots.Note) (new slots.Note)
+    put line e = subst (λ v. AppendsPrefix line v (new slots.Note)) stays (subst (λ t. AppendsPrefix t (mid slots.Note) (new slots.Note)) e a)
+
+    still : (s : Slot) → s ≢ slots.Note → IsRisen (old s).faults (mid s).faults → IsRisen (old s).faults (new s).faults
+    still s other h = subst (λ v. IsRisen (old s).faults v.faults) (sym (beside s other)) h
+
+    by : IsTold old mid note text → NotesPrefix note old new
+    by (inl e) = inl (put note e)
+    by (inr (inl (s, other, h, e))) = inr (inl (s, still s other h, put (read_fault_text s) e))
+    by (inr (inr (inl (s, other, h, e)))) = inr (inr (s, still s other h, put (write_fault_text s) e))
+    by (inr (inr (inr e))) = inl (of_nothing note (old slots.Note) (new slots.Note) (put [] e))
 
 pub called_noted_short : (command : Result Command UsageFault) (old mid new : Slot → SlotView) (ended : Ending) (result : Outcome) → Called command old mid new ended result → result ≡ OutOfMemory →
-    WhereTold old (λ p c. NotesPrefix (due_of_command command p c).note (old slots.Note) (new slots.Note))
-called_noted_short command old mid new ended result called short = if_told (old slots.Policy).bytes (old slots.Capture).bytes _ _
-    (λ p c told. subst (λ v. NotesPrefix (due_of_command command p c).note v (new slots.Note)) called.ran.note_stays (prefix_told (due_of_command command p c).note (text_of ended) (mid slots.Note) (new slots.Note) told (by_notes called.notes)))
+    WhereRead command old (λ p c. NotesPrefix (due_of_command command p c).note old new)
+called_noted_short command old mid new ended result called short = if_read command old _ _
+    (λ p c told. prefix_told (due_of_command command p c).note (text_of ended) old mid new called.ran.note_stays called.beside told (by_notes called.notes))
     (told_text command old mid ended called.ran)
   where
     by_notes : Notes ended (mid slots.Note) (new slots.Note) result → AppendsPrefix (text_of ended) (mid slots.Note) (new slots.Note)
@@ -105,12 +134,12 @@ nothing_put ended old new result e (inr (inl (is, a))) = nothing_before old new 
 nothing_put ended old new result e (inr (inr (is, r, a))) = nothing_before old new (subst (λ t. AppendsPrefix t old new) e a)
 
 pub called_noted_late : (command : Result Command UsageFault) (old mid new : Slot → SlotView) (ended : Ending) (result : Outcome) → Called command old mid new ended result → result ≡ OutOfMemory → NoneRose old new →
-    WhereTold old (λ p c. Leaves (due_of_command command p c).written old new ⊎ Appends [] (old slots.Note) (new slots.Note))
+    WhereRead command old (λ p c. Leaves (due_of_command command p c).written old new ⊎ Appends [] (old slots.Note) (new slots.Note))
 called_noted_late command old mid new ended result called short none = by_end (no_fault command old mid new ended called.ran called.beside none)
   where
-    by_end : IsFinal (outcome_seen ended) ⊎ (outcome_seen ended ≡ OutOfMemory) → WhereTold old (λ p c. Leaves (due_of_command command p c).written old new ⊎ Appends [] (old slots.Note) (new slots.Note))
-    by_end (inl final) = if_told (old slots.Policy).bytes (old slots.Capture).bytes _ _
+    by_end : IsFinal (outcome_seen ended) ⊎ (outcome_seen ended ≡ OutOfMemory) → WhereRead command old (λ p c. Leaves (due_of_command command p c).written old new ⊎ Appends [] (old slots.Note) (new slots.Note))
+    by_end (inl final) = if_read command old _ _
         (λ p c ends. inl (leaves_to (due_of_command command p c).written old mid new (called.beside slots.Out out_beside) (called.beside slots.Report report_beside) ends.left))
         (called.ran.due final)
-    by_end (inr late) = told_always (old slots.Policy).bytes (old slots.Capture).bytes _
+    by_end (inr late) = read_always command old _
         (λ p c. inr (subst (λ v. Appends [] v (new slots.Note)) called.ran.note_stays (nothing_put ended (mid slots.Note) (new slots.Note) result (no_text ended late) called.notes)))

@@ -24,12 +24,12 @@ use Rattle.command_words.specs.declared.requests.DemoInput.{DemoInput}
 use Rattle.command_words.specs.declared.requests.RunOptions.{RunOptions}
 use Rattle.command_words.specs.Words.{Command, Plan, Demo}
 use Rattle.nfp_run.specs.Due.{due_of_plan, due_of_command}
-use Rattle.nfp_run.specs.Answers.{IsUntouched, LeavesPrefixes, WhereTold, HasNames, IsFaultOf, NoneAttached, ReadFaultCause}
+use Rattle.nfp_run.specs.Answers.{IsUntouched, LeavesPrefixes, WhereRead, HasNames, IsFaultOf, NoneAttached, ReadFaultCause}
 use Rattle.nfp_run.specs.Closing.{EndsDue}
 use Rattle.plan_text.specs.Plan.{chain_plan}
 use Rattle.nfp_run.specs.Ran.{Ran}
 use Rattle.nfp_run.specs.Reading.{DemoEnds, IsPlanOf, PlanEnds}
-use Rattle.nfp_run.proofs.CallAnswers.{told_always}
+use Rattle.nfp_run.proofs.CallAnswers.{read_always}
 use Rattle.nfp_run.proofs.HeldBytes.{untouched_same}
 use Rattle.nfp_run.proofs.PolicyEnds.{if_told}
 use Rattle.nfp_run.proofs.UnreadWords.{unread_ran}
@@ -45,18 +45,13 @@ beside_name old new b s other = ap (λ v. v.name) (b.others s other) ∙ b.free 
 leaves_both : (old new : Slot → SlotView) → Beside old new → IsUntouched (old slots.Out) (new slots.Out) × IsUntouched (old slots.Report) (new slots.Report)
 leaves_both old new b = (untouched_same (old slots.Out) (new slots.Out) (b.free slots.Out) (b.others slots.Out (λ h. cc)), untouched_same (old slots.Report) (new slots.Report) (b.free slots.Report) (b.others slots.Report (λ h. cc)))
 
-both_told : (a b : Option (List ℕ)) (P : List ℕ → Type 0) (Q : List ℕ → List ℕ → Type 0) → ((p c : List ℕ) → P p → Q p c) → IfSome a P → IfSome a (λ p. IfSome b (Q p))
-both_told None b P Q f h = tt
-both_told (Some p) None P Q f h = tt
-both_told (Some p) (Some c) P Q f h = f p c h
-
 -- a plan writes nothing
 no_written : (r : Result Judged Refusal) (old new : Slot → SlotView) → Beside old new → LeavesPrefixes (due_of_plan r).written old new
 no_written (Ok policy) old new b = leaves_both old new b
 no_written (Err refusal) old new b = leaves_both old new b
 
-prefixes_none : (name : List ℕ) (old new : Slot → SlotView) → Beside old new → WhereTold old (λ p c. LeavesPrefixes (due_of_command (Ok (Plan name)) p c).written old new)
-prefixes_none name old new b = told_always (old slots.Policy).bytes (old slots.Capture).bytes _ (λ p c. no_written (judged p) old new b)
+prefixes_none : (name : List ℕ) (old new : Slot → SlotView) → Beside old new → WhereRead (Ok (Plan name)) old (λ p c. LeavesPrefixes (due_of_command (Ok (Plan name)) p c).written old new)
+prefixes_none name old new b = read_always (Ok (Plan name)) old _ (λ p c. no_written (judged p) old new b)
 
 plan_due : (text : List ℕ) (r : Result Judged Refusal) (old new : Slot → SlotView) → Beside old new → IsPlanOf text r → EndsDue (due_of_plan r) old new (Shown text)
 plan_due text (Ok policy) old new b is = record { answer = refl; left = leaves_both old new b; note = is }
@@ -101,8 +96,7 @@ plan_ran name old new ending free named others ends = go ending ends
 
     go : (e : Ending) → PlanEnds (old slots.Policy) (new slots.Policy) e → Ran (Ok (Plan name)) old new e
     go (Shown text) h = record {
-      due = λ f. both_told (old slots.Policy).bytes (old slots.Capture).bytes _ _ (λ p c is. plan_due text (judged p) old new b is) h;
-      unread = λ none. absurd (none tt);
+      due = λ f. if_told (old slots.Policy).bytes _ _ (λ p is c. plan_due text (judged p) old new b is) h;
       prefixes = prefixes_none name old new b;
       within = tt;
       names_are = plan_names name old new b named;
@@ -117,8 +111,7 @@ plan_ran name old new ending free named others ends = go ending ends
       no_note_fault = λ x. cc;
     }
     go (Refused refusal) h = record {
-      due = λ f. both_told (old slots.Policy).bytes (old slots.Capture).bytes _ _ (λ p c is. fault_due refusal (judged p) old new b is) h;
-      unread = λ none. absurd (none tt);
+      due = λ f. if_told (old slots.Policy).bytes _ _ (λ p is c. fault_due refusal (judged p) old new b is) h;
       prefixes = prefixes_none name old new b;
       within = tt;
       names_are = plan_names name old new b named;
@@ -134,7 +127,6 @@ plan_ran name old new ending free named others ends = go ending ends
     }
     go (Stopped (ReadFault s)) h = record {
       due = λ f. absurd f;
-      unread = λ none. absurd (none tt);
       prefixes = prefixes_none name old new b;
       within = tt;
       names_are = plan_names name old new b named;
@@ -150,7 +142,6 @@ plan_ran name old new ending free named others ends = go ending ends
     }
     go (Stopped OutOfMemory) h = record {
       due = λ f. absurd f;
-      unread = λ none. absurd (none tt);
       prefixes = prefixes_none name old new b;
       within = tt;
       names_are = plan_names name old new b named;
@@ -180,9 +171,8 @@ demo_ran input options old ending free ends = go ending ends
 
     go : (e : Ending) → DemoEnds input e → Ran (Ok (Demo input options)) old old e
     go (Shown text) h = record {
-      due = λ f. told_always (old slots.Policy).bytes (old slots.Capture).bytes _ (λ p c. record { answer = refl; left = left; note = h });
-      unread = λ none f p c. record { answer = refl; left = left; note = h };
-      prefixes = told_always (old slots.Policy).bytes (old slots.Capture).bytes _ (λ p c. left);
+      due = λ f p c. record { answer = refl; left = left; note = h };
+      prefixes = λ p c. left;
       within = tt;
       names_are = λ s. inl (free s);
       attached = (free slots.Out, free slots.Report);
@@ -208,9 +198,8 @@ demo_ran input options old ending free ends = go ending ends
 -- what stands after words that are refused
 pub usage_ran : (fault : UsageFault) (old : Slot → SlotView) → ((s : Slot) → (old s).name ≡ None) → Ran (Err fault) old old (Stopped (Usage fault))
 usage_ran fault old free = record {
-  due = λ f. told_always (old slots.Policy).bytes (old slots.Capture).bytes _ (λ p c. record { answer = refl; left = untouched; note = refl });
-  unread = λ none f p c. record { answer = refl; left = untouched; note = refl };
-  prefixes = told_always (old slots.Policy).bytes (old slots.Capture).bytes _ (λ p c. untouched);
+  due = λ f p c. record { answer = refl; left = untouched; note = refl };
+  prefixes = λ p c. untouched;
   within = tt;
   names_are = free;
   attached = (free slots.Out, free slots.Report);

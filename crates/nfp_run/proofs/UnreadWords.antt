@@ -12,7 +12,7 @@ use Rattle.nfp_run.specs.Answers.{AttachesDue, HasNames, LeavesPrefixes}
 use Rattle.nfp_run.specs.Due.{due_of_command}
 use Rattle.nfp_run.specs.Ran.{Ran}
 use Rattle.nfp_run.specs.Written.{Written}
-use Rattle.nfp_run.proofs.CallAnswers.{told_always}
+use Rattle.nfp_run.proofs.CallAnswers.{read_always}
 use Rattle.nfp_run.proofs.CallCauses.{reaches_unmade}
 use Rattle.nfp_run.proofs.HeldBytes.{untouched_same}
 
@@ -34,8 +34,7 @@ none_attached (Err fault) old free = (free slots.Out, free slots.Report)
 pub unread_ran : (command : Result Command UsageFault) (old : Slot → SlotView) → ((s : Slot) → (old s).name ≡ None) → Ran command old old (Stopped OutOfMemory)
 unread_ran command old free = record {
   due = λ f. absurd f;
-  unread = λ none f. absurd f;
-  prefixes = told_always (old slots.Policy).bytes (old slots.Capture).bytes _ (λ p c. no_prefix (due_of_command command p c).written old free);
+  prefixes = read_always command old _ (λ p c. no_prefix (due_of_command command p c).written old free);
   within = tt;
   names_are = no_names command old free;
   attached = none_attached command old free;

@@ -71,11 +71,13 @@ NoneRose old new = (s : Slot) → ¬ IsRisen (old s).faults (new s).faults
 abbrev pub WhereTold : (Slot → SlotView) → (List ℕ → List ℕ → Type 0) → Type 0
 WhereTold old P = IfSome (old slots.Policy).bytes (λ policy. IfSome (old slots.Capture).bytes (λ capture. P policy capture))
 
--- The call is answered with what is due: where no count rose, the outcome is the one that is due and the slots hold what is due, or memory
--- ran out; and whatever the counts did, an outcome other than a fault of a slot or want of memory is the one that is due.
-pub record IsAnswered (due : Due) (old new : Slot → SlotView) (outcome : Outcome) : Type 0 where
-  pub answers : NoneRose old new → (IsDue due old new outcome × Appends due.note (old slots.Note) (new slots.Note)) ⊎ (outcome ≡ OutOfMemory)
-  pub exact : IsFinal outcome → IsDue due old new outcome
+-- The same where the desk tells what the words read: `run` reads Policy and Capture, and `plan` Policy. A demo and words that are
+-- refused read neither. Of a slot that isn't read the fact stands whatever it holds, also where the desk doesn't tell it.
+abbrev pub WhereRead : Result Command UsageFault → (Slot → SlotView) → (List ℕ → List ℕ → Type 0) → Type 0
+WhereRead (Ok (Run names options)) old P = WhereTold old P
+WhereRead (Ok (Plan name)) old P = IfSome (old slots.Policy).bytes (λ policy. (capture : List ℕ) → P policy capture)
+WhereRead (Ok (Demo input options)) old P = (policy capture : List ℕ) → P policy capture
+WhereRead (Err fault) old P = (policy capture : List ℕ) → P policy capture
 
 -- the line that is put into Note: that of a fault of reading or writing, or the one that is due
 abbrev pub note_due : Outcome → List ℕ → List ℕ
@@ -85,9 +87,12 @@ note_due (WriteFault slots.Report) note = write_fault_text slots.Report
 note_due (WriteFault slot) note = note
 note_due outcome note = note
 
--- a front part is put into Note of what is due, or of the line of a fault of reading or writing
-abbrev pub NotesPrefix : List ℕ → SlotView → SlotView → Type 0
-NotesPrefix note old new = AppendsPrefix note old new ⊎ ((s : Slot) × AppendsPrefix (read_fault_text s) old new) ⊎ ((s : Slot) × AppendsPrefix (write_fault_text s) old new)
+-- A front part is put into Note of what is due, or of the line of a fault of reading or writing a slot whose count rose.
+abbrev pub NotesPrefix : List ℕ → (Slot → SlotView) → (Slot → SlotView) → Type 0
+NotesPrefix note old new =
+    AppendsPrefix note (old slots.Note) (new slots.Note)
+    ⊎ ((s : Slot) × IsRisen (old s).faults (new s).faults × AppendsPrefix (read_fault_text s) (old slots.Note) (new slots.Note))
+    ⊎ ((s : Slot) × IsRisen (old s).faults (new s).faults × AppendsPrefix (write_fault_text s) (old slots.Note) (new slots.Note))
 
 -- the name that a command gives a slot
 abbrev pub name_of : Command → Slot → Option (List ℕ)

@@ -1,5 +1,5 @@
 -- For proofs: what stands after the words were done, before their line is put into Note.
-use Rattle.std.specs.Prelude.{◌≡◌, ◌⊎◌, ℕ, List, Result, Err}
+use Rattle.std.specs.Prelude.{◌≡◌, ◌⊎◌, Result, Err}
 use Rattle.nfp_outside.specs.declared.slot.Slot.{Slot}
 use Rattle.nfp_outside.specs.declared.slot.Slot.TheVariants as slots
 use Rattle.nfp_outside.specs.Outside.{SlotView}
@@ -10,12 +10,11 @@ use Rattle.command_words.specs.declared.usage.UsageFault.{UsageFault}
 use Rattle.command_words.specs.Words.{Command}
 use Rattle.nfp_run.specs.Due.{due_of_command}
 use Rattle.nfp_run.specs.Closing.{outcome_seen, EndsDue, CountsWithin}
-use Rattle.nfp_run.specs.Answers.{IsFinal, WhereTold, LeavesPrefixes, HasNames, AttachesDue, ReachesCapture, ReadsPolicy, PolicyCause, ReadFaultCause, WriteFaultCause}
+use Rattle.nfp_run.specs.Answers.{IsFinal, WhereRead, LeavesPrefixes, HasNames, AttachesDue, ReachesCapture, PolicyCause, ReadFaultCause, WriteFaultCause}
 
 pub record Ran (command : Result Command UsageFault) (old new : Slot → SlotView) (ending : Ending) : Type 0 where
-  pub due : IsFinal (outcome_seen ending) → WhereTold old (λ p c. EndsDue (due_of_command command p c) old new ending)
-  pub unread : ¬ ReadsPolicy command → IsFinal (outcome_seen ending) → (p c : List ℕ) → EndsDue (due_of_command command p c) old new ending
-  pub prefixes : WhereTold old (λ p c. LeavesPrefixes (due_of_command command p c).written old new)
+  pub due : IsFinal (outcome_seen ending) → WhereRead command old (λ p c. EndsDue (due_of_command command p c) old new ending)
+  pub prefixes : WhereRead command old (λ p c. LeavesPrefixes (due_of_command command p c).written old new)
   pub within : CountsWithin ending
   pub names_are : HasNames command new
   pub attached : AttachesDue command (outcome_seen ending) new

@@ -4,7 +4,7 @@ ghost use Rattle.nfp_outside.specs.declared.slot.Slot.{Slot};
 ghost use Rattle.nfp_outside.specs.Outside.{Appends, AppendsPrefix, IsRisen};
 ghost use Rattle.policy_judge.specs.declared.fault.PolicyFault.{PolicyFault};
 ghost use Rattle.command_words.specs.declared.usage.UsageFault.{UsageFault};
-ghost use Rattle.nfp_run.specs.Answers.{IsAnswered, IsDue, IsFinal, HasNames, NoneRose, WhereTold, Leaves, LeavesPrefixes, AttachesDue, ReachesCapture, ReadsPolicy, PolicyCause, ReadFaultCause, WriteFaultCause, NotesPrefix, note_due};
+ghost use Rattle.nfp_run.specs.Answers.{IsDue, IsFinal, HasNames, NoneRose, WhereRead, Leaves, LeavesPrefixes, AttachesDue, ReachesCapture, PolicyCause, ReadFaultCause, WriteFaultCause, NotesPrefix, note_due};
 ghost use Rattle.nfp_run.specs.Due.{due};
 ghost use Rattle.command_words.specs.Words.{command_of};
 
@@ -27,9 +27,11 @@ use std::thread::Threads;
 /// by burst, each of at most as many packets as `--burst` says. `demo` makes its own capture, runs it through its own policy, and touches
 /// no slot but Note. Last, one line goes into Note, or the plan, or the demo's summary.
 ///
-/// The branches of a stage run side by side, each on a thread of its own where one can be started, and behind them as many mergers
-/// as `--mergers` says. What the branches give comes to the mergers as `--merge` says: over links, or on a board. Each step of a
-/// function passes the gate first. What is due says nothing of any of these.
+/// Where a burst goes on threads, the branches of a stage run side by side, each on a thread of its own where one can be started (one
+/// whose functions keep no state on one for each merger), and behind them as many mergers as `--mergers` says, or as there are
+/// packets. What the branches give comes to a merger as `--merge` says: over a link from each, or on a board of its own. A chain
+/// that is one branch takes no thread, and bursts for which threads spare too little by the clock go on the caller's. Each step of
+/// a function passes the gate first. What is due says nothing of any of these.
 pub fn nfp<R: Threads + Wait + Clock + Sync, D: Desk, G: Gate + Sync>(
     rt: &R,
     alloc: Global,
@@ -40,39 +42,39 @@ pub fn nfp<R: Threads + Wait + Clock + Sync, D: Desk, G: Gate + Sync>(
     requires none_attached { (s : Slot) → (D.slots desk.old s).name ≡ None }
     requires note_empty { IfSome (D.slots desk.old Slot.Note).bytes (λ bytes. bytes ≡ []) }
 
-    // Where no count of the desk rose, the outcome is the one that is due and the slots hold what is due, or memory ran out.
-    ensures answers { NoneRose (D.slots desk.old) (D.slots desk.new) → WhereTold (D.slots desk.old) (λ p c.
+    // All that follows of what is due stands where the desk tells what the words read: the policy and the capture, the policy alone,
+    // or neither. Where no count of the desk rose, the outcome is the one that is due and the slots hold what is due, or memory ran
+    // out.
+    ensures answers { NoneRose (D.slots desk.old) (D.slots desk.new) → WhereRead (command_of (map string_bytes words.now)) (D.slots desk.old) (λ p c.
         (IsDue (due (map string_bytes words.now) p c) (D.slots desk.old) (D.slots desk.new) result
         × Appends (due (map string_bytes words.now) p c).note (D.slots desk.old Slot.Note) (D.slots desk.new Slot.Note))
         ⊎ (result ≡ Outcome.OutOfMemory)) }
     // Whatever the counts did, an outcome other than a fault of a slot or want of memory is the one that is due.
-    ensures exact { IsFinal result → WhereTold (D.slots desk.old) (λ p c.
+    ensures exact { IsFinal result → WhereRead (command_of (map string_bytes words.now)) (D.slots desk.old) (λ p c.
         IsDue (due (map string_bytes words.now) p c) (D.slots desk.old) (D.slots desk.new) result) }
-    // Words that are refused and a demo read neither Policy nor Capture: what is due stands whatever these hold, also where the desk
-    // doesn't tell it.
-    ensures unread { ¬ ReadsPolicy (command_of (map string_bytes words.now)) → (p c : List ℕ) →
-        IsAnswered (due (map string_bytes words.now) p c) (D.slots desk.old) (D.slots desk.new) result }
     // Whatever the outcome, Out and Report hold a front part of what is due, or were never attached.
-    ensures prefixes { WhereTold (D.slots desk.old) (λ p c.
+    ensures prefixes { WhereRead (command_of (map string_bytes words.now)) (D.slots desk.old) (λ p c.
         LeavesPrefixes (due (map string_bytes words.now) p c).written (D.slots desk.old) (D.slots desk.new)) }
 
     // Note holds a front part of its line, and the whole of it unless its own count rose.
-    ensures noted { result ≢ Outcome.OutOfMemory → WhereTold (D.slots desk.old) (λ p c.
+    ensures noted { result ≢ Outcome.OutOfMemory → WhereRead (command_of (map string_bytes words.now)) (D.slots desk.old) (λ p c.
         AppendsPrefix (note_due result (due (map string_bytes words.now) p c).note) (D.slots desk.old Slot.Note) (D.slots desk.new Slot.Note)) }
-    ensures noted_whole { result ≢ Outcome.OutOfMemory → ¬ IsRisen (D.slots desk.old Slot.Note).faults (D.slots desk.new Slot.Note).faults → WhereTold (D.slots desk.old) (λ p c.
+    ensures noted_whole { result ≢ Outcome.OutOfMemory → ¬ IsRisen (D.slots desk.old Slot.Note).faults (D.slots desk.new Slot.Note).faults → WhereRead (command_of (map string_bytes words.now)) (D.slots desk.old) (λ p c.
         Appends (note_due result (due (map string_bytes words.now) p c).note) (D.slots desk.old Slot.Note) (D.slots desk.new Slot.Note)) }
     // Done says that Note holds its line or the plan whole, whatever the counts did.
-    ensures done_noted { result ≡ Outcome.Done → WhereTold (D.slots desk.old) (λ p c.
+    ensures done_noted { result ≡ Outcome.Done → WhereRead (command_of (map string_bytes words.now)) (D.slots desk.old) (λ p c.
         Appends (due (map string_bytes words.now) p c).note (D.slots desk.old Slot.Note) (D.slots desk.new Slot.Note)) }
-    // Where memory ran out, Note holds a front part of what is due, or of the line of a fault of reading or writing.
-    ensures noted_short { result ≡ Outcome.OutOfMemory → WhereTold (D.slots desk.old) (λ p c.
-        NotesPrefix (due (map string_bytes words.now) p c).note (D.slots desk.old Slot.Note) (D.slots desk.new Slot.Note)) }
-    // Nothing goes into Note once memory ran out: where something stands there all the same and no slot failed, the work was done.
-    ensures noted_late { result ≡ Outcome.OutOfMemory → NoneRose (D.slots desk.old) (D.slots desk.new) → WhereTold (D.slots desk.old) (λ p c.
+    // Where memory ran out, Note holds a front part of what is due, or of the line of a fault of reading or writing a slot whose
+    // count rose.
+    ensures noted_short { result ≡ Outcome.OutOfMemory → WhereRead (command_of (map string_bytes words.now)) (D.slots desk.old) (λ p c.
+        NotesPrefix (due (map string_bytes words.now) p c).note (D.slots desk.old) (D.slots desk.new)) }
+    // Nothing goes into Note once memory ran out: where something stands there all the same and no slot failed, Out and Report hold
+    // what is due whole.
+    ensures noted_late { result ≡ Outcome.OutOfMemory → NoneRose (D.slots desk.old) (D.slots desk.new) → WhereRead (command_of (map string_bytes words.now)) (D.slots desk.old) (λ p c.
         Leaves (due (map string_bytes words.now) p c).written (D.slots desk.old) (D.slots desk.new)
         ⊎ Appends [] (D.slots desk.old Slot.Note) (D.slots desk.new Slot.Note)) }
     // A fault of Note is told where the work was done, and Out and Report are whole.
-    ensures note_fault { result ≡ Outcome.WriteFault Slot.Note → WhereTold (D.slots desk.old) (λ p c.
+    ensures note_fault { result ≡ Outcome.WriteFault Slot.Note → WhereRead (command_of (map string_bytes words.now)) (D.slots desk.old) (λ p c.
         IsDue (due (map string_bytes words.now) p c) (D.slots desk.old) (D.slots desk.new) Outcome.Done) }
 
     // Each attached slot has the name that the words give it, so a plan attaches the policy alone.

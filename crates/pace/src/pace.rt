@@ -1,21 +1,40 @@
 //! What either way took, and the choice.
 
-/// Packets are counted in rounds of so many.
-const ROUND: u32 = 524_288;
-
-/// The bursts of so many go on threads first,
+/// Threads are tried with so many packets,
 const ON_THREADS: u32 = 8_192;
 
-/// and those behind them on one thread, up to this number.
-const TRIED: u32 = 10_240;
+/// and one thread with so many.
+const ALONE: u32 = 2_048;
+
+/// By the better way go so many.
+const CHOSEN: u32 = 514_048;
+
+/// Threads that take so many times as long as one are hopeless, and no more bursts try them.
+const HOPELESS: u64 = 4;
 
 /// The ways of a burst.
 #[derive(Clone, Copy, PartialEq, Eq, Debug)]
 pub enum Lead {
-    /// Its stages' branches run side by side, each on a thread of its own.
+    /// Its stages' branches run side by side, each on a thread of its own where one can be started, and one without state on one for
+    /// each merger.
     Threads,
     /// All of it runs on the caller's thread.
     Alone,
+}
+
+/// The parts of a round.
+#[derive(Clone, Copy, PartialEq, Eq, Debug)]
+pub enum Part {
+    /// One burst goes on threads,
+    FirstOnThreads,
+    /// and one alone: what they took shows whether threads are hopeless.
+    FirstAlone,
+    /// Where they aren't, bursts go on threads, whatever is known,
+    MoreOnThreads,
+    /// and then alone.
+    MoreAlone,
+    /// Bursts go by the way that was better.
+    Chosen,
 }
 
 /// What a packet takes by either way, in nanoseconds, by the bursts that went by it, and how far this round is.
@@ -25,23 +44,27 @@ pub struct Pace {
     pub threads: Option<u64>,
     /// On one thread, where that was tried.
     pub alone: Option<u64>,
-    /// How many packets of this round went.
-    pub turn: u32,
+    /// The part of the round that the next burst is of.
+    pub part: Part,
+    /// How many packets of this part went.
+    pub packets: u32,
 }
 
 ghost use Rattle.std.specs.Prelude.{◌≡◌, ◌<◌, ◌/◌, Some, None};
-ghost use Rattle.pace.specs.Pacing.{better, end_of_part, kept, lead_of, next_turn, pays};
+ghost use Rattle.pace.specs.Pacing.{after, are_hopeless, better, is_over, kept, lead_of, next_part, pays};
 ghost use Rattle.pace.specs.declared.pace.Lead.{Lead};
+ghost use Rattle.pace.specs.declared.pace.Part.{Part};
 
 impl Pace {
     /// Neither way was tried.
     pub fn new() -> Pace
-        ensures { result ≡ record { threads = None; alone = None; turn = 0 } }
+        ensures { result ≡ record { threads = None; alone = None; part = Part.FirstOnThreads; packets = 0 } }
     {
         Pace {
             threads: None,
             alone: None,
-            turn: 0,
+            part: Part::FirstOnThreads,
+            packets: 0,
         }
     }
 
@@ -49,13 +72,11 @@ impl Pace {
     pub fn lead(&self) -> Lead
         ensures { result ≡ lead_of self.now }
     {
-        if self.turn < ON_THREADS {
-            return Lead::Threads;
+        match self.part {
+            Part::FirstOnThreads | Part::MoreOnThreads => Lead::Threads,
+            Part::FirstAlone | Part::MoreAlone => Lead::Alone,
+            Part::Chosen => self.better(),
         }
-        if self.turn < TRIED {
-            return Lead::Alone;
-        }
-        self.better()
     }
 
     /// The way that is better, as far as that is known.
@@ -71,27 +92,54 @@ impl Pace {
     /// A burst with so many packets, of which there were some, went this way and took so many nanoseconds.
     pub fn tell(&mut self, lead: Lead, packets: u32, nanos: u64)
         requires some { 0 < packets }
-        ensures threads { lead ≡ Lead.Threads → self.new ≡ record self.old { threads = Some (kept self.old.threads (nanos / packets)); turn = next_turn self.old.turn packets } }
-        ensures alone { lead ≡ Lead.Alone → self.new ≡ record self.old { alone = Some (kept self.old.alone (nanos / packets)); turn = next_turn self.old.turn packets } }
+        ensures threads { lead ≡ Lead.Threads → self.new ≡ after packets (record self.old { threads = Some (kept self.old.threads (nanos / packets)) }) }
+        ensures alone { lead ≡ Lead.Alone → self.new ≡ after packets (record self.old { alone = Some (kept self.old.alone (nanos / packets)) }) }
     {
         let each = nanos / u64::from(packets);
         match lead {
             Lead::Threads => self.threads = Some(kept(self.threads, each)),
             Lead::Alone => self.alone = Some(kept(self.alone, each)),
         }
-        self.turn = self.turn.saturating_add(packets).min(self.end_of_part()) % ROUND;
+        self.packets = self.packets.saturating_add(packets);
+        if self.is_over() {
+            self.part = self.next_part();
+            self.packets = 0;
+        }
     }
 
-    /// Where this part of the round ends.
-    fn end_of_part(&self) -> u32
-        ensures { result ≡ end_of_part self.now.turn }
+    /// Is this part of the round over?
+    fn is_over(&self) -> bool
+        ensures { result ≡ is_over self.now.part self.now.packets }
     {
-        if self.turn < ON_THREADS {
-            ON_THREADS
-        } else if self.turn < TRIED {
-            TRIED
-        } else {
-            ROUND
+        match self.part {
+            Part::FirstOnThreads | Part::FirstAlone => true,
+            Part::MoreOnThreads => self.packets >= ON_THREADS,
+            Part::MoreAlone => self.packets >= ALONE,
+            Part::Chosen => self.packets >= CHOSEN,
+        }
+    }
+
+    /// The part behind this one.
+    fn next_part(&self) -> Part
+        ensures { result ≡ next_part (are_hopeless self.now.threads self.now.alone) self.now.part }
+    {
+        match self.part {
+            Part::FirstOnThreads => Part::FirstAlone,
+            Part::FirstAlone if self.are_threads_hopeless() => Part::Chosen,
+            Part::FirstAlone => Part::MoreOnThreads,
+            Part::MoreOnThreads => Part::MoreAlone,
+            Part::MoreAlone => Part::Chosen,
+            Part::Chosen => Part::FirstOnThreads,
+        }
+    }
+
+    /// Did threads take so much longer that more of them needn't be tried?
+    fn are_threads_hopeless(&self) -> bool
+        ensures { result ≡ are_hopeless self.now.threads self.now.alone }
+    {
+        match (self.threads, self.alone) {
+            (Some(threads), Some(alone)) => threads / HOPELESS > alone,
+            _ => false,
         }
     }
 }

@@ -59,7 +59,7 @@ pub fn run_piped<F: Function + Drop + Send, G: Gate + Sync, R: Threads + Wait + 
     ensures leads { IfOk result (λ ran. Leads F.behaviour run (packets_taken unit chain burst.now.items) tally.old tally.new ran.0 ran.1.items) }
     ensures refused { OnErr result (RaisesUpTo (copies_made run.graph.stages (packets_taken unit chain burst.now.items) (fates F.behaviour run.functions (packets_taken unit chain burst.now.items))) tally.old tally.new) }
 {
-    if is_single(run.graph()) {
+    if is_one_branch(run.graph()) {
         return run_joined(rt, alloc, run, burst, unit, chain, tally, mergers, gate);
     }
     let mut pace = run.pace();
@@ -122,7 +122,7 @@ fn run_stages<F: Function + Drop + Send, G: Gate + Sync, R: Threads + Wait + Syn
 }
 
 /// Does a graph have no stage but one of one branch?
-fn is_single(graph: &Graph) -> bool {
+fn is_one_branch(graph: &Graph) -> bool {
     let stages = graph.stages.as_slice();
     match stages {
         [] => true,

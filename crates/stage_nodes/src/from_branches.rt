@@ -21,7 +21,7 @@ pub(crate) enum Inward {
     Board(BoardRows),
 }
 
-/// Where a merger takes what the branches of its stage give: over a link from each, or from the stage's
+/// Where a merger takes what the branches of its stage give: over a link from each, or from the merger's
 /// board. Contracts see what is still due from each branch, in branch order.
 #[derive(Drop)]
 pub struct FromBranches {
@@ -53,7 +53,7 @@ impl FromBranches {
         })
     }
 
-    /// A seat at the stage's board, and room for what the board hands over of a packet. Its one refusal is
+    /// The merger's seat at its board, and room for what the board hands over of a packet. Its one refusal is
     /// want of memory.
     pub fn of_board(alloc: Global, inlets: BoardInlets<Version>) -> Result<FromBranches, AllocError>
         requires some { 0 < length inlets }

@@ -1,7 +1,7 @@
 use Rattle.std.proofs.Common.{map}
 use Rattle.std.specs.Prelude.{string_bytes}
 use Rattle.command_words.specs.Words.{command_of}
-use Rattle.nfp_run.proofs.CallAnswers.{called_exact, called_prefixes, called_answers, called_noted, called_noted_whole, called_unread}
+use Rattle.nfp_run.proofs.CallAnswers.{called_exact, called_prefixes, called_answers, called_noted, called_noted_whole}
 use Rattle.nfp_run.proofs.NotedLines.{called_done_noted, called_noted_short, called_noted_late}
 use Rattle.nfp_run.proofs.CallCauses.{called_names, called_usage_always, called_note_fault, called_attached, called_policy, called_refused, called_read_faults, called_write_faults}
 use Rattle.nfp_run.proofs.call.nfp.Goals as goal
@@ -12,10 +12,6 @@ returns-clause-answers g c = called_answers (command_of (map string_bytes c.args
 
 pub returns-clause-exact : goal.returns-clause-exact
 returns-clause-exact g c = called_exact (command_of (map string_bytes c.args.words.now)) (g.D.Desk.slots c.args.desk.now) (g.D.Desk.slots c.run_words-ending.new.desk) (g.D.Desk.slots c.put_note.new.desk) c.run_words-ending.result c.put_note.result
-    (record { ran = c.run_words-ending.ensures.ran; notes = c.put_note.ensures.notes; beside = c.put_note.ensures.others })
-
-pub returns-clause-unread : goal.returns-clause-unread
-returns-clause-unread g c = called_unread (command_of (map string_bytes c.args.words.now)) (g.D.Desk.slots c.args.desk.now) (g.D.Desk.slots c.run_words-ending.new.desk) (g.D.Desk.slots c.put_note.new.desk) c.run_words-ending.result c.put_note.result
     (record { ran = c.run_words-ending.ensures.ran; notes = c.put_note.ensures.notes; beside = c.put_note.ensures.others })
 
 pub returns-clause-prefixes : goal.returns-clause-prefixes

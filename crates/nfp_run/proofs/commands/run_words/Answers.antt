@@ -10,7 +10,6 @@ returns-in-Ok-Run g c = record {
       (sym (c.in-Ok-Run.ensures.reads ∙ ap (λ x. Ok (command_seen x)) c.in-Ok-Run.field-0-is))
       (record {
         due = c.run.ensures.due;
-        unread = λ none. absurd (none tt);
         prefixes = c.run.ensures.prefixes;
         within = c.run.ensures.within;
         names_are = c.run.ensures.names;
