@@ -1,6 +1,6 @@
 -- A branch before and after one version.
-use Rattle.std.proofs.Common.{◌≡◌, ◌<◌, ◌≤◌, ◌+◌, ◌-◌, ◌*◌, ◌∙◌, ℕ, suc, List, [], ◌∷◌, length, refl, arith, ap, sym, subst, Bool, false, inl, inr}
-use Rattle.std.proofs.Math.Nat.{add-mul, sub-zero}
+use Rattle.std.proofs.Common.{◌≡◌, ◌≢◌, ◌<◌, ◌≤◌, ◌+◌, ◌-◌, ◌*◌, ◌∙◌, ℕ, suc, List, [], ◌∷◌, length, refl, arith, ap, sym, subst, Bool, false, inl, inr}
+use Rattle.std.proofs.Math.Nat.{add-mul}
 use Rattle.packet_version.specs.Versions.{PlainVersion}
 use Rattle.message_links.specs.Messages.{PlainMessage, Fits, Owing, first, rest, front, turned, is_short}
 use Rattle.message_links.specs.Turns.{shares}
@@ -9,7 +9,7 @@ use Rattle.stage_nodes.specs.Flows.{MayTake, MayTakeEach}
 use Rattle.stage_nodes.specs.Dues.{BranchDue, NothingOwed}
 use Rattle.stage_nodes.specs.Turns.{BranchReady}
 use Rattle.stage_nodes.proofs.Shares.{turned_shares, no_shares}
-use Rattle.stage_nodes.proofs.Ends.{fits_by, due_is, begins, Front, front_of, one_more, none_more}
+use Rattle.stage_nodes.proofs.Ends.{fits_by, due_is, begins, Front, front_of, some_more, none_more}
 
 take_first : {F : Type 0} (k : Kit F) (may : F → ℕ → PlainVersion → Type 0) (step : ℕ) (f : F) (p : ℕ) (x : PlainMessage PlainVersion) (xs : List (PlainMessage PlainVersion))
     → MayTakeEach k may step f p (x ∷ xs) → MayTake may f p x × MayTakeEach k may step (moved k f x) (p + step) xs
@@ -104,29 +104,22 @@ branch_over k may step p end short f (x ∷ xs) outlets d w = absurd (let m = d.
 
 -- over a count of versions
 
-pub branch_begins : {F : Type 0} (k : Kit F) (may : F → ℕ → PlainVersion → Type 0) (step p n : ℕ) (end : F) (f : F) (inlet : List (PlainMessage PlainVersion)) (outlets : List (List (PlainMessage PlainVersion)))
-    → BranchDue k may step p n end false f inlet outlets → BranchDue k may step p (n - 0) (left k f inlet) false f inlet outlets
-branch_begins k may step p n end f inlet outlets d =
-    subst (λ m. BranchDue k may step p m (left k f inlet) false f inlet outlets) (sym (sub-zero n)) (record {
-      mergers = d.mergers;
-      now = d.now;
-      some = d.some;
-      many = d.many;
-      few = d.few;
-      take = d.take;
-      gives = d.gives;
-      same = d.same;
-      ends = ap (λ g. left k g inlet) (sym (d.same refl));
-    })
+-- one version at least is to come
+pub branch_some : {F : Type 0} (k : Kit F) (may : F → ℕ → PlainVersion → Type 0) (step p count : ℕ) (end : F) (short : Bool) (f : F) (inlet : List (PlainMessage PlainVersion)) (outlets : List (List (PlainMessage PlainVersion))) → count ≢ 0
+    → BranchDue k may step p count end short f inlet outlets → BranchDue k may step p (suc (count - 1)) end short f inlet outlets
+branch_some k may step p count end short f inlet outlets ne d = subst (λ n. BranchDue k may step p n end short f inlet outlets) (some_more count ne) d
 
-pub branch_at : {F : Type 0} (k : Kit F) (may : F → ℕ → PlainVersion → Type 0) (step p count i : ℕ) (end : F) (short : Bool) (f : F) (inlet : List (PlainMessage PlainVersion)) (outlets : List (List (PlainMessage PlainVersion))) → i < count
-    → BranchDue k may step p (count - i) end short f inlet outlets → BranchDue k may step p (suc (count - (i + 1))) end short f inlet outlets
-branch_at k may step p count i end short f inlet outlets lt d = subst (λ n. BranchDue k may step p n end short f inlet outlets) (one_more count i lt) d
+-- the functions that are left in the end
+pub branch_end : {F : Type 0} (k : Kit F) (may : F → ℕ → PlainVersion → Type 0) (step p count : ℕ) (end : F) (short : Bool) (f : F) (inlet : List (PlainMessage PlainVersion)) (outlets : List (List (PlainMessage PlainVersion)))
+    → BranchDue k may step p count end short f inlet outlets → short ≡ false → end ≡ left k f inlet
+branch_end k may step p count end short f inlet outlets d w = sym (ap (λ g. left k g inlet) (d.same w) ∙ d.ends)
 
--- the number of the next packet is told by what the node keeps
-pub branch_next : {F : Type 0} (k : Kit F) (may : F → ℕ → PlainVersion → Type 0) (step step' p n : ℕ) (end : F) (short : Bool) (f : F) (inlet : List (PlainMessage PlainVersion)) (outlets : List (List (PlainMessage PlainVersion)))
-    → step' ≡ step → BranchDue k may step (p + step) n end short f inlet outlets → BranchDue k may step' (p + step') n end short f inlet outlets
-branch_next k may step step' p n end short f inlet outlets e d = subst (λ s. BranchDue k may s (p + s) n end short f inlet outlets) (sym e) d
+-- the next packet is told by what the node keeps
+pub branch_next : {F : Type 0} (k : Kit F) (may : F → ℕ → PlainVersion → Type 0) (step step' p p' count count' : ℕ) (end : F) (short : Bool) (f : F) (inlet : List (PlainMessage PlainVersion)) (outlets : List (List (PlainMessage PlainVersion)))
+    → step' ≡ step → p' ≡ p → count' ≡ count → BranchDue k may step (p + step) (count - 1) end short f inlet outlets → BranchDue k may step' (p' + step') (count' - 1) end short f inlet outlets
+branch_next k may step step' p p' count count' end short f inlet outlets s e c d =
+    subst (λ y. BranchDue k may y (p' + y) (count' - 1) end short f inlet outlets) (sym s)
+    (subst (λ y. BranchDue k may step (y + step) (count' - 1) end short f inlet outlets) (sym e) (subst (λ y. BranchDue k may step (p + step) (y - 1) end short f inlet outlets) (sym c) d))
 
 -- and it is no number too large
 pub number_fits : {F : Type 0} (k : Kit F) (may : F → ℕ → PlainVersion → Type 0) (step p n : ℕ) (end : F) (short : Bool) (f : F) (inlet : List (PlainMessage PlainVersion)) (outlets : List (List (PlainMessage PlainVersion)))
@@ -136,9 +129,9 @@ number_fits k may step p n end short f inlet outlets d = at_most p (n * step) d.
     at_most : (a b : ℕ) → a + b ≤ 4294967295 → a ≤ 4294967295
     at_most a b le = omega (arith, le)
 
-pub branch_done : {F : Type 0} (k : Kit F) (may : F → ℕ → PlainVersion → Type 0) (step p count i : ℕ) (end : F) (short : Bool) (f : F) (inlet : List (PlainMessage PlainVersion)) (outlets : List (List (PlainMessage PlainVersion))) → count ≤ i
-    → BranchDue k may step p (count - i) end short f inlet outlets → short ≡ false → f ≡ end
-branch_done k may step p count i end short f inlet outlets le d = branch_over k may step p end short f inlet outlets (subst (λ n. BranchDue k may step p n end short f inlet outlets) (none_more count i le) d)
+pub branch_done : {F : Type 0} (k : Kit F) (may : F → ℕ → PlainVersion → Type 0) (step p count i n : ℕ) (end : F) (short : Bool) (f : F) (inlet : List (PlainMessage PlainVersion)) (outlets : List (List (PlainMessage PlainVersion))) → count ≤ i → n ≡ count - i
+    → BranchDue k may step p n end short f inlet outlets → short ≡ false → f ≡ end
+branch_done k may step p count i n end short f inlet outlets le e d = branch_over k may step p end short f inlet outlets (subst (λ n. BranchDue k may step p n end short f inlet outlets) (e ∙ none_more count i le) d)
 
 -- nothing is due to a merger any more
 branch_given : {F : Type 0} (k : Kit F) (may : F → ℕ → PlainVersion → Type 0) (step p : ℕ) (end : F) (short : Bool) (f : F) (inlet : List (PlainMessage PlainVersion)) (outlets : List (List (PlainMessage PlainVersion)))
@@ -147,6 +140,6 @@ unfolding ran
 branch_given k may step p end short f [] outlets d = subst NothingOwed (sym d.gives) (no_shares d.mergers 0 d.mergers)
 branch_given k may step p end short f (x ∷ xs) outlets d = absurd (let m = d.many in omega arith)
 
-pub branch_gave : {F : Type 0} (k : Kit F) (may : F → ℕ → PlainVersion → Type 0) (step p count i : ℕ) (end : F) (short : Bool) (f : F) (inlet : List (PlainMessage PlainVersion)) (outlets : List (List (PlainMessage PlainVersion))) → count ≤ i
-    → BranchDue k may step p (count - i) end short f inlet outlets → NothingOwed outlets
-branch_gave k may step p count i end short f inlet outlets le d = branch_given k may step p end short f inlet outlets (subst (λ n. BranchDue k may step p n end short f inlet outlets) (none_more count i le) d)
+pub branch_gave : {F : Type 0} (k : Kit F) (may : F → ℕ → PlainVersion → Type 0) (step p count i n : ℕ) (end : F) (short : Bool) (f : F) (inlet : List (PlainMessage PlainVersion)) (outlets : List (List (PlainMessage PlainVersion))) → count ≤ i → n ≡ count - i
+    → BranchDue k may step p n end short f inlet outlets → NothingOwed outlets
+branch_gave k may step p count i n end short f inlet outlets le e d = branch_given k may step p end short f inlet outlets (subst (λ n. BranchDue k may step p n end short f inlet outlets) (e ∙ none_more count i le) d)

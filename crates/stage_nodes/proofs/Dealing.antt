@@ -1,7 +1,6 @@
 -- A dealer before and after one packet.
-use Rattle.std.proofs.Common.{◌≡◌, ◌<◌, ◌≤◌, ◌+◌, ◌-◌, ◌∙◌, ℕ, suc, List, [], ◌∷◌, length, map, refl, arith, ap, sym, subst, Bool, false, All, inl, inr}
+use Rattle.std.proofs.Common.{◌≡◌, ◌≢◌, ◌<◌, ◌≤◌, ◌+◌, ◌-◌, ◌∙◌, ℕ, suc, List, [], ◌∷◌, length, map, refl, arith, ap, sym, subst, Bool, false, All, inl, inr}
 use Rattle.std.specs.Prelude.{Option, Some, None, is_some, not}
-use Rattle.std.proofs.Math.Nat.{sub-zero}
 use Rattle.std.proofs.lemmas.List.Elements.{All-cons, All-nil}
 use Rattle.std.proofs.lemmas.List.Sums.{sum_by-cons}
 use Rattle.packet_fields.specs.declared.field.Field.{Field}
@@ -17,7 +16,7 @@ use Rattle.stage_nodes.specs.Streams.{parted, base_of, due_of, dealer_copies}
 use Rattle.stage_nodes.specs.Dues.{AreFanned, DealerDue, NothingOwed}
 use Rattle.stage_nodes.specs.Turns.{HasMore, DealerReady, RaisesByMessage, Stops, Splits, DealerAt}
 use Rattle.stage_nodes.proofs.Shares.{turned_shares, no_shares}
-use Rattle.stage_nodes.proofs.Ends.{due_is, begins, Front, front_of, one_more, none_more}
+use Rattle.stage_nodes.proofs.Ends.{due_is, begins, Front, front_of, some_more, none_more}
 
 -- what is due on the links of the branches' nodes, and once each branch has its version of the next packet
 
@@ -133,11 +132,11 @@ word_counted touches message short after old new (Some q) st e w = record { ampl
 raised_twice : (c d s : ℕ) → raised (raised c d) s ≡ raised c (d + s)
 raised_twice c d s = omega arith
 
-pub dealer_goes_on : {S : Type 0} {comes : S → List (PlainMessage PlainApart) → Type 0} (parts : StageParts) (n : ℕ) (xs : List (PlainMessage PlainApart)) (short after : Bool) (counts counts' : List ℕ) (source source' : S) (versions versions' : List (List (List (PlainMessage PlainVersion)))) (bases bases' : List (List (PlainMessage PlainApart))) (message : PlainMessage PlainApart)
-    → DealerAt comes parts (suc n) xs short counts source versions bases → FitsNext comes source message
+pub dealer_goes_on : {S : Type 0} {comes : S → List (PlainMessage PlainApart) → Type 0} (parts : StageParts) (n : ℕ) (total : Field → ℕ) (short after : Bool) (counts counts' : List ℕ) (source source' : S) (versions versions' : List (List (List (PlainMessage PlainVersion)))) (bases bases' : List (List (PlainMessage PlainApart))) (message : PlainMessage PlainApart)
+    → DealerAt comes parts (suc n) total short counts source versions bases → FitsNext comes source message
     → ((x : PlainMessage PlainApart) (xs : List (PlainMessage PlainApart)) → comes source (x ∷ xs) → comes source' xs) → versions' ≡ map turned versions → bases' ≡ turned bases
-    → (after ≡ false → WasCounted parts.touches message short counts counts') → DealerAt comes parts n xs after counts' source' versions' bases'
-dealer_goes_on {S} {comes} parts n xs short after counts counts' source source' versions versions' bases bases' message a fits left v t h =
+    → (after ≡ false → WasCounted parts.touches message short counts counts') → DealerAt comes parts n total after counts' source' versions' bases'
+dealer_goes_on {S} {comes} parts n total short after counts counts' source source' versions versions' bases bases' message a fits left v t h =
     let d = a.due in
     let b = begins a.coming n d.many in
     let here = subst (comes source) b.is d.takes in record {
@@ -164,36 +163,40 @@ dealer_goes_on {S} {comes} parts n xs short after counts counts' source source' 
 
 -- over a count of packets
 
-pub dealer_begins : {S : Type 0} {comes : S → List (PlainMessage PlainApart) → Type 0} (parts : StageParts) (n : ℕ) (xs : List (PlainMessage PlainApart)) (counts : List ℕ) (source : S) (versions : List (List (List (PlainMessage PlainVersion)))) (bases : List (List (PlainMessage PlainApart)))
-    → DealerDue comes parts n xs source versions bases → ((f : Field) → count_of counts f ≡ 0) → DealerAt comes parts (n - 0) xs false counts source versions bases
-dealer_begins {S} {comes} parts n xs counts source versions bases d none = record {
-  coming = xs;
-  due = subst (λ m. DealerDue comes parts m xs source versions bases) (sym (sub-zero n)) d;
-  counted = λ w f. ap (λ c. raised c (dealer_copies parts.touches xs f)) (none f);
-}
+pub dealer_begins : {S : Type 0} {comes : S → List (PlainMessage PlainApart) → Type 0} (parts : StageParts) (n : ℕ) (xs : List (PlainMessage PlainApart)) (short : Bool) (counts : List ℕ) (source : S) (versions : List (List (List (PlainMessage PlainVersion)))) (bases : List (List (PlainMessage PlainApart)))
+    → DealerDue comes parts n xs source versions bases → DealerAt comes parts n (λ f. raised (count_of counts f) (dealer_copies parts.touches xs f)) short counts source versions bases
+dealer_begins {S} {comes} parts n xs short counts source versions bases d = record { coming = xs; due = d; counted = λ w f. refl }
 
-pub dealer_at : {S : Type 0} {comes : S → List (PlainMessage PlainApart) → Type 0} (parts : StageParts) (count i : ℕ) (xs : List (PlainMessage PlainApart)) (short : Bool) (counts : List ℕ) (source : S) (versions : List (List (List (PlainMessage PlainVersion)))) (bases : List (List (PlainMessage PlainApart))) → i < count
-    → DealerAt comes parts (count - i) xs short counts source versions bases → DealerAt comes parts (suc (count - (i + 1))) xs short counts source versions bases
-dealer_at {S} {comes} parts count i xs short counts source versions bases lt d = subst (λ n. DealerAt comes parts n xs short counts source versions bases) (one_more count i lt) d
+-- one packet at least is to come
+pub dealer_some : {S : Type 0} {comes : S → List (PlainMessage PlainApart) → Type 0} (parts : StageParts) (count : ℕ) (xs : List (PlainMessage PlainApart)) (source : S) (versions : List (List (List (PlainMessage PlainVersion)))) (bases : List (List (PlainMessage PlainApart))) → count ≢ 0
+    → DealerDue comes parts count xs source versions bases → DealerReady comes parts source versions bases
+dealer_some {S} {comes} parts count xs source versions bases ne d = (count - 1, xs, subst (λ n. DealerDue comes parts n xs source versions bases) (some_more count ne) d)
 
-pub dealer_same : {S : Type 0} {comes : S → List (PlainMessage PlainApart) → Type 0} (parts parts' : StageParts) (n : ℕ) (xs : List (PlainMessage PlainApart)) (short : Bool) (counts : List ℕ) (source : S) (versions : List (List (List (PlainMessage PlainVersion)))) (bases : List (List (PlainMessage PlainApart)))
-    → parts' ≡ parts → DealerAt comes parts n xs short counts source versions bases → DealerAt comes parts' n xs short counts source versions bases
-dealer_same {S} {comes} parts parts' n xs short counts source versions bases e a = subst (λ p. DealerAt comes p n xs short counts source versions bases) (sym e) a
+pub dealer_at : {S : Type 0} {comes : S → List (PlainMessage PlainApart) → Type 0} (parts : StageParts) (count : ℕ) (total : Field → ℕ) (short : Bool) (counts counts' : List ℕ) (source : S) (versions : List (List (List (PlainMessage PlainVersion)))) (bases : List (List (PlainMessage PlainApart))) → count ≢ 0 → counts' ≡ counts
+    → DealerAt comes parts count total short counts source versions bases → DealerAt comes parts (suc (count - 1)) total short counts' source versions bases
+dealer_at {S} {comes} parts count total short counts counts' source versions bases ne t d =
+    subst (λ n. DealerAt comes parts n total short counts' source versions bases) (some_more count ne) (subst (λ y. DealerAt comes parts count total short y source versions bases) (sym t) d)
+
+pub dealer_same : {S : Type 0} {comes : S → List (PlainMessage PlainApart) → Type 0} (parts parts' : StageParts) (count count' : ℕ) (total : Field → ℕ) (short : Bool) (counts : List ℕ) (source : S) (versions : List (List (List (PlainMessage PlainVersion)))) (bases : List (List (PlainMessage PlainApart)))
+    → parts' ≡ parts → count' ≡ count → DealerAt comes parts (count - 1) total short counts source versions bases → DealerAt comes parts' (count' - 1) total short counts source versions bases
+dealer_same {S} {comes} parts parts' count count' total short counts source versions bases p c a =
+    subst (λ y. DealerAt comes y (count' - 1) total short counts source versions bases) (sym p) (subst (λ y. DealerAt comes parts (y - 1) total short counts source versions bases) (sym c) a)
 
 raised_none : (c : ℕ) → raised c 0 ≡ c
 raised_none c = omega arith
 
-all_counted : {S : Type 0} {comes : S → List (PlainMessage PlainApart) → Type 0} (parts : StageParts) (xs : List (PlainMessage PlainApart)) (short : Bool) (counts : List ℕ) (source : S) (versions : List (List (List (PlainMessage PlainVersion)))) (bases : List (List (PlainMessage PlainApart)))
-    → DealerAt comes parts 0 xs short counts source versions bases → short ≡ false → (f : Field) → count_of counts f ≡ raised 0 (dealer_copies parts.touches xs f)
-all_counted {S} {comes} parts xs short counts source versions bases a w f = over a.coming a.due.many (a.counted w f)
+all_counted : {S : Type 0} {comes : S → List (PlainMessage PlainApart) → Type 0} (parts : StageParts) (total : Field → ℕ) (short : Bool) (counts : List ℕ) (source : S) (versions : List (List (List (PlainMessage PlainVersion)))) (bases : List (List (PlainMessage PlainApart)))
+    → DealerAt comes parts 0 total short counts source versions bases → short ≡ false → (f : Field) → count_of counts f ≡ total f
+all_counted {S} {comes} parts total short counts source versions bases a w f = over a.coming a.due.many (a.counted w f)
   where
-    over : (coming : List (PlainMessage PlainApart)) → length coming ≡ 0 → raised (count_of counts f) (dealer_copies parts.touches coming f) ≡ raised 0 (dealer_copies parts.touches xs f) → count_of counts f ≡ raised 0 (dealer_copies parts.touches xs f)
+    over : (coming : List (PlainMessage PlainApart)) → length coming ≡ 0 → raised (count_of counts f) (dealer_copies parts.touches coming f) ≡ total f → count_of counts f ≡ total f
     over [] none e = sym (raised_none (count_of counts f)) ∙ e
     over (x ∷ coming) none e = absurd (omega arith)
 
-pub dealer_done : {S : Type 0} {comes : S → List (PlainMessage PlainApart) → Type 0} (parts : StageParts) (count i : ℕ) (xs : List (PlainMessage PlainApart)) (short : Bool) (counts : List ℕ) (source : S) (versions : List (List (List (PlainMessage PlainVersion)))) (bases : List (List (PlainMessage PlainApart))) → count ≤ i
-    → DealerAt comes parts (count - i) xs short counts source versions bases → short ≡ false → (f : Field) → count_of counts f ≡ raised 0 (dealer_copies parts.touches xs f)
-dealer_done {S} {comes} parts count i xs short counts source versions bases le d = all_counted parts xs short counts source versions bases (subst (λ n. DealerAt comes parts n xs short counts source versions bases) (none_more count i le) d)
+pub dealer_done : {S : Type 0} {comes : S → List (PlainMessage PlainApart) → Type 0} (parts : StageParts) (count i n : ℕ) (total : Field → ℕ) (short : Bool) (counts : List ℕ) (source : S) (versions : List (List (List (PlainMessage PlainVersion)))) (bases : List (List (PlainMessage PlainApart))) → count ≤ i → n ≡ count - i
+    → DealerAt comes parts n total short counts source versions bases → short ≡ false → (f : Field) → count_of counts f ≡ total f
+dealer_done {S} {comes} parts count i n total short counts source versions bases le e d =
+    all_counted parts total short counts source versions bases (subst (λ m. DealerAt comes parts m total short counts source versions bases) (e ∙ none_more count i le) d)
 
 fans_given : (touches : List Touch) (fans : List (List (List (PlainMessage PlainVersion)))) → AreFanned touches [] fans → All NothingOwed fans
 unfolding AreFanned
@@ -203,14 +206,15 @@ fans_given (t ∷ touches) [] h = absurd h
 fans_given (t ∷ touches) (fan ∷ fans) h = All-cons NothingOwed fan fans (subst NothingOwed (sym h.0.2) (no_shares h.0.0 0 h.0.0)) (fans_given touches fans h.1)
 
 -- no version and no base is due any more
-all_given : {S : Type 0} {comes : S → List (PlainMessage PlainApart) → Type 0} (parts : StageParts) (xs : List (PlainMessage PlainApart)) (short : Bool) (counts : List ℕ) (source : S) (versions : List (List (List (PlainMessage PlainVersion)))) (bases : List (List (PlainMessage PlainApart)))
-    → DealerAt comes parts 0 xs short counts source versions bases → All NothingOwed versions × NothingOwed bases
-all_given {S} {comes} parts xs short counts source versions bases a = over a.coming a.due.many a.due.gives a.due.gives_bases
+all_given : {S : Type 0} {comes : S → List (PlainMessage PlainApart) → Type 0} (parts : StageParts) (total : Field → ℕ) (short : Bool) (counts : List ℕ) (source : S) (versions : List (List (List (PlainMessage PlainVersion)))) (bases : List (List (PlainMessage PlainApart)))
+    → DealerAt comes parts 0 total short counts source versions bases → All NothingOwed versions × NothingOwed bases
+all_given {S} {comes} parts total short counts source versions bases a = over a.coming a.due.many a.due.gives a.due.gives_bases
   where
     over : (coming : List (PlainMessage PlainApart)) → length coming ≡ 0 → AreFanned parts.touches coming versions → bases ≡ shares a.due.mergers (map (base_of parts.touches) coming) → All NothingOwed versions × NothingOwed bases
     over [] none v b = (fans_given parts.touches versions v, subst NothingOwed (sym b) (no_shares a.due.mergers 0 a.due.mergers))
     over (x ∷ coming) none v b = absurd (omega arith)
 
-pub dealer_gave : {S : Type 0} {comes : S → List (PlainMessage PlainApart) → Type 0} (parts : StageParts) (count i : ℕ) (xs : List (PlainMessage PlainApart)) (short : Bool) (counts : List ℕ) (source : S) (versions : List (List (List (PlainMessage PlainVersion)))) (bases : List (List (PlainMessage PlainApart))) → count ≤ i
-    → DealerAt comes parts (count - i) xs short counts source versions bases → All NothingOwed versions × NothingOwed bases
-dealer_gave {S} {comes} parts count i xs short counts source versions bases le d = all_given parts xs short counts source versions bases (subst (λ n. DealerAt comes parts n xs short counts source versions bases) (none_more count i le) d)
+pub dealer_gave : {S : Type 0} {comes : S → List (PlainMessage PlainApart) → Type 0} (parts : StageParts) (count i n : ℕ) (total : Field → ℕ) (short : Bool) (counts : List ℕ) (source : S) (versions : List (List (List (PlainMessage PlainVersion)))) (bases : List (List (PlainMessage PlainApart))) → count ≤ i → n ≡ count - i
+    → DealerAt comes parts n total short counts source versions bases → All NothingOwed versions × NothingOwed bases
+dealer_gave {S} {comes} parts count i n total short counts source versions bases le e d =
+    all_given parts total short counts source versions bases (subst (λ m. DealerAt comes parts m total short counts source versions bases) (e ∙ none_more count i le) d)

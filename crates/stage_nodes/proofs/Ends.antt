@@ -1,5 +1,5 @@
 -- Messages that fit what is due, and the links at which the next is due.
-use Rattle.std.proofs.Common.{◌≡◌, ◌<◌, ◌≤◌, ◌+◌, ◌-◌, ◌∙◌, ℕ, suc, List, [], ◌∷◌, length, refl, arith, ap, sym, subst, Bool, true, false, inl, inr}
+use Rattle.std.proofs.Common.{◌≡◌, ◌≢◌, ◌<◌, ◌≤◌, ◌+◌, ◌-◌, ◌∙◌, ℕ, suc, List, [], ◌∷◌, length, refl, arith, ap, sym, subst, Bool, true, false, inl, inr}
 use Rattle.std.specs.Prelude.{◌⊎◌}
 use Rattle.message_links.specs.Messages.{PlainMessage, PlainMessage.Live, PlainMessage.Nil, PlainMessage.Short, Fits, Owing, first, front, is_short}
 use Rattle.message_links.specs.Turns.{shares}
@@ -47,8 +47,8 @@ front_of {P} m x xs ls lt e = subst (λ l. Front l x) (sym e) (record {
 })
 
 -- over a count of packets
-pub one_more : (count i : ℕ) → i < count → count - i ≡ suc (count - (i + 1))
-one_more count i lt = omega arith
+pub some_more : (count : ℕ) → count ≢ 0 → count ≡ suc (count - 1)
+some_more count ne = omega arith
 
 pub none_more : (count i : ℕ) → count ≤ i → count - i ≡ 0
 none_more count i le = omega arith

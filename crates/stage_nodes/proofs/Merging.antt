@@ -1,8 +1,7 @@
 -- A merger before and after one packet.
-use Rattle.std.proofs.Common.{◌≡◌, ◌<◌, ◌≤◌, ◌+◌, ◌-◌, ◌∙◌, ◌^◌, ℕ, zero, suc, List, [], ◌∷◌, length, map, get_or, refl, arith, ap, sym, subst, Bool, true, false, All, inl, inr}
+use Rattle.std.proofs.Common.{◌≡◌, ◌≢◌, ◌<◌, ◌≤◌, ◌+◌, ◌-◌, ◌∙◌, ◌^◌, ℕ, zero, suc, List, [], ◌∷◌, length, map, get_or, refl, arith, ap, sym, subst, Bool, true, false, All, inl, inr}
 use Rattle.std.specs.Prelude.{◌⊎◌, slice_index_or}
 use Rattle.std.specs.List.{list_any}
-use Rattle.std.proofs.Math.Nat.{sub-zero}
 use Rattle.std.proofs.lemmas.List.{length-map, get_or-map}
 use Rattle.packet_version.specs.Splitting.{PlainApart}
 use Rattle.packet_version.specs.Versions.{PlainVersion}
@@ -18,7 +17,7 @@ use Rattle.stage_nodes.specs.Flows.{Belongs, AllBelong}
 use Rattle.stage_nodes.specs.Dues.{MergerDue}
 use Rattle.stage_nodes.specs.Gathering.{ArrivalFits, RowFits}
 use Rattle.stage_nodes.specs.Turns.{BelongTo, joined_row, MergerAt}
-use Rattle.stage_nodes.proofs.Ends.{one_more, none_more}
+use Rattle.stage_nodes.proofs.Ends.{some_more, none_more}
 
 -- arrivals that fit what is due from the branches
 
@@ -165,24 +164,26 @@ rest_length n (m ∷ outlet) outlet' many o = ap length o ∙ (omega arith)
 owed : (n : ℕ) (bases : List (PlainMessage PlainApart)) (columns : List (List (PlainMessage PlainVersion))) (outlet : List (PlainMessage PlainApart)) → MergerDue n bases columns outlet → length outlet ≡ n
 owed n bases columns outlet d = ap length d.gives ∙ rows_length bases columns ∙ d.many
 
-pub merger_begins : (n : ℕ) (bases : List (PlainMessage PlainApart)) (columns : List (List (PlainMessage PlainVersion))) (outlet : List (PlainMessage PlainApart)) → MergerDue n bases columns outlet → MergerAt (n - 0) false bases columns outlet
-merger_begins n bases columns outlet d = record {
-  many = owed n bases columns outlet d ∙ sym (sub-zero n);
-  due = λ w. subst (λ m. MergerDue m bases columns outlet) (sym (sub-zero n)) d;
-}
+pub merger_begins : (n : ℕ) (bases : List (PlainMessage PlainApart)) (columns : List (List (PlainMessage PlainVersion))) (outlet : List (PlainMessage PlainApart)) → MergerDue n bases columns outlet → MergerAt n false bases columns outlet
+merger_begins n bases columns outlet d = record { many = owed n bases columns outlet d; due = λ w. d }
 
-pub merger_at : (count i : ℕ) (short : Bool) (bases : List (PlainMessage PlainApart)) (columns : List (List (PlainMessage PlainVersion))) (outlet : List (PlainMessage PlainApart)) → i < count
-    → MergerAt (count - i) short bases columns outlet → MergerAt (suc (count - (i + 1))) short bases columns outlet
-merger_at count i short bases columns outlet lt a = subst (λ n. MergerAt n short bases columns outlet) (one_more count i lt) a
+-- one packet at least is to come
+pub merger_some : (count : ℕ) (short : Bool) (bases : List (PlainMessage PlainApart)) (columns : List (List (PlainMessage PlainVersion))) (outlet : List (PlainMessage PlainApart)) → count ≢ 0
+    → MergerAt count short bases columns outlet → MergerAt (suc (count - 1)) short bases columns outlet
+merger_some count short bases columns outlet ne a = subst (λ n. MergerAt n short bases columns outlet) (some_more count ne) a
+
+pub merger_same : (count count' : ℕ) (short : Bool) (bases : List (PlainMessage PlainApart)) (columns : List (List (PlainMessage PlainVersion))) (outlet : List (PlainMessage PlainApart)) → count' ≡ count
+    → MergerAt (count - 1) short bases columns outlet → MergerAt (count' - 1) short bases columns outlet
+merger_same count count' short bases columns outlet e a = subst (λ n. MergerAt (n - 1) short bases columns outlet) (sym e) a
 
 none_left : {A : Type 0} (xs : List A) → length xs ≡ 0 → xs ≡ []
 none_left [] none = refl
 none_left (x ∷ xs) none = absurd (omega arith)
 
 -- nothing is due to the dealer behind any more
-pub merger_gave : (count i : ℕ) (short : Bool) (bases : List (PlainMessage PlainApart)) (columns : List (List (PlainMessage PlainVersion))) (outlet : List (PlainMessage PlainApart)) → count ≤ i
-    → MergerAt (count - i) short bases columns outlet → outlet ≡ []
-merger_gave count i short bases columns outlet le a = none_left outlet (a.many ∙ none_more count i le)
+pub merger_gave : (count i n : ℕ) (short : Bool) (bases : List (PlainMessage PlainApart)) (columns : List (List (PlainMessage PlainVersion))) (outlet : List (PlainMessage PlainApart)) → count ≤ i → n ≡ count - i
+    → MergerAt n short bases columns outlet → outlet ≡ []
+merger_gave count i n short bases columns outlet le e a = none_left outlet (a.many ∙ e ∙ none_more count i le)
 
 pub merger_goes_on : (n : ℕ) (short after : Bool) (bases bases' : List (PlainMessage PlainApart)) (columns columns' : List (List (PlainMessage PlainVersion))) (outlet outlet' : List (PlainMessage PlainApart))
     → MergerAt (suc n) short bases columns outlet → short ≡ false → bases' ≡ rest bases → columns' ≡ map rest columns → outlet' ≡ rest outlet → MergerAt n after bases' columns' outlet'

@@ -1,5 +1,5 @@
 -- For proofs: a node before and after one packet.
-use Rattle.std.specs.Prelude.{◌≡◌, ℕ, suc, List, ◌∷◌, length, map, Bool, false, Option, Some, None}
+use Rattle.std.specs.Prelude.{◌≡◌, ℕ, suc, List, [], ◌∷◌, length, map, Bool, false, Option, Some, None}
 use Rattle.packet_fields.specs.declared.field.Field.{Field}
 use Rattle.action_profile.specs.declared.parts.StageParts.{StageParts}
 use Rattle.action_profile.specs.declared.parts.Touch.{Touch}
@@ -13,6 +13,9 @@ use Rattle.merge_ops.specs.Taking.{merged}
 use Rattle.message_links.specs.Messages.{PlainMessage, PlainMessage.Live, PlainMessage.Nil, PlainMessage.Short}
 use Rattle.stage_nodes.specs.Streams.{Kit, of_merged, due_of, dealer_copies}
 use Rattle.stage_nodes.specs.Dues.{DealerDue, BranchDue, MergerDue}
+use Rattle.stage_nodes.specs.declared.branch.Branch as branches
+use Rattle.stage_nodes.specs.declared.dealer.Dealer as dealers
+use Rattle.stage_nodes.specs.declared.merger.Merger as mergers
 use Rattle.stage_nodes.specs.declared.dealer.Dealt.{Dealt}
 use Rattle.stage_nodes.specs.declared.dealer.Dealt.TheVariants.{Row, Word}
 
@@ -49,11 +52,11 @@ abbrev pub Deals : List Touch → PlainMessage PlainApart → Bool → List ℕ 
 Deals touches x short old new (Row base row) = (short ≡ false) × Splits touches x old new base row.items
 Deals touches x short old new (Word position) = Stops touches x short old new position
 
--- So many packets of a dealer are still to come, and its counts are those of the packets that came.
-pub record DealerAt {S : Type 0} (comes : S → List (PlainMessage PlainApart) → Type 0) (parts : StageParts) (n : ℕ) (xs : List (PlainMessage PlainApart)) (short : Bool) (counts : List ℕ) (source : S) (versions : List (List (List (PlainMessage PlainVersion)))) (bases : List (List (PlainMessage PlainApart))) : Type 0 where
+-- So many packets of a dealer are still to come. With the copies that are due of them its counts come to these, unless it is short.
+pub record DealerAt {S : Type 0} (comes : S → List (PlainMessage PlainApart) → Type 0) (parts : StageParts) (n : ℕ) (total : Field → ℕ) (short : Bool) (counts : List ℕ) (source : S) (versions : List (List (List (PlainMessage PlainVersion)))) (bases : List (List (PlainMessage PlainApart))) : Type 0 where
   pub coming : List (PlainMessage PlainApart)
   pub due : DealerDue comes parts n coming source versions bases
-  pub counted : short ≡ false → (f : Field) → raised (count_of counts f) (dealer_copies parts.touches coming f) ≡ raised 0 (dealer_copies parts.touches xs f)
+  pub counted : short ≡ false → (f : Field) → raised (count_of counts f) (dealer_copies parts.touches coming f) ≡ total f
 
 -- what came from the branches belongs to a base
 abbrev pub BelongTo : PlainMessage PlainApart → List Arrival → Type 0
@@ -71,3 +74,14 @@ joined_row Short row = Short
 pub record MergerAt (n : ℕ) (short : Bool) (bases : List (PlainMessage PlainApart)) (columns : List (List (PlainMessage PlainVersion))) (outlet : List (PlainMessage PlainApart)) : Type 0 where
   pub many : length outlet ≡ n
   pub due : short ≡ false → MergerDue n bases columns outlet
+
+-- what a node owes, whether some of its turns are over or none: a dealer's counts come to these in the end, and a branch's functions are
+-- these
+abbrev pub DealerOwes : {S : Type 0} → (S → List (PlainMessage PlainApart) → Type 0) → (Field → ℕ) → dealers.Dealer S → Type 0
+DealerOwes comes total d = DealerAt comes d.parts d.count total d.short d.tally d.source d.versions d.bases
+
+abbrev pub BranchOwes : {F : Type 0} → Kit F → (F → ℕ → PlainVersion → Type 0) → F → branches.Branch F → Type 0
+BranchOwes k may end b = BranchDue k may b.step b.first b.count end b.short b.work b.inlet b.outlets
+
+abbrev pub MergerOwes : mergers.Merger → Type 0
+MergerOwes m = MergerAt m.count m.short m.base m.inlets m.outlet × (m.row.items ≡ [])

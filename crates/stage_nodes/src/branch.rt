@@ -1,10 +1,10 @@
 //! The node of a branch.
-ghost use Rattle.std.specs.Prelude.{◌≡◌, ◌+◌, ℕ, suc, false};
+ghost use Rattle.std.specs.Prelude.{◌≡◌, ◌+◌, ◌-◌, ℕ, suc, false};
 ghost use Rattle.message_links.specs.Messages.{is_short, plain};
 ghost use Rattle.stage_nodes.specs.Streams.{gave, left, moved};
 ghost use Rattle.stage_nodes.specs.Flows.{MayTake};
 ghost use Rattle.stage_nodes.specs.Dues.{BranchDue, NothingOwed};
-ghost use Rattle.stage_nodes.specs.Turns.{BranchReady};
+ghost use Rattle.stage_nodes.specs.Turns.{BranchOwes, BranchReady};
 
 use crate::to_mergers::ToMergers;
 use crate::work::BranchWork;
@@ -14,9 +14,10 @@ use packet_version::Version;
 use std::alloc::Global;
 use std::sync::Wait;
 
-/// A branch, or one of its nodes where it has several: so many versions come from the dealer, in the packets'
-/// order, the first of the packet with this number in the burst, counted from 0, and each other of the packet so
-/// many behind it. It leads each through its functions, and gives what comes of it to its mergers in turn.
+/// A branch, or one of its nodes where it has several: so many versions are still to come from the dealer, in the
+/// packets' order, the first of the packet with this number in the burst, counted from 0, and each other of the packet
+/// so many behind it. It leads each through its functions, and gives what comes of it to its mergers in turn. It is
+/// short once it found that memory was.
 #[derive(Drop)]
 pub struct Branch<F> {
     pub inlet: Inlet<Version>,
@@ -25,6 +26,7 @@ pub struct Branch<F> {
     pub first: u32,
     pub step: u32,
     pub count: u32,
+    pub short: bool,
 }
 
 /// Runs a branch until all its versions came, and says whether memory was short. From the first version on
@@ -36,20 +38,33 @@ pub fn run_branch<F: BranchWork, R: Wait, G: Gate>(
     gate: &G,
     branch: &mut Branch<F>,
 ) -> bool
-    requires due { (end : F) × BranchDue F.kit F.may branch.old.step branch.old.first branch.old.count end false branch.old.work branch.old.inlet branch.old.outlets }
+    requires due { (end : F) × BranchOwes F.kit F.may end branch.old }
+    ensures ample { result ≡ false → branch.old.short ≡ false }
     ensures functions { result ≡ false → branch.new.work ≡ left F.kit branch.old.work branch.old.inlet }
     ensures given { NothingOwed branch.new.outlets }
 {
-    let mut short = false;
-    let mut place = branch.first;
     for _version in 0..branch.count {
-        short = branch.turn_next(rt, alloc, gate, place, short);
-        place += branch.step;
+        branch.turn(rt, alloc, gate);
     }
-    short
+    branch.short
 }
 
 impl<F: BranchWork> Branch<F> {
+    /// The next version, if one is still to come. What the branch owes in the end stays.
+    pub fn turn<R: Wait, G: Gate>(&mut self, rt: &R, alloc: Global, gate: &G)
+        requires ready { (end : F) × BranchOwes F.kit F.may end self.old }
+        ensures owes { (end : F) → BranchOwes F.kit F.may end self.old → BranchOwes F.kit F.may end self.new }
+        ensures ample { self.new.short ≡ false → self.old.short ≡ false }
+        ensures count { self.new.count ≡ self.old.count - 1 }
+    {
+        if self.count == 0 {
+            return;
+        }
+        self.short = self.turn_next(rt, alloc, gate, self.first, self.short);
+        self.first += self.step;
+        self.count -= 1;
+    }
+
     /// The next version, of the packet with this number; says whether the branch is short from now on.
     fn turn_next<R: Wait, G: Gate>(
         &mut self,
@@ -63,6 +78,8 @@ impl<F: BranchWork> Branch<F> {
         ensures due { (n : ℕ) (end : F) →
             BranchDue F.kit F.may self.old.step place (suc n) end short self.old.work self.old.inlet self.old.outlets →
             BranchDue F.kit F.may self.old.step (place + self.old.step) n end result self.new.work self.new.inlet self.new.outlets }
+        ensures ample { result ≡ false → short ≡ false }
+        ensures first { self.new.first ≡ self.old.first }
         ensures step { self.new.step ≡ self.old.step }
         ensures count { self.new.count ≡ self.old.count }
     {

@@ -1,5 +1,5 @@
 //! The node of a dealer.
-ghost use Rattle.std.specs.Prelude.{◌≡◌, ◌<◌, ◌≤◌, ℕ, suc, false, List, length, All};
+ghost use Rattle.std.specs.Prelude.{◌≡◌, ◌<◌, ◌≤◌, ◌-◌, ℕ, suc, false, List, length, All};
 ghost use Rattle.packet_fields.specs.declared.field.Field.{Field};
 ghost use Rattle.action_profile.specs.Modes.{modes_of};
 ghost use Rattle.packet_version.specs.Splitting.{PlainApart};
@@ -7,7 +7,7 @@ ghost use Rattle.packet_version.specs.Tallies.{count_of, raised};
 ghost use Rattle.message_links.specs.Messages.{PlainMessage};
 ghost use Rattle.stage_nodes.specs.Streams.{dealer_copies, of_merged};
 ghost use Rattle.stage_nodes.specs.Dues.{DealerDue, NothingOwed};
-ghost use Rattle.stage_nodes.specs.Turns.{DealerAt, DealerReady, Deals};
+ghost use Rattle.stage_nodes.specs.Turns.{DealerAt, DealerOwes, DealerReady, Deals};
 
 use crate::supply::Supply;
 use action_profile::StageParts;
@@ -15,17 +15,21 @@ use merge_ops::Merged;
 use message_links::{Fans, Outlets, boxed, message_without};
 use packet_version::{Base, Tally, Version, deal};
 use std::alloc::Global;
+use std::mem;
 use std::sync::Wait;
 
-/// A dealer: so many packets come from its supply. It deals each to the branches of its stage, whose nodes, where
-/// a branch has several, take turns, and gives what stays of it to the mergers in turn.
+/// A dealer: so many packets are still to come from its supply. It deals each to the branches of its stage, whose
+/// nodes, where a branch has several, take turns, and gives what stays of it to the mergers in turn. It counts the
+/// copies that it made so far, and is short once it found that memory was.
 #[derive(Drop)]
 pub struct Dealer<S> {
     pub parts: StageParts,
     pub source: S,
     pub versions: Fans<Version>,
     pub bases: Outlets<Base>,
+    pub tally: Tally,
     pub count: u32,
+    pub short: bool,
 }
 
 /// What a dealer gives of a packet.
@@ -46,28 +50,47 @@ pub fn run_dealer<S: Supply, R: Wait>(
     dealer: &mut Dealer<S>,
 ) -> (Tally, bool)
     requires due { (xs : List (PlainMessage PlainApart)) × DealerDue S.comes dealer.old.parts dealer.old.count xs dealer.old.source dealer.old.versions dealer.old.bases }
+    ensures ample { result.1 ≡ false → dealer.old.short ≡ false }
     ensures counted { (xs : List (PlainMessage PlainApart)) →
         DealerDue S.comes dealer.old.parts dealer.old.count xs dealer.old.source dealer.old.versions dealer.old.bases → result.1 ≡ false →
-        (f : Field) → count_of result.0 f ≡ raised 0 (dealer_copies dealer.old.parts.touches xs f) }
+        (f : Field) → count_of result.0 f ≡ raised (count_of dealer.old.tally f) (dealer_copies dealer.old.parts.touches xs f) }
     ensures versions_given { All NothingOwed dealer.new.versions }
     ensures bases_given { NothingOwed dealer.new.bases }
 {
-    let mut tally = Tally::new();
-    let mut short = false;
     for _packet in 0..dealer.count {
-        short = dealer.deal_next(rt, alloc, &mut tally, short);
+        dealer.turn(rt, alloc);
     }
-    (tally, short)
+    let tally = mem::replace(&mut dealer.tally, Tally::new());
+    (tally, dealer.short)
 }
 
 impl<S: Supply> Dealer<S> {
+    /// The next packet, if one is still to come. The copies that the dealer will have made in the end, if it is not
+    /// short then, stay.
+    pub fn turn<R: Wait>(&mut self, rt: &R, alloc: Global)
+        requires ready { (xs : List (PlainMessage PlainApart)) × DealerDue S.comes self.old.parts self.old.count xs self.old.source self.old.versions self.old.bases }
+        ensures owes { (total : Field → ℕ) → DealerOwes S.comes total self.old → DealerOwes S.comes total self.new }
+        ensures ample { self.new.short ≡ false → self.old.short ≡ false }
+        ensures count { self.new.count ≡ self.old.count - 1 }
+    {
+        if self.count == 0 {
+            return;
+        }
+        let mut tally = mem::replace(&mut self.tally, Tally::new());
+        self.short = self.deal_next(rt, alloc, &mut tally, self.short);
+        self.tally = tally;
+        self.count -= 1;
+    }
+
     /// The next packet; says whether the dealer is short from now on.
     fn deal_next<R: Wait>(&mut self, rt: &R, alloc: Global, tally: &mut Tally, short: bool) -> bool
         requires ready { DealerReady S.comes self.old.parts self.old.source self.old.versions self.old.bases }
-        ensures at { (n : ℕ) (xs : List (PlainMessage PlainApart)) →
-            DealerAt S.comes self.old.parts (suc n) xs short tally.old self.old.source self.old.versions self.old.bases →
-            DealerAt S.comes self.old.parts n xs result tally.new self.new.source self.new.versions self.new.bases }
+        ensures at { (n : ℕ) (total : Field → ℕ) →
+            DealerAt S.comes self.old.parts (suc n) total short tally.old self.old.source self.old.versions self.old.bases →
+            DealerAt S.comes self.old.parts n total result tally.new self.new.source self.new.versions self.new.bases }
+        ensures ample { result ≡ false → short ≡ false }
         ensures parts { self.new.parts ≡ self.old.parts }
+        ensures count { self.new.count ≡ self.old.count }
     {
         let packet = self.source.next(rt, alloc);
         match dealing(alloc, &self.parts, packet, short, tally) {

@@ -1,41 +1,61 @@
 //! The node of a merger.
-ghost use Rattle.std.specs.Prelude.{◌≡◌, ◌<◌, ◌^◌, [], ℕ, suc, length};
+ghost use Rattle.std.specs.Prelude.{◌≡◌, ◌<◌, ◌-◌, ◌^◌, [], ℕ, suc, length};
 ghost use Rattle.message_links.specs.Messages.{Fits, plain};
 ghost use Rattle.stage_nodes.specs.Streams.{of_merged};
-ghost use Rattle.stage_nodes.specs.Dues.{MergerDue};
-ghost use Rattle.stage_nodes.specs.Turns.{BelongTo, MergerAt, joined_row};
+ghost use Rattle.stage_nodes.specs.Turns.{BelongTo, MergerAt, MergerOwes, joined_row};
 
 use crate::from_branches::FromBranches;
 use merge_ops::{Arrival, Merged, merge};
 use message_links::{Inlet, Message, Outlet, boxed};
 use packet_version::{Apart, Base};
 use std::alloc::Global;
+use std::mem;
 use std::sync::Wait;
 
-/// A merger: of so many packets come the bases from the dealer, and from each branch what it made of
-/// them. It puts each packet together, and gives what comes of it to the dealer behind.
+/// A merger: of so many packets the bases are still to come from the dealer, and from each branch what it made of
+/// them, the first of the packet with this number in the burst, counted from 0, and each other of the packet so many
+/// behind it. It puts each packet together, and gives what comes of it to the dealer behind. Its row has room for what
+/// comes of a packet, and is empty. It is short once it found that memory was.
 #[derive(Drop)]
 pub struct Merger {
     pub base: Inlet<Base>,
     pub inlets: FromBranches,
     pub outlet: Outlet<Apart>,
+    pub row: Vec<Arrival>,
+    pub first: u32,
+    pub step: u32,
     pub count: u32,
+    pub short: bool,
 }
 
 /// Runs a merger until all its packets went on. From the first packet on for which memory was short, it
 /// says so of all: whatever memory is refused, it gives one message for each that it owes.
 pub fn run_merger<R: Wait>(rt: &R, alloc: Global, merger: &mut Merger)
-    requires due { MergerDue merger.old.count merger.old.base merger.old.inlets merger.old.outlet }
+    requires due { MergerOwes merger.old }
     ensures given { merger.new.outlet ≡ [] }
 {
-    let mut row = Vec::new(alloc);
-    let mut short = false;
-    for packet in 0..merger.count {
-        short = merger.merge_next(rt, alloc, &mut row, packet, short);
+    for _packet in 0..merger.count {
+        merger.turn(rt, alloc);
     }
 }
 
 impl Merger {
+    /// The next packet, if one is still to come.
+    pub fn turn<R: Wait>(&mut self, rt: &R, alloc: Global)
+        requires ready { MergerOwes self.old }
+        ensures owes { MergerOwes self.new }
+        ensures count { self.new.count ≡ self.old.count - 1 }
+    {
+        if self.count == 0 {
+            return;
+        }
+        let mut row = mem::replace(&mut self.row, Vec::new(alloc));
+        self.short = self.merge_next(rt, alloc, &mut row, self.first, self.short);
+        self.row = row;
+        self.first = self.first.saturating_add(self.step);
+        self.count -= 1;
+    }
+
     /// The next packet, which has this number here; says whether the merger is short from now on.
     fn merge_next<R: Wait>(
         &mut self,
@@ -50,6 +70,7 @@ impl Merger {
         ensures empty { row.new.items ≡ [] }
         ensures at { (n : ℕ) → MergerAt (suc n) short self.old.base self.old.inlets self.old.outlet →
             MergerAt n result self.new.base self.new.inlets self.new.outlet }
+        ensures count { self.new.count ≡ self.old.count }
     {
         if short || row.reserve(self.inlets.len()).is_err() {
             self.outlet.give(rt, Message::Short);

@@ -1,7 +1,10 @@
-use Rattle.std.proofs.Common.{◌-◌}
-use Rattle.stage_nodes.specs.Dues.{BranchDue}
-use Rattle.stage_nodes.specs.Streams.{left}
+use Rattle.std.proofs.Common.{◌≡◌, ◌-◌, false}
+use Rattle.stage_nodes.specs.Turns.{BranchOwes}
 use Rattle.stage_nodes.proofs.branch.run_branch.Given as goal
 
 abbrev pub invariant-loop-version : goal.invariant-loop-version
-invariant-loop-version g l = BranchDue g.F.BranchWork.kit g.F.BranchWork.may l.branch.step l.place (l.fn.branch.count - l._version) (left g.F.BranchWork.kit l.fn.branch.work l.fn.branch.inlet) l.short l.branch.work l.branch.inlet l.branch.outlets
+invariant-loop-version g l = record {
+  owes : (end : _) → BranchOwes g.F.BranchWork.kit g.F.BranchWork.may end l.fn.branch → BranchOwes g.F.BranchWork.kit g.F.BranchWork.may end l.branch;
+  ample : l.branch.short ≡ false → l.fn.branch.short ≡ false;
+  count : l.branch.count ≡ l.fn.branch.count - l._version;
+}

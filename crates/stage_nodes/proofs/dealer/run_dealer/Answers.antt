@@ -1,28 +1,28 @@
-use Rattle.std.proofs.Common.{◌∙◌, ap, refl}
-use Rattle.packet_version.specs.Tallies.{raised}
-use Rattle.stage_nodes.specs.Streams.{dealer_copies}
-use Rattle.stage_nodes.proofs.Dealing.{dealer_begins, dealer_at, dealer_same, dealer_done, dealer_gave}
+use Rattle.std.proofs.Common.{◌∙◌, ap, arith, refl}
+use Rattle.packet_version.specs.Tallies.{count_of}
+use Rattle.stage_nodes.proofs.Dealing.{dealer_begins, dealer_done, dealer_gave}
 use Rattle.stage_nodes.proofs.dealer.run_dealer.Goals as goal
 
 pub loop-packet-init : goal.loop-packet-init
-loop-packet-init g c = (refl, λ xs due. dealer_begins _ _ _ _ _ _ _ due c.new-tally.ensures)
+loop-packet-init g c = record { owes = λ total owes. owes; ample = λ w. w; count = omega arith }
 
-pub deal_next-short-requires : goal.deal_next-short-requires
-deal_next-short-requires g c =
-    let at = dealer_at _ c.args.dealer.now.count c.loop-packet._packet _ _ _ _ _ _ c.loop-packet-test.true (c.loop-packet.invariant.1 _ c.requires.due.1) in
-    record { ready = (_, _, at.due) }
+pub turn-requires : goal.turn-requires
+turn-requires g c =
+    let at = c.loop-packet.invariant.owes _ (dealer_begins _ _ _ _ _ _ _ _ c.requires.due.1) in
+    record { ready = (at.coming, at.due) }
 
 pub loop-packet-preserved : goal.loop-packet-preserved
-loop-packet-preserved g c = (
-  c.deal_next-short.ensures.parts ∙ c.loop-packet.invariant.0,
-  λ xs due. dealer_same _ _ _ _ _ _ _ _ _ c.deal_next-short.ensures.parts
-      (c.deal_next-short.ensures.at _ xs (dealer_at _ c.args.dealer.now.count c.loop-packet._packet _ _ _ _ _ _ c.loop-packet-test.true (c.loop-packet.invariant.1 xs due))),
-)
+loop-packet-preserved g c = record {
+  owes = λ total owes. c.turn.ensures.owes total (c.loop-packet.invariant.owes total owes);
+  ample = λ w. c.loop-packet.invariant.ample (c.turn.ensures.ample w);
+  count = omega (arith, c.turn.ensures.count, c.loop-packet.invariant.count);
+}
 
 pub returns : goal.returns
-returns g c = record {
-  counted = λ xs due w f. dealer_done _ c.args.dealer.now.count c.loop-packet._packet xs _ _ _ _ _ c.loop-packet-test.false (c.loop-packet.invariant.1 xs due) w f
-      ∙ ap (λ p. raised 0 (dealer_copies p.touches xs f)) c.loop-packet.invariant.0;
-  versions_given = (dealer_gave _ c.args.dealer.now.count c.loop-packet._packet _ _ _ _ _ _ c.loop-packet-test.false (c.loop-packet.invariant.1 _ c.requires.due.1)).0;
-  bases_given = (dealer_gave _ c.args.dealer.now.count c.loop-packet._packet _ _ _ _ _ _ c.loop-packet-test.false (c.loop-packet.invariant.1 _ c.requires.due.1)).1;
-}
+returns g c =
+    let i = c.loop-packet.invariant in record {
+      ample = λ w. i.ample w;
+      counted = λ xs due w f. ap (λ t. count_of t f) c.replace-tally.ensures.value ∙ dealer_done _ c.args.dealer.now.count c.loop-packet._packet _ _ _ _ _ _ _ c.loop-packet-test.false i.count (i.owes _ (dealer_begins _ _ xs _ _ _ _ _ due)) w f;
+      versions_given = (dealer_gave _ c.args.dealer.now.count c.loop-packet._packet _ _ _ _ _ _ _ c.loop-packet-test.false i.count (i.owes _ (dealer_begins _ _ _ _ _ _ _ _ c.requires.due.1))).0;
+      bases_given = (dealer_gave _ c.args.dealer.now.count c.loop-packet._packet _ _ _ _ _ _ _ c.loop-packet-test.false i.count (i.owes _ (dealer_begins _ _ _ _ _ _ _ _ c.requires.due.1))).1;
+    }

@@ -22,6 +22,8 @@ pub returns : goal.returns
 returns g c = record {
   due = λ n end due. branch_goes_on g.F.BranchWork.kit g.F.BranchWork.may _ _ _ _ _ _ _ _ _ _ _ _ due c.accept-message.ensures.after c.give_next.ensures
       (λ w. moved_by g.F.BranchWork.kit c.args.short c.args.self.now.work _ _ (plain c.accept-message.result) {reply = plain c.answer-reply.result} c.accept-message.ensures.fits (c.answer-reply.ensures (sym c.is_short-short.ensures ∙ w)));
+  ample = λ w. (c.answer-reply.ensures (sym c.is_short-short.ensures ∙ w)).0;
+  first = refl;
   step = refl;
   count = refl;
 }

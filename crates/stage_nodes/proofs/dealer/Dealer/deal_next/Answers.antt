@@ -37,9 +37,15 @@ pub give_next-requires-in-Word-clause-fits : goal.give_next-requires-in-Word-cla
 give_next-requires-in-Word-clause-fits g c = rw c.message_without.ensures (words_fit _ _ _ _ (of_merged c.next-packet.result) c.args.short _ _ c.in-Word.position (dealer_turn _ _ _ _ c.requires.ready) c.next-packet.ensures.next c.in-Word.ensures).1
 
 pub returns-after-not-found-clause-at : goal.returns-after-not-found-clause-at
-returns-after-not-found-clause-at g c = λ n xs at. dealer_goes_on _ _ _ _ _ _ _ _ _ _ _ _ _ (of_merged c.next-packet.result) at c.next-packet.ensures.next c.next-packet.ensures.left c.give_each-found.ensures.after c.give_next.ensures
+returns-after-not-found-clause-at g c = λ n total at. dealer_goes_on _ _ _ _ _ _ _ _ _ _ _ _ _ (of_merged c.next-packet.result) at c.next-packet.ensures.next c.next-packet.ensures.left c.give_each-found.ensures.after c.give_next.ensures
     (λ w. split_counted _ _ _ _ _ _ _ c.in-Row.ensures.0 c.in-Row.ensures.1)
 
 pub returns-in-Word-clause-at : goal.returns-in-Word-clause-at
-returns-in-Word-clause-at g c = λ n xs at. dealer_goes_on _ _ _ _ _ _ _ _ _ _ _ _ _ (of_merged c.next-packet.result) at c.next-packet.ensures.next c.next-packet.ensures.left c.give_word.ensures.after c.give_next-in-Word.ensures
+returns-in-Word-clause-at g c = λ n total at. dealer_goes_on _ _ _ _ _ _ _ _ _ _ _ _ _ (of_merged c.next-packet.result) at c.next-packet.ensures.next c.next-packet.ensures.left c.give_word.ensures.after c.give_next-in-Word.ensures
     (word_counted _ (of_merged c.next-packet.result) c.args.short c.is_none.result _ _ c.in-Word.position c.in-Word.ensures c.is_none.ensures)
+
+pub returns-after-not-found-clause-ample : goal.returns-after-not-found-clause-ample
+returns-after-not-found-clause-ample g c _ = c.in-Row.ensures.0
+
+pub returns-in-Word-clause-ample : goal.returns-in-Word-clause-ample
+returns-in-Word-clause-ample g c w = (word_counted _ (of_merged c.next-packet.result) c.args.short c.is_none.result _ _ c.in-Word.position c.in-Word.ensures c.is_none.ensures w).ample
