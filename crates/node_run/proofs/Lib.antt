@@ -3,3 +3,6 @@ pub mod Wiring
 pub mod Replicating
 pub mod Meets
 pub mod Running
+mod Turning
+mod Crewing
+mod Sorting

@@ -85,9 +85,9 @@ inlets_some k may f m i c count versions inlets ends h = (omega (arith, ap lengt
 
 pub replica_ready : {F : Type 0} (k : Kit F) (may : F → ℕ → PlainVersion → Type 0) (m i c count : ℕ) (versions : List (PlainMessage PlainVersion)) (inlets inlets' ends ends' : List (List (PlainMessage PlainVersion))) (end : List (PlainMessage PlainVersion)) (b : Branch F)
     → ReplicasFit k may b.work m i (suc c) count versions inlets ends → 0 < m → m ≤ 16 → i < m → count < 65537
-    → inlets ≡ b.inlet ∷ inlets' → ends ≡ end ∷ ends' → b.outlets ≡ end ∷ [] → b.step ≡ m → b.first ≡ i → b.count ≡ share_len m i count → b.count ≤ count
+    → inlets ≡ b.inlet ∷ inlets' → ends ≡ end ∷ ends' → b.outlets ≡ end ∷ [] → b.step ≡ m → b.first ≡ i → b.count ≡ share_len m i count → b.count ≤ count → b.short ≡ false
     → branch_ready k may b
-replica_ready k may m i c count versions inlets inlets' ends ends' end b h some few lt small takes gives out s p n le =
+replica_ready k may m i c count versions inlets inlets' ends ends' end b h some few lt small takes gives out s p n le w =
     let inlet : b.inlet ≡ share m i versions = (inlet_is k may b.work m i c count versions inlets inlets' ends b.inlet h takes).0 in
     let own : end ≡ share m i (ran k b.work versions) = (end_is k may b.work m i c count versions inlets ends ends' end h gives).0 in
     let zero : 0 + i ≡ i = omega arith in
@@ -101,9 +101,11 @@ replica_ready k may m i c count versions inlets inlets' ends ends' end b h some 
       gives = out ∙ ap (λ y. y ∷ []) (own ∙ sym (ran_share k b.work h.nothing m i versions)) ∙ sym (one_share (ran k b.work (share m i versions))) ∙ ap (λ y. shares 1 (ran k b.work y)) (sym inlet);
       same = λ _. refl;
       ends = refl;
-    } in
-    subst (λ y. BranchDue k may b.step y b.count (left k b.work b.inlet) false b.work b.inlet b.outlets) (sym p)
-    (subst (λ y. BranchDue k may y i b.count (left k b.work b.inlet) false b.work b.inlet b.outlets) (sym s) due)
+    } in (
+      w,
+      subst (λ y. BranchDue k may b.step y b.count (left k b.work b.inlet) false b.work b.inlet b.outlets) (sym p)
+          (subst (λ y. BranchDue k may y i b.count (left k b.work b.inlet) false b.work b.inlet b.outlets) (sym s) due),
+    )
 
 pub replicas_on : {F : Type 0} (k : Kit F) (may : F → ℕ → PlainVersion → Type 0) (f : F) (m i c count : ℕ) (versions : List (PlainMessage PlainVersion)) (inlets inlets' ends ends' : List (List (PlainMessage PlainVersion))) (inlet end : List (PlainMessage PlainVersion))
     → ReplicasFit k may f m i (suc c) count versions inlets ends → inlets ≡ inlet ∷ inlets' → ends ≡ end ∷ ends' → ReplicasFit k may f m (i + 1) c count versions inlets' ends'

@@ -1,5 +1,5 @@
 -- A run, stage by stage, node by node and packet by packet.
-use Rattle.std.proofs.Common.{◌≡◌, ◌≢◌, ◌<◌, ◌≤◌, ◌+◌, ◌-◌, ◌∙◌, ℕ, suc, List, [], ◌∷◌, ◌++◌, length, map, refl, arith, ap, sym, subst, Bool, true, false, All, inl, inr, append_assoc, length-append, Option, Some, None, Result, Ok, Err, IfOk}
+use Rattle.std.proofs.Common.{◌≡◌, ◌≢◌, ◌<◌, ◌≤◌, ◌+◌, ◌-◌, ◌∙◌, ℕ, suc, List, [], ◌∷◌, ◌++◌, length, map, refl, arith, ap, sym, subst, Bool, true, false, All, inl, inr, append_assoc, length-append, Result, Ok, Err, IfOk}
 use Rattle.std.specs.Prelude.{OnOk}
 use Rattle.std.proofs.lemmas.List.{append-nil, map-append}
 use Rattle.std.proofs.lemmas.List.Elements.{All-nil, All-push}
@@ -18,15 +18,15 @@ use Rattle.stage_nodes.specs.Flows.{MayPass, MayPassAll}
 use Rattle.stage_nodes.specs.Dues.{ComesFrom, DealerDue}
 use Rattle.stage_nodes.specs.Turns.{HasMore}
 use Rattle.stage_nodes.specs.declared.dealer.Dealer.{Dealer}
-use Rattle.node_run.specs.declared.node.Done.{Done}
 use Rattle.node_run.specs.declared.node.Node.{Node}
 use Rattle.node_run.specs.declared.node.Node.TheVariants as node
 use Rattle.node_run.specs.declared.first.First.{First}
 use Rattle.node_run.specs.declared.wire.WiredStage.{WiredStage}
 use Rattle.node_run.specs.Firsts.{IsDue, IsFirst}
-use Rattle.node_run.specs.Nodes.{AreNodes, Keeps, added, in_turn, copies_by, copies_by_all, gather, no_copies}
+use Rattle.node_run.specs.Nodes.{AreNodes, in_turn, copies_by_all, gather, is_ready, no_copies}
 use Rattle.node_run.specs.Runs.{AreLaid, AreStarted, CanRun, Collects, HasLed, HasRun, IsLaid, fates_behind, flat, is_found}
 use Rattle.node_run.specs.Wired.{IsWired}
+use Rattle.node_run.proofs.Crewing.{all_in_crews}
 use Rattle.node_run.proofs.Shares.{came_all}
 use Rattle.node_run.proofs.Wiring.{nodes_are, passed_length, stage_pushed}
 
@@ -231,25 +231,32 @@ first_passes k may all todo s xs pass t =
 -- the dealer of the first stage may deal
 pub first_due : {F S : Type 0} (k : Kit F) (may : F → ℕ → PlainVersion → Type 0) (comes : S → List (PlainMessage PlainApart) → Type 0) (m count : ℕ) (s : PlainStage F) (xs : List (PlainMessage PlainApart)) (source : S) (w : WiredStage F S)
     → IsWired k may comes m count s xs source w → IsDue comes (dealer_copies s.parts.touches xs) w.dealer
-first_due k may comes m count s xs source w i = record { coming = xs; due = i.due; makes = λ f. ap (λ y. dealer_copies y xs f) i.touches }
+first_due k may comes m count s xs source w i = record { coming = xs; due = i.due; none = i.none; makes = λ f. ap (λ y. dealer_copies y xs f) i.touches }
 
-pub can_run : {F S H : Type 0} (k : Kit F) (may : F → ℕ → PlainVersion → Type 0) (comes : S → List (PlainMessage PlainApart) → Type 0) (count room : ℕ) (packets : List (PlainMessage PlainApart)) (functions : List F) (made copies : Field → ℕ) (first : First S) (behind : List (List (PlainMessage PlainApart))) (laid : List (Node F)) (started : List H)
-    → IsFirst comes made first → IsLaid k may count packets functions copies behind laid → started ≡ [] → length laid ≤ room → CanRun k may comes made first laid started room count behind packets
-can_run k may comes count room packets functions made copies first behind laid started d h e le = record { deals = d; ready = h.nodes.ready; empty = e; fits = le; long = h.long; takes = h.takes }
+pub can_run : {F S H : Type 0} (k : Kit F) (may : F → ℕ → PlainVersion → Type 0) (comes : S → List (PlainMessage PlainApart) → Type 0) (count room : ℕ) (packets : List (PlainMessage PlainApart)) (functions : List F) (made copies : Field → ℕ) (first : First S) (behind : List (List (PlainMessage PlainApart))) (laid : List (Node F)) (crews : List (List (Node F))) (started : List H)
+    → IsFirst comes made first → IsLaid k may count packets functions copies behind laid → flat crews ≡ laid → started ≡ [] → length crews ≤ room → CanRun k may comes made first crews started room count behind packets
+can_run k may comes count room packets functions made copies first behind laid crews started d h c e le = record {
+  deals = d;
+  ready = all_in_crews (is_ready k may) crews (subst (All (is_ready k may)) (sym c) h.nodes.ready);
+  empty = e;
+  fits = le;
+  long = h.long;
+  takes = h.takes;
+}
 
 -- what a run of the laid nodes gave is what the stages make of the packets
 copies_of_all : {F : Type 0} (k : Kit F) (all todo : List (PlainStage F)) (s : PlainStage F) (xs : List (PlainMessage PlainApart)) (f : Field) → all ≡ s ∷ todo → dealer_copies s.parts.touches xs f + copies_along k todo (passed k s xs) f ≡ copies_along k all xs f
 unfolding copies_along
 copies_of_all k all todo s xs f t = ap (λ y. copies_along k y xs f) (sym t)
 
-pub led_by : {F : Type 0} (k : Kit F) (may : F → ℕ → PlainVersion → Type 0) (count : ℕ) (all todo : List (PlainStage F)) (s : PlainStage F) (xs : List (PlainMessage PlainApart)) (behind : List (List (PlainMessage PlainApart))) (laid : List (Node F)) (functions : List F) (fates : List Fate) (tally : List ℕ)
-    → all ≡ s ∷ todo → IsLaid k may count (through k all xs) (flat (ends_of k all xs)) (λ f. copies_along k todo (passed k s xs) f) behind laid
-    → HasRun k (dealer_copies s.parts.touches xs) laid (through k all xs) functions fates tally → HasLed k all xs functions fates tally
-led_by k may count all todo s xs behind laid functions fates tally t h r = record {
-  gives = r.gives ∙ h.nodes.gives;
+pub led_by : {F : Type 0} (k : Kit F) (may : F → ℕ → PlainVersion → Type 0) (count : ℕ) (all todo : List (PlainStage F)) (s : PlainStage F) (xs : List (PlainMessage PlainApart)) (behind : List (List (PlainMessage PlainApart))) (laid ran : List (Node F)) (functions : List F) (fates : List Fate) (tally : List ℕ)
+    → all ≡ s ∷ todo → ran ≡ laid → IsLaid k may count (through k all xs) (flat (ends_of k all xs)) (λ f. copies_along k todo (passed k s xs) f) behind laid
+    → HasRun k (dealer_copies s.parts.touches xs) ran (through k all xs) functions fates tally → HasLed k all xs functions fates tally
+led_by k may count all todo s xs behind laid ran functions fates tally t e h r = record {
+  gives = r.gives ∙ ap (gather k) e ∙ h.nodes.gives;
   told = r.told;
   found = r.found;
-  counted = λ f. r.counted f ∙ ap (raised 0) (ap (λ y. dealer_copies s.parts.touches xs f + y) (h.nodes.makes f) ∙ copies_of_all k all todo s xs f t);
+  counted = λ f. r.counted f ∙ ap (raised 0) (ap (λ y. dealer_copies s.parts.touches xs f + y) (ap (copies_by_all f) e ∙ h.nodes.makes f) ∙ copies_of_all k all todo s xs f t);
 }
 
 -- no stage
@@ -270,62 +277,24 @@ none_copies k all xs f t = ap (λ y. copies_along k y xs f) t
 all_tail : {A : Type 0} (R : A → Type 0) (x : A) (xs : List A) → All R (x ∷ xs) → All R xs
 all_tail R x xs h k d lt = h (suc k) d (omega arith)
 
-pub started_none : {N S : Type 0} (node_of : S → N) (ready : N → Type 0) (room : ℕ) (all todo : List N) (started : List S) → todo ≡ all → started ≡ [] → All ready all → length all ≤ room → AreStarted node_of ready room all todo started
-started_none node_of ready room all todo started t s r le = record {
-  rest = ap (λ y. map node_of y ++ todo) s ∙ t;
+pub started_none : {N S : Type 0} (crew_of : S → N) (ready : N → Type 0) (room : ℕ) (all todo : List N) (started : List S) → todo ≡ all → started ≡ [] → All ready all → length all ≤ room → AreStarted crew_of ready room all todo started
+started_none crew_of ready room all todo started t s r le = record {
+  rest = ap (λ y. map crew_of y ++ todo) s ∙ t;
   ready_rest = subst (All ready) (sym t) r;
   fits = omega (arith, ap length t, ap length s, le);
 }
 
-pub started_more : {N S : Type 0} (node_of : S → N) (ready : N → Type 0) (room room' : ℕ) (all was todo : List N) (node : N) (one : S) (started new : List S)
-    → AreStarted node_of ready room all was started → was ≡ node ∷ todo → node_of one ≡ node → new ≡ started ++ one ∷ [] → room' ≡ room → AreStarted node_of ready room' all todo new
-started_more node_of ready room room' all was todo node one started new h t o e r = record {
-  rest = ap (λ y. map node_of y ++ todo) e ∙ ap (λ y. y ++ todo) (map-append node_of started (one ∷ [])) ∙ append_assoc (map node_of started) (node_of one ∷ []) todo
-      ∙ ap (λ y. map node_of started ++ (y ∷ todo)) o ∙ ap (λ y. map node_of started ++ y) (sym t) ∙ h.rest;
+pub started_more : {N S : Type 0} (crew_of : S → N) (ready : N → Type 0) (room room' : ℕ) (all was todo : List N) (node : N) (one : S) (started new : List S)
+    → AreStarted crew_of ready room all was started → was ≡ node ∷ todo → crew_of one ≡ node → new ≡ started ++ one ∷ [] → room' ≡ room → AreStarted crew_of ready room' all todo new
+started_more crew_of ready room room' all was todo node one started new h t o e r = record {
+  rest = ap (λ y. map crew_of y ++ todo) e ∙ ap (λ y. y ++ todo) (map-append crew_of started (one ∷ [])) ∙ append_assoc (map crew_of started) (crew_of one ∷ []) todo
+      ∙ ap (λ y. map crew_of started ++ (y ∷ todo)) o ∙ ap (λ y. map crew_of started ++ y) (sym t) ∙ h.rest;
   ready_rest = all_tail ready node todo (subst (All ready) t h.ready_rest);
   fits = omega (arith, h.fits, ap length t, ap length e, length-append started (one ∷ []), r);
 }
 
-pub started_all : {N S : Type 0} (node_of : S → N) (ready : N → Type 0) (room : ℕ) (all todo : List N) (started : List S) → AreStarted node_of ready room all todo started → todo ≡ [] → map node_of started ≡ all
-started_all node_of ready room all todo started h t = sym (append-nil (map node_of started)) ∙ ap (λ y. map node_of started ++ y) (sym t) ∙ h.rest
-
-added_before : {F : Type 0} (f : Option F) (fs : List F) → added f [] ++ fs ≡ added f fs
-added_before None fs = refl
-added_before (Some f) fs = refl
-
-pub gathered_more : {F S : Type 0} (k : Kit F) (node_of : S → Node F) (was todo : List S) (one : S) (done : Done F) (functions new all : List F)
-    → was ≡ one ∷ todo → Keeps k (node_of one) done → done.short ≡ false → new ≡ functions ++ added done.function []
-    → functions ++ gather k (map node_of was) ≡ all → new ++ gather k (map node_of todo) ≡ all
-unfolding gather
-gathered_more k node_of was todo one done functions new all t keeps short e h =
-    let rest = gather k (map node_of todo) in
-    ap (λ y. y ++ rest) e ∙ append_assoc functions (added done.function []) rest ∙ ap (λ y. functions ++ y) (added_before done.function rest)
-    ∙ ap (λ y. functions ++ added y rest) (keeps short).functions ∙ ap (λ y. functions ++ gather k (map node_of y)) (sym t) ∙ h
-
-pub gathered_all : {F S : Type 0} (k : Kit F) (node_of : S → Node F) (todo : List S) (functions all : List F) → todo ≡ [] → functions ++ gather k (map node_of todo) ≡ all → functions ≡ all
-unfolding gather
-gathered_all k node_of todo functions all t h = sym (append-nil functions) ∙ ap (λ y. functions ++ gather k (map node_of y)) (sym t) ∙ h
-
-raised_sum : (t a b : ℕ) → raised (raised t (raised 0 a)) b ≡ raised t (a + b)
-raised_sum t a b = omega arith
-
-raised_none : (t : ℕ) → raised t 0 ≡ t
-raised_none t = omega arith
-
-pub counted_more : {F S : Type 0} (k : Kit F) (node_of : S → Node F) (was todo : List S) (one : S) (done : Done F) (tally new : List ℕ) (f : Field) (all : ℕ)
-    → was ≡ one ∷ todo → Keeps k (node_of one) done → done.short ≡ false → count_of new f ≡ raised (count_of tally f) (count_of done.tally f)
-    → raised (count_of tally f) (copies_by_all f (map node_of was)) ≡ all → raised (count_of new f) (copies_by_all f (map node_of todo)) ≡ all
-unfolding copies_by_all
-counted_more k node_of was todo one done tally new f all t keeps short e h =
-    let rest = copies_by_all f (map node_of todo) in
-    ap (λ y. raised y rest) (e ∙ ap (λ y. raised (count_of tally f) y) ((keeps short).copies f))
-    ∙ raised_sum (count_of tally f) (copies_by f (node_of one)) rest
-    ∙ ap (λ y. raised (count_of tally f) (copies_by_all f (map node_of y))) (sym t)
-    ∙ h
-
-pub counted_all : {F S : Type 0} (node_of : S → Node F) (todo : List S) (tally : List ℕ) (f : Field) (all : ℕ) → todo ≡ [] → raised (count_of tally f) (copies_by_all f (map node_of todo)) ≡ all → count_of tally f ≡ all
-unfolding copies_by_all
-counted_all node_of todo tally f all t h = sym (raised_none (count_of tally f)) ∙ ap (λ y. raised (count_of tally f) (copies_by_all f (map node_of y))) (sym t) ∙ h
+pub started_all : {N S : Type 0} (crew_of : S → N) (ready : N → Type 0) (room : ℕ) (all todo : List N) (started : List S) → AreStarted crew_of ready room all todo started → todo ≡ [] → map crew_of started ≡ all
+started_all crew_of ready room all todo started h t = sym (append-nil (map crew_of started)) ∙ ap (λ y. map crew_of started ++ y) (sym t) ∙ h.rest
 
 -- with those of the first dealer
 raised_both : (a b t m : ℕ) → m ≡ raised 0 a → t ≡ raised m b → t ≡ raised 0 (a + b)
@@ -338,6 +307,6 @@ counted_with nodes given tally made short copies f dealt found same e =
     raised_both (copies f) (copies_by_all f nodes) (count_of tally f) (count_of made f) (dealt found f) (e ∙ ap (λ y. raised (count_of made f) (copies_by_all f y)) same)
 
 pub dealt_first : {S : Type 0} (comes : S → List (PlainMessage PlainApart) → Type 0) (copies : Field → ℕ) (d : Dealer S) (tally : List ℕ) (short : Bool) → IsDue comes copies d
-    → ((xs : List (PlainMessage PlainApart)) → DealerDue comes d.parts d.count xs d.source d.versions d.bases → short ≡ false → (f : Field) → count_of tally f ≡ raised 0 (dealer_copies d.parts.touches xs f))
+    → ((xs : List (PlainMessage PlainApart)) → DealerDue comes d.parts d.count xs d.source d.versions d.bases → short ≡ false → (f : Field) → count_of tally f ≡ raised (count_of d.tally f) (dealer_copies d.parts.touches xs f))
     → short ≡ false → (f : Field) → count_of tally f ≡ raised 0 (copies f)
-dealt_first comes copies d tally short i ran found f = ran i.coming i.due found f ∙ ap (raised 0) (i.makes f)
+dealt_first comes copies d tally short i ran found f = ran i.coming i.due found f ∙ ap (λ y. raised y (dealer_copies d.parts.touches i.coming f)) (i.none f) ∙ ap (raised 0) (i.makes f)

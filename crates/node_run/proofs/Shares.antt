@@ -1,5 +1,7 @@
 -- The shares of a stream, message by message.
-use Rattle.std.proofs.Common.{◌≡◌, ◌<◌, ◌≤◌, ◌+◌, ◌-◌, ◌∙◌, ℕ, zero, suc, pred, List, [], ◌∷◌, ◌++◌, length, map, refl, arith, ap, sym}
+use Rattle.std.proofs.Common.{◌≡◌, ◌<◌, ◌≤◌, ◌+◌, ◌-◌, ◌/◌, ◌∙◌, ℕ, zero, suc, pred, List, [], ◌∷◌, ◌++◌, length, map, refl, arith, ap, sym, inl, inr}
+use Rattle.std.specs.Prelude.{◌⊎◌}
+use Rattle.std.proofs.Math.Nat.{div-eq_of_lt, div-eq-sub-div}
 use Rattle.packet_version.specs.Splitting.{PlainApart}
 use Rattle.message_links.specs.Messages.{PlainMessage, first, front, rest, turned}
 use Rattle.message_links.specs.Turns.{share, share_len, shares_from, shares, columns_from}
@@ -102,26 +104,30 @@ fan_more m i xs x ls more e is add =
 
 -- counting
 
-pub turn_now : (m : ℕ) → 0 < m → (n : ℕ) → share_len m 0 (suc n) ≡ 1 + share_len m (m - 1) n
+pub none_shared : (m i n : ℕ) → n ≤ i → share_len m i n ≡ 0
 unfolding share_len
-turn_now m lt n =
-    let e : pred m ≡ m - 1 = omega arith in
-    let f : suc (share_len m (m - 1) n) ≡ 1 + share_len m (m - 1) n = omega arith in
-    ap (λ i. suc (share_len m i n)) e ∙ f
+none_shared m i zero le = refl
+none_shared m zero (suc n) le = absurd (omega arith)
+none_shared m (suc i) (suc n) le = none_shared m i n (omega arith)
 
-pub turn_later : (m w : ℕ) → 0 < w → (n : ℕ) → share_len m w (suc n) ≡ 0 + share_len m (w - 1) n
+at_first : (m n : ℕ) → 0 < m → (pred m < n → share_len m (pred m) n ≡ (n - pred m - 1) / m + 1) → (n ≤ pred m) ⊎ (pred m < n) → suc (share_len m (pred m) n) ≡ n / m + 1
+at_first m n lt later (inl le) =
+    let z : n / m ≡ 0 = div-eq_of_lt (omega (arith, lt, le)) in
+    ap suc (none_shared m (pred m) n le) ∙ omega (arith, z)
+at_first m n lt later (inr less) =
+    let d : n / m ≡ (n - m) / m + 1 = div-eq-sub-div lt (omega (arith, lt, less)) in
+    let a : n - pred m - 1 ≡ n - m = omega (arith, lt) in
+    ap suc (later less ∙ ap (λ y. y / m + 1) a) ∙ omega (arith, d)
+
+most_or_more : (a b : ℕ) → (a ≤ b) ⊎ (b < a)
+most_or_more a b = grind arith
+
+pub shared_by : (m i n : ℕ) → 0 < m → i < n → share_len m i n ≡ (n - i - 1) / m + 1
 unfolding share_len
-turn_later m zero lt n = absurd (omega arith)
-turn_later m (suc w) lt n =
-    let e : w ≡ suc w - 1 = omega arith in
-    let f : share_len m (suc w - 1) n ≡ 0 + share_len m (suc w - 1) n = omega arith in
-    ap (λ i. share_len m i n) e ∙ f
-
-none_counted : (m i : ℕ) → share_len m i 0 ≡ 0
-unfolding share_len
-none_counted m i = refl
-
-pub all_counted : (m wait i count packet many : ℕ) → many + share_len m wait (count - packet) ≡ share_len m i count → count ≤ packet → many ≡ share_len m i count
-all_counted m wait i count packet many e le =
-    let z : count - packet ≡ 0 = omega arith in
-    omega (arith, e, ap (share_len m wait) z, none_counted m wait)
+shared_by m i zero lt less = absurd (omega (arith, less))
+shared_by m zero (suc n) lt less =
+    let e : n ≡ suc n - 0 - 1 = omega arith in
+    at_first m n lt (shared_by m (pred m) n lt) (most_or_more n (pred m)) ∙ ap (λ y. y / m + 1) e
+shared_by m (suc i) (suc n) lt less =
+    let e : n - i - 1 ≡ suc n - suc i - 1 = omega arith in
+    shared_by m i n lt (omega (arith, less)) ∙ ap (λ y. y / m + 1) e

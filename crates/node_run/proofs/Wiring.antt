@@ -7,6 +7,7 @@ use Rattle.action_profile.specs.Modes.{modes_of}
 use Rattle.action_profile.specs.declared.parts.StageParts.{StageParts}
 use Rattle.action_profile.specs.declared.parts.Touch.{Touch}
 use Rattle.packet_version.specs.Splitting.{PlainApart}
+use Rattle.packet_version.specs.Tallies.{count_of}
 use Rattle.packet_version.specs.Versions.{PlainVersion}
 use Rattle.message_links.specs.Messages.{PlainMessage, Owing, first, front, rest}
 use Rattle.message_links.specs.Turns.{share, share_len, shares_from, shares, columns, columns_from}
@@ -19,7 +20,7 @@ use Rattle.node_run.specs.declared.branches.Branches.{Branches}
 use Rattle.node_run.specs.declared.node.Node.{Node}
 use Rattle.node_run.specs.declared.node.Node.TheVariants as node
 use Rattle.node_run.specs.declared.wire.WiredStage.{WiredStage}
-use Rattle.node_run.specs.Nodes.{AreNodes, added, in_turn, copies_by, copies_by_all, gather, is_ready, left_by, no_copies}
+use Rattle.node_run.specs.Nodes.{AreNodes, added, in_turn, copies_by, copies_by_all, gather, is_ready, left_by, merger_ready, no_copies}
 use Rattle.node_run.specs.Wired.{AreWired, AreWiring, IsFanned, IsWired, MergersFit}
 use Rattle.node_run.proofs.Shares.{share_long, one_share, columns_front, columns_rest}
 
@@ -75,7 +76,7 @@ came_even k (t ∷ touches) (f ∷ fs) xs count e =
 
 -- gathering
 
-gather_append : {F : Type 0} (k : Kit F) (ns more : List (Node F)) → gather k (ns ++ more) ≡ gather k ns ++ gather k more
+pub gather_append : {F : Type 0} (k : Kit F) (ns more : List (Node F)) → gather k (ns ++ more) ≡ gather k ns ++ gather k more
 unfolding gather
 gather_append k [] more = refl
 gather_append k (n ∷ ns) more = ap (added (left_by k n)) (gather_append k ns more) ∙ add n
@@ -86,7 +87,7 @@ gather_append k (n ∷ ns) more = ap (added (left_by k n)) (gather_append k ns m
     add (node.Replica b) = refl
     add (node.Merger m) = refl
 
-copies_append : {F : Type 0} (f : Field) (ns more : List (Node F)) → copies_by_all f (ns ++ more) ≡ copies_by_all f ns + copies_by_all f more
+pub copies_append : {F : Type 0} (f : Field) (ns more : List (Node F)) → copies_by_all f (ns ++ more) ≡ copies_by_all f ns + copies_by_all f more
 unfolding copies_by_all
 copies_append f [] more = omega arith
 copies_append f (n ∷ ns) more = omega (arith, copies_append f ns more)
@@ -154,16 +155,18 @@ branch_due k may m count f xs inlet outlets lt few many take i o = record {
 
 pub branch_added : {F : Type 0} (k : Kit F) (may : F → ℕ → PlainVersion → Type 0) (m count : ℕ) (t : Touch) (xs : List (PlainMessage PlainApart)) (b : Branch F) (inlets inlets' : List (List (PlainMessage PlainVersion))) (old new : List (Node F)) (fs : List F) (c : Field → ℕ)
     → 0 < m → count < 65537 → length xs ≡ count → MayTakeAll k may b.work 0 (map (parted t) xs) → inlets ≡ shares 1 (map (parted t) xs) → inlets ≡ b.inlet ∷ inlets'
-    → b.outlets ≡ shares m (ran k b.work (map (parted t) xs)) → b.first ≡ 0 → b.step ≡ 1 → b.count ≡ count
+    → b.outlets ≡ shares m (ran k b.work (map (parted t) xs)) → b.first ≡ 0 → b.step ≡ 1 → b.count ≡ count → b.short ≡ false
     → new ≡ old ++ node.Branch b ∷ [] → AreNodes k may old fs c → AreNodes k may new (fs ++ left k b.work (map (parted t) xs) ∷ []) c
-branch_added k may m count t xs b inlets inlets' old new fs c lt few many take is first o p s e n a =
+branch_added k may m count t xs b inlets inlets' old new fs c lt few many take is first o p s e w n a =
     let i : b.inlet ≡ map (parted t) xs = (tail_is (sym first ∙ is ∙ one_share (map (parted t) xs))).0 in
     let due : BranchDue k may 1 0 count (left k b.work b.inlet) false b.work b.inlet b.outlets =
     branch_due k may m count b.work (map (parted t) xs) b.inlet b.outlets lt few (length-map xs (parted t) ∙ many) take i o in
-    let r : is_ready k may (node.Branch b) =
-    subst (λ y. BranchDue k may b.step b.first y (left k b.work b.inlet) false b.work b.inlet b.outlets) (sym e)
-    (subst (λ y. BranchDue k may b.step y count (left k b.work b.inlet) false b.work b.inlet b.outlets) (sym p)
-    (subst (λ y. BranchDue k may y 0 count (left k b.work b.inlet) false b.work b.inlet b.outlets) (sym s) due)) in
+    let r : is_ready k may (node.Branch b) = (
+      w,
+      subst (λ y. BranchDue k may b.step b.first y (left k b.work b.inlet) false b.work b.inlet b.outlets) (sym e)
+          (subst (λ y. BranchDue k may b.step y count (left k b.work b.inlet) false b.work b.inlet b.outlets) (sym p)
+          (subst (λ y. BranchDue k may y 0 count (left k b.work b.inlet) false b.work b.inlet b.outlets) (sym s) due)),
+    ) in
     nodes_are k may new new _ _ _ _ (nodes_push k may old new (node.Branch b) fs c n r a) refl (ap (λ y. fs ++ left k b.work y ∷ []) (sym i)) (λ f. omega arith)
 
 pub fanned_one : (m : ℕ) (xs : List (PlainMessage PlainVersion)) (fan : List (List (PlainMessage PlainVersion))) (old new : List (List (List (PlainMessage PlainVersion))))
@@ -374,7 +377,7 @@ merger_next m i count bases inlets outlets lt h =
     next_of m i (m - (i + 1)) count bases inlets outlets (subst (λ c. MergersFit m i c count bases inlets outlets) e h)
 
 pub merger_added : {F : Type 0} (k : Kit F) (may : F → ℕ → PlainVersion → Type 0) (m : Merger) (old new : List (Node F)) (fs : List F) (c : Field → ℕ)
-    → MergerDue m.count m.base m.inlets m.outlet → new ≡ old ++ node.Merger m ∷ [] → AreNodes k may old fs c → AreNodes k may new fs c
+    → merger_ready m → new ≡ old ++ node.Merger m ∷ [] → AreNodes k may old fs c → AreNodes k may new fs c
 merger_added k may m old new fs c due n a =
     nodes_are k may new new _ _ _ _ (nodes_push k may old new (node.Merger m) fs c n due a) refl (sym (append-nil fs)) (λ f. omega arith)
 
@@ -399,13 +402,15 @@ mergers_fit k may m count s xs bases outlets inlets p many b o i =
 
 pub is_wired : {F S : Type 0} (k : Kit F) (may : F → ℕ → PlainVersion → Type 0) (comes : S → List (PlainMessage PlainApart) → Type 0) (m count : ℕ) (s : PlainStage F) (xs : List (PlainMessage PlainApart)) (source : S) (b : Branches F) (w : WiredStage F S)
     → MayPass k may s xs → 0 < m → length xs ≡ count → comes source xs → AreWired k may s.parts.touches s.branches xs b
-    → w.dealer.source ≡ source → w.dealer.count ≡ count → w.dealer.parts ≡ s.parts → w.dealer.versions ≡ b.versions → w.dealer.bases ≡ shares m (map (base_of s.parts.touches) xs)
+    → w.dealer.source ≡ source → w.dealer.count ≡ count → w.dealer.short ≡ false → ((f : Field) → count_of w.dealer.tally f ≡ 0) → w.dealer.parts ≡ s.parts → w.dealer.versions ≡ b.versions → w.dealer.bases ≡ shares m (map (base_of s.parts.touches) xs)
     → w.next ≡ shares m (passed k s xs)
     → ((gs : List F) (e : Field → ℕ) → AreNodes k may b.nodes.items gs e → AreNodes k may w.nodes.items gs e)
     → IsWired k may comes m count s xs source w
-is_wired {F} {S} k may comes m count s xs source b w p lt many takes h src n parts v bases next mergers = record {
+is_wired {F} {S} k may comes m count s xs source b w p lt many takes h src n ample none parts v bases next mergers = record {
   source_is = src;
   many = n;
+  ample = ample;
+  none = none;
   touches = ap (λ (p : StageParts). p.touches) parts;
   due = record {
     mergers = m;
@@ -430,7 +435,7 @@ stage_pushed {F} k may m count s source w old new fs c i e nodes =
     let xs = in_turn count source in
     let gone = stayed k s.parts.touches s.branches xs in
     let come : xs ≡ in_turn d.count d.source = λ j. in_turn (sym i.many j) (sym i.source_is j) in
-    let ready : is_ready k may (node.Dealer d) = subst (λ y. DealerDue ComesFrom d.parts d.count y d.source d.versions d.bases) come i.due in
+    let ready : is_ready k may (node.Dealer d) = (i.ample, i.none, subst (λ y. DealerDue ComesFrom d.parts d.count y d.source d.versions d.bases) come i.due) in
     let own = nodes_append k may (node.Dealer d ∷ []) w.nodes.items [] gone _ no_copies (one_node k may (node.Dealer d) ready) i.nodes in
     nodes_are k may (old ++ node.Dealer d ∷ w.nodes.items) new _ (fs ++ gone) _ (λ f. c f + dealer_copies s.parts.touches xs f) (nodes_append k may old (node.Dealer d ∷ w.nodes.items) fs gone c _ nodes own) e refl
     (λ f. let q : dealer_copies s.parts.touches xs f ≡ copies_by {F = F} f (node.Dealer d) = ap (λ y. dealer_copies y xs f) (sym i.touches) ∙ ap (λ y. dealer_copies d.parts.touches y f) come in omega (arith, q))

@@ -1,4 +1,5 @@
 pub mod Nodes
+pub mod Crews
 pub mod Firsts
 pub mod Starts
 pub mod Stages

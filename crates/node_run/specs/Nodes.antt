@@ -2,11 +2,15 @@
 use Rattle.std.specs.Prelude.{◌≡◌, ◌+◌, ℕ, zero, suc, List, [], ◌∷◌, All, Option, Some, None, false}
 use Rattle.packet_fields.specs.declared.field.Field.{Field}
 use Rattle.packet_version.specs.Tallies.{count_of, raised}
+use Rattle.packet_version.specs.Splitting.{PlainApart}
 use Rattle.packet_version.specs.Versions.{PlainVersion}
 use Rattle.message_links.specs.Messages.{PlainMessage, first, front, turned}
 use Rattle.stage_nodes.specs.Streams.{Kit, left, dealer_copies}
 use Rattle.stage_nodes.specs.Dues.{ComesFrom, DealerDue, BranchDue, MergerDue}
-use Rattle.stage_nodes.specs.declared.branch.Branch as nodes
+use Rattle.stage_nodes.specs.Turns.{BranchOwes, MergerOwes}
+use Rattle.stage_nodes.specs.declared.branch.Branch as branches
+use Rattle.stage_nodes.specs.declared.dealer.Dealer as dealers
+use Rattle.stage_nodes.specs.declared.merger.Merger as mergers
 use Rattle.node_run.specs.declared.node.Node.{Node}
 use Rattle.node_run.specs.declared.node.Node.TheVariants.{Dealer, Branch, Replica, Merger}
 use Rattle.node_run.specs.declared.node.Done.{Done}
@@ -16,18 +20,37 @@ unfoldable pub in_turn : {P : Type 0} → ℕ → List (List (PlainMessage P)) �
 in_turn zero inlets = []
 in_turn (suc n) inlets = first (front inlets) ∷ in_turn n (turned inlets)
 
--- the links of a branch fit each other
-abbrev pub branch_ready : {F : Type 0} → Kit F → (F → ℕ → PlainVersion → Type 0) → nodes.Branch F → Type 0
-branch_ready k may b = BranchDue k may b.step b.first b.count (left k b.work b.inlet) false b.work b.inlet b.outlets
+-- the links of a node fit each other, and none of its turns is over
+abbrev pub dealer_ready : dealers.Dealer (List (List (PlainMessage PlainApart))) → Type 0
+dealer_ready d = (d.short ≡ false) × ((f : Field) → count_of d.tally f ≡ 0) × DealerDue ComesFrom d.parts d.count (in_turn d.count d.source) d.source d.versions d.bases
 
--- the links of a node fit each other
+abbrev pub branch_ready : {F : Type 0} → Kit F → (F → ℕ → PlainVersion → Type 0) → branches.Branch F → Type 0
+branch_ready k may b = (b.short ≡ false) × BranchDue k may b.step b.first b.count (left k b.work b.inlet) false b.work b.inlet b.outlets
+
+abbrev pub merger_ready : mergers.Merger → Type 0
+merger_ready m = (m.short ≡ false) × (m.row.items ≡ []) × MergerDue m.count m.base m.inlets m.outlet
+
 abbrev pub is_ready : {F : Type 0} → Kit F → (F → ℕ → PlainVersion → Type 0) → Node F → Type 0
-is_ready k may (Dealer d) = DealerDue ComesFrom d.parts d.count (in_turn d.count d.source) d.source d.versions d.bases
+is_ready k may (Dealer d) = dealer_ready d
 is_ready k may (Branch b) = branch_ready k may b
 is_ready k may (Replica b) = branch_ready k may b
-is_ready k may (Merger m) = MergerDue m.count m.base m.inlets m.outlet
+is_ready k may (Merger m) = merger_ready m
 
--- the functions that a node gives back, and the copies of a field that it makes
+-- they fit, whether some of its turns are over or none
+abbrev pub is_going : {F : Type 0} → Kit F → (F → ℕ → PlainVersion → Type 0) → Node F → Type 0
+is_going k may (Dealer d) = DealerDue ComesFrom d.parts d.count (in_turn d.count d.source) d.source d.versions d.bases
+is_going {F} k may (Branch b) = (end : F) × BranchOwes k may end b
+is_going {F} k may (Replica b) = (end : F) × BranchOwes k may end b
+is_going k may (Merger m) = MergerOwes m
+
+-- a node whose turns tell what it found has had memory so far
+abbrev pub is_ample : {F : Type 0} → Node F → Type 0
+is_ample (Dealer d) = d.short ≡ false
+is_ample (Branch b) = b.short ≡ false
+is_ample (Replica b) = b.short ≡ false
+is_ample (Merger m) = Unit {0}
+
+-- the functions that a node gives back, and the copies of a field that it is still to make
 abbrev pub left_by : {F : Type 0} → Kit F → Node F → Option F
 left_by k (Dealer d) = None
 left_by k (Branch b) = Some (left k b.work b.inlet)
@@ -40,14 +63,32 @@ copies_by f (Branch b) = 0
 copies_by f (Replica b) = 0
 copies_by f (Merger m) = 0
 
+-- with those that it made so far
+abbrev pub made_by : {F : Type 0} → Field → Node F → ℕ
+made_by f (Dealer d) = raised (count_of d.tally f) (dealer_copies d.parts.touches (in_turn d.count d.source) f)
+made_by f (Branch b) = 0
+made_by f (Replica b) = 0
+made_by f (Merger m) = 0
+
 -- a node gave back what is due
 pub record GivesBack {F : Type 0} (k : Kit F) (node : Node F) (done : Done F) : Type 0 where
+  pub ample : is_ample node
   pub functions : done.function ≡ left_by k node
-  pub copies : (f : Field) → count_of done.tally f ≡ raised 0 (copies_by f node)
+  pub copies : (f : Field) → count_of done.tally f ≡ made_by f node
 
 -- and does so unless memory was short
 abbrev pub Keeps : {F : Type 0} → Kit F → Node F → Done F → Type 0
 Keeps k node done = done.short ≡ false → GivesBack k node done
+
+-- Of a node after some turns the same is due as before, if it has had memory.
+pub record OwesSame {F : Type 0} (k : Kit F) (old new : Node F) : Type 0 where
+  pub ample : is_ample old
+  pub functions : left_by k new ≡ left_by k old
+  pub copies : (f : Field) → made_by f new ≡ made_by f old
+
+pub record HasTurned {F : Type 0} (k : Kit F) (may : F → ℕ → PlainVersion → Type 0) (old new : Node F) : Type 0 where
+  pub going : is_going k may new
+  pub owes : is_ample new → OwesSame k old new
 
 abbrev pub added : {F : Type 0} → Option F → List F → List F
 added None fs = fs

@@ -59,19 +59,19 @@ pub record IsLaid {F : Type 0} (k : Kit F) (may : F → ℕ → PlainVersion →
   pub takes : ComesFrom source packets
   pub nodes : AreNodes k may laid functions copies
 
--- nodes are started, but for these
-pub record AreStarted {N S : Type 0} (node_of : S → N) (ready : N → Type 0) (room : ℕ) (all todo : List N) (started : List S) : Type 0 where
-  pub rest : map node_of started ++ todo ≡ all
+-- crews are started, but for these
+pub record AreStarted {N S : Type 0} (crew_of : S → N) (ready : N → Type 0) (room : ℕ) (all todo : List N) (started : List S) : Type 0 where
+  pub rest : map crew_of started ++ todo ≡ all
   pub ready_rest : All ready todo
   pub fits : length started + length todo ≤ room
 
--- the first dealer may deal, nodes are ready to be started, with room for as many handles, and what comes behind the last can be
+-- the first dealer may deal, crews are ready to be started, with room for as many handles, and what comes behind the last can be
 -- collected
-pub record CanRun {F S H : Type 0} (k : Kit F) (may : F → ℕ → PlainVersion → Type 0) (comes : S → List (PlainMessage PlainApart) → Type 0) (copies : Field → ℕ) (first : First S) (nodes : List (Node F)) (started : List H) (room count : ℕ) (behind : List (List (PlainMessage PlainApart))) (due : List (PlainMessage PlainApart)) : Type 0 where
+pub record CanRun {F S H : Type 0} (k : Kit F) (may : F → ℕ → PlainVersion → Type 0) (comes : S → List (PlainMessage PlainApart) → Type 0) (copies : Field → ℕ) (first : First S) (crews : List (List (Node F))) (started : List H) (room count : ℕ) (behind : List (List (PlainMessage PlainApart))) (due : List (PlainMessage PlainApart)) : Type 0 where
   pub deals : IsFirst comes copies first
-  pub ready : All (is_ready k may) nodes
+  pub ready : All (All (is_ready k may)) crews
   pub empty : started ≡ []
-  pub fits : length nodes ≤ room
+  pub fits : length crews ≤ room
   pub long : length due ≡ count
   pub takes : ComesFrom behind due
 

@@ -1,8 +1,9 @@
--- For proofs: which node was started.
+-- For proofs: which crew was started.
+use Rattle.std.specs.Prelude.{List}
 use Rattle.node_run.specs.declared.node.Node.{Node}
 use Rattle.node_run.specs.declared.start.Started.{Started}
 use Rattle.node_run.specs.declared.start.Started.TheVariants.{There, Here}
 
-abbrev pub node_of : {F : Type 0} {g : _} → Started F g → Node F
-node_of (There h) = h.promise.0.value
-node_of (Here e) = e.node.value
+abbrev pub crew_of : {F : Type 0} {g : _} → Started F g → List (Node F)
+crew_of (There h) = h.promise.0.value
+crew_of (Here e) = e.crew.value

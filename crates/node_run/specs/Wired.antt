@@ -1,8 +1,9 @@
 -- For proofs: how the nodes of a stage hang together.
-use Rattle.std.specs.Prelude.{◌≡◌, ◌<◌, ◌≤◌, ◌+◌, ◌++◌, ℕ, List, [], ◌∷◌, length, map, drop, All}
+use Rattle.std.specs.Prelude.{◌≡◌, ◌<◌, ◌≤◌, ◌+◌, ◌++◌, ℕ, false, List, [], ◌∷◌, length, map, drop, All}
 use Rattle.packet_fields.specs.declared.field.Field.{Field}
 use Rattle.action_profile.specs.declared.parts.Touch.{Touch}
 use Rattle.packet_version.specs.Splitting.{PlainApart}
+use Rattle.packet_version.specs.Tallies.{count_of}
 use Rattle.packet_version.specs.Versions.{PlainVersion}
 use Rattle.message_links.specs.Messages.{PlainMessage}
 use Rattle.message_links.specs.Turns.{share, shares, shares_from, columns, columns_from}
@@ -70,6 +71,8 @@ pub record AreWiring {F : Type 0} (k : Kit F) (may : F → ℕ → PlainVersion 
 pub record IsWired {F S : Type 0} (k : Kit F) (may : F → ℕ → PlainVersion → Type 0) (comes : S → List (PlainMessage PlainApart) → Type 0) (m count : ℕ) (s : PlainStage F) (xs : List (PlainMessage PlainApart)) (source : S) (w : WiredStage F S) : Type 0 where
   pub source_is : w.dealer.source ≡ source
   pub many : w.dealer.count ≡ count
+  pub ample : w.dealer.short ≡ false
+  pub none : (f : Field) → count_of w.dealer.tally f ≡ 0
   pub touches : w.dealer.parts.touches ≡ s.parts.touches
   pub due : DealerDue comes w.dealer.parts w.dealer.count xs w.dealer.source w.dealer.versions w.dealer.bases
   pub nodes : AreNodes k may w.nodes.items (stayed k s.parts.touches s.branches xs) no_copies

@@ -117,6 +117,7 @@ fn wire_alone<F: BranchWork + Drop, D: LinkDue<Parcel<Apart>>>(
         first: 0,
         step: 1,
         count,
+        short: false,
     }))?;
     Ok(())
 }

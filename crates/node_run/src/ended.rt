@@ -1,14 +1,14 @@
-//! What is kept of a node that the caller ran.
-ghost use Rattle.node_run.specs.Nodes.{Keeps};
+//! What is kept of a crew that the caller ran.
+ghost use Rattle.node_run.specs.Crews.{CrewKeeps};
 
-use crate::node::{Done, Node};
+use crate::crew::{Crew, CrewDone};
 use stage_nodes::BranchWork;
 use std::snapshot::Snapshot;
 
-/// What a node gave back that the caller ran.
+/// What a crew gave back that the caller ran.
 #[derive(Drop)]
 pub(crate) struct Ended<F: BranchWork> {
-    pub(crate) node: Snapshot<Node<F>>,
-    pub(crate) done: Done<F>,
-    pub(crate) ghost kept: { Keeps F.kit node.value done },
+    pub(crate) crew: Snapshot<Crew<F>>,
+    pub(crate) done: CrewDone<F>,
+    pub(crate) ghost kept: { CrewKeeps F.kit crew.value done },
 }

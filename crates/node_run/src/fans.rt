@@ -1,5 +1,5 @@
 //! The links by which a stream of packets is shared in turn.
-ghost use Rattle.std.specs.Prelude.{ℕ, suc, ◌+◌, if◌then◌else◌, ◌≡◌, ◌<◌, ◌≤◌, length, IfOk};
+ghost use Rattle.std.specs.Prelude.{◌≡◌, ◌<◌, ◌≤◌, length, IfOk};
 ghost use Rattle.message_links.specs.Turns.{share, share_len, shares};
 
 use message_links::{Inlet, Inlets, Outlet, Outlets, Parcel, edge};
@@ -51,24 +51,8 @@ pub(crate) fn share_count(count: u32, mergers: u32, merger: u32) -> u32
     ensures share { result ≡ share_len mergers merger count }
     ensures few { result ≤ count }
 {
-    let mut wait = merger;
-    let mut many = 0;
-    for _packet in 0..count {
-        let (next, own) = turn(mergers, wait);
-        wait = next;
-        many += u32::from(own);
+    if count <= merger {
+        return 0;
     }
-    many
-}
-
-/// How many packets go by until the next one of a merger's, and whether this one is.
-fn turn(mergers: u32, wait: u32) -> (u32, bool)
-    requires { 0 < mergers }
-    ensures { (n : ℕ) → share_len mergers wait (suc n) ≡ (if result.1 then 1 else 0) + share_len mergers result.0 n }
-{
-    if wait == 0 {
-        (mergers - 1, true)
-    } else {
-        (wait - 1, false)
-    }
+    (count - merger - 1) / mergers + 1
 }

@@ -5,9 +5,11 @@
 //! through its functions; and the mergers put together what comes of a packet from all branches, merger i of
 //! m the packets i, i + m, i + 2m and so on. Dealers, branches and mergers are the nodes of `stage_nodes`. The
 //! caller runs the dealer of the first stage, which asks for one packet of the burst after another, and then
-//! puts the packets that come behind the last stage together to their frames. Each other node runs on a thread
-//! of its own where one can be started; else the caller runs it to its end, once it has dealt all packets, and
-//! goes on with the next.
+//! puts the packets that come behind the last stage together to their frames. The other nodes, in the order in which
+//! packets come to them, are cut into crews, no more of them than the machine has use for ([`most_threads`]). Each crew
+//! runs on a thread of its own where one can be started; else the caller runs it to its end, once it has dealt all
+//! packets, and goes on with the next. A crew takes the packets in their order, and each through its nodes in their
+//! order.
 //!
 //! A branch whose functions keep no state has a node for each merger, its replicas: each has the versions of its
 //! merger's packets, which the dealer gives in turn, and gives what its functions make of them to that merger. Such
@@ -26,19 +28,22 @@
 //! dealer for the mergers of the stage before, and the caller for the mergers of the last stage. The first
 //! dealer waits for nobody: it has the burst itself. Whoever waits looks again and again, and pauses between two
 //! looks. Nobody waits for room, since all links, boards and tables are made before the first node starts, with
-//! room for all that is due on them (`message_links`); so a node can be run before those that take from it, and
-//! nodes are started in the order in which packets come to them.
+//! room for all that is due on them (`message_links`); so a crew can be run before those that take from it, and
+//! crews are started in the order in which packets come to them. Of all turns that are still to be taken, the one of
+//! the least packet, and among those of the first node, waits for none of the others, and is the next of its crew. So
+//! nodes of one crew never keep each other waiting for good.
 //!
 //! What is promised, over all interleavings: what comes of the packets is what the stages make of them one
 //! after another (`through` of `stage_nodes`' definitions), each branch's functions are those after all its
 //! versions (`ends_of`), and the tally has the copies that the dealers made (`copies_along`). Neither the
-//! number of mergers, nor the way in which they meet the branches, nor the number of threads shows in any of
+//! number of mergers, nor the way in which they meet the branches, nor the number of crews or threads shows in any of
 //! it. Where memory is short anywhere, the whole burst is refused, and nothing is said of the functions. All
 //! threads are joined on every way out.
 //!
 //! How it is laid out: `fans` makes the links by which a stream is shared in turn, `meeting` where the branches
 //! of a stage meet its mergers, by `over_links` or `on_board`, `branches`, `replicas`, `mergers` and `wire` the
-//! nodes of a stage, `first` runs the dealer of the first stage, `start` starts and joins a node, `collect` takes what comes
+//! nodes of a stage, with `lanes` for their order, `cut` makes crews of them, `first` runs the dealer of the first
+//! stage, `crew` a crew, `start` starts and joins one, `keeping` keeps what they give back, `collect` takes what comes
 //! behind the last stage, and `run` puts it all together.
 //!
 //! What is left out: that a call which waits ever returns, and so that a run ends.
@@ -46,9 +51,13 @@
 
 mod branches;
 mod collect;
+mod crew;
+mod cut;
 mod ended;
 mod fans;
 mod first;
+mod keeping;
+mod lanes;
 mod meeting;
 mod mergers;
 mod node;
@@ -60,6 +69,7 @@ mod stage;
 mod start;
 mod wire;
 
+pub use cut::most_threads;
 pub use meeting::MergeWay;
 pub use run::run_nodes;
 pub use stage::StageWork;

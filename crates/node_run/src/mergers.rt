@@ -1,20 +1,20 @@
 //! The mergers of a stage, with their links and their ends of where the branches meet them.
 ghost use Rattle.std.specs.Prelude.{◌<◌, ℕ, List, OnOk};
 ghost use Rattle.packet_fields.specs.declared.field.Field.{Field};
-ghost use Rattle.stage_nodes.specs.Dues.{MergerDue};
-ghost use Rattle.node_run.specs.Nodes.{AreNodes};
+ghost use Rattle.node_run.specs.Nodes.{AreNodes, merger_ready};
 ghost use Rattle.node_run.specs.Wired.{MergersFit};
 
 use crate::fans::share_count;
 use crate::meeting::take_first;
 use crate::node::Node;
-use message_links::{Inlet, Inlets, Outlet, Outlets};
+use message_links::{Inlets, Outlets};
 use packet_version::{Apart, Base};
 use stage_nodes::{BranchWork, FromBranches, Merger};
-use std::alloc::AllocError;
+use std::alloc::{AllocError, Global};
 
 /// The mergers that take these bases and what comes from the branches, of so many packets.
 pub(crate) fn wire_mergers<F: BranchWork + Drop>(
+    alloc: Global,
     bases: Inlets<Base>,
     inlets: Vec<FromBranches>,
     outlets: Outlets<Apart>,
@@ -33,28 +33,29 @@ pub(crate) fn wire_mergers<F: BranchWork + Drop>(
         let base = bases.take_first();
         let outlet = outlets.take_first();
         let from_branches = take_first(&mut inlets);
-        let own = share_count(count, mergers, merger);
-        push_merger(base, from_branches, outlet, own, nodes)?;
+        let own = Merger {
+            base,
+            inlets: from_branches,
+            outlet,
+            row: Vec::new(alloc),
+            first: merger,
+            step: mergers,
+            count: share_count(count, mergers, merger),
+            short: false,
+        };
+        push_merger(own, nodes)?;
     }
     Ok(())
 }
 
 /// One merger more.
 fn push_merger<F: BranchWork + Drop>(
-    base: Inlet<Base>,
-    inlets: FromBranches,
-    outlet: Outlet<Apart>,
-    count: u32,
+    merger: Merger,
     nodes: &mut Vec<Node<F>>,
 ) -> Result<(), AllocError>
-    requires { MergerDue count base inlets outlet }
+    requires { merger_ready merger }
     ensures { OnOk result ((fs : List F) (c : Field → ℕ) → AreNodes F.kit F.may nodes.old.items fs c → AreNodes F.kit F.may nodes.new.items fs c) }
 {
-    nodes.push(Node::Merger(Merger {
-        base,
-        inlets,
-        outlet,
-        count,
-    }))?;
+    nodes.push(Node::Merger(merger))?;
     Ok(())
 }

@@ -1,14 +1,12 @@
 //! A node of any kind.
-ghost use Rattle.node_run.specs.Nodes.{Keeps, is_ready};
+ghost use Rattle.node_run.specs.Nodes.{HasTurned, Keeps, is_going};
 
 use message_links::Inlets;
 use nfp_outside::Gate;
 use packet_version::{Apart, Tally};
 use stage_nodes::{Branch, BranchWork, Dealer, Merger, run_branch, run_dealer, run_merger};
 use std::alloc::Global;
-use std::snapshot::Snapshot;
 use std::sync::Wait;
-use std::thread::Promise;
 
 /// A dealer of a stage behind another, a branch, a replica of one that keeps no state, or a merger, with its ends
 /// of links and of boards.
@@ -29,14 +27,42 @@ pub(crate) struct Done<F> {
     pub(crate) short: bool,
 }
 
-/// Runs a node to its end.
+/// Is the packet with this number in the burst the next of a node's?
+pub(crate) fn is_next<F>(node: &Node<F>, packet: u32) -> bool {
+    match node {
+        Node::Dealer(_) => true,
+        Node::Branch(branch) => branch.first == packet,
+        Node::Replica(branch) => branch.first == packet,
+        Node::Merger(merger) => merger.first == packet,
+    }
+}
+
+/// A node takes its next turn, if it has one left.
+pub(crate) fn turn_node<F: BranchWork + Drop, R: Wait, G: Gate>(
+    rt: &R,
+    alloc: Global,
+    gate: &G,
+    node: &mut Node<F>,
+)
+    requires { is_going F.kit F.may node.old }
+    ensures { HasTurned F.kit F.may node.old node.new }
+{
+    match node {
+        Node::Dealer(dealer) => dealer.turn(rt, alloc),
+        Node::Branch(branch) => branch.turn(rt, alloc, gate),
+        Node::Replica(branch) => branch.turn(rt, alloc, gate),
+        Node::Merger(merger) => merger.turn(rt, alloc),
+    }
+}
+
+/// A node takes all the turns that it has left.
 pub(crate) fn run_node<F: BranchWork + Drop, R: Wait, G: Gate>(
     rt: &R,
     alloc: Global,
     gate: &G,
     node: Node<F>,
 ) -> Done<F>
-    requires { is_ready F.kit F.may node }
+    requires { is_going F.kit F.may node }
     ensures { Keeps F.kit node result }
 {
     match node {
@@ -73,14 +99,4 @@ pub(crate) fn run_node<F: BranchWork + Drop, R: Wait, G: Gate>(
             }
         }
     }
-}
-
-/// That a node gives back what is due, unless memory was short.
-#[derive(Drop)]
-pub(crate) struct Due<F>(pub(crate) Snapshot<Node<F>>);
-
-impl<F: BranchWork> Promise<Done<F>> for Due<F> {
-    ghost use Rattle.node_run.specs.Nodes.{Keeps};
-
-    ghost kept_by = { λ p r. Keeps F.kit p.0.value r };
 }

@@ -138,5 +138,6 @@ fn replica_at<F: BranchWork + Drop>(
         first: merger,
         step: mergers,
         count: share_count(count, mergers, merger),
+        short: false,
     })
 }

@@ -7,15 +7,18 @@ ghost use Rattle.message_links.specs.Messages.{PlainMessage};
 ghost use Rattle.stage_nodes.specs.Streams.{copies_along, ends_of, through};
 ghost use Rattle.stage_nodes.specs.Flows.{MayPassAll};
 ghost use Rattle.node_run.specs.Firsts.{IsFirst};
-ghost use Rattle.node_run.specs.Nodes.{added, copies_by_all, gather, is_ready};
+ghost use Rattle.node_run.specs.Nodes.{copies_by_all, gather, is_ready};
 ghost use Rattle.node_run.specs.Runs.{AreLaid, CanRun, HasLed, HasRun, IsLaid, fates_behind, flat, is_found};
 ghost use Rattle.node_run.specs.Stages.{plain_stage};
-ghost use Rattle.node_run.specs.Starts.{node_of};
+ghost use Rattle.node_run.specs.Starts.{crew_of};
 
 use crate::collect::collect;
+use crate::crew::Crew;
+use crate::cut::{crews_of, most_crews};
 use crate::first::{Dealt, First, deal_first};
+use crate::keeping::keep_crew;
 use crate::meeting::{MergeWay, take_first};
-use crate::node::{Done, Node};
+use crate::node::Node;
 use crate::stage::StageWork;
 use crate::start::{Started, finish, start};
 use crate::wire::{WiredStage, wire_stage};
@@ -36,10 +39,11 @@ use std::thread::{Scope, Threads};
 /// turn. What the branches give comes to the mergers in the way asked for. `D.due` are the packets that come.
 ///
 /// The caller deals the packets of the first stage, and collects the fate of each behind the last. Each other
-/// dealer, each branch and each merger is a node on a thread of its own where one can be started, else the caller
-/// runs it to its end once it has dealt. All links and boards are made before the first step, with room for every
-/// message. What comes of the packets doesn't depend on the number of mergers, on the way or on the order of
-/// steps. The one refusal is want of memory, wherever it is found; all threads are joined before it returns.
+/// dealer, each branch and each merger is a node, and they are cut into crews, no more of them than threads fit the
+/// machine. Each crew has a thread of its own where one can be started, else the caller runs it to its end once it has
+/// dealt. All links and boards are made before the first step, with room for every message. What comes of the packets
+/// doesn't depend on the number of mergers or of crews, on the way or on the order of steps. The one refusal is want of
+/// memory, wherever it is found; all threads are joined before it returns.
 pub fn run_nodes<
     F: BranchWork + Drop + Send,
     S: Supply + Drop,
@@ -117,9 +121,10 @@ fn run_stages<
         next,
     } = wired;
     let behind = wire_all(alloc, stages, next, mergers, way, count, &mut nodes)?;
-    let started = Vec::with_capacity(alloc, nodes.len())?;
+    let crews = crews_of(alloc, nodes, most_crews(rt, count))?;
+    let started = Vec::with_capacity(alloc, crews.len())?;
     let first = First::Due(dealer);
-    run_scoped(rt, alloc, gate, first, nodes, started, behind, count)
+    run_scoped(rt, alloc, gate, first, crews, started, behind, count)
 }
 
 /// The nodes of stages behind the first, to which packets come from the source; gives where they come from behind
@@ -169,7 +174,7 @@ fn push_stage<F: BranchWork + Drop>(
     Ok(next)
 }
 
-/// Runs the nodes on threads, all of which are joined before it returns.
+/// Runs the crews on threads, all of which are joined before it returns.
 fn run_scoped<
     F: BranchWork + Drop + Send,
     S: Supply + Drop,
@@ -180,26 +185,26 @@ fn run_scoped<
     alloc: Global,
     gate: &G,
     first: First<S>,
-    nodes: Vec<Node<F>>,
+    crews: Vec<Crew<F>>,
     started: Vec<Started<F>>,
     behind: Inlets<Apart>,
     count: u32,
 ) -> Result<(Vec<F>, Vec<Fate>, Tally), AllocError>
-    requires run { (copies : Field → ℕ) × (due : List (PlainMessage PlainApart)) × CanRun F.kit F.may S.comes copies first nodes.items started.items (vec_capacity started) count behind due }
-    ensures { (copies : Field → ℕ) (due : List (PlainMessage PlainApart)) → CanRun F.kit F.may S.comes copies first nodes.items started.items (vec_capacity started) count behind due → IfOk result (λ ran. HasRun F.kit copies nodes.items due ran.0.items ran.1.items ran.2) }
+    requires run { (copies : Field → ℕ) × (due : List (PlainMessage PlainApart)) × CanRun F.kit F.may S.comes copies first crews.items started.items (vec_capacity started) count behind due }
+    ensures { (copies : Field → ℕ) (due : List (PlainMessage PlainApart)) → CanRun F.kit F.may S.comes copies first crews.items started.items (vec_capacity started) count behind due → IfOk result (λ ran. HasRun F.kit copies (flat crews.items) due ran.0.items ran.1.items ran.2) }
 {
     thread::scope(
         thread::scope_env(),
         rt,
         move |scope| -> Result<(Vec<F>, Vec<Fate>, Tally), AllocError>
-            requires { (copies : Field → ℕ) × (due : List (PlainMessage PlainApart)) × CanRun F.kit F.may S.comes copies first nodes.items started.items (vec_capacity started) count behind due }
-            ensures { (copies : Field → ℕ) (due : List (PlainMessage PlainApart)) → CanRun F.kit F.may S.comes copies first nodes.items started.items (vec_capacity started) count behind due → IfOk result (λ ran. HasRun F.kit copies nodes.items due ran.0.items ran.1.items ran.2) }
-        { run_started(scope, rt, alloc, gate, first, nodes, started, behind, count) },
+            requires { (copies : Field → ℕ) × (due : List (PlainMessage PlainApart)) × CanRun F.kit F.may S.comes copies first crews.items started.items (vec_capacity started) count behind due }
+            ensures { (copies : Field → ℕ) (due : List (PlainMessage PlainApart)) → CanRun F.kit F.may S.comes copies first crews.items started.items (vec_capacity started) count behind due → IfOk result (λ ran. HasRun F.kit copies (flat crews.items) due ran.0.items ran.1.items ran.2) }
+        { run_started(scope, rt, alloc, gate, first, crews, started, behind, count) },
     )
 }
 
-/// Starts the nodes, deals the packets to the first stage, collects what comes behind the last, and waits for the
-/// nodes.
+/// Starts the crews, deals the packets to the first stage, collects what comes behind the last, and waits for the
+/// crews.
 fn run_started<
     's,
     E,
@@ -213,22 +218,22 @@ fn run_started<
     alloc: Global,
     gate: &'s G,
     first: First<S>,
-    nodes: Vec<Node<F>>,
+    crews: Vec<Crew<F>>,
     started: Vec<Started<F>>,
     behind: Inlets<Apart>,
     count: u32,
 ) -> Result<(Vec<F>, Vec<Fate>, Tally), AllocError>
-    requires { (copies : Field → ℕ) × (due : List (PlainMessage PlainApart)) × CanRun F.kit F.may S.comes copies first nodes.items started.items (vec_capacity started) count behind due }
-    ensures { (copies : Field → ℕ) (due : List (PlainMessage PlainApart)) → CanRun F.kit F.may S.comes copies first nodes.items started.items (vec_capacity started) count behind due → IfOk result (λ ran. HasRun F.kit copies nodes.items due ran.0.items ran.1.items ran.2) }
+    requires { (copies : Field → ℕ) × (due : List (PlainMessage PlainApart)) × CanRun F.kit F.may S.comes copies first crews.items started.items (vec_capacity started) count behind due }
+    ensures { (copies : Field → ℕ) (due : List (PlainMessage PlainApart)) → CanRun F.kit F.may S.comes copies first crews.items started.items (vec_capacity started) count behind due → IfOk result (λ ran. HasRun F.kit copies (flat crews.items) due ran.0.items ran.1.items ran.2) }
 {
-    let (first, started) = start_all(scope, rt, alloc, gate, first, nodes, started);
+    let (first, started) = start_all(scope, rt, alloc, gate, first, crews, started, count);
     let dealt = deal_first(rt, alloc, first);
     let fates = collect(rt, alloc, behind, count)?;
     let (functions, tally) = finish_all(rt, alloc, dealt, started)?;
     Ok((functions, fates, tally))
 }
 
-/// Starts nodes in their order.
+/// Starts crews in their order, for so many packets.
 fn start_all<
     's,
     E,
@@ -242,27 +247,28 @@ fn start_all<
     alloc: Global,
     gate: &'s G,
     first: First<S>,
-    nodes: Vec<Node<F>>,
+    crews: Vec<Crew<F>>,
     started: Vec<Started<F>>,
+    count: u32,
 ) -> (First<S>, Vec<Started<F>>)
     requires first { (copies : Field → ℕ) × IsFirst S.comes copies first }
-    requires ready { All (is_ready F.kit F.may) nodes.items }
+    requires ready { All (All (is_ready F.kit F.may)) crews.items }
     requires empty { started.items ≡ [] }
-    requires room { length nodes.items ≤ vec_capacity started }
+    requires room { length crews.items ≤ vec_capacity started }
     ensures first { (copies : Field → ℕ) → IsFirst S.comes copies first → IsFirst S.comes copies result.0 }
-    ensures nodes { map node_of result.1.items ≡ nodes.items }
+    ensures crews { map crew_of result.1.items ≡ crews.items }
 {
     let mut first = first;
     let mut started = started;
-    for node in nodes {
-        let (left, one) = start(scope, rt, alloc, gate, first, node);
+    for crew in crews {
+        let (left, one) = start(scope, rt, alloc, gate, first, crew, count);
         first = left;
         started.push_reserved(one);
     }
     (first, started)
 }
 
-/// Waits for the nodes in their order: the functions that they give back, and the copies that they and the first
+/// Waits for the crews in their order: the functions that they give back, and the copies that they and the first
 /// dealer made. It refuses where memory was short.
 fn finish_all<F: BranchWork + Drop, R: Threads>(
     rt: &R,
@@ -270,8 +276,8 @@ fn finish_all<F: BranchWork + Drop, R: Threads>(
     dealt: Dealt,
     started: Vec<Started<F>>,
 ) -> Result<(Vec<F>, Tally), AllocError>
-    ensures functions { IfOk result (λ ended. ended.0.items ≡ gather F.kit (map node_of started.items)) }
-    ensures counted { IfOk result (λ ended. (f : Field) → count_of ended.1 f ≡ raised (count_of dealt.tally f) (copies_by_all f (map node_of started.items))) }
+    ensures functions { IfOk result (λ ended. ended.0.items ≡ gather F.kit (flat (map crew_of started.items))) }
+    ensures counted { IfOk result (λ ended. (f : Field) → count_of ended.1 f ≡ raised (count_of dealt.tally f) (copies_by_all f (flat (map crew_of started.items)))) }
     ensures found { OnOk result (dealt.short ≡ false) }
 {
     if dealt.short {
@@ -280,23 +286,7 @@ fn finish_all<F: BranchWork + Drop, R: Threads>(
     let mut functions = Vec::new(alloc);
     let mut tally = dealt.tally;
     for one in started {
-        keep(&mut functions, &mut tally, finish(rt, one))?;
+        keep_crew(&mut functions, &mut tally, finish(rt, one))?;
     }
     Ok((functions, tally))
-}
-
-/// Keeps what a node gave back.
-fn keep<F: Drop>(functions: &mut Vec<F>, tally: &mut Tally, done: Done<F>) -> Result<(), AllocError>
-    ensures short { OnOk result (done.short ≡ false) }
-    ensures functions { OnOk result (functions.new.items ≡ functions.old.items ++ added done.function []) }
-    ensures counted { OnOk result ((f : Field) → count_of tally.new f ≡ raised (count_of tally.old f) (count_of done.tally f)) }
-{
-    if done.short {
-        return Err(AllocError);
-    }
-    tally.add(&done.tally);
-    if let Some(function) = done.function {
-        functions.push(function)?;
-    }
-    Ok(())
 }

@@ -1,13 +1,14 @@
-//! Nodes are started one after another, and joined.
-ghost use Rattle.std.specs.Prelude.{◌≡◌, ℕ};
+//! Crews are started one after another, and joined.
+ghost use Rattle.std.specs.Prelude.{◌≡◌, ℕ, All};
 ghost use Rattle.packet_fields.specs.declared.field.Field.{Field};
 ghost use Rattle.node_run.specs.Firsts.{IsFirst};
-ghost use Rattle.node_run.specs.Nodes.{Keeps, is_ready};
-ghost use Rattle.node_run.specs.Starts.{node_of};
+ghost use Rattle.node_run.specs.Nodes.{is_ready};
+ghost use Rattle.node_run.specs.Crews.{CrewKeeps};
+ghost use Rattle.node_run.specs.Starts.{crew_of};
 
+use crate::crew::{Crew, CrewDone, Due, run_crew};
 use crate::ended::Ended;
 use crate::first::{First, deal_first};
-use crate::node::{Done, Due, Node, run_node};
 use nfp_outside::Gate;
 use stage_nodes::{BranchWork, Supply};
 use std::alloc::Global;
@@ -15,23 +16,23 @@ use std::snapshot::Snapshot;
 use std::sync::Wait;
 use std::thread::{PromisedHandle, Scope, Threads};
 
-/// A node that runs on a thread, or that was run.
+/// A crew that runs on a thread, or that was run.
 #[derive(Drop)]
 pub(crate) enum Started<F: BranchWork> {
-    There(PromisedHandle<Done<F>, Due<F>>),
+    There(PromisedHandle<CrewDone<F>, Due<F>>),
     Here(Ended<F>),
 }
 
-/// The node was run, and gave this back.
-fn end_here<F: BranchWork>(node: Snapshot<Node<F>>, done: Done<F>) -> Started<F>
-    requires { Keeps F.kit node.value done }
-    ensures { node_of result ≡ node.value }
+/// The crew was run, and gave this back.
+fn end_here<F: BranchWork>(crew: Snapshot<Crew<F>>, done: CrewDone<F>) -> Started<F>
+    requires { CrewKeeps F.kit crew.value done }
+    ensures { crew_of result ≡ crew.value }
 {
-    Started::Here(Ended { node, done })
+    Started::Here(Ended { crew, done })
 }
 
-/// Starts a node on a thread of its own. Where none can be started, the caller runs the dealer of the first
-/// stage, unless it did so before, and then the node, each to its end: nothing that the node waits for is left
+/// Starts a crew on a thread of its own, for so many packets. Where none can be started, the caller runs the dealer of
+/// the first stage, unless it did so before, and then the crew, each to its end: nothing that the crew waits for is left
 /// to be done behind it.
 pub(crate) fn start<
     's,
@@ -46,19 +47,20 @@ pub(crate) fn start<
     alloc: Global,
     gate: &'s G,
     first: First<S>,
-    node: Node<F>,
+    crew: Crew<F>,
+    count: u32,
 ) -> (First<S>, Started<F>)
     requires first { (copies : Field → ℕ) × IsFirst S.comes copies first }
-    requires ready { is_ready F.kit F.may node }
+    requires ready { All (is_ready F.kit F.may) crew }
     ensures first { (copies : Field → ℕ) → IsFirst S.comes copies first → IsFirst S.comes copies result.0 }
-    ensures node { node_of result.1 ≡ node }
+    ensures crew { crew_of result.1 ≡ crew }
 {
-    let was = Snapshot::of(&node);
-    let due = Due(Snapshot::of(&node));
-    let work = move || -> Done<F>
-        requires { is_ready F.kit F.may node }
-        ensures { Keeps F.kit node result }
-    { run_node(rt, alloc, gate, node) };
+    let was = Snapshot::of(&crew);
+    let due = Due(Snapshot::of(&crew));
+    let work = move || -> CrewDone<F>
+        requires { All (is_ready F.kit F.may) crew }
+        ensures { CrewKeeps F.kit crew result }
+    { run_crew(rt, alloc, gate, crew, count) };
     match scope.spawn_with(due, work) {
         Ok(child) => (first, Started::There(child)),
         Err(refused) => {
@@ -68,14 +70,14 @@ pub(crate) fn start<
     }
 }
 
-/// What a node gave back, once it is at its end.
-pub(crate) fn finish<F: BranchWork + Drop, R: Threads>(rt: &R, started: Started<F>) -> Done<F>
-    ensures { Keeps F.kit (node_of started) result }
+/// What a crew gave back, once it is at its end.
+pub(crate) fn finish<F: BranchWork + Drop, R: Threads>(rt: &R, started: Started<F>) -> CrewDone<F>
+    ensures { CrewKeeps F.kit (crew_of started) result }
 {
     match started {
         Started::There(child) => child.join(rt),
         Started::Here(ended) => {
-            let Ended { node: _, done } = ended;
+            let Ended { crew: _, done } = ended;
             done
         }
     }

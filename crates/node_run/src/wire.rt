@@ -8,13 +8,14 @@ ghost use Rattle.node_run.specs.Wired.{IsWired};
 
 use crate::branches::{Branches, wire_branches};
 use crate::fans::fan;
+use crate::lanes::replicas_last;
 use crate::meeting::{Meeting, MergeWay, meet};
 use crate::mergers::wire_mergers;
 use crate::node::Node;
 use crate::stage::StageWork;
 use action_profile::StageParts;
 use message_links::{Inlets, Outlets, Parcel};
-use packet_version::{Apart, Base};
+use packet_version::{Apart, Base, Tally};
 use ruled_links::LinkDue;
 use stage_nodes::{BranchWork, Dealer, Supply};
 use std::alloc::{AllocError, Global};
@@ -58,17 +59,25 @@ pub(crate) fn wire_stage<F: BranchWork + Drop, S: Supply + Drop, D: LinkDue<Parc
         count,
     )?;
     let wired = wire_branches::<F, D>(alloc, touches, branches, ends, mergers, count)?;
-    let Branches {
-        versions,
-        mut nodes,
-    } = wired;
-    wire_mergers(to_mergers, inlets, from_mergers, mergers, count, &mut nodes)?;
+    let Branches { versions, nodes } = wired;
+    let mut nodes = replicas_last(alloc, nodes)?;
+    wire_mergers(
+        alloc,
+        to_mergers,
+        inlets,
+        from_mergers,
+        mergers,
+        count,
+        &mut nodes,
+    )?;
     let dealer = Dealer {
         parts,
         source,
         versions,
         bases,
+        tally: Tally::new(),
         count,
+        short: false,
     };
     Ok(WiredStage {
         dealer,

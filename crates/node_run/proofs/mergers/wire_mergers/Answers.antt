@@ -1,3 +1,4 @@
+use Rattle.std.proofs.Common.{refl}
 use Rattle.node_run.proofs.Wiring.{merger_next}
 use Rattle.node_run.proofs.mergers.wire_mergers.Goals as goal
 
@@ -12,7 +13,7 @@ take_first-from_branches-requires g c = (merger_next _ _ _ _ _ _ c.loop-merger-t
 
 pub push_merger-requires : goal.push_merger-requires
 push_merger-requires g c =
-    (merger_next _ _ _ _ _ _ c.loop-merger-test.true c.loop-merger.invariant.0).due _ _ _ _ _ _ _ c.take_first-base.ensures c.take_first-outlet.ensures c.take_first-from_branches.ensures c.share_count-own.ensures.share
+    (refl, c.new.ensures.items, (merger_next _ _ _ _ _ _ c.loop-merger-test.true c.loop-merger.invariant.0).due _ _ _ _ _ _ _ c.take_first-base.ensures c.take_first-outlet.ensures c.take_first-from_branches.ensures c.share_count.ensures.share)
 
 pub loop-merger-preserved : goal.loop-merger-preserved
 loop-merger-preserved g c =

@@ -1,5 +1,6 @@
 use Rattle.std.proofs.Common.{◌∙◌, ap}
 use Rattle.node_run.specs.Nodes.{gather}
+use Rattle.node_run.specs.Runs.{flat}
 use Rattle.stage_nodes.specs.Dues.{ComesFrom}
 use Rattle.node_run.proofs.Running.{to_collect, counted_with}
 use Rattle.node_run.proofs.run.run_started.Goals as goal
@@ -21,8 +22,8 @@ collect-requires g c = (c.requires.1, to_collect ComesFrom _ _ c.requires.1 c.re
 
 pub returns : goal.returns
 returns g c copies due h = record {
-  gives = c.in_ok-functions.ensures.functions ∙ ap (gather g.F.BranchWork.kit) c.start_all-first.ensures.nodes;
+  gives = c.in_ok-functions.ensures.functions ∙ ap (λ y. gather g.F.BranchWork.kit (flat y)) c.start_all-first.ensures.crews;
   told = c.in_ok-fates.ensures.fates due (to_collect ComesFrom _ _ due h.long h.takes);
   found = c.in_ok-fates.ensures.found due (to_collect ComesFrom _ _ due h.long h.takes);
-  counted = λ f. counted_with _ _ _ _ _ copies f (c.deal_first-dealt.ensures copies (c.start_all-first.ensures.first copies h.deals)) c.in_ok-functions.ensures.found c.start_all-first.ensures.nodes (c.in_ok-functions.ensures.counted f);
+  counted = λ f. counted_with _ _ _ _ _ copies f (c.deal_first-dealt.ensures copies (c.start_all-first.ensures.first copies h.deals)) c.in_ok-functions.ensures.found (ap flat c.start_all-first.ensures.crews) (c.in_ok-functions.ensures.counted f);
 }

@@ -22,5 +22,5 @@ pub returns : goal.returns
 returns g c =
     let b = wired_by g.F.BranchWork.kit g.F.BranchWork.may _ _ _ _ c.in_ok-wired.wired c.in_ok-wired.ensures c.as_slice-touches.ensures in
     is_wired g.F.BranchWork.kit g.F.BranchWork.may g.S.Supply.comes c.args.mergers c.args.count (plain_stage c.args.work) g.D.LinkDue.due _ c.in_ok-wired.wired _
-    c.requires.pass c.requires.some c.requires.many c.requires.takes b refl refl refl refl c.in_ok-bases.ensures.0
-    c.in_ok-from_mergers.ensures.1 c.in_ok-wire_mergers.ensures
+    c.requires.pass c.requires.some c.requires.many c.requires.takes b refl refl refl c.new.ensures refl refl c.in_ok-bases.ensures.0
+    c.in_ok-from_mergers.ensures.1 (λ gs e a. c.in_ok-wire_mergers.ensures gs e (c.in_ok-nodes.ensures gs e a))

@@ -1,0 +1,47 @@
+//! The order of a stage's nodes.
+ghost use Rattle.std.specs.Prelude.{◌∷◌, ℕ, List, IfOk, OnOk};
+ghost use Rattle.packet_fields.specs.declared.field.Field.{Field};
+ghost use Rattle.node_run.specs.Nodes.{AreNodes};
+ghost use Rattle.node_run.specs.Crews.{AreSorted};
+
+use crate::node::Node;
+use stage_nodes::BranchWork;
+use std::alloc::{AllocError, Global};
+
+/// The nodes of branches with the replicas behind the others, so that nodes of one branch, which have packets of
+/// different mergers, stand apart from each other, and those of one merger together. Its one refusal is want of memory.
+pub(crate) fn replicas_last<F: BranchWork + Drop>(
+    alloc: Global,
+    nodes: Vec<Node<F>>,
+) -> Result<Vec<Node<F>>, AllocError>
+    ensures { IfOk result (λ all. (fs : List F) (c : Field → ℕ) → AreNodes F.kit F.may nodes.items fs c → AreNodes F.kit F.may all.items fs c) }
+{
+    let mut first = Vec::with_capacity(alloc, nodes.len())?;
+    let mut others = Vec::new(alloc);
+    for node in nodes {
+        sort(node, &mut first, &mut others)?;
+    }
+    first.append(&mut others)?;
+    Ok(first)
+}
+
+/// A replica goes to the others, and any other node to the first.
+fn sort<F: BranchWork + Drop>(
+    node: Node<F>,
+    first: &mut Vec<Node<F>>,
+    others: &mut Vec<Node<F>>,
+) -> Result<(), AllocError>
+    ensures { OnOk result ((fs : List F) (c : Field → ℕ) (todo : List (Node F)) →
+        AreSorted F.kit F.may fs c first.old.items others.old.items (node ∷ todo) → AreSorted F.kit F.may fs c first.new.items others.new.items todo) }
+{
+    match node {
+        Node::Replica(branch) => {
+            others.push(Node::Replica(branch))?;
+            Ok(())
+        }
+        other => {
+            first.push(other)?;
+            Ok(())
+        }
+    }
+}
