@@ -4,8 +4,7 @@
 //! end as those that walk through the chain one after another, and so do the functions; the tally rises by the
 //! same copies; want of memory is the one refusal. The way is another: no stage waits for the stage before it.
 //! Each stage has a dealer, its branches and its mergers, and each of these is a node. The first dealer runs in the
-//! caller's thread and takes frames apart as it deals them; each other node has a thread of its own where one can
-//! be started. A dealer takes a packet, deals it to the branches, and takes the next while they
+//! caller's thread and takes frames apart as it deals them; the others share as many threads as fit the machine. A dealer takes a packet, deals it to the branches, and takes the next while they
 //! are still at work; a branch takes what it is dealt in the packets' order; a merger puts together what the
 //! branches gave of a packet, and gives it to the next stage's dealer. A branch whose functions keep no state, by
 //! their profiles, has a node for each merger, with the same functions. So a packet may be in the first stage

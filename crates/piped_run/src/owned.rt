@@ -3,6 +3,7 @@ ghost use Rattle.std.specs.Prelude.{◌≡◌, false, All, IfOk, IfSome, IsSome}
 
 use crate::laws::functions_keep_to_profiles;
 use crate::turn::branch_turn;
+use function_lines::SharedItems;
 use message_links::Message;
 use net_functions::Function;
 use nfp_outside::Gate;
@@ -13,12 +14,12 @@ use std::marker::Model;
 use std::sync::Wait;
 
 /// The functions of a branch, the positions at which they stand in the chain with this number, and the
-/// record numbers of a burst's packets.
+/// record numbers of a burst's packets, which all branches share.
 #[derive(Drop)]
 pub(crate) struct OwnedFunctions<F> {
     pub(crate) functions: Vec<F>,
     pub(crate) positions: Vec<u32>,
-    pub(crate) numbers: Vec<u32>,
+    pub(crate) numbers: SharedItems<u32>,
     pub(crate) chain: u32,
 }
 
@@ -28,7 +29,7 @@ impl<F> Model for OwnedFunctions<F> {
 
     ghost Value = { PlainOwned F };
 
-    ghost view = { λ o. record { functions = o.functions.items; positions = o.positions.items; packets = length o.numbers.items } };
+    ghost view = { λ o. record { functions = o.functions.items; positions = o.positions.items; packets = length o.numbers } };
 }
 
 impl<F: Function + Drop> BranchWork for OwnedFunctions<F> {
@@ -48,7 +49,7 @@ impl<F: Function + Drop> BranchWork for OwnedFunctions<F> {
     ) -> Message<Version> {
         match message {
             Message::Live(version) => {
-                let number = self.numbers[place as usize];
+                let number = self.numbers.as_slice()[place as usize];
                 branch_turn(
                     rt,
                     alloc,
@@ -83,7 +84,7 @@ fn beside<F: Drop>(
     ensures { IfOk result (λ other. other ≡ record work.now { functions = functions.items }) }
 {
     let positions = Vec::from_slice(alloc, work.positions.as_slice())?;
-    let numbers = Vec::from_slice(alloc, work.numbers.as_slice())?;
+    let numbers = work.numbers.try_clone()?;
     Ok(OwnedFunctions {
         functions,
         positions,

@@ -17,10 +17,11 @@ use crate::works::begin_works;
 use branch_owners::{put_together, split_functions};
 use burst_law::burst_is_chain;
 use chain_walk::Fate;
-use graph_compile::Graph;
+use function_lines::SharedItems;
+use graph_compile::{Graph, Stage};
 use net_functions::Function;
 use nfp_outside::Gate;
-use node_run::{MergeWay, run_nodes};
+use node_run::{MergeWay, most_threads, run_nodes};
 use packet_version::Tally;
 use std::alloc::{AllocError, Global};
 use std::marker::Brand;
@@ -30,9 +31,9 @@ use stream_law::nodes_walk_the_chain;
 
 /// Leads all packets that these frames hold, which have these record numbers, through the stages of a graph: the
 /// caller takes them apart and deals them to the first stage, and each other dealer, each branch and each merger
-/// is a node on a thread of its own where one can be started. The functions and the packets end as if the packets
+/// is a node; nodes share as many threads as fit the machine. The functions and the packets end as if the packets
 /// walked through the chain one after another. No node is started for a burst without packets, and there are no
-/// more mergers than packets.
+/// more mergers than packets, nor than pay.
 ///
 /// The one refusal is want of memory: the functions are gone then, and the tally stays.
 pub(crate) fn pipe_frames<F: Function + Drop + Send, G: Gate + Sync, R: Threads + Wait + Sync>(
@@ -40,7 +41,7 @@ pub(crate) fn pipe_frames<F: Function + Drop + Send, G: Gate + Sync, R: Threads 
     alloc: Global,
     gate: &G,
     chain: u32,
-    numbers: &[u32],
+    numbers: &SharedItems<u32>,
     graph: &Graph,
     functions: Vec<F>,
     frames: Frames,
@@ -64,13 +65,14 @@ pub(crate) fn pipe_frames<F: Function + Drop + Send, G: Gate + Sync, R: Threads 
     functions_keep_to_profiles::<F>();
     burst_is_chain::<F>();
     nodes_walk_the_chain::<F>();
-    if numbers.is_empty() {
+    let numbers_of_packets = numbers.as_slice();
+    if numbers_of_packets.is_empty() {
         return Ok((functions, Vec::new(alloc)));
     }
     let stages = graph.stages.as_slice();
     let owners = functions.len();
-    let count = numbers.len() as u32;
-    let mergers = mergers.min(count);
+    let count = numbers_of_packets.len() as u32;
+    let mergers = mergers_that_pay(rt, stages, mergers.min(count));
     let owned = split_functions(alloc, stages, functions)?;
     let works = begin_works(alloc, stages, owned, numbers, chain)?;
     let (works, fates, made) = run_nodes::<OwnedFunctions<F>, Frames, Brand, R, G>(
@@ -80,4 +82,28 @@ pub(crate) fn pipe_frames<F: Function + Drop + Send, G: Gate + Sync, R: Threads 
     let functions = put_together(alloc, stages, owners, owned)?;
     tally.add(&made);
     Ok((functions, fates))
+}
+
+/// No more of these mergers than pay, and one at least: a branch may have a node for each of them, and more than twice
+/// as many nodes of branches as threads cost more links than they spare time.
+fn mergers_that_pay<R: Threads>(rt: &R, stages: &[Stage], mergers: u32) -> u32
+    requires { 1 ≤ mergers }
+    ensures some { 1 ≤ result }
+    ensures few { result ≤ mergers }
+{
+    let nodes = most_threads(rt).saturating_mul(2);
+    let each = nodes / count_branches(stages).max(1);
+    match u32::try_from(each) {
+        Ok(each) => mergers.min(each).max(1),
+        Err(_) => mergers,
+    }
+}
+
+/// How many branches these stages have.
+fn count_branches(stages: &[Stage]) -> usize {
+    let mut count: usize = 0;
+    for stage in stages {
+        count = count.saturating_add(stage.branches.as_slice().len());
+    }
+    count
 }

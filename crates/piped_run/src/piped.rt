@@ -9,8 +9,10 @@ use crate::frames::{Frames, numbers_of};
 use crate::pipe::pipe_frames;
 use chain_walk::Fate;
 use classifier::Burst;
+use function_lines::SharedItems;
 use graph_compile::Graph;
 use graph_run::{Running, count_adders, run_gated};
+use item_list::Items;
 use joined_run::{bursts_in_parts_lead, run_joined};
 use net_functions::Function;
 use nfp_outside::Gate;
@@ -29,8 +31,9 @@ use std::time::Instant;
 /// of them in their order, and so many mergers, of which there may be 1 to 16, put together in this way what
 /// the branches give: merger `i` has the packets whose number among those of the chain, counted from 0,
 /// leaves `i` when divided by their count. A branch whose functions keep no state has a node for each merger,
-/// which takes that merger's packets, and every other branch has one for all. Dealers, branches and mergers of all stages run side by side, the
-/// first dealer in the caller's thread and each other on one of its own where one can be started; the threads
+/// which takes that merger's packets, and every other branch has one for all. There are fewer mergers where fewer packets
+/// come or more don't pay. Dealers, branches and mergers of all stages run side by side, the first dealer in the caller's
+/// thread and the others on as many more as fit the machine, where these can be started; the threads
 /// are joined before the call returns. Where the graph has no stage but one of one branch, nothing could run
 /// beside it, and all runs in the caller's thread. So does a burst that goes alone by the pace of the run
 /// (`pace`): where threads spared too little of the time of one for the bursts before, by the clock, or where
@@ -113,7 +116,7 @@ fn run_stages<F: Function + Drop + Send, G: Gate + Sync, R: Threads + Wait + Syn
     let (functions, graph) = run.into_parts();
     let taggers = count_adders(&functions);
     let items = burst.items.as_slice();
-    let numbers = numbers_of(alloc, items, chain)?;
+    let numbers = SharedItems::new(alloc, Items::new(numbers_of(alloc, items, chain)?))?;
     let frames = Frames::new(items, unit, chain, taggers);
     let (functions, fates) = pipe_frames(
         rt, alloc, gate, chain, &numbers, &graph, functions, frames, mergers, way, tally,

@@ -5,6 +5,7 @@ ghost use Rattle.stream_law.specs.Works.{works_in, works_of};
 
 use crate::owned::OwnedFunctions;
 use action_profile::StageParts;
+use function_lines::SharedItems;
 use graph_compile::{Branch, Stage};
 use item_list::Items;
 use node_run::StageWork;
@@ -16,7 +17,7 @@ pub(crate) fn begin_works<F: Drop>(
     alloc: Global,
     stages: &[Stage],
     owned: Vec<Vec<Vec<F>>>,
-    numbers: &[u32],
+    numbers: &SharedItems<u32>,
     chain: u32,
 ) -> Result<Vec<StageWork<OwnedFunctions<F>>>, AllocError>
     requires { map (λ own. length own.items) owned.items ≡ map (λ s. length s.branches) stages.now }
@@ -50,7 +51,7 @@ fn begin_branches<F: Drop>(
     alloc: Global,
     branches: &[Branch],
     own: Vec<Vec<F>>,
-    numbers: &[u32],
+    numbers: &SharedItems<u32>,
     chain: u32,
 ) -> Result<Vec<OwnedFunctions<F>>, AllocError>
     requires { length own.items ≡ length branches.now }
@@ -71,13 +72,13 @@ fn begin_branch<F: Drop>(
     alloc: Global,
     branch: &Branch,
     functions: Vec<F>,
-    numbers: &[u32],
+    numbers: &SharedItems<u32>,
     chain: u32,
 ) -> Result<OwnedFunctions<F>, AllocError>
     ensures { IfOk result (λ work. work ≡ record { functions = functions.items; positions = branch.now.positions; packets = length numbers.now }) }
 {
     let positions = Vec::from_slice(alloc, branch.positions.as_slice())?;
-    let numbers = Vec::from_slice(alloc, numbers)?;
+    let numbers = numbers.try_clone()?;
     Ok(OwnedFunctions {
         functions,
         positions,
