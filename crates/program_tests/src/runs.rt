@@ -258,7 +258,8 @@ fn a_cut_capture_is_done_up_to_its_fault(rt: HostRuntime) -> Result<(), Fail> {
     Ok(())
 }
 
-// Each call that fails is answered by the fault of its own slot, and what was written before stays.
+// Each call that fails is answered by the fault of its own slot, and what was written before stays. Where the line of a drop can't be
+// put, the packets of its burst stand in Out.
 #[test]
 fn failures_are_told_by_their_slot(rt: HostRuntime) -> Result<(), Fail> {
     let alloc = rt.alloc();
@@ -266,6 +267,7 @@ fn failures_are_told_by_their_slot(rt: HostRuntime) -> Result<(), Fail> {
     for (slot, call, status, out, note) in [
         (Slot::Policy, 0, 4, 0, b"read fault: policy\n".as_slice()),
         (Slot::Out, 4, 5, 82, b"write fault: out\n"),
+        (Slot::Report, 2, 5, 140, b"write fault: report\n"),
         (Slot::Note, 0, 5, 140, b""),
     ] {
         let fails = vec![in alloc; (slot, call)]?;
