@@ -34,7 +34,6 @@
 
 mod back;
 mod frames;
-mod laws;
 mod owned;
 mod pipe;
 mod piped;

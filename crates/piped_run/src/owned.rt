@@ -1,8 +1,8 @@
 //! The functions that a branch owns, as the work of a node.
 ghost use Rattle.std.specs.Prelude.{◌≡◌, false, All, IfOk, IfSome, IsSome};
 
-use crate::laws::functions_keep_to_profiles;
 use crate::turn::branch_turn;
+use graph_run::functions_keep_to_profiles;
 use message_links::Message;
 use net_functions::Function;
 use nfp_outside::Gate;

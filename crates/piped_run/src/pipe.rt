@@ -11,13 +11,13 @@ ghost use Rattle.piped_run.specs.Frames.{EndsAs, all_apart};
 
 use crate::back::end_works;
 use crate::frames::Frames;
-use crate::laws::functions_keep_to_profiles;
 use crate::owned::OwnedFunctions;
 use crate::works::begin_works;
 use branch_owners::{put_together, split_functions};
 use burst_law::burst_is_chain;
 use chain_walk::Fate;
 use graph_compile::Graph;
+use graph_run::functions_keep_to_profiles;
 use net_functions::Function;
 use nfp_outside::Gate;
 use node_run::{MergeWay, run_nodes};
