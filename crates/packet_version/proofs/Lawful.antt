@@ -16,8 +16,7 @@ use Rattle.packet_version.specs.Views.{PlainView, seen_parts, seen_values, wrote
 use Rattle.packet_version.specs.Lending.{edited, over}
 use Rattle.packet_version.specs.ViewLending.{left}
 use Rattle.packet_version.proofs.Maps.{as_map-listed, as_list-again}
-use Rattle.packet_fields.proofs.Numbers.{same_number}
-use Rattle.packet_version.proofs.DealtByField.{by_field}
+use Rattle.packet_version.proofs.DealtByField.{same_field, by_field}
 
 changed_own : (f : Field) (part : Option PlainPart) (parts : Parts) → changed f part parts f ≡ part
 changed_own f part parts = ap (λ (b : Bool). if b then part else parts f) ((Decides-eqb (number_of f) (number_of f)).1 refl)
@@ -26,7 +25,7 @@ changed_other : (f g : Field) (part : Option PlainPart) (parts : Parts) → f �
 changed_other f g part parts apart = by_test (is_field f g) refl
   where
     by_test : (b : Bool) → is_field f g ≡ b → changed f part parts g ≡ parts g
-    by_test true e = absurd (apart (same_number f g ((Decides-eqb (number_of f) (number_of g)).0 e)))
+    by_test true e = absurd (apart (same_field f g ((Decides-eqb (number_of f) (number_of g)).0 e)))
     by_test false e = ap (λ (c : Bool). if c then part else parts g) e
 
 -- a view in which one part was put into a field's place
