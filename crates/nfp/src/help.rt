@@ -91,23 +91,13 @@ fn usage_help<R: Env>(
 fn usage_reason(page: &mut Page, words: &[String], fault: UsageFault) -> Result<(), AllocError> {
     match fault {
         UsageFault::UnknownCommand => match words.first() {
-            Some(word) => command_help(page, word.as_str()),
+            Some(word) => usage::no_command(page, word.as_str()),
             None => Ok(()),
         },
         UsageFault::Number(which) => number_help(page, which),
-        UsageFault::Merge => usage::one_of(page, "the value of --merge", "inbox and board"),
+        UsageFault::Merge => usage::no_way(page),
         UsageFault::SameName => usage::same_name(page),
         _ => Ok(()),
-    }
-}
-
-fn command_help(page: &mut Page, word: &str) -> Result<(), AllocError> {
-    if usage::asks_version(word) {
-        usage::version(page)
-    } else if usage::asks_help(word) {
-        Ok(())
-    } else {
-        usage::no_command(page, word)
     }
 }
 

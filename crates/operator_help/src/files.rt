@@ -1,7 +1,7 @@
 //! Files: what they are by their first bytes, and why the system refuses them.
 
 use crate::page::Page;
-use crate::shown::shown_name;
+use crate::shown::{is_printable, shown_name};
 use std::alloc::AllocError;
 use std::fs::{File, OpenOptions};
 use std::io::Read;
@@ -10,8 +10,22 @@ use std::rt::Files;
 use std::{fs, io};
 use text_lines::Piece::Text;
 
+const UNREAD: (&str, &str) = (
+    "{} can't be read: {}",
+    "it failed in the middle, and gives no reason any more",
+);
+
+const UNWRITTEN: (&str, &str) = (
+    "{} can't be written: {}",
+    "it takes no more bytes; is the disk full, or was a pipe closed?",
+);
+
+const UNPRINTED: &str = "the last line can't be put to standard output; the files are whole";
+
+const ONE_FILE: &str = "{} and {} are one file, and what is written needs one of its own";
+
 /// What a file is, by its first bytes.
-#[derive(Clone, Copy, Debug, PartialEq, Eq)]
+#[derive(Clone, Copy)]
 pub enum Sign {
     /// A capture in the classic format.
     Pcap,
@@ -63,27 +77,26 @@ pub fn sign_of(front: &[u8]) -> Sign {
 fn text_sign(front: &[u8]) -> Sign {
     if front.starts_with(b"nfp 1") {
         Sign::Policy
-    } else if !front.is_empty() && front.iter().all(|byte| is_of_text(*byte)) {
-        Sign::Text
-    } else {
+    } else if front.is_empty() {
         Sign::Unknown
+    } else {
+        letters_sign(front)
     }
 }
 
-fn is_of_text(byte: u8) -> bool {
-    matches!(byte, b' '..=b'~' | b'\t' | b'\n' | b'\r')
+// A text has nothing but printable characters, blanks and ends of lines.
+fn letters_sign(front: &[u8]) -> Sign {
+    for byte in front {
+        if !is_printable(*byte) && *byte != b'\t' && *byte != b'\n' && *byte != b'\r' {
+            return Sign::Unknown;
+        }
+    }
+    Sign::Text
 }
 
 /// A file that couldn't be read, and the system's reason, which is asked for once more.
 pub fn unread<R: Files>(page: &mut Page, rt: &R, name: &str) -> Result<(), AllocError> {
-    let reason = reading_reason(rt, name);
-    say_reason(
-        page,
-        name,
-        b" can't be read: ",
-        reason,
-        b"it failed in the middle, and gives no reason any more",
-    )
+    say_reason(page, name, UNREAD, reading_reason(rt, name))
 }
 
 /// A file that couldn't be written: it is one of those that the run has open, which is refused, or
@@ -99,26 +112,18 @@ pub fn unwritten<R: Files>(
             return say_one_file(page, name, other);
         }
     }
-    let reason = writing_reason(rt, name);
-    say_reason(
-        page,
-        name,
-        b" can't be written: ",
-        reason,
-        b"it takes no more bytes; is the disk full, or was a pipe closed?",
-    )
+    say_reason(page, name, UNWRITTEN, writing_reason(rt, name))
 }
 
 /// The line of the run itself couldn't be printed.
 pub fn unprinted(page: &mut Page) -> Result<(), AllocError> {
-    page.say(&[Text(b"the last line can't be put to standard output; the files are whole")])
+    page.tell(UNPRINTED, &[])
 }
 
 fn say_one_file(page: &mut Page, name: &str, other: &str) -> Result<(), AllocError> {
-    let name = shown_name(page.alloc(), name)?;
-    let other = shown_name(page.alloc(), other)?;
-    let reason = b" are one file, and what is written needs one of its own";
-    page.say(&[Text(&name), Text(b" and "), Text(&other), Text(reason)])
+    let name = shown_name(page.alloc, name)?;
+    let other = shown_name(page.alloc, other)?;
+    page.tell(ONE_FILE, &[Text(&name), Text(&other)])
 }
 
 // Whether two names lead to one file, as the system tells files apart: by device and number. A device of
@@ -134,20 +139,20 @@ fn lead_to_one_file<R: Files>(rt: &R, name: &str, other: &str) -> bool {
     }
 }
 
+// What happened, and the reason: the system's, or the one that stands beside it.
 fn say_reason(
     page: &mut Page,
     name: &str,
-    what: &[u8],
+    (what, otherwise): (&str, &str),
     reason: Option<io::Error>,
-    otherwise: &[u8],
 ) -> Result<(), AllocError> {
-    let name = shown_name(page.alloc(), name)?;
+    let name = shown_name(page.alloc, name)?;
     match reason {
         Some(error) => {
-            let reason = format!(in page.alloc(); "{error}")?;
-            page.say(&[Text(&name), Text(what), Text(reason.as_bytes())])
+            let reason = format!(in page.alloc; "{error}")?;
+            page.tell(what, &[Text(&name), Text(reason.as_bytes())])
         }
-        None => page.say(&[Text(&name), Text(what), Text(otherwise)]),
+        None => page.tell(what, &[Text(&name), Text(otherwise.as_bytes())]),
     }
 }
 

@@ -1,51 +1,47 @@
 //! Kinds of links, by the numbers that captures have for them.
 
-/// What a link is called, and what is captured so.
-#[derive(Clone, Copy)]
-pub struct Link {
-    pub name: &'static [u8],
-    pub source: &'static [u8],
-}
+const ANY: &str = "what was captured at all interfaces at once, as by `tcpdump -i any`";
 
-const ANY: &[u8] = b"what was captured at all interfaces at once, as by `tcpdump -i any`";
+const RADIO: &str = "what was captured at a radio in monitor mode";
 
-const RADIO: &[u8] = b"what was captured at a radio in monitor mode";
+const SERIAL: &str = "what was captured at a serial line";
 
-/// What is known of a kind of link, by its number (the registry of link-layer header types).
-pub fn link_of(number: u32) -> Link {
-    let (name, source): (&[u8], &[u8]) = match number {
+const NO_HEADER: &str = "what has no link header";
+
+/// What a kind of link is called, and what is captured so, by its number (the registry of link-layer header types).
+pub fn link_of(number: u32) -> (&'static str, &'static str) {
+    match number {
         0 => (
-            b"BSD loopback",
-            b"what was captured at the loopback interface of BSD or macOS",
+            "BSD loopback",
+            "what was captured at the loopback interface of BSD or macOS",
         ),
-        9 | 50 | 51 => (b"PPP", b"what was captured at a dialled or tunnelled link"),
-        10 => (b"FDDI", b"what was captured at an FDDI ring"),
-        6 => (b"Token Ring", b"what was captured at a token ring"),
+        9 | 50 | 51 => ("PPP", "what was captured at a dialled or tunnelled link"),
+        10 => ("FDDI", "what was captured at an FDDI ring"),
+        6 => ("Token Ring", "what was captured at a token ring"),
         12 | 14 | 101 => (
-            b"raw IP",
-            b"what was captured at a tunnel (tun), which has no link header",
+            "raw IP",
+            "what was captured at a tunnel (tun), which has no link header",
         ),
-        104 => (b"Cisco HDLC", b"what was captured at a serial line"),
-        105 => (b"IEEE 802.11", RADIO),
-        107 => (b"Frame Relay", b"what was captured at a serial line"),
+        104 => ("Cisco HDLC", SERIAL),
+        105 => ("IEEE 802.11", RADIO),
+        107 => ("Frame Relay", SERIAL),
         108 => (
-            b"OpenBSD loopback",
-            b"what was captured at the loopback interface of OpenBSD",
+            "OpenBSD loopback",
+            "what was captured at the loopback interface of OpenBSD",
         ),
-        113 => (b"Linux cooked v1", ANY),
-        119 | 127 | 163 | 192 => (b"IEEE 802.11 with a radio header", RADIO),
-        187 | 201 => (b"Bluetooth", b"what was captured at a Bluetooth adapter"),
-        189 | 220 => (b"USB", b"what was captured at a USB bus"),
-        195 | 230 => (b"IEEE 802.15.4", RADIO),
-        228 => (b"raw IPv4", b"what has no link header"),
-        229 => (b"raw IPv6", b"what has no link header"),
+        113 => ("Linux cooked v1", ANY),
+        119 | 127 | 163 | 192 => ("IEEE 802.11 with a radio header", RADIO),
+        187 | 201 => ("Bluetooth", "what was captured at a Bluetooth adapter"),
+        189 | 220 => ("USB", "what was captured at a USB bus"),
+        195 | 230 => ("IEEE 802.15.4", RADIO),
+        228 => ("raw IPv4", NO_HEADER),
+        229 => ("raw IPv6", NO_HEADER),
         239 => (
-            b"NFLOG",
-            b"what the Linux firewall logs, as by `tcpdump -i nflog`",
+            "NFLOG",
+            "what the Linux firewall logs, as by `tcpdump -i nflog`",
         ),
-        253 => (b"netlink", b"what was captured at a netlink monitor"),
-        276 => (b"Linux cooked v2", ANY),
-        _ => (b"of another kind", b"not known here; `capinfos` names it"),
-    };
-    Link { name, source }
+        253 => ("netlink", "what was captured at a netlink monitor"),
+        276 => ("Linux cooked v2", ANY),
+        _ => ("of another kind", "not known here; `capinfos` names it"),
+    }
 }

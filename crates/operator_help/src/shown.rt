@@ -64,22 +64,28 @@ fn push_escaped(text: &mut Vec<u8>, bytes: &[u8]) -> Result<(), AllocError> {
 
 // A printable character as it is, a tab as a blank, and any other byte by its number.
 fn push_byte(text: &mut Vec<u8>, byte: u8) -> Result<(), AllocError> {
-    match byte {
-        b' '..=b'~' => text.push(byte)?,
-        b'\t' => text.push(b' ')?,
-        _ => {
-            text.extend_from_slice(b"\\x")?;
-            text.push(DIGITS[usize::from(byte / 16)])?;
-            text.push(DIGITS[usize::from(byte % 16)])?;
-        }
+    if is_printable(byte) {
+        text.push(byte)?;
+    } else if byte == b'\t' {
+        text.push(b' ')?;
+    } else {
+        text.extend_from_slice(b"\\x")?;
+        text.push(DIGITS[usize::from(byte / 16)])?;
+        text.push(DIGITS[usize::from(byte % 16)])?;
     }
     Ok(())
 }
 
 // How many characters a byte is shown by.
 fn width(byte: u8) -> usize {
-    match byte {
-        b' '..=b'~' | b'\t' => 1,
-        _ => 4,
+    if is_printable(byte) || byte == b'\t' {
+        1
+    } else {
+        4
     }
+}
+
+/// Is it a character of ASCII, or a blank?
+pub fn is_printable(byte: u8) -> bool {
+    byte >= b' ' && byte <= b'~'
 }

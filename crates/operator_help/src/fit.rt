@@ -1,0 +1,158 @@
+//! Which word of a line doesn't fit. The forms and the clauses that words are compared with are those that are shown.
+
+use crate::lines::{Row, part, rows_of, until};
+use policy_text::{address, mac, number, prefix, range};
+use std::alloc::{AllocError, Global};
+
+/// The most bytes of a pattern.
+const MAX_PATTERN: usize = 256;
+
+/// How many clauses there are.
+const CLAUSES: usize = 6;
+
+/// The greatest number that a form has.
+const GREATEST: u64 = 4_294_967_295;
+
+/// How many words may be wanted at one place.
+const ALTERNATIVES: usize = 3;
+
+/// The place up to which a line fits the best of these forms. Nothing where it fits one of them whole.
+pub fn best_misfit(
+    alloc: Global,
+    forms: &str,
+    clauses: &str,
+    row: Row<'_>,
+) -> Result<Option<usize>, AllocError> {
+    let clauses = Row::new(0, clauses.as_bytes());
+    let mut best = 0;
+    for form in &rows_of(alloc, forms.as_bytes())? {
+        match misfit(*form, clauses, row) {
+            None => return Ok(None),
+            Some(place) => best = place.max(best),
+        }
+    }
+    Ok(Some(best))
+}
+
+// The place of the first word that doesn't fit a form, is missing or is one too many.
+fn misfit(form: Row<'_>, clauses: Row<'_>, row: Row<'_>) -> Option<usize> {
+    for place in 0..form.text.len() {
+        let wanted = form.word(place);
+        let word = row.word(place);
+        if wanted == b"CLAUSE".as_slice() {
+            return clauses_misfit(clauses, row, place);
+        }
+        if wanted.is_empty() && word.is_empty() {
+            return None;
+        }
+        if word.is_empty() || !fits(wanted, word) {
+            return Some(place);
+        }
+    }
+    None
+}
+
+// The place of the first word, from this place on, that doesn't fit clauses, is missing, or stands twice.
+fn clauses_misfit(clauses: Row<'_>, row: Row<'_>, from: usize) -> Option<usize> {
+    let mut place = from;
+    for _ in 0..=CLAUSES {
+        let lead = row.word(place);
+        if lead.is_empty() {
+            return None;
+        }
+        let wanted = wanted_of(clauses, lead);
+        if wanted.is_empty() || place_of_word(row, from, lead) < place {
+            return Some(place);
+        }
+        let value = place.saturating_add(1);
+        if row.word(value).is_empty() || !fits(wanted, row.word(value)) {
+            return Some(value);
+        }
+        place = value.saturating_add(1);
+    }
+    None
+}
+
+// What has to stand behind the first word of a clause, or nothing where there is no such clause.
+fn wanted_of<'a>(clauses: Row<'a>, lead: &[u8]) -> &'a [u8] {
+    clauses.word(place_of_word(clauses, 0, lead).saturating_add(1))
+}
+
+// The place of the first clause, from this place on, that begins with a word, or behind all of them.
+fn place_of_word(row: Row<'_>, from: usize, lead: &[u8]) -> usize {
+    let mut place = from;
+    for _ in 0..CLAUSES {
+        if row.word(place) == lead {
+            return place;
+        }
+        place = place.saturating_add(2);
+    }
+    place
+}
+
+// Does a word fit one of those that are wanted, with bars between them and maybe a comma behind?
+fn fits(wanted: &[u8], word: &[u8]) -> bool {
+    let mut rest = &wanted[..until(wanted, b',')];
+    for _ in 0..ALTERNATIVES {
+        let end = until(rest, b'|');
+        if fits_one(&rest[..end], word) {
+            return true;
+        }
+        rest = part(rest, end.saturating_add(1), rest.len());
+    }
+    false
+}
+
+fn fits_one(wanted: &[u8], word: &[u8]) -> bool {
+    if wanted == b"PREFIX".as_slice() {
+        prefix(word).is_some()
+    } else if wanted == b"ADDRESS".as_slice() {
+        address(word).is_some()
+    } else if wanted == b"PORTS".as_slice() {
+        range(word).is_some()
+    } else if wanted == b"LO-HI".as_slice() {
+        are_ports(word)
+    } else if wanted == b"MAC".as_slice() {
+        mac(word).is_some()
+    } else if wanted == b"WORD".as_slice() {
+        word.len() <= MAX_PATTERN
+    } else if wanted == b"DIGITS".as_slice() {
+        are_digits(word)
+    } else if until(wanted, b'-') < wanted.len() {
+        is_within(wanted, word)
+    } else {
+        wanted == word
+    }
+}
+
+// Two ports from 1 on with a dash, the first at most the second.
+fn are_ports(word: &[u8]) -> bool {
+    match range(word) {
+        Some((low, _)) => low > 0 && until(word, b'-') < word.len(),
+        None => false,
+    }
+}
+
+// Pairs of hexadecimal digits.
+fn are_digits(word: &[u8]) -> bool {
+    for digit in word {
+        if !digit.is_ascii_hexdigit() {
+            return false;
+        }
+    }
+    word.len() % 2 == 0 && word.len() / 2 <= MAX_PATTERN
+}
+
+// Is a word a number between these, which have a dash between them?
+fn is_within(wanted: &[u8], word: &[u8]) -> bool {
+    let dash = until(wanted, b'-');
+    let most = part(wanted, dash.saturating_add(1), wanted.len());
+    match (number_of(&wanted[..dash]), number_of(word), number_of(most)) {
+        (Some(least), Some(value), Some(most)) => least <= value && value <= most,
+        _ => false,
+    }
+}
+
+fn number_of(word: &[u8]) -> Option<u64> {
+    number(word, 20, GREATEST)
+}
