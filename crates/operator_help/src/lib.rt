@@ -12,10 +12,8 @@
 
 pub mod capture;
 pub mod files;
-mod fit;
-mod kinds;
+mod forms;
 mod lines;
-mod links;
 mod page;
 pub mod policy;
 mod release;

@@ -1,7 +1,7 @@
 //! What is wrong with a policy, and what its lines may be.
 
 use crate::files::{Sign, sign_of};
-use crate::kinds::{ALL_CLAUSES, forms_of_line, kind_names};
+use crate::forms::{ALL_CLAUSES, forms_of_line, kind_names};
 use crate::lines::{Row, place_of, rows_of, until};
 use crate::page::Page;
 pub use crate::settings::bad_setting;

@@ -1,7 +1,6 @@
 //! What is wrong with the lines of a function.
 
-use crate::fit::best_misfit;
-use crate::kinds::{clauses_of, forms_of, kind_named, required_of};
+use crate::forms::{best_misfit, clauses_of, forms_of, kind_named, required_of};
 use crate::lines::{Row, last_before, place_of, rows_of};
 use crate::page::Page;
 use crate::policy::{PolicyText, quote_row, say_forms};
