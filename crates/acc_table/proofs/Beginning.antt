@@ -20,9 +20,6 @@ pub record Linked (nexts : List ℕ) (free n : ℕ) : Type 0 where
   pub chain : IsChain nexts free (down n)
   pub length : length nexts ≡ n
 
-pub linked_none : (nexts : List ℕ) → nexts ≡ [] → Linked nexts none 0
-linked_none nexts e = record { chain = refl; length = ap length e }
-
 pub linked_more : (nexts more : List ℕ) (free n : ℕ) → Linked nexts free n → more ≡ nexts ++ free ∷ [] → Linked more n (n + 1)
 linked_more nexts more free n k e =
     let chain : IsChain (nexts ++ free ∷ []) n (n ∷ down n) = (

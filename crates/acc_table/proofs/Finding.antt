@@ -1,8 +1,8 @@
 -- Where a packet is found among the rows, and what a row that changes leaves of the others.
-use Rattle.std.proofs.Common.{◌≡◌, ◌≢◌, ℕ, ◌+◌, ◌<◌, ◌≤◌, zero, suc, ◌⊎◌, inl, inr, Bool, true, false, cond, List, [], ◌∷◌, length, get_or, set, take, Option, Some, None, All, refl, sym, ap, ◌∙◌, subst, arith, is_some, add-one, replicate}
+use Rattle.std.proofs.Common.{◌≡◌, ◌≢◌, ℕ, ◌+◌, ◌<◌, zero, suc, ◌⊎◌, inl, inr, Bool, true, false, cond, List, [], ◌∷◌, length, get_or, set, Option, Some, None, refl, sym, ap, ◌∙◌, subst, arith, is_some, replicate}
 use Rattle.std.proofs.lemmas.Bool.{false≢true, eqb-true, eqb-false, cases_eq, cases_order}
 use Rattle.std.proofs.lemmas.Option.{same_Some}
-use Rattle.std.proofs.lemmas.List.{get_or-set_same, get_or-set_other, length-set, length-take, set-get_or}
+use Rattle.std.proofs.lemmas.List.{get_or-set_same, get_or-set_other, length-set, set-get_or}
 use Rattle.std.proofs.lemmas.List.Elements.{All-head, All-tail}
 use Rattle.std.specs.List.{HoldsAt}
 use Rattle.std.specs.Ordering.{nat_cmp, eq_by_cmp}
@@ -149,41 +149,6 @@ len-opened (r ∷ rs) once =
 length_entered : {T : Type 0} (o : Option ℕ) (a : List (Option T)) (es : Entries T) → o ≢ None → length (entered o a es) ≡ length es + 1
 length_entered None a es n = absurd (n refl)
 length_entered (Some p) a es n = omega arith
-
--- where no row is free there are as many packets as rows
-pub length_opened_all : {T : Type 0} (rows : List (Place T)) → All (λ r. r.pid ≢ None) rows → length (opened rows) ≡ length rows
-length_opened_all [] h = refl
-length_opened_all (r ∷ rs) h =
-    length_entered r.pid r.arrived (opened rs) (All-head (λ s. s.pid ≢ None) r rs h)
-    ∙ (ap (λ n. n + 1) (length_opened_all rs (All-tail (λ s. s.pid ≢ None) r rs h)) ∙ omega arith)
-
-length_entered_both : {T : Type 0} (o : Option ℕ) (a : List (Option T)) (es fs : Entries T) (n : ℕ) → length fs ≡ length es + n → length (entered o a fs) ≡ length (entered o a es) + n
-length_entered_both None a es fs n e = e
-length_entered_both (Some p) a es fs n e = omega (arith, e)
-
-length_opened_more : {T : Type 0} (rows : List (Place T)) (i : ℕ) (r : Place T) → i < length rows → r ≡ get_or rows i r → length (opened (take (suc i) rows)) ≡ length (opened (take i rows)) + length (entered r.pid r.arrived [])
-length_opened_more [] i r lt is = absurd (omega (arith, lt))
-length_opened_more (x ∷ xs) zero r lt is = rw is (omega arith)
-length_opened_more (x ∷ xs) (suc i) r lt is = length_entered_both x.pid x.arrived (opened (take i xs)) (opened (take (suc i) xs)) _ (length_opened_more xs i r (omega (arith, lt)) is)
-
--- one more row that is free, or is a packet's
-pub length_opened_free : {T : Type 0} (rows : List (Place T)) (i : ℕ) (r : Place T) → i < length rows → r ≡ get_or rows i r → r.pid ≡ None → length (opened (take (i + 1) rows)) ≡ length (opened (take i rows))
-length_opened_free rows i r lt is e = ap (λ n. length (opened (take n rows))) (add-one i) ∙ (length_opened_more rows i r lt is ∙ (ap (λ o. length (opened (take i rows)) + length (entered o r.arrived [])) e ∙ omega arith))
-
-pub length_opened_taken : {T : Type 0} (rows : List (Place T)) (i : ℕ) (r : Place T) → i < length rows → r ≡ get_or rows i r → r.pid ≢ None → length (opened (take (i + 1) rows)) ≡ length (opened (take i rows)) + 1
-length_opened_taken rows i r lt is n = ap (λ m. length (opened (take m rows))) (add-one i) ∙ (length_opened_more rows i r lt is ∙ (ap (λ m. length (opened (take i rows)) + m) (length_entered r.pid r.arrived [] n) ∙ omega arith))
-
-length_entered_within : {T : Type 0} (o : Option ℕ) (a : List (Option T)) (es : Entries T) (n : ℕ) → length es ≤ n → length (entered o a es) ≤ n + 1
-length_entered_within None a es n h = omega (arith, h)
-length_entered_within (Some p) a es n h = omega (arith, h)
-
-pub length_opened_within : {T : Type 0} (rows : List (Place T)) → length (opened rows) ≤ length rows
-length_opened_within [] = omega arith
-length_opened_within (r ∷ rs) = omega (arith, length_entered_within r.pid r.arrived (opened rs) (length rs) (length_opened_within rs))
-
--- so no more than so many of the first rows are packets'
-pub length_opened_take : {T : Type 0} (rows : List (Place T)) (i : ℕ) → length (opened (take i rows)) ≤ i
-length_opened_take rows i = omega (arith, length_opened_within (take i rows), length-take i rows)
 
 -- rows that are all free are nobody's
 pub opened-free : {T : Type 0} (n : ℕ) (a : List (Option T)) → opened (replicate n (record { pid = None; arrived = a })) ≡ []

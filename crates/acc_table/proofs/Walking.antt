@@ -129,6 +129,3 @@ nears_more l b place at step s n =
       apart = n;
       passed = λ xs c. next_among l.nexts (get_or l.heads b none) xs at c (s.passed xs c) (not_none l.nexts (get_or l.nexts at none) place o.rest s.few o.chain more);
     }
-
-pub nears_ends : (l : PlainLinks) (b place at step : ℕ) → Nears l b place at step → length l.nexts ≤ step → ⊥
-nears_ends l b place at step s e = subst (λ ys. Among place ys) (nil_from_length s.rest (omega (arith, s.short, e))) s.ahead

@@ -25,6 +25,12 @@ ghost use Rattle.graph_run.specs.Stages.{GoesFrom, AllCarried, LeavesStage, end_
 use chain_walk::values_stay_well_formed;
 use graph_compile::lawful_stage_has_owners;
 use merge_ops::{last_writer_is_greatest, merged_is_written_last, written_is_made};
+use net_functions::Function;
+
+/// A function of any kind does what its profile says, and no more.
+pub fn functions_keep_to_profiles<F: Function>()
+    ensures { KeepsProfile F.behaviour }
+{}
 
 /// A version that goes on from a function's position goes on behind it, whatever that function wrote, and
 /// has room for a tag that it adds.

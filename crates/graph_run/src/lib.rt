@@ -33,7 +33,7 @@ pub use branch::step_on;
 pub use chain_walk::Fate;
 pub use laws::{
     branches_hold_what_is_named, dealt_versions_go_on, due_copies_are_counted,
-    merged_packets_go_on, versions_go_on,
+    functions_keep_to_profiles, merged_packets_go_on, versions_go_on,
 };
 pub use plain::{count_adders, is_of, run_gated, run_plain};
 pub use running::Running;

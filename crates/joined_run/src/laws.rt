@@ -1,10 +1,9 @@
-//! What every kind of function keeps to, and laws of bursts for what stands on them.
+//! Laws of bursts for what stands on them.
 ghost use Rattle.std.specs.Prelude.{◌≡◌, ◌≤◌, ℕ, List, All, length, map};
 ghost use Rattle.action_profile.specs.declared.rights.Profile.{Profile};
 ghost use Rattle.burst_law.specs.Bursts.{stage_burst};
 ghost use Rattle.burst_law.specs.Copies.{chain_copies};
 ghost use Rattle.burst_merge.specs.Joining.{IsWholeShare, joined_lefts};
-ghost use Rattle.chain_walk.specs.Laws.{KeepsProfile};
 ghost use Rattle.chain_walk.specs.Packets.{Packet, fates};
 ghost use Rattle.chain_walk.specs.declared.walk.Fate.{Fate};
 ghost use Rattle.graph_compile.specs.declared.graph.Stage.{Stage};
@@ -27,13 +26,11 @@ ghost use Rattle.joined_run.specs.Works.{Fits, left_of};
 use burst_law::frames_walk_in_bursts;
 use chain_walk::{frames_are_built_again, packets_walk_in_a_row, values_stay_well_formed};
 use graph_compile::lawful_stage_has_owners;
-use graph_run::{branches_hold_what_is_named, dealt_versions_go_on, merged_packets_go_on};
+use graph_run::{
+    branches_hold_what_is_named, dealt_versions_go_on, functions_keep_to_profiles,
+    merged_packets_go_on,
+};
 use net_functions::Function;
-
-/// A function of any kind does what its profile says, and no more.
-pub(crate) fn functions_keep_to_profiles<F: Function>()
-    ensures { KeepsProfile F.behaviour }
-{}
 
 /// Packets of a burst that were taken apart may enter the first stage. Where they end as packets in parts that
 /// walk through the chain, their frames end as whole frames that walk.

@@ -8,11 +8,11 @@ ghost use Rattle.joined_run.specs.Messages.{as_message};
 ghost use Rattle.joined_run.specs.Ready.{AllEnter};
 ghost use Rattle.joined_run.specs.Leaving.{KeepsRests};
 
-use crate::laws::functions_keep_to_profiles;
 use crate::stage::run_stage;
 use branch_owners::{put_together, split_functions};
 use burst_law::{burst_is_chain, copies_are_same, owned_is_whole};
 use graph_compile::{Graph, lawful_graph_is_staged, stages_rise};
+use graph_run::functions_keep_to_profiles;
 use merge_ops::Merged;
 use net_functions::Function;
 use nfp_outside::Gate;

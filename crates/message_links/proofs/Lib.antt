@@ -1,4 +1,4 @@
 mod Rests
 mod Rows
 mod Sweeps
-mod Turning
+pub mod Turning

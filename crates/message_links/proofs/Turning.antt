@@ -1,5 +1,5 @@
 -- A stream that is shared in turn, element by element.
-use Rattle.std.proofs.Common.{◌≡◌, ◌<◌, ◌+◌, ◌∙◌, ℕ, zero, suc, pred, List, [], ◌∷◌, ◌++◌, length, map, refl, arith, ap}
+use Rattle.std.proofs.Common.{◌≡◌, ◌<◌, ◌+◌, ◌∙◌, ℕ, zero, suc, pred, List, [], ◌∷◌, ◌++◌, length, refl, arith, ap}
 use Rattle.message_links.specs.Messages.{front, turned}
 use Rattle.message_links.specs.Turns.{share, shares_from, shares, share_len}
 
@@ -8,7 +8,7 @@ unfolding shares_from share
 later_shares m i zero x xs = refl
 later_shares m i (suc c) x xs = ap (λ y. share m i xs ∷ y) (later_shares m (suc i) c x xs)
 
-last_share : {A : Type 0} (m i c : ℕ) (xs : List A) → shares_from m i c xs ++ share m (i + c) xs ∷ [] ≡ shares_from m i (suc c) xs
+pub last_share : {A : Type 0} (m i c : ℕ) (xs : List A) → shares_from m i c xs ++ share m (i + c) xs ∷ [] ≡ shares_from m i (suc c) xs
 unfolding shares_from
 last_share m i zero xs = ap (λ n. share m n xs ∷ []) (omega arith)
 last_share m i (suc c) xs =
@@ -49,10 +49,3 @@ whole_share (x ∷ xs) = ap (λ y. x ∷ y) (whole_share xs)
 pub one_share : {A : Type 0} (xs : List A) → shares 1 xs ≡ xs ∷ []
 unfolding shares_from
 one_share xs = ap (λ y. y ∷ []) (whole_share xs)
-
--- a share of what is made of each element
-pub share_image : {A B : Type 0} (g : A → B) (m i : ℕ) (xs : List A) → share m i (map g xs) ≡ map g (share m i xs)
-unfolding share
-share_image g m i [] = refl
-share_image g m zero (x ∷ xs) = ap (λ y. g x ∷ y) (share_image g m (pred m) xs)
-share_image g m (suc i) (x ∷ xs) = share_image g m i xs

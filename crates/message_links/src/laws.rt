@@ -1,5 +1,5 @@
 //! Streams that are shared to links in turn, in other words.
-ghost use Rattle.std.specs.Prelude.{◌≡◌, ◌<◌, ◌∷◌, ℕ, List, [], length, map, pred};
+ghost use Rattle.std.specs.Prelude.{◌≡◌, ◌<◌, ◌∷◌, ℕ, List, [], length, pred};
 ghost use Rattle.message_links.specs.Messages.{front, turned};
 ghost use Rattle.message_links.specs.Turns.{share, share_len, shares};
 
@@ -13,9 +13,4 @@ pub fn shares_go_in_turn<T>()
     ensures count { (m : ℕ) (xs : List T) → length (shares m xs) ≡ m }
     ensures long { (m i : ℕ) (xs : List T) → length (share m i xs) ≡ share_len m i (length xs) }
     ensures one { (xs : List T) → shares 1 xs ≡ xs ∷ [] }
-{}
-
-/// A law: a share of what is made of each element of a stream is made of each element of the share.
-pub fn shares_of_images<A, B>()
-    ensures { (g : A → B) (m i : ℕ) (xs : List A) → share m i (map g xs) ≡ map g (share m i xs) }
 {}

@@ -19,8 +19,7 @@
 //! those of a link under its rule. Want of memory never stops a stream: where a part finds no box, `Short`
 //! goes in its place, and the two ends stay in step. [`edge`] refuses for want of memory,
 //! and so do the `push` calls; nothing else is refused. That links which share a stream in turn each hold
-//! every m-th message is a law, [`shares_go_in_turn`]; that it is all the same whether a stream is shared
-//! before or after each of its elements is made into another is a law too, [`shares_of_images`].
+//! every m-th message is a law, [`shares_go_in_turn`].
 //!
 //! What is left out: that a call which waits ever returns. An inlet waits for ever for a message that
 //! nobody gives.
@@ -40,7 +39,7 @@ pub use edges::edge;
 pub use fans::Fans;
 pub use inlet::Inlet;
 pub use inlets::Inlets;
-pub use laws::{shares_go_in_turn, shares_of_images};
+pub use laws::shares_go_in_turn;
 pub use message::{Message, boxed, message_without};
 pub use outlet::Outlet;
 pub use outlets::Outlets;

@@ -24,7 +24,6 @@
 //! searched. Flows and mappings are never forgotten, so memory alone limits the flows of a balancer.
 #![tactic(auto)]
 
-mod addresses;
 mod balancer;
 mod balancer_build;
 mod balancer_lines;

@@ -1,11 +1,11 @@
 //! A translation of addresses and ports, and what it does with a packet.
-use crate::addresses::is_within;
 use crate::endpoint::Endpoint;
 use chain_walk::Verdict;
 use first_sight::{EntryLines, FirstSeen, lines_of_keys, push_address};
 use frame_seen::{seen_address, seen_port};
 use packet_fields::Field;
 use packet_version::{View, later_write_stands_over, unwritten_stays, written_is_one_value};
+use policy_text::is_within;
 use std::alloc::{AllocError, Global};
 use std::marker::Model;
 use text_lines::{Piece, push_line, push_pieces};

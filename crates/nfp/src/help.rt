@@ -2,7 +2,7 @@
 //!
 //! The line and the status are what the program promises. Where there is no memory for more, or no standard error, there is no more.
 
-use nfp_outside::Slot;
+use nfp_outside::{Reason, Slot};
 use nfp_run::{Option4, Outcome, UsageFault};
 use operator_help::capture::Captured;
 use operator_help::policy::PolicyText;
@@ -11,7 +11,8 @@ use policy_check::CheckFault;
 use policy_judge::PolicyFault;
 use std::alloc::AllocError;
 use std::env::FillError;
-use std::rt::{Env, Files};
+use std::io::Error;
+use std::rt::Env;
 use std::str::from_utf8;
 use watched_desk::Seen;
 
@@ -21,25 +22,27 @@ const MOST_WORDS: usize = 64;
 /// The longest word that is looked at.
 const LONGEST_WORD: usize = 4096;
 
-/// Tells what to do about an outcome.
-pub fn tell_more<R: Files + Env + Eprint + AllocGlobal>(
+/// Tells what to do about an outcome, and why its slot failed, where one did.
+pub fn tell_more<R: Env + Eprint + AllocGlobal>(
     rt: &R,
     words: &[String],
     seen: &Seen,
     outcome: &Outcome,
+    reason: Option<Reason>,
 ) {
     let mut page = Page::new(rt.alloc());
-    if fill(&mut page, rt, words, seen, outcome).is_ok() && !page.text().is_empty() {
+    if fill(&mut page, rt, words, seen, outcome, reason).is_ok() && !page.text().is_empty() {
         let _ = rt.eprint(page.text());
     }
 }
 
-fn fill<R: Files + Env>(
+fn fill<R: Env>(
     page: &mut Page,
     rt: &R,
     words: &[String],
     seen: &Seen,
     outcome: &Outcome,
+    reason: Option<Reason>,
 ) -> Result<(), AllocError> {
     match outcome {
         Outcome::Done | Outcome::OutOfMemory => Ok(()),
@@ -51,28 +54,39 @@ fn fill<R: Files + Env>(
             capture::fault(page, Captured { name, front }, *fault)
         }
         Outcome::ReadFault(slot) => match seen.name(*slot) {
-            Some(name) => files::unread(page, rt, name),
+            Some(name) => files::unread(page, name, of_system(reason)),
             None => Ok(()),
         },
-        Outcome::WriteFault(slot) => unwritten_help(page, rt, seen, *slot),
+        Outcome::WriteFault(slot) => unwritten_help(page, seen, *slot, reason),
     }
 }
 
-// A slot that can't be written.
-fn unwritten_help<R: Files>(
+// A slot that can't be written. Where standard output can't, the files of a run were written before.
+fn unwritten_help(
     page: &mut Page,
-    rt: &R,
     seen: &Seen,
     slot: Slot,
+    reason: Option<Reason>,
 ) -> Result<(), AllocError> {
     let Some(name) = seen.name(slot) else {
-        return files::unprinted(page);
+        return files::unprinted(page, seen.name(Slot::Out).is_some());
     };
-    let open = [Slot::Policy, Slot::Capture, Slot::Out].map(|other| match seen.name(other) {
-        Some(known) if other != slot => known,
-        _ => "",
-    });
-    files::unwritten(page, rt, name, &open)
+    match reason {
+        Some(Reason::AttachedAt(other)) => {
+            files::one_file(page, name, seen.name(other).unwrap_or(""))
+        }
+        Some(Reason::StandardOutput) => files::printed_file(page, name),
+        Some(Reason::StandardError) => files::told_file(page, name),
+        other => files::unwritten(page, name, of_system(other)),
+    }
+}
+
+// What the system said.
+fn of_system(reason: Option<Reason>) -> Option<Error> {
+    match reason {
+        Some(Reason::System(error)) => Some(error),
+        _ => None,
+    }
 }
 
 // Words that are refused.
@@ -91,23 +105,13 @@ fn usage_help<R: Env>(
 fn usage_reason(page: &mut Page, words: &[String], fault: UsageFault) -> Result<(), AllocError> {
     match fault {
         UsageFault::UnknownCommand => match words.first() {
-            Some(word) => command_help(page, word.as_str()),
+            Some(word) => usage::no_command(page, word.as_str()),
             None => Ok(()),
         },
         UsageFault::Number(which) => number_help(page, which),
-        UsageFault::Merge => usage::one_of(page, "the value of --merge", "inbox and board"),
+        UsageFault::Merge => usage::no_way(page),
         UsageFault::SameName => usage::same_name(page),
         _ => Ok(()),
-    }
-}
-
-fn command_help(page: &mut Page, word: &str) -> Result<(), AllocError> {
-    if usage::asks_version(word) {
-        usage::version(page)
-    } else if usage::asks_help(word) {
-        Ok(())
-    } else {
-        usage::no_command(page, word)
     }
 }
 

@@ -11,7 +11,7 @@
 mod help;
 
 use help::tell_more;
-use nfp_outside::{FileDesk, OpenGate, Slot};
+use nfp_outside::{FileDesk, OpenGate, Reason, Slot};
 use nfp_run::{Outcome, nfp, write_fault_text};
 use std::alloc::AllocError;
 use std::io::{ErrorKind, IsTerminal, Write};
@@ -32,8 +32,8 @@ fn main(rt: HostRuntime) -> ExitCode {
             let outcome = nfp(&rt, rt.alloc(), &words, &mut desk, &OpenGate);
             let (files, watch) = desk.into_parts();
             let seen = watch.end();
-            let outcome = end(&rt, files, outcome);
-            tell_more(&rt, &words, &seen, &outcome);
+            let (outcome, reason) = end(&rt, files, outcome);
+            tell_more(&rt, &words, &seen, &outcome, reason);
             outcome
         }
         _ => Outcome::OutOfMemory,
@@ -70,20 +70,25 @@ fn wants_progress(rt: &impl Env) -> bool {
     matches!(rt.var("NFP_PROGRESS", &mut value), Ok(1)) && value[0] == b'1'
 }
 
-// What the program ends with. Where gathered bytes were lost, Note has taken nothing, and the first slot that failed is told
+// What the program ends with, and why a slot failed. Where gathered bytes were lost, Note has taken nothing, and the first slot that failed is told
 // here: one that had failed at a call of its own before, or else the one that lost them. Nothing is told once memory ran out. The
 // files are closed then, so that none of them stands where standard error was closed.
 fn end<R: Files + Print + AllocGlobal + Drop>(
     rt: &(impl Print + AllocGlobal),
     mut desk: FileDesk<R>,
     outcome: Outcome,
-) -> Outcome {
-    match (desk.hand_on(), outcome) {
+) -> (Outcome, Option<Reason>) {
+    let outcome = match (desk.hand_on(), outcome) {
         (None, outcome) => outcome,
         (Some(_), Outcome::OutOfMemory) => Outcome::OutOfMemory,
         (Some(_), Outcome::WriteFault(slot)) if slot != Slot::Note => tell(rt, slot),
         (Some(lost), _) => tell(rt, lost),
-    }
+    };
+    let reason = match &outcome {
+        Outcome::ReadFault(slot) | Outcome::WriteFault(slot) => desk.reason(*slot),
+        _ => None,
+    };
+    (outcome, reason)
 }
 
 // Tells the slot that couldn't be written, as a note does. The status says it too where the line can't be printed.

@@ -73,10 +73,3 @@ may_meet k may s touches fs m count xs p t f some few many =
 pub meets_by : {F : Type 0} (k : Kit F) (touches touches' : List Touch) (fs fs' : List F) (m : ℕ) (xs : List (PlainMessage PlainApart)) (w : Meeting)
     → Meets m (came_from k touches fs xs) w → touches ≡ touches' → fs ≡ fs' → Meets m (came_from k touches' fs' xs) w
 meets_by k touches touches' fs fs' m xs w h t f = subst (λ y. Meets m (came_from k y fs' xs) w) t (subst (λ y. Meets m (came_from k touches y xs) w) f h)
-
-pub seated_more : {A : Type 0} (was todo made more all : List A) (x y : A) → made ++ was ≡ all → was ≡ x ∷ todo → more ≡ made ++ y ∷ [] → y ≡ x → more ++ todo ≡ all
-seated_more was todo made more all x y h t add e =
-    ap (λ z. z ++ todo) add ∙ append_assoc made (y ∷ []) todo ∙ ap (λ z. made ++ (z ∷ todo)) e ∙ ap (λ z. made ++ z) (sym t) ∙ h
-
-pub all_seated : {A : Type 0} (todo made all : List A) → made ++ todo ≡ all → todo ≡ [] → made ≡ all
-all_seated todo made all h t = sym (append-nil made) ∙ ap (λ z. made ++ z) (sym t) ∙ h

@@ -14,7 +14,7 @@ use Rattle.node_run.specs.declared.node.Node.{Node}
 use Rattle.node_run.specs.declared.node.Node.TheVariants as node
 use Rattle.node_run.specs.Nodes.{AreNodes, branch_ready}
 use Rattle.node_run.specs.Replicas.{AreReplicas, KeepsNothing, ReplicasFit}
-use Rattle.node_run.proofs.Shares.{share_long, one_share}
+use Rattle.message_links.proofs.Turning.{share_long, one_share}
 use Rattle.node_run.proofs.Wiring.{all_head, all_tail, nodes_are, nodes_push, tail_is}
 
 -- its functions stay

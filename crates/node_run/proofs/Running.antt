@@ -86,18 +86,10 @@ collected {S} comes n room room' fates new packet fate source source' all h fit 
       found = All-push is_found h.came b.head h.found (subst is_found same w);
     }
 
-pub collect_room : {S : Type 0} (comes : S → List (PlainMessage PlainApart) → Type 0) (n room : ℕ) (fates : List Fate) (source : S) (all : List (PlainMessage PlainApart)) → Collects comes (suc n) room fates source all → length fates < room
-collect_room comes n room fates source all h = omega (arith, h.fits)
-
 pub collect_at : {S : Type 0} (comes : S → List (PlainMessage PlainApart) → Type 0) (count i room : ℕ) (fates : List Fate) (source : S) (all : List (PlainMessage PlainApart)) → i < count → Collects comes (count - i) room fates source all → Collects comes (suc (count - (i + 1))) room fates source all
 collect_at comes count i room fates source all lt h =
     let e : count - i ≡ suc (count - (i + 1)) = omega arith in
     subst (λ n. Collects comes n room fates source all) e h
-
-pub collect_first : {S : Type 0} (comes : S → List (PlainMessage PlainApart) → Type 0) (count room : ℕ) (fates : List Fate) (source : S) (all : List (PlainMessage PlainApart)) → fates ≡ [] → room ≡ count → Collects comes count count [] source all → Collects comes (count - 0) room fates source all
-collect_first comes count room fates source all p r h =
-    let e : count ≡ count - 0 = omega arith in
-    subst (λ n. Collects comes n room fates source all) e (subst (λ y. Collects comes count y fates source all) (sym r) (subst (λ y. Collects comes count count y source all) (sym p) h))
 
 no_more : {A : Type 0} (xs : List A) → length xs ≡ 0 → xs ≡ []
 no_more [] e = refl

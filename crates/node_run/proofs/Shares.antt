@@ -5,29 +5,9 @@ use Rattle.std.proofs.Math.Nat.{div-eq_of_lt, div-eq-sub-div}
 use Rattle.packet_version.specs.Splitting.{PlainApart}
 use Rattle.message_links.specs.Messages.{PlainMessage, first, front, rest, turned}
 use Rattle.message_links.specs.Turns.{share, share_len, shares_from, shares, columns_from}
+use Rattle.message_links.proofs.Turning.{last_share, first_share, turned_shares, one_share, share_long}
 use Rattle.stage_nodes.specs.Dues.{ComesFrom}
 use Rattle.node_run.specs.Nodes.{in_turn}
-
-later_shares : {A : Type 0} (m i c : ℕ) (x : A) (xs : List A) → shares_from m (suc i) c (x ∷ xs) ≡ shares_from m i c xs
-unfolding shares_from share
-later_shares m i zero x xs = refl
-later_shares m i (suc c) x xs = ap (λ y. share m i xs ∷ y) (later_shares m (suc i) c x xs)
-
-pub last_share : {A : Type 0} (m i c : ℕ) (xs : List A) → shares_from m i c xs ++ share m (i + c) xs ∷ [] ≡ shares_from m i (suc c) xs
-unfolding shares_from
-last_share m i zero xs = ap (λ n. share m n xs ∷ []) (omega arith)
-last_share m i (suc c) xs =
-    ap (λ y. share m i xs ∷ y) (ap (λ n. shares_from m (suc i) c xs ++ share m n xs ∷ []) (omega arith) ∙ last_share m (suc i) c xs)
-
-first_share : {A : Type 0} (m : ℕ) (x : A) (xs : List A) → 0 < m → front (shares m (x ∷ xs)) ≡ x ∷ share m (pred m) xs
-unfolding shares_from share
-first_share zero x xs lt = absurd (omega arith)
-first_share (suc c) x xs lt = refl
-
-turned_shares : {A : Type 0} (m : ℕ) (x : A) (xs : List A) → 0 < m → turned (shares m (x ∷ xs)) ≡ shares m xs
-unfolding shares_from share
-turned_shares zero x xs lt = absurd (omega arith)
-turned_shares (suc c) x xs lt = ap (λ y. y ++ share (suc c) c xs ∷ []) (later_shares (suc c) 0 c x xs) ∙ ap (λ n. shares_from (suc c) 0 c xs ++ share (suc c) n xs ∷ []) (omega arith) ∙ last_share (suc c) 0 c xs
 
 -- links that share a stream give it when they are asked in turn
 taken_in_turn : {P : Type 0} (m : ℕ) (xs : List (PlainMessage P)) → 0 < m → in_turn (length xs) (shares m xs) ≡ xs
@@ -68,26 +48,10 @@ unfolding columns_from
 columns_rest m i zero row rows = refl
 columns_rest m i (suc c) row rows = ap (λ y. map (share m i) rows ∷ y) (columns_rest m (suc i) c row rows)
 
--- a stream that one link has is that link's
-all_shared : {A : Type 0} (xs : List A) → share 1 0 xs ≡ xs
-unfolding share
-all_shared [] = refl
-all_shared (x ∷ xs) = ap (λ y. x ∷ y) (all_shared xs)
-
-pub one_share : {A : Type 0} (xs : List A) → shares 1 xs ≡ xs ∷ []
-unfolding shares_from
-one_share xs = ap (λ y. y ∷ []) (all_shared xs)
-
 pub some_share : {A : Type 0} (xs : List A) (ls : List (List A)) → ls ≡ shares 1 xs → 0 < length ls
 some_share xs ls e = omega (arith, ap length (e ∙ one_share xs))
 
 -- lengths
-
-pub share_long : {A : Type 0} (m i : ℕ) (xs : List A) → length (share m i xs) ≡ share_len m i (length xs)
-unfolding share share_len
-share_long m i [] = refl
-share_long m zero (x ∷ xs) = ap suc (share_long m (pred m) xs)
-share_long m (suc i) (x ∷ xs) = share_long m i xs
 
 pub share_room : {A : Type 0} (m i count room : ℕ) (xs ys : List A) → ys ≡ share m i xs → length xs ≡ count → room ≡ share_len m i count → length ys ≤ room
 share_room m i count room xs ys e many r = omega (arith, ap length e, share_long m i xs, ap (share_len m i) many, r)

@@ -22,7 +22,8 @@ use Rattle.node_run.specs.declared.node.Node.TheVariants as node
 use Rattle.node_run.specs.declared.wire.WiredStage.{WiredStage}
 use Rattle.node_run.specs.Nodes.{AreNodes, added, in_turn, copies_by, copies_by_all, gather, is_ready, left_by, merger_ready, no_copies}
 use Rattle.node_run.specs.Wired.{AreWired, AreWiring, IsFanned, IsWired, MergersFit}
-use Rattle.node_run.proofs.Shares.{share_long, one_share, columns_front, columns_rest}
+use Rattle.message_links.proofs.Turning.{share_long, one_share}
+use Rattle.node_run.proofs.Shares.{columns_front, columns_rest}
 
 -- an iterator at its end has nothing left
 pub none_left : {A : Type 0} (n : ℕ) (xs : List A) → n ≡ 0 → length xs ≡ n → xs ≡ []

@@ -1,17 +1,31 @@
 //! Files: what they are by their first bytes, and why the system refuses them.
 
 use crate::page::Page;
-use crate::shown::shown_name;
+use crate::shown::{is_printable, shown_name};
 use std::alloc::AllocError;
-use std::fs::{File, OpenOptions};
-use std::io::Read;
-use std::os::unix::fs::{FileTypeExt, MetadataExt};
-use std::rt::Files;
-use std::{fs, io};
+use std::io::Error;
 use text_lines::Piece::Text;
 
+const UNREAD: (&str, &str) = ("{} can't be read: {}", "it gives no reason");
+
+const UNWRITTEN: (&str, &str) = (
+    "{} can't be written: {}",
+    "it takes no more bytes; is the disk full, or was a pipe closed?",
+);
+
+const UNPRINTED: &str = "the last line can't be put to standard output; the files are whole";
+
+const UNSHOWN: &str = "standard output doesn't take what is to be shown";
+
+const ONE_FILE: &str = "{} and {} are one file, and what is written needs one of its own";
+
+const PRINTED_FILE: &str =
+    "standard output goes to {}, and what is written needs a file of its own";
+
+const TOLD_FILE: &str = "standard error goes to {}, and what is written needs a file of its own";
+
 /// What a file is, by its first bytes.
-#[derive(Clone, Copy, Debug, PartialEq, Eq)]
+#[derive(Clone, Copy)]
 pub enum Sign {
     /// A capture in the classic format.
     Pcap,
@@ -63,122 +77,70 @@ pub fn sign_of(front: &[u8]) -> Sign {
 fn text_sign(front: &[u8]) -> Sign {
     if front.starts_with(b"nfp 1") {
         Sign::Policy
-    } else if !front.is_empty() && front.iter().all(|byte| is_of_text(*byte)) {
-        Sign::Text
-    } else {
+    } else if front.is_empty() {
         Sign::Unknown
+    } else {
+        letters_sign(front)
     }
 }
 
-fn is_of_text(byte: u8) -> bool {
-    matches!(byte, b' '..=b'~' | b'\t' | b'\n' | b'\r')
-}
-
-/// A file that couldn't be read, and the system's reason, which is asked for once more.
-pub fn unread<R: Files>(page: &mut Page, rt: &R, name: &str) -> Result<(), AllocError> {
-    let reason = reading_reason(rt, name);
-    say_reason(
-        page,
-        name,
-        b" can't be read: ",
-        reason,
-        b"it failed in the middle, and gives no reason any more",
-    )
-}
-
-/// A file that couldn't be written: it is one of those that the run has open, which is refused, or
-/// else the system has its reason, which is asked for once more.
-pub fn unwritten<R: Files>(
-    page: &mut Page,
-    rt: &R,
-    name: &str,
-    open: &[&str],
-) -> Result<(), AllocError> {
-    for other in open {
-        if lead_to_one_file(rt, name, other) {
-            return say_one_file(page, name, other);
+// A text has nothing but printable characters, blanks and ends of lines.
+fn letters_sign(front: &[u8]) -> Sign {
+    for byte in front {
+        if !is_printable(*byte) && *byte != b'\t' && *byte != b'\n' && *byte != b'\r' {
+            return Sign::Unknown;
         }
     }
-    let reason = writing_reason(rt, name);
-    say_reason(
-        page,
-        name,
-        b" can't be written: ",
-        reason,
-        b"it takes no more bytes; is the disk full, or was a pipe closed?",
-    )
+    Sign::Text
 }
 
-/// The line of the run itself couldn't be printed.
-pub fn unprinted(page: &mut Page) -> Result<(), AllocError> {
-    page.say(&[Text(b"the last line can't be put to standard output; the files are whole")])
+/// A file that couldn't be read, and the system's reason, where it gave one.
+pub fn unread(page: &mut Page, name: &str, reason: Option<Error>) -> Result<(), AllocError> {
+    say_reason(page, name, UNREAD, reason)
 }
 
-fn say_one_file(page: &mut Page, name: &str, other: &str) -> Result<(), AllocError> {
-    let name = shown_name(page.alloc(), name)?;
-    let other = shown_name(page.alloc(), other)?;
-    let reason = b" are one file, and what is written needs one of its own";
-    page.say(&[Text(&name), Text(b" and "), Text(&other), Text(reason)])
+/// A file that couldn't be written, and the system's reason, where it gave one.
+pub fn unwritten(page: &mut Page, name: &str, reason: Option<Error>) -> Result<(), AllocError> {
+    say_reason(page, name, UNWRITTEN, reason)
 }
 
-// Whether two names lead to one file, as the system tells files apart: by device and number. A device of
-// characters may have many names.
-fn lead_to_one_file<R: Files>(rt: &R, name: &str, other: &str) -> bool {
-    match (fs::metadata(rt, name), fs::metadata(rt, other)) {
-        (Ok(told), Ok(known)) => {
-            !told.file_type().is_char_device()
-                && told.ino() != 0
-                && (told.dev(), told.ino()) == (known.dev(), known.ino())
-        }
-        _ => false,
-    }
+/// A file that is to be written, and the other name of the run that leads to it.
+pub fn one_file(page: &mut Page, name: &str, other: &str) -> Result<(), AllocError> {
+    let name = shown_name(page.alloc, name)?;
+    let other = shown_name(page.alloc, other)?;
+    page.tell(ONE_FILE, &[Text(&name), Text(&other)])
 }
 
+/// A file that is to be written, to which standard output leads.
+pub fn printed_file(page: &mut Page, name: &str) -> Result<(), AllocError> {
+    let name = shown_name(page.alloc, name)?;
+    page.tell(PRINTED_FILE, &[Text(&name)])
+}
+
+/// A file that is to be written, to which standard error leads.
+pub fn told_file(page: &mut Page, name: &str) -> Result<(), AllocError> {
+    let name = shown_name(page.alloc, name)?;
+    page.tell(TOLD_FILE, &[Text(&name)])
+}
+
+/// What is printed couldn't be; a run had written its files.
+pub fn unprinted(page: &mut Page, is_run: bool) -> Result<(), AllocError> {
+    page.tell(if is_run { UNPRINTED } else { UNSHOWN }, &[])
+}
+
+// What happened, and the reason: the system's, or the one that stands beside it.
 fn say_reason(
     page: &mut Page,
     name: &str,
-    what: &[u8],
-    reason: Option<io::Error>,
-    otherwise: &[u8],
+    (what, otherwise): (&str, &str),
+    reason: Option<Error>,
 ) -> Result<(), AllocError> {
-    let name = shown_name(page.alloc(), name)?;
+    let name = shown_name(page.alloc, name)?;
     match reason {
         Some(error) => {
-            let reason = format!(in page.alloc(); "{error}")?;
-            page.say(&[Text(&name), Text(what), Text(reason.as_bytes())])
+            let reason = format!(in page.alloc; "{error}")?;
+            page.tell(what, &[Text(&name), Text(reason.as_bytes())])
         }
-        None => page.say(&[Text(&name), Text(what), Text(otherwise)]),
+        None => page.tell(what, &[Text(&name), Text(otherwise.as_bytes())]),
     }
-}
-
-// Only a file or a folder is opened once more: a pipe would be waited for.
-fn reading_reason<R: Files>(rt: &R, name: &str) -> Option<io::Error> {
-    match fs::metadata(rt, name) {
-        Err(error) => Some(error),
-        Ok(told) if told.is_file() || told.is_dir() => try_reading(rt, name).err(),
-        Ok(_) => None,
-    }
-}
-
-fn try_reading<R: Files>(rt: &R, name: &str) -> io::Result<usize> {
-    let mut file = File::open(rt, name)?;
-    let mut byte = [0u8; 1];
-    file.read(&mut byte)
-}
-
-// What a file holds stays as it is.
-fn writing_reason<R: Files>(rt: &R, name: &str) -> Option<io::Error> {
-    match fs::metadata(rt, name) {
-        Err(_) => try_making(rt, name).err(),
-        Ok(told) if told.is_file() || told.is_dir() => {
-            OpenOptions::new().write(true).open(rt, name).err()
-        }
-        Ok(_) => None,
-    }
-}
-
-// A file that wasn't there, and isn't there afterwards.
-fn try_making<R: Files>(rt: &R, name: &str) -> io::Result<()> {
-    File::create_new(rt, name)?;
-    fs::remove_file(rt, name)
 }

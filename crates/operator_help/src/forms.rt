@@ -1,128 +1,255 @@
-//! The forms of the lines of a policy.
+//! The kinds of functions, the forms of their lines, and which word of a line doesn't fit them. The forms and the clauses that words
+//! are compared with are those that are shown.
 
-use crate::clauses::Leads;
-use crate::wanted::Wanted::{
-    Address, Any, Clauses, Digits, Either, LinkAddress, Name, Ports, Prefix, Rest, Within, Word,
-};
-use crate::wanted::{Form, Wanted};
+use crate::lines::{Row, part, rows_of, until};
 use action_profile::Kind;
+use policy_text::{address, mac, number, prefix, range};
+use std::alloc::{AllocError, Global};
 
-static CHAIN: [Form; 2] = [
-    &[Word(b"chain"), Name],
-    &[Word(b"chain"), Name, Word(b"match"), Clauses(Leads::All)],
+/// The most bytes of a pattern.
+const MAX_PATTERN: usize = 256;
+
+/// How many clauses there are.
+const CLAUSES: usize = 6;
+
+/// The greatest number that a form has.
+const GREATEST: u64 = 4_294_967_295;
+
+/// How many words may be wanted at one place.
+const ALTERNATIVES: usize = 3;
+
+/// All kinds, in the order of their sections in the operator's manual.
+static KINDS: [Kind; 12] = [
+    Kind::Firewall,
+    Kind::Signature,
+    Kind::Nat,
+    Kind::Balancer,
+    Kind::Monitor,
+    Kind::Limiter,
+    Kind::Marker,
+    Kind::Nexthop,
+    Kind::Hop,
+    Kind::Redactor,
+    Kind::Tagger,
+    Kind::Untagger,
 ];
 
-static FUNCTION: [Form; 1] = [&[Word(b"fn"), Name, Wanted::Kind]];
-
-static ORDER: [Form; 1] = [&[Word(b"order"), Name, Word(b"before"), Name]];
-
-static PRIORITY: [Form; 1] = [&[Word(b"priority"), Name, Word(b">"), Name]];
-
-static POSITION: [Form; 1] = [&[Word(b"position"), Name, Either(b"first", b"last")]];
-
-static SET: [Form; 1] = [&[Word(b"set"), Rest]];
-
-static RULE: [Form; 1] = [&[Word(b"rule"), Rest]];
-
-static NO_FORMS: [Form; 0] = [];
-
-static FIREWALL: [Form; 2] = [
-    &[Word(b"set"), Word(b"default"), Either(b"allow", b"deny")],
-    &[
-        Word(b"rule"),
-        Either(b"allow", b"deny"),
-        Clauses(Leads::All),
-    ],
-];
-
-static PATTERNS: [Form; 2] = [
-    &[Word(b"rule"), Word(b"text"), Any],
-    &[Word(b"rule"), Word(b"hex"), Digits],
-];
-
-static NAT: [Form; 3] = [
-    &[Word(b"set"), Word(b"inside"), Prefix],
-    &[Word(b"set"), Word(b"public"), Address],
-    &[Word(b"set"), Word(b"ports"), Ports],
-];
-
-static BALANCER: [Form; 2] = [
-    &[Word(b"set"), Word(b"vip"), Address],
-    &[Word(b"rule"), Word(b"backend"), Address],
-];
-
-static LIMITER: [Form; 2] = [
-    &[Word(b"set"), Word(b"rate"), Within(1, 4294967295)],
-    &[Word(b"set"), Word(b"burst"), Within(1, 4294967295)],
-];
-
-static MARKER: [Form; 1] = [&[
-    Word(b"rule"),
-    Word(b"tos"),
-    Within(0, 255),
-    Clauses(Leads::Untagged),
-]];
-
-static NEXTHOP: [Form; 1] = [&[
-    Word(b"rule"),
-    Prefix,
-    Word(b"to"),
-    LinkAddress,
-    Word(b"from"),
-    LinkAddress,
-]];
-
-static TAGGER: [Form; 1] = [&[
-    Word(b"rule"),
-    Word(b"vid"),
-    Within(0, 4095),
-    Word(b"pcp"),
-    Within(0, 7),
-    Clauses(Leads::Source),
-]];
-
-/// The forms of the lines that begin with this word.
-pub fn forms_of_line(first: &[u8]) -> &'static [Form] {
-    if first == b"chain".as_slice() {
-        &CHAIN
-    } else if first == b"fn".as_slice() {
-        &FUNCTION
-    } else if first == b"order".as_slice() {
-        &ORDER
-    } else if first == b"priority".as_slice() {
-        &PRIORITY
-    } else if first == b"position".as_slice() {
-        &POSITION
-    } else if first == b"set".as_slice() {
-        &SET
-    } else if first == b"rule".as_slice() {
-        &RULE
-    } else {
-        &NO_FORMS
+/// The kind with this name.
+pub fn kind_named(word: &[u8]) -> Option<Kind> {
+    for kind in &KINDS {
+        if kind.name().as_bytes() == word {
+            return Some(*kind);
+        }
     }
+    None
 }
 
-/// The forms of the lines of a function of this kind.
-pub fn forms_of_kind(kind: Kind) -> &'static [Form] {
+/// The names of the kinds, each after a blank.
+pub fn kind_names(alloc: Global) -> Result<Vec<u8>, AllocError> {
+    let mut text = Vec::new(alloc);
+    for kind in &KINDS {
+        text.push(b' ')?;
+        text.extend_from_slice(kind.name().as_bytes())?;
+    }
+    Ok(text)
+}
+
+/// The forms of the lines of a function of this kind, one a line.
+pub fn forms_of(kind: Kind) -> &'static str {
     match kind {
-        Kind::Firewall => &FIREWALL,
-        Kind::Signature | Kind::Redactor => &PATTERNS,
-        Kind::Nat => &NAT,
-        Kind::Balancer => &BALANCER,
-        Kind::Limiter => &LIMITER,
-        Kind::Marker => &MARKER,
-        Kind::Nexthop => &NEXTHOP,
-        Kind::Tagger => &TAGGER,
-        Kind::Monitor | Kind::Hop | Kind::Untagger => &NO_FORMS,
+        Kind::Firewall => "  set default allow|deny\n  rule allow|deny CLAUSE ..",
+        Kind::Signature | Kind::Redactor => "  rule text WORD\n  rule hex DIGITS",
+        Kind::Nat => "  set inside PREFIX\n  set public ADDRESS\n  set ports LO-HI",
+        Kind::Balancer => "  set vip ADDRESS\n  rule backend ADDRESS",
+        Kind::Limiter => "  set rate 1-4294967295\n  set burst 1-4294967295",
+        Kind::Marker => "  rule tos 0-255 CLAUSE ..",
+        Kind::Nexthop => "  rule PREFIX to MAC from MAC",
+        Kind::Tagger => "  rule vid 0-4095 pcp 0-7 CLAUSE ..",
+        Kind::Monitor | Kind::Hop | Kind::Untagger => "",
     }
 }
+
+/// The clauses that a line of this kind takes.
+pub fn clauses_of(kind: Kind) -> &'static str {
+    match kind {
+        Kind::Marker => "src PREFIX, dst PREFIX, sport PORTS, dport PORTS, proto tcp|udp|0-255",
+        Kind::Tagger => "src PREFIX",
+        _ => ALL_CLAUSES,
+    }
+}
+
+/// All clauses.
+pub const ALL_CLAUSES: &str =
+    "src PREFIX, dst PREFIX, sport PORTS, dport PORTS, proto tcp|udp|0-255, tag 0-4095|none";
 
 /// What a function of this kind can't be without.
-pub fn required_of(kind: Kind) -> &'static [u8] {
+pub fn required_of(kind: Kind) -> &'static str {
     match kind {
-        Kind::Nat => b"set inside, set public and set ports",
-        Kind::Balancer => b"set vip and at least one rule backend",
-        Kind::Limiter => b"set rate and set burst",
-        _ => b"nothing",
+        Kind::Nat => "set inside, set public and set ports",
+        Kind::Balancer => "set vip and at least one rule backend",
+        Kind::Limiter => "set rate and set burst",
+        _ => "nothing",
     }
+}
+
+/// The forms of the lines that begin with this word, one a line.
+pub fn forms_of_line(first: &[u8]) -> &'static str {
+    if first == b"chain".as_slice() {
+        "  chain NAME\n  chain NAME match CLAUSE .."
+    } else if first == b"fn".as_slice() {
+        "  fn NAME KIND"
+    } else if first == b"order".as_slice() {
+        "  order NAME before NAME"
+    } else if first == b"priority".as_slice() {
+        "  priority NAME > NAME"
+    } else if first == b"position".as_slice() {
+        "  position NAME first|last"
+    } else if first == b"set".as_slice() {
+        "  set WORD .."
+    } else if first == b"rule".as_slice() {
+        "  rule WORD .."
+    } else {
+        ""
+    }
+}
+
+/// The place up to which a line fits the best of these forms. Nothing where it fits one of them whole.
+pub fn best_misfit(
+    alloc: Global,
+    forms: &str,
+    clauses: &str,
+    row: Row<'_>,
+) -> Result<Option<usize>, AllocError> {
+    let clauses = Row::new(0, clauses.as_bytes());
+    let mut best = 0;
+    for form in &rows_of(alloc, forms.as_bytes())? {
+        match misfit(*form, clauses, row) {
+            None => return Ok(None),
+            Some(place) => best = place.max(best),
+        }
+    }
+    Ok(Some(best))
+}
+
+// The place of the first word that doesn't fit a form, is missing or is one too many.
+fn misfit(form: Row<'_>, clauses: Row<'_>, row: Row<'_>) -> Option<usize> {
+    for place in 0..form.text.len() {
+        let wanted = form.word(place);
+        let word = row.word(place);
+        if wanted == b"CLAUSE".as_slice() {
+            return clauses_misfit(clauses, row, place);
+        }
+        if wanted.is_empty() && word.is_empty() {
+            return None;
+        }
+        if word.is_empty() || !fits(wanted, word) {
+            return Some(place);
+        }
+    }
+    None
+}
+
+// The place of the first word, from this place on, that doesn't fit clauses, is missing, or stands twice.
+fn clauses_misfit(clauses: Row<'_>, row: Row<'_>, from: usize) -> Option<usize> {
+    let mut place = from;
+    for _ in 0..=CLAUSES {
+        let lead = row.word(place);
+        if lead.is_empty() {
+            return None;
+        }
+        let wanted = wanted_of(clauses, lead);
+        if wanted.is_empty() || place_of_word(row, from, lead) < place {
+            return Some(place);
+        }
+        let value = place.saturating_add(1);
+        if row.word(value).is_empty() || !fits(wanted, row.word(value)) {
+            return Some(value);
+        }
+        place = value.saturating_add(1);
+    }
+    None
+}
+
+// What has to stand behind the first word of a clause, or nothing where there is no such clause.
+fn wanted_of<'a>(clauses: Row<'a>, lead: &[u8]) -> &'a [u8] {
+    clauses.word(place_of_word(clauses, 0, lead).saturating_add(1))
+}
+
+// The place of the first clause, from this place on, that begins with a word, or behind all of them.
+fn place_of_word(row: Row<'_>, from: usize, lead: &[u8]) -> usize {
+    let mut place = from;
+    for _ in 0..CLAUSES {
+        if row.word(place) == lead {
+            return place;
+        }
+        place = place.saturating_add(2);
+    }
+    place
+}
+
+// Does a word fit one of those that are wanted, with bars between them and maybe a comma behind?
+fn fits(wanted: &[u8], word: &[u8]) -> bool {
+    let mut rest = &wanted[..until(wanted, b',')];
+    for _ in 0..ALTERNATIVES {
+        let end = until(rest, b'|');
+        if fits_one(&rest[..end], word) {
+            return true;
+        }
+        rest = part(rest, end.saturating_add(1), rest.len());
+    }
+    false
+}
+
+fn fits_one(wanted: &[u8], word: &[u8]) -> bool {
+    if wanted == b"PREFIX".as_slice() {
+        prefix(word).is_some()
+    } else if wanted == b"ADDRESS".as_slice() {
+        address(word).is_some()
+    } else if wanted == b"PORTS".as_slice() {
+        range(word).is_some()
+    } else if wanted == b"LO-HI".as_slice() {
+        are_ports(word)
+    } else if wanted == b"MAC".as_slice() {
+        mac(word).is_some()
+    } else if wanted == b"WORD".as_slice() {
+        word.len() <= MAX_PATTERN
+    } else if wanted == b"DIGITS".as_slice() {
+        are_digits(word)
+    } else if until(wanted, b'-') < wanted.len() {
+        is_within(wanted, word)
+    } else {
+        wanted == word
+    }
+}
+
+// Two ports from 1 on with a dash, the first at most the second.
+fn are_ports(word: &[u8]) -> bool {
+    match range(word) {
+        Some((low, _)) => low > 0 && until(word, b'-') < word.len(),
+        None => false,
+    }
+}
+
+// Pairs of hexadecimal digits.
+fn are_digits(word: &[u8]) -> bool {
+    for digit in word {
+        if !digit.is_ascii_hexdigit() {
+            return false;
+        }
+    }
+    word.len() % 2 == 0 && word.len() / 2 <= MAX_PATTERN
+}
+
+// Is a word a number between these, which have a dash between them?
+fn is_within(wanted: &[u8], word: &[u8]) -> bool {
+    let dash = until(wanted, b'-');
+    let most = part(wanted, dash.saturating_add(1), wanted.len());
+    match (number_of(&wanted[..dash]), number_of(word), number_of(most)) {
+        (Some(least), Some(value), Some(most)) => least <= value && value <= most,
+        _ => false,
+    }
+}
+
+fn number_of(word: &[u8]) -> Option<u64> {
+    number(word, 20, GREATEST)
 }

@@ -3,28 +3,23 @@
 //! A [`Page`] is a text for standard error, line by line. The other calls put on a page what belongs to a fault: the forms of the
 //! commands ([`usage`]), the line of a policy with its fault marked, the forms that such a line may have and the word that doesn't
 //! fit ([`policy`]), what a file is that is no capture, or whose packets have no Ethernet header, and how to get one ([`capture`]),
-//! and why the system refuses a file ([`files`]). The forms stand in one table, which is both shown and compared with.
+//! and why the system refuses a file ([`files`]). The forms stand there as texts, which are both
+//! shown and compared with.
 //!
 //! Bytes of files are shown escaped, and long lines cut. A page is nothing but help: where there is no memory for it, it is left
 //! out, and nothing of it is proved but that each call ends and is safe.
 #![tactic(auto)]
 
 pub mod capture;
-mod clauses;
 pub mod files;
 mod forms;
-mod kinds;
 mod lines;
-mod links;
 mod page;
 pub mod policy;
 mod release;
 mod settings;
 mod shown;
-#[cfg(test)]
-mod tests;
 pub mod usage;
-mod wanted;
 
 pub use page::Page;
 pub use release::VERSION;

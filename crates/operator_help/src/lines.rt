@@ -1,50 +1,78 @@
-//! The lines of a policy text and their words.
-ghost use Rattle.std.specs.Prelude.{◌<◌, length, IfSome};
+//! The lines of a text and their words.
+ghost use Rattle.std.specs.Prelude.{◌<◌, ◌≤◌, length, IfSome};
 
 use std::alloc::{AllocError, Global};
 
-/// A word of a line, and the bytes before it.
+/// A line with its number, counted from 1, and what of it stands before a comment.
 #[derive(Clone, Copy)]
-pub struct Spot<'a> {
-    pub column: usize,
-    pub word: &'a [u8],
-}
-
-/// A line with its number, counted from 1, and its words.
-#[derive(Drop)]
 pub struct Row<'a> {
     pub number: u32,
     pub text: &'a [u8],
-    pub words: Vec<Spot<'a>>,
+    said: &'a [u8],
 }
 
 impl<'a> Row<'a> {
+    pub fn new(number: u32, line: &'a [u8]) -> Self {
+        let text = line.strip_suffix(b"\r").unwrap_or(line);
+        let said = &text[..until(text, b'#')];
+        Row { number, text, said }
+    }
+
     /// The word at a place, counted from 0, or nothing.
     pub fn word(&self, place: usize) -> &'a [u8] {
-        match self.words.get(place) {
-            Some(spot) => spot.word,
-            None => &[],
-        }
+        let (start, end) = self.span(place);
+        part(self.said, start, end)
     }
 
     /// The column of the word at a place, counted from 0, or the one behind the last word.
     pub fn column(&self, place: usize) -> usize {
-        match self.words.get(place) {
-            Some(spot) => spot.column,
-            None => match self.words.last() {
-                Some(spot) => spot.column.saturating_add(spot.word.len()),
-                None => 0,
-            },
+        self.span(place).0
+    }
+
+    // Where the word at a place begins and ends. One that isn't there begins and ends behind the last.
+    fn span(&self, place: usize) -> (usize, usize) {
+        let mut last = 0;
+        for _ in 0..place {
+            let (start, end) = next_word(self.said, last);
+            if start == end {
+                return (last, last);
+            }
+            last = end;
+        }
+        match next_word(self.said, last) {
+            (start, end) if start < end => (start, end),
+            _ => (last, last),
         }
     }
 
     /// The place of the word at a column.
     pub fn place_at(&self, column: usize) -> Option<usize> {
-        self.words.iter().position(|spot| spot.column == column)
+        let mut last = 0;
+        for place in 0..self.said.len() {
+            let (start, end) = next_word(self.said, last);
+            if start == end {
+                return None;
+            }
+            if start == column {
+                return Some(place);
+            }
+            last = end;
+        }
+        None
     }
 
     pub fn begins_with(&self, word: &[u8]) -> bool {
         self.word(0) == word
+    }
+
+    /// Is it a line `set` or `rule`?
+    pub fn is_setting(&self) -> bool {
+        self.begins_with(b"set") || self.begins_with(b"rule")
+    }
+
+    /// Does it declare a function of this name?
+    pub fn declares(&self, name: &[u8]) -> bool {
+        self.begins_with(b"fn") && self.word(1) == name
     }
 }
 
@@ -54,31 +82,48 @@ pub fn rows_of(alloc: Global, text: &[u8]) -> Result<Vec<Row<'_>>, AllocError> {
     let mut number = 0u32;
     for line in text.split(|byte| *byte == b'\n') {
         number = number.saturating_add(1);
-        let row = make_row(alloc, number, line)?;
-        if !row.words.is_empty() {
+        let row = Row::new(number, line);
+        if !row.word(0).is_empty() {
             rows.push(row)?;
         }
     }
     Ok(rows)
 }
 
-// A line, whose comment has no words.
-fn make_row(alloc: Global, number: u32, line: &[u8]) -> Result<Row<'_>, AllocError> {
-    let text = line.strip_suffix(b"\r").unwrap_or(line);
-    let said = text.split(|byte| *byte == b'#').next().unwrap_or(text);
-    let mut words = Vec::new(alloc);
-    let mut column = 0usize;
-    for word in said.split(|byte| is_blank(*byte)) {
-        if !word.is_empty() {
-            words.push(Spot { column, word })?;
+/// How many bytes stand before the first one like this.
+pub fn until(text: &[u8], byte: u8) -> usize
+    ensures { result ≤ length text.now }
+{
+    for (place, found) in text.iter().enumerate() {
+        if *found == byte {
+            return place.min(text.len());
         }
-        column = column.saturating_add(word.len()).saturating_add(1);
     }
-    Ok(Row {
-        number,
-        text,
-        words,
-    })
+    text.len()
+}
+
+/// The bytes of a text between two places.
+pub fn part(text: &[u8], start: usize, end: usize) -> &[u8] {
+    let end = end.min(text.len());
+    &text[start.min(end)..end]
+}
+
+// Where the first word from this place on begins and ends: at one place where there is none.
+fn next_word(text: &[u8], from: usize) -> (usize, usize) {
+    let start = skip(text, from, true);
+    (start, skip(text, start, false))
+}
+
+// The first place, from this one on, behind blanks, or behind what is none.
+fn skip(text: &[u8], from: usize, blanks: bool) -> usize {
+    let mut place = from;
+    for byte in &text[from.min(text.len())..] {
+        if is_blank(*byte) != blanks {
+            return place;
+        }
+        place = place.saturating_add(1);
+    }
+    place
 }
 
 fn is_blank(byte: u8) -> bool {
@@ -89,11 +134,21 @@ fn is_blank(byte: u8) -> bool {
 pub fn place_of(rows: &[Row<'_>], number: u32) -> Option<usize>
     ensures { IfSome result (λ place. place < length rows.now) }
 {
-    rows.iter().position(|row| row.number == number)
+    for (place, row) in rows.iter().enumerate() {
+        if row.number == number {
+            return Some(place);
+        }
+    }
+    None
 }
 
 /// The last line before this place that begins with a word.
-pub fn last_before<'r, 'a>(rows: &'r [Row<'a>], place: usize, word: &[u8]) -> Option<&'r Row<'a>> {
-    let end = place.min(rows.len());
-    rows[..end].iter().rev().find(|row| row.begins_with(word))
+pub fn last_before<'a>(rows: &[Row<'a>], place: usize, word: &[u8]) -> Option<Row<'a>> {
+    let mut last = None;
+    for (at, row) in rows.iter().enumerate() {
+        if at < place && row.begins_with(word) {
+            last = Some(*row);
+        }
+    }
+    last
 }

@@ -3,7 +3,7 @@
 use crate::shown::push_shown;
 use std::alloc::{AllocError, Global};
 use std::str::from_utf8;
-use text_lines::{Piece, push_line};
+use text_lines::{Piece, push_pieces};
 
 /// What each line begins with.
 const PREFIX: &[u8] = b"nfp: ";
@@ -14,7 +14,7 @@ const INDENTED: &[u8] = b"nfp:   ";
 /// Lines for the operator, each behind the name of the program.
 #[derive(Drop)]
 pub struct Page {
-    alloc: Global,
+    pub(crate) alloc: Global,
     text: Vec<u8>,
 }
 
@@ -32,20 +32,39 @@ impl Page {
         from_utf8(&self.text).unwrap_or("")
     }
 
-    pub(crate) fn alloc(&self) -> Global {
-        self.alloc
-    }
-
-    /// Adds a line.
-    pub fn say(&mut self, pieces: &[Piece]) -> Result<(), AllocError> {
+    /// Adds lines, in which each `{}` stands for the next of the pieces. One that belongs to the line before it begins with two
+    /// blanks.
+    pub(crate) fn tell(&mut self, lines: &str, pieces: &[Piece]) -> Result<(), AllocError> {
+        let mut next = 0;
         self.text.extend_from_slice(PREFIX)?;
-        push_line(self.alloc, &mut self.text, pieces)
+        for byte in lines.as_bytes() {
+            if *byte == b'{' {
+                self.put(pieces, next)?;
+                next = 1usize.saturating_add(next);
+            } else if *byte != b'}' {
+                self.push(*byte)?;
+            }
+        }
+        self.text.push(b'\n')?;
+        Ok(())
     }
 
-    /// Adds a line that belongs to the one before.
-    pub fn add(&mut self, pieces: &[Piece]) -> Result<(), AllocError> {
-        self.text.extend_from_slice(INDENTED)?;
-        push_line(self.alloc, &mut self.text, pieces)
+    // Adds the piece at a place.
+    fn put(&mut self, pieces: &[Piece], place: usize) -> Result<(), AllocError> {
+        if place < pieces.len() {
+            push_pieces(self.alloc, &mut self.text, &pieces[place..=place])
+        } else {
+            Ok(())
+        }
+    }
+
+    // Adds a byte of a text, and the prefix behind the end of a line.
+    fn push(&mut self, byte: u8) -> Result<(), AllocError> {
+        self.text.push(byte)?;
+        if byte == b'\n' {
+            self.text.extend_from_slice(PREFIX)?;
+        }
+        Ok(())
     }
 
     /// Adds a line of a file, with a mark under this column where there is one, counted from 0.

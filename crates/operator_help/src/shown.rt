@@ -42,17 +42,33 @@ pub fn shown(alloc: Global, bytes: &[u8]) -> Result<Vec<u8>, AllocError> {
     Ok(text)
 }
 
-// A name of a file, whose letters may be of any alphabet: only what steers a terminal is escaped.
+// A name of a file, whose letters may be of any alphabet: only what steers a terminal is escaped, the controls of ASCII and those
+// from U+0080 to U+009F, which UTF-8 writes as the byte 0xc2 and one from 0x80 to 0x9f.
 pub fn shown_name(alloc: Global, name: &str) -> Result<Vec<u8>, AllocError> {
     let mut text = Vec::new(alloc);
-    for byte in name.as_bytes() {
-        if *byte < b' ' || *byte == 0x7f {
+    let bytes = name.as_bytes();
+    let mut before = 0;
+    for (place, byte) in bytes.iter().enumerate() {
+        let steers = *byte < b' '
+            || *byte == 0x7f
+            || (before == 0xc2 && *byte < 0xa0)
+            || (*byte == 0xc2 && is_control_behind(bytes, place));
+        if steers {
             push_byte(&mut text, *byte)?;
         } else {
             text.push(*byte)?;
         }
+        before = *byte;
     }
     Ok(text)
+}
+
+// Is the byte behind this place the second of a control?
+fn is_control_behind(bytes: &[u8], place: usize) -> bool {
+    match bytes.get(place.saturating_add(1)) {
+        Some(next) => *next < 0xa0,
+        None => false,
+    }
 }
 
 fn push_escaped(text: &mut Vec<u8>, bytes: &[u8]) -> Result<(), AllocError> {
@@ -64,22 +80,28 @@ fn push_escaped(text: &mut Vec<u8>, bytes: &[u8]) -> Result<(), AllocError> {
 
 // A printable character as it is, a tab as a blank, and any other byte by its number.
 fn push_byte(text: &mut Vec<u8>, byte: u8) -> Result<(), AllocError> {
-    match byte {
-        b' '..=b'~' => text.push(byte)?,
-        b'\t' => text.push(b' ')?,
-        _ => {
-            text.extend_from_slice(b"\\x")?;
-            text.push(DIGITS[usize::from(byte / 16)])?;
-            text.push(DIGITS[usize::from(byte % 16)])?;
-        }
+    if is_printable(byte) {
+        text.push(byte)?;
+    } else if byte == b'\t' {
+        text.push(b' ')?;
+    } else {
+        text.extend_from_slice(b"\\x")?;
+        text.push(DIGITS[usize::from(byte / 16)])?;
+        text.push(DIGITS[usize::from(byte % 16)])?;
     }
     Ok(())
 }
 
 // How many characters a byte is shown by.
 fn width(byte: u8) -> usize {
-    match byte {
-        b' '..=b'~' | b'\t' => 1,
-        _ => 4,
+    if is_printable(byte) || byte == b'\t' {
+        1
+    } else {
+        4
     }
+}
+
+/// Is it a character of ASCII, or a blank?
+pub fn is_printable(byte: u8) -> bool {
+    byte >= b' ' && byte <= b'~'
 }

@@ -6,79 +6,50 @@ use crate::shown::shown;
 use std::alloc::AllocError;
 use text_lines::Piece::{Number, Text};
 
-/// The options of `run` and `demo`.
-const OPTIONS: &[u8] = b" [--mergers N] [--burst N] [--merge WAY]";
+const FORMS: &str =
+    "the words are one of:\n  nfp run POLICY CAPTURE OUT REPORT [--mergers N] [--burst N] [--merge WAY]\n  nfp plan POLICY\n  nfp demo SEED COUNT [--mergers N] [--burst N] [--merge WAY]\nPOLICY and CAPTURE are read, OUT and REPORT are written anew; behind `--` each word is a name\nmergers are 1 to 16 (2 where it isn't said), a burst has 1 to 65536 packets (1024), WAY is inbox or board (inbox)";
+
+const SAME_NAME: &str =
+    "two of POLICY, CAPTURE, OUT and REPORT have the same name, and one would be written over the other";
 
 /// The forms of the commands.
 pub fn forms(page: &mut Page) -> Result<(), AllocError> {
-    page.say(&[Text(b"the words are one of:")])?;
-    page.add(&[Text(b"nfp run POLICY CAPTURE OUT REPORT"), Text(OPTIONS)])?;
-    page.add(&[Text(b"nfp plan POLICY")])?;
-    page.add(&[Text(b"nfp demo SEED COUNT"), Text(OPTIONS)])?;
-    page.say(&[Text(
-        b"POLICY and CAPTURE are read, OUT and REPORT are written anew; behind `--` each word is a name",
-    )])?;
-    page.say(&[Text(
-        b"mergers are 1 to 16 (2 where it isn't said), a burst has 1 to 65536 packets (1024), WAY is inbox or board (inbox)",
-    )])
+    page.tell(FORMS, &[])
 }
 
-/// The version of the program.
-pub fn version(page: &mut Page) -> Result<(), AllocError> {
-    page.say(&[Text(b"version "), Text(VERSION.as_bytes())])
-}
-
-/// Does the word ask for the version?
-pub fn asks_version(word: &str) -> bool {
-    word == "--version" || word == "-V" || word == "version"
-}
-
-/// Does the word ask for the forms?
-pub fn asks_help(word: &str) -> bool {
-    word == "--help" || word == "-h" || word == "help"
-}
-
-/// The first word is no command.
+/// The first word is no command. It may ask for the version, or for the forms.
 pub fn no_command(page: &mut Page, word: &str) -> Result<(), AllocError> {
-    let word = shown(page.alloc(), word.as_bytes())?;
-    page.say(&[Text(b"`"), Text(&word), Text(b"` is no command")])
+    match word {
+        "--version" | "-V" | "version" => page.tell("version {}", &[Text(VERSION.as_bytes())]),
+        "--help" | "-h" | "help" => Ok(()),
+        _ => unknown(page, word),
+    }
+}
+
+fn unknown(page: &mut Page, word: &str) -> Result<(), AllocError> {
+    let word = shown(page.alloc, word.as_bytes())?;
+    page.tell("`{}` is no command", &[Text(&word)])
 }
 
 /// A number has to lie in this range.
 pub fn out_of_range(page: &mut Page, what: &str, least: u64, most: u64) -> Result<(), AllocError> {
-    page.say(&[
-        Text(what.as_bytes()),
-        Text(b" is a number from "),
-        Number(least),
-        Text(b" to "),
-        Number(most),
-    ])
+    let pieces = [Text(what.as_bytes()), Number(least), Number(most)];
+    page.tell("{} is a number from {} to {}", &pieces)
 }
 
-/// A value has to be one of these.
-pub fn one_of<'a>(page: &mut Page, what: &'a str, values: &'a str) -> Result<(), AllocError> {
-    page.say(&[
-        Text(what.as_bytes()),
-        Text(b" is one of "),
-        Text(values.as_bytes()),
-    ])
+/// The way of merging is none.
+pub fn no_way(page: &mut Page) -> Result<(), AllocError> {
+    page.tell("the value of --merge is one of inbox and board", &[])
 }
 
 /// Two of the names are equal.
 pub fn same_name(page: &mut Page) -> Result<(), AllocError> {
-    page.say(&[Text(
-        b"two of POLICY, CAPTURE, OUT and REPORT have the same name, and one would be written over the other",
-    )])
+    page.tell(SAME_NAME, &[])
 }
 
 /// The word at a place, counted from 1, isn't UTF-8.
 pub fn not_utf8(page: &mut Page, place: u64, word: &[u8]) -> Result<(), AllocError> {
-    let word = shown(page.alloc(), word)?;
-    page.say(&[
-        Text(b"word "),
-        Number(place),
-        Text(b" isn't UTF-8: `"),
-        Text(&word),
-        Text(b"`; rename the file"),
-    ])
+    let word = shown(page.alloc, word)?;
+    let pieces = [Number(place), Text(&word)];
+    page.tell("word {} isn't UTF-8: `{}`; rename the file", &pieces)
 }

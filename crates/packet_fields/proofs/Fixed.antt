@@ -1,20 +1,18 @@
 -- The fixed values of a frame stay where its fields are written.
-use Rattle.std.proofs.Common.{◌≡◌, ◌≤◌, ◌<◌, ◌+◌, ◌*◌, ◌∙◌, ℕ, List, length, length-drop, subst, Bool, sym, arith, ⊎_elim}
+use Rattle.std.proofs.Common.{◌≡◌, ◌≤◌, ◌<◌, ◌+◌, ◌*◌, ◌∙◌, ℕ, List, length, length-drop, Bool, sym, arith, ⊎_elim}
 use Rattle.std.specs.Prelude.{Option, Some, None, if◌then◌else◌, nat_le}
 use Rattle.std.proofs.lemmas.Bool.{cases_lt, le-leb, lt-leb}
 use Rattle.packet_fields.specs.Frames.{packet_at, packet}
 use Rattle.packet_fields.specs.Packets.{protocol, total_len, control_bits}
 use Rattle.packet_fields.specs.Fields.{ether_type}
 use Rattle.packet_fields.specs.Writing.{written, all_fields, AllFit}
-use Rattle.packet_fields.specs.Checksums.{sealed}
 use Rattle.packet_fields.specs.declared.field.Field.{Field}
 use Rattle.packet_fields.proofs.TagWalk.{packet_at-short}
 use Rattle.packet_fields.proofs.Overwriting.{cong2}
 use Rattle.packet_fields.proofs.Shapes.{SameShape, protocol-same, total_len-same, control_bits-same}
 use Rattle.packet_fields.proofs.Framing.{framed}
 use Rattle.packet_fields.proofs.OverwrittenField.{ether_type-packet, same_shape}
-use Rattle.packet_fields.proofs.Sealed.{packet_sealed_keeps}
-use Rattle.packet_fields.proofs.RightFrames.{part_in, nowhere, sealed_packet}
+use Rattle.packet_fields.proofs.RightFrames.{part_in, nowhere}
 
 no_packet : (frame : List ℕ) → length frame < 14 → length (packet frame) ≡ 0
 no_packet frame short = omega (arith, length-drop (packet_at frame) frame, packet_at-short frame short)
@@ -51,11 +49,6 @@ same_fixed before after shape = record {
 pub fixed-written : (values : Field → Option (List ℕ)) (frame : List ℕ) → AllFit values frame → SameFixed frame (written values frame)
 fixed-written values frame fits =
     same_fixed frame (written values frame) (part_in all_fields values frame (record { at = length (packet frame); len = 0 }) fits (nowhere (packet frame))).shape
-
--- the fixed values of a sealed frame
-pub fixed-sealed : (before after : List ℕ) → SameFixed after (sealed before after)
-fixed-sealed before after =
-    same_fixed after (sealed before after) (subst (λ (q : List ℕ). SameShape (packet after) q) (sym (sealed_packet before after)) (packet_sealed_keeps (packet before) (packet after)).shape)
 
 -- a frame with the same packet has the same fixed values
 pub fixed-packet : (before after : List ℕ) → packet after ≡ packet before → SameFixed before after

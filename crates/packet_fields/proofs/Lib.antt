@@ -1,3 +1,4 @@
+pub mod Numbers
 pub mod TagWalk
 pub mod Spans
 mod Rows

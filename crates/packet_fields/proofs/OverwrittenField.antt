@@ -1,21 +1,22 @@
 -- A frame in which a field other than its tags was overwritten.
-use Rattle.std.proofs.Common.{◌≡◌, ◌≢◌, ◌≤◌, ◌<◌, ◌+◌, ◌-◌, ◌*◌, ◌∙◌, ℕ, suc, List, [], ◌∷◌, ◌++◌, length, take, drop, get_or, length-drop, length-append, Bool, true, false, ◌&&◌, sym, ap, refl, arith, subst, ⊎_elim, inl, inr}
+use Rattle.std.proofs.Common.{◌≡◌, ◌≢◌, ◌≤◌, ◌<◌, ◌+◌, ◌-◌, ◌*◌, ◌∙◌, ℕ, zero, suc, List, [], ◌∷◌, ◌++◌, length, take, drop, get_or, max, length-drop, length-append, Bool, true, false, ◌&&◌, sym, ap, refl, arith, subst, ⊎_elim, inl, inr}
 use Rattle.std.specs.Prelude.{Option, Some, None, ⊤, option_map, if◌then◌else◌, nat_le}
 use Rattle.std.proofs.lemmas.Bool.{cases_lt, leb-true}
 use Rattle.std.proofs.lemmas.List.{drop-drop, append_assoc, take-append-le, drop-append-le, get_or-drop}
 use Rattle.std.proofs.lemmas.Option.{MatchOption-at_some, none-some, same_Some}
 use Rattle.packet_fields.specs.Frames.{word, begins_tag, tags_len, type_at, packet_at, packet, tags_of, IsFramed}
 use Rattle.packet_fields.specs.Packets.{segment_at}
-use Rattle.packet_fields.specs.Fields.{span, value, bytes_at, packet_span, in_frame, moved, ether_type, layout_of}
+use Rattle.packet_fields.specs.Fields.{span, value, bytes_at, packet_span, in_frame, moved, ether_type, layout_of, number_of}
 use Rattle.packet_fields.specs.Writing.{overwritten}
 use Rattle.packet_fields.specs.declared.field.Field.{Field}
 use Rattle.packet_fields.specs.declared.field.Field.TheVariants.{LinkDst, LinkSrc, Tag, Tos, Ttl, SrcIp, DstIp, SrcPort, DstPort, Payload}
 use Rattle.packet_fields.specs.declared.plan.Span.{Span}
 use Rattle.packet_fields.specs.declared.plan.Layout.{Layout}
+use Rattle.packet_fields.proofs.Numbers.{same_number}
 use Rattle.packet_fields.proofs.TagWalk.{packet_at-long, packet_at-short}
 use Rattle.packet_fields.proofs.Spans.{if_some, some_tags, found_inside}
 use Rattle.packet_fields.proofs.Overwriting.{length-overwritten, drop-overwritten, cong2}
-use Rattle.packet_fields.proofs.Shapes.{SameShape, InBounds, bounds_at, inside_at, shape_kept, Apart, apart, packet_value, packet_span-same, total_len-same, protocol-same, control_bits-same, header_sum_at-same, segment_sum_at-same}
+use Rattle.packet_fields.proofs.Shapes.{SameShape, InBounds, bounds_at, inside_at, shape_kept, Apart, packet_value, packet_span-same, total_len-same, protocol-same, control_bits-same, header_sum_at-same, segment_sum_at-same}
 use Rattle.packet_fields.proofs.Framing.{framed, parts}
 
 -- a field of the packet
@@ -108,118 +109,92 @@ lies_at SrcPort frame s is = in_frame_at SrcPort frame s is
 lies_at DstPort frame s is = in_frame_at DstPort frame s is
 lies_at Payload frame s is = in_frame_at Payload frame s is
 
-apart_moved : (by : ℕ) (s t : Span) → Apart s t → Apart (moved by s) (moved by t)
-apart_moved by s t (inl h) = inl (omega arith)
-apart_moved by s t (inr h) = inr (omega arith)
+-- from where each field of a frame lies, if its packet begins at a and its segment there at s
+abbrev from : ℕ → ℕ → List ℕ
+from a s = 0 ∷ 6 ∷ 12 ∷ (a + 3) ∷ (a + 10) ∷ (a + 14) ∷ (a + 18) ∷ (a + s) ∷ (a + s + 2) ∷ (a + s + 8) ∷ []
 
-moved_apart : (f g : Field) (frame : List ℕ) (s t : Span) → f ≢ g → InPacketAt f frame s → InPacketAt g frame t → Apart s t
-moved_apart f g frame s t differ b c =
-    let p = packet frame in
-    let h = apart_moved (packet_at frame) b.at c.at (apart f g p b.at c.at differ (bounds_at f p b.at b.found) (bounds_at g p c.at c.found)) in
-    subst (λ (s : Span). Apart s t) (sym b.moved_is) (subst (λ (t : Span). Apart (moved (packet_at frame) b.at) t) (sym c.moved_is) h)
+abbrev Rises : ℕ → List ℕ → Type 0
+Rises low [] = ⊤
+Rises low (x ∷ xs) = (low ≤ x) × Rises x xs
+
+over_low : (low : ℕ) (xs : List ℕ) (m : ℕ) → Rises low xs → m < length xs → low ≤ get_or xs m 0
+over_low low [] m rises inside = absurd (omega arith)
+over_low low (x ∷ xs) zero rises inside = rises.0
+over_low low (x ∷ xs) (suc m) rises inside = let first = rises.0 in let more = over_low x xs m rises.1 (omega arith) in omega arith
+
+risen : (low : ℕ) (xs : List ℕ) (n m : ℕ) → Rises low xs → n ≤ m → m < length xs → get_or xs n 0 ≤ get_or xs m 0
+risen low [] n m rises before inside = absurd (omega arith)
+risen low (x ∷ xs) zero zero rises before inside = omega arith
+risen low (x ∷ xs) (suc n) zero rises before inside = absurd (omega arith)
+risen low (x ∷ xs) zero (suc m) rises before inside = over_low x xs m rises.1 (omega arith)
+risen low (x ∷ xs) (suc n) (suc m) rises before inside = risen x xs n m rises.1 (omega arith) (omega arith)
+
+from_rises : (a s : ℕ) → 12 ≤ a → 22 ≤ s → Rises 0 (from a s)
+from_rises a s behind far = (omega arith, (omega arith, (omega arith, (omega arith, (omega arith, (omega arith, (omega arith, (omega arith, (omega arith, (omega arith, tt))))))))))
+
+-- where a field of the packet lies among these places
+in_packet_between : (f : Field) (p : List ℕ) (s : Span) (a : ℕ) → InBounds f p s → (get_or (from a (max 22 (segment_at p))) (number_of f) 0 ≤ s.at + a) × (number_of f < 9 → s.at + s.len + a ≤ get_or (from a (max 22 (segment_at p))) (suc (number_of f)) 0) × (number_of f < 10)
+in_packet_between LinkDst p s a b = absurd b
+in_packet_between LinkSrc p s a b = absurd b
+in_packet_between Tag p s a b = absurd b
+in_packet_between Tos p s a b = (omega arith, λ _. omega arith, omega arith)
+in_packet_between Ttl p s a b = (omega arith, λ _. omega arith, omega arith)
+in_packet_between SrcIp p s a b = (omega arith, λ _. omega arith, omega arith)
+in_packet_between DstIp p s a b = (omega arith, λ _. omega arith, omega arith)
+in_packet_between SrcPort p s a b = (omega arith, λ _. omega arith, omega arith)
+in_packet_between DstPort p s a b = (omega arith, λ _. omega arith, omega arith)
+in_packet_between Payload p s a b = (omega arith, λ last. absurd (omega arith), omega arith)
+
+-- where a field of a frame lies among these places
+abbrev places_of : List ℕ → List ℕ
+places_of frame = from (max 12 (packet_at frame)) (max 22 (segment_at (packet frame)))
+
+record Between (f : Field) (frame : List ℕ) (s : Span) : Type 0 where
+  pub begins : get_or (places_of frame) (number_of f) 0 ≤ s.at
+  pub ends : number_of f < 9 → s.at + s.len ≤ get_or (places_of frame) (suc (number_of f)) 0
+  pub small : number_of f < 10
+
+packet_between : (f : Field) (frame : List ℕ) (s : Span) → InPacketAt f frame s → Between f frame s
+packet_between f frame s b =
+    let k = in_packet_between f (packet frame) b.at (packet_at frame) (bounds_at f (packet frame) b.at b.found) in
+    let is : max 12 (packet_at frame) ≡ packet_at frame = omega arith in
+    let at_is = ap (λ (s : Span). s.at) b.moved_is in
+    let len_is = ap (λ (s : Span). s.len) b.moved_is in
+    record {
+      begins = rw is (let h = k.0 in omega arith);
+      ends = λ first. rw is (let h = k.1 first in omega arith);
+      small = k.2;
+    }
+
+between : (f : Field) (frame : List ℕ) (s : Span) → LiesAt f frame s → Between f frame s
+between LinkDst frame s b = record { begins = omega arith; ends = λ _. omega arith; small = omega arith }
+between LinkSrc frame s b = record { begins = omega arith; ends = λ _. omega arith; small = omega arith }
+between Tag frame s b = record { begins = omega arith; ends = λ _. omega arith; small = omega arith }
+between Tos frame s b = packet_between Tos frame s b
+between Ttl frame s b = packet_between Ttl frame s b
+between SrcIp frame s b = packet_between SrcIp frame s b
+between DstIp frame s b = packet_between DstIp frame s b
+between SrcPort frame s b = packet_between SrcPort frame s b
+between DstPort frame s b = packet_between DstPort frame s b
+between Payload frame s b = packet_between Payload frame s b
+
+before : (f g : Field) (frame : List ℕ) (s t : Span) → number_of f < number_of g → Between f frame s → Between g frame t → s.at + s.len ≤ t.at
+before f g frame s t first b c =
+    let small = c.small in
+    let ends = b.ends (omega arith) in
+    let begins = c.begins in
+    let rises = from_rises (max 12 (packet_at frame)) (max 22 (segment_at (packet frame))) (omega arith) (omega arith) in
+    let later = risen 0 (places_of frame) (suc (number_of f)) (number_of g) rises (omega arith) small in
+    omega arith
 
 -- two fields of a frame lie apart
 pub apart_in_frame : (f g : Field) (frame : List ℕ) (s t : Span) → f ≢ g → LiesAt f frame s → LiesAt g frame t → Apart s t
-apart_in_frame LinkDst LinkDst frame s t differ b c = absurd (differ refl)
-apart_in_frame LinkDst LinkSrc frame s t differ b c = inl (omega arith)
-apart_in_frame LinkDst Tag frame s t differ b c = inl (omega arith)
-apart_in_frame LinkDst Tos frame s t differ b c = inl (omega (arith, ap (λ (s : Span). s.at) c.moved_is))
-apart_in_frame LinkDst Ttl frame s t differ b c = inl (omega (arith, ap (λ (s : Span). s.at) c.moved_is))
-apart_in_frame LinkDst SrcIp frame s t differ b c = inl (omega (arith, ap (λ (s : Span). s.at) c.moved_is))
-apart_in_frame LinkDst DstIp frame s t differ b c = inl (omega (arith, ap (λ (s : Span). s.at) c.moved_is))
-apart_in_frame LinkDst SrcPort frame s t differ b c = inl (omega (arith, ap (λ (s : Span). s.at) c.moved_is))
-apart_in_frame LinkDst DstPort frame s t differ b c = inl (omega (arith, ap (λ (s : Span). s.at) c.moved_is))
-apart_in_frame LinkDst Payload frame s t differ b c = inl (omega (arith, ap (λ (s : Span). s.at) c.moved_is))
-apart_in_frame LinkSrc LinkDst frame s t differ b c = inr (omega arith)
-apart_in_frame LinkSrc LinkSrc frame s t differ b c = absurd (differ refl)
-apart_in_frame LinkSrc Tag frame s t differ b c = inl (omega arith)
-apart_in_frame LinkSrc Tos frame s t differ b c = inl (omega (arith, ap (λ (s : Span). s.at) c.moved_is))
-apart_in_frame LinkSrc Ttl frame s t differ b c = inl (omega (arith, ap (λ (s : Span). s.at) c.moved_is))
-apart_in_frame LinkSrc SrcIp frame s t differ b c = inl (omega (arith, ap (λ (s : Span). s.at) c.moved_is))
-apart_in_frame LinkSrc DstIp frame s t differ b c = inl (omega (arith, ap (λ (s : Span). s.at) c.moved_is))
-apart_in_frame LinkSrc SrcPort frame s t differ b c = inl (omega (arith, ap (λ (s : Span). s.at) c.moved_is))
-apart_in_frame LinkSrc DstPort frame s t differ b c = inl (omega (arith, ap (λ (s : Span). s.at) c.moved_is))
-apart_in_frame LinkSrc Payload frame s t differ b c = inl (omega (arith, ap (λ (s : Span). s.at) c.moved_is))
-apart_in_frame Tag LinkDst frame s t differ b c = inr (omega arith)
-apart_in_frame Tag LinkSrc frame s t differ b c = inr (omega arith)
-apart_in_frame Tag Tag frame s t differ b c = absurd (differ refl)
-apart_in_frame Tag Tos frame s t differ b c = inl (omega (arith, ap (λ (s : Span). s.at) c.moved_is))
-apart_in_frame Tag Ttl frame s t differ b c = inl (omega (arith, ap (λ (s : Span). s.at) c.moved_is))
-apart_in_frame Tag SrcIp frame s t differ b c = inl (omega (arith, ap (λ (s : Span). s.at) c.moved_is))
-apart_in_frame Tag DstIp frame s t differ b c = inl (omega (arith, ap (λ (s : Span). s.at) c.moved_is))
-apart_in_frame Tag SrcPort frame s t differ b c = inl (omega (arith, ap (λ (s : Span). s.at) c.moved_is))
-apart_in_frame Tag DstPort frame s t differ b c = inl (omega (arith, ap (λ (s : Span). s.at) c.moved_is))
-apart_in_frame Tag Payload frame s t differ b c = inl (omega (arith, ap (λ (s : Span). s.at) c.moved_is))
-apart_in_frame Tos LinkDst frame s t differ b c = inr (omega (arith, ap (λ (s : Span). s.at) b.moved_is))
-apart_in_frame Tos LinkSrc frame s t differ b c = inr (omega (arith, ap (λ (s : Span). s.at) b.moved_is))
-apart_in_frame Tos Tag frame s t differ b c = inr (omega (arith, ap (λ (s : Span). s.at) b.moved_is))
-apart_in_frame Tos Tos frame s t differ b c = absurd (differ refl)
-apart_in_frame Tos Ttl frame s t differ b c = moved_apart Tos Ttl frame s t differ b c
-apart_in_frame Tos SrcIp frame s t differ b c = moved_apart Tos SrcIp frame s t differ b c
-apart_in_frame Tos DstIp frame s t differ b c = moved_apart Tos DstIp frame s t differ b c
-apart_in_frame Tos SrcPort frame s t differ b c = moved_apart Tos SrcPort frame s t differ b c
-apart_in_frame Tos DstPort frame s t differ b c = moved_apart Tos DstPort frame s t differ b c
-apart_in_frame Tos Payload frame s t differ b c = moved_apart Tos Payload frame s t differ b c
-apart_in_frame Ttl LinkDst frame s t differ b c = inr (omega (arith, ap (λ (s : Span). s.at) b.moved_is))
-apart_in_frame Ttl LinkSrc frame s t differ b c = inr (omega (arith, ap (λ (s : Span). s.at) b.moved_is))
-apart_in_frame Ttl Tag frame s t differ b c = inr (omega (arith, ap (λ (s : Span). s.at) b.moved_is))
-apart_in_frame Ttl Tos frame s t differ b c = moved_apart Ttl Tos frame s t differ b c
-apart_in_frame Ttl Ttl frame s t differ b c = absurd (differ refl)
-apart_in_frame Ttl SrcIp frame s t differ b c = moved_apart Ttl SrcIp frame s t differ b c
-apart_in_frame Ttl DstIp frame s t differ b c = moved_apart Ttl DstIp frame s t differ b c
-apart_in_frame Ttl SrcPort frame s t differ b c = moved_apart Ttl SrcPort frame s t differ b c
-apart_in_frame Ttl DstPort frame s t differ b c = moved_apart Ttl DstPort frame s t differ b c
-apart_in_frame Ttl Payload frame s t differ b c = moved_apart Ttl Payload frame s t differ b c
-apart_in_frame SrcIp LinkDst frame s t differ b c = inr (omega (arith, ap (λ (s : Span). s.at) b.moved_is))
-apart_in_frame SrcIp LinkSrc frame s t differ b c = inr (omega (arith, ap (λ (s : Span). s.at) b.moved_is))
-apart_in_frame SrcIp Tag frame s t differ b c = inr (omega (arith, ap (λ (s : Span). s.at) b.moved_is))
-apart_in_frame SrcIp Tos frame s t differ b c = moved_apart SrcIp Tos frame s t differ b c
-apart_in_frame SrcIp Ttl frame s t differ b c = moved_apart SrcIp Ttl frame s t differ b c
-apart_in_frame SrcIp SrcIp frame s t differ b c = absurd (differ refl)
-apart_in_frame SrcIp DstIp frame s t differ b c = moved_apart SrcIp DstIp frame s t differ b c
-apart_in_frame SrcIp SrcPort frame s t differ b c = moved_apart SrcIp SrcPort frame s t differ b c
-apart_in_frame SrcIp DstPort frame s t differ b c = moved_apart SrcIp DstPort frame s t differ b c
-apart_in_frame SrcIp Payload frame s t differ b c = moved_apart SrcIp Payload frame s t differ b c
-apart_in_frame DstIp LinkDst frame s t differ b c = inr (omega (arith, ap (λ (s : Span). s.at) b.moved_is))
-apart_in_frame DstIp LinkSrc frame s t differ b c = inr (omega (arith, ap (λ (s : Span). s.at) b.moved_is))
-apart_in_frame DstIp Tag frame s t differ b c = inr (omega (arith, ap (λ (s : Span). s.at) b.moved_is))
-apart_in_frame DstIp Tos frame s t differ b c = moved_apart DstIp Tos frame s t differ b c
-apart_in_frame DstIp Ttl frame s t differ b c = moved_apart DstIp Ttl frame s t differ b c
-apart_in_frame DstIp SrcIp frame s t differ b c = moved_apart DstIp SrcIp frame s t differ b c
-apart_in_frame DstIp DstIp frame s t differ b c = absurd (differ refl)
-apart_in_frame DstIp SrcPort frame s t differ b c = moved_apart DstIp SrcPort frame s t differ b c
-apart_in_frame DstIp DstPort frame s t differ b c = moved_apart DstIp DstPort frame s t differ b c
-apart_in_frame DstIp Payload frame s t differ b c = moved_apart DstIp Payload frame s t differ b c
-apart_in_frame SrcPort LinkDst frame s t differ b c = inr (omega (arith, ap (λ (s : Span). s.at) b.moved_is))
-apart_in_frame SrcPort LinkSrc frame s t differ b c = inr (omega (arith, ap (λ (s : Span). s.at) b.moved_is))
-apart_in_frame SrcPort Tag frame s t differ b c = inr (omega (arith, ap (λ (s : Span). s.at) b.moved_is))
-apart_in_frame SrcPort Tos frame s t differ b c = moved_apart SrcPort Tos frame s t differ b c
-apart_in_frame SrcPort Ttl frame s t differ b c = moved_apart SrcPort Ttl frame s t differ b c
-apart_in_frame SrcPort SrcIp frame s t differ b c = moved_apart SrcPort SrcIp frame s t differ b c
-apart_in_frame SrcPort DstIp frame s t differ b c = moved_apart SrcPort DstIp frame s t differ b c
-apart_in_frame SrcPort SrcPort frame s t differ b c = absurd (differ refl)
-apart_in_frame SrcPort DstPort frame s t differ b c = moved_apart SrcPort DstPort frame s t differ b c
-apart_in_frame SrcPort Payload frame s t differ b c = moved_apart SrcPort Payload frame s t differ b c
-apart_in_frame DstPort LinkDst frame s t differ b c = inr (omega (arith, ap (λ (s : Span). s.at) b.moved_is))
-apart_in_frame DstPort LinkSrc frame s t differ b c = inr (omega (arith, ap (λ (s : Span). s.at) b.moved_is))
-apart_in_frame DstPort Tag frame s t differ b c = inr (omega (arith, ap (λ (s : Span). s.at) b.moved_is))
-apart_in_frame DstPort Tos frame s t differ b c = moved_apart DstPort Tos frame s t differ b c
-apart_in_frame DstPort Ttl frame s t differ b c = moved_apart DstPort Ttl frame s t differ b c
-apart_in_frame DstPort SrcIp frame s t differ b c = moved_apart DstPort SrcIp frame s t differ b c
-apart_in_frame DstPort DstIp frame s t differ b c = moved_apart DstPort DstIp frame s t differ b c
-apart_in_frame DstPort SrcPort frame s t differ b c = moved_apart DstPort SrcPort frame s t differ b c
-apart_in_frame DstPort DstPort frame s t differ b c = absurd (differ refl)
-apart_in_frame DstPort Payload frame s t differ b c = moved_apart DstPort Payload frame s t differ b c
-apart_in_frame Payload LinkDst frame s t differ b c = inr (omega (arith, ap (λ (s : Span). s.at) b.moved_is))
-apart_in_frame Payload LinkSrc frame s t differ b c = inr (omega (arith, ap (λ (s : Span). s.at) b.moved_is))
-apart_in_frame Payload Tag frame s t differ b c = inr (omega (arith, ap (λ (s : Span). s.at) b.moved_is))
-apart_in_frame Payload Tos frame s t differ b c = moved_apart Payload Tos frame s t differ b c
-apart_in_frame Payload Ttl frame s t differ b c = moved_apart Payload Ttl frame s t differ b c
-apart_in_frame Payload SrcIp frame s t differ b c = moved_apart Payload SrcIp frame s t differ b c
-apart_in_frame Payload DstIp frame s t differ b c = moved_apart Payload DstIp frame s t differ b c
-apart_in_frame Payload SrcPort frame s t differ b c = moved_apart Payload SrcPort frame s t differ b c
-apart_in_frame Payload DstPort frame s t differ b c = moved_apart Payload DstPort frame s t differ b c
-apart_in_frame Payload Payload frame s t differ b c = absurd (differ refl)
+apart_in_frame f g frame s t differ b c =
+    ⊎_elim
+    (λ (first : number_of f < number_of g). inl (before f g frame s t first (between f frame s b) (between g frame t c)))
+    (λ (later : number_of g ≤ number_of f).
+    inr (before g f frame t s (let other : number_of f ≢ number_of g = λ e. differ (same_number f g e) in omega arith) (between g frame t c) (between f frame s b)))
+    (cases_lt (number_of f) (number_of g))
 
 -- overwriting in what was joined
 pub overwritten-front : (at : ℕ) (new xs ys : List ℕ) → at + length new ≤ length xs → overwritten at new (xs ++ ys) ≡ overwritten at new xs ++ ys

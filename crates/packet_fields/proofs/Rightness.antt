@@ -124,9 +124,6 @@ unchanged (m ∷ ms) (n ∷ ns) same none =
     let here = eqb-true m n (not_false (m == n) both.0) in
     omega (arith, sum-cons m ms, sum-cons n ns)
 
-folded_zero : folded 0 ≡ 0
-folded_zero = refl
-
 folded_some : (n : ℕ) → 0 < n → folded n ≡ (n - 1) % 0xffff + 1
 folded_some n some = cond-false (n == 0) 0 ((n - 1) % 0xffff + 1) (ne_eqb n 0 (λ e. omega arith))
 

@@ -1,5 +1,5 @@
 -- Which bytes of a packet decide where its fields lie, and that no field covers one of them.
-use Rattle.std.proofs.Common.{◌≡◌, ◌≢◌, ◌≤◌, ◌<◌, ◌+◌, ◌-◌, ◌*◌, ◌/◌, ◌%◌, ◌∙◌, ℕ, List, length, take, drop, get_or, Bool, true, false, ◌&&◌, ◌||◌, nat_eq, sym, ap, refl, arith, ◌⊎◌, inl, inr}
+use Rattle.std.proofs.Common.{◌≡◌, ◌≤◌, ◌<◌, ◌+◌, ◌-◌, ◌*◌, ◌/◌, ◌%◌, ◌∙◌, ℕ, List, length, get_or, Bool, true, false, ◌&&◌, ◌||◌, nat_eq, sym, ap, refl, arith, ◌⊎◌, inl, inr}
 use Rattle.std.specs.Prelude.{Option, Some, None, IfSome, ⊤, if◌then◌else◌, nat_le, nat_lt, ◌==◌, option_map}
 use Rattle.std.proofs.lemmas.Bool.{and_parts, leb-true, eqb-true, false≢true}
 use Rattle.std.proofs.lemmas.Option.{MatchOption-at_some}
@@ -11,7 +11,7 @@ use Rattle.packet_fields.specs.declared.field.Field.{Field}
 use Rattle.packet_fields.specs.declared.field.Field.TheVariants.{LinkDst, LinkSrc, Tag, Tos, Ttl, SrcIp, DstIp, SrcPort, DstPort, Payload}
 use Rattle.packet_fields.specs.declared.plan.Span.{Span}
 use Rattle.packet_fields.proofs.Spans.{if_some, packet_span-inside}
-use Rattle.packet_fields.proofs.Overwriting.{length-overwritten, get_or-before, get_or-behind, bytes_before, bytes_behind, bytes_same}
+use Rattle.packet_fields.proofs.Overwriting.{length-overwritten, get_or-before, get_or-behind, bytes_before, bytes_behind}
 
 -- the bytes that decide where fields lie are the same
 pub record SameShape (p q : List ℕ) : Type 0 where
@@ -215,84 +215,9 @@ shape_outside p s new o len inside = record {
 pub shape_kept : (f : Field) (p : List ℕ) (s : Span) (new : List ℕ) → packet_span f p ≡ Some s → length new ≡ s.len → SameShape p (overwritten s.at new p)
 shape_kept f p s new is len = shape_outside p s new (outside_all f p s (bounds_at f p s is)) len (inside_at f p s is)
 
--- two fields of a packet lie apart
+-- two spans lie apart
 abbrev pub Apart : Span → Span → Type 0
 Apart s t = (s.at + s.len ≤ t.at) ⊎ (t.at + t.len ≤ s.at)
-
-pub apart : (f g : Field) (p : List ℕ) (s t : Span) → f ≢ g → InBounds f p s → InBounds g p t → Apart s t
-apart Tos Tos p s t differ b c = absurd (differ refl)
-apart Tos Ttl p s t differ b c = inl (omega arith)
-apart Tos SrcIp p s t differ b c = inl (omega arith)
-apart Tos DstIp p s t differ b c = inl (omega arith)
-apart Tos SrcPort p s t differ b c = inl (omega arith)
-apart Tos DstPort p s t differ b c = inl (omega arith)
-apart Tos Payload p s t differ b c = inl (omega arith)
-apart Tos LinkDst p s t differ b c = absurd c
-apart Tos LinkSrc p s t differ b c = absurd c
-apart Tos Tag p s t differ b c = absurd c
-apart Ttl Tos p s t differ b c = inr (omega arith)
-apart Ttl Ttl p s t differ b c = absurd (differ refl)
-apart Ttl SrcIp p s t differ b c = inl (omega arith)
-apart Ttl DstIp p s t differ b c = inl (omega arith)
-apart Ttl SrcPort p s t differ b c = inl (omega arith)
-apart Ttl DstPort p s t differ b c = inl (omega arith)
-apart Ttl Payload p s t differ b c = inl (omega arith)
-apart Ttl LinkDst p s t differ b c = absurd c
-apart Ttl LinkSrc p s t differ b c = absurd c
-apart Ttl Tag p s t differ b c = absurd c
-apart SrcIp Tos p s t differ b c = inr (omega arith)
-apart SrcIp Ttl p s t differ b c = inr (omega arith)
-apart SrcIp SrcIp p s t differ b c = absurd (differ refl)
-apart SrcIp DstIp p s t differ b c = inl (omega arith)
-apart SrcIp SrcPort p s t differ b c = inl (omega arith)
-apart SrcIp DstPort p s t differ b c = inl (omega arith)
-apart SrcIp Payload p s t differ b c = inl (omega arith)
-apart SrcIp LinkDst p s t differ b c = absurd c
-apart SrcIp LinkSrc p s t differ b c = absurd c
-apart SrcIp Tag p s t differ b c = absurd c
-apart DstIp Tos p s t differ b c = inr (omega arith)
-apart DstIp Ttl p s t differ b c = inr (omega arith)
-apart DstIp SrcIp p s t differ b c = inr (omega arith)
-apart DstIp DstIp p s t differ b c = absurd (differ refl)
-apart DstIp SrcPort p s t differ b c = inl (omega arith)
-apart DstIp DstPort p s t differ b c = inl (omega arith)
-apart DstIp Payload p s t differ b c = inl (omega arith)
-apart DstIp LinkDst p s t differ b c = absurd c
-apart DstIp LinkSrc p s t differ b c = absurd c
-apart DstIp Tag p s t differ b c = absurd c
-apart SrcPort Tos p s t differ b c = inr (omega arith)
-apart SrcPort Ttl p s t differ b c = inr (omega arith)
-apart SrcPort SrcIp p s t differ b c = inr (omega arith)
-apart SrcPort DstIp p s t differ b c = inr (omega arith)
-apart SrcPort SrcPort p s t differ b c = absurd (differ refl)
-apart SrcPort DstPort p s t differ b c = inl (omega arith)
-apart SrcPort Payload p s t differ b c = inl (omega arith)
-apart SrcPort LinkDst p s t differ b c = absurd c
-apart SrcPort LinkSrc p s t differ b c = absurd c
-apart SrcPort Tag p s t differ b c = absurd c
-apart DstPort Tos p s t differ b c = inr (omega arith)
-apart DstPort Ttl p s t differ b c = inr (omega arith)
-apart DstPort SrcIp p s t differ b c = inr (omega arith)
-apart DstPort DstIp p s t differ b c = inr (omega arith)
-apart DstPort SrcPort p s t differ b c = inr (omega arith)
-apart DstPort DstPort p s t differ b c = absurd (differ refl)
-apart DstPort Payload p s t differ b c = inl (omega arith)
-apart DstPort LinkDst p s t differ b c = absurd c
-apart DstPort LinkSrc p s t differ b c = absurd c
-apart DstPort Tag p s t differ b c = absurd c
-apart Payload Tos p s t differ b c = inr (omega arith)
-apart Payload Ttl p s t differ b c = inr (omega arith)
-apart Payload SrcIp p s t differ b c = inr (omega arith)
-apart Payload DstIp p s t differ b c = inr (omega arith)
-apart Payload SrcPort p s t differ b c = inr (omega arith)
-apart Payload DstPort p s t differ b c = inr (omega arith)
-apart Payload Payload p s t differ b c = absurd (differ refl)
-apart Payload LinkDst p s t differ b c = absurd c
-apart Payload LinkSrc p s t differ b c = absurd c
-apart Payload Tag p s t differ b c = absurd c
-apart LinkDst g p s t differ b c = absurd b
-apart LinkSrc g p s t differ b c = absurd b
-apart Tag g p s t differ b c = absurd b
 
 pub bytes_apart : (s t : Span) (new p : List ℕ) → length new ≡ s.len → s.at + s.len ≤ length p → Apart s t → bytes_at (overwritten s.at new p) t ≡ bytes_at p t
 bytes_apart s t new p len inside (inl behind) = bytes_behind s.at new p t.at t.len (omega arith) (omega arith)
@@ -301,17 +226,3 @@ bytes_apart s t new p len inside (inr before) = bytes_before s.at new p t.at t.l
 -- the bytes of a field of a packet
 abbrev pub packet_value : Field → List ℕ → Option (List ℕ)
 packet_value f p = option_map (bytes_at p) (packet_span f p)
-
-packet_value-by : (f g : Field) (p : List ℕ) (s : Span) (new : List ℕ) (o : Option Span) → f ≢ g → packet_span f p ≡ Some s → length new ≡ s.len → packet_span g p ≡ o → option_map (bytes_at (overwritten s.at new p)) o ≡ option_map (bytes_at p) o
-packet_value-by f g p s new None differ is len o_is = refl
-packet_value-by f g p s new (Some t) differ is len o_is = ap (λ (xs : List ℕ). Some xs) (bytes_apart s t new p len (inside_at f p s is) (apart f g p s t differ (bounds_at f p s is) (bounds_at g p t o_is)))
-
-pub packet_value-other : (f g : Field) (p : List ℕ) (s : Span) (new : List ℕ) → f ≢ g → packet_span f p ≡ Some s → length new ≡ s.len → packet_value g (overwritten s.at new p) ≡ packet_value g p
-packet_value-other f g p s new differ is len =
-    ap (λ (o : Option Span). option_map (bytes_at (overwritten s.at new p)) o) (packet_span-same g p (overwritten s.at new p) (shape_kept f p s new is len)) ∙ packet_value-by f g p s new (packet_span g p) differ is len refl
-
-pub packet_value-own : (f : Field) (p : List ℕ) (s : Span) (new : List ℕ) → packet_span f p ≡ Some s → length new ≡ s.len → packet_value f (overwritten s.at new p) ≡ Some new
-packet_value-own f p s new is len =
-    let inside : s.at + length new ≤ length p = let i = inside_at f p s is in omega arith in
-    ap (λ (o : Option Span). option_map (bytes_at (overwritten s.at new p)) o) (packet_span-same f p (overwritten s.at new p) (shape_kept f p s new is len) ∙ is)
-    ∙ ap (λ (xs : List ℕ). Some xs) (ap (λ (n : ℕ). take n (drop s.at (overwritten s.at new p))) (sym len) ∙ bytes_same s.at new p inside)

@@ -6,7 +6,7 @@ use Rattle.std.proofs.Common.{length-drop}
 use Rattle.packet_fields.specs.Frames.{packet_at, packet, tags_len}
 use Rattle.packet_fields.proofs.TagWalk.{packet_at-long, packet_at-inside, has_type, tags_len-whole}
 use Rattle.std.proofs.lemmas.Option.{IfSome_then, MatchOption-at_some}
-use Rattle.packet_fields.specs.Packets.{span_within, is_ipv4, has_transport, segment_at, in_segment, datagram_end, data_span, has_data, data_at, place_within, header_sum_at, segment_sum_at}
+use Rattle.packet_fields.specs.Packets.{span_within, is_ipv4, has_transport, segment_at, in_segment, datagram_end, data_span, has_data, data_at}
 use Rattle.packet_fields.specs.Fields.{packet_span, moved, in_frame, span, tag_span, layout_of, number_of, IsLengthOf}
 use Rattle.packet_fields.specs.declared.field.Field.{Field}
 use Rattle.packet_fields.specs.declared.field.Field.TheVariants.{LinkDst, LinkSrc, Tag, Tos, Ttl, SrcIp, DstIp, SrcPort, DstPort, Payload}
@@ -36,16 +36,6 @@ packet_span-inside DstIp p = span_within-inside (is_ipv4 p) (length p) 18 4 (len
 packet_span-inside SrcPort p = span_within-inside (has_transport p) (datagram_end p) (in_segment p 0) 2 (length p) (omega arith)
 packet_span-inside DstPort p = span_within-inside (has_transport p) (datagram_end p) (segment_at p + 2) 2 (length p) (omega arith)
 packet_span-inside Payload p = data_span-inside p
-
-pub place_within-inside : (there : Bool) (limit at len n : ℕ) → limit ≤ n → IfSome (place_within there limit at len) (λ p. p + len ≤ n)
-place_within-inside there limit at len n below =
-    if_some _ _ _ (λ e. let inside : at + len ≤ limit = leb-true (at + len) limit ((and_parts there (nat_le (at + len) limit) e).1) in omega arith)
-
-pub header_sum_at-inside : (p : List ℕ) → IfSome (header_sum_at p) (λ at. at + 2 ≤ length p)
-header_sum_at-inside p = place_within-inside (is_ipv4 p) (length p) 12 2 (length p) (omega arith)
-
-pub segment_sum_at-inside : (p : List ℕ) → IfSome (segment_sum_at p) (λ at. at + 2 ≤ length p)
-segment_sum_at-inside p = place_within-inside (has_transport p) (datagram_end p) _ 2 (length p) (omega arith)
 
 pub some_moved : (o : Option Span) (by : ℕ) (P : Span → Type 0) → IfSome o (λ s. P (moved by s)) → IfSome (option_map (moved by) o) P
 some_moved None by P h = tt

@@ -7,7 +7,7 @@ use borrow.Rule.Slice.PartMut.{put_mid, mid_of, same_len_mid}
 use Rattle.std.proofs.lemmas.List.{length-take-le, drop-drop}
 use Rattle.nfp_outside.specs.declared.slot.Slot.{Slot}
 use Rattle.nfp_outside.specs.declared.slot.Slot.TheVariants.{Capture}
-use Rattle.nfp_outside.specs.Outside.{SlotView, Reads, Takes, KeepsSlot, TakesFront}
+use Rattle.nfp_outside.specs.Outside.{SlotView, Reads, Takes}
 use Rattle.pcap_io.specs.Filling.{Fills, FillsFrom}
 
 -- so many of the bytes that were left are at the front of the buffer
@@ -23,13 +23,6 @@ pub record HasFilled {D : Type 0} (slots : D → Slot → SlotView) (buffer : Li
   pub told : MatchOption (slots old Capture).bytes ((slots new Capture).bytes ≡ None) (λ bytes. IsFront done bytes buffer (slots new Capture).bytes)
   pub later : (slots old Capture).faults ≤ (slots new Capture).faults
   pub others : (s : Slot) → s ≢ Capture → slots new s ≡ slots old s
-
-none_told : (buffer : List ℕ) (o : Option (List ℕ)) → MatchOption o (o ≡ None) (λ bytes. IsFront 0 bytes buffer o)
-none_told buffer None = refl
-none_told buffer (Some bytes) = record { some_left = omega arith; front = refl; rest = refl }
-
-pub filled_none : {D : Type 0} (slots : D → Slot → SlotView) (buffer : List ℕ) (x : D) → HasFilled slots buffer 0 x x
-filled_none slots buffer x = record { within = omega arith; same_name = refl; told = none_told buffer (slots x Capture).bytes; later = omega arith; others = λ s other. refl }
 
 -- as many bytes as the end of the buffer has
 pub room_of : (done : ℕ) (buffer piece : List ℕ) → done ≤ length buffer → length piece ≡ length (mid_of done (length buffer - done) buffer) → length piece + done ≡ length buffer
@@ -73,15 +66,6 @@ filled_more slots buffer piece done k old mid new so_far room reads later others
   others = λ s other. others s other ∙ so_far.others s other;
 }
 
--- a full buffer
-told_full : (buffer : List ℕ) (done : ℕ) (before : Option (List ℕ)) (new : SlotView) → length buffer ≤ done → MatchOption before (new.bytes ≡ None) (λ bytes. IsFront done bytes buffer new.bytes) →
-    MatchOption before (new.bytes ≡ None) (λ bytes. FillsFrom done bytes buffer new)
-told_full buffer done None new full told = told
-told_full buffer done (Some bytes) new full told = record { some_left = told.some_left; front = told.front; rest = told.rest; end_only = λ short. absurd (omega arith) }
-
-pub fills_all : {D : Type 0} (slots : D → Slot → SlotView) (buffer : List ℕ) (done : ℕ) (old new : D) → HasFilled slots buffer done old new → length buffer ≤ done → Fills done buffer (slots old Capture) (slots new Capture)
-fills_all slots buffer done old new so_far full = record { within = so_far.within; same_name = so_far.same_name; told = told_full buffer done (slots old Capture).bytes (slots new Capture) full so_far.told }
-
 -- a read that gave nothing: nothing more was left
 told_end : (buffer piece : List ℕ) (done : ℕ) (before : Option (List ℕ)) (mid new : SlotView) → done ≤ length buffer → 0 < length piece → Reads 0 piece mid new →
     MatchOption before (mid.bytes ≡ None) (λ bytes. IsFront done bytes buffer mid.bytes) → MatchOption before (new.bytes ≡ None) (λ bytes. FillsFrom done bytes (take done buffer ++ piece) new)
@@ -103,17 +87,4 @@ fills_end slots buffer piece done old mid new so_far room some reads = record {
   within = omega (arith, so_far.within, length-append (take done buffer) piece, length-take-le done buffer so_far.within);
   same_name = reads.same_name ∙ so_far.same_name;
   told = told_end buffer piece done (slots old Capture).bytes (slots mid Capture) (slots new Capture) so_far.within some reads so_far.told;
-}
-
-front_taken : (buffer : List ℕ) (done most : ℕ) (before now : Option (List ℕ)) (mid : Option (List ℕ)) → done ≤ most → now ≡ mid → MatchOption before (mid ≡ None) (λ bytes. IsFront done bytes buffer mid) →
-    MatchOption before (now ≡ None) (λ bytes. (k : ℕ) × (k ≤ most) × (now ≡ Some (drop k bytes)))
-front_taken buffer done most None now mid within same told = same ∙ told
-front_taken buffer done most (Some bytes) now mid within same told = (done, within, same ∙ told.rest)
-
--- a read that was refused
-pub filled_taken : {D : Type 0} (slots : D → Slot → SlotView) (buffer : List ℕ) (done : ℕ) (old mid new : D) → HasFilled slots buffer done old mid → KeepsSlot (slots mid Capture) (slots new Capture) →
-    TakesFront (length buffer) (slots old Capture) (slots new Capture)
-filled_taken slots buffer done old mid new so_far keeps = record {
-  same_name = keeps.same_name ∙ so_far.same_name;
-  told = front_taken buffer done (length buffer) (slots old Capture).bytes (slots new Capture).bytes (slots mid Capture).bytes so_far.within keeps.same_bytes so_far.told;
 }

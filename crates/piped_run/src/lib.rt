@@ -33,7 +33,6 @@
 
 mod back;
 mod frames;
-mod laws;
 mod owned;
 mod pipe;
 mod piped;

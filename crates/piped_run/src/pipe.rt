@@ -11,7 +11,6 @@ ghost use Rattle.piped_run.specs.Frames.{EndsAs, all_apart};
 
 use crate::back::end_works;
 use crate::frames::Frames;
-use crate::laws::functions_keep_to_profiles;
 use crate::owned::OwnedFunctions;
 use crate::works::begin_works;
 use branch_owners::{put_together, split_functions};
@@ -19,6 +18,7 @@ use burst_law::burst_is_chain;
 use chain_walk::Fate;
 use function_lines::SharedItems;
 use graph_compile::{Graph, Stage};
+use graph_run::functions_keep_to_profiles;
 use net_functions::Function;
 use nfp_outside::Gate;
 use node_run::{MergeWay, most_threads, run_nodes};

@@ -84,9 +84,6 @@ range-below a (suc n) =
 pub below-count : (count : ℕ) → AllByRecursion (λ x. x < count) (range_with_len 0 count)
 below-count count = all-map (λ x. x < 0 + count) (λ x. x < count) (range_with_len 0 count) (λ x l. omega arith) (range-below 0 count)
 
-pub order-below : (edge : Edges) (count : ℕ) → AllByRecursion (λ x. x < count) (order_of edge count)
-order-below edge count = taken-all-are (λ x. x < count) edge count (range_with_len 0 count) (below-count count)
-
 pub left-below : (edge : Edges) (count : ℕ) → AllByRecursion (λ x. x < count) (left_of edge count)
 left-below edge count = stuck-all-are (λ x. x < count) edge count (range_with_len 0 count) (below-count count)
 

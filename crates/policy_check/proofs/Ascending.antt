@@ -30,10 +30,6 @@ pub Ascends-range : (a n : ℕ) → Ascends a (range_with_len a n)
 Ascends-range a zero = tt
 Ascends-range a (suc n) = (omega arith, Ascends-lower (suc a) (a + 1) (range_with_len (a + 1) n) (omega arith) (Ascends-range (a + 1) n))
 
-pub waits-ascend : (flags : List Bool) → Ascends 0 (waits flags)
-unfolding waits
-waits-ascend flags = Ascends-filter (is_up flags) 0 (range_with_len 0 (length flags)) (Ascends-range 0 (length flags))
-
 -- what is below all stays in when it is left out
 pub without-below : (x low : ℕ) (xs : List ℕ) → x < low → Ascends low xs → without x xs ≡ xs
 without-below x low [] l h = refl

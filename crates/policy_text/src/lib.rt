@@ -6,9 +6,9 @@
 //! so far; `specs/Soundness.antt` says what holds of every policy that is read: names differ, limits
 //! are kept, and each order speaks of functions of its own chain.
 //!
-//! [`read_match`] reads clauses, and [`fits`] says whether a packet meets them. The values that
-//! settings spell are read by [`number`], [`address`], [`prefix`], [`range`], [`mac`] and
-//! [`pattern`].
+//! [`read_match`] reads clauses, and [`fits`] says whether a packet meets them; [`is_within`] says whether
+//! an address lies in a prefix. The values that settings spell are read by [`number`], [`address`],
+//! [`prefix`], [`range`], [`mac`] and [`pattern`].
 //!
 //! The meaning of settings, which differs from kind to kind, and whether orders contradict each
 //! other are left out.
@@ -43,5 +43,5 @@ pub use name::{Name, Word};
 pub use names::{name_at, names_at};
 pub use parsing::parse;
 pub use policy::{ChainPolicy, FunctionDecl, Policy, Setting, Statement};
-pub use seen::{Seen, TagSeen, fits};
+pub use seen::{Seen, TagSeen, fits, is_within};
 pub use value::{address, is_name, number, prefix, range};

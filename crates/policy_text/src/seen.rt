@@ -50,7 +50,8 @@ fn is_met(seen: &Seen, clause: Clause) -> bool
     }
 }
 
-fn is_within(prefix: u32, bits: u8, address: u32) -> bool
+/// Does an address begin with the prefix's first bits?
+pub fn is_within(prefix: u32, bits: u8, address: u32) -> bool
     ensures { result ≡ is_within prefix bits address }
 {
     first_bits(bits, address) == first_bits(bits, prefix)

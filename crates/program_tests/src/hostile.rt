@@ -1,8 +1,8 @@
 //! Cut and malformed input, and each call of the desk failing: the table of what is to come of each.
 
-use crate::runs::{POLICY, capture, words};
-use nfp_outside::{MemDesk, OpenGate, Slot};
-use nfp_run::{Outcome, nfp};
+use crate::runs::{POLICY, capture, run_failing, words};
+use nfp_outside::{MemDesk, Slot};
+use nfp_run::Outcome;
 use pcap_io::CaptureFault;
 use std::alloc::{AllocError, Global};
 use std::rt::Clock;
@@ -17,14 +17,12 @@ const LONGEST_POLICY: usize = 1_048_576;
 fn run_over<R: Threads + Wait + Clock + Sync>(
     rt: &R,
     alloc: Global,
-    policy: Vec<u8>,
+    policy: &[u8],
     capture: Vec<u8>,
     fails: &[(Slot, u64)],
 ) -> Result<(Outcome, MemDesk), AllocError> {
     let run = words(alloc, &["run", "p", "c", "o", "r"])?;
-    let mut desk = MemDesk::new(alloc, policy, capture, 4096, fails.to_vec(alloc)?);
-    let outcome = nfp(rt, alloc, &run, &mut desk, &OpenGate);
-    Ok((outcome, desk))
+    run_failing(rt, alloc, &run, policy, capture, fails)
 }
 
 // What is to come of the first bytes of a capture whose head has 24 bytes and whose three records have 58, of which the second
@@ -58,7 +56,7 @@ fn a_capture_is_cut_after_each_byte(rt: HostRuntime) -> Result<(), Fail> {
     for length in 0..=198u32 {
         let mut cut = capture(alloc)?;
         cut.truncate(length as usize);
-        let (outcome, desk) = run_over(&rt, alloc, POLICY.to_vec(alloc)?, cut, &[])?;
+        let (outcome, desk) = run_over(&rt, alloc, POLICY, cut, &[])?;
         assert!(rt; is_due_of_cut(length, &outcome));
         assert_eq!(rt; desk.put(Slot::Out).len(), bytes_due_of_cut(length));
         assert_eq!(rt; desk.calls(Slot::Out) == 0, length < 24);
@@ -107,7 +105,7 @@ fn a_policy_passes_a_limit(rt: HostRuntime) -> Result<(), Fail> {
         ),
         (filled(alloc, LONGEST_POLICY + 1)?, 2, b"policy: too long\n"),
     ] {
-        let (outcome, desk) = run_over(&rt, alloc, policy, capture(alloc)?, &[])?;
+        let (outcome, desk) = run_over(&rt, alloc, &policy, capture(alloc)?, &[])?;
         assert_eq!(rt; outcome.status(), status);
         assert_eq!(rt; desk.put(Slot::Note), note);
     }
@@ -136,7 +134,7 @@ fn is_untouched(desk: &MemDesk, slot: Slot) -> bool {
 #[test]
 fn each_call_of_the_desk_fails(rt: HostRuntime) -> Result<(), Fail> {
     let alloc = rt.alloc();
-    let (outcome, whole) = run_over(&rt, alloc, POLICY.to_vec(alloc)?, capture(alloc)?, &[])?;
+    let (outcome, whole) = run_over(&rt, alloc, POLICY, capture(alloc)?, &[])?;
     assert!(rt; matches!(outcome, Outcome::Done));
     for slot in [
         Slot::Policy,
@@ -149,13 +147,7 @@ fn each_call_of_the_desk_fails(rt: HostRuntime) -> Result<(), Fail> {
         assert!(rt; calls > 0);
         for call in 0..=calls {
             let fails = [(slot, call)];
-            let (outcome, desk) = run_over(
-                &rt,
-                alloc,
-                POLICY.to_vec(alloc)?,
-                capture(alloc)?,
-                &fails,
-            )?;
+            let (outcome, desk) = run_over(&rt, alloc, POLICY, capture(alloc)?, &fails)?;
             assert_eq!(rt; is_fault_of(&outcome, slot), call < calls);
             assert_eq!(rt; matches!(outcome, Outcome::Done), call == calls);
             assert!(rt; call > 0 || is_untouched(&desk, slot));

@@ -1,8 +1,8 @@
 //! Runs through functions that rewrite packets and keep nothing of them.
 
-use crate::runs::{HEAD, run_with};
-use nfp_outside::{FixedDesk, OpenGate, Slot};
-use nfp_run::{Outcome, nfp};
+use crate::runs::{HEAD, run_fixed, run_with};
+use nfp_outside::Slot;
+use nfp_run::Outcome;
 use std::alloc::{AllocError, Global};
 use std::process::Abort;
 use std::rt::Clock;
@@ -103,8 +103,7 @@ fn compare(
     for (mergers, way) in [("1", "board"), ("2", "inbox"), ("16", "board")] {
         let run = run_with(alloc, &["--mergers", mergers, "--merge", way])?;
         let capture = capture.to_vec(alloc)?;
-        let mut desk = FixedDesk::new(alloc, policy.to_vec(alloc)?, capture, 7);
-        let outcome = nfp(rt, alloc, &run, &mut desk, &OpenGate);
+        let (outcome, desk) = run_fixed(rt, alloc, &run, policy, capture)?;
         assert!(rt; matches!(outcome, Outcome::Done));
         assert_eq!(rt; desk.put(Slot::Out), out);
         assert_eq!(rt; desk.put(Slot::Report), report);

@@ -1,8 +1,8 @@
 //! Runs with options, which change nothing of what comes out, and the demo.
 
-use crate::runs::{HEAD, capture, capture_from, run_with, words};
-use nfp_outside::{FixedDesk, MemDesk, OpenGate, Slot};
-use nfp_run::{Outcome, nfp};
+use crate::runs::{HEAD, capture, capture_from, run_failing, run_fixed, run_with, words};
+use nfp_outside::Slot;
+use nfp_run::Outcome;
 use std::alloc::AllocError;
 use std::test::Fail;
 
@@ -78,8 +78,7 @@ fn states_are_carried_from_burst_to_burst(rt: HostRuntime) -> Result<(), Fail> {
             "r",
         ];
         let run = words(alloc, &options)?;
-        let mut desk = FixedDesk::new(alloc, SLOWED.to_vec(alloc)?, capture.to_vec(alloc)?, 7);
-        let outcome = nfp(&rt, alloc, &run, &mut desk, &OpenGate);
+        let (outcome, desk) = run_fixed(&rt, alloc, &run, SLOWED, capture.to_vec(alloc)?)?;
         assert!(rt; matches!(outcome, Outcome::Done));
         assert_eq!(rt; desk.put(Slot::Out), translated.as_slice());
         assert_eq!(rt; desk.put(Slot::Report), SLOWED_REPORT);
@@ -93,9 +92,8 @@ fn a_burst_is_written_before_the_next(rt: HostRuntime) -> Result<(), Fail> {
     let alloc = rt.alloc();
     for mergers in ["1", "2", "16"] {
         let run = run_with(alloc, &["--burst=1", "--mergers", mergers])?;
-        let fails = vec![in alloc; (Slot::Out, 4)]?;
-        let mut desk = MemDesk::new(alloc, OPEN.to_vec(alloc)?, capture(alloc)?, 4096, fails);
-        let outcome = nfp(&rt, alloc, &run, &mut desk, &OpenGate);
+        let fails = [(Slot::Out, 4)];
+        let (outcome, desk) = run_failing(&rt, alloc, &run, OPEN, capture(alloc)?, &fails)?;
         assert!(rt; matches!(outcome, Outcome::WriteFault(Slot::Out)));
         assert_eq!(rt; desk.put(Slot::Out), capture_from(alloc, &[1])?.as_slice());
     }
@@ -110,8 +108,7 @@ fn without_chains_all_packets_pass(rt: HostRuntime) -> Result<(), Fail> {
             alloc,
             &["run", "--mergers", mergers, "--", "p", "c", "-o", "-r"],
         )?;
-        let mut desk = FixedDesk::new(alloc, b"nfp 1\n".to_vec(alloc)?, capture(alloc)?, 7);
-        let outcome = nfp(&rt, alloc, &run, &mut desk, &OpenGate);
+        let (outcome, desk) = run_fixed(&rt, alloc, &run, b"nfp 1\n", capture(alloc)?)?;
         assert!(rt; matches!(outcome, Outcome::Done));
         assert_eq!(rt; desk.put(Slot::Out), capture(alloc)?.as_slice());
         assert_eq!(rt; desk.put(Slot::Report), NO_CHAINS_REPORT);
@@ -146,8 +143,7 @@ fn a_demo_is_told_by_its_weights(rt: HostRuntime) -> Result<(), Fail> {
         ],
     ] {
         let demo = words(alloc, options)?;
-        let mut desk = FixedDesk::new(alloc, Vec::new(alloc), Vec::new(alloc), 7);
-        let outcome = nfp(&rt, alloc, &demo, &mut desk, &OpenGate);
+        let (outcome, desk) = run_fixed(&rt, alloc, &demo, b"", Vec::new(alloc))?;
         assert!(rt; matches!(outcome, Outcome::Done));
         assert_eq!(rt; desk.put(Slot::Note), DEMO);
     }

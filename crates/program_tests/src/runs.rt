@@ -4,7 +4,10 @@ use nfp_outside::{FixedDesk, MemDesk, OpenGate, Slot};
 use nfp_run::{Option4, Outcome, UsageFault, nfp};
 use pcap_io::CaptureFault;
 use std::alloc::{AllocError, Global};
+use std::rt::Clock;
+use std::sync::Wait;
 use std::test::Fail;
+use std::thread::Threads;
 
 pub const POLICY: &[u8] = b"nfp 1\nchain main\nfn fw firewall\nrule deny src 10.0.0.9\n";
 
@@ -94,6 +97,36 @@ pub fn run_with(alloc: Global, options: &[&str]) -> Result<Vec<String>, AllocErr
     Ok(run)
 }
 
+// The top call promises much, and each function that calls it is shown all of that: so the tests call these two, which say nothing.
+
+/// A run over a desk in memory, and what it left.
+pub fn run_fixed<R: Threads + Wait + Clock + Sync>(
+    rt: &R,
+    alloc: Global,
+    words: &[String],
+    policy: &[u8],
+    capture: Vec<u8>,
+) -> Result<(Outcome, FixedDesk), AllocError> {
+    let mut desk = FixedDesk::new(alloc, policy.to_vec(alloc)?, capture, 7);
+    let outcome = nfp(rt, alloc, words, &mut desk, &OpenGate);
+    Ok((outcome, desk))
+}
+
+/// A run over a desk in memory that fails at these calls, and what it left.
+pub fn run_failing<R: Threads + Wait + Clock + Sync>(
+    rt: &R,
+    alloc: Global,
+    words: &[String],
+    policy: &[u8],
+    capture: Vec<u8>,
+    fails: &[(Slot, u64)],
+) -> Result<(Outcome, MemDesk), AllocError> {
+    let fails = fails.to_vec(alloc)?;
+    let mut desk = MemDesk::new(alloc, policy.to_vec(alloc)?, capture, 4096, fails);
+    let outcome = nfp(rt, alloc, words, &mut desk, &OpenGate);
+    Ok((outcome, desk))
+}
+
 #[test]
 fn a_capture_goes_through_the_functions_in_chain_order(rt: HostRuntime) -> Result<(), Fail> {
     let alloc = rt.alloc();
@@ -103,8 +136,7 @@ fn a_capture_goes_through_the_functions_in_chain_order(rt: HostRuntime) -> Resul
         (TWO, 24, TWO_REPORT),
         (BESIDE, 24, BESIDE_REPORT),
     ] {
-        let mut desk = FixedDesk::new(alloc, policy.to_vec(alloc)?, capture(alloc)?, 7);
-        let outcome = nfp(&rt, alloc, &words, &mut desk, &OpenGate);
+        let (outcome, desk) = run_fixed(&rt, alloc, &words, policy, capture(alloc)?)?;
         assert!(rt; matches!(outcome, Outcome::Done));
         assert_eq!(rt; desk.put(Slot::Out).len(), out);
         assert_eq!(rt; desk.put(Slot::Report), report);
@@ -122,8 +154,7 @@ fn each_packet_goes_through_the_chain_that_takes_it(rt: HostRuntime) -> Result<(
         (SIXTEEN, [1, 16, 17], SIXTEEN_REPORT),
     ] {
         let capture = capture_from(alloc, &hosts)?;
-        let mut desk = FixedDesk::new(alloc, policy.to_vec(alloc)?, capture, 7);
-        let outcome = nfp(&rt, alloc, &run, &mut desk, &OpenGate);
+        let (outcome, desk) = run_fixed(&rt, alloc, &run, policy, capture)?;
         assert!(rt; matches!(outcome, Outcome::Done));
         assert_eq!(rt; desk.put(Slot::Out).len(), 140);
         assert_eq!(rt; desk.put(Slot::Report), report);
@@ -135,8 +166,7 @@ fn each_packet_goes_through_the_chain_that_takes_it(rt: HostRuntime) -> Result<(
 fn each_order_and_unit_is_carried(rt: HostRuntime) -> Result<(), Fail> {
     let alloc = rt.alloc();
     let run = words(alloc, &["run", "p", "c", "o", "r"])?;
-    let mut desk = FixedDesk::new(alloc, POLICY.to_vec(alloc)?, BIG_HEAD.to_vec(alloc)?, 7);
-    let outcome = nfp(&rt, alloc, &run, &mut desk, &OpenGate);
+    let (outcome, desk) = run_fixed(&rt, alloc, &run, POLICY, BIG_HEAD.to_vec(alloc)?)?;
     assert!(rt; matches!(outcome, Outcome::Done));
     assert_eq!(rt; desk.put(Slot::Out), BIG_HEAD.as_slice());
     Ok(())
@@ -148,8 +178,7 @@ fn a_plan_shows_each_chain_in_order(rt: HostRuntime) -> Result<(), Fail> {
     let plan = words(alloc, &["plan", "p"])?;
     let policy =
         b"nfp 1\nchain main\nfn sig signature\nfn fw firewall\npriority sig > fw\nchain rest match proto tcp\n";
-    let mut desk = FixedDesk::new(alloc, policy.to_vec(alloc)?, Vec::new(alloc), 7);
-    let outcome = nfp(&rt, alloc, &plan, &mut desk, &OpenGate);
+    let (outcome, desk) = run_fixed(&rt, alloc, &plan, policy, Vec::new(alloc))?;
     assert!(rt; matches!(outcome, Outcome::Done));
     assert_eq!(rt; desk.put(Slot::Note), PLAN);
     Ok(())
@@ -197,8 +226,7 @@ fn words_that_are_no_command_are_told(rt: HostRuntime) -> Result<(), Fail> {
         ),
     ] {
         let words = words(alloc, texts)?;
-        let mut desk = FixedDesk::new(alloc, POLICY.to_vec(alloc)?, capture(alloc)?, 7);
-        let outcome = nfp(&rt, alloc, &words, &mut desk, &OpenGate);
+        let (outcome, desk) = run_fixed(&rt, alloc, &words, POLICY, capture(alloc)?)?;
         assert!(rt; matches!(outcome, Outcome::Usage(found) if found == fault));
         assert_eq!(rt; desk.put(Slot::Note), note);
     }
@@ -234,8 +262,7 @@ fn a_policy_is_refused_for_its_first_fault(rt: HostRuntime) -> Result<(), Fail> 
             b"policy: line 8: priority mon over n forbidden: write src before read src\n",
         ),
     ] {
-        let mut desk = FixedDesk::new(alloc, policy.to_vec(alloc)?, capture(alloc)?, 7);
-        let outcome = nfp(&rt, alloc, &run, &mut desk, &OpenGate);
+        let (outcome, desk) = run_fixed(&rt, alloc, &run, policy, capture(alloc)?)?;
         assert_eq!(rt; outcome.status(), 2);
         assert_eq!(rt; desk.put(Slot::Note), note);
     }
@@ -249,8 +276,7 @@ fn a_cut_capture_is_done_up_to_its_fault(rt: HostRuntime) -> Result<(), Fail> {
     let run = words(alloc, &["run", "p", "c", "o", "r"])?;
     let mut cut = capture(alloc)?;
     cut.truncate(170);
-    let mut desk = FixedDesk::new(alloc, POLICY.to_vec(alloc)?, cut, 7);
-    let outcome = nfp(&rt, alloc, &run, &mut desk, &OpenGate);
+    let (outcome, desk) = run_fixed(&rt, alloc, &run, POLICY, cut)?;
     assert!(rt; matches!(outcome, Outcome::Capture(CaptureFault::CutRecord(3))));
     assert_eq!(rt; desk.put(Slot::Out).len(), 82);
     assert_eq!(rt; desk.put(Slot::Report), CUT_REPORT);
@@ -258,7 +284,8 @@ fn a_cut_capture_is_done_up_to_its_fault(rt: HostRuntime) -> Result<(), Fail> {
     Ok(())
 }
 
-// Each call that fails is answered by the fault of its own slot, and what was written before stays.
+// Each call that fails is answered by the fault of its own slot, and what was written before stays. Where the line of a drop can't be
+// put, the packets of its burst stand in Out.
 #[test]
 fn failures_are_told_by_their_slot(rt: HostRuntime) -> Result<(), Fail> {
     let alloc = rt.alloc();
@@ -266,11 +293,11 @@ fn failures_are_told_by_their_slot(rt: HostRuntime) -> Result<(), Fail> {
     for (slot, call, status, out, note) in [
         (Slot::Policy, 0, 4, 0, b"read fault: policy\n".as_slice()),
         (Slot::Out, 4, 5, 82, b"write fault: out\n"),
+        (Slot::Report, 2, 5, 140, b"write fault: report\n"),
         (Slot::Note, 0, 5, 140, b""),
     ] {
-        let fails = vec![in alloc; (slot, call)]?;
-        let mut desk = MemDesk::new(alloc, POLICY.to_vec(alloc)?, capture(alloc)?, 4096, fails);
-        let answer = nfp(&rt, alloc, &words, &mut desk, &OpenGate);
+        let fails = [(slot, call)];
+        let (answer, desk) = run_failing(&rt, alloc, &words, POLICY, capture(alloc)?, &fails)?;
         assert_eq!(rt; answer.status(), status);
         assert_eq!(rt; desk.put(Slot::Out).len(), out);
         assert_eq!(rt; desk.put(Slot::Note), note);

@@ -1,8 +1,8 @@
 //! Runs through functions that keep flows, whose report tells what they hold in the end.
 
-use crate::runs::{HEAD, capture, capture_from, run_with, words};
-use nfp_outside::{FixedDesk, OpenGate, Slot};
-use nfp_run::{Outcome, nfp};
+use crate::runs::{HEAD, capture, capture_from, run_fixed, run_with, words};
+use nfp_outside::Slot;
+use nfp_run::Outcome;
 use std::alloc::AllocError;
 use std::test::Fail;
 
@@ -74,8 +74,7 @@ fn a_monitor_counts_what_comes_to_it(rt: HostRuntime) -> Result<(), Fail> {
     for (mergers, way) in [("1", "inbox"), ("2", "board"), ("16", "board")] {
         let run = run_with(alloc, &["--mergers", mergers, "--merge", way])?;
         for (policy, report) in [(BESIDE, BESIDE_REPORT), (BEHIND, BEHIND_REPORT)] {
-            let mut desk = FixedDesk::new(alloc, policy.to_vec(alloc)?, capture(alloc)?, 7);
-            let outcome = nfp(&rt, alloc, &run, &mut desk, &OpenGate);
+            let (outcome, desk) = run_fixed(&rt, alloc, &run, policy, capture(alloc)?)?;
             assert!(rt; matches!(outcome, Outcome::Done));
             assert_eq!(rt; desk.put(Slot::Out), passed.as_slice());
             assert_eq!(rt; desk.put(Slot::Report), report);
@@ -88,8 +87,7 @@ fn a_monitor_counts_what_comes_to_it(rt: HostRuntime) -> Result<(), Fail> {
 fn a_function_that_saw_nothing_tells_nothing(rt: HostRuntime) -> Result<(), Fail> {
     let alloc = rt.alloc();
     let run = words(alloc, &["run", "p", "c", "o", "r"])?;
-    let mut desk = FixedDesk::new(alloc, BESIDE.to_vec(alloc)?, HEAD.to_vec(alloc)?, 7);
-    let outcome = nfp(&rt, alloc, &run, &mut desk, &OpenGate);
+    let (outcome, desk) = run_fixed(&rt, alloc, &run, BESIDE, HEAD.to_vec(alloc)?)?;
     assert!(rt; matches!(outcome, Outcome::Done));
     assert_eq!(rt; desk.put(Slot::Out), HEAD.as_slice());
     assert_eq!(rt; desk.put(Slot::Report), UNSEEN_REPORT);
@@ -111,8 +109,7 @@ fn a_balancer_writes_its_own_copy(rt: HostRuntime) -> Result<(), Fail> {
             End::new([10, 9, 0, 1], 53),
         )?;
     }
-    let mut desk = FixedDesk::new(alloc, BALANCED.to_vec(alloc)?, capture(alloc)?, 7);
-    let outcome = nfp(&rt, alloc, &run, &mut desk, &OpenGate);
+    let (outcome, desk) = run_fixed(&rt, alloc, &run, BALANCED, capture(alloc)?)?;
     assert!(rt; matches!(outcome, Outcome::Done));
     assert_eq!(rt; desk.put(Slot::Out), balanced.as_slice());
     assert_eq!(rt; desk.put(Slot::Report), BALANCED_REPORT);
@@ -155,8 +152,7 @@ fn a_translation_leads_out_and_back(rt: HostRuntime) -> Result<(), Fail> {
     push_udp(&mut translated, [0xae, 0xce], public, name_server)?;
     push_udp(&mut translated, [0x46, 0x98], outside, inside)?;
 
-    let mut desk = FixedDesk::new(alloc, TRANSLATED.to_vec(alloc)?, capture, 7);
-    let outcome = nfp(&rt, alloc, &run, &mut desk, &OpenGate);
+    let (outcome, desk) = run_fixed(&rt, alloc, &run, TRANSLATED, capture)?;
     assert!(rt; matches!(outcome, Outcome::Done));
     assert_eq!(rt; desk.put(Slot::Out), translated.as_slice());
     assert_eq!(rt; desk.put(Slot::Report), TRANSLATED_REPORT);

@@ -1,7 +1,6 @@
 //! The law of streams: the nodes of a graph's stages lead a burst as packets that walk through the chain.
 ghost use Rattle.std.specs.Prelude.{◌≡◌, List, length, map};
 ghost use Rattle.packet_fields.specs.declared.field.Field.{Field};
-ghost use Rattle.chain_walk.specs.Laws.{KeepsProfile};
 ghost use Rattle.graph_compile.specs.declared.graph.Graph.{Graph};
 ghost use Rattle.merge_ops.specs.declared.merging.Merged.{Merged};
 ghost use Rattle.burst_law.specs.Owned.{owned_by};
@@ -18,17 +17,13 @@ ghost use Rattle.stream_law.specs.Works.{works_of};
 use burst_law::{burst_is_chain, copies_are_same, owned_is_whole};
 use graph_compile::{lawful_graph_is_staged, lawful_stage_has_owners, stages_rise};
 use graph_run::{
-    branches_hold_what_is_named, dealt_versions_go_on, due_copies_are_counted, versions_go_on,
+    branches_hold_what_is_named, dealt_versions_go_on, due_copies_are_counted,
+    functions_keep_to_profiles, versions_go_on,
 };
 use joined_run::taken_packets_make_a_stage;
 use merge_ops::{last_writer_is_greatest, merged_is_written_last};
 use net_functions::Function;
 use packet_version::shape_fits;
-
-/// A function of any kind does what its profile says, and no more.
-pub(crate) fn functions_keep_to_profiles<F: Function>()
-    ensures { KeepsProfile F.behaviour }
-{}
 
 /// A burst of packets that is ready for a graph may go through the nodes of its stages, each branch with the
 /// functions that it owns, and what the nodes give each other is the burst that walks: the packets behind
