@@ -2,11 +2,8 @@
 ghost use Rattle.std.specs.Prelude.{◌≡◌, false, All, IfOk, IfSome, IsSome};
 
 use crate::turn::branch_turn;
-<<<<<<< HEAD
 use function_lines::SharedItems;
-=======
 use graph_run::functions_keep_to_profiles;
->>>>>>> 0d34b99
 use message_links::Message;
 use net_functions::Function;
 use nfp_outside::Gate;
