@@ -85,7 +85,7 @@ impl Function for NetFunction {
         }
     }
 
-    #[tactic(auto, unfolding(crate::specs::NetFunctions::lines_of))]
+    #[tactic(auto, unfolding(crate::specs::NetFunctions::lines_of, crate::specs::NetFunctions::profile_by))]
     fn state_lines(&self, out: &mut Vec<u8>) -> Result<(), AllocError> {
         match self {
             NetFunction::Firewall(firewall) => firewall.state_lines(out),
