@@ -8,8 +8,10 @@
 #![tactic(auto)]
 
 mod lead;
+mod merging;
 mod walk;
 mod weave;
 
+pub use merging::{Mergers, Merging};
 pub use piped_run::MergeWay;
 pub use walk::walk_burst;

@@ -5,13 +5,13 @@ ghost use Rattle.burst_walk.specs.Fates.{all_classed, chains_behind, fates_of};
 ghost use Rattle.burst_walk.specs.Leading.{IsClassed, IsWritable, LeadsEach, all_ended, records_of};
 
 use crate::lead::lead;
+use crate::merging::Merging;
 use crate::weave::weave;
 use chain_service::{NamedFunction, Service};
 use chain_walk::Fate;
 use classifier::{Burst, class_is_the_first};
 use nfp_outside::Gate;
 use pcap_io::Unit;
-use piped_run::MergeWay;
 use service_walk::fates_are_woven;
 use std::alloc::{AllocError, Global};
 use std::rt::Clock;
@@ -29,14 +29,11 @@ pub fn walk_burst<R: Threads + Wait + Clock + Sync, G: Gate + Sync>(
     service: Service,
     burst: &Burst,
     unit: Unit,
-    mergers: u32,
-    way: MergeWay,
+    merging: Merging,
     gate: &G,
 ) -> Result<(Service, Vec<Option<Fate>>), AllocError>
     requires few { length burst.now.items ≤ 65536 }
     requires classed { All (IsClassed service.classes) burst.now.items }
-    requires some_mergers { 1 ≤ mergers }
-    requires few_mergers { mergers ≤ 16 }
     requires told { service.classes ≡ fits_of service.chains }
     ensures classes { IfOk result (λ walked. walked.0.classes ≡ service.classes) }
     ensures led { IfOk result (λ walked. LeadsEach (all_classed (chains_of service.chains).declared unit (records_of burst.now.items)) 0 service.chains walked.0.chains) }
@@ -49,7 +46,7 @@ pub fn walk_burst<R: Threads + Wait + Clock + Sync, G: Gate + Sync>(
     class_is_the_first();
     fates_are_woven::<NamedFunction>();
     let Service { classes, chains } = service;
-    let (chains, rows) = lead(rt, alloc, chains, burst, unit, mergers, way, gate)?;
+    let (chains, rows) = lead(rt, alloc, chains, burst, unit, merging, gate)?;
     let fates = weave(alloc, burst.items.as_slice(), rows)?;
     Ok((Service { classes, chains }, fates))
 }

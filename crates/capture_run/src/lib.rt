@@ -22,7 +22,7 @@ mod source;
 mod summary;
 mod write;
 
-pub use burst_walk::MergeWay;
+pub use burst_walk::{MergeWay, Mergers, Merging};
 pub use fault::RunFault;
 pub use run::run_capture;
 pub use sink::Sink;

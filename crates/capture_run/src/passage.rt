@@ -8,7 +8,7 @@ use crate::emit::put_emitted;
 use crate::fault::RunFault;
 use crate::sink::Sink;
 use crate::write::put_text;
-use burst_walk::{MergeWay, walk_burst};
+use burst_walk::{Merging, walk_burst};
 use capture_report::{Totals, burst_lines, count_gone};
 use chain_service::Service;
 use classifier::Burst;
@@ -39,16 +39,13 @@ impl<W: Sink + Drop> Passage<W> {
         alloc: Global,
         desk: &mut D,
         burst: Burst,
-        mergers: u32,
-        way: MergeWay,
+        merging: Merging,
         gate: &G,
     ) -> Result<Passage<W>, RunFault>
         requires out { IsSome (D.slots desk.old Slot.Out).name }
         requires report { IsSome (D.slots desk.old Slot.Report).name }
         requires few { length burst.items ≤ 65536 }
         requires classed { All (IsClassed self.service.classes) burst.items }
-        requires some_mergers { 1 ≤ mergers }
-        requires few_mergers { mergers ≤ 16 }
         requires told { IsTold self }
         requires room { self.totals.records + length burst.items < 2 ^ 32 }
         requires within { self.totals.dropped ≤ self.totals.records }
@@ -63,7 +60,7 @@ impl<W: Sink + Drop> Passage<W> {
             mut writer,
             mut totals,
         } = self;
-        let (service, fates) = walk_burst(rt, alloc, service, &burst, unit, mergers, way, gate)?;
+        let (service, fates) = walk_burst(rt, alloc, service, &burst, unit, merging, gate)?;
         let items = burst.items.as_slice();
         let chains = service.chains.as_slice();
         let lines = burst_lines(alloc, chains, totals.records + 1, items, &fates)?;

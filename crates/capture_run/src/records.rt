@@ -10,7 +10,7 @@ use crate::fault::RunFault;
 use crate::passage::Passage;
 use crate::sink::Sink;
 use crate::source::Source;
-use burst_walk::MergeWay;
+use burst_walk::Merging;
 use classifier::Cutter;
 use nfp_outside::{Desk, Gate};
 use pcap_io::{CaptureFault, PcapFault, PcapRecord};
@@ -34,14 +34,11 @@ pub fn run_records<
     burst: u32,
     source: S,
     passage: Passage<W>,
-    mergers: u32,
-    way: MergeWay,
+    merging: Merging,
     gate: &G,
 ) -> Result<(Passage<W>, Option<CaptureFault>), RunFault>
     requires some { 0 < burst }
     requires few { burst ≤ 65536 }
-    requires some_mergers { 1 ≤ mergers }
-    requires few_mergers { mergers ≤ 16 }
     requires capture { IsSome (D.slots desk.old Slot.Capture).name }
     requires out { IsSome (D.slots desk.old Slot.Out).name }
     requires report { IsSome (D.slots desk.old Slot.Report).name }
@@ -59,25 +56,13 @@ pub fn run_records<
     'records: loop {
         match source.next(alloc, desk) {
             Ok(Some(packet)) => {
-                passage = match take(
-                    rt,
-                    alloc,
-                    desk,
-                    &mut cutter,
-                    passage,
-                    packet,
-                    mergers,
-                    way,
-                    gate,
-                ) {
+                passage = match take(rt, alloc, desk, &mut cutter, passage, packet, merging, gate) {
                     Ok(next) => next,
                     Err(fault) => return Err(fault),
                 };
             }
-            Ok(None) => return end(rt, alloc, desk, cutter, passage, None, mergers, way, gate),
-            Err(refusal) => return stop(
-                rt, alloc, desk, cutter, passage, refusal, mergers, way, gate,
-            ),
+            Ok(None) => return end(rt, alloc, desk, cutter, passage, None, merging, gate),
+            Err(refusal) => return stop(rt, alloc, desk, cutter, passage, refusal, merging, gate),
         }
     }
 }
@@ -90,14 +75,11 @@ fn take<R: Threads + Wait + Clock + Sync, D: Desk, W: Sink + Drop, G: Gate + Syn
     cutter: &mut Cutter,
     passage: Passage<W>,
     packet: PcapRecord,
-    mergers: u32,
-    way: MergeWay,
+    merging: Merging,
     gate: &G,
 ) -> Result<Passage<W>, RunFault>
     requires out { IsSome (D.slots desk.old Slot.Out).name }
     requires report { IsSome (D.slots desk.old Slot.Report).name }
-    requires some_mergers { 1 ≤ mergers }
-    requires few_mergers { mergers ≤ 16 }
     requires ready { IsReady passage cutter.old }
     requires short { IsShort packet }
     requires room { cutter.old.added < 2 ^ 32 - 1 }
@@ -108,7 +90,7 @@ fn take<R: Threads + Wait + Clock + Sync, D: Desk, W: Sink + Drop, G: Gate + Syn
     let class = passage.service.classes.class(packet.frame.bytes());
     match cutter.add(packet, class) {
         Ok(None) => Ok(passage),
-        Ok(Some(burst)) => passage.run(rt, alloc, desk, burst, mergers, way, gate),
+        Ok(Some(burst)) => passage.run(rt, alloc, desk, burst, merging, gate),
         Err(_) => Err(RunFault::OutOfMemory),
     }
 }
@@ -121,20 +103,17 @@ fn end<R: Threads + Wait + Clock + Sync, D: Desk, W: Sink + Drop, G: Gate + Sync
     cutter: Cutter,
     passage: Passage<W>,
     fault: Option<CaptureFault>,
-    mergers: u32,
-    way: MergeWay,
+    merging: Merging,
     gate: &G,
 ) -> Result<(Passage<W>, Option<CaptureFault>), RunFault>
     requires out { IsSome (D.slots desk.old Slot.Out).name }
     requires report { IsSome (D.slots desk.old Slot.Report).name }
-    requires some_mergers { 1 ≤ mergers }
-    requires few_mergers { mergers ≤ 16 }
     requires ready { IsReady passage cutter }
     ensures ok { IfOk result (Ends W.spelled cutter.held passage fault (D.slots desk.old) (D.slots desk.new)) }
     ensures err { IfErr result (PassBreaks W.spelled (records_of cutter.held) passage (D.slots desk.old) (D.slots desk.new)) }
     ensures others { (s : Slot) → s ≢ Slot.Out → s ≢ Slot.Report → D.slots desk.new s ≡ D.slots desk.old s }
 {
-    let passage = passage.run(rt, alloc, desk, cutter.rest(), mergers, way, gate)?;
+    let passage = passage.run(rt, alloc, desk, cutter.rest(), merging, gate)?;
     Ok((passage, fault))
 }
 
@@ -146,14 +125,11 @@ fn stop<R: Threads + Wait + Clock + Sync, D: Desk, W: Sink + Drop, G: Gate + Syn
     cutter: Cutter,
     passage: Passage<W>,
     refusal: PcapFault,
-    mergers: u32,
-    way: MergeWay,
+    merging: Merging,
     gate: &G,
 ) -> Result<(Passage<W>, Option<CaptureFault>), RunFault>
     requires out { IsSome (D.slots desk.old Slot.Out).name }
     requires report { IsSome (D.slots desk.old Slot.Report).name }
-    requires some_mergers { 1 ≤ mergers }
-    requires few_mergers { mergers ≤ 16 }
     requires ready { IsReady passage cutter }
     ensures ok { IfOk result (StopEnds W.spelled cutter.held passage refusal (D.slots desk.old) (D.slots desk.new)) }
     ensures err { IfErr result (StopBreaks W.spelled cutter.held passage refusal (D.slots desk.old) (D.slots desk.new)) }
@@ -167,8 +143,7 @@ fn stop<R: Threads + Wait + Clock + Sync, D: Desk, W: Sink + Drop, G: Gate + Syn
             cutter,
             passage,
             Some(fault),
-            mergers,
-            way,
+            merging,
             gate,
         ),
         PcapFault::ReadFault(_) => Err(RunFault::ReadFault),

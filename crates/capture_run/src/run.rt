@@ -11,7 +11,7 @@ use crate::sink::Sink;
 use crate::source::Source;
 use crate::summary::put_summary;
 use crate::write::put_text;
-use burst_walk::MergeWay;
+use burst_walk::Merging;
 use capture_report::{Ended, TITLE, Totals};
 use chain_service::{NamedFunction, Service};
 use nfp_outside::{Desk, Gate};
@@ -46,14 +46,11 @@ pub fn run_capture<
     burst: u32,
     source: S,
     sink: W,
-    mergers: u32,
-    way: MergeWay,
+    merging: Merging,
     gate: &G,
 ) -> Result<Ended, RunFault>
     requires some { 0 < burst }
     requires few { burst ≤ 65536 }
-    requires some_mergers { 1 ≤ mergers }
-    requires few_mergers { mergers ≤ 16 }
     requires capture { IsSome (D.slots desk.old Slot.Capture).name }
     requires out { IsSome (D.slots desk.old Slot.Out).name }
     requires report { IsSome (D.slots desk.old Slot.Report).name }
@@ -76,9 +73,7 @@ pub fn run_capture<
             dropped: 0,
         },
     };
-    let (passage, fault) = run_records(
-        rt, alloc, desk, burst, source, passage, mergers, way, gate,
-    )?;
+    let (passage, fault) = run_records(rt, alloc, desk, burst, source, passage, merging, gate)?;
     let ended = Ended {
         totals: passage.totals,
         fault,

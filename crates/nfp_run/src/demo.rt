@@ -17,7 +17,7 @@ use crate::attach::put_head;
 use crate::demo_source::DemoSource;
 use crate::ending::Ending;
 use crate::outcome::Outcome;
-use crate::ways::merge_way;
+use crate::ways::merging_by;
 use capture_report::{Ended, Totals};
 use capture_run::{RunFault, run_capture};
 use chain_service::{Service, make_service};
@@ -138,8 +138,7 @@ fn lead<R: Threads + Wait + Clock + Sync, D: Desk, G: Gate + Sync>(
         options.burst,
         records,
         writer,
-        options.mergers,
-        merge_way(options.way),
+        merging_by(options),
         gate,
     )
 }

@@ -19,7 +19,7 @@ use crate::attach::{attach_sink, put_head};
 use crate::ending::Ending;
 use crate::outcome::Outcome;
 use crate::read::{open_capture, read_service};
-use crate::ways::merge_way;
+use crate::ways::merging_by;
 use capture_report::Ended;
 use capture_run::{RunFault, run_capture};
 use chain_service::Service;
@@ -131,8 +131,7 @@ fn attach_and_run<R: Threads + Wait + Clock + Sync, D: Desk, G: Gate + Sync>(
         options.burst,
         reader,
         writer,
-        options.mergers,
-        merge_way(options.way),
+        merging_by(options),
         gate,
     )
 }

@@ -1,16 +1,31 @@
 //! How what the branches of a stage give comes together, from the words to the runner.
 ghost use Rattle.std.specs.Prelude.{◌≡◌};
+ghost use Rattle.command_words.specs.Named.{IsInRange};
+ghost use Rattle.burst_walk.specs.Mergers.{number_of};
 
-use capture_run::MergeWay;
-use command_words::Way;
+use capture_run::{MergeWay, Mergers, Merging};
+use command_words::{RunOptions, Way};
 
 /// The way of the runner that the words ask for.
-pub fn merge_way(way: Way) -> MergeWay
+fn merge_way(way: Way) -> MergeWay
     ensures inbox { way ≡ Way.Inbox → result ≡ MergeWay.Inbox }
     ensures board { way ≡ Way.Board → result ≡ MergeWay.Board }
 {
     match way {
         Way::Inbox => MergeWay::Inbox,
         Way::Board => MergeWay::Board,
+    }
+}
+
+/// How the options ask that what branches give is put together.
+pub fn merging_by(options: RunOptions) -> Merging
+    requires ranges { IsInRange options }
+    ensures mergers { number_of result.mergers ≡ options.mergers }
+    ensures inbox { options.way ≡ Way.Inbox → result.way ≡ MergeWay.Inbox }
+    ensures board { options.way ≡ Way.Board → result.way ≡ MergeWay.Board }
+{
+    Merging {
+        mergers: Mergers::new(options.mergers),
+        way: merge_way(options.way),
     }
 }

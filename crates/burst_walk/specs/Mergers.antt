@@ -1,0 +1,6 @@
+-- For proofs: how many mergers a number of mergers says.
+use Rattle.std.specs.Prelude.{ℕ, ◌+◌, ◌%◌}
+use Rattle.burst_walk.specs.declared.merging.Mergers.{Mergers}
+
+abbrev pub number_of : Mergers → ℕ
+number_of m = m.more % 16 + 1
