@@ -2,7 +2,6 @@
 ghost use Rattle.std.specs.Prelude.{◌≡◌, false, All, IfOk, IfSome, IsSome};
 
 use crate::turn::branch_turn;
-use function_lines::SharedItems;
 use graph_run::functions_keep_to_profiles;
 use message_links::Message;
 use net_functions::Function;
@@ -14,12 +13,12 @@ use std::marker::Model;
 use std::sync::Wait;
 
 /// The functions of a branch, the positions at which they stand in the chain with this number, and the
-/// record numbers of a burst's packets, which all branches share.
+/// record numbers of a burst's packets.
 #[derive(Drop)]
 pub(crate) struct OwnedFunctions<F> {
     pub(crate) functions: Vec<F>,
     pub(crate) positions: Vec<u32>,
-    pub(crate) numbers: SharedItems<u32>,
+    pub(crate) numbers: Vec<u32>,
     pub(crate) chain: u32,
 }
 
@@ -29,7 +28,7 @@ impl<F> Model for OwnedFunctions<F> {
 
     ghost Value = { PlainOwned F };
 
-    ghost view = { λ o. record { functions = o.functions.items; positions = o.positions.items; packets = length o.numbers } };
+    ghost view = { λ o. record { functions = o.functions.items; positions = o.positions.items; packets = length o.numbers.items } };
 }
 
 impl<F: Function + Drop> BranchWork for OwnedFunctions<F> {
@@ -49,7 +48,7 @@ impl<F: Function + Drop> BranchWork for OwnedFunctions<F> {
     ) -> Message<Version> {
         match message {
             Message::Live(version) => {
-                let number = self.numbers.as_slice()[place as usize];
+                let number = self.numbers[place as usize];
                 branch_turn(
                     rt,
                     alloc,
@@ -84,7 +83,7 @@ fn beside<F: Drop>(
     ensures { IfOk result (λ other. other ≡ record work.now { functions = functions.items }) }
 {
     let positions = Vec::from_slice(alloc, work.positions.as_slice())?;
-    let numbers = work.numbers.try_clone()?;
+    let numbers = Vec::from_slice(alloc, work.numbers.as_slice())?;
     Ok(OwnedFunctions {
         functions,
         positions,

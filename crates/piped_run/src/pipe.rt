@@ -16,7 +16,6 @@ use crate::works::begin_works;
 use branch_owners::{put_together, split_functions};
 use burst_law::burst_is_chain;
 use chain_walk::Fate;
-use function_lines::SharedItems;
 use graph_compile::{Graph, Stage};
 use graph_run::functions_keep_to_profiles;
 use net_functions::Function;
@@ -41,7 +40,7 @@ pub(crate) fn pipe_frames<F: Function + Drop + Send, G: Gate + Sync, R: Threads 
     alloc: Global,
     gate: &G,
     chain: u32,
-    numbers: &SharedItems<u32>,
+    numbers: &[u32],
     graph: &Graph,
     functions: Vec<F>,
     frames: Frames,
@@ -65,13 +64,12 @@ pub(crate) fn pipe_frames<F: Function + Drop + Send, G: Gate + Sync, R: Threads 
     functions_keep_to_profiles::<F>();
     burst_is_chain::<F>();
     nodes_walk_the_chain::<F>();
-    let numbers_of_packets = numbers.as_slice();
-    if numbers_of_packets.is_empty() {
+    if numbers.is_empty() {
         return Ok((functions, Vec::new(alloc)));
     }
     let stages = graph.stages.as_slice();
     let owners = functions.len();
-    let count = numbers_of_packets.len() as u32;
+    let count = numbers.len() as u32;
     let mergers = mergers_that_pay(rt, stages, mergers.min(count));
     let owned = split_functions(alloc, stages, functions)?;
     let works = begin_works(alloc, stages, owned, numbers, chain)?;

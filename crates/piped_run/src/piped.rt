@@ -9,10 +9,8 @@ use crate::frames::{Frames, numbers_of};
 use crate::pipe::pipe_frames;
 use chain_walk::Fate;
 use classifier::Burst;
-use function_lines::SharedItems;
 use graph_compile::Graph;
 use graph_run::{Running, count_adders, run_gated};
-use item_list::Items;
 use joined_run::{bursts_in_parts_lead, run_joined};
 use net_functions::Function;
 use nfp_outside::Gate;
@@ -116,7 +114,7 @@ fn run_stages<F: Function + Drop + Send, G: Gate + Sync, R: Threads + Wait + Syn
     let (functions, graph) = run.into_parts();
     let taggers = count_adders(&functions);
     let items = burst.items.as_slice();
-    let numbers = SharedItems::new(alloc, Items::new(numbers_of(alloc, items, chain)?))?;
+    let numbers = numbers_of(alloc, items, chain)?;
     let frames = Frames::new(items, unit, chain, taggers);
     let (functions, fates) = pipe_frames(
         rt, alloc, gate, chain, &numbers, &graph, functions, frames, mergers, way, tally,

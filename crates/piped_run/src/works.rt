@@ -5,7 +5,6 @@ ghost use Rattle.stream_law.specs.Works.{works_in, works_of};
 
 use crate::owned::OwnedFunctions;
 use action_profile::StageParts;
-use function_lines::SharedItems;
 use graph_compile::{Branch, Stage};
 use item_list::Items;
 use node_run::StageWork;
@@ -17,7 +16,7 @@ pub(crate) fn begin_works<F: Drop>(
     alloc: Global,
     stages: &[Stage],
     owned: Vec<Vec<Vec<F>>>,
-    numbers: &SharedItems<u32>,
+    numbers: &[u32],
     chain: u32,
 ) -> Result<Vec<StageWork<OwnedFunctions<F>>>, AllocError>
     requires { map (λ own. length own.items) owned.items ≡ map (λ s. length s.branches) stages.now }
@@ -51,7 +50,7 @@ fn begin_branches<F: Drop>(
     alloc: Global,
     branches: &[Branch],
     own: Vec<Vec<F>>,
-    numbers: &SharedItems<u32>,
+    numbers: &[u32],
     chain: u32,
 ) -> Result<Vec<OwnedFunctions<F>>, AllocError>
     requires { length own.items ≡ length branches.now }
@@ -72,13 +71,13 @@ fn begin_branch<F: Drop>(
     alloc: Global,
     branch: &Branch,
     functions: Vec<F>,
-    numbers: &SharedItems<u32>,
+    numbers: &[u32],
     chain: u32,
 ) -> Result<OwnedFunctions<F>, AllocError>
     ensures { IfOk result (λ work. work ≡ record { functions = functions.items; positions = branch.now.positions; packets = length numbers.now }) }
 {
     let positions = Vec::from_slice(alloc, branch.positions.as_slice())?;
-    let numbers = numbers.try_clone()?;
+    let numbers = Vec::from_slice(alloc, numbers)?;
     Ok(OwnedFunctions {
         functions,
         positions,
