@@ -14,16 +14,22 @@ use help::tell_more;
 use nfp_outside::{FileDesk, OpenGate, Reason, Slot};
 use nfp_run::{Outcome, nfp, write_fault_text};
 use std::alloc::AllocError;
+use std::fs::File;
 use std::io::{ErrorKind, IsTerminal, Write};
 use std::process::ExitCode;
 use std::rt::{Clock, Env, Files};
-use std::{env, io, str};
+use std::{env, fs, io, str};
 use watched_desk::{Progress, Seen, Watch, Watched};
 
 /// The length of the longest word that is a command.
 const LONGEST_COMMAND: usize = 4;
 
 fn main(rt: HostRuntime) -> ExitCode {
+    let _places = (
+        place_of(&rt, "/proc/self/fd/0"),
+        place_of(&rt, "/proc/self/fd/1"),
+        place_of(&rt, "/proc/self/fd/2"),
+    );
     let files: Result<_, _> = rt.clone();
     let outcome = match (command_line(&rt), files) {
         (Ok(words), Ok(files)) => {
@@ -39,6 +45,15 @@ fn main(rt: HostRuntime) -> ExitCode {
         _ => Outcome::OutOfMemory,
     };
     ExitCode::from(outcome.status())
+}
+
+// A file that keeps the place of a standard stream that is closed, so that no file of the run comes to stand there and is taken for
+// what is printed.
+fn place_of<R: Files>(rt: &R, stream: &str) -> Option<R::File> {
+    match fs::metadata(rt, stream) {
+        Ok(_) => None,
+        Err(_) => File::open(rt, "/dev/null").ok(),
+    }
 }
 
 // What the run is watched with. Progress is shown on a terminal, where the environment asks for it.
