@@ -1,3 +1,4 @@
 pub mod Bits
+pub mod KindWords
 pub mod Members
 mod Rows

@@ -1,5 +1,6 @@
--- Believed: the names of the kinds of network functions.
-use Rattle.std.specs.Prelude.{ℕ, List, codes}
+-- Believed: the kinds of network functions and their names.
+use Rattle.std.specs.Prelude.{ℕ, List, [], ◌∷◌, Bool, Option, find, codes}
+use Rattle.std.specs.Str.{bytes_eq}
 use Rattle.action_profile.specs.declared.kind.Kind.{Kind}
 use Rattle.action_profile.specs.declared.kind.Kind.TheVariants.{Firewall, Signature, Nat, Balancer, Monitor, Limiter, Marker, Nexthop, Hop, Redactor, Tagger, Untagger}
 
@@ -17,3 +18,14 @@ kind_name Hop = codes "hop"
 kind_name Redactor = codes "redactor"
 kind_name Tagger = codes "tagger"
 kind_name Untagger = codes "untagger"
+
+-- all kinds
+abbrev pub kinds : List Kind
+kinds = Firewall ∷ Signature ∷ Nat ∷ Balancer ∷ Monitor ∷ Limiter ∷ Marker ∷ Nexthop ∷ Hop ∷ Redactor ∷ Tagger ∷ Untagger ∷ []
+
+abbrev pub is_name_of : List ℕ → Kind → Bool
+is_name_of word kind = bytes_eq (kind_name kind) word
+
+-- the kind that has this word for its name
+abbrev pub kind_named : List ℕ → Option Kind
+kind_named word = find (is_name_of word) kinds

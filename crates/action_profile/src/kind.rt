@@ -1,6 +1,6 @@
 //! The kinds of network functions.
 ghost use Rattle.std.specs.Prelude.{◌≡◌};
-ghost use Rattle.action_profile.specs.Kinds.{kind_name};
+ghost use Rattle.action_profile.specs.Kinds.{kind_name, is_name_of, kind_named};
 
 /// A kind of network function.
 #[derive(Clone, Copy, Debug, PartialEq, Eq)]
@@ -31,7 +31,36 @@ pub enum Kind {
     Untagger,
 }
 
+/// All kinds, in the order of their sections in the operator's manual.
+pub const KINDS: [Kind; 12] = [
+    Kind::Firewall,
+    Kind::Signature,
+    Kind::Nat,
+    Kind::Balancer,
+    Kind::Monitor,
+    Kind::Limiter,
+    Kind::Marker,
+    Kind::Nexthop,
+    Kind::Hop,
+    Kind::Redactor,
+    Kind::Tagger,
+    Kind::Untagger,
+];
+
 impl Kind {
+    /// The kind that has this word for its name.
+    pub fn named(word: &[u8]) -> Option<Kind>
+        ensures { result ≡ kind_named word.now }
+    {
+        KINDS.iter().copied().find(|kind| kind.is_named(word))
+    }
+
+    fn is_named(self, word: &[u8]) -> bool
+        ensures { result ≡ is_name_of word.now self }
+    {
+        self.name().as_bytes() == word
+    }
+
     /// The kind's name in policies and printed texts.
     pub fn name(self) -> &'static str
         ensures { result.now ≡ kind_name self }

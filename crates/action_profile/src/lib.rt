@@ -17,12 +17,14 @@
 
 mod field_set;
 mod kind;
+mod laws;
 mod parts;
 mod rights;
 mod table;
 
 pub use field_set::{FieldSet, all_fields};
-pub use kind::Kind;
+pub use kind::{KINDS, Kind};
+pub use laws::kinds_have_their_words;
 pub use parts::{Mode, StageParts, Touch};
 pub use rights::Profile;
 pub use table::profile;

@@ -2,7 +2,7 @@
 //! are compared with are those that are shown.
 
 use crate::lines::{Row, part, rows_of, until};
-use action_profile::Kind;
+use action_profile::{KINDS, Kind};
 use policy_text::{address, mac, number, prefix, range};
 use std::alloc::{AllocError, Global};
 
@@ -18,36 +18,10 @@ const GREATEST: u64 = 4_294_967_295;
 /// How many words may be wanted at one place.
 const ALTERNATIVES: usize = 3;
 
-/// All kinds, in the order of their sections in the operator's manual.
-static KINDS: [Kind; 12] = [
-    Kind::Firewall,
-    Kind::Signature,
-    Kind::Nat,
-    Kind::Balancer,
-    Kind::Monitor,
-    Kind::Limiter,
-    Kind::Marker,
-    Kind::Nexthop,
-    Kind::Hop,
-    Kind::Redactor,
-    Kind::Tagger,
-    Kind::Untagger,
-];
-
-/// The kind with this name.
-pub fn kind_named(word: &[u8]) -> Option<Kind> {
-    for kind in &KINDS {
-        if kind.name().as_bytes() == word {
-            return Some(*kind);
-        }
-    }
-    None
-}
-
 /// The names of the kinds, each after a blank.
 pub fn kind_names(alloc: Global) -> Result<Vec<u8>, AllocError> {
     let mut text = Vec::new(alloc);
-    for kind in &KINDS {
+    for kind in KINDS.iter() {
         text.push(b' ')?;
         text.extend_from_slice(kind.name().as_bytes())?;
     }

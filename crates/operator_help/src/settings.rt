@@ -1,6 +1,6 @@
 //! What is wrong with the lines of a function.
 
-use crate::forms::{best_misfit, clauses_of, forms_of, kind_named, required_of};
+use crate::forms::{best_misfit, clauses_of, forms_of, required_of};
 use crate::lines::{Row, last_before, place_of, rows_of};
 use crate::page::Page;
 use crate::policy::{PolicyText, quote_row, say_forms};
@@ -33,7 +33,7 @@ pub fn bad_setting(page: &mut Page, policy: PolicyText<'_>, line: u32) -> Result
 /// The kind of the last function that these lines declare before a place.
 pub fn kind_at(rows: &[Row<'_>], place: usize) -> Option<Kind> {
     match last_before(rows, place, b"fn") {
-        Some(row) => kind_named(row.word(2)),
+        Some(row) => Kind::named(row.word(2)),
         None => None,
     }
 }

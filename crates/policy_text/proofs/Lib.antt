@@ -3,7 +3,6 @@ pub mod ReadClauses
 pub mod Digits
 pub mod Keeping
 pub mod Latest
-pub mod KindWords
 pub mod Remaining
 pub mod Sound
 pub mod Splitting

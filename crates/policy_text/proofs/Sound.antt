@@ -25,7 +25,8 @@ use Rattle.std.proofs.lemmas.Option.{cond_some}
 use Rattle.policy_text.specs.Clauses.{clauses_from}
 use Rattle.std.specs.Str.Lossy.{utf8_valid_len}
 use Rattle.policy_text.specs.declared.policy.Policy.{Policy}
-use Rattle.policy_text.specs.Grammar.{kind_of, is_version, chains_of, policy_of, policy_of_utf8, syntax_at, latest, change_latest, fit_form, chain_clauses, texts, fail_at, functions_here, function_named, named_at, add_statement, add_function, add_setting, set_up_latest, rules_here, is_rule, setting_of, of_function, in_chain, is_function, has_chain, has_function, count_functions, end_statement, chain_line, function_line, set_line, rule_line, order_line, priority_line, position_line, after_line, after_lines}
+use Rattle.action_profile.specs.Kinds.{kind_named}
+use Rattle.policy_text.specs.Grammar.{is_version, chains_of, policy_of, policy_of_utf8, syntax_at, latest, change_latest, fit_form, chain_clauses, texts, fail_at, functions_here, function_named, named_at, add_statement, add_function, add_setting, set_up_latest, rules_here, is_rule, setting_of, of_function, in_chain, is_function, has_chain, has_function, count_functions, end_statement, chain_line, function_line, set_line, rule_line, order_line, priority_line, position_line, after_line, after_lines}
 use Rattle.policy_text.specs.Lines.{lines_of, Line, PlacedWord, word_at, no_word}
 use Rattle.policy_text.specs.Soundness.{SpeaksOf, IsSoundSetting, IsSoundFunction, IsSoundChain, IsSound, chain_names, function_names}
 use Rattle.policy_text.specs.Steps.{◌>>=◌, demand, some_or, unless}
@@ -259,7 +260,7 @@ fit_name form number (w ∷ v ∷ ws) u h = elim (is_name v.text) as (λ b. unle
 function_line_keeps : (chains : List ChainPolicy) (line : Line) → IsSound chains → IfOk (function_line chains line) IsSound
 function_line_keeps chains line sound =
     value_last IsSound (in_chain chains line) (fit_form (word_forms.Name ∷ word_forms.Name ∷ []) line) (demand (nat_lt (count_functions chains) 64) (TooManyFunctions line.number))
-    (demand (not (has_function chains (word_at line 1))) (DuplicateName line.number)) (some_or (UnknownKind line.number) (kind_of (word_at line 2)))
+    (demand (not (has_function chains (word_at line 1))) (DuplicateName line.number)) (some_or (UnknownKind line.number) (kind_named (word_at line 2)))
     (λ kind. add_function chains (record { name = word_at line 1; line = line.number; kind = kind; settings = [] }))
     (λ u v w z kind eu ev ew ez.
     function_keeps chains (record { name = word_at line 1; line = line.number; kind = kind; settings = [] }) sound

@@ -1,12 +1,10 @@
 -- Believed: the policy language: what each line adds to the policy so far, or its first fault.
-use Rattle.std.specs.Prelude.{ℕ, ◌-◌, List, [], ◌∷◌, ◌++◌, length, map, drop, count_by, find, position, sum_by, Bool, false, if◌then◌else◌, ◌==◌, ◌&&◌, not, nat_lt, slice_index_or, slice_get, is_some, Option, Result, Ok, Err, codes}
+use Rattle.std.specs.Prelude.{ℕ, ◌-◌, List, [], ◌∷◌, ◌++◌, length, map, drop, count_by, position, sum_by, Bool, false, if◌then◌else◌, ◌==◌, ◌&&◌, not, nat_lt, slice_index_or, slice_get, is_some, Option, Result, Ok, Err, codes}
 use Rattle.std.specs.Option.{option_map, option_map_or}
 use Rattle.std.specs.List.{list_any}
 use Rattle.std.specs.Str.{bytes_eq}
 use Rattle.std.specs.Str.Lossy.{utf8_valid_len}
-use Rattle.action_profile.specs.Kinds.{kind_name}
-use Rattle.action_profile.specs.declared.kind.Kind.{Kind}
-use Rattle.action_profile.specs.declared.kind.Kind.TheVariants.{Firewall, Signature, Nat, Balancer, Monitor, Limiter, Marker, Nexthop, Hop, Redactor, Tagger, Untagger}
+use Rattle.action_profile.specs.Kinds.{kind_named}
 use Rattle.policy_text.specs.declared.clause.Clause.{Clause}
 use Rattle.policy_text.specs.declared.fault.TextFault.{TextFault}
 use Rattle.policy_text.specs.declared.fault.TextFault.TheVariants.{NotUtf8, Syntax, UnknownKind, DuplicateName, UnknownName, TooManyFunctions, TooManyChains, TooManyRules, BadVersionLine}
@@ -23,17 +21,6 @@ use Rattle.policy_text.specs.Forms.{misfit_from}
 use Rattle.policy_text.specs.Lines.{PlacedWord, Line, lines_of, word_at, column_of}
 use Rattle.policy_text.specs.Steps.{◌>>=◌, demand, some_or, unless}
 use Rattle.policy_text.specs.Values.{is_name}
-
--- the kinds of functions
-abbrev pub kinds : List Kind
-kinds = Firewall ∷ Signature ∷ Nat ∷ Balancer ∷ Monitor ∷ Limiter ∷ Marker ∷ Nexthop ∷ Hop ∷ Redactor ∷ Tagger ∷ Untagger ∷ []
-
-abbrev pub is_name_of : List ℕ → Kind → Bool
-is_name_of word kind = bytes_eq (kind_name kind) word
-
--- the kind that has this word for its name
-abbrev pub kind_of : List ℕ → Option Kind
-kind_of word = find (is_name_of word) kinds
 
 -- the last of a list, and the list with its last one changed
 abbrev pub latest : {A : Type 0} → List A → Option A
@@ -126,7 +113,7 @@ function_line chains line = do
   _ ← fit_form (word_forms.Name ∷ word_forms.Name ∷ []) line
   _ ← demand (nat_lt (count_functions chains) 64) (TooManyFunctions line.number)
   _ ← demand (not (has_function chains (word_at line 1))) (DuplicateName line.number)
-  kind ← some_or (UnknownKind line.number) (kind_of (word_at line 2))
+  kind ← some_or (UnknownKind line.number) (kind_named (word_at line 2))
   Ok (add_function chains (record { name = word_at line 1; line = line.number; kind = kind; settings = [] }))
 
 -- a line of this kind stands behind a function of the current chain, and has at least one word more

@@ -1,7 +1,7 @@
 //! Reads a policy text line by line.
 
 ghost use Rattle.std.specs.Prelude.{◌≡◌, ◌<◌, length, IfOk, OnOk};
-ghost use Rattle.policy_text.specs.Grammar.{kind_of, is_name_of, of_function, setting_of, function_line, set_line, rule_line, after_line, functions_here};
+ghost use Rattle.policy_text.specs.Grammar.{of_function, setting_of, function_line, set_line, rule_line, after_line, functions_here};
 ghost use Rattle.policy_text.specs.Steps.{Gives};
 
 use crate::chain_lines::chain_line;
@@ -19,35 +19,6 @@ use std::alloc::{AllocError, Global};
 /// The most rules of a function.
 const MAX_RULES: usize = 256;
 
-/// The kinds of functions.
-const KINDS: [Kind; 12] = [
-    Kind::Firewall,
-    Kind::Signature,
-    Kind::Nat,
-    Kind::Balancer,
-    Kind::Monitor,
-    Kind::Limiter,
-    Kind::Marker,
-    Kind::Nexthop,
-    Kind::Hop,
-    Kind::Redactor,
-    Kind::Tagger,
-    Kind::Untagger,
-];
-
-// The kind that has this word for its name.
-fn kind_of(word: &[u8]) -> Option<Kind>
-    ensures { result ≡ kind_of word.now }
-{
-    KINDS.iter().copied().find(|kind| is_name_of(*kind, word))
-}
-
-fn is_name_of(kind: Kind, word: &[u8]) -> bool
-    ensures { result ≡ is_name_of word.now kind }
-{
-    kind.name().as_bytes() == word
-}
-
 // `fn NAME KIND`.
 fn function_line(alloc: Global, draft: &mut Draft, line: &Line<'_>) -> Result<(), TextFault>
     ensures { Gives (λ _. draft.new) result (function_line draft.old line.now) }
@@ -61,7 +32,7 @@ fn function_line(alloc: Global, draft: &mut Draft, line: &Line<'_>) -> Result<()
     if draft.has_function(name) {
         return Err(TextFault::DuplicateName(line.number()));
     }
-    let Some(kind) = kind_of(line.word(2)) else {
+    let Some(kind) = Kind::named(line.word(2)) else {
         return Err(TextFault::UnknownKind(line.number()));
     };
     draft.add_function(FunctionDecl {

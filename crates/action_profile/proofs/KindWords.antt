@@ -2,24 +2,23 @@
 use Rattle.std.proofs.Common.{◌≡◌, ℕ, true, false, cond, List, [], ◌∷◌, Some, refl, sym, ap, ◌∙◌}
 use Rattle.std.specs.Prelude.{find}
 use Rattle.std.proofs.lemmas.Slice.Eq.{bytes_eq-Decides}
-use Rattle.action_profile.specs.Kinds.{kind_name}
+use Rattle.action_profile.specs.Kinds.{kind_name, kinds, is_name_of, kind_named}
 use Rattle.action_profile.specs.declared.kind.Kind.{Kind}
 use Rattle.action_profile.specs.declared.kind.Kind.TheVariants.{Firewall, Signature, Nat, Balancer, Monitor, Limiter, Marker, Nexthop, Hop, Redactor, Tagger, Untagger}
-use Rattle.policy_text.specs.Grammar.{kinds, is_name_of, kind_of}
 
-pub kind_of-name : (kind : Kind) → kind_of (kind_name kind) ≡ Some kind
-kind_of-name Firewall = refl
-kind_of-name Signature = refl
-kind_of-name Nat = refl
-kind_of-name Balancer = refl
-kind_of-name Monitor = refl
-kind_of-name Limiter = refl
-kind_of-name Marker = refl
-kind_of-name Nexthop = refl
-kind_of-name Hop = refl
-kind_of-name Redactor = refl
-kind_of-name Tagger = refl
-kind_of-name Untagger = refl
+pub kind_named-name : (kind : Kind) → kind_named (kind_name kind) ≡ Some kind
+kind_named-name Firewall = refl
+kind_named-name Signature = refl
+kind_named-name Nat = refl
+kind_named-name Balancer = refl
+kind_named-name Monitor = refl
+kind_named-name Limiter = refl
+kind_named-name Marker = refl
+kind_named-name Nexthop = refl
+kind_named-name Hop = refl
+kind_named-name Redactor = refl
+kind_named-name Tagger = refl
+kind_named-name Untagger = refl
 
 found-name : (word : List ℕ) (kind : Kind) (among : List Kind) → find (is_name_of word) among ≡ Some kind → word ≡ kind_name kind
 found-name word kind [] e = absurd cc
@@ -29,5 +28,5 @@ found-name word kind (one ∷ among) e =
       | false ↦ λ t f. found-name word kind among f
     ] refl e
 
-pub name-kind_of : (word : List ℕ) (kind : Kind) → kind_of word ≡ Some kind → word ≡ kind_name kind
-name-kind_of word kind = found-name word kind kinds
+pub name-kind_named : (word : List ℕ) (kind : Kind) → kind_named word ≡ Some kind → word ≡ kind_name kind
+name-kind_named word kind = found-name word kind kinds
