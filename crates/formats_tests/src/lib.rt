@@ -1,5 +1,5 @@
-//! Tests of what stands below all and of the formats, through public calls alone: lists, desks, the fields and
-//! checksums of a frame, and captures.
+//! Tests of what stands below all and of the formats, through public calls alone: lists, desks and watched ones, the
+//! fields and checksums of a frame, and captures.
 //!
 //! No clause says that a call finds memory, so each call that takes some runs here once with ample memory. The
 //! expected bytes were worked out by hand from the standards.
@@ -13,3 +13,5 @@ mod desks;
 mod frames;
 #[cfg(test)]
 mod lists;
+#[cfg(test)]
+mod watched;

@@ -15,11 +15,10 @@ mod amount;
 mod progress;
 mod record_count;
 mod seen;
-#[cfg(test)]
-mod tests;
 mod watch;
 mod watched;
 
+pub use amount::Amount;
 pub use progress::Progress;
 pub use record_count::RecordCount;
 pub use seen::Seen;

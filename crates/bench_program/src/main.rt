@@ -1,0 +1,42 @@
+//! What the scripts of `bench/` measure. The first word tells what: `arrivals`, `graphs`, `versions`, or a way of [`walk`]; the words
+//! behind it are those of the module.
+#![tactic(auto)]
+
+mod arrivals;
+mod frames;
+mod graphs;
+mod runs;
+mod search;
+mod versions;
+mod walk;
+
+use std::{env, io};
+
+/// The number at this place of the words, or another one.
+fn number(words: &[String], place: usize, otherwise: u32) -> u32 {
+    words
+        .get(place)
+        .and_then(|word| word.parse().ok())
+        .unwrap_or(otherwise)
+}
+
+/// The same for a number of 16 bits.
+fn short(words: &[String], place: usize, otherwise: u16) -> u16 {
+    words
+        .get(place)
+        .and_then(|word| word.parse().ok())
+        .unwrap_or(otherwise)
+}
+
+fn main(rt: HostRuntime) -> io::Result<()> {
+    let words: Vec<String> = env::args(&rt)?.skip(1).collect(rt.alloc())?;
+    let Some((what, words)) = words.split_first() else {
+        return Ok(());
+    };
+    match what.as_str() {
+        "arrivals" => arrivals::measure(&rt, words),
+        "graphs" => graphs::measure(&rt, words),
+        "versions" => versions::measure(&rt, words),
+        mode => walk::measure(&rt, mode, words),
+    }
+}

@@ -1,0 +1,152 @@
+//! Leads the same burst of packets through the chain of a policy again and again, through the graph on one thread, through the
+//! graph on threads that are joined behind each stage, or with its dealers, branches and mergers side by side, or by the walk
+//! of whole frames, or looks for the patterns of its functions alone, or reads the same bytes: what `bench/walk` and `bench/payload`
+//! measure. Its words are `graph`, `joined`, `threads`, `piped`, `board`, `walk`, `search`, `pass` or `none`, how often, the length of
+//! each frame in bytes, the policy, how many mergers (1 where it isn't said), and how many packets a burst has (1,024). `piped` and
+//! `board` are the run by which the program goes, which takes threads where they pay: in `piped` what branches give goes over links to
+//! the mergers, in `board` onto a board. In `threads` each burst goes as the first one of `piped` does. The functions of the first
+//! chain are taken as declared. Of the bursts that are led through a chain stderr has the nanoseconds of the one that took least.
+ghost use Rattle.std.specs.Prelude.{◌≤◌, length, vec_len};
+
+use crate::frames::{BURST, burst_of};
+use crate::runs::{Counts, Least, Way, by_walk, through_graph, through_threads};
+use crate::search::{pass, search};
+use crate::{number, short};
+use classifier::Burst;
+use net_functions::{NetFunction, build};
+use piped_run::MergeWay;
+use policy_text::{BuildFault, ChainPolicy, FunctionDecl, parse};
+use std::alloc::Global;
+use std::rt::{Clock, Files};
+use std::sync::Wait;
+use std::thread::Threads;
+use std::{fs, io};
+
+/// The longest policy, in bytes.
+const LONGEST: usize = 1_048_576;
+
+fn functions_of(alloc: Global, chain: &ChainPolicy) -> Result<Vec<NetFunction>, BuildFault> {
+    let mut functions = Vec::new(alloc);
+    for decl in chain.functions.as_slice() {
+        push_function(alloc, &mut functions, decl)?;
+    }
+    Ok(functions)
+}
+
+fn push_function(
+    alloc: Global,
+    functions: &mut Vec<NetFunction>,
+    decl: &FunctionDecl,
+) -> Result<(), BuildFault> {
+    let function = build(alloc, decl)?;
+    if functions.push(function).is_err() {
+        return Err(BuildFault::OutOfMemory);
+    }
+    Ok(())
+}
+
+/// What is measured.
+#[derive(Drop)]
+struct Run<'a> {
+    mode: &'a str,
+    rounds: u32,
+    size: u16,
+    mergers: u32,
+    packets: u32,
+}
+
+fn lead(
+    rt: &(impl Alloc<A = Global> + Print + Eprint + Threads + Wait + Clock + Sync),
+    run: &Run,
+    chain: &ChainPolicy,
+) -> io::Result<()> {
+    let alloc = rt.alloc();
+    let burst = burst_of(alloc, run.packets, run.size)?;
+    let mut functions = match functions_of(alloc, chain) {
+        Ok(functions) => functions,
+        Err(fault) => return println!(rt; "fault {fault:?}"),
+    };
+    if functions.len() > 64 || burst.items.as_slice().len() > 65_536 {
+        return println!(rt; "too many");
+    }
+    let rounds = run.rounds;
+    match run.mode {
+        "graph" => tell(rt, through_graph(rt, alloc, functions, &burst, rounds)?),
+        "joined" => tell_threads(rt, functions, &burst, run, Way::Joined),
+        "threads" => tell_threads(rt, functions, &burst, run, Way::Threads),
+        "piped" => tell_threads(rt, functions, &burst, run, Way::Piped(MergeWay::Inbox)),
+        "board" => tell_threads(rt, functions, &burst, run, Way::Piped(MergeWay::Board)),
+        "walk" => {
+            let (out, least) = by_walk(rt, alloc, &mut functions, &burst, rounds)?;
+            tell_least(rt, least)?;
+            println!(rt; "out {out}")
+        }
+        "search" => println!(rt; "found {}", search(&functions, &burst, rounds)),
+        "pass" => println!(rt; "sum {}", pass(&burst, rounds)),
+        _ => println!(rt; "none"),
+    }
+}
+
+fn tell_threads(
+    rt: &(impl Alloc<A = Global> + Print + Eprint + Threads + Wait + Clock + Sync),
+    functions: Vec<NetFunction>,
+    burst: &Burst,
+    run: &Run,
+    way: Way,
+) -> io::Result<()>
+    requires few { vec_len functions ≤ 64 }
+    requires short { length burst.now.items ≤ 65536 }
+{
+    let counts = through_threads(
+        rt,
+        rt.alloc(),
+        functions,
+        burst,
+        run.rounds,
+        way,
+        run.mergers,
+    )?;
+    tell(rt, counts)
+}
+
+fn tell(rt: &(impl Print + Eprint), counts: Counts) -> io::Result<()> {
+    let (out, copies) = (counts.out, counts.copies);
+    tell_least(rt, counts.least)?;
+    println!(rt; "out {out} copies {copies}")
+}
+
+fn tell_least(rt: &impl Eprint, least: Least) -> io::Result<()> {
+    match least.0 {
+        Some(nanos) => eprintln!(rt; "least {nanos}"),
+        None => Ok(()),
+    }
+}
+
+/// Leads the packets that the words tell, the first of which is the mode.
+pub fn measure(
+    rt: &(impl Files + Alloc<A = Global> + Print + Eprint + Threads + Wait + Clock + Sync),
+    mode: &str,
+    words: &[String],
+) -> io::Result<()> {
+    let Some(path) = words.get(2) else {
+        return println!(rt; "no policy");
+    };
+    let run = Run {
+        mode,
+        rounds: number(words, 0, 1),
+        size: short(words, 1, 42),
+        mergers: number(words, 3, 1),
+        packets: number(words, 4, BURST),
+    };
+    let text = fs::read(rt, path.as_str())?;
+    if text.len() > LONGEST {
+        return println!(rt; "too long");
+    }
+    match parse(rt.alloc(), &text) {
+        Ok(policy) => match policy.chains.as_slice().first() {
+            Some(chain) => lead(rt, &run, chain),
+            None => println!(rt; "no chain"),
+        },
+        Err(fault) => println!(rt; "fault {fault:?}"),
+    }
+}
