@@ -59,10 +59,7 @@ fn run(rt: &(impl Files + Alloc<A = Global> + Print), times: u32, path: &str) ->
 }
 
 /// Compiles what the words tell.
-pub fn measure(
-    rt: &(impl Files + Alloc<A = Global> + Print),
-    words: &[String],
-) -> io::Result<()> {
+pub fn measure(rt: &(impl Files + Alloc<A = Global> + Print), words: &[String]) -> io::Result<()> {
     match words.get(1) {
         Some(path) => run(rt, number(words, 0, 1), path.as_str()),
         None => println!(rt; "no policy"),

@@ -10,8 +10,8 @@ use item_list::Items;
 use merge_ops::{Arrival, Merged, merge};
 use packet_version::{Apart, Base, Tally, deal, join, split};
 use std::alloc::{AllocError, Global};
-use std::sync::Wait;
 use std::io;
+use std::sync::Wait;
 
 const ROUNDS: u32 = 200_000;
 
