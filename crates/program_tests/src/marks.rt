@@ -1,8 +1,6 @@
 //! Runs through functions that rewrite packets and keep nothing of them.
 
-use crate::runs::{HEAD, run_fixed, run_with};
-use nfp_outside::Slot;
-use nfp_run::Outcome;
+use crate::runs::{Due, HEAD, compare};
 use std::alloc::{AllocError, Global};
 use std::process::Abort;
 use std::rt::Clock;
@@ -92,23 +90,37 @@ fn push_datagram(
 }
 
 // Leads a capture through a policy, with one merger, two and many, over links and on boards, and compares what it gives.
-fn compare(
+fn compare_ways(
     rt: &(impl Abort + AllocGlobal + Threads + Wait + Clock + Sync),
     policy: &[u8],
     capture: &[u8],
-    out: &[u8],
-    report: &[u8],
+    due: &Due<'_>,
 ) -> Result<(), Fail> {
-    let alloc = rt.alloc();
     for (mergers, way) in [("1", "board"), ("2", "inbox"), ("16", "board")] {
-        let run = run_with(alloc, &["--mergers", mergers, "--merge", way])?;
-        let capture = capture.to_vec(alloc)?;
-        let (outcome, desk) = run_fixed(rt, alloc, &run, policy, capture)?;
-        assert!(rt; matches!(outcome, Outcome::Done));
-        assert_eq!(rt; desk.put(Slot::Out), out);
-        assert_eq!(rt; desk.put(Slot::Report), report);
+        let run = [
+            "run",
+            "p",
+            "c",
+            "o",
+            "r",
+            "--mergers",
+            mergers,
+            "--merge",
+            way,
+        ];
+        compare(rt, &run, policy, capture, due)?;
     }
     Ok(())
+}
+
+// What a run that is done leaves.
+fn done<'a>(note: &'a [u8], out: &'a [u8], report: &'a [u8]) -> Due<'a> {
+    Due {
+        status: 0,
+        note,
+        out,
+        report,
+    }
 }
 
 // Each marker has its own copy of the type of service, and the later one's is the packet's.
@@ -130,7 +142,8 @@ fn the_later_marker_is_the_one_that_is_seen(rt: HostRuntime) -> Result<(), Fail>
     ];
     let capture = capture_of(&rt, rt.alloc(), &[first, ninth])?;
     let out = capture_of(&rt, rt.alloc(), &marked)?;
-    compare(&rt, MARKED, &capture, out.as_slice(), MARKED_REPORT)
+    let note = b"done records 2 emitted 2 dropped 0\n";
+    compare_ways(&rt, MARKED, &capture, &done(note, &out, MARKED_REPORT))
 }
 
 // The signature sees the payload as it came, and the redactor beside it writes a copy of its own.
@@ -144,14 +157,16 @@ fn a_payload_is_searched_and_redacted_side_by_side(rt: HostRuntime) -> Result<()
     };
     let capture = capture_of(&rt, rt.alloc(), &[secret, evil])?;
     let out = capture_of(&rt, rt.alloc(), &[redacted])?;
-    compare(&rt, SEARCHED, &capture, out.as_slice(), SEARCHED_REPORT)
+    let note = b"done records 2 emitted 1 dropped 1\n";
+    compare_ways(&rt, SEARCHED, &capture, &done(note, &out, SEARCHED_REPORT))
 }
 
 #[test]
 fn of_two_drops_the_first_in_the_chain_is_told(rt: HostRuntime) -> Result<(), Fail> {
     let evil = Datagram::new(9, [0x66, 0xc3], b"evil");
     let capture = capture_of(&rt, rt.alloc(), &[evil])?;
-    compare(&rt, DENIED, &capture, HEAD.as_slice(), DENIED_REPORT)
+    let note = b"done records 1 emitted 0 dropped 1\n";
+    compare_ways(&rt, DENIED, &capture, &done(note, &HEAD, DENIED_REPORT))
 }
 
 // A record of a frame that begins with these bytes and goes on with zeros, to this length.
@@ -197,7 +212,8 @@ fn a_tag_is_put_before_the_others(rt: HostRuntime) -> Result<(), Fail> {
         ],
         40,
     )?;
-    compare(&rt, TAGGED, &capture, out.as_slice(), TAGGED_REPORT)
+    let note = b"done records 2 emitted 2 dropped 0\n";
+    compare_ways(&rt, TAGGED, &capture, &done(note, &out, TAGGED_REPORT))
 }
 
 // The last hop of a packet is the one that would leave it no time to live.
@@ -216,5 +232,6 @@ fn a_packet_at_its_last_hop_is_dropped(rt: HostRuntime) -> Result<(), Fail> {
     };
     let capture = capture_of(&rt, rt.alloc(), &[first, last])?;
     let out = capture_of(&rt, rt.alloc(), &[passed])?;
-    compare(&rt, LIVED, &capture, out.as_slice(), LIVED_REPORT)
+    let note = b"done records 2 emitted 1 dropped 1\n";
+    compare_ways(&rt, LIVED, &capture, &done(note, &out, LIVED_REPORT))
 }

@@ -1,8 +1,7 @@
 //! Runs with options, which change nothing of what comes out, and the demo.
 
-use crate::runs::{HEAD, capture, capture_from, run_failing, run_fixed, run_with, words};
+use crate::runs::{Due, HEAD, capture, capture_from, compare, compare_failing};
 use nfp_outside::Slot;
-use nfp_run::Outcome;
 use std::alloc::AllocError;
 use std::test::Fail;
 
@@ -77,11 +76,13 @@ fn states_are_carried_from_burst_to_burst(rt: HostRuntime) -> Result<(), Fail> {
             "o",
             "r",
         ];
-        let run = words(alloc, &options)?;
-        let (outcome, desk) = run_fixed(&rt, alloc, &run, SLOWED, capture.to_vec(alloc)?)?;
-        assert!(rt; matches!(outcome, Outcome::Done));
-        assert_eq!(rt; desk.put(Slot::Out), translated.as_slice());
-        assert_eq!(rt; desk.put(Slot::Report), SLOWED_REPORT);
+        let due = Due {
+            status: 0,
+            note: b"done records 20 emitted 5 dropped 15\n",
+            out: &translated,
+            report: SLOWED_REPORT,
+        };
+        compare(&rt, &options, SLOWED, &capture, &due)?;
     }
     Ok(())
 }
@@ -89,37 +90,45 @@ fn states_are_carried_from_burst_to_burst(rt: HostRuntime) -> Result<(), Fail> {
 // Bursts of one packet are written one by one: the first stands, and the second couldn't be written.
 #[test]
 fn a_burst_is_written_before_the_next(rt: HostRuntime) -> Result<(), Fail> {
-    let alloc = rt.alloc();
+    let first = capture_from(rt.alloc(), &[1])?;
+    let due = Due {
+        status: 5,
+        note: b"write fault: out\n",
+        out: &first,
+        report: b"",
+    };
     for mergers in ["1", "2", "16"] {
-        let run = run_with(alloc, &["--burst=1", "--mergers", mergers])?;
-        let fails = [(Slot::Out, 4)];
-        let (outcome, desk) = run_failing(&rt, alloc, &run, OPEN, capture(alloc)?, &fails)?;
-        assert!(rt; matches!(outcome, Outcome::WriteFault(Slot::Out)));
-        assert_eq!(rt; desk.put(Slot::Out), capture_from(alloc, &[1])?.as_slice());
+        let run = ["run", "p", "c", "o", "r", "--burst=1", "--mergers", mergers];
+        compare_failing(&rt, &run, OPEN, (Slot::Out, 4), &due)?;
     }
     Ok(())
 }
 
 #[test]
 fn without_chains_all_packets_pass(rt: HostRuntime) -> Result<(), Fail> {
-    let alloc = rt.alloc();
+    let capture = capture(rt.alloc())?;
+    let due = Due {
+        status: 0,
+        note: b"done records 3 emitted 3 dropped 0\n",
+        out: &capture,
+        report: NO_CHAINS_REPORT,
+    };
     for mergers in ["1", "2", "16"] {
-        let run = words(
-            alloc,
-            &["run", "--mergers", mergers, "--", "p", "c", "-o", "-r"],
-        )?;
-        let (outcome, desk) = run_fixed(&rt, alloc, &run, b"nfp 1\n", capture(alloc)?)?;
-        assert!(rt; matches!(outcome, Outcome::Done));
-        assert_eq!(rt; desk.put(Slot::Out), capture(alloc)?.as_slice());
-        assert_eq!(rt; desk.put(Slot::Report), NO_CHAINS_REPORT);
+        let run = ["run", "--mergers", mergers, "--", "p", "c", "-o", "-r"];
+        compare(&rt, &run, b"nfp 1\n", &capture, &due)?;
     }
     Ok(())
 }
 
 #[test]
 fn a_demo_is_told_by_its_weights(rt: HostRuntime) -> Result<(), Fail> {
-    let alloc = rt.alloc();
-    for options in [
+    let due = Due {
+        status: 0,
+        note: DEMO,
+        out: b"",
+        report: b"",
+    };
+    for demo in [
         ["demo", "1", "20000"].as_slice(),
         &["demo", "1", "--merge", "board", "20000"],
         &[
@@ -142,10 +151,7 @@ fn a_demo_is_told_by_its_weights(rt: HostRuntime) -> Result<(), Fail> {
             "inbox",
         ],
     ] {
-        let demo = words(alloc, options)?;
-        let (outcome, desk) = run_fixed(&rt, alloc, &demo, b"", Vec::new(alloc))?;
-        assert!(rt; matches!(outcome, Outcome::Done));
-        assert_eq!(rt; desk.put(Slot::Note), DEMO);
+        compare(&rt, demo, b"", b"", &due)?;
     }
     Ok(())
 }
