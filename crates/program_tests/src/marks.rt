@@ -1,6 +1,8 @@
 //! Runs through functions that rewrite packets and keep nothing of them.
 
-use crate::runs::{Due, HEAD, compare};
+use crate::runs::{HEAD, run_fixed, run_with};
+use nfp_outside::Slot;
+use nfp_run::Outcome;
 use std::alloc::{AllocError, Global};
 use std::process::Abort;
 use std::rt::Clock;
@@ -90,37 +92,23 @@ fn push_datagram(
 }
 
 // Leads a capture through a policy, with one merger, two and many, over links and on boards, and compares what it gives.
-fn compare_ways(
+fn compare(
     rt: &(impl Abort + AllocGlobal + Threads + Wait + Clock + Sync),
     policy: &[u8],
     capture: &[u8],
-    due: &Due<'_>,
+    out: &[u8],
+    report: &[u8],
 ) -> Result<(), Fail> {
+    let alloc = rt.alloc();
     for (mergers, way) in [("1", "board"), ("2", "inbox"), ("16", "board")] {
-        let run = [
-            "run",
-            "p",
-            "c",
-            "o",
-            "r",
-            "--mergers",
-            mergers,
-            "--merge",
-            way,
-        ];
-        compare(rt, &run, policy, capture, due)?;
+        let run = run_with(alloc, &["--mergers", mergers, "--merge", way])?;
+        let capture = capture.to_vec(alloc)?;
+        let (outcome, desk) = run_fixed(rt, alloc, &run, policy, capture)?;
+        assert!(rt; matches!(outcome, Outcome::Done));
+        assert_eq!(rt; desk.put(Slot::Out), out);
+        assert_eq!(rt; desk.put(Slot::Report), report);
     }
     Ok(())
-}
-
-// What a run that is done leaves.
-fn done<'a>(note: &'a [u8], out: &'a [u8], report: &'a [u8]) -> Due<'a> {
-    Due {
-        status: 0,
-        note,
-        out,
-        report,
-    }
 }
 
 // Each marker has its own copy of the type of service, and the later one's is the packet's.
@@ -142,8 +130,7 @@ fn the_later_marker_is_the_one_that_is_seen(rt: HostRuntime) -> Result<(), Fail>
     ];
     let capture = capture_of(&rt, rt.alloc(), &[first, ninth])?;
     let out = capture_of(&rt, rt.alloc(), &marked)?;
-    let note = b"done records 2 emitted 2 dropped 0\n";
-    compare_ways(&rt, MARKED, &capture, &done(note, &out, MARKED_REPORT))
+    compare(&rt, MARKED, &capture, out.as_slice(), MARKED_REPORT)
 }
 
 // The signature sees the payload as it came, and the redactor beside it writes a copy of its own.
@@ -157,16 +144,14 @@ fn a_payload_is_searched_and_redacted_side_by_side(rt: HostRuntime) -> Result<()
     };
     let capture = capture_of(&rt, rt.alloc(), &[secret, evil])?;
     let out = capture_of(&rt, rt.alloc(), &[redacted])?;
-    let note = b"done records 2 emitted 1 dropped 1\n";
-    compare_ways(&rt, SEARCHED, &capture, &done(note, &out, SEARCHED_REPORT))
+    compare(&rt, SEARCHED, &capture, out.as_slice(), SEARCHED_REPORT)
 }
 
 #[test]
 fn of_two_drops_the_first_in_the_chain_is_told(rt: HostRuntime) -> Result<(), Fail> {
     let evil = Datagram::new(9, [0x66, 0xc3], b"evil");
     let capture = capture_of(&rt, rt.alloc(), &[evil])?;
-    let note = b"done records 1 emitted 0 dropped 1\n";
-    compare_ways(&rt, DENIED, &capture, &done(note, &HEAD, DENIED_REPORT))
+    compare(&rt, DENIED, &capture, HEAD.as_slice(), DENIED_REPORT)
 }
 
 // A record of a frame that begins with these bytes and goes on with zeros, to this length.
@@ -212,8 +197,7 @@ fn a_tag_is_put_before_the_others(rt: HostRuntime) -> Result<(), Fail> {
         ],
         40,
     )?;
-    let note = b"done records 2 emitted 2 dropped 0\n";
-    compare_ways(&rt, TAGGED, &capture, &done(note, &out, TAGGED_REPORT))
+    compare(&rt, TAGGED, &capture, out.as_slice(), TAGGED_REPORT)
 }
 
 // The last hop of a packet is the one that would leave it no time to live.
@@ -232,6 +216,5 @@ fn a_packet_at_its_last_hop_is_dropped(rt: HostRuntime) -> Result<(), Fail> {
     };
     let capture = capture_of(&rt, rt.alloc(), &[first, last])?;
     let out = capture_of(&rt, rt.alloc(), &[passed])?;
-    let note = b"done records 2 emitted 1 dropped 1\n";
-    compare_ways(&rt, LIVED, &capture, &done(note, &out, LIVED_REPORT))
+    compare(&rt, LIVED, &capture, out.as_slice(), LIVED_REPORT)
 }

@@ -1,7 +1,8 @@
 //! Runs with options, which change nothing of what comes out, and the demo.
 
-use crate::runs::{Due, HEAD, capture, capture_from, compare, compare_failing};
+use crate::runs::{HEAD, capture, capture_from, run_failing, run_fixed, run_with, words};
 use nfp_outside::Slot;
+use nfp_run::Outcome;
 use std::alloc::AllocError;
 use std::test::Fail;
 
@@ -76,13 +77,11 @@ fn states_are_carried_from_burst_to_burst(rt: HostRuntime) -> Result<(), Fail> {
             "o",
             "r",
         ];
-        let due = Due {
-            status: 0,
-            note: b"done records 20 emitted 5 dropped 15\n",
-            out: &translated,
-            report: SLOWED_REPORT,
-        };
-        compare(&rt, &options, SLOWED, &capture, &due)?;
+        let run = words(alloc, &options)?;
+        let (outcome, desk) = run_fixed(&rt, alloc, &run, SLOWED, capture.to_vec(alloc)?)?;
+        assert!(rt; matches!(outcome, Outcome::Done));
+        assert_eq!(rt; desk.put(Slot::Out), translated.as_slice());
+        assert_eq!(rt; desk.put(Slot::Report), SLOWED_REPORT);
     }
     Ok(())
 }
@@ -90,45 +89,37 @@ fn states_are_carried_from_burst_to_burst(rt: HostRuntime) -> Result<(), Fail> {
 // Bursts of one packet are written one by one: the first stands, and the second couldn't be written.
 #[test]
 fn a_burst_is_written_before_the_next(rt: HostRuntime) -> Result<(), Fail> {
-    let first = capture_from(rt.alloc(), &[1])?;
-    let due = Due {
-        status: 5,
-        note: b"write fault: out\n",
-        out: &first,
-        report: b"",
-    };
+    let alloc = rt.alloc();
     for mergers in ["1", "2", "16"] {
-        let run = ["run", "p", "c", "o", "r", "--burst=1", "--mergers", mergers];
-        compare_failing(&rt, &run, OPEN, (Slot::Out, 4), &due)?;
+        let run = run_with(alloc, &["--burst=1", "--mergers", mergers])?;
+        let fails = [(Slot::Out, 4)];
+        let (outcome, desk) = run_failing(&rt, alloc, &run, OPEN, capture(alloc)?, &fails)?;
+        assert!(rt; matches!(outcome, Outcome::WriteFault(Slot::Out)));
+        assert_eq!(rt; desk.put(Slot::Out), capture_from(alloc, &[1])?.as_slice());
     }
     Ok(())
 }
 
 #[test]
 fn without_chains_all_packets_pass(rt: HostRuntime) -> Result<(), Fail> {
-    let capture = capture(rt.alloc())?;
-    let due = Due {
-        status: 0,
-        note: b"done records 3 emitted 3 dropped 0\n",
-        out: &capture,
-        report: NO_CHAINS_REPORT,
-    };
+    let alloc = rt.alloc();
     for mergers in ["1", "2", "16"] {
-        let run = ["run", "--mergers", mergers, "--", "p", "c", "-o", "-r"];
-        compare(&rt, &run, b"nfp 1\n", &capture, &due)?;
+        let run = words(
+            alloc,
+            &["run", "--mergers", mergers, "--", "p", "c", "-o", "-r"],
+        )?;
+        let (outcome, desk) = run_fixed(&rt, alloc, &run, b"nfp 1\n", capture(alloc)?)?;
+        assert!(rt; matches!(outcome, Outcome::Done));
+        assert_eq!(rt; desk.put(Slot::Out), capture(alloc)?.as_slice());
+        assert_eq!(rt; desk.put(Slot::Report), NO_CHAINS_REPORT);
     }
     Ok(())
 }
 
 #[test]
 fn a_demo_is_told_by_its_weights(rt: HostRuntime) -> Result<(), Fail> {
-    let due = Due {
-        status: 0,
-        note: DEMO,
-        out: b"",
-        report: b"",
-    };
-    for demo in [
+    let alloc = rt.alloc();
+    for options in [
         ["demo", "1", "20000"].as_slice(),
         &["demo", "1", "--merge", "board", "20000"],
         &[
@@ -151,7 +142,10 @@ fn a_demo_is_told_by_its_weights(rt: HostRuntime) -> Result<(), Fail> {
             "inbox",
         ],
     ] {
-        compare(&rt, demo, b"", b"", &due)?;
+        let demo = words(alloc, options)?;
+        let (outcome, desk) = run_fixed(&rt, alloc, &demo, b"", Vec::new(alloc))?;
+        assert!(rt; matches!(outcome, Outcome::Done));
+        assert_eq!(rt; desk.put(Slot::Note), DEMO);
     }
     Ok(())
 }

@@ -1,9 +1,9 @@
 //! Runs over desks in memory, with the capture and the answers written down by hand.
 
 use nfp_outside::{FixedDesk, MemDesk, OpenGate, Slot};
-use nfp_run::{Outcome, nfp};
+use nfp_run::{Option4, Outcome, UsageFault, nfp};
+use pcap_io::CaptureFault;
 use std::alloc::{AllocError, Global};
-use std::process::Abort;
 use std::rt::Clock;
 use std::sync::Wait;
 use std::test::Fail;
@@ -37,9 +37,6 @@ const TWO_REPORT: &[u8] =
 
 const BESIDE_REPORT: &[u8] =
     b"nfp report 1\ndrop 1 main f2\ndrop 2 main f1\ndrop 3 main f2\nrecords 3 emitted 0 dropped 3\nfunction main f1 firewall\nfunction main f2 firewall\nend\n";
-
-const NOTHING_REPORT: &[u8] =
-    b"nfp report 1\nrecords 0 emitted 0 dropped 0\nfunction main fw firewall\nend\n";
 
 const CUT_REPORT: &[u8] =
     b"nfp report 1\ndrop 2 main fw\nrecords 2 emitted 1 dropped 1\nfunction main fw firewall\nfault capture: cut record 3\n";
@@ -93,7 +90,7 @@ pub fn words(alloc: Global, texts: &[&str]) -> Result<Vec<String>, AllocError> {
 
 /// The words of a run with these options.
 pub fn run_with(alloc: Global, options: &[&str]) -> Result<Vec<String>, AllocError> {
-    let mut run = words(alloc, &RUN)?;
+    let mut run = words(alloc, &["run", "p", "c", "o", "r"])?;
     for option in options {
         run.push(String::from_str(alloc, option)?)?;
     }
@@ -130,87 +127,19 @@ pub fn run_failing<R: Threads + Wait + Clock + Sync>(
     Ok((outcome, desk))
 }
 
-/// The words of a run without options.
-pub const RUN: [&str; 5] = ["run", "p", "c", "o", "r"];
-
-/// What is to be left: a status, what is told in Note, and what is written to Out and Report.
-#[derive(Clone, Copy)]
-pub struct Due<'a> {
-    pub status: u8,
-    pub note: &'a [u8],
-    pub out: &'a [u8],
-    pub report: &'a [u8],
-}
-
-// A test that asks for itself takes much longer to prove than one that calls these.
-
-/// Runs the words over a desk in memory, and compares what is left.
-pub fn compare(
-    rt: &(impl Abort + AllocGlobal + Threads + Wait + Clock + Sync),
-    texts: &[&str],
-    policy: &[u8],
-    capture: &[u8],
-    due: &Due<'_>,
-) -> Result<(), Fail> {
-    let alloc = rt.alloc();
-    let words = words(alloc, texts)?;
-    let (outcome, desk) = run_fixed(rt, alloc, &words, policy, capture.to_vec(alloc)?)?;
-    assert_eq!(rt; outcome.status(), due.status);
-    assert_eq!(rt; desk.put(Slot::Note), due.note);
-    assert_eq!(rt; desk.put(Slot::Out), due.out);
-    assert_eq!(rt; desk.put(Slot::Report), due.report);
-    Ok(())
-}
-
-/// The same over a desk that fails at this call of a slot; Report isn't looked at.
-pub fn compare_failing(
-    rt: &(impl Abort + AllocGlobal + Threads + Wait + Clock + Sync),
-    texts: &[&str],
-    policy: &[u8],
-    fails: (Slot, u64),
-    due: &Due<'_>,
-) -> Result<(), Fail> {
-    let alloc = rt.alloc();
-    let words = words(alloc, texts)?;
-    let (outcome, desk) = run_failing(rt, alloc, &words, policy, capture(alloc)?, &[fails])?;
-    assert_eq!(rt; outcome.status(), due.status);
-    assert_eq!(rt; desk.put(Slot::Note), due.note);
-    assert_eq!(rt; desk.put(Slot::Out), due.out);
-    Ok(())
-}
-
 #[test]
 fn a_capture_goes_through_the_functions_in_chain_order(rt: HostRuntime) -> Result<(), Fail> {
     let alloc = rt.alloc();
-    let capture = capture(alloc)?;
-    for (policy, hosts, note, report) in [
-        (
-            POLICY,
-            [1, 1].as_slice(),
-            b"done records 3 emitted 2 dropped 1\n".as_slice(),
-            REPORT,
-        ),
-        (
-            TWO,
-            &[],
-            b"done records 3 emitted 0 dropped 3\n",
-            TWO_REPORT,
-        ),
-        (
-            BESIDE,
-            &[],
-            b"done records 3 emitted 0 dropped 3\n",
-            BESIDE_REPORT,
-        ),
+    let words = words(alloc, &["run", "p", "c", "o", "r"])?;
+    for (policy, out, report) in [
+        (POLICY, 140, REPORT),
+        (TWO, 24, TWO_REPORT),
+        (BESIDE, 24, BESIDE_REPORT),
     ] {
-        let out = capture_from(alloc, hosts)?;
-        let due = Due {
-            status: 0,
-            note,
-            out: &out,
-            report,
-        };
-        compare(&rt, &RUN, policy, &capture, &due)?;
+        let (outcome, desk) = run_fixed(&rt, alloc, &words, policy, capture(alloc)?)?;
+        assert!(rt; matches!(outcome, Outcome::Done));
+        assert_eq!(rt; desk.put(Slot::Out).len(), out);
+        assert_eq!(rt; desk.put(Slot::Report), report);
     }
     Ok(())
 }
@@ -219,69 +148,87 @@ fn a_capture_goes_through_the_functions_in_chain_order(rt: HostRuntime) -> Resul
 #[test]
 fn each_packet_goes_through_the_chain_that_takes_it(rt: HostRuntime) -> Result<(), Fail> {
     let alloc = rt.alloc();
+    let run = words(alloc, &["run", "p", "c", "o", "r"])?;
     for (policy, hosts, report) in [
         (CHAINS, [1, 9, 5], CHAINS_REPORT),
         (SIXTEEN, [1, 16, 17], SIXTEEN_REPORT),
     ] {
-        let out = capture_from(alloc, &[hosts[0], hosts[2]])?;
-        let due = Due {
-            status: 0,
-            note: b"done records 3 emitted 2 dropped 1\n",
-            out: &out,
-            report,
-        };
-        compare(&rt, &RUN, policy, &capture_from(alloc, &hosts)?, &due)?;
+        let capture = capture_from(alloc, &hosts)?;
+        let (outcome, desk) = run_fixed(&rt, alloc, &run, policy, capture)?;
+        assert!(rt; matches!(outcome, Outcome::Done));
+        assert_eq!(rt; desk.put(Slot::Out).len(), 140);
+        assert_eq!(rt; desk.put(Slot::Report), report);
     }
     Ok(())
 }
 
 #[test]
 fn each_order_and_unit_is_carried(rt: HostRuntime) -> Result<(), Fail> {
-    let due = Due {
-        status: 0,
-        note: b"done records 0 emitted 0 dropped 0\n",
-        out: &BIG_HEAD,
-        report: NOTHING_REPORT,
-    };
-    compare(&rt, &RUN, POLICY, &BIG_HEAD, &due)
+    let alloc = rt.alloc();
+    let run = words(alloc, &["run", "p", "c", "o", "r"])?;
+    let (outcome, desk) = run_fixed(&rt, alloc, &run, POLICY, BIG_HEAD.to_vec(alloc)?)?;
+    assert!(rt; matches!(outcome, Outcome::Done));
+    assert_eq!(rt; desk.put(Slot::Out), BIG_HEAD.as_slice());
+    Ok(())
 }
 
 #[test]
 fn a_plan_shows_each_chain_in_order(rt: HostRuntime) -> Result<(), Fail> {
+    let alloc = rt.alloc();
+    let plan = words(alloc, &["plan", "p"])?;
     let policy =
         b"nfp 1\nchain main\nfn sig signature\nfn fw firewall\npriority sig > fw\nchain rest match proto tcp\n";
-    compare(&rt, &["plan", "p"], policy, b"", &told(0, PLAN))
-}
-
-// What is told where nothing is written.
-fn told(status: u8, note: &[u8]) -> Due<'_> {
-    Due {
-        status,
-        note,
-        out: b"",
-        report: b"",
-    }
+    let (outcome, desk) = run_fixed(&rt, alloc, &plan, policy, Vec::new(alloc))?;
+    assert!(rt; matches!(outcome, Outcome::Done));
+    assert_eq!(rt; desk.put(Slot::Note), PLAN);
+    Ok(())
 }
 
 #[test]
 fn words_that_are_no_command_are_told(rt: HostRuntime) -> Result<(), Fail> {
-    for (texts, note) in [
-        ([].as_slice(), b"usage: no command\n".as_slice()),
-        (&["walk", "p"], b"usage: unknown command\n"),
-        (&["run", "p", "c", "o"], b"usage: words\n"),
-        (&["plan", "-p"], b"usage: words\n"),
+    let alloc = rt.alloc();
+    for (texts, fault, note) in [
+        (
+            [].as_slice(),
+            UsageFault::NoCommand,
+            b"usage: no command\n".as_slice(),
+        ),
+        (
+            &["walk", "p"],
+            UsageFault::UnknownCommand,
+            b"usage: unknown command\n",
+        ),
+        (
+            &["run", "p", "c", "o"],
+            UsageFault::Words,
+            b"usage: words\n",
+        ),
+        (&["plan", "-p"], UsageFault::Words, b"usage: words\n"),
         (
             &["run", "p", "c", "o", "r", "--burst", "65537"],
+            UsageFault::Number(Option4::Burst),
             b"usage: number burst\n",
         ),
-        (&["demo", "x", "0"], b"usage: number seed\n"),
+        (
+            &["demo", "x", "0"],
+            UsageFault::Number(Option4::Seed),
+            b"usage: number seed\n",
+        ),
         (
             &["run", "p", "c", "o", "r", "--merge", "zip"],
+            UsageFault::Merge,
             b"usage: merge\n",
         ),
-        (&["run", "p", "c", "c", "r"], b"usage: same name\n"),
+        (
+            &["run", "p", "c", "c", "r"],
+            UsageFault::SameName,
+            b"usage: same name\n",
+        ),
     ] {
-        compare(&rt, texts, POLICY, &HEAD, &told(1, note))?;
+        let words = words(alloc, texts)?;
+        let (outcome, desk) = run_fixed(&rt, alloc, &words, POLICY, capture(alloc)?)?;
+        assert!(rt; matches!(outcome, Outcome::Usage(found) if found == fault));
+        assert_eq!(rt; desk.put(Slot::Note), note);
     }
     Ok(())
 }
@@ -289,6 +236,8 @@ fn words_that_are_no_command_are_told(rt: HostRuntime) -> Result<(), Fail> {
 // What a policy is refused with, in the order of the checks.
 #[test]
 fn a_policy_is_refused_for_its_first_fault(rt: HostRuntime) -> Result<(), Fail> {
+    let alloc = rt.alloc();
+    let run = words(alloc, &["run", "p", "c", "o", "r"])?;
     for (policy, note) in [
         (b"".as_slice(), b"policy: bad version line\n".as_slice()),
         (b"\xff", b"policy: not utf-8 at 0\n"),
@@ -313,7 +262,9 @@ fn a_policy_is_refused_for_its_first_fault(rt: HostRuntime) -> Result<(), Fail> 
             b"policy: line 8: priority mon over n forbidden: write src before read src\n",
         ),
     ] {
-        compare(&rt, &RUN, policy, &HEAD, &told(2, note))?;
+        let (outcome, desk) = run_fixed(&rt, alloc, &run, policy, capture(alloc)?)?;
+        assert_eq!(rt; outcome.status(), 2);
+        assert_eq!(rt; desk.put(Slot::Note), note);
     }
     Ok(())
 }
@@ -322,16 +273,15 @@ fn a_policy_is_refused_for_its_first_fault(rt: HostRuntime) -> Result<(), Fail> 
 #[test]
 fn a_cut_capture_is_done_up_to_its_fault(rt: HostRuntime) -> Result<(), Fail> {
     let alloc = rt.alloc();
+    let run = words(alloc, &["run", "p", "c", "o", "r"])?;
     let mut cut = capture(alloc)?;
     cut.truncate(170);
-    let first = capture_from(alloc, &[1])?;
-    let due = Due {
-        status: 3,
-        note: b"capture: cut record 3\n",
-        out: &first,
-        report: CUT_REPORT,
-    };
-    compare(&rt, &RUN, POLICY, &cut, &due)
+    let (outcome, desk) = run_fixed(&rt, alloc, &run, POLICY, cut)?;
+    assert!(rt; matches!(outcome, Outcome::Capture(CaptureFault::CutRecord(3))));
+    assert_eq!(rt; desk.put(Slot::Out).len(), 82);
+    assert_eq!(rt; desk.put(Slot::Report), CUT_REPORT);
+    assert_eq!(rt; desk.put(Slot::Note), b"capture: cut record 3\n".as_slice());
+    Ok(())
 }
 
 // Each call that fails is answered by the fault of its own slot, and what was written before stays. Where the line of a drop can't be
@@ -339,27 +289,18 @@ fn a_cut_capture_is_done_up_to_its_fault(rt: HostRuntime) -> Result<(), Fail> {
 #[test]
 fn failures_are_told_by_their_slot(rt: HostRuntime) -> Result<(), Fail> {
     let alloc = rt.alloc();
-    let one = capture_from(alloc, &[1])?;
-    let both = capture_from(alloc, &[1, 1])?;
+    let words = words(alloc, &["run", "p", "c", "o", "r"])?;
     for (slot, call, status, out, note) in [
-        (
-            Slot::Policy,
-            0,
-            4,
-            b"".as_slice(),
-            b"read fault: policy\n".as_slice(),
-        ),
-        (Slot::Out, 4, 5, &one, b"write fault: out\n"),
-        (Slot::Report, 2, 5, &both, b"write fault: report\n"),
-        (Slot::Note, 0, 5, &both, b""),
+        (Slot::Policy, 0, 4, 0, b"read fault: policy\n".as_slice()),
+        (Slot::Out, 4, 5, 82, b"write fault: out\n"),
+        (Slot::Report, 2, 5, 140, b"write fault: report\n"),
+        (Slot::Note, 0, 5, 140, b""),
     ] {
-        let due = Due {
-            status,
-            note,
-            out,
-            report: b"",
-        };
-        compare_failing(&rt, &RUN, POLICY, (slot, call), &due)?;
+        let fails = [(slot, call)];
+        let (answer, desk) = run_failing(&rt, alloc, &words, POLICY, capture(alloc)?, &fails)?;
+        assert_eq!(rt; answer.status(), status);
+        assert_eq!(rt; desk.put(Slot::Out).len(), out);
+        assert_eq!(rt; desk.put(Slot::Note), note);
     }
     Ok(())
 }

@@ -1,6 +1,8 @@
 //! Runs through functions that keep flows, whose report tells what they hold in the end.
 
-use crate::runs::{Due, HEAD, RUN, capture, capture_from, compare};
+use crate::runs::{HEAD, capture, capture_from, run_fixed, run_with, words};
+use nfp_outside::Slot;
+use nfp_run::Outcome;
 use std::alloc::AllocError;
 use std::test::Fail;
 
@@ -68,84 +70,91 @@ fn push_udp(
 #[test]
 fn a_monitor_counts_what_comes_to_it(rt: HostRuntime) -> Result<(), Fail> {
     let alloc = rt.alloc();
-    let read = capture(alloc)?;
     let passed = capture_from(alloc, &[1, 1])?;
     for (mergers, way) in [("1", "inbox"), ("2", "board"), ("16", "board")] {
-        let run = [
-            "run",
-            "p",
-            "c",
-            "o",
-            "r",
-            "--mergers",
-            mergers,
-            "--merge",
-            way,
-        ];
+        let run = run_with(alloc, &["--mergers", mergers, "--merge", way])?;
         for (policy, report) in [(BESIDE, BESIDE_REPORT), (BEHIND, BEHIND_REPORT)] {
-            compare(&rt, &run, policy, &read, &done(PASSED, &passed, report))?;
+            let (outcome, desk) = run_fixed(&rt, alloc, &run, policy, capture(alloc)?)?;
+            assert!(rt; matches!(outcome, Outcome::Done));
+            assert_eq!(rt; desk.put(Slot::Out), passed.as_slice());
+            assert_eq!(rt; desk.put(Slot::Report), report);
         }
     }
     Ok(())
 }
 
-const PASSED: &[u8] = b"done records 3 emitted 2 dropped 1\n";
-
-// What a run that is done leaves.
-fn done<'a>(note: &'a [u8], out: &'a [u8], report: &'a [u8]) -> Due<'a> {
-    Due {
-        status: 0,
-        note,
-        out,
-        report,
-    }
-}
-
 #[test]
 fn a_function_that_saw_nothing_tells_nothing(rt: HostRuntime) -> Result<(), Fail> {
-    let due = done(
-        b"done records 0 emitted 0 dropped 0\n",
-        &HEAD,
-        UNSEEN_REPORT,
-    );
-    compare(&rt, &RUN, BESIDE, &HEAD, &due)
+    let alloc = rt.alloc();
+    let run = words(alloc, &["run", "p", "c", "o", "r"])?;
+    let (outcome, desk) = run_fixed(&rt, alloc, &run, BESIDE, HEAD.to_vec(alloc)?)?;
+    assert!(rt; matches!(outcome, Outcome::Done));
+    assert_eq!(rt; desk.put(Slot::Out), HEAD.as_slice());
+    assert_eq!(rt; desk.put(Slot::Report), UNSEEN_REPORT);
+    Ok(())
 }
 
 // The balancer writes its own copy of the destination, and the monitor beside it sees the one that was read.
 #[test]
 fn a_balancer_writes_its_own_copy(rt: HostRuntime) -> Result<(), Fail> {
     let alloc = rt.alloc();
-    let source = End::new([10, 0, 0, 1], 1000);
-    let backend = End::new([10, 9, 0, 1], 53);
+    let run = words(alloc, &["run", "p", "c", "o", "r"])?;
     let mut balanced = HEAD.to_vec(alloc)?;
-    push_udp(&mut balanced, [0x66, 0xc7], source, backend)?;
-    push_udp(&mut balanced, [0x66, 0xc7], source, backend)?;
-    let due = done(PASSED, &balanced, BALANCED_REPORT);
-    compare(&rt, &RUN, BALANCED, &capture(alloc)?, &due)
+    for _ in 0..2 {
+        let source = End::new([10, 0, 0, 1], 1000);
+        push_udp(
+            &mut balanced,
+            [0x66, 0xc7],
+            source,
+            End::new([10, 9, 0, 1], 53),
+        )?;
+    }
+    let (outcome, desk) = run_fixed(&rt, alloc, &run, BALANCED, capture(alloc)?)?;
+    assert!(rt; matches!(outcome, Outcome::Done));
+    assert_eq!(rt; desk.put(Slot::Out), balanced.as_slice());
+    assert_eq!(rt; desk.put(Slot::Report), BALANCED_REPORT);
+    Ok(())
 }
 
 // The second packet from inside finds no port left, and what comes to a port that nobody has is dropped.
 #[test]
 fn a_translation_leads_out_and_back(rt: HostRuntime) -> Result<(), Fail> {
     let alloc = rt.alloc();
+    let run = words(alloc, &["run", "p", "c", "o", "r"])?;
     let inside = End::new([10, 0, 0, 1], 1000);
-    let second = End::new([10, 0, 0, 1], 1001);
     let name_server = End::new([10, 0, 0, 2], 53);
     let outside = End::new([198, 51, 100, 5], 53);
     let public = End::new([192, 0, 2, 1], 40000);
-    let nobody = End::new([192, 0, 2, 1], 40001);
 
     let mut capture = HEAD.to_vec(alloc)?;
     push_udp(&mut capture, [0x66, 0xcf], inside, name_server)?;
-    push_udp(&mut capture, [0x66, 0xcf], second, name_server)?;
+    push_udp(
+        &mut capture,
+        [0x66, 0xcf],
+        End {
+            port: 1001,
+            ..inside
+        },
+        name_server,
+    )?;
     push_udp(&mut capture, [0x8e, 0x97], outside, public)?;
-    push_udp(&mut capture, [0x8e, 0x97], outside, nobody)?;
+    push_udp(
+        &mut capture,
+        [0x8e, 0x97],
+        outside,
+        End {
+            port: 40001,
+            ..public
+        },
+    )?;
 
     let mut translated = HEAD.to_vec(alloc)?;
     push_udp(&mut translated, [0xae, 0xce], public, name_server)?;
     push_udp(&mut translated, [0x46, 0x98], outside, inside)?;
 
-    let note = b"done records 4 emitted 2 dropped 2\n";
-    let due = done(note, &translated, TRANSLATED_REPORT);
-    compare(&rt, &RUN, TRANSLATED, &capture, &due)
+    let (outcome, desk) = run_fixed(&rt, alloc, &run, TRANSLATED, capture)?;
+    assert!(rt; matches!(outcome, Outcome::Done));
+    assert_eq!(rt; desk.put(Slot::Out), translated.as_slice());
+    assert_eq!(rt; desk.put(Slot::Report), TRANSLATED_REPORT);
+    Ok(())
 }
