@@ -23,7 +23,7 @@ from frames import (
     echo,
     ethernet,
     ipv4,
-    ipv6,
+    ping6,
     miscounted,
     plain,
     tag,
@@ -76,7 +76,7 @@ def uplink():
         ('a loopback address on the wire', plain('127.0.0.1', udp(40005, 53, QUERY), to=RESOLVER), None),
         ('the lower half of 198.51.100.0/24', plain('198.51.100.127', tcp(4445, 25, SYN)), None),
         ('the upper half of 198.51.100.0/24', plain('198.51.100.128', tcp(4446, 25, SYN)), None),
-        ('IPv6 ping', ipv6(), None),
+        ('IPv6 ping', ping6(), None),
         ('a guest with a route to be recorded', plain(GUEST, echo(11), options=RECORD_ROUTE), None),
         ('an office machine with a router alert', plain(OFFICE, echo(12), options=ROUTER_ALERT), None),
         ('a later fragment of a guest', plain(GUEST, (UDP, lambda *_: b'x' * 24), offset=1480), None),
@@ -117,7 +117,7 @@ def tap():
         (1_000_002_016, 'a later fragment with a private source', fragment, None),
         (1_000_002_688, 'the flood in VLAN 30', plain('203.0.113.200', udp(53000, 53, QUERY), to=RESOLVER, tags=tag(VLAN_TAG, 30)), None),
         (1_000_003_360, 'a web page of 1,500 bytes, whole', plain('192.0.2.80', page(50127), to=CUSTOMER), None),
-        (1_000_004_032, 'IPv6 ping', ipv6(), None),
+        (1_000_004_032, 'IPv6 ping', ping6(), None),
     ]
 
 
@@ -173,7 +173,7 @@ def servers():
         ('a later fragment of it', plain(CUSTOMER, (TCP, lambda *_: b'x' * 24), to=web, offset=48), None),
         ('TCP SYN to port 443, cut behind the destination port', syn(CUSTOMER, 443), 38),
         ('TCP SYN to port 443, cut inside the destination port', syn(CUSTOMER, 443), 37),
-        ('IPv6 ping', ipv6(), None),
+        ('IPv6 ping', ping6(), None),
         ('ARP request in VLAN 99', ethernet(TYPE_ARP, arp_request('192.0.2.1', web)[14:], tags=in_99, to=BROADCAST), None),
         ('a runt of 13 bytes', syn(CUSTOMER, 443), 13),
     ]
@@ -240,7 +240,7 @@ def backups():
         ('first fragment to the store, port 873', plain(server, tcp(50123, rsync, PUSH_ACK, b'x' * 28), to=store, more=True), None),
         ('a later fragment of it', plain(server, (TCP, lambda *_: b'x' * 24), to=store, offset=48), None),
         ('a later fragment of the scanner', plain(SCANNER, (TCP, lambda *_: b'x' * 24), to=store, offset=48), None),
-        ('IPv6 ping', ipv6(), None),
+        ('IPv6 ping', ping6(), None),
     ]
 
 
@@ -314,7 +314,7 @@ def shop():
         ('TCP SYN of the first customer to another machine', plain(ann, tcp(50003, 443, SYN), to=archive), None),
         ('a third customer, cut behind the source port', to_shop(CUSTOMER, 50001, SYN), 36),
         ('the same, cut inside the source port', to_shop(CUSTOMER, 50001, SYN), 35),
-        ('IPv6 ping', ipv6(), None),
+        ('IPv6 ping', ping6(), None),
     ]
 
 
@@ -344,7 +344,7 @@ def slow_line():
         (10_050_000, 'ping of the backup machine in VLAN 10', plain(backup, echo(2), to=server, tags=tag(VLAN_TAG, 10)), None),
         (10_060_000, 'a picture of 2,001 bytes from a camera', picture, None),
         (10_070_000, 'a piece of the backup, cut inside its address', upload(1000), 29),
-        (10_080_000, 'IPv6 ping', ipv6(), None),
+        (10_080_000, 'IPv6 ping', ping6(), None),
     ]
 
 
@@ -378,7 +378,7 @@ def calls():
         ('voice with a mark, cut inside the source port', voice(tos=184), 35),
         ('voice with a mark, cut behind that', voice(tos=184), 16),
         ('voice with a mark, cut before it', voice(tos=184), 15),
-        ('IPv6 ping', ipv6(), None),
+        ('IPv6 ping', ping6(), None),
     ]
 
 
@@ -465,7 +465,7 @@ def provider_edge():
         ('ARP request from the core, in VLAN 102', arp(to_second), None),
         ('ARP request of the second customer', arp(b''), None),
         ('DNS query of a stranger', query(stranger), None),
-        ('IPv6 ping', ipv6(), None),
+        ('IPv6 ping', ping6(), None),
         ('DNS query of the first customer with a wrong header checksum', miscounted(query(first), IPV4_SUM), None),
         ('the first customer with a tag of VLAN 101 that it has put on itself', query(first, to_first), None),
         ('the same inside its VLAN 20', query(first, office + to_first), None),

@@ -11,14 +11,15 @@ FIRST_SECOND = 1_700_000_000
 
 VLAN_TAG, SERVICE_TAG = 0x8100, 0x88A8
 TYPE_IPV4, TYPE_ARP, TYPE_IPV6, TYPE_PPPOE = 0x0800, 0x0806, 0x86DD, 0x8864
-ICMP, TCP, UDP = 1, 6, 17
+ICMP, TCP, UDP, ICMP6 = 1, 6, 17, 58
 
 GATEWAY, STATION = bytes.fromhex('020000000001'), bytes.fromhex('020000000002')
 BROADCAST = b'\xff' * 6
 
 
 def address(text):
-    return ipaddress.IPv4Address(text).packed
+    """Of IPv4 four bytes, of IPv6 sixteen."""
+    return ipaddress.ip_address(text).packed
 
 
 def internet_checksum(data):
@@ -32,7 +33,8 @@ def internet_checksum(data):
 
 
 def transport_checksum(source, destination, protocol, segment):
-    return internet_checksum(source + destination + struct.pack('>BBH', 0, protocol, len(segment)) + segment)
+    """Behind the pseudo-header of RFC 793, 3.1, or that of RFC 8200, 8.1, whose length has 32 bits."""
+    return internet_checksum(source + destination + struct.pack('>II', len(segment), protocol) + segment)
 
 
 def udp(source_port, destination_port, payload):
@@ -62,6 +64,14 @@ def echo(number):
     return ICMP, segment
 
 
+def echo6(number):
+    def segment(source, destination):
+        total = transport_checksum(source, destination, ICMP6, struct.pack('>BBHHH', 128, 0, 0, 7, number))
+        return struct.pack('>BBHHH', 128, 0, total, 7, number)
+
+    return ICMP6, segment
+
+
 SYN, ACK, PUSH_ACK = 0x02, 0x10, 0x18
 
 
@@ -76,6 +86,16 @@ def ipv4(source, destination, content, options=b'', offset=0, more=False, lead=N
     head = struct.pack('>BBHHHBB', first, tos, 4 * words + len(body), 0x1234, fragment, ttl, protocol)
     total = internet_checksum(head + b'\0\0' + source + destination + options)
     return head + struct.pack('>H', total) + source + destination + options + body
+
+
+def ipv6(source, destination, content, hop_limit=64, traffic_class=0, length=None, lead=None, before=b''):
+    """A whole packet, RFC 8200. `length` stands in the place of the payload's, `lead` in that of the first byte, and `before` behind the header."""
+    protocol, segment = content
+    source, destination = address(source), address(destination)
+    body = before + segment(source, destination)
+    first = 0x60 + (traffic_class >> 4) if lead is None else lead
+    head = struct.pack('>BBHHBB', first, (traffic_class & 0xF) << 4, 0, len(body) if length is None else length, protocol, hop_limit)
+    return head + source + destination + body
 
 
 def tag(kind, vlan, priority=0):
@@ -97,12 +117,12 @@ def arp_request(source, target):
     return ethernet(TYPE_ARP, body, to=BROADCAST)
 
 
-def ipv6():
-    source, destination = ipaddress.IPv6Address('2001:db8::66').packed, ipaddress.IPv6Address('2001:db8::1').packed
-    segment = struct.pack('>BBHHH', 128, 0, 0, 7, 1)
-    total = internet_checksum(source + destination + struct.pack('>II', len(segment), 58) + segment)
-    body = struct.pack('>IHBB', 6 << 28, len(segment), 58, 64) + source + destination
-    return ethernet(TYPE_IPV6, body + struct.pack('>BBHHH', 128, 0, total, 7, 1))
+def plain6(source, content, to='2001:db8::1', tags=b'', **fields):
+    return ethernet(TYPE_IPV6, ipv6(source, to, content, **fields), tags)
+
+
+def ping6():
+    return plain6('2001:db8::66', echo6(1))
 
 
 # Where checksums stand in a frame: in an IPv4 header without a tag and behind one, and in TCP and UDP behind a header of five words.

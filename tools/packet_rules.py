@@ -27,11 +27,22 @@ def number(data):
 
 
 class Header(typing.NamedTuple):
-    """Where the IPv4 header and the one of TCP or UDP stand in a frame."""
+    """The IP header of a frame, and where it and the one of TCP or UDP stand."""
 
+    version: int
     begin: int
+    proto: typing.Optional[int]  # None where it wasn't captured
+    length: typing.Optional[int]  # of the packet with its header, None where it wasn't captured or takes more than 16 bits
     transport: typing.Optional[int]  # None where there is none, as in a later fragment
     end: int  # of what was captured of the packet
+
+
+# Where the fields of an IP header stand in it, and their sizes (RFC 791, 3.1; RFC 8200, 3).
+PLACES = {
+    4: {'tos': (1, 1), 'ttl': (8, 1), 'src': (12, 4), 'dst': (16, 4)},
+    6: {'ttl': (7, 1), 'src': (8, 16), 'dst': (24, 16)},
+}
+PROTO = {4: 9, 6: 6}
 
 
 def type_place(frame):
@@ -44,18 +55,30 @@ def type_place(frame):
     return place
 
 
+def version_of(kind, first):
+    """The version of the IP header that begins with this byte behind this type of Ethernet, or None: IPv4's has at least five words."""
+    if kind == b'\x08\x00' and b'\x45' <= first <= b'\x4f':
+        return 4
+    return 6 if kind == b'\x86\xdd' and b'\x60' <= first <= b'\x6f' else None
+
+
 def header_of(frame):
-    """The headers of a frame, or None where it has no IPv4 header of at least five words."""
+    """The headers of a frame, or None where it has no IP header."""
     place = type_place(frame)
-    if place is None or frame[place : place + 2] != b'\x08\x00' or not b'\x45' <= frame[place + 2 : place + 3] <= b'\x4f':
+    version = None if place is None else version_of(frame[place : place + 2], frame[place + 2 : place + 3])
+    if version is None:
         return None
     begin = place + 2
-    words = 4 * (frame[begin] & 0xF)
-    if len(frame) < begin + 10:
-        return Header(begin, None, len(frame))
-    length, fragment = number(frame[begin + 2 : begin + 4]), number(frame[begin + 6 : begin + 8])
-    has_transport = frame[begin + 9] in (TCP, UDP) and fragment & 0x1FFF == 0 and words <= length
-    return Header(begin, begin + words if has_transport else None, min(len(frame), begin + length))
+    proto = frame[begin + PROTO[version]] if len(frame) > begin + PROTO[version] else None
+    if version == 4:
+        size, length = 4 * (frame[begin] & 0xF), number(frame[begin + 2 : begin + 4]) if len(frame) >= begin + 4 else None
+    else:
+        size, length = 40, 40 + number(frame[begin + 4 : begin + 6]) if len(frame) >= begin + 6 else None
+        length = None if length is None or length > 65535 else length
+    is_first = version == 6 or number(frame[begin + 6 : begin + 8]) & 0x1FFF == 0
+    has_transport = proto in (TCP, UDP) and length is not None and is_first and size <= length
+    end = len(frame) if length is None else min(len(frame), begin + length)
+    return Header(version, begin, proto, length, begin + size if has_transport else None, end)
 
 
 def fields_of(frame):
@@ -70,7 +93,7 @@ def fields_of(frame):
     header = header_of(frame)
     if header is None:
         return places
-    for name, begin, size in ('tos', 1, 1), ('ttl', 8, 1), ('src', 12, 4), ('dst', 16, 4):
+    for name, (begin, size) in PLACES[header.version].items():
         if header.begin + begin + size <= len(frame):
             places[name] = header.begin + begin, header.begin + begin + size
     if header.transport is None:
@@ -86,7 +109,7 @@ def fields_of(frame):
 
 def payload_place(frame, header):
     """Where the data behind the header of TCP or UDP begin, or None where the header doesn't say it."""
-    if frame[header.begin + 9] == UDP:
+    if header.proto == UDP:
         return header.transport + 8
     if header.transport + 12 >= header.end or frame[header.transport + 12] >> 4 < 5:
         return None
@@ -100,8 +123,7 @@ class Packet:
         self.frame, self.places, self.time = bytearray(frame), fields_of(frame), time
         self.tags = frame[slice(*self.places['tag'])] if 'tag' in self.places else None
         header = header_of(frame)
-        self.proto = frame[header.begin + 9] if header and len(frame) >= header.begin + 10 else None
-        self.length = number(frame[header.begin + 2 : header.begin + 4]) if header and len(frame) >= header.begin + 4 else None
+        self.proto, self.length = (header.proto, header.length) if header else (None, None)
 
     def has(self, *fields):
         return set(fields) <= set(self.places)
@@ -127,7 +149,7 @@ class Packet:
         return bytes(self.frame[:begin] + self.tags + self.frame[end:])
 
     def address(self, field):
-        return ipaddress.IPv4Address(self.get(field)) if self.has(field) else None
+        return ipaddress.ip_address(self.get(field)) if self.has(field) else None
 
     def port(self, field):
         return number(self.get(field)) if self.has(field) else None
@@ -179,7 +201,7 @@ def seal(before, packet):
     after, header = packet.frame, header_of(before)
     if header is None:
         return
-    if header.begin + 12 <= len(before):
+    if header.version == 4 and header.begin + 12 <= len(before):
         fixed = slice(header.begin, header.begin + 20)
         put_sum(after, header.begin + 10, adjusted(sum_at(before, header.begin + 10), before[fixed], bytes(after[fixed])))
     if header.transport is None:
@@ -200,6 +222,11 @@ def sum_at(frame, at):
 
 def put_sum(frame, at, value):
     frame[at : at + 2] = value.to_bytes(2, 'big')
+
+
+def told(address):
+    """An address as a report tells it: that of IPv6 as eight groups, none of them left out."""
+    return str(address) if address.version == 4 else ':'.join(f'{group:x}' for group in words_of(address.packed))
 
 
 # The kinds. Each is made of what its lines say. Its step is true where the packet passes, and its lines tell its state in
@@ -235,7 +262,7 @@ class Nat:
         self.endpoint_of = {}  # by protocol and public port
 
     def step(self, packet):
-        if not packet.has('src', 'dst', 'sport', 'dport'):
+        if not packet.has('src', 'dst', 'sport', 'dport') or packet.address('src').version == 6:
             return True
         if packet.address('src') in self.inside:
             return self.leave(packet)
@@ -281,7 +308,8 @@ class Balancer:
         return True
 
     def lines(self):
-        return [f'flow {proto} {source} {port} backend {backend}' for (proto, source, port), backend in self.backend_of.items()]
+        flows = self.backend_of.items()
+        return [f'flow {proto} {told(source)} {port} backend {told(backend)}' for (proto, source, port), backend in flows]
 
 
 class Monitor:
@@ -296,8 +324,12 @@ class Monitor:
         return True
 
     def lines(self):
-        told = [' '.join('-' if part is None else str(part) for part in flow) for flow in self.counts]
-        return [f'flow {flow} packets {packets} bytes {total}' for flow, (packets, total) in zip(told, self.counts.values())]
+        return [f'flow {flow_words(*flow)} packets {packets} bytes {total}' for flow, (packets, total) in self.counts.items()]
+
+
+def flow_words(proto, source, source_port, destination, destination_port):
+    ports = ['-' if port is None else port for port in (source_port, destination_port)]
+    return f'{proto} {told(source)} {ports[0]} {told(destination)} {ports[1]}'
 
 
 class Limiter:
@@ -321,7 +353,7 @@ class Limiter:
         return passes
 
     def lines(self):
-        return [f'source {source} tokens {tokens} at {moment}' for source, (tokens, moment) in self.buckets.items()]
+        return [f'source {told(source)} tokens {tokens} at {moment}' for source, (tokens, moment) in self.buckets.items()]
 
 
 class Stateless:

@@ -72,7 +72,7 @@ def arp(tags):
 
 
 def ping_of_ipv6(tags):
-    return frames.ethernet(frames.TYPE_IPV6, frames.ipv6()[14:], tags=tags)
+    return frames.plain6('2001:db8::66', frames.echo6(1), tags=tags)
 
 
 # What is told without ends.

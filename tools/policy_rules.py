@@ -95,6 +95,34 @@ def prefix(word):
     return ipaddress.IPv4Network((address(begin).packed, numeral(bits, 32, 2) if slash else 32), strict=False)
 
 
+def groups(text):
+    """Groups of an IPv6 address, which colons part; there may be none."""
+    parts = text.split(':') if text else []
+    if not all(re.fullmatch('[0-9a-fA-F]{1,4}', part) for part in parts):
+        raise ValueError(text)
+    return [int(part, 16) for part in parts]
+
+
+def address6(word):
+    """Eight groups, of which one run of zeros may be written as two colons."""
+    front, gap, back = word.partition('::')
+    left, right = groups(front), groups(back)
+    zeros = 8 - len(left) - len(right)
+    if zeros < 1 if gap else zeros != 0:
+        raise ValueError(word)
+    return ipaddress.IPv6Address(b''.join(group.to_bytes(2, 'big') for group in left + [0] * zeros + right))
+
+
+def prefix6(word):
+    begin, slash, bits = word.partition('/')
+    return ipaddress.IPv6Network((address6(begin).packed, numeral(bits, 128, 3) if slash else 128), strict=False)
+
+
+def either(four, six):
+    """A value of IPv4 or one of IPv6, of which no word is both."""
+    return lambda word: six(word) if ':' in word else four(word)
+
+
 def port_range(word):
     low, dash, high = word.partition('-')
     ports = numeral(low, 65535), numeral(high, 65535) if dash else numeral(low, 65535)
@@ -111,7 +139,9 @@ def vlan(word):
     return None if word == 'none' else numeral(word, 4095)
 
 
-CLAUSES = {'src': prefix, 'dst': prefix, 'sport': port_range, 'dport': port_range, 'proto': protocol, 'tag': vlan}
+any_prefix, any_address = either(prefix, prefix6), either(address, address6)
+
+CLAUSES = {'src': any_prefix, 'dst': any_prefix, 'sport': port_range, 'dport': port_range, 'proto': protocol, 'tag': vlan}
 
 
 def read_clauses(words, place):
@@ -315,7 +345,7 @@ def mark(words):
 def next_hop(words):
     if len(words) != 5 or words[1] != 'to' or words[3] != 'from':
         raise ValueError(words)
-    return prefix(words[0]), link_address(words[2]), link_address(words[4])
+    return any_prefix(words[0]), link_address(words[2]), link_address(words[4])
 
 
 def pushed_tag(words):
@@ -331,7 +361,7 @@ LINES = {
     'firewall': {('set', 'default'): one(verdict), ('rule', 'allow'): FIREWALL_CLAUSES, ('rule', 'deny'): FIREWALL_CLAUSES},
     'signature': PATTERNS,
     'nat': {('set', 'inside'): one(prefix), ('set', 'public'): one(address), ('set', 'ports'): one(public_ports)},
-    'balancer': {('set', 'vip'): one(address), ('rule', 'backend'): one(address)},
+    'balancer': {('set', 'vip'): one(any_address), ('rule', 'backend'): one(any_address)},
     'monitor': {},
     'limiter': {('set', 'rate'): one(amount), ('set', 'burst'): one(amount)},
     'marker': {('rule', 'tos'): mark},
@@ -346,19 +376,30 @@ LINES = {
 COMPLETE = {'nat', 'balancer', 'limiter'}
 
 
+def backends_apart(said):
+    """The places of the backends that aren't of the family of the virtual address, which is that of its first line that can be read."""
+    virtual = next((value for lead, value in said if lead == ('set', 'vip')), None)
+    for place, (lead, value) in enumerate(said):
+        if lead == ('rule', 'backend') and virtual is not None and value.version != virtual.version:
+            yield place
+
+
 def read_settings(function):
     """What the lines of a function say, each as the words with which it begins and its value, or the least line that it refuses."""
     forms = LINES[function.kind]
-    said, refused, keys = [], [], set()
+    said, numbers, refused, keys = [], [], [], set()
     for number, words in function.settings:
         lead = tuple(words[:2]) if tuple(words[:2]) in forms else tuple(words[:1])
         try:
             said.append((lead, forms[lead](words[len(lead) :])))
+            numbers.append(number)
         except (KeyError, ValueError, Misfit):
             refused.append(number)
         if words[0] == 'set':
             refused += [number] if words[1] in keys else []
             keys.add(words[1])
+    if function.kind == 'balancer':
+        refused += [numbers[place] for place in backends_apart(said)]
     if function.kind in COMPLETE and {lead for lead, _ in said} != set(forms):
         refused.append(function.line)
     if refused:

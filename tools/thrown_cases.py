@@ -36,8 +36,17 @@ def some_address(rng):
     return rng.choice(['10.0.0.1', '10.0.0.9', '192.0.2.1', '198.51.100.5', '203.0.113.66', '0.0.0.0', '255.255.255.255'])
 
 
-def some_prefix(rng):
+def some_address6(rng):
+    return rng.choice(['2001:db8::1', '2001:db8::2', '2001:DB8::9', '::', '::1', 'fe80::1', '1:2:3:4:5:6:7:8', 'ffff:ffff:ffff:ffff:ffff:ffff:ffff:ffff'])
+
+
+def some_prefix4(rng):
     return some_address(rng) + rng.choice(['', '/0', '/1', '/8', '/24', '/31', '/32'])
+
+
+def some_prefix(rng):
+    """Of either family."""
+    return rng.choice([some_prefix4(rng), some_address6(rng) + rng.choice(['', '/0', '/1', '/32', '/64', '/127', '/128'])])
 
 
 def some_ports(rng):
@@ -68,7 +77,14 @@ def some_link(rng):
 
 def nat_lines(rng):
     low = rng.choice([1, 40000, 65535])
-    return [f'set inside {some_prefix(rng)}', f'set public {some_address(rng)}', f'set ports {low}-{min(low + rng.randrange(3), 65535)}']
+    return [f'set inside {some_prefix4(rng)}', f'set public {some_address(rng)}', f'set ports {low}-{min(low + rng.randrange(3), 65535)}']
+
+
+def balancer_lines(rng):
+    """Of one family, but for one in ten."""
+    virtual = rng.choice([some_address, some_address6])
+    backend = virtual if rng.randrange(10) else some_address
+    return [f'set vip {virtual(rng)}'] + [f'rule backend {backend(rng)}' for _ in range(1 + rng.randrange(3))]
 
 
 LINES = {
@@ -76,7 +92,7 @@ LINES = {
     + [f'rule {rng.choice(["allow", "deny"])}{some_clauses(rng)}' for _ in range(rng.randrange(4))],
     'signature': some_patterns,
     'nat': nat_lines,
-    'balancer': lambda rng: [f'set vip {some_address(rng)}'] + [f'rule backend {some_address(rng)}' for _ in range(1 + rng.randrange(3))],
+    'balancer': balancer_lines,
     'monitor': lambda rng: [],
     'limiter': lambda rng: [f'set rate {rng.choice([1, 1000, 2**32 - 1])}', f'set burst {rng.choice([1, 28, 1000, 2**32 - 1])}'],
     'marker': lambda rng: [
@@ -126,19 +142,25 @@ def made_policy(rng):
 UNUSUAL = [{'options': b'\x01' * 8}, {'offset': 8}, {'more': True}, {'ttl': 1}, {'ttl': 0}, {'tos': 255}, {'lead': 0x4F}, {'lead': 0x44}]
 
 
+# What an IPv6 header seldom has: a last hop, a traffic class, a version or length of its own, an extension header (RFC 8200, 4.3).
+UNUSUAL6 = [{'hop_limit': 1}, {'hop_limit': 0}, {'traffic_class': 255}, {'lead': 0x4F}, {'length': 0}, {'length': 9}, {'length': 65496}, {'before': bytes(8)}]
+
+
 def some_tag(rng):
     return frames.tag(rng.choice([frames.VLAN_TAG, frames.SERVICE_TAG]), rng.choice([0, 7, 100, 4095]))
 
 
 def made_frame(rng):
-    source, to = some_address(rng), some_address(rng)
+    is_ipv4 = rng.randrange(2) == 0
+    made, address, unusual = (frames.plain, some_address, UNUSUAL) if is_ipv4 else (frames.plain6, some_address6, UNUSUAL6)
+    source, to = address(rng), address(rng)
     data = rng.choice([b'', b'a', b'my secret', b'evil secret', b'.' * 64, bytes(range(256)), b'a' * 1400])
     ports = rng.choice([1000, 1001, 40000, 65535, 0]), rng.choice([53, 80, 40000])
-    content = rng.choice([frames.udp(*ports, data), frames.tcp(*ports, rng.choice([2, 16, 24]), data), frames.echo(1)])
+    content = rng.choice([frames.udp(*ports, data), frames.tcp(*ports, rng.choice([2, 16, 24]), data), frames.echo(1) if is_ipv4 else frames.echo6(1)])
     tags = b''.join(some_tag(rng) for _ in range(rng.choice([0, 0, 0, 1, 2])))
-    more = rng.choice([{}, {}, {}, *UNUSUAL])
-    frame = frames.plain(source, content, to=to, tags=tags, **more)
-    others = [frames.arp_request(source, to), frames.ipv6(), b'', b'\0' * 13, frame[: rng.randrange(len(frame) + 1)]]
+    more = rng.choice([{}, {}, {}, *unusual])
+    frame = made(source, content, to=to, tags=tags, **more)
+    others = [frames.arp_request(some_address(rng), some_address(rng)), frames.ping6(), b'', b'\0' * 13, frame[: rng.randrange(len(frame) + 1)]]
     return frame if rng.randrange(8) else rng.choice(others)
 
 
@@ -240,7 +262,7 @@ OF_BYTES = [flip_bit, flip_bit, set_byte, cut, cut_front, double, delete, insert
 
 WORDS = sorted(
     {*policy_rules.KINDS, *policy_rules.CLAUSES, *'nfp chain fn set rule order priority position before > first last match allow deny default'.split()}
-    | set('inside public ports vip backend rate burst tos to from vid pcp text hex tcp udp none 1 a a-b A _ - 10.0.0.0/8 0-65535'.split())
+    | set('inside public ports vip backend rate burst tos to from vid pcp text hex tcp udp none 1 a a-b A _ - 10.0.0.0/8 0-65535 2001:db8::/32 :: 1::2::3'.split())
 )
 
 
@@ -370,8 +392,9 @@ def record_field(rng, data):
 
 
 # Fields of a frame by their places in one without tags and options: type, version and header length, marks, IPv4 length, fragment,
-# time to live, protocol, checksum, addresses, ports, length of UDP or a part of TCP's number, offset of TCP's data, checksums.
-FRAME_FIELDS = [(12, 2), (14, 1), (15, 1), (16, 2), (20, 2), (22, 1), (23, 1), (24, 2), (26, 4), (30, 4), (34, 2), (36, 2), (38, 2), (40, 2), (46, 1), (50, 2)]
+# time to live, protocol, checksum, addresses, ports, length of UDP or a part of TCP's number, offset of TCP's data, checksums; and of
+# IPv6 the length, next header, hop limit, the last of both addresses, ports, UDP's checksum, TCP's offset and checksum.
+FRAME_FIELDS = [(18, 2), (20, 1), (21, 1), (36, 2), (52, 2), (54, 2), (56, 2), (60, 2), (66, 1), (70, 2), (12, 2), (14, 1), (15, 1), (16, 2), (20, 2), (22, 1), (23, 1), (24, 2), (26, 4), (30, 4), (34, 2), (36, 2), (38, 2), (40, 2), (46, 1), (50, 2)]
 FRAME_VALUES = [*ENDS, 0x0800, 0x8100, 0x88A8, 0x86DD, 0x45, 0x4F, 0x44, 0x2000, 0x50, 0xF0, 6, 17, 19, 20, 21, 27, 28, 29]
 
 

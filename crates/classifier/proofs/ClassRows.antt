@@ -1,7 +1,7 @@
 -- Rows worked by hand: a frame that two chains would take.
 use Rattle.std.proofs.Common.{◌≡◌, ℕ, List, [], ◌∷◌, ◌++◌, Some, None, refl}
 use Rattle.packet_fields.specs.Frames.{tags_len}
-use Rattle.packet_fields.specs.Packets.{has_transport, is_ipv4}
+use Rattle.packet_fields.specs.Packets.{has_transport, is_ipv4, is_ipv6}
 use Rattle.policy_text.specs.declared.clause.Clause.TheVariants.{Src, Sport, TagId}
 use Rattle.policy_text.specs.declared.clause.Match.{Match}
 use Rattle.classifier.specs.Classes.{class_of}
@@ -26,11 +26,11 @@ abbrev of_port : Match
 of_port = record { clauses = Sport 1000 1000 ∷ [] }
 
 first_of_two : class_of (tagged ∷ inside ∷ of_port ∷ []) frame ≡ Some 1
-unfolding tags_len is_ipv4
+unfolding tags_len is_ipv4 is_ipv6
 first_of_two = refl
 
 first_by_order : class_of (of_port ∷ tagged ∷ inside ∷ []) frame ≡ Some 0
-unfolding tags_len is_ipv4 has_transport
+unfolding tags_len is_ipv4 is_ipv6 has_transport
 first_by_order = refl
 
 of_none : class_of (tagged ∷ tagged ∷ []) frame ≡ None

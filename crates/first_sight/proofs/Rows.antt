@@ -3,6 +3,7 @@ use Rattle.std.proofs.Common.{◌≡◌, ℕ, List, [], ◌∷◌, refl}
 use Rattle.std.specs.Prelude.{codes, nat_eq, Some, None}
 use Rattle.std.specs.Fmt.{digits}
 use Rattle.std.specs.Map.{keys_of}
+use Rattle.std.specs.Net.Text.{groups_text, hex}
 use Rattle.first_sight.specs.Addresses.{dotted}
 use Rattle.first_sight.specs.FirstSight.{place_of, seen_with, belonging, noted, lines_by}
 
@@ -45,3 +46,12 @@ tells_address = refl
 tells_ends : dotted 3232235775 ≡ codes "192.168.0.255"
 unfolding dotted digits
 tells_ends = refl
+
+-- the groups of 2001:db8::1 and of fedc:ba98:7654:3210:fedc:ba98:7654:3210 (RFC 4291, 2.2)
+tells_groups : groups_text (0x2001 ∷ 0xdb8 ∷ 0 ∷ 0 ∷ 0 ∷ 0 ∷ 0 ∷ 1 ∷ []) ≡ codes "2001:db8:0:0:0:0:0:1"
+unfolding hex
+tells_groups = refl
+
+tells_all_digits : groups_text (0xfedc ∷ 0xba98 ∷ 0x7654 ∷ 0x3210 ∷ 0xfedc ∷ 0xba98 ∷ 0x7654 ∷ 0x3210 ∷ []) ≡ codes "fedc:ba98:7654:3210:fedc:ba98:7654:3210"
+unfolding hex
+tells_all_digits = refl

@@ -1,9 +1,25 @@
 //! Addresses as text.
-ghost use Rattle.std.specs.Prelude.{◌≡◌, ◌++◌, OnOk};
-ghost use Rattle.first_sight.specs.Addresses.{dotted};
+ghost use Rattle.std.specs.Prelude.{◌≡◌, ◌++◌, ◌<◌, OnOk, codes};
+ghost use Rattle.std.specs.List.{flat_map};
+ghost use Rattle.std.specs.Char.{digit_char};
+ghost use Rattle.std.specs.Net.Text.{hex, groups_text, leading_zero_digits};
+ghost use Rattle.first_sight.specs.Addresses.{dotted, address_text};
 
 use std::alloc::{AllocError, Global};
+use std::net::IpAddr;
 use text_lines::{Piece, push_pieces};
+
+/// Appends an address of either version: one of IPv4 as four decimal numbers parted by dots, the highest byte first (RFC 791, 3.1), and
+/// one of IPv6 as eight hexadecimal groups in lower case parted by colons, without leading zeros and none of them left out (RFC 4291,
+/// 2.2). Where memory runs out, nothing is said of the text.
+pub fn push_ip_address(alloc: Global, text: &mut Vec<u8>, address: IpAddr) -> Result<(), AllocError>
+    ensures { OnOk result (text.new.items ≡ text.old.items ++ address_text address) }
+{
+    match address {
+        IpAddr::V4(address) => push_address(alloc, text, address.to_bits()),
+        IpAddr::V6(address) => push_groups(text, &address.segments()),
+    }
+}
 
 /// Appends an IPv4 address as four decimal numbers parted by dots, the highest byte first (RFC 791, 3.1).
 /// Where memory runs out, nothing is said of the text.
@@ -25,4 +41,63 @@ pub fn push_address(alloc: Global, text: &mut Vec<u8>, address: u32) -> Result<(
             Piece::Number(u64::from(d)),
         ],
     )
+}
+
+/// Appends groups in hexadecimal digits, parted by colons.
+fn push_groups(text: &mut Vec<u8>, groups: &[u16]) -> Result<(), AllocError>
+    ensures { OnOk result (text.new.items ≡ text.old.items ++ groups_text groups.now) }
+{
+    let Some((first, rest)) = groups.split_first() else {
+        return Ok(());
+    };
+    push_group(text, *first)?;
+    push_more_groups(text, rest)
+}
+
+/// Appends groups, each behind a colon.
+fn push_more_groups(text: &mut Vec<u8>, groups: &[u16]) -> Result<(), AllocError>
+    ensures { OnOk result (text.new.items ≡ text.old.items ++ flat_map (λ group. codes ":" ++ hex group) groups.now) }
+{
+    'groups: for group in groups {
+        text.push(b':')?;
+        push_group(text, *group)?;
+    }
+    Ok(())
+}
+
+/// Appends a group in hexadecimal digits, without leading zeros.
+#[tactic(auto, unfolding(std::specs::Net::Text::hex))]
+fn push_group(text: &mut Vec<u8>, group: u16) -> Result<(), AllocError>
+    ensures { OnOk result (text.new.items ≡ text.old.items ++ hex group) }
+{
+    let digits = [
+        hex_digit(group / 0x1000),
+        hex_digit(group / 0x100 % 16),
+        hex_digit(group / 0x10 % 16),
+        hex_digit(group % 16),
+    ];
+    text.extend_from_slice(&digits[leading_zero_digits(group)..])
+}
+
+fn leading_zero_digits(group: u16) -> usize
+    ensures zeros { result ≡ leading_zero_digits group }
+    ensures few { result < 4 }
+{
+    match group {
+        0x1000.. => 0,
+        0x100.. => 1,
+        0x10.. => 2,
+        _ => 3,
+    }
+}
+
+fn hex_digit(digit: u16) -> u8
+    requires { digit < 16 }
+    ensures { result ≡ digit_char digit }
+{
+    if digit < 10 {
+        b'0' + digit as u8
+    } else {
+        b'a' + (digit - 10) as u8
+    }
 }

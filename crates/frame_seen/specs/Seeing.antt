@@ -1,6 +1,6 @@
 -- Believed: what the clauses of a policy see of a packet, as numbers, most significant byte first.
-use Rattle.std.specs.Prelude.{ℕ, ◌%◌, ◌==◌, if◌then◌else◌, List, length, take, drop, Option}
-use Rattle.std.specs.Option.{option_map, option_map_or}
+use Rattle.std.specs.Prelude.{ℕ, ◌%◌, ◌==◌, if◌then◌else◌, List, length, take, drop, Option, Some, None}
+use Rattle.std.specs.Option.{option_map, option_map_or, option_and_then}
 use Rattle.byteorder.specs.Endian.{big_number}
 use Rattle.packet_fields.specs.Fields.{value, layout_of}
 use Rattle.packet_fields.specs.declared.field.Field.{Field}
@@ -18,12 +18,18 @@ vlan_id tag = big_number 2 (take 2 (drop 2 tag)) % 4096
 abbrev pub outermost : List ℕ → TagSeen
 outermost tags = if length tags == 0 then Bare else Id (vlan_id tags)
 
--- what is seen where the fields have these values, by the protocol of the IPv4 header
+-- an address of so many bytes as a number: 4 bytes are one of IPv4 (RFC 791, 3.1), 16 one of IPv6 (RFC 8200, 3)
+abbrev pub address_of : ℕ → List ℕ → Option ℕ
+address_of size bytes = if length bytes == size then Some (big_number size bytes) else None
+
+-- what is seen where the fields have these values, by the protocol of the IP header
 abbrev pub seen_by : (Field → Option (List ℕ)) → Option ℕ → Seen
 seen_by values protocol = record {
   tag = option_map_or outermost (values Tag) Absent;
-  src = option_map (big_number 4) (values SrcIp);
-  dst = option_map (big_number 4) (values DstIp);
+  src = option_and_then (address_of 4) (values SrcIp);
+  dst = option_and_then (address_of 4) (values DstIp);
+  src6 = option_and_then (address_of 16) (values SrcIp);
+  dst6 = option_and_then (address_of 16) (values DstIp);
   sport = option_map (big_number 2) (values SrcPort);
   dport = option_map (big_number 2) (values DstPort);
   proto = protocol;

@@ -1,11 +1,11 @@
 //! Values of fields as numbers.
 ghost use Rattle.std.specs.Prelude.{◌≡◌, length, IfSome};
-ghost use Rattle.std.specs.Option.{option_map, option_map_or, option_copied};
+ghost use Rattle.std.specs.Option.{option_map, option_map_or, option_and_then, option_copied};
 ghost use Rattle.byteorder.specs.Endian.{big_number};
 ghost use Rattle.packet_fields.specs.Fields.{IsLengthOf};
 ghost use Rattle.packet_fields.specs.declared.field.Field.{Field};
 ghost use Rattle.policy_text.specs.declared.seen.TagSeen.{TagSeen};
-ghost use Rattle.frame_seen.specs.Seeing.{outermost, seen_of};
+ghost use Rattle.frame_seen.specs.Seeing.{outermost, address_of, seen_of};
 
 use byteorder::{BigEndian, ByteOrder};
 use packet_fields::{Field, Outline};
@@ -20,6 +20,8 @@ pub fn seen(frame: &[u8]) -> Seen
         tag: seen_tags(outline.get(Field::Tag, frame)),
         src: seen_address(outline.get(Field::SrcIp, frame)),
         dst: seen_address(outline.get(Field::DstIp, frame)),
+        src6: seen_address6(outline.get(Field::SrcIp, frame)),
+        dst6: seen_address6(outline.get(Field::DstIp, frame)),
         sport: seen_port(outline.get(Field::SrcPort, frame)),
         dport: seen_port(outline.get(Field::DstPort, frame)),
         proto: outline.protocol(frame),
@@ -38,12 +40,28 @@ pub fn seen_tags(tags: Option<&[u8]>) -> TagSeen
     }
 }
 
-/// An IPv4 address as a number, most significant byte first (RFC 791, 3.1).
+/// An IPv4 address as a number, most significant byte first (RFC 791, 3.1). An address of IPv6 is none.
 pub fn seen_address(bytes: Option<&[u8]>) -> Option<u32>
-    requires { IfSome bytes (λ address. length address.now ≡ 4) }
-    ensures { result ≡ option_map (big_number 4) (option_copied bytes.entry) }
+    ensures { result ≡ option_and_then (address_of 4) (option_copied bytes.entry) }
 {
-    Some(BigEndian::read_u32(bytes?))
+    let bytes = bytes?;
+    if bytes.len() == 4 {
+        Some(BigEndian::read_u32(bytes))
+    } else {
+        None
+    }
+}
+
+/// An IPv6 address as a number, most significant byte first (RFC 8200, 3). An address of IPv4 is none.
+pub fn seen_address6(bytes: Option<&[u8]>) -> Option<u128>
+    ensures { result ≡ option_and_then (address_of 16) (option_copied bytes.entry) }
+{
+    let bytes = bytes?;
+    if bytes.len() == 16 {
+        Some(BigEndian::read_u128(bytes))
+    } else {
+        None
+    }
 }
 
 /// A port as a number, most significant byte first (RFC 793, 3.1; RFC 768).

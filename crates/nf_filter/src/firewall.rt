@@ -1,7 +1,7 @@
 //! A firewall, and what it decides.
 use crate::verdict::verdict;
 use chain_walk::Verdict;
-use frame_seen::{seen_address, seen_port, seen_tags};
+use frame_seen::{seen_address, seen_address6, seen_port, seen_tags};
 use function_lines::{Fitting, SharedItems, first_met};
 use packet_fields::Field;
 use packet_version::{View, unwritten_stays};
@@ -98,6 +98,8 @@ fn seen_in(view: &View) -> Seen
         tag: seen_tags(view.get(Field::Tag)),
         src: seen_address(view.get(Field::SrcIp)),
         dst: seen_address(view.get(Field::DstIp)),
+        src6: seen_address6(view.get(Field::SrcIp)),
+        dst6: seen_address6(view.get(Field::DstIp)),
         sport: seen_port(view.get(Field::SrcPort)),
         dport: seen_port(view.get(Field::DstPort)),
         proto: view.proto(),

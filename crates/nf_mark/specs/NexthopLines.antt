@@ -2,29 +2,24 @@
 use Rattle.std.specs.Prelude.{ℕ, List, [], ◌∷◌, ◌&&◌, if◌then◌else◌, Option, Some, None, codes}
 use Rattle.std.specs.Option.{option_map}
 use Rattle.std.specs.Str.{bytes_eq}
-use Rattle.policy_text.specs.Values.{prefix_of}
+use Rattle.policy_text.specs.Clauses.{clause_of}
 use Rattle.policy_text.specs.Bytes.{mac_of}
-use Rattle.policy_text.specs.declared.clause.Clause.TheVariants.{Dst}
-use Rattle.policy_text.specs.declared.clause.Match.{Match}
+use Rattle.policy_text.specs.declared.clause.Clause.{Clause}
 use Rattle.function_lines.specs.KindLines.{KindLines}
 use Rattle.nf_mark.specs.declared.link_address.LinkAddress.{LinkAddress}
 use Rattle.nf_mark.specs.declared.nexthop.NexthopRule.{NexthopRule}
 use Rattle.nf_mark.specs.Links.{link_of}
 
--- a prefix asks for packets with a destination in it
-abbrev pub fit_to : ℕ × ℕ → Match
-fit_to prefix = record { clauses = Dst prefix.0 prefix.1 ∷ [] }
+-- a rule of a clause and two addresses, where the words spell all three
+abbrev pub rule_of : Option Clause → Option LinkAddress → Option LinkAddress → Option NexthopRule
+rule_of (Some clause) (Some to) (Some from) = Some (record { fit = record { clauses = clause ∷ [] }; link_dst = to; link_src = from })
+rule_of clause to from = None
 
--- a rule of a prefix and two addresses, where the words spell all three
-abbrev pub rule_of : Option (ℕ × ℕ) → Option LinkAddress → Option LinkAddress → Option NexthopRule
-rule_of (Some prefix) (Some to) (Some from) = Some (record { fit = fit_to prefix; link_dst = to; link_src = from })
-rule_of prefix to from = None
-
--- what a line says, none where it is no line of a nexthop
+-- what a line says, none where it is no line of a nexthop: its prefix, of either version, is that of a clause on destinations
 unfoldable pub line_of : List (List ℕ) → Option NexthopRule
 line_of (lead ∷ prefix ∷ to ∷ dst ∷ from ∷ src ∷ []) =
     if bytes_eq lead (codes "rule") && (bytes_eq to (codes "to") && bytes_eq from (codes "from"))
-    then rule_of (prefix_of prefix) (option_map link_of (mac_of dst)) (option_map link_of (mac_of src)) else None
+    then rule_of (clause_of (codes "dst") prefix) (option_map link_of (mac_of dst)) (option_map link_of (mac_of src)) else None
 line_of words = None
 
 -- the lines of a nexthop, none of which has to be there

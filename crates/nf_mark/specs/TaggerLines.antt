@@ -3,7 +3,7 @@ use Rattle.std.specs.Prelude.{ℕ, ◌+◌, ◌*◌, List, [], ◌∷◌, Bool, 
 use Rattle.std.specs.Str.{bytes_eq}
 use Rattle.policy_text.specs.Values.{number_of}
 use Rattle.policy_text.specs.declared.clause.Clause.{Clause}
-use Rattle.policy_text.specs.declared.clause.Clause.TheVariants.{Src}
+use Rattle.policy_text.specs.declared.clause.Clause.TheVariants.{Src, Src6}
 use Rattle.policy_text.specs.declared.clause.Match.{Match}
 use Rattle.function_lines.specs.KindLines.{KindLines}
 use Rattle.nf_mark.specs.Clauses.{fit_of_such}
@@ -12,6 +12,7 @@ use Rattle.nf_mark.specs.declared.tagger.TagRule.{TagRule}
 -- a tagger sees the source address alone
 abbrev pub is_seen : Clause → Bool
 is_seen (Src prefix bits) = true
+is_seen (Src6 prefix bits) = true
 is_seen clause = false
 
 -- the control information of a tag (IEEE 802.1Q, 9.6): three bits of priority, one that is 0, and twelve of the VLAN id

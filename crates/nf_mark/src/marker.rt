@@ -5,7 +5,7 @@ mod lines;
 
 use crate::present::has_field;
 use chain_walk::Verdict;
-use frame_seen::{seen_address, seen_port};
+use frame_seen::{seen_address, seen_address6, seen_port};
 use function_lines::{Fitting, SharedItems, first_met};
 use packet_fields::Field;
 use packet_version::{View, unwritten_stays, written_is_one_value};
@@ -116,6 +116,8 @@ fn seen_in(view: &View) -> Seen
         tag: TagSeen::Absent,
         src: seen_address(view.get(Field::SrcIp)),
         dst: seen_address(view.get(Field::DstIp)),
+        src6: seen_address6(view.get(Field::SrcIp)),
+        dst6: seen_address6(view.get(Field::DstIp)),
         sport: seen_port(view.get(Field::SrcPort)),
         dport: seen_port(view.get(Field::DstPort)),
         proto: view.proto(),

@@ -6,7 +6,7 @@ mod lines;
 use crate::link_address::LinkAddress;
 use crate::present::has_field;
 use chain_walk::Verdict;
-use frame_seen::seen_address;
+use frame_seen::{seen_address, seen_address6};
 use function_lines::{Fitting, SharedItems, first_met};
 use packet_fields::Field;
 use packet_version::{View, later_write_stands_over, unwritten_stays, written_is_one_value};
@@ -116,6 +116,8 @@ fn seen_in(view: &View) -> Seen
         tag: TagSeen::Absent,
         src: None,
         dst: seen_address(view.get(Field::DstIp)),
+        src6: None,
+        dst6: seen_address6(view.get(Field::DstIp)),
         sport: None,
         dport: None,
         proto: view.proto(),

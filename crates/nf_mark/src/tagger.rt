@@ -5,7 +5,7 @@ mod lines;
 
 use crate::present::has_field;
 use chain_walk::Verdict;
-use frame_seen::{seen_address, seen_tags};
+use frame_seen::{seen_address, seen_address6, seen_tags};
 use function_lines::{Fitting, SharedItems, first_met};
 use packet_fields::Field;
 use packet_version::{View, unwritten_stays, written_is_one_value};
@@ -128,6 +128,8 @@ fn seen_in(view: &View) -> Seen
         tag: seen_tags(view.get(Field::Tag)),
         src: seen_address(view.get(Field::SrcIp)),
         dst: None,
+        src6: seen_address6(view.get(Field::SrcIp)),
+        dst6: None,
         sport: None,
         dport: None,
         proto: view.proto(),

@@ -3,6 +3,8 @@ pub mod TagWalk
 pub mod Spans
 mod Rows
 pub mod Overwriting
+pub mod Versions
+pub mod Formats
 pub mod Shapes
 pub mod Framing
 pub mod OverwrittenField

@@ -1,13 +1,14 @@
 -- The places that follow from an outline.
-use Rattle.std.proofs.Common.{◌≡◌, ◌≢◌, ◌≤◌, ◌+◌, ◌-◌, ◌∙◌, ℕ, List, length, length-drop, true, false, ◌&&◌, sym, ap, refl, arith, subst}
+use Rattle.std.proofs.Common.{◌≡◌, ◌≢◌, ◌≤◌, ◌+◌, ◌-◌, ◌∙◌, ℕ, List, length, length-drop, true, ◌&&◌, sym, ap, refl, arith, subst}
 use Rattle.std.specs.Prelude.{Option, Some, None, IfSome, option_map, nat_le}
 use Rattle.std.proofs.lemmas.Bool.{and_parts, leb-true}
 use Rattle.std.proofs.lemmas.Option.{cond_some, same_Some, none-some}
 use Rattle.packet_fields.specs.Frames.{packet_at, packet}
-use Rattle.packet_fields.specs.Packets.{is_ipv4, has_transport, segment_at, datagram_end, has_data, data_at, data_span}
+use Rattle.packet_fields.specs.Packets.{has_transport, segment_at, datagram_end, has_data, data_at, data_span}
 use Rattle.packet_fields.specs.Fields.{span}
-use Rattle.packet_fields.specs.Outlines.{outline_of, segment_in}
+use Rattle.packet_fields.specs.Outlines.{version_of, outline_of, segment_in}
 use Rattle.packet_fields.specs.Writing.{put, Fits}
+use Rattle.packet_fields.specs.declared.packet.IpVersion.{IpVersion}
 use Rattle.packet_fields.specs.declared.outline.Outline.{Outline}
 use Rattle.packet_fields.specs.declared.outline.Segment.{Segment}
 use Rattle.packet_fields.specs.declared.plan.Span.{Span}
@@ -15,7 +16,8 @@ use Rattle.packet_fields.specs.declared.field.Field.{Field}
 use Rattle.packet_fields.specs.declared.field.Field.TheVariants.{Tag}
 use Rattle.packet_fields.proofs.TagWalk.{packet_at-inside}
 use Rattle.packet_fields.proofs.Spans.{span-inside}
-use Rattle.packet_fields.proofs.Shapes.{is_ipv4-same, has_transport-same, segment_at-same, datagram_end-same, data_span-same}
+use Rattle.packet_fields.proofs.Versions.{no_transport}
+use Rattle.packet_fields.proofs.Shapes.{same_header, has_transport-same, segment_at-same, datagram_end-same, data_span-same}
 use Rattle.packet_fields.proofs.OverwrittenField.{KeepsPlaces}
 use Rattle.packet_fields.proofs.Puts.{put_keeps}
 
@@ -57,10 +59,13 @@ payload_below frame o s at h is =
     let below : data_at p ≤ datagram_end p = leb-true (data_at p) (datagram_end p) (and_parts (has_data p) (nat_le (data_at p) (datagram_end p)) test.0).1 in
     omega (arith, begins, below, h.ends)
 
--- no segment begins where no IPv4 header does
-pub no_header : (p : List ℕ) → is_ipv4 p ≡ false → None ≡ segment_in p
-unfolding has_transport
-no_header p gone = cc
+-- no segment begins where no IP header does
+pub no_segment : (p : List ℕ) → None ≡ version_of p → None ≡ segment_in p
+no_segment p gone = let none = no_transport p gone in cc
+
+-- the version that an outline tells is the packet's
+pub version_told : (frame : List ℕ) (o : Outline) (v : Option IpVersion) → o ≡ outline_of frame → o.version ≡ v → version_of (packet frame) ≡ v
+version_told frame o v own is = sym (ap (λ (x : Outline). x.version) own) ∙ is
 
 -- a place that is a field's lies in the frame
 pub inside_by : (f : Field) (frame : List ℕ) (o : Option Span) → o ≡ span f frame → IfSome o (λ s. s.at + s.len ≤ length frame)
@@ -72,7 +77,7 @@ outline-same frame new k =
     let p = packet frame in
     let q = packet new in
     let start = k.place in
-    let header = is_ipv4-same p q k.shape in
+    let header = same_header p q k.shape in
     let there = has_transport-same p q k.shape in
     let at = segment_at-same p q k.shape in
     let ends = datagram_end-same p q k.shape in

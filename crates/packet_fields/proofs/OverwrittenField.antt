@@ -5,7 +5,7 @@ use Rattle.std.proofs.lemmas.Bool.{cases_lt, leb-true}
 use Rattle.std.proofs.lemmas.List.{drop-drop, append_assoc, take-append-le, drop-append-le, get_or-drop}
 use Rattle.std.proofs.lemmas.Option.{MatchOption-at_some, none-some, same_Some}
 use Rattle.packet_fields.specs.Frames.{word, begins_tag, tags_len, type_at, packet_at, packet, tags_of, IsFramed}
-use Rattle.packet_fields.specs.Packets.{segment_at}
+use Rattle.packet_fields.specs.Packets.{in_header, source_at, destination_at, ttl_at, segment_at}
 use Rattle.packet_fields.specs.Fields.{span, value, bytes_at, packet_span, in_frame, moved, ether_type, layout_of, number_of}
 use Rattle.packet_fields.specs.Writing.{overwritten}
 use Rattle.packet_fields.specs.declared.field.Field.{Field}
@@ -15,6 +15,7 @@ use Rattle.packet_fields.specs.declared.plan.Layout.{Layout}
 use Rattle.packet_fields.proofs.Numbers.{same_number}
 use Rattle.packet_fields.proofs.TagWalk.{packet_at-long, packet_at-short}
 use Rattle.packet_fields.proofs.Spans.{if_some, some_tags, found_inside}
+use Rattle.packet_fields.proofs.Versions.{numbers, fields_end}
 use Rattle.packet_fields.proofs.Overwriting.{length-overwritten, drop-overwritten, cong2}
 use Rattle.packet_fields.proofs.Shapes.{SameShape, InBounds, bounds_at, inside_at, shape_kept, Apart, packet_value, packet_span-same, total_len-same, protocol-same, control_bits-same, header_sum_at-same, segment_sum_at-same}
 use Rattle.packet_fields.proofs.Framing.{framed, parts}
@@ -59,13 +60,13 @@ in_bounds-from : (f : Field) (p : List ℕ) (s : Span) → InBounds f p s → 3 
 in_bounds-from LinkDst p s b = absurd b
 in_bounds-from LinkSrc p s b = absurd b
 in_bounds-from Tag p s b = absurd b
-in_bounds-from Tos p s b = omega arith
-in_bounds-from Ttl p s b = omega arith
-in_bounds-from SrcIp p s b = omega arith
-in_bounds-from DstIp p s b = omega arith
-in_bounds-from SrcPort p s b = omega arith
-in_bounds-from DstPort p s b = omega arith
-in_bounds-from Payload p s b = omega arith
+in_bounds-from Tos p s b = let n = numbers p in omega arith
+in_bounds-from Ttl p s b = let n = numbers p in omega arith
+in_bounds-from SrcIp p s b = let n = numbers p in omega arith
+in_bounds-from DstIp p s b = let n = numbers p in omega arith
+in_bounds-from SrcPort p s b = let n = numbers p in omega arith
+in_bounds-from DstPort p s b = let n = numbers p in omega arith
+in_bounds-from Payload p s b = let n = numbers p in omega arith
 
 map_found : (by : ℕ) (o : Option Span) (s : Span) → option_map (moved by) o ≡ Some s → (t : Span) × (o ≡ Some t) × (s ≡ moved by t)
 map_found by None s is = absurd (none-some s is)
@@ -109,9 +110,13 @@ lies_at SrcPort frame s is = in_frame_at SrcPort frame s is
 lies_at DstPort frame s is = in_frame_at DstPort frame s is
 lies_at Payload frame s is = in_frame_at Payload frame s is
 
--- from where each field of a frame lies, if its packet begins at a and its segment there at s
-abbrev from : ℕ → ℕ → List ℕ
-from a s = 0 ∷ 6 ∷ 12 ∷ (a + 3) ∷ (a + 10) ∷ (a + 14) ∷ (a + 18) ∷ (a + s) ∷ (a + s + 2) ∷ (a + s + 8) ∷ []
+-- from where each field of a frame lies, if its packet begins at a and has these places in its header and this segment
+abbrev from : ℕ → ℕ → ℕ → ℕ → ℕ → List ℕ
+from a ttl source destination s = 0 ∷ 6 ∷ 12 ∷ (a + 3) ∷ (a + ttl) ∷ (a + source) ∷ (a + destination) ∷ (a + s) ∷ (a + s + 2) ∷ (a + s + 8) ∷ []
+
+-- the same of a packet
+abbrev from_of : ℕ → List ℕ → List ℕ
+from_of a p = from a (in_header (ttl_at p)) (in_header (source_at p)) (in_header (destination_at p)) (max (fields_end p) (segment_at p))
 
 abbrev Rises : ℕ → List ℕ → Type 0
 Rises low [] = ⊤
@@ -129,25 +134,25 @@ risen low (x ∷ xs) (suc n) zero rises before inside = absurd (omega arith)
 risen low (x ∷ xs) zero (suc m) rises before inside = over_low x xs m rises.1 (omega arith)
 risen low (x ∷ xs) (suc n) (suc m) rises before inside = risen x xs n m rises.1 (omega arith) (omega arith)
 
-from_rises : (a s : ℕ) → 12 ≤ a → 22 ≤ s → Rises 0 (from a s)
-from_rises a s behind far = (omega arith, (omega arith, (omega arith, (omega arith, (omega arith, (omega arith, (omega arith, (omega arith, (omega arith, (omega arith, tt))))))))))
+from_rises : (a : ℕ) (p : List ℕ) → 12 ≤ a → Rises 0 (from_of a p)
+from_rises a p behind = let n = numbers p in (omega arith, (omega arith, (omega arith, (omega arith, (omega arith, (omega arith, (omega arith, (omega arith, (omega arith, (omega arith, tt))))))))))
 
 -- where a field of the packet lies among these places
-in_packet_between : (f : Field) (p : List ℕ) (s : Span) (a : ℕ) → InBounds f p s → (get_or (from a (max 22 (segment_at p))) (number_of f) 0 ≤ s.at + a) × (number_of f < 9 → s.at + s.len + a ≤ get_or (from a (max 22 (segment_at p))) (suc (number_of f)) 0) × (number_of f < 10)
+in_packet_between : (f : Field) (p : List ℕ) (s : Span) (a : ℕ) → InBounds f p s → (get_or (from_of a p) (number_of f) 0 ≤ s.at + a) × (number_of f < 9 → s.at + s.len + a ≤ get_or (from_of a p) (suc (number_of f)) 0) × (number_of f < 10)
 in_packet_between LinkDst p s a b = absurd b
 in_packet_between LinkSrc p s a b = absurd b
 in_packet_between Tag p s a b = absurd b
-in_packet_between Tos p s a b = (omega arith, λ _. omega arith, omega arith)
-in_packet_between Ttl p s a b = (omega arith, λ _. omega arith, omega arith)
-in_packet_between SrcIp p s a b = (omega arith, λ _. omega arith, omega arith)
-in_packet_between DstIp p s a b = (omega arith, λ _. omega arith, omega arith)
-in_packet_between SrcPort p s a b = (omega arith, λ _. omega arith, omega arith)
-in_packet_between DstPort p s a b = (omega arith, λ _. omega arith, omega arith)
+in_packet_between Tos p s a b = let n = numbers p in (omega arith, λ _. omega arith, omega arith)
+in_packet_between Ttl p s a b = let n = numbers p in (omega arith, λ _. omega arith, omega arith)
+in_packet_between SrcIp p s a b = let n = numbers p in (omega arith, λ _. omega arith, omega arith)
+in_packet_between DstIp p s a b = let n = numbers p in (omega arith, λ _. omega arith, omega arith)
+in_packet_between SrcPort p s a b = let n = numbers p in (omega arith, λ _. omega arith, omega arith)
+in_packet_between DstPort p s a b = let n = numbers p in (omega arith, λ _. omega arith, omega arith)
 in_packet_between Payload p s a b = (omega arith, λ last. absurd (omega arith), omega arith)
 
 -- where a field of a frame lies among these places
 abbrev places_of : List ℕ → List ℕ
-places_of frame = from (max 12 (packet_at frame)) (max 22 (segment_at (packet frame)))
+places_of frame = from_of (max 12 (packet_at frame)) (packet frame)
 
 record Between (f : Field) (frame : List ℕ) (s : Span) : Type 0 where
   pub begins : get_or (places_of frame) (number_of f) 0 ≤ s.at
@@ -183,7 +188,7 @@ before f g frame s t first b c =
     let small = c.small in
     let ends = b.ends (omega arith) in
     let begins = c.begins in
-    let rises = from_rises (max 12 (packet_at frame)) (max 22 (segment_at (packet frame))) (omega arith) (omega arith) in
+    let rises = from_rises (max 12 (packet_at frame)) (packet frame) (omega arith) in
     let later = risen 0 (places_of frame) (suc (number_of f)) (number_of g) rises (omega arith) small in
     omega arith
 
@@ -226,9 +231,11 @@ same_shape p q is = record {
   byte2 = ap (λ (xs : List ℕ). get_or xs 2 0) is;
   byte4 = ap (λ (xs : List ℕ). get_or xs 4 0) is;
   byte5 = ap (λ (xs : List ℕ). get_or xs 5 0) is;
+  byte6 = ap (λ (xs : List ℕ). get_or xs 6 0) is;
+  byte7 = ap (λ (xs : List ℕ). get_or xs 7 0) is;
   byte8 = ap (λ (xs : List ℕ). get_or xs 8 0) is;
-  byte9 = ap (λ (xs : List ℕ). get_or xs 9 0) is;
-  byte11 = ap (λ (xs : List ℕ). get_or xs 11 0) is;
+  byte9 = λ _. ap (λ (xs : List ℕ). get_or xs 9 0) is;
+  byte11 = λ _. ap (λ (xs : List ℕ). get_or xs 11 0) is;
   offset = λ _ _. ap (λ (xs : List ℕ). get_or xs (segment_at p + 12) 0) is;
   control = λ _ _. ap (λ (xs : List ℕ). get_or xs (segment_at p + 13) 0) is;
 }

@@ -1,24 +1,24 @@
 -- The sealed frame's checksums are right where the frame's were, and nothing but fields changed.
-use Rattle.std.proofs.Common.{◌≡◌, ◌≢◌, ◌≤◌, ◌<◌, ◌+◌, ◌-◌, ◌*◌, ◌%◌, ◌∙◌, ℕ, List, [], ◌∷◌, sum, length, take, drop, get_or, length-drop, Bool, true, false, ◌&&◌, sym, ap, refl, arith, subst, ⊎_elim, inl, inr}
-use Rattle.std.specs.Prelude.{IfSome, Option, Some, None, IsSome, is_some, if◌then◌else◌, nat_le, ◌==◌}
-use Rattle.std.proofs.lemmas.Bool.{and_from, and_parts, cases_lt, cases_Bool, eq-eqb, false≢true}
-use Rattle.std.proofs.lemmas.Option.{cond_some}
+use Rattle.std.proofs.Common.{◌≡◌, ◌≢◌, ◌≤◌, ◌<◌, ◌+◌, ◌-◌, ◌∙◌, ℕ, List, [], ◌∷◌, sum, length, take, drop, get_or, length-drop, Bool, true, false, ◌&&◌, ◌||◌, sym, ap, refl, arith, subst, ⊎_elim, inl, inr}
+use Rattle.std.specs.Prelude.{IfSome, Option, Some, None, IsSome, is_some, if◌then◌else◌, ◌==◌}
+use Rattle.std.proofs.lemmas.Bool.{and_from, or_left, or_right, or_cases, cases_lt, eq-eqb, false≢true}
 use Rattle.packet_fields.specs.Frames.{word, packet_at, packet, tags_of}
-use Rattle.packet_fields.specs.Packets.{is_ipv4, header_len, segment_at, data_span, protocol, total_len, control_bits, header_sum_at, checksum_at, segment_sum_at}
+use Rattle.packet_fields.specs.Packets.{is_ipv4, is_ipv6, has_header, header_len, segment_at, data_span, protocol, total_len, control_bits, header_sum_at, checksum_at, segment_sum_at}
 use Rattle.packet_fields.specs.Fields.{bytes_at, span, packet_span}
 use Rattle.packet_fields.specs.Writing.{overwritten, put, Fits, put_some, written_in, all_fields, AllFit, rest_of}
-use Rattle.packet_fields.specs.Checksums.{folded, words, word_bytes, adjusted, header_words, word_put, header_sealed, segment_checksum, segment_sealed, same_span, same_number, has_same_places, packet_sealed, sealed, IsRight, IsBytes, header_of, HasRightSums}
+use Rattle.packet_fields.specs.Checksums.{folded, words, word_bytes, adjusted, header_words, word_put, header_sealed, segment_checksum, segment_sealed, same_span, same_number, has_same_version, has_same_places, packet_sealed, sealed, IsRight, IsBytes, header_of, HasRightSums}
 use Rattle.packet_fields.specs.declared.field.Field.{Field}
 use Rattle.packet_fields.specs.declared.field.Field.TheVariants.{LinkDst, LinkSrc, Tag, Tos, Ttl, SrcIp, DstIp, SrcPort, DstPort, Payload}
 use Rattle.packet_fields.specs.declared.plan.Span.{Span}
-use Rattle.packet_fields.proofs.Overwriting.{cong2, bytes_before, bytes_behind, get_or-before}
-use Rattle.packet_fields.proofs.Shapes.{is_ipv4-transport, SameShape, InBounds, bounds_at, inside_at, shape_kept, Apart, bytes_apart, packet_span-same, is_ipv4-same, has_transport-same, segment_at-same, is_udp-same, is_tcp-same, total_len-same, protocol-same, control_bits-same, header_sum_at-same, segment_sum_at-same}
+use Rattle.packet_fields.proofs.Overwriting.{cong2, bytes_before, bytes_behind}
+use Rattle.packet_fields.proofs.Versions.{numbers, transport_parts}
+use Rattle.packet_fields.proofs.Shapes.{SameShape, InBounds, bounds_at, inside_at, shape_kept, Apart, bytes_apart, packet_span-same, is_ipv6-same, SameHeader, same_header, has_transport-same, segment_at-same, is_udp-same, is_tcp-same, total_len-same, protocol-same, control_bits-same, header_sum_at-same, segment_sum_at-same}
 use Rattle.packet_fields.proofs.Framing.{parts}
 use Rattle.packet_fields.proofs.OverwrittenField.{lies_at, link_packet, writes_packet, InPacketAt}
 use Rattle.packet_fields.proofs.Puts.{puts_at, put_is, retagged, long_from_tags}
 use Rattle.packet_fields.proofs.Walk.{all_fit_after, blanks, blanks_fit}
-use Rattle.packet_fields.proofs.Sealed.{same_places, after_header, header_keeps, segment_keeps, sealed_parts, sealed_short, sealed_none, is_ipv4-nil, shape_trans, shape_refl, payload_apart, header_sum_is}
-use Rattle.packet_fields.proofs.ChecksumSteps.{HasSum, has_sum}
+use Rattle.packet_fields.proofs.Sealed.{same_places, after_header, header_keeps, header_put_keeps, segment_keeps, segment_put_keeps, sealed_parts, sealed_short, sealed_none, has_header-nil, shape_trans, shape_refl, payload_apart}
+use Rattle.packet_fields.proofs.ChecksumSteps.{header_sum_is, HasSum, has_sum}
 use Rattle.packet_fields.proofs.TagWalk.{packet_at-short}
 use Rattle.packet_fields.proofs.Rightness.{bytes-drop}
 use Rattle.packet_fields.proofs.RightSums.{header_stays_right}
@@ -96,6 +96,7 @@ shape_back p q r one two =
     let uq = is_udp-same q r two in
     let c = is_tcp-same p r one in
     let cq = is_tcp-same q r two in
+    let six : is_ipv6 q ≡ is_ipv6 p = sym (is_ipv6-same q r two) ∙ is_ipv6-same p r one in
     let a : segment_at q ≡ segment_at p = sym (segment_at-same q r two) ∙ segment_at-same p r one in
     record {
       len = sym two.len ∙ one.len;
@@ -104,9 +105,11 @@ shape_back p q r one two =
       byte2 = sym two.byte2 ∙ one.byte2;
       byte4 = sym two.byte4 ∙ one.byte4;
       byte5 = sym two.byte5 ∙ one.byte5;
+      byte6 = sym two.byte6 ∙ one.byte6;
+      byte7 = sym two.byte7 ∙ one.byte7;
       byte8 = sym two.byte8 ∙ one.byte8;
-      byte9 = sym two.byte9 ∙ one.byte9;
-      byte11 = sym two.byte11 ∙ one.byte11;
+      byte9 = λ four. sym (two.byte9 (six ∙ four)) ∙ one.byte9 four;
+      byte11 = λ four. sym (two.byte11 (six ∙ four)) ∙ one.byte11 four;
       offset = λ there not_udp. subst (λ (n : ℕ). get_or q (n + 12) 0 ≡ get_or r (n + 12) 0) a (sym (two.offset (sym tq ∙ (t ∙ there)) (sym uq ∙ (u ∙ not_udp)))) ∙ one.offset there not_udp;
       control = λ there tcp. subst (λ (n : ℕ). get_or q (n + 13) 0 ≡ get_or r (n + 13) 0) a (sym (two.control (sym tq ∙ (t ∙ there)) (sym cq ∙ (c ∙ tcp)))) ∙ one.control there tcp;
     }
@@ -139,19 +142,24 @@ all7 ea eb ec ed ee ef eg = cc
 all5 : {a b c d e : Bool} → a ≡ true → b ≡ true → c ≡ true → d ≡ true → e ≡ true → (a && (b && (c && (d && e)))) ≡ true
 all5 ea eb ec ed ee = cc
 
-all6 : {a b c d e f : Bool} → a ≡ true → b ≡ true → c ≡ true → d ≡ true → e ≡ true → f ≡ true → (a && (b && (c && (d && (e && f))))) ≡ true
-all6 ea eb ec ed ee ef = cc
-
 spans_equal : (f : Field) (p q : List ℕ) → SameShape p q → same_span (packet_span f p) (packet_span f q) ≡ true
 spans_equal f p q s = ap (λ (o : Option Span). same_span (packet_span f p) o) (packet_span-same f p q s) ∙ span_refl (packet_span f p)
 
 numbers_equal : (m n : Option ℕ) → n ≡ m → same_number m n ≡ true
 numbers_equal m n is = ap (λ (o : Option ℕ). same_number m o) is ∙ number_refl m
 
-pub places_same : (p q : List ℕ) → is_ipv4 p ≡ true → SameShape p q → has_same_places p q ≡ true
+version_equal : (p q : List ℕ) → has_header p ≡ true → SameHeader p q → has_same_version p q ≡ true
+version_equal p q there h =
+    ⊎_elim
+    (λ (four : is_ipv4 p ≡ true). or_left (is_ipv4 p && is_ipv4 q) (is_ipv6 p && is_ipv6 q) (and_from (is_ipv4 p) (is_ipv4 q) four (h.four ∙ four)))
+    (λ (six : is_ipv6 p ≡ true). or_right (is_ipv4 p && is_ipv4 q) (is_ipv6 p && is_ipv6 q) (and_from (is_ipv6 p) (is_ipv6 q) six (h.six ∙ six)))
+    (or_cases (is_ipv4 p) (is_ipv6 p) there)
+
+pub places_same : (p q : List ℕ) → has_header p ≡ true → SameShape p q → has_same_places p q ≡ true
 unfolding has_same_places
 places_same p q there s =
-    all6 there (is_ipv4-same p q s ∙ there) (eq-eqb (length p) (length q) (sym s.len)) (eq-eqb (header_len p) (header_len q) (sym (ap (λ (n : ℕ). 4 * (n % 16)) s.byte2)))
+    let h = same_header p q s in
+    all5 (version_equal p q there h) (eq-eqb (length p) (length q) (sym s.len)) (eq-eqb (header_len p) (header_len q) (sym h.header))
     (all7 (spans_equal Tos p q s) (spans_equal Ttl p q s) (spans_equal SrcIp p q s) (spans_equal DstIp p q s) (numbers_equal (protocol p) (protocol q) (protocol-same p q s)) (numbers_equal (total_len p) (total_len q) (total_len-same p q s)) (numbers_equal (header_sum_at p) (header_sum_at q) (header_sum_at-same p q s)))
     (all5 (spans_equal SrcPort p q s) (spans_equal DstPort p q s) (spans_equal Payload p q s) (numbers_equal (control_bits p) (control_bits q) (control_bits-same p q s)) (numbers_equal (segment_sum_at p) (segment_sum_at q) (segment_sum_at-same p q s)))
 
@@ -161,10 +169,10 @@ first_apart LinkDst p at s h b = absurd b
 first_apart LinkSrc p at s h b = absurd b
 first_apart Tag p at s h b = absurd b
 first_apart Payload p at s h b = let far = payload_apart p at s h b in inr (omega (arith, far, h.behind))
-first_apart Tos p at s h b = inl (omega (arith, h.far))
-first_apart Ttl p at s h b = inl (omega (arith, h.far))
-first_apart SrcIp p at s h b = inl (omega (arith, h.far))
-first_apart DstIp p at s h b = inl (omega (arith, h.far))
+first_apart Tos p at s h b = let n = numbers p in inl (omega (arith, h.ends))
+first_apart Ttl p at s h b = let n = numbers p in inl (omega (arith, h.ends))
+first_apart SrcIp p at s h b = let n = numbers p in inl (omega (arith, h.ends))
+first_apart DstIp p at s h b = let n = numbers p in inl (omega (arith, h.ends))
 first_apart SrcPort p at s h b = inl (omega (arith, h.far))
 first_apart DstPort p at s h b = inl (omega (arith, h.far))
 
@@ -173,10 +181,10 @@ second_apart LinkDst p at s h b far = absurd b
 second_apart LinkSrc p at s h b far = absurd b
 second_apart Tag p at s h b far = absurd b
 second_apart Payload p at s h b far = inr (far refl)
-second_apart Tos p at s h b far = inl (omega (arith, h.far, h.behind))
-second_apart Ttl p at s h b far = inl (omega (arith, h.far, h.behind))
-second_apart SrcIp p at s h b far = inl (omega (arith, h.far, h.behind))
-second_apart DstIp p at s h b far = inl (omega (arith, h.far, h.behind))
+second_apart Tos p at s h b far = let n = numbers p in inl (omega (arith, h.ends, h.behind))
+second_apart Ttl p at s h b far = let n = numbers p in inl (omega (arith, h.ends, h.behind))
+second_apart SrcIp p at s h b far = let n = numbers p in inl (omega (arith, h.ends, h.behind))
+second_apart DstIp p at s h b far = let n = numbers p in inl (omega (arith, h.ends, h.behind))
 second_apart SrcPort p at s h b far = inl (omega (arith, h.far, h.behind))
 second_apart DstPort p at s h b far = inl (omega (arith, h.far, h.behind))
 
@@ -191,19 +199,19 @@ payload_end p at f s h found is =
 same_head : (before after : List ℕ) (at : ℕ) → rest_of before ≡ rest_of after → HasSum (packet before) at → SameHead (packet before) (packet after) at (data_span (packet before))
 same_head before after at same h =
     let p = packet before in
-    let shape = same_rest_shape before after same in
+    let header = same_header (packet before) (packet after) (same_rest_shape before after same) in
     record {
-      kind = shape.byte11;
-      total = cong2 (λ (a b : ℕ). a * 256 + b) shape.byte4 shape.byte5;
+      kind = header.kind;
+      total = header.total;
       first = same_rest_part before after (record { at = segment_at p + 4; len = at - (segment_at p + 4) }) same (λ f s found. first_apart f p at s h (bounds_at f p s found));
       second = same_rest_part before after (record { at = at + 2; len = head_end p (data_span p) - (at + 2) }) same (λ f s found. second_apart f p at s h (bounds_at f p s found) (λ is. payload_end p at f s h found is));
     }
 
 -- sealing the header leaves what lies behind it
-head_behind : (p q : List ℕ) (at : ℕ) (o : Option Span) (n : ℕ) → 22 ≤ segment_at p → segment_at p + 6 ≤ at → 14 ≤ length q → SameHead p q at o → SameHead p (overwritten 12 (word_bytes n) q) at o
-head_behind p q at o n far behind long head = record {
-  kind = get_or-before 12 (word_bytes n) q 11 0 long (omega arith) ∙ head.kind;
-  total = cong2 (λ (a b : ℕ). a * 256 + b) (get_or-before 12 (word_bytes n) q 4 0 long (omega arith)) (get_or-before 12 (word_bytes n) q 5 0 long (omega arith)) ∙ head.total;
+head_behind : (p q : List ℕ) (at : ℕ) (o : Option Span) (n : ℕ) → 22 ≤ segment_at p → segment_at p + 6 ≤ at → 14 ≤ length q → SameHeader q (overwritten 12 (word_bytes n) q) → SameHead p q at o → SameHead p (overwritten 12 (word_bytes n) q) at o
+head_behind p q at o n far behind long header head = record {
+  kind = header.kind ∙ head.kind;
+  total = header.total ∙ head.total;
   first = bytes_behind 12 (word_bytes n) q (segment_at p + 4) (at - (segment_at p + 4)) long (omega arith) ∙ head.first;
   second = bytes_behind 12 (word_bytes n) q (at + 2) (head_end p o - (at + 2)) long (omega arith) ∙ head.second;
 }
@@ -216,7 +224,7 @@ header_of_kept q (Some at) n is =
     let far = s.far in
     let behind = s.behind in
     let inside : at + 2 ≤ length q = let i = s.inside in omega arith in
-    let len : header_len (overwritten at (word_bytes n) q) ≡ header_len q = ap (λ (b : ℕ). 4 * (b % 16)) (get_or-before at (word_bytes n) q 2 0 inside (omega arith)) in
+    let len : header_len (overwritten at (word_bytes n) q) ≡ header_len q = (same_header q (overwritten at (word_bytes n) q) (segment_put_keeps q (Some at) n is).shape).header in
     ap (λ (h : ℕ). take h (drop 2 (overwritten at (word_bytes n) q))) len ∙ bytes_before at (word_bytes n) q 2 (header_len q) inside (omega arith)
 
 -- the sums of two packets of one shape
@@ -237,7 +245,7 @@ sealed_header_right p q test bytes right there =
     let at = some_at (header_sum_at p) (ap (λ (o : Option ℕ). is_some o) same.header_sum ∙ there) in
     let h = header_sum_is p at.0 at.1 in
     let after = after_header p q (header_sealed p q) test refl in
-    let stays = header_stays_right p q same bytes h.1 (right.header (ap (λ (o : Option ℕ). is_some o) at.1)) in
+    let stays = header_stays_right p q same h.2 bytes h.1 (right.header (ap (λ (o : Option ℕ). is_some o) at.1)) in
     let kept : header_of (segment_sealed p (header_sealed p q)) ≡ header_of (header_sealed p q) = header_of_kept (header_sealed p q) (segment_sum_at p) (segment_checksum p (header_sealed p q)) (sym after.segment_sum) in
     ap (λ (xs : List ℕ). folded (sum (words xs))) kept ∙ stays
 
@@ -245,7 +253,8 @@ header_head : (p q : List ℕ) (at : ℕ) (o : Option Span) (place : Option ℕ)
 header_head p q at o None is far behind head n = head
 header_head p q at o (Some k) is far behind head n =
     let h = header_sum_is q k is in
-    subst (λ (j : ℕ). SameHead p (overwritten j (word_bytes n) q) at o) (sym h.0) (head_behind p q at o n far behind h.1 head)
+    let shape : SameShape q (overwritten 12 (word_bytes n) q) = subst (λ (j : ℕ). SameShape q (overwritten j (word_bytes n) q)) h.0 (header_put_keeps q (Some k) n is).shape in
+    subst (λ (j : ℕ). SameHead p (overwritten j (word_bytes n) q) at o) (sym h.0) (head_behind p q at o n far behind h.1 (same_header q (overwritten 12 (word_bytes n) q) shape) head)
 
 sealed_segment_right : (p q : List ℕ) → has_same_places p q ≡ true → SameShape p q → IsBytes p → RightPacket p → ((at : ℕ) → HasSum p at → SameHead p q at (data_span p)) → IsSome (segment_sum_at q) → IsRightSegment (segment_sealed p (header_sealed p q)) (checksum_at p)
 sealed_segment_right p q test shape bytes right heads there =
@@ -257,15 +266,11 @@ sealed_segment_right p q test shape bytes right heads there =
     let head = header_head p q (checksum_at p) (data_span p) (header_sum_at p) (sym same.header_sum) here.far here.behind (heads (checksum_at p) here) (adjusted (word p 12) (header_words p) (header_words q)) in
     segment_stays_right p (header_sealed p q) is_at (after_header p q (header_sealed p q) test refl) bytes head (right.segment (ap (λ (o : Option ℕ). is_some o) is_at))
 
-ipv4_from_header : (q : List ℕ) (at : ℕ) → header_sum_at q ≡ Some at → is_ipv4 q ≡ true
-ipv4_from_header q at is = (and_parts (is_ipv4 q) (nat_le 14 (length q)) (cond_some (is_ipv4 q && nat_le 14 (length q)) 12 at is).0).0
-
-right_sealed : (b : Bool) (p q : List ℕ) → has_same_places p q ≡ b → (is_ipv4 q ≡ true → b ≡ true) → SameShape p q → IsBytes p → RightPacket p → ((at : ℕ) → HasSum p at → SameHead p q at (data_span p)) → RightPacket (if b then segment_sealed p (header_sealed p q) else q)
+right_sealed : (b : Bool) (p q : List ℕ) → has_same_places p q ≡ b → (has_header q ≡ true → b ≡ true) → SameShape p q → IsBytes p → RightPacket p → ((at : ℕ) → HasSum p at → SameHead p q at (data_span p)) → RightPacket (if b then segment_sealed p (header_sealed p q) else q)
 right_sealed false p q test must shape bytes right heads =
-    let none : is_ipv4 q ≡ false = ⊎_elim (λ (there : is_ipv4 q ≡ true). absurd (false≢true (must there))) (λ (none : is_ipv4 q ≡ false). none) (cases_Bool (is_ipv4 q)) in
     record {
-      header = λ there. let at = some_at (header_sum_at q) there in absurd (false≢true (sym none ∙ ipv4_from_header q at.0 at.1));
-      segment = λ there. let at = some_at (segment_sum_at q) there in absurd (false≢true (sym none ∙ is_ipv4-transport q (has_sum q at.0 at.1).transport));
+      header = λ there. let at = some_at (header_sum_at q) there in absurd (false≢true (must (or_left (is_ipv4 q) (is_ipv6 q) (header_sum_is q at.0 at.1).2)));
+      segment = λ there. let at = some_at (segment_sum_at q) there in absurd (false≢true (must (transport_parts q (has_sum q at.0 at.1).transport).header));
     }
 right_sealed true p q test must shape bytes right heads =
     let r = segment_sealed p (header_sealed p q) in
@@ -282,12 +287,12 @@ sealed_packet before after =
     ⊎_elim
     (λ (short : length after < 14).
     let none : length (packet after) ≡ 0 = omega (arith, length-drop (packet_at after) after, packet_at-short after short) in
-    ap (λ (xs : List ℕ). packet xs) (sealed_short before after short) ∙ sym (sealed_none (packet before) (packet after) (is_ipv4-nil (packet after) none)))
+    ap (λ (xs : List ℕ). packet xs) (sealed_short before after short) ∙ sym (sealed_none (packet before) (packet after) (has_header-nil (packet after) none)))
     (λ (long : 14 ≤ length after). (sealed_parts before after long).packet_is)
     (cases_lt (length after) 14)
 
-ipv4_back : (p q : List ℕ) → SameShape p q → is_ipv4 q ≡ true → has_same_places p q ≡ true
-ipv4_back p q s there = places_same p q (sym (is_ipv4-same p q s) ∙ there) s
+header_back : (p q : List ℕ) → SameShape p q → has_header q ≡ true → has_same_places p q ≡ true
+header_back p q s there = let h = same_header p q s in places_same p q (sym (cong2 (λ (a b : Bool). a || b) h.four h.six) ∙ there) s
 
 -- where a frame's checksums are right, those of the sealed frame are, if the two differ in their fields alone
 pub right_sums-sealed : (before after : List ℕ) → IsBytes before → rest_of before ≡ rest_of after → HasRightSums before → HasRightSums (sealed before after)
@@ -295,6 +300,6 @@ right_sums-sealed before after bytes same right =
     let p = packet before in
     let q = packet after in
     let shape = same_rest_shape before after same in
-    let r = right_sealed (has_same_places p q) p q refl (ipv4_back p q shape) shape (bytes-drop (packet_at before) before bytes) (record { header = right.header; segment = right.segment }) (λ at h. same_head before after at same h) in
+    let r = right_sealed (has_same_places p q) p q refl (header_back p q shape) shape (bytes-drop (packet_at before) before bytes) (record { header = right.header; segment = right.segment }) (λ at h. same_head before after at same h) in
     let whole : RightPacket (packet (sealed before after)) = subst (λ (xs : List ℕ). RightPacket xs) (sym (sealed_packet before after)) r in
     record { header = whole.header; segment = whole.segment }

@@ -1,18 +1,20 @@
 -- The sum of a TCP segment or UDP datagram in its parts, and a right checksum that stays right.
-use Rattle.std.proofs.Common.{lit<, ◌≡◌, ◌≤◌, ◌<◌, ◌+◌, ◌-◌, ◌*◌, ◌%◌, ◌∙◌, ℕ, List, [], ◌∷◌, ◌++◌, sum, length, take, drop, get_or, length-append, Bool, true, false, ◌&&◌, ◌||◌, min, sym, ap, refl, arith, subst, ⊎_elim, ◌⊎◌, inl, inr}
+use Rattle.std.proofs.Common.{lit<, ◌≡◌, ◌≤◌, ◌<◌, ◌+◌, ◌-◌, ◌*◌, ◌%◌, ◌∙◌, ℕ, List, [], ◌∷◌, ◌++◌, sum, length, take, drop, length-append, Bool, true, false, ◌&&◌, ◌||◌, min, sym, ap, refl, arith, subst, ⊎_elim, ◌⊎◌, inl, inr}
 use Rattle.std.specs.Prelude.{Option, Some, None, if◌then◌else◌, nat_le, nat_lt, ◌==◌}
 use Rattle.std.proofs.lemmas.Bool.{and_parts, or_cases, cases_Bool, cases_eq, leb-true, eqb-true, ne_eqb, eq-eqb, cond-true, cond-false, cond_both, false≢true}
 use Rattle.std.proofs.lemmas.List.{drop-drop, append-nil}
 use Rattle.std.proofs.lemmas.Option.{cond_some}
 use Rattle.packet_fields.specs.Frames.{word}
-use Rattle.packet_fields.specs.Packets.{is_ipv4, has_transport, header_len, is_tcp, is_udp, segment_at, datagram_end, data_offset, data_at, has_data, data_span, checksum_at, segment_sum_at}
-use Rattle.packet_fields.specs.Checksums.{words, word_bytes, folded, adjusted, udp_adjusted, data_of, segment_words, word_put, segment_checksum, segment_sealed, IsRight, IsBytes, segment_of, pseudo_header}
+use Rattle.packet_fields.specs.Packets.{in_header, header_byte, has_transport, header_len, address_len, source_at, protocol_at, datagram_len, is_tcp, is_udp, segment_at, datagram_end, data_offset, data_at, has_data, data_span, checksum_at, segment_sum_at}
+use Rattle.packet_fields.specs.Fields.{bytes_at}
+use Rattle.packet_fields.specs.Checksums.{words, word_bytes, folded, adjusted, udp_adjusted, addresses_of, data_of, segment_words, word_put, segment_checksum, segment_sealed, IsRight, IsBytes, segment_of, pseudo_header}
 use Rattle.packet_fields.specs.Writing.{overwritten}
 use Rattle.packet_fields.specs.declared.plan.Span.{Span}
 use Rattle.packet_fields.proofs.Overwriting.{cong2, cong3, bytes_before, bytes_behind}
-use Rattle.packet_fields.proofs.Shapes.{SameShape, segment_at-same, datagram_end-same, data_span-same, segment_sum_at-same, is_udp-same}
+use Rattle.packet_fields.proofs.Versions.{numbers, transport_parts}
+use Rattle.packet_fields.proofs.Shapes.{SameShape, is_ipv6-same, same_header, segment_at-same, datagram_end-same, data_span-same, segment_sum_at-same, is_udp-same}
 use Rattle.packet_fields.proofs.Sealed.{SameSegment, segment_keeps}
-use Rattle.packet_fields.proofs.ChecksumSteps.{HasSum, has_sum, same_part, part_len}
+use Rattle.packet_fields.proofs.ChecksumSteps.{HasSum, has_sum, same_part, part_len, addresses_at-same}
 use Rattle.packet_fields.proofs.WordSums.{same_words_len}
 use Rattle.packet_fields.proofs.Rightness.{all_words, sum-cons, sum-append, adjusted_right, right_from}
 use Rattle.packet_fields.proofs.RightSums.{cut_at, sum-even, sum-word, bytes-append, part_bytes, word_small, word_there, adjusted_small}
@@ -87,7 +89,7 @@ data_at_sum p at (Some d) s is =
 
 -- the sum of a segment: its checksum, what a network function can write, and the others
 abbrev others : List ℕ → ℕ → Option Span → ℕ
-others p at o = get_or p 11 0 + ((word p 4 - header_len p) + (sum (words (take (at - (segment_at p + 4)) (drop (segment_at p + 4) p))) + sum (words (take (head_end p o - (at + 2)) (drop (at + 2) p)))))
+others p at o = header_byte p (protocol_at p) + ((datagram_len p - header_len p) + (sum (words (take (at - (segment_at p + 4)) (drop (segment_at p + 4) p))) + sum (words (take (head_end p o - (at + 2)) (drop (at + 2) p)))))
 
 plus_none : (n : ℕ) → n ≡ n + sum (words [])
 unfolding words
@@ -126,6 +128,9 @@ even_first p at is =
     ap (λ (n : ℕ). (n - (segment_at p + 4)) % 2) is
     ∙ cond_both (is_udp p) (segment_at p + 6) (segment_at p + 16) (λ (n : ℕ). (n - (segment_at p + 4)) % 2 ≡ 0) (λ _. two_of (segment_at p)) (λ _. twelve_of (segment_at p))
 
+even_twice : (n : ℕ) → (2 * n) % 2 ≡ 0
+even_twice n = omega arith
+
 segment_total : (p : List ℕ) (at : ℕ) (o : Option Span) → HasSum p at → data_span p ≡ o → sum (pseudo_header p ++ words (segment_of p)) ≡ word p at + (sum (segment_words p) + others p at o)
 segment_total p at o s is =
     let d = data_at_sum p at o s is in
@@ -136,7 +141,9 @@ segment_total p at o s is =
     let behind = s.behind in
     let inside = s.inside in
     let below : end ≤ length p = omega arith in
-    let a8 = take 8 (drop 14 p) in
+    let n = numbers p in
+    let ends = s.ends in
+    let both = addresses_of p in
     let p4 = take 4 (drop start p) in
     let f = take (at - (start + 4)) (drop (start + 4) p) in
     let w = take 2 (drop at p) in
@@ -148,7 +155,7 @@ segment_total p at o s is =
     let cut4 : take (end - (at + 2)) (drop (at + 2) p) ≡ s2 ++ d2 = cut_from (at + 2) he end p d.behind d.ends in
     let split : segment_of p ≡ p4 ++ (f ++ (w ++ (s2 ++ d2))) = cut1 ∙ ap (λ (xs : List ℕ). p4 ++ xs) (cut2 ∙ ap (λ (xs : List ℕ). f ++ xs) (cut3 ∙ ap (λ (xs : List ℕ). w ++ xs) cut4)) in
     let four : length p4 ≡ 4 = part_len 4 start p (omega arith) in
-    let eight : length a8 ≡ 8 = part_len 8 14 p (omega arith) in
+    let whole_words : length both % 2 ≡ 0 = ap (λ (n : ℕ). n % 2) (part_len (2 * address_len p) (in_header (source_at p)) p (omega arith)) ∙ even_twice (address_len p) in
     let f_len : length f ≡ at - (start + 4) = part_len (at - (start + 4)) (start + 4) p (omega arith) in
     let s_len : length s2 ≡ he - (at + 2) = part_len (he - (at + 2)) (at + 2) p (omega (arith, d.behind, d.ends)) in
     let e1 = sum-even p4 (f ++ (w ++ (s2 ++ d2))) (ap (λ (n : ℕ). n % 2) four) in
@@ -156,10 +163,10 @@ segment_total p at o s is =
     let e3 = sum-word p at (s2 ++ d2) (omega arith) in
     let e4 = sum_last s2 d2 (last_even (length s2) (he - (at + 2)) d2 (data_of p o) s_len d.data_is d.even) in
     let seg = ap (λ (xs : List ℕ). sum (words xs)) split in
-    let ps = sum-cons (get_or p 11 0) ((word p 4 - header_len p) ∷ words a8) in
-    let ps2 = sum-cons (word p 4 - header_len p) (words a8) in
+    let ps = sum-cons (header_byte p (protocol_at p)) ((datagram_len p - header_len p) ∷ words both) in
+    let ps2 = sum-cons (datagram_len p - header_len p) (words both) in
     let whole = sum-append (pseudo_header p) (words (segment_of p)) in
-    let written = sum-even a8 (p4 ++ data_of p (data_span p)) (ap (λ (n : ℕ). n % 2) eight) in
+    let written = sum-even both (p4 ++ data_of p (data_span p)) whole_words in
     let written2 = sum-even p4 (data_of p (data_span p)) (ap (λ (n : ℕ). n % 2) four) in
     let payload = ap (λ (x : Option Span). sum (words (data_of p x))) is ∙ ap (λ (xs : List ℕ). sum (words xs)) d.data_is in
     omega (arith, whole, ps, ps2, seg, e1, e2, e3, e4, written, written2, payload)
@@ -173,7 +180,9 @@ segment_words_kept q at n o s is shape =
     let inside : at + 2 ≤ length q = let i = s.inside in omega arith in
     let r = overwritten at (word_bytes n) q in
     let ports : take 4 (drop (segment_at r) r) ≡ take 4 (drop (segment_at q) q) = ap (λ (k : ℕ). take 4 (drop k r)) (segment_at-same q r shape) ∙ bytes_before at (word_bytes n) q (segment_at q) 4 inside (omega arith) in
-    let addresses : take 8 (drop 14 r) ≡ take 8 (drop 14 q) = bytes_before at (word_bytes n) q 14 8 inside (omega arith) in
+    let k = numbers q in
+    let ends = s.ends in
+    let addresses : addresses_of r ≡ addresses_of q = ap (λ (x : Span). bytes_at r x) (addresses_at-same r q (is_ipv6-same q r shape)) ∙ bytes_before at (word_bytes n) q (in_header (source_at q)) (2 * address_len q) inside (omega arith) in
     let payload : data_of r (data_span r) ≡ data_of q (data_span q) = ap (λ (x : Option Span). data_of r x) (data_span-same q r shape ∙ is) ∙ (data_kept q at n o inside d.behind ∙ sym (ap (λ (x : Option Span). data_of q x) is)) in
     cong3 (λ (a b c : List ℕ). words (a ++ (b ++ c))) addresses ports payload
 
@@ -188,13 +197,14 @@ others_kept q at n o s is shape =
     ap (λ (k : ℕ). take (at - (k + 4)) (drop (k + 4) r)) (segment_at-same q r shape) ∙ bytes_before at (word_bytes n) q (segment_at q + 4) (at - (segment_at q + 4)) inside (omega arith) in
     let second : take (head_end r o - (at + 2)) (drop (at + 2) r) ≡ take (head_end q o - (at + 2)) (drop (at + 2) q) =
     ap (λ (k : ℕ). take (k - (at + 2)) (drop (at + 2) r)) (head_end_kept q r o shape) ∙ bytes_behind at (word_bytes n) q (at + 2) (head_end q o - (at + 2)) inside (omega arith) in
-    let total : word r 4 - header_len r ≡ word q 4 - header_len q = cong3 (λ (a b c : ℕ). a * 256 + b - 4 * (c % 16)) shape.byte4 shape.byte5 shape.byte2 in
-    cong2 (λ (a b : ℕ). a + b) shape.byte11 (cong2 (λ (a b : ℕ). a + b) total (cong2 (λ (xs ys : List ℕ). sum (words xs) + sum (words ys)) first second))
+    let h = same_header q r shape in
+    let total : datagram_len r - header_len r ≡ datagram_len q - header_len q = cong2 (λ (a b : ℕ). a - b) h.total h.header in
+    cong2 (λ (a b : ℕ). a + b) h.kind (cong2 (λ (a b : ℕ). a + b) total (cong2 (λ (xs ys : List ℕ). sum (words xs) + sum (words ys)) first second))
 
 -- two packets whose transport headers differ in their ports and checksums alone
 pub record SameHead (p q : List ℕ) (at : ℕ) (o : Option Span) : Type 0 where
-  pub kind : get_or q 11 0 ≡ get_or p 11 0
-  pub total : word q 4 ≡ word p 4
+  pub kind : header_byte q (protocol_at q) ≡ header_byte p (protocol_at p)
+  pub total : datagram_len q ≡ datagram_len p
   pub first : take (at - (segment_at p + 4)) (drop (segment_at p + 4) q) ≡ take (at - (segment_at p + 4)) (drop (segment_at p + 4) p)
   pub second : take (head_end p o - (at + 2)) (drop (at + 2) q) ≡ take (head_end p o - (at + 2)) (drop (at + 2) p)
 
@@ -214,16 +224,12 @@ new_small : (udp : Bool) (w adj : ℕ) → adj ≤ 0xffff → (if udp then (if w
 new_small false w adj small = small
 new_small true w adj small = cond_both (w == 0) 0 (if adj == 0 then 0xffff else adj) (λ (n : ℕ). n ≤ 0xffff) (λ _. omega arith) (λ _. cond_both (adj == 0) 0xffff adj (λ (n : ℕ). n ≤ 0xffff) (λ _. omega arith) (λ _. small))
 
-proto_some : (p : List ℕ) → has_transport p ≡ true → 0 < get_or p 11 0
-unfolding has_transport
+proto_some : (p : List ℕ) → has_transport p ≡ true → 0 < header_byte p (protocol_at p)
 proto_some p there =
-    let r1 = (and_parts (is_ipv4 p) (nat_lt 11 (length p) && ((is_tcp p || is_udp p) && ((word p 8 % 8192 == 0) && nat_le (header_len p) (word p 4)))) there).1 in
-    let r2 = (and_parts (nat_lt 11 (length p)) ((is_tcp p || is_udp p) && ((word p 8 % 8192 == 0) && nat_le (header_len p) (word p 4))) r1).1 in
-    let kind = (and_parts (is_tcp p || is_udp p) ((word p 8 % 8192 == 0) && nat_le (header_len p) (word p 4)) r2).0 in
     ⊎_elim
-    (λ (tcp : is_tcp p ≡ true). let k = eqb-true (get_or p 11 0) 6 tcp in omega arith)
-    (λ (udp : is_udp p ≡ true). let k = eqb-true (get_or p 11 0) 17 udp in omega arith)
-    (or_cases (is_tcp p) (is_udp p) kind)
+    (λ (tcp : is_tcp p ≡ true). let k = eqb-true (header_byte p (protocol_at p)) 6 tcp in omega arith)
+    (λ (udp : is_udp p ≡ true). let k = eqb-true (header_byte p (protocol_at p)) 17 udp in omega arith)
+    (or_cases (is_tcp p) (is_udp p) (transport_parts p there).kind)
 
 data_len : (p q : List ℕ) (o : Option Span) → length p ≡ length q → length (data_of p o) ≡ length (data_of q o)
 data_len p q None same = refl
@@ -235,19 +241,19 @@ data_bytes p (Some s) bytes = part_bytes s.len s.at p bytes
 
 -- the bytes of the words that a network function can write
 abbrev written_bytes : List ℕ → List ℕ
-written_bytes p = take 8 (drop 14 p) ++ (take 4 (drop (segment_at p) p) ++ data_of p (data_span p))
+written_bytes p = addresses_of p ++ (take 4 (drop (segment_at p) p) ++ data_of p (data_span p))
 
 written_len : (p q : List ℕ) → SameSegment p q → length (written_bytes p) ≡ length (written_bytes q)
 written_len p q same =
     let start : segment_at p ≡ segment_at q = ap (λ (n : ℕ). n + 2) same.header in
-    let a = same_part 8 14 p q same.len in
+    let a : length (addresses_of p) ≡ length (addresses_of q) = same_part (2 * address_len p) (in_header (source_at p)) p q same.len ∙ ap (λ (x : Span). length (bytes_at q x)) (addresses_at-same p q same.version.six) in
     let b = same_part 4 (segment_at p) p q same.len ∙ ap (λ (n : ℕ). length (take 4 (drop n q))) start in
     let c = data_len p q (data_span p) same.len ∙ ap (λ (o : Option Span). length (data_of q o)) same.payload in
-    length-append (take 8 (drop 14 p)) (take 4 (drop (segment_at p) p) ++ data_of p (data_span p))
+    length-append (addresses_of p) (take 4 (drop (segment_at p) p) ++ data_of p (data_span p))
     ∙ (cong2 (λ (m n : ℕ). m + n) a (length-append (take 4 (drop (segment_at p) p)) (data_of p (data_span p)) ∙ (cong2 (λ (m n : ℕ). m + n) b c ∙ sym (length-append (take 4 (drop (segment_at q) q)) (data_of q (data_span q)))))
-    ∙ sym (length-append (take 8 (drop 14 q)) (take 4 (drop (segment_at q) q) ++ data_of q (data_span q))))
+    ∙ sym (length-append (addresses_of q) (take 4 (drop (segment_at q) q) ++ data_of q (data_span q))))
 
-head_end_same : (p q : List ℕ) (o : Option Span) → length p ≡ length q → word q 4 ≡ word p 4 → head_end q o ≡ head_end p o
+head_end_same : (p q : List ℕ) (o : Option Span) → length p ≡ length q → datagram_len q ≡ datagram_len p → head_end q o ≡ head_end p o
 head_end_same p q None len total = cong2 (λ (m n : ℕ). min m (n + 2)) (sym len) total
 head_end_same p q (Some s) len total = refl
 
@@ -259,7 +265,7 @@ others_same p q at o same head =
     cong2 (λ (a b : ℕ). a + b) head.kind (cong2 (λ (a b : ℕ). a + b) (cong2 (λ (a b : ℕ). a - b) head.total (sym same.header)) (cong2 (λ (xs ys : List ℕ). sum (words xs) + sum (words ys)) first second))
 
 -- in UDP no checksum stays none
-none_stays : (p q : List ℕ) → segment_sum_at p ≡ Some (checksum_at p) → SameSegment p q → get_or q 11 0 ≡ get_or p 11 0 → is_udp p ≡ true → word p (checksum_at p) ≡ 0 → IsRightSegment (segment_sealed p q) (checksum_at p)
+none_stays : (p q : List ℕ) → segment_sum_at p ≡ Some (checksum_at p) → SameSegment p q → header_byte q (protocol_at q) ≡ header_byte p (protocol_at p) → is_udp p ≡ true → word p (checksum_at p) ≡ 0 → IsRightSegment (segment_sealed p q) (checksum_at p)
 none_stays p q is_at same kind udp zero =
     let at = checksum_at p in
     let s = has_sum p at is_at in
@@ -270,6 +276,9 @@ none_stays p q is_at same kind udp zero =
     let is : segment_sealed p q ≡ overwritten at (word_bytes 0) q = ap (λ (o : Option ℕ). word_put o (segment_checksum p q) q) is_at ∙ ap (λ (n : ℕ). overwritten at (word_bytes n) q) n_is in
     let shape = (segment_keeps p q same.segment_sum).shape in
     inl (is_udp-same q (segment_sealed p q) shape ∙ (ap (λ (n : ℕ). n == 17) kind ∙ udp), ap (λ (xs : List ℕ). word xs at) is ∙ word_there at 0 q (omega arith) inside)
+
+right_total : (total n : ℕ) → total ≡ n → (k : ℕ) × (n ≡ 0xffff * k) → 0 < total → folded total ≡ 0xffff
+right_total total n is k some = right_from total k.0 (is ∙ k.1) some
 
 some_stays : (p q : List ℕ) → segment_sum_at p ≡ Some (checksum_at p) → SameSegment p q → IsBytes p → SameHead p q (checksum_at p) (data_span p) → (is_udp p ≡ true → word p (checksum_at p) ≡ 0 → ⊥) → IsRight (pseudo_header p ++ words (segment_of p)) → IsRightSegment (segment_sealed p q) (checksum_at p)
 some_stays p q is_at same bytes head some right =
@@ -289,7 +298,7 @@ some_stays p q is_at same bytes head some right =
     let total_r = segment_total r at o sr (data_span-same q r shape ∙ sym same.payload) in
     let small = word_small p at bytes in
     let c = adjusted_right w (others p at o) (segment_words p) (segment_words q) small (same_words_len (written_bytes p) (written_bytes q) (written_len p q same))
-    (all_words (written_bytes p) (bytes-append (take 8 (drop 14 p)) (take 4 (drop (segment_at p) p) ++ data_of p o) (part_bytes 8 14 p bytes) (bytes-append (take 4 (drop (segment_at p) p)) (data_of p o) (part_bytes 4 (segment_at p) p bytes) (data_bytes p o bytes))))
+    (all_words (written_bytes p) (bytes-append (addresses_of p) (take 4 (drop (segment_at p) p) ++ data_of p o) (part_bytes (2 * address_len p) (in_header (source_at p)) p bytes) (bytes-append (take 4 (drop (segment_at p) p)) (data_of p o) (part_bytes 4 (segment_at p) p bytes) (data_bytes p o bytes))))
     (ap (λ (k : ℕ). folded k) (sym total_p) ∙ right) in
     let k = new_sum (is_udp p) w adj (sum (segment_words q) + others p at o) c.0 some c.1 in
     let n_small = new_small (is_udp p) w adj (adjusted_small w (segment_words p) (segment_words q) small) in
@@ -298,7 +307,7 @@ some_stays p q is_at same bytes head some right =
     let rest = others_kept q at n o sq (sym same.payload) shape ∙ others_same p q at o same head in
     let total : sum (pseudo_header r ++ words (segment_of r)) ≡ n + (sum (segment_words q) + others p at o) = total_r ∙ cong3 (λ (a b d : ℕ). a + (b + d)) there (ap (λ (ws : List ℕ). sum ws) kept) rest in
     let proto = proto_some p s.transport in
-    inr (ap (λ (xs : List ℕ). folded (sum (pseudo_header xs ++ words (segment_of xs)))) is ∙ right_from (sum (pseudo_header r ++ words (segment_of r))) k.0 (total ∙ k.1) (omega (arith, total, proto)))
+    inr (ap (λ (xs : List ℕ). folded (sum (pseudo_header xs ++ words (segment_of xs)))) is ∙ right_total (sum (pseudo_header r ++ words (segment_of r))) (n + (sum (segment_words q) + others p at o)) total k (omega (arith, total, proto)))
 
 pub segment_stays_right : (p q : List ℕ) → segment_sum_at p ≡ Some (checksum_at p) → SameSegment p q → IsBytes p → SameHead p q (checksum_at p) (data_span p) → IsRightSegment p (checksum_at p) → IsRightSegment (segment_sealed p q) (checksum_at p)
 segment_stays_right p q is_at same bytes head (inl none) = none_stays p q is_at same head.kind none.0 none.1

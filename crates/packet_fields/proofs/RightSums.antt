@@ -1,15 +1,16 @@
 -- Right checksums stay right: the sums of a header and of a segment in their parts.
 use Rattle.std.proofs.Common.{lit<, ◌≡◌, ◌≤◌, ◌<◌, ◌+◌, ◌-◌, ◌*◌, ◌/◌, ◌%◌, ◌∙◌, ℕ, List, [], ◌∷◌, ◌++◌, sum, length, take, drop, get_or, length-take, length-append, true, ◌&&◌, sym, ap, refl, arith, subst, ⊎_elim}
-use Rattle.std.specs.Prelude.{Option, Some, None, nat_le, nat_lt, ◌==◌}
-use Rattle.std.proofs.lemmas.Bool.{and_parts, and_from, le-leb, cases_lt, eqb-true, cond-true, cond_both}
+use Rattle.std.specs.Prelude.{Option, Some, None, nat_le}
+use Rattle.std.proofs.lemmas.Bool.{and_from, le-leb, cases_lt, cond-true, cond_both}
 use Rattle.std.proofs.lemmas.List.{take-append-drop, take-take, drop-take, drop-drop, get_or-drop, get_or-take, get_or_past, get_or_append_left, get_or-append_right}
 use Rattle.packet_fields.specs.Frames.{word}
 use Rattle.packet_fields.specs.Packets.{is_ipv4, header_len, header_sum_at}
 use Rattle.packet_fields.specs.Checksums.{words, word_bytes, folded, is_changed, change_sum, adjusted, header_words, word_put, header_sealed, IsRight, IsBytes, header_of}
 use Rattle.packet_fields.specs.Writing.{overwritten}
-use Rattle.packet_fields.proofs.Overwriting.{cong2, cong3, length-overwritten, get_or-before, get_or-within, bytes_before, drop-overwritten}
-use Rattle.packet_fields.proofs.Shapes.{header_len-ipv4}
-use Rattle.packet_fields.proofs.Sealed.{SamePlaces}
+use Rattle.packet_fields.proofs.Overwriting.{cong2, cong3, length-overwritten, get_or-within, bytes_before, drop-overwritten}
+use Rattle.packet_fields.proofs.Versions.{begins_ipv4, header_len-ipv4}
+use Rattle.packet_fields.proofs.Shapes.{SameShape, same_header}
+use Rattle.packet_fields.proofs.Sealed.{SamePlaces, header_keeps}
 use Rattle.packet_fields.proofs.ChecksumSteps.{same_part, part_len}
 use Rattle.packet_fields.proofs.WordSums.{words-append, words-two, same_words_len}
 use Rattle.packet_fields.proofs.Rightness.{all_words, sum-cons, sum-append, adjusted_right, right_from, bytes-drop, part_two}
@@ -81,8 +82,9 @@ header_total p long least =
     let others = sum-even a c even in
     omega (arith, whole, others)
 
-first_word : (q : List ℕ) → 14 ≤ length q → 64 ≤ get_or q 2 0 → 0 < sum (header_words q)
-first_word q long version =
+first_word : (q : List ℕ) → 14 ≤ length q → is_ipv4 q ≡ true → 0 < sum (header_words q)
+first_word q long there =
+    let version = (begins_ipv4 q there).version in
     let a = take 10 (drop 2 q) in
     let c = take (header_len q - 12) (drop 14 q) in
     let ten : length a ≡ 10 = part_len 10 2 q (omega arith) in
@@ -91,42 +93,34 @@ first_word q long version =
     let byte : get_or a 0 0 ≡ get_or q 2 0 = get_or-take 10 (drop 2 q) 0 0 (omega arith) ∙ get_or-drop 2 q 0 0 in
     omega (arith, others, head, byte)
 
-version_byte : (p : List ℕ) → is_ipv4 p ≡ true → 64 ≤ get_or p 2 0
-unfolding is_ipv4
-version_byte p there =
-    let r1 = (and_parts (nat_lt 2 (length p)) ((word p 0 == 0x0800) && ((get_or p 2 0 / 16 == 4) && nat_le 5 (get_or p 2 0 % 16))) there).1 in
-    let r2 = (and_parts (word p 0 == 0x0800) ((get_or p 2 0 / 16 == 4) && nat_le 5 (get_or p 2 0 % 16)) r1).1 in
-    let four = eqb-true (get_or p 2 0 / 16) 4 (and_parts (get_or p 2 0 / 16 == 4) (nat_le 5 (get_or p 2 0 % 16)) r2).0 in
-    omega (arith, four)
-
-header_parts_kept : (q : List ℕ) (n : ℕ) → 14 ≤ length q → header_words (overwritten 12 (word_bytes n) q) ≡ header_words q
-header_parts_kept q n long =
-    let byte = get_or-before 12 (word_bytes n) q 2 0 long (omega arith) in
-    cong3 (λ (a b : List ℕ) (h : ℕ). words (a ++ take (4 * (h % 16) - 12) b))
+header_parts_kept : (q : List ℕ) (n : ℕ) → 14 ≤ length q → header_len (overwritten 12 (word_bytes n) q) ≡ header_len q → header_words (overwritten 12 (word_bytes n) q) ≡ header_words q
+header_parts_kept q n long len =
+    cong3 (λ (a b : List ℕ) (h : ℕ). words (a ++ take (h - 12) b))
     (bytes_before 12 (word_bytes n) q 2 10 long (omega arith))
     (drop-overwritten 12 (word_bytes n) q 14 long (omega arith))
-    byte
+    len
 
-pub header_stays_right : (p q : List ℕ) → SamePlaces p q → IsBytes p → 14 ≤ length p → IsRight (words (header_of p)) → IsRight (words (header_of (header_sealed p q)))
-header_stays_right p q same bytes long right =
-    let least = header_len-ipv4 p same.old_ipv4 in
-    let least_q = header_len-ipv4 q same.new_ipv4 in
+pub header_stays_right : (p q : List ℕ) → SamePlaces p q → is_ipv4 p ≡ true → IsBytes p → 14 ≤ length p → IsRight (words (header_of p)) → IsRight (words (header_of (header_sealed p q)))
+header_stays_right p q same there bytes long right =
+    let there_q : is_ipv4 q ≡ true = sym same.version.four ∙ there in
+    let least = (header_len-ipv4 p there).1 in
+    let least_q = (header_len-ipv4 q there_q).1 in
     let long_q : 14 ≤ length q = let l = same.len in omega arith in
     let n = adjusted (word p 12) (header_words p) (header_words q) in
     let small = adjusted_small (word p 12) (header_words p) (header_words q) (word_small p 12 bytes) in
-    let place : header_sum_at p ≡ Some 12 = cond-true (is_ipv4 p && nat_le 14 (length p)) (Some 12) None (and_from (is_ipv4 p) (nat_le 14 (length p)) same.old_ipv4 (le-leb 14 (length p) long)) in
+    let place : header_sum_at p ≡ Some 12 = cond-true (is_ipv4 p && nat_le 14 (length p)) (Some 12) None (and_from (is_ipv4 p) (nat_le 14 (length p)) there (le-leb 14 (length p) long)) in
     let is : header_sealed p q ≡ overwritten 12 (word_bytes n) q = ap (λ (o : Option ℕ). word_put o n q) place in
     let r = overwritten 12 (word_bytes n) q in
     let len_r = length-overwritten 12 (word_bytes n) q long_q in
-    let byte_r = get_or-before 12 (word_bytes n) q 2 0 long_q (omega arith) in
-    let least_r : 20 ≤ header_len r = omega (arith, byte_r) in
+    let kept : header_len r ≡ header_len q = (same_header q r (subst (λ (x : List ℕ). SameShape q x) is (header_keeps p q same).shape)).header in
+    let least_r : 20 ≤ header_len r = omega arith in
     let old = header_total p long least in
     let new : sum (words (header_of r)) ≡ n + (sum (header_words q) + 0) =
-    header_total r (omega arith) least_r ∙ cong2 (λ (a b : ℕ). a + (b + 0)) (word_there 12 n q small long_q) (ap (λ (ws : List ℕ). sum ws) (header_parts_kept q n long_q)) in
+    header_total r (omega arith) least_r ∙ cong2 (λ (a b : ℕ). a + (b + 0)) (word_there 12 n q small long_q) (ap (λ (ws : List ℕ). sum ws) (header_parts_kept q n long_q kept)) in
     let h_same : length (take 10 (drop 2 p) ++ take (header_len p - 12) (drop 14 p)) ≡ length (take 10 (drop 2 q) ++ take (header_len q - 12) (drop 14 q)) =
     length-append (take 10 (drop 2 p)) (take (header_len p - 12) (drop 14 p)) ∙ (cong2 (λ (a b : ℕ). a + b) (same_part 10 2 p q same.len) (same_part (header_len p - 12) 14 p q same.len ∙ ap (λ (h : ℕ). length (take (h - 12) (drop 14 q))) same.header) ∙ sym (length-append (take 10 (drop 2 q)) (take (header_len q - 12) (drop 14 q)))) in
     let ws_same = same_words_len (take 10 (drop 2 p) ++ take (header_len p - 12) (drop 14 p)) (take 10 (drop 2 q) ++ take (header_len q - 12) (drop 14 q)) h_same in
     let all = all_words (take 10 (drop 2 p) ++ take (header_len p - 12) (drop 14 p)) (bytes-append (take 10 (drop 2 p)) (take (header_len p - 12) (drop 14 p)) (part_bytes 10 2 p bytes) (part_bytes (header_len p - 12) 14 p bytes)) in
     let c = adjusted_right (word p 12) 0 (header_words p) (header_words q) (word_small p 12 bytes) ws_same all (ap (λ (k : ℕ). folded k) (sym old) ∙ right) in
-    let some = first_word q long_q (version_byte q same.new_ipv4) in
+    let some = first_word q long_q there_q in
     ap (λ (xs : List ℕ). folded (sum (words (header_of xs)))) is ∙ right_from (sum (words (header_of r))) c.0 (new ∙ c.1) (omega (arith, new, some))

@@ -9,8 +9,7 @@ use Rattle.packet_fields.specs.Packets.{is_udp, header_sum_at, checksum_at, segm
 use Rattle.packet_fields.specs.Checksums.{words, word_bytes, folded, is_changed, change_sum, adjusted, header_words, segment_words, word_put, header_sealed, segment_checksum, segment_sealed, has_same_places, sealed, IsBytes}
 use Rattle.packet_fields.specs.Writing.{overwritten}
 use Rattle.packet_fields.proofs.Overwriting.{cong2, overwritten_own}
-use Rattle.packet_fields.proofs.Sealed.{header_sum_is}
-use Rattle.packet_fields.proofs.ChecksumSteps.{has_sum}
+use Rattle.packet_fields.proofs.ChecksumSteps.{header_sum_is, has_sum}
 use Rattle.packet_fields.proofs.WordSums.{is_changed_own}
 
 pub adjusted_own : (checksum : ℕ) (ms : List ℕ) → adjusted checksum ms ms ≡ checksum

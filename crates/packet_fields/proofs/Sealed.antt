@@ -1,21 +1,21 @@
 -- What sealing leaves as it is.
-use Rattle.std.proofs.Common.{◌≡◌, ◌≤◌, ◌<◌, ◌+◌, ◌*◌, ◌%◌, ◌∙◌, ℕ, List, [], ◌∷◌, ◌++◌, length, take, get_or, length-drop, length-append, Bool, true, false, ◌&&◌, sym, ap, refl, arith, subst, ⊎_elim, inl, inr}
-use Rattle.std.specs.Prelude.{Option, Some, None, if◌then◌else◌, nat_le, ◌==◌, option_map}
-use Rattle.std.proofs.lemmas.Bool.{and_parts, cases_lt, cases_Bool, leb-true, eqb-true, cond-true, cond-false, and_left, and_right, false≢true}
+use Rattle.std.proofs.Common.{◌≡◌, ◌≤◌, ◌<◌, ◌+◌, ◌∙◌, ℕ, List, [], ◌∷◌, ◌++◌, length, take, get_or, length-drop, length-append, Bool, true, false, ◌&&◌, sym, ap, refl, arith, subst, ⊎_elim, inl, inr}
+use Rattle.std.specs.Prelude.{Option, Some, None, if◌then◌else◌, ◌==◌, option_map}
+use Rattle.std.proofs.lemmas.Bool.{and_parts, or_parts, or_from, cases_lt, cases_Bool, eqb-true, cond-true, cond-false, and_left, and_right, false≢true}
 use Rattle.std.proofs.lemmas.List.{append_assoc, take_at, take-append-drop}
-use Rattle.std.proofs.lemmas.Option.{cond_some}
 use Rattle.packet_fields.specs.Frames.{word, packet_at, packet, tags_of}
-use Rattle.packet_fields.specs.Packets.{is_ipv4, header_len, is_udp, segment_at, data_span, header_sum_at, checksum_at, segment_sum_at}
+use Rattle.packet_fields.specs.Packets.{is_ipv4, is_ipv6, has_header, header_len, is_udp, segment_at, data_span, header_sum_at, checksum_at, segment_sum_at}
 use Rattle.packet_fields.specs.Plans.{header_plan_of, segment_plan_of}
 use Rattle.packet_fields.specs.Fields.{value, bytes_at, packet_span}
-use Rattle.packet_fields.specs.Checksums.{word_bytes, adjusted, header_words, word_put, header_sealed, segment_checksum, segment_sealed, same_span, same_number, same_header_plan, same_segment_plan, has_same_places, packet_sealed, sealed}
+use Rattle.packet_fields.specs.Checksums.{word_bytes, adjusted, header_words, word_put, header_sealed, segment_checksum, segment_sealed, same_span, same_number, same_header_plan, same_segment_plan, has_same_version, has_same_places, packet_sealed, sealed}
 use Rattle.packet_fields.specs.Writing.{overwritten}
 use Rattle.packet_fields.specs.declared.field.Field.{Field}
 use Rattle.packet_fields.specs.declared.field.Field.TheVariants.{LinkDst, LinkSrc, Tag, Tos, Ttl, SrcIp, DstIp, SrcPort, DstPort, Payload}
 use Rattle.packet_fields.specs.declared.plan.Span.{Span}
 use Rattle.packet_fields.proofs.Overwriting.{cong2}
-use Rattle.packet_fields.proofs.Shapes.{SameShape, OutsideAll, shape_outside, segment_at-transport, InBounds, bounds_at, Apart, bytes_apart, packet_value, packet_span-same, segment_at-same, has_transport-same, is_udp-same, is_tcp-same, data_span-same, segment_sum_at-same}
-use Rattle.packet_fields.proofs.ChecksumSteps.{HasSum, has_sum}
+use Rattle.packet_fields.proofs.Versions.{is_ipv4-alone, SameVersion, same_version, Numbers, numbers, segment_at-transport}
+use Rattle.packet_fields.proofs.Shapes.{SameShape, OutsideAll, outside_behind, shape_outside, InBounds, bounds_at, Apart, bytes_apart, packet_value, packet_span-same, is_ipv6-same, same_header, segment_at-same, has_transport-same, is_udp-same, is_tcp-same, data_span-same, segment_sum_at-same}
+use Rattle.packet_fields.proofs.ChecksumSteps.{header_sum_is, HasSum, has_sum}
 use Rattle.packet_fields.proofs.TagWalk.{packet_at-short}
 use Rattle.packet_fields.proofs.Framing.{framed, parts, HasParts}
 use Rattle.packet_fields.proofs.OverwrittenField.{begins_tag-same}
@@ -23,8 +23,7 @@ use Rattle.packet_fields.proofs.Puts.{parts_value, value-parts, own_parts}
 
 -- what the test of two packets tells
 pub record SamePlaces (p q : List ℕ) : Type 0 where
-  pub old_ipv4 : is_ipv4 p ≡ true
-  pub new_ipv4 : is_ipv4 q ≡ true
+  pub version : SameVersion p q
   pub len : length p ≡ length q
   pub header : header_len p ≡ header_len q
   pub payload : data_span p ≡ data_span q
@@ -69,9 +68,8 @@ unfolding has_same_places
 same_places p q test =
     let hs = same_header_plan (header_plan_of p) (header_plan_of q) in
     let ss = same_segment_plan (segment_plan_of p) (segment_plan_of q) in
-    let a = and_parts (is_ipv4 p) (is_ipv4 q && ((length p == length q) && ((header_len p == header_len q) && (hs && ss)))) test in
-    let b = and_parts (is_ipv4 q) ((length p == length q) && ((header_len p == header_len q) && (hs && ss))) a.1 in
-    let c = and_parts (length p == length q) ((header_len p == header_len q) && (hs && ss)) b.1 in
+    let a = and_parts (has_same_version p q) ((length p == length q) && ((header_len p == header_len q) && (hs && ss))) test in
+    let c = and_parts (length p == length q) ((header_len p == header_len q) && (hs && ss)) a.1 in
     let d = and_parts (header_len p == header_len q) (hs && ss) c.1 in
     let e = and_parts hs ss d.1 in
     let hp = header_plan_of p in
@@ -81,8 +79,7 @@ same_places p q test =
     let last = last_of_header hp.tos hp.ttl hp.src_ip hp.dst_ip (same_number hp.proto hq.proto) (same_number hp.total_len hq.total_len) (same_number hp.sum_at hq.sum_at) hq.tos hq.ttl hq.src_ip hq.dst_ip e.0 in
     let zs = third_and_last (same_span sp.src_port sq.src_port) (same_span sp.dst_port sq.dst_port) (same_span sp.payload sq.payload) (same_number sp.control_bits sq.control_bits) (same_number sp.sum_at sq.sum_at) e.1 in
     record {
-      old_ipv4 = a.0;
-      new_ipv4 = b.0;
+      version = same_version p q a.0;
       len = eqb-true (length p) (length q) c.0;
       header = eqb-true (header_len p) (header_len q) d.0;
       payload = span_from (data_span p) (data_span q) zs.0;
@@ -95,7 +92,9 @@ abbrev pub sum_span : ℕ → Span
 sum_span at = record { at = at; len = 2 }
 
 header_sum_outside : (p : List ℕ) → OutsideAll p (sum_span 12)
-header_sum_outside p = record { byte0 = inl (omega arith); byte1 = inl (omega arith); byte2 = inl (omega arith); byte4 = inl (omega arith); byte5 = inl (omega arith); byte8 = inl (omega arith); byte9 = inl (omega arith); byte11 = inl (omega arith); offset = λ there _. let far = segment_at-transport p there in inr (omega arith); control = λ there _. let far = segment_at-transport p there in inr (omega arith) }
+header_sum_outside p =
+    let n = numbers p in
+    outside_behind p (sum_span 12) (omega arith) (λ _. inl (omega arith)) (λ _. inl (omega arith)) (λ there _. let far = segment_at-transport p there in inr (omega arith)) (λ there _. let far = segment_at-transport p there in inr (omega arith))
 
 tcp_place : (p : List ℕ) → is_udp p ≡ false → checksum_at p ≡ segment_at p + 16
 tcp_place p not_udp = cond-false (is_udp p) (segment_at p + 6) (segment_at p + 16) not_udp
@@ -104,12 +103,7 @@ segment_sum_outside : (p : List ℕ) (at : ℕ) → HasSum p at → OutsideAll p
 segment_sum_outside p at s =
     let far = s.far in
     let behind = s.behind in
-    record { byte0 = inl (omega arith); byte1 = inl (omega arith); byte2 = inl (omega arith); byte4 = inl (omega arith); byte5 = inl (omega arith); byte8 = inl (omega arith); byte9 = inl (omega arith); byte11 = inl (omega arith); offset = λ there tcp. inl (omega (arith, s.place, tcp_place p tcp)); control = λ there tcp. inl (omega (arith, s.place, tcp_place p tcp)) }
-
-pub header_sum_is : (p : List ℕ) (at : ℕ) → header_sum_at p ≡ Some at → (at ≡ 12) × (14 ≤ length p)
-header_sum_is p at is =
-    let test = cond_some (is_ipv4 p && nat_le 14 (length p)) 12 at is in
-    (sym test.1, leb-true 14 (length p) (and_parts (is_ipv4 p) (nat_le 14 (length p)) test.0).1)
+    outside_behind p (sum_span at) (omega arith) (λ _. inl (omega arith)) (λ _. inl (omega arith)) (λ there tcp. inl (omega (arith, s.place, tcp_place p tcp))) (λ there tcp. inl (omega (arith, s.place, tcp_place p tcp)))
 
 -- one checksum written in its place keeps the shape and the fields
 pub record KeepsFields (p q : List ℕ) : Type 0 where
@@ -117,7 +111,7 @@ pub record KeepsFields (p q : List ℕ) : Type 0 where
   pub values : (f : Field) → packet_value f q ≡ packet_value f p
 
 pub shape_refl : (p : List ℕ) → SameShape p p
-shape_refl p = record { len = refl; byte0 = refl; byte1 = refl; byte2 = refl; byte4 = refl; byte5 = refl; byte8 = refl; byte9 = refl; byte11 = refl; offset = λ _ _. refl; control = λ _ _. refl }
+shape_refl p = record { len = refl; byte0 = refl; byte1 = refl; byte2 = refl; byte4 = refl; byte5 = refl; byte6 = refl; byte7 = refl; byte8 = refl; byte9 = λ _. refl; byte11 = λ _. refl; offset = λ _ _. refl; control = λ _ _. refl }
 
 same_packet : (p q : List ℕ) → q ≡ p → KeepsFields p q
 same_packet p q is = subst (λ (r : List ℕ). KeepsFields p r) (sym is) (record { shape = shape_refl p; values = λ f. refl })
@@ -134,17 +128,17 @@ keeps_fields p s new outside len inside apart =
       values = λ f. ap (λ (o : Option Span). option_map (bytes_at (overwritten s.at new p)) o) (packet_span-same f p (overwritten s.at new p) shape) ∙ apart_value f p s new (packet_span f p) len inside (apart f);
     }
 
-header_apart : (f : Field) (p : List ℕ) (t : Span) → InBounds f p t → Apart (sum_span 12) t
-header_apart LinkDst p t b = absurd b
-header_apart LinkSrc p t b = absurd b
-header_apart Tag p t b = absurd b
-header_apart Tos p t b = inr (omega arith)
-header_apart Ttl p t b = inr (omega arith)
-header_apart SrcIp p t b = inl (omega arith)
-header_apart DstIp p t b = inl (omega arith)
-header_apart SrcPort p t b = inl (omega arith)
-header_apart DstPort p t b = inl (omega arith)
-header_apart Payload p t b = inl (omega arith)
+header_apart : (f : Field) (p : List ℕ) (t : Span) (n : Numbers (is_ipv6 p)) → n.six ≡ 0 → InBounds f p t → Apart (sum_span 12) t
+header_apart LinkDst p t n four b = absurd b
+header_apart LinkSrc p t n four b = absurd b
+header_apart Tag p t n four b = absurd b
+header_apart Tos p t n four b = inr (omega arith)
+header_apart Ttl p t n four b = inr (omega arith)
+header_apart SrcIp p t n four b = inl (omega arith)
+header_apart DstIp p t n four b = inl (omega arith)
+header_apart SrcPort p t n four b = inl (omega arith)
+header_apart DstPort p t n four b = inl (omega arith)
+header_apart Payload p t n four b = inl (omega arith)
 
 pub payload_apart : (p : List ℕ) (at : ℕ) (t : Span) → HasSum p at → InBounds Payload p t → at + 2 ≤ t.at
 payload_apart p at t s b =
@@ -158,21 +152,21 @@ segment_apart LinkDst p at t s b = absurd b
 segment_apart LinkSrc p at t s b = absurd b
 segment_apart Tag p at t s b = absurd b
 segment_apart Payload p at t s b = inl (payload_apart p at t s b)
-segment_apart Tos p at t s b = inr (omega (arith, s.far, s.behind))
-segment_apart Ttl p at t s b = inr (omega (arith, s.far, s.behind))
-segment_apart SrcIp p at t s b = inr (omega (arith, s.far, s.behind))
-segment_apart DstIp p at t s b = inr (omega (arith, s.far, s.behind))
+segment_apart Tos p at t s b = let n = numbers p in inr (omega (arith, s.ends, s.behind))
+segment_apart Ttl p at t s b = let n = numbers p in inr (omega (arith, s.ends, s.behind))
+segment_apart SrcIp p at t s b = let n = numbers p in inr (omega (arith, s.ends, s.behind))
+segment_apart DstIp p at t s b = let n = numbers p in inr (omega (arith, s.ends, s.behind))
 segment_apart SrcPort p at t s b = inr (omega (arith, s.far, s.behind))
 segment_apart DstPort p at t s b = inr (omega (arith, s.far, s.behind))
 
-header_put_keeps : (q : List ℕ) (o : Option ℕ) (n : ℕ) → header_sum_at q ≡ o → KeepsFields q (word_put o n q)
+pub header_put_keeps : (q : List ℕ) (o : Option ℕ) (n : ℕ) → header_sum_at q ≡ o → KeepsFields q (word_put o n q)
 header_put_keeps q None n is = same_packet q q refl
 header_put_keeps q (Some at) n is =
     let h = header_sum_is q at is in
     subst (λ (k : ℕ). KeepsFields q (overwritten k (word_bytes n) q)) (sym h.0)
-    (keeps_fields q (sum_span 12) (word_bytes n) (header_sum_outside q) refl h.1 (λ f t found. header_apart f q t (bounds_at f q t found)))
+    (keeps_fields q (sum_span 12) (word_bytes n) (header_sum_outside q) refl h.1 (λ f t found. let k = numbers q in header_apart f q t k (k.none (is_ipv4-alone q h.2)) (bounds_at f q t found)))
 
-segment_put_keeps : (q : List ℕ) (o : Option ℕ) (n : ℕ) → segment_sum_at q ≡ o → KeepsFields q (word_put o n q)
+pub segment_put_keeps : (q : List ℕ) (o : Option ℕ) (n : ℕ) → segment_sum_at q ≡ o → KeepsFields q (word_put o n q)
 segment_put_keeps q None n is = same_packet q q refl
 segment_put_keeps q (Some at) n is =
     let s = has_sum q at is in
@@ -186,6 +180,7 @@ segment_keeps p q same = segment_put_keeps q (segment_sum_at p) (segment_checksu
 
 -- what stays the same once the header is sealed
 pub record SameSegment (p q : List ℕ) : Type 0 where
+  pub version : SameVersion p q
   pub len : length p ≡ length q
   pub header : header_len p ≡ header_len q
   pub payload : data_span p ≡ data_span q
@@ -196,9 +191,11 @@ after_header p q r test is =
     let same = same_places p q test in
     let k = header_keeps p q same in
     let shape = subst (λ (x : List ℕ). SameShape q x) (sym is) k.shape in
+    let h = same_header q r shape in
     record {
+      version = record { four = same.version.four ∙ sym h.four; six = same.version.six ∙ sym h.six; there = same.version.there };
       len = same.len ∙ sym shape.len;
-      header = same.header ∙ sym (ap (λ (n : ℕ). 4 * (n % 16)) shape.byte2);
+      header = same.header ∙ sym h.header;
       payload = same.payload ∙ sym (data_span-same q r shape);
       segment_sum = same.segment_sum ∙ sym (segment_sum_at-same q r shape);
     }
@@ -208,6 +205,7 @@ shape_trans p q r one two =
     let t = has_transport-same p q one in
     let u = is_udp-same p q one in
     let a = segment_at-same p q one in
+    let six = is_ipv6-same p q one in
     record {
       len = two.len ∙ one.len;
       byte0 = two.byte0 ∙ one.byte0;
@@ -215,9 +213,11 @@ shape_trans p q r one two =
       byte2 = two.byte2 ∙ one.byte2;
       byte4 = two.byte4 ∙ one.byte4;
       byte5 = two.byte5 ∙ one.byte5;
+      byte6 = two.byte6 ∙ one.byte6;
+      byte7 = two.byte7 ∙ one.byte7;
       byte8 = two.byte8 ∙ one.byte8;
-      byte9 = two.byte9 ∙ one.byte9;
-      byte11 = two.byte11 ∙ one.byte11;
+      byte9 = λ four. two.byte9 (six ∙ four) ∙ one.byte9 four;
+      byte11 = λ four. two.byte11 (six ∙ four) ∙ one.byte11 four;
       offset = λ there not_udp. subst (λ (n : ℕ). get_or r (n + 12) 0 ≡ get_or q (n + 12) 0) a (two.offset (t ∙ there) (u ∙ not_udp)) ∙ one.offset there not_udp;
       control = λ there tcp. subst (λ (n : ℕ). get_or r (n + 13) 0 ≡ get_or q (n + 13) 0) a (two.control (t ∙ there) (is_tcp-same p q one ∙ tcp)) ∙ one.control there tcp;
     }
@@ -259,19 +259,22 @@ sealed_parts before after long =
       ends = begins_tag-same (packet after) new shape ∙ f.ends;
     })
 
-pub is_ipv4-nil : (p : List ℕ) → length p ≡ 0 → is_ipv4 p ≡ false
-unfolding is_ipv4
-is_ipv4-nil [] none = refl
-is_ipv4-nil (x ∷ xs) none = absurd (omega arith)
+pub has_header-nil : (p : List ℕ) → length p ≡ 0 → has_header p ≡ false
+unfolding is_ipv4 is_ipv6
+has_header-nil [] none = refl
+has_header-nil (x ∷ xs) none = absurd (omega arith)
 
-pub sealed_none : (p q : List ℕ) → is_ipv4 q ≡ false → packet_sealed p q ≡ q
+pub sealed_none : (p q : List ℕ) → has_header q ≡ false → packet_sealed p q ≡ q
 unfolding has_same_places
-sealed_none p q none = cond-false (has_same_places p q) (segment_sealed p (header_sealed p q)) q (and_right (is_ipv4 p) (is_ipv4 q && ((length p == length q) && ((header_len p == header_len q) && (same_header_plan (header_plan_of p) (header_plan_of q) && same_segment_plan (segment_plan_of p) (segment_plan_of q))))) (and_left (is_ipv4 q) ((length p == length q) && ((header_len p == header_len q) && (same_header_plan (header_plan_of p) (header_plan_of q) && same_segment_plan (segment_plan_of p) (segment_plan_of q)))) none))
+sealed_none p q none =
+    let gone = or_parts (is_ipv4 q) (is_ipv6 q) none in
+    let other : has_same_version p q ≡ false = or_from (is_ipv4 p && is_ipv4 q) (is_ipv6 p && is_ipv6 q) (and_right (is_ipv4 p) (is_ipv4 q) gone.0) (and_right (is_ipv6 p) (is_ipv6 q) gone.1) in
+    cond-false (has_same_places p q) (segment_sealed p (header_sealed p q)) q (and_left (has_same_version p q) ((length p == length q) && ((header_len p == header_len q) && (same_header_plan (header_plan_of p) (header_plan_of q) && same_segment_plan (segment_plan_of p) (segment_plan_of q)))) other)
 
 pub sealed_short : (before after : List ℕ) → length after < 14 → sealed before after ≡ after
 sealed_short before after short =
     let none : length (packet after) ≡ 0 = omega (arith, length-drop (packet_at after) after, packet_at-short after short) in
-    ap (λ (p : List ℕ). take (packet_at after) after ++ p) (sealed_none (packet before) (packet after) (is_ipv4-nil (packet after) none)) ∙ take-append-drop (packet_at after) after
+    ap (λ (p : List ℕ). take (packet_at after) after ++ p) (sealed_none (packet before) (packet after) (has_header-nil (packet after) none)) ∙ take-append-drop (packet_at after) after
 
 parts_value-packet : (f : Field) (a t p q : List ℕ) → KeepsFields p q → parts_value f a t q ≡ parts_value f a t p
 parts_value-packet LinkDst a t p q k = refl

@@ -1,12 +1,12 @@
 -- Every span lies within what was captured.
-use Rattle.std.proofs.Common.{◌≡◌, ◌≤◌, ◌+◌, ◌-◌, ℕ, List, length, Bool, true, false, ◌&&◌, get_or, drop, ◌∙◌, sym, ap, refl, arith}
+use Rattle.std.proofs.Common.{◌≡◌, ◌≤◌, ◌+◌, ◌-◌, ℕ, List, length, Bool, true, false, ◌&&◌, get_or, drop, ◌∙◌, sym, ap, refl, arith, subst, ◌⊎◌, inl, inr}
 use Rattle.std.specs.Prelude.{⊤, Option, Some, None, IfSome, option_map, if◌then◌else◌, nat_le}
-use Rattle.std.proofs.lemmas.Bool.{and_parts, leb-true}
+use Rattle.std.proofs.lemmas.Bool.{and_parts, leb-true, cond_both}
 use Rattle.std.proofs.Common.{length-drop}
 use Rattle.packet_fields.specs.Frames.{packet_at, packet, tags_len}
 use Rattle.packet_fields.proofs.TagWalk.{packet_at-long, packet_at-inside, has_type, tags_len-whole}
 use Rattle.std.proofs.lemmas.Option.{IfSome_then, MatchOption-at_some}
-use Rattle.packet_fields.specs.Packets.{span_within, is_ipv4, has_transport, segment_at, in_segment, datagram_end, data_span, has_data, data_at}
+use Rattle.packet_fields.specs.Packets.{span_within, in_header, is_ipv4, is_ipv6, has_header, source_at, destination_at, ttl_at, address_len, has_transport, segment_at, in_segment, datagram_end, data_span, has_data, data_at}
 use Rattle.packet_fields.specs.Fields.{packet_span, moved, in_frame, span, tag_span, layout_of, number_of, IsLengthOf}
 use Rattle.packet_fields.specs.declared.field.Field.{Field}
 use Rattle.packet_fields.specs.declared.field.Field.TheVariants.{LinkDst, LinkSrc, Tag, Tos, Ttl, SrcIp, DstIp, SrcPort, DstPort, Payload}
@@ -30,9 +30,9 @@ packet_span-inside LinkDst p = tt
 packet_span-inside LinkSrc p = tt
 packet_span-inside Tag p = tt
 packet_span-inside Tos p = span_within-inside (is_ipv4 p) (length p) 3 1 (length p) (omega arith)
-packet_span-inside Ttl p = span_within-inside (is_ipv4 p) (length p) 10 1 (length p) (omega arith)
-packet_span-inside SrcIp p = span_within-inside (is_ipv4 p) (length p) 14 4 (length p) (omega arith)
-packet_span-inside DstIp p = span_within-inside (is_ipv4 p) (length p) 18 4 (length p) (omega arith)
+packet_span-inside Ttl p = span_within-inside (has_header p) (length p) (in_header (ttl_at p)) 1 (length p) (omega arith)
+packet_span-inside SrcIp p = span_within-inside (has_header p) (length p) (in_header (source_at p)) (address_len p) (length p) (omega arith)
+packet_span-inside DstIp p = span_within-inside (has_header p) (length p) (in_header (destination_at p)) (address_len p) (length p) (omega arith)
 packet_span-inside SrcPort p = span_within-inside (has_transport p) (datagram_end p) (in_segment p 0) 2 (length p) (omega arith)
 packet_span-inside DstPort p = span_within-inside (has_transport p) (datagram_end p) (segment_at p + 2) 2 (length p) (omega arith)
 packet_span-inside Payload p = data_span-inside p
@@ -75,14 +75,20 @@ span-inside Payload frame = in_frame-inside Payload frame
 pub span_within-len : (there : Bool) (limit at len : ℕ) → IfSome (span_within there limit at len) (λ s. s.len ≡ len)
 span_within-len there limit at len = if_some (there && nat_le (at + len) limit) (record { at = at; len = len }) (λ (s : Span). s.len ≡ len) (λ e. refl)
 
+address_lengths : (p : List ℕ) → (address_len p ≡ 4) ⊎ (address_len p ≡ 16)
+address_lengths p = cond_both (is_ipv6 p) 16 4 (λ (n : ℕ). (n ≡ 4) ⊎ (n ≡ 16)) (λ _. inr refl) (λ _. inl refl)
+
+address-len : (p : List ℕ) (at : ℕ) → IfSome (span_within (has_header p) (length p) at (address_len p)) (λ s. (s.len ≡ 4) ⊎ (s.len ≡ 16))
+address-len p at = IfSome_then (span_within (has_header p) (length p) at (address_len p)) (span_within-len (has_header p) (length p) at (address_len p)) (λ s is. subst (λ (n : ℕ). (n ≡ 4) ⊎ (n ≡ 16)) (sym is) (address_lengths p))
+
 pub span-len : (f : Field) (frame : List ℕ) → IfSome (span f frame) (λ s. IsLengthOf f s.len)
 span-len LinkDst frame = span_within-len true (length frame) 0 6
 span-len LinkSrc frame = span_within-len true (length frame) 6 6
 span-len Tag frame = some_tags frame _ (λ long. let whole = tags_len-whole (drop 12 frame) in rw (packet_at-long frame long) (omega arith))
 span-len Tos frame = some_moved (packet_span Tos (packet frame)) (packet_at frame) _ (span_within-len (is_ipv4 (packet frame)) (length (packet frame)) 3 1)
-span-len Ttl frame = some_moved (packet_span Ttl (packet frame)) (packet_at frame) _ (span_within-len (is_ipv4 (packet frame)) (length (packet frame)) 10 1)
-span-len SrcIp frame = some_moved (packet_span SrcIp (packet frame)) (packet_at frame) _ (span_within-len (is_ipv4 (packet frame)) (length (packet frame)) 14 4)
-span-len DstIp frame = some_moved (packet_span DstIp (packet frame)) (packet_at frame) _ (span_within-len (is_ipv4 (packet frame)) (length (packet frame)) 18 4)
+span-len Ttl frame = some_moved (packet_span Ttl (packet frame)) (packet_at frame) _ (span_within-len (has_header (packet frame)) (length (packet frame)) (in_header (ttl_at (packet frame))) 1)
+span-len SrcIp frame = some_moved (packet_span SrcIp (packet frame)) (packet_at frame) _ (address-len (packet frame) (in_header (source_at (packet frame))))
+span-len DstIp frame = some_moved (packet_span DstIp (packet frame)) (packet_at frame) _ (address-len (packet frame) (in_header (destination_at (packet frame))))
 span-len SrcPort frame = some_moved (packet_span SrcPort (packet frame)) (packet_at frame) _ (span_within-len (has_transport (packet frame)) (datagram_end (packet frame)) (in_segment (packet frame) 0) 2)
 span-len DstPort frame = some_moved (packet_span DstPort (packet frame)) (packet_at frame) _ (span_within-len (has_transport (packet frame)) (datagram_end (packet frame)) (segment_at (packet frame) + 2) 2)
 span-len Payload frame = always (span Payload frame)

@@ -1,8 +1,9 @@
 -- For proofs: what the bytes under a checksum change in it.
 use Rattle.std.specs.Prelude.{◌≡◌, ◌<◌, ℕ, ◌+◌, ◌-◌, ◌^◌, List, ◌++◌, length, take, drop, Bool, if◌then◌else◌, ◌==◌, ◌&&◌, Option}
-use Rattle.packet_fields.specs.Packets.{in_header, is_ipv4, header_len}
+use Rattle.packet_fields.specs.Packets.{in_header, header_len}
 use Rattle.packet_fields.specs.Plans.{header_plan_of}
-use Rattle.packet_fields.specs.Checksums.{words, is_changed, change_sum, folded, data_of, same_header_plan}
+use Rattle.packet_fields.specs.Fields.{bytes_at}
+use Rattle.packet_fields.specs.Checksums.{words, is_changed, change_sum, folded, data_of, has_same_version, same_header_plan}
 use Rattle.packet_fields.specs.declared.plan.Span.{Span}
 use Rattle.packet_fields.specs.declared.sums.Change.{Change}
 
@@ -17,8 +18,8 @@ abbrev pub header_bytes : ℕ → List ℕ → List ℕ
 header_bytes end p = take 10 (drop (in_header 0) p) ++ take (end - in_header 12) (drop (in_header 12) p)
 
 -- the bytes under the checksum of a transport header that begins at a place
-abbrev pub segment_bytes : ℕ → Option Span → List ℕ → List ℕ
-segment_bytes start payload p = take 8 (drop (in_header 12) p) ++ (take 4 (drop start p) ++ data_of p payload)
+abbrev pub segment_bytes : Span → ℕ → Option Span → List ℕ → List ℕ
+segment_bytes addresses start payload p = bytes_at p addresses ++ (take 4 (drop start p) ++ data_of p payload)
 
 -- a checksum after a change
 abbrev pub applied : ℕ → Change → ℕ
@@ -28,6 +29,6 @@ abbrev pub checksum_after : Bool → ℕ → Change → ℕ
 checksum_after is_udp checksum change =
     if is_udp then (if checksum == 0 then 0 else (if applied checksum change == 0 then 0xffff else applied checksum change)) else applied checksum change
 
--- two IPv4 packets of one length and one header length, with the same places and fixed values of their headers
+-- two packets of one version, one length and one header length, with the same places and fixed values of their headers
 abbrev pub has_same_headers : List ℕ → List ℕ → Bool
-has_same_headers p q = is_ipv4 p && (is_ipv4 q && ((length p == length q) && ((header_len p == header_len q) && same_header_plan (header_plan_of p) (header_plan_of q))))
+has_same_headers p q = has_same_version p q && ((length p == length q) && ((header_len p == header_len q) && same_header_plan (header_plan_of p) (header_plan_of q)))

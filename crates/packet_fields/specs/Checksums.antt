@@ -2,12 +2,12 @@
 use Rattle.std.specs.Prelude.{◌≡◌, ◌⊎◌, ◌<◌, ℕ, ◌+◌, ◌-◌, ◌*◌, ◌/◌, ◌%◌, List, [], ◌∷◌, ◌++◌, length, take, drop, sum, Bool, true, false, not, if◌then◌else◌, ◌==◌, ◌&&◌, ◌||◌, Option, Some, None, IsSome, slice_index}
 use Rattle.std.specs.Option.{option_eq}
 use Rattle.packet_fields.specs.Frames.{word, packet_at, packet}
-use Rattle.packet_fields.specs.Packets.{in_header, header_byte, header_word, is_ipv4, header_len, is_udp, segment_at, datagram_end, data_span, header_sum_at, checksum_at, segment_sum_at}
+use Rattle.packet_fields.specs.Packets.{in_header, header_byte, header_word, is_ipv4, is_ipv6, header_len, address_len, source_at, protocol_at, datagram_len, is_udp, segment_at, datagram_end, data_span, header_sum_at, checksum_at, segment_sum_at}
 use Rattle.packet_fields.specs.Plans.{header_plan_of, segment_plan_of}
 use Rattle.packet_fields.specs.Fields.{bytes_at, overwritten}
 use Rattle.packet_fields.specs.declared.plan.Span.{Span}
 use Rattle.packet_fields.specs.declared.packet.HeaderPlan.{HeaderPlan}
-use Rattle.packet_fields.specs.declared.packet.SegmentPlan.{SegmentPlan}
+use Rattle.packet_fields.specs.declared.transport.SegmentPlan.{SegmentPlan}
 
 -- bytes as words of 16 bits, the high byte first; a last odd byte is the high byte of a word whose low
 -- byte is 0 (RFC 1071, 1)
@@ -39,7 +39,7 @@ change_sum ms ns = 0
 abbrev pub adjusted : ℕ → List ℕ → List ℕ → ℕ
 adjusted checksum old new = if is_changed old new then 0xffff - folded ((0xffff - checksum) + change_sum old new) else checksum
 
--- the words under the header checksum: the header's other than its own (RFC 791, 3.1)
+-- the words under the header checksum: those of IPv4's header other than its own (RFC 791, 3.1)
 abbrev pub header_words : List ℕ → List ℕ
 header_words p = words (take 10 (drop (in_header 0) p) ++ take (header_len p - 12) (drop (in_header 12) p))
 
@@ -48,10 +48,14 @@ abbrev pub data_of : List ℕ → Option Span → List ℕ
 data_of p None = []
 data_of p (Some s) = bytes_at p s
 
+-- both addresses, one behind the other (RFC 791, 3.1; RFC 8200, 3)
+abbrev pub addresses_of : List ℕ → List ℕ
+addresses_of p = take (2 * address_len p) (drop (in_header (source_at p)) p)
+
 -- the words under the TCP or UDP checksum that a network function can write: both addresses, both ports,
--- and the data (RFC 793, 3.1; RFC 768)
+-- and the data (RFC 793, 3.1; RFC 768; RFC 8200, 8.1)
 abbrev pub segment_words : List ℕ → List ℕ
-segment_words p = words (take 8 (drop (in_header 12) p) ++ (take 4 (drop (segment_at p) p) ++ data_of p (data_span p)))
+segment_words p = words (addresses_of p ++ (take 4 (drop (segment_at p) p) ++ data_of p (data_span p)))
 
 -- in UDP a checksum of 0 says that there is none, and a computed 0 is sent as 0xffff (RFC 768)
 abbrev pub udp_adjusted : ℕ → List ℕ → List ℕ → ℕ
@@ -84,9 +88,13 @@ same_header_plan a b = same_span a.tos b.tos && (same_span a.ttl b.ttl && (same_
 abbrev pub same_segment_plan : SegmentPlan → SegmentPlan → Bool
 same_segment_plan a b = same_span a.src_port b.src_port && (same_span a.dst_port b.dst_port && (same_span a.payload b.payload && (same_number a.control_bits b.control_bits && same_number a.sum_at b.sum_at)))
 
--- two IPv4 packets of one length and one header length, with the same places and the same fixed values
+-- two packets with IP headers of one version
+abbrev pub has_same_version : List ℕ → List ℕ → Bool
+has_same_version p q = (is_ipv4 p && is_ipv4 q) || (is_ipv6 p && is_ipv6 q)
+
+-- two packets of one version, one length and one header length, with the same places and the same fixed values
 unfoldable pub has_same_places : List ℕ → List ℕ → Bool
-has_same_places p q = is_ipv4 p && (is_ipv4 q && ((length p == length q) && ((header_len p == header_len q) && (same_header_plan (header_plan_of p) (header_plan_of q) && same_segment_plan (segment_plan_of p) (segment_plan_of q)))))
+has_same_places p q = has_same_version p q && ((length p == length q) && ((header_len p == header_len q) && (same_header_plan (header_plan_of p) (header_plan_of q) && same_segment_plan (segment_plan_of p) (segment_plan_of q))))
 
 -- the packet with its checksums adjusted to what changed from an old packet
 abbrev pub packet_sealed : List ℕ → List ℕ → List ℕ
@@ -108,9 +116,10 @@ header_of p = take (header_len p) (drop (in_header 0) p)
 abbrev pub segment_of : List ℕ → List ℕ
 segment_of p = take (datagram_end p - segment_at p) (drop (segment_at p) p)
 
--- the words before it in its sum: both addresses, the protocol, and its length (RFC 793, 3.1; RFC 768)
+-- the words before it in its sum: both addresses, the protocol, and its length (RFC 793, 3.1; RFC 768), which for IPv6 has 32 bits, of
+-- which the upper 16 are 0 here (RFC 8200, 8.1)
 abbrev pub pseudo_header : List ℕ → List ℕ
-pseudo_header p = header_byte p 9 ∷ (header_word p 2 - header_len p) ∷ words (take 8 (drop (in_header 12) p))
+pseudo_header p = header_byte p (protocol_at p) ∷ (datagram_len p - header_len p) ∷ words (addresses_of p)
 
 -- the checksums of a frame that are there are right by that sum, where UDP may have none
 pub record HasRightSums (frame : List ℕ) : Type 0 where

@@ -1,7 +1,7 @@
 -- Believed: the ten fields of a frame: where each lies, and its bytes.
-use Rattle.std.specs.Prelude.{codes, ◌≡◌, ℕ, ◌+◌, ◌-◌, ◌%◌, ⊤, List, [], ◌∷◌, ◌++◌, length, take, drop, true, Option, None, option_map}
+use Rattle.std.specs.Prelude.{codes, ◌≡◌, ◌⊎◌, ℕ, ◌+◌, ◌-◌, ◌%◌, ⊤, List, [], ◌∷◌, ◌++◌, length, take, drop, true, Option, None, option_map}
 use Rattle.packet_fields.specs.Frames.{word, type_at, packet_at, packet}
-use Rattle.packet_fields.specs.Packets.{span_within, header_span, segment_span, data_span, total_len, protocol, control_bits, header_sum_at, segment_sum_at}
+use Rattle.packet_fields.specs.Packets.{span_within, in_header, is_ipv4, ttl_at, source_at, destination_at, address_len, header_span, segment_span, data_span, total_len, protocol, control_bits, header_sum_at, segment_sum_at}
 use Rattle.packet_fields.specs.declared.field.Field.{Field}
 use Rattle.packet_fields.specs.declared.field.Field.TheVariants.{LinkDst, LinkSrc, Tag, Tos, Ttl, SrcIp, DstIp, SrcPort, DstPort, Payload}
 use Rattle.packet_fields.specs.declared.plan.Span.{Span}
@@ -19,12 +19,13 @@ in_frame frame s = option_map (moved (packet_at frame)) s
 abbrev pub tag_span : List ℕ → Option Span
 tag_span frame = option_map (λ t. record { at = 12; len = t - 12 }) (type_at frame)
 
--- where a field of a header lies in the packet: its place in the header (RFC 791, 3.1; RFC 793, 3.1; RFC 768), and its length
+-- where a field of a header lies in the packet: its place in the header (RFC 791, 3.1; RFC 8200, 3; RFC 793, 3.1; RFC 768), and its length.
+-- IPv6's traffic class is no field.
 abbrev pub packet_span : Field → List ℕ → Option Span
-packet_span Tos p = header_span p 1 1
-packet_span Ttl p = header_span p 8 1
-packet_span SrcIp p = header_span p 12 4
-packet_span DstIp p = header_span p 16 4
+packet_span Tos p = span_within (is_ipv4 p) (length p) (in_header 1) 1
+packet_span Ttl p = header_span p (ttl_at p) 1
+packet_span SrcIp p = header_span p (source_at p) (address_len p)
+packet_span DstIp p = header_span p (destination_at p) (address_len p)
 packet_span SrcPort p = segment_span p 0 2
 packet_span DstPort p = segment_span p 2 2
 packet_span Payload p = data_span p
@@ -79,15 +80,15 @@ number_of SrcPort = 7
 number_of DstPort = 8
 number_of Payload = 9
 
--- how many bytes a field has: whole tags of four bytes each, data of any length, and else a fixed number
+-- how many bytes a field has: whole tags of four bytes each, addresses of IPv4 or of IPv6, data of any length, and else a fixed number
 abbrev pub IsLengthOf : Field → ℕ → Type 0
 IsLengthOf LinkDst n = n ≡ 6
 IsLengthOf LinkSrc n = n ≡ 6
 IsLengthOf Tag n = n % 4 ≡ 0
 IsLengthOf Tos n = n ≡ 1
 IsLengthOf Ttl n = n ≡ 1
-IsLengthOf SrcIp n = n ≡ 4
-IsLengthOf DstIp n = n ≡ 4
+IsLengthOf SrcIp n = (n ≡ 4) ⊎ (n ≡ 16)
+IsLengthOf DstIp n = (n ≡ 4) ⊎ (n ≡ 16)
 IsLengthOf SrcPort n = n ≡ 2
 IsLengthOf DstPort n = n ≡ 2
 IsLengthOf Payload n = ⊤

@@ -4,9 +4,9 @@ use Rattle.packet_fields.specs.Packets.{total_len, protocol, control_bits, heade
 use Rattle.packet_fields.specs.Fields.{packet_span}
 use Rattle.packet_fields.specs.declared.field.Field.TheVariants.{Tos, Ttl, SrcIp, DstIp, SrcPort, DstPort, Payload}
 use Rattle.packet_fields.specs.declared.packet.HeaderPlan.{HeaderPlan}
-use Rattle.packet_fields.specs.declared.packet.SegmentPlan.{SegmentPlan}
+use Rattle.packet_fields.specs.declared.transport.SegmentPlan.{SegmentPlan}
 
--- the fields of the IPv4 header
+-- the fields of the IP header
 abbrev pub header_plan_of : List ℕ → HeaderPlan
 header_plan_of packet = record {
   tos = packet_span Tos packet;

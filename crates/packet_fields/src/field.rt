@@ -11,13 +11,13 @@ pub enum Field {
     LinkSrc,
     /// The list of tags, 4 bytes each, maybe empty (IEEE 802.1Q, 9.3).
     Tag,
-    /// The type of service, 1 byte (RFC 791, 3.1).
+    /// The type of service of IPv4, 1 byte (RFC 791, 3.1). IPv6's traffic class is no field.
     Tos,
-    /// The time to live, 1 byte (RFC 791, 3.1).
+    /// The time to live, 1 byte (RFC 791, 3.1), which IPv6 names hop limit (RFC 8200, 3).
     Ttl,
-    /// The source address, 4 bytes (RFC 791, 3.1).
+    /// The source address, 4 bytes (RFC 791, 3.1) or 16 (RFC 8200, 3).
     SrcIp,
-    /// The destination address, 4 bytes (RFC 791, 3.1).
+    /// The destination address, 4 bytes (RFC 791, 3.1) or 16 (RFC 8200, 3).
     DstIp,
     /// The source port, 2 bytes (RFC 793, 3.1; RFC 768).
     SrcPort,

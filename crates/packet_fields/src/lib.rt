@@ -3,12 +3,12 @@
 //!
 //! A frame is two link addresses, tags (IEEE 802.1Q), and a packet that begins with its EtherType.
 //! [`layout`] finds the ten fields of a frame that a network function can write, and the values that
-//! none writes, in the headers of IPv4 (RFC 791), TCP (RFC 793) and UDP (RFC 768). It takes bytes of
-//! any kind and length: a capture that was cut, a later fragment or a header that is none has fewer
-//! fields, and no call reads past what was captured. [`get`] gives a field's bytes and [`put`] writes
-//! them. An [`Outline`] does the same for one who asks for few fields: it keeps which headers there are,
-//! and finds a field where it is asked for. [`tags`] and [`with_tags`] are for the list of tags, whose
-//! length may change; [`seal`] adjusts the checksums once for all changes (RFC 1624). Only
+//! none writes, in the headers of IPv4 (RFC 791), IPv6 (RFC 8200), TCP (RFC 793) and UDP (RFC 768). It
+//! takes bytes of any kind and length: a capture that was cut, a later fragment or a header that is none
+//! has fewer fields, and no call reads past what was captured. [`get`] gives a field's bytes and [`put`]
+//! writes them. An [`Outline`] does the same for one who asks for few fields: it keeps which headers there
+//! are, and finds a field where it is asked for. [`tags`] and [`with_tags`] are for the list of tags,
+//! whose length may change; [`seal`] adjusts the checksums once for all changes (RFC 1624). Only
 //! [`with_tags`] takes memory.
 //!
 //! What is promised, for all bytes: a field that was written has its value, and every other field, every
@@ -23,7 +23,9 @@
 //! was written to are the new values over the old, and its rest stays. A sealed frame is `sealed` of
 //! `specs.Checksums`. A [`Frame`] is seen as the list of its bytes.
 //!
-//! IPv6 is left out, and so are checksums as such: none is computed, and a wrong one stays wrong.
+//! IPv6's extension headers are left out: none is followed, and where one stands behind the header there is
+//! no transport header (RFC 8200, 4). Left out too are checksums as such: none is computed, and a wrong one
+//! stays wrong.
 #![tactic(auto)]
 
 mod access;
@@ -36,11 +38,13 @@ mod plan;
 mod sealing;
 mod sums;
 mod tagging;
+mod transport;
 
 pub use access::{get, put};
 pub use field::Field;
 pub use frame::Frame;
 pub use outline::{Outline, Segment};
+pub use packet::IpVersion;
 pub use places::layout;
 pub use plan::{Layout, Span};
 pub use sealing::seal;

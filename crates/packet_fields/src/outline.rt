@@ -2,12 +2,12 @@
 
 use crate::access::{overwrite, part};
 use crate::field::Field;
-use crate::packet::{
-    DST_IP, DST_PORT, PROTOCOL, SRC_IP, SRC_PORT, TCP, TCP_CONTROL, TOS, TOTAL_LEN, TTL, byte,
-    data_span, datagram_end, has_segment, is_ipv4, segment_at, within, word,
-};
-use crate::places::{moved, packet_from, packet_place, tag_place};
+use crate::packet::{IpVersion, byte, ip_version, protocol, tos_span, total_len, within};
+use crate::places::{ether_type, moved, packet_from, packet_place, tag_place};
 use crate::plan::Span;
+use crate::transport::{
+    DST_PORT, SRC_PORT, TCP, TCP_CONTROL, data_span, datagram_end, has_segment, is_udp, segment_at,
+};
 
 /// What of its headers a frame has, from which the place of each field follows.
 ///
@@ -17,8 +17,8 @@ use crate::plan::Span;
 pub struct Outline {
     /// Where the packet begins: at its EtherType, or at the frame's end where there is none.
     pub start: usize,
-    /// Does an IPv4 header begin there? (RFC 791, 3.1)
-    pub has_header: bool,
+    /// Which IP header begins there, if one does (RFC 791, 3.1; RFC 8200, 3).
+    pub version: Option<IpVersion>,
     /// The TCP or UDP segment, where one begins.
     pub segment: Option<Segment>,
 }
@@ -50,11 +50,11 @@ impl Outline {
     {
         let start = packet_place(frame);
         let packet = packet_from(frame, start);
-        let has_header = is_ipv4(packet);
+        let version = ip_version(packet);
         Outline {
             start,
-            has_header,
-            segment: segment_in(packet, has_header),
+            version,
+            segment: segment_in(packet, version),
         }
     }
 
@@ -69,10 +69,10 @@ impl Outline {
             Field::LinkDst => within(true, frame.len(), 0, 6),
             Field::LinkSrc => within(true, frame.len(), 6, 6),
             Field::Tag => tag_place(frame, self.start),
-            Field::Tos => header_place(self, frame, TOS, 1),
-            Field::Ttl => header_place(self, frame, TTL, 1),
-            Field::SrcIp => header_place(self, frame, SRC_IP, 4),
-            Field::DstIp => header_place(self, frame, DST_IP, 4),
+            Field::Tos => tos_place(self, frame),
+            Field::Ttl => ttl_place(self, frame),
+            Field::SrcIp => src_ip_place(self, frame),
+            Field::DstIp => dst_ip_place(self, frame),
             Field::SrcPort => port_place(self, frame, SRC_PORT),
             Field::DstPort => port_place(self, frame, DST_PORT),
             Field::Payload => payload_place(self, frame),
@@ -115,33 +115,26 @@ impl Outline {
         requires { self.now ≡ outline_of frame.now }
         ensures { result ≡ ether_type frame.now }
     {
-        if frame.len() >= 14 {
-            Some(word(frame, self.start))
-        } else {
-            None
-        }
+        ether_type(frame, self.start)
     }
 
-    /// The IPv4 header's protocol (RFC 791, 3.1).
+    /// The IP header's protocol (RFC 791, 3.1), which IPv6 names next header (RFC 8200, 3).
     pub fn protocol(&self, frame: &[u8]) -> Option<u8>
         requires { self.now ≡ outline_of frame.now }
         ensures { result ≡ protocol (packet_of frame.now) }
     {
-        let packet = packet_in(self, frame);
-        byte(self.has_header, packet.len(), packet, PROTOCOL)
+        let version = self.version?;
+        protocol(packet_in(self, frame), version)
     }
 
-    /// The IPv4 header's total length, in bytes (RFC 791, 3.1).
+    /// The length of the IP header and of what stands behind it, in bytes (RFC 791, 3.1; RFC 8200, 3), where it is
+    /// at most 65,535.
     pub fn total_len(&self, frame: &[u8]) -> Option<u16>
         requires { self.now ≡ outline_of frame.now }
         ensures { result ≡ total_len (packet_of frame.now) }
     {
-        let packet = packet_in(self, frame);
-        if self.has_header && packet.len() >= TOTAL_LEN + 2 {
-            Some(word(packet, TOTAL_LEN))
-        } else {
-            None
-        }
+        let version = self.version?;
+        total_len(packet_in(self, frame), version)
     }
 
     /// The TCP header's byte of control bits (RFC 793, 3.1).
@@ -149,10 +142,11 @@ impl Outline {
         requires { self.now ≡ outline_of frame.now }
         ensures { result ≡ control_bits (packet_of frame.now) }
     {
+        let version = self.version?;
         let segment = self.segment?;
         let packet = packet_in(self, frame);
         byte(
-            packet[PROTOCOL] == TCP,
+            packet[version.format().protocol] == TCP,
             segment.end,
             packet,
             segment.at + TCP_CONTROL,
@@ -160,26 +154,37 @@ impl Outline {
     }
 }
 
-ghost use Rattle.std.specs.Prelude.{◌≡◌, ◌≤◌, ◌+◌, length};
+ghost use Rattle.std.specs.Prelude.{◌≡◌, ◌≤◌, ◌+◌, Some, true, length};
 ghost use Rattle.packet_fields.specs.Frames.{packet as packet_of};
-ghost use Rattle.packet_fields.specs.Packets.{is_ipv4 as is_ipv4_of, segment_span, data_span as data_span_of, span_within};
-ghost use Rattle.packet_fields.specs.Fields.{in_frame};
-ghost use Rattle.packet_fields.specs.Outlines.{outline_of, segment_in as segment_in_of};
+ghost use Rattle.packet_fields.specs.Packets.{segment_span, data_span as data_span_of, span_within};
+ghost use Rattle.packet_fields.specs.Fields.{in_frame, packet_span};
+ghost use Rattle.packet_fields.specs.declared.field.Field.{Field};
+ghost use Rattle.packet_fields.specs.Outlines.{version_of, outline_of, segment_in as segment_in_of};
 
-/// The segment in a packet, of which it is known whether an IPv4 header begins.
-fn segment_in(packet: &[u8], has_header: bool) -> Option<Segment>
-    requires { has_header ≡ is_ipv4_of packet.now }
+/// The segment in a packet, of which it is known which IP header begins.
+fn segment_in(packet: &[u8], version: Option<IpVersion>) -> Option<Segment>
+    requires { version ≡ version_of packet.now }
     ensures { result ≡ segment_in_of packet.now }
 {
-    if !has_header {
+    match version {
+        Some(IpVersion::V4) => segment_behind(packet, IpVersion::V4),
+        Some(IpVersion::V6) => segment_behind(packet, IpVersion::V6),
+        None => None,
+    }
+}
+
+/// The segment behind an IP header of this version.
+#[inline(always)]
+fn segment_behind(packet: &[u8], version: IpVersion) -> Option<Segment>
+    requires { version_of packet.now ≡ Some version }
+    ensures { result ≡ segment_in_of packet.now }
+{
+    if !has_segment(packet, version) {
         return None;
     }
-    if !has_segment(packet) {
-        return None;
-    }
-    let at = segment_at(packet);
-    let end = datagram_end(packet);
-    let payload = match data_span(packet, at, end) {
+    let at = segment_at(packet, version);
+    let end = datagram_end(packet, version);
+    let payload = match data_span(packet, is_udp(packet, version), at, end) {
         Some(span) => Some(span.at),
         None => None,
     };
@@ -196,18 +201,58 @@ fn packet_in<'a>(outline: &Outline, frame: &'a [u8]) -> &'a [u8]
     packet_from(frame, outline.start)
 }
 
-/// Some bytes of the IPv4 header.
+/// Some bytes of the IP header.
 #[inline(always)]
 fn header_place(outline: &Outline, frame: &[u8], at: usize, len: usize) -> Option<Span>
     requires own { outline.now ≡ outline_of frame.now }
-    requires near { at + len ≤ 22 }
-    ensures place { result ≡ in_frame frame.now (span_within (is_ipv4_of (packet_of frame.now)) (length (packet_of frame.now)) at len) }
+    requires near { at + len ≤ 42 }
+    ensures place { result ≡ in_frame frame.now (span_within true (length (packet_of frame.now)) at len) }
 {
     let packet = packet_in(outline, frame);
-    moved(
-        within(outline.has_header, packet.len(), at, len),
-        outline.start,
-    )
+    moved(within(true, packet.len(), at, len), outline.start)
+}
+
+/// The type of service, which IPv4's header alone has.
+#[inline(always)]
+fn tos_place(outline: &Outline, frame: &[u8]) -> Option<Span>
+    requires own { outline.now ≡ outline_of frame.now }
+    ensures place { result ≡ in_frame frame.now (packet_span Field.Tos (packet_of frame.now)) }
+{
+    let version = outline.version?;
+    moved(tos_span(packet_in(outline, frame), version), outline.start)
+}
+
+/// The time to live.
+#[inline(always)]
+fn ttl_place(outline: &Outline, frame: &[u8]) -> Option<Span>
+    requires own { outline.now ≡ outline_of frame.now }
+    ensures place { result ≡ in_frame frame.now (packet_span Field.Ttl (packet_of frame.now)) }
+{
+    let version = outline.version?;
+    let format = version.format();
+    header_place(outline, frame, format.ttl, 1)
+}
+
+/// The source's address.
+#[inline(always)]
+fn src_ip_place(outline: &Outline, frame: &[u8]) -> Option<Span>
+    requires own { outline.now ≡ outline_of frame.now }
+    ensures place { result ≡ in_frame frame.now (packet_span Field.SrcIp (packet_of frame.now)) }
+{
+    let version = outline.version?;
+    let format = version.format();
+    header_place(outline, frame, format.src_ip, format.address_len)
+}
+
+/// The destination's address.
+#[inline(always)]
+fn dst_ip_place(outline: &Outline, frame: &[u8]) -> Option<Span>
+    requires own { outline.now ≡ outline_of frame.now }
+    ensures place { result ≡ in_frame frame.now (packet_span Field.DstIp (packet_of frame.now)) }
+{
+    let version = outline.version?;
+    let format = version.format();
+    header_place(outline, frame, format.dst_ip, format.address_len)
 }
 
 /// A port, which lies at a place of the transport header.

@@ -1,57 +1,96 @@
-//! The headers of a packet, which begins with its EtherType.
-ghost use Rattle.std.specs.Prelude.{◌≡◌, ◌≤◌, ◌+◌, ◌^◌, ◌<◌, ◌&&◌, ◌||◌, ◌*◌, ◌%◌, length, slice_index, IsTrue, IfSome, true};
+//! The IP header of a packet, which begins with its EtherType.
+//!
+//! `layout`, `Outline::of` and `seal` ask once for the version, and tell it as a constant to the functions that take it, which are
+//! inlined: so each version has code of its own, with its places in it.
+ghost use Rattle.std.specs.Prelude.{◌≡◌, ◌≤◌, ◌+◌, ◌^◌, ◌<◌, List, ℕ, length, IfSome, Some};
 ghost use Rattle.packet_fields.specs.Frames.{word as word_of};
-ghost use Rattle.packet_fields.specs.Packets.{span_within, byte_within, place_within, is_ipv4 as is_ipv4_of, has_transport as has_transport_of, header_len as header_len_of, segment_at as segment_at_of, datagram_end as datagram_end_of, data_span as data_span_of, control_bits, is_tcp, is_udp};
-ghost use Rattle.packet_fields.specs.Plans.{header_plan_of, segment_plan_of};
-ghost use Rattle.packet_fields.specs.Checksums.{same_span, same_number};
+ghost use Rattle.packet_fields.specs.Packets.{span_within, byte_within, place_within, is_ipv4 as is_ipv4_of, is_ipv6 as is_ipv6_of, protocol as protocol_of, total_len as total_len_of, header_len as header_len_of, header_sum_at as header_sum_at_of};
+ghost use Rattle.packet_fields.specs.Fields.{packet_span};
+ghost use Rattle.packet_fields.specs.declared.field.Field.{Field};
+ghost use Rattle.packet_fields.specs.Plans.{header_plan_of};
+ghost use Rattle.packet_fields.specs.Outlines.{version_of, is_version as is_version_of, format_of};
 
 use crate::plan::Span;
 use byteorder::{BigEndian, ByteOrder};
 
 const IPV4: u16 = 0x0800;
 
-/// Where the IPv4 header begins: behind the EtherType.
+const IPV6: u16 = 0x86dd;
+
+/// Where the IP header begins: behind the EtherType.
 pub const HEADER: usize = 2;
 
-// The places of its fields, which RFC 791, 3.1, counts from the header's first byte.
-pub const TOS: usize = HEADER + 1;
+// The places of fields that IPv4's header alone has, which RFC 791, 3.1, counts from the header's first byte.
+const TOS: usize = HEADER + 1;
 
-pub const TOTAL_LEN: usize = HEADER + 2;
-
-const FRAGMENT: usize = HEADER + 6;
-
-pub const TTL: usize = HEADER + 8;
-
-pub const PROTOCOL: usize = HEADER + 9;
+pub const FRAGMENT: usize = HEADER + 6;
 
 pub const HEADER_SUM: usize = HEADER + 10;
 
-pub const SRC_IP: usize = HEADER + 12;
+/// The length of IPv6's header (RFC 8200, 3).
+const IPV6_HEADER_LEN: u16 = 40;
 
-pub const DST_IP: usize = HEADER + 16;
+/// A version of IP.
+#[derive(Clone, Copy, Debug, PartialEq, Eq)]
+pub enum IpVersion {
+    /// IPv4 (RFC 791, 3.1).
+    V4,
+    /// IPv6 (RFC 8200, 3).
+    V6,
+}
 
-// The places of fields of TCP and UDP, from the first byte of their header (RFC 793, 3.1; RFC 768).
-pub const SRC_PORT: usize = 0;
+/// Where a packet has the fields that the IP headers of both versions have.
+#[derive(Clone, Copy)]
+pub struct HeaderFormat {
+    /// The datagram's length.
+    pub total_len: usize,
+    /// How many bytes that length leaves out: IPv6's leaves out the header.
+    pub uncounted: u16,
+    /// The time to live, which IPv6 names hop limit.
+    pub ttl: usize,
+    /// The protocol, which IPv6 names next header.
+    pub protocol: usize,
+    /// The source's address, behind which the destination's stands.
+    pub src_ip: usize,
+    /// The destination's address.
+    pub dst_ip: usize,
+    /// The length of an address.
+    pub address_len: usize,
+}
 
-pub const DST_PORT: usize = 2;
+impl IpVersion {
+    ghost use Rattle.std.specs.Prelude.{◌≡◌, List, ℕ, Some};
+    ghost use Rattle.packet_fields.specs.Outlines.{version_of, format_of};
 
-const TCP_OFFSET: usize = 12;
+    /// The format of the version's header: RFC 791, 3.1, and RFC 8200, 3, count its places from its first byte.
+    #[inline(always)]
+    pub const fn format(self) -> HeaderFormat
+        ensures { (packet : List ℕ) → version_of packet ≡ Some self → result ≡ format_of packet }
+    {
+        match self {
+            IpVersion::V4 => HeaderFormat {
+                total_len: HEADER + 2,
+                uncounted: 0,
+                ttl: HEADER + 8,
+                protocol: HEADER + 9,
+                src_ip: HEADER + 12,
+                dst_ip: HEADER + 16,
+                address_len: 4,
+            },
+            IpVersion::V6 => HeaderFormat {
+                total_len: HEADER + 4,
+                uncounted: IPV6_HEADER_LEN,
+                ttl: HEADER + 7,
+                protocol: HEADER + 6,
+                src_ip: HEADER + 8,
+                dst_ip: HEADER + 24,
+                address_len: 16,
+            },
+        }
+    }
+}
 
-pub const TCP_CONTROL: usize = 13;
-
-const TCP_SUM: usize = 16;
-
-const UDP_SUM: usize = 6;
-
-const UDP_HEADER_LEN: usize = 8;
-
-/// The protocol number of TCP (RFC 793).
-pub const TCP: u8 = 6;
-
-/// The protocol number of UDP (RFC 768).
-pub const UDP: u8 = 17;
-
-/// The fields of the IPv4 header.
+/// The fields of the IP header.
 #[derive(Clone, Copy, PartialEq, Eq)]
 pub struct HeaderPlan {
     pub tos: Option<Span>,
@@ -63,14 +102,21 @@ pub struct HeaderPlan {
     pub sum_at: Option<usize>,
 }
 
-/// The fields of the TCP or UDP header, and the data behind it.
-#[derive(Clone, Copy, PartialEq, Eq)]
-pub struct SegmentPlan {
-    pub src_port: Option<Span>,
-    pub dst_port: Option<Span>,
-    pub payload: Option<Span>,
-    pub control_bits: Option<u8>,
-    pub sum_at: Option<usize>,
+impl HeaderPlan {
+    /// No field.
+    const fn none() -> Self
+        ensures { result ≡ record { tos = None; ttl = None; src_ip = None; dst_ip = None; proto = None; total_len = None; sum_at = None } }
+    {
+        HeaderPlan {
+            tos: None,
+            ttl: None,
+            src_ip: None,
+            dst_ip: None,
+            proto: None,
+            total_len: None,
+            sum_at: None,
+        }
+    }
 }
 
 /// The 16-bit number at a place.
@@ -95,7 +141,7 @@ pub fn within(there: bool, limit: usize, at: usize, len: usize) -> Option<Span>
 }
 
 /// A place of some bytes that lie below a limit.
-fn place(there: bool, limit: usize, at: usize, len: usize) -> Option<usize>
+pub fn place(there: bool, limit: usize, at: usize, len: usize) -> Option<usize>
     requires { at + len < 2 ^ 64 }
     ensures place { result ≡ place_within there limit at len }
     ensures inside { IfSome result (λ p. p + len ≤ limit) }
@@ -119,11 +165,34 @@ pub fn byte(there: bool, limit: usize, bytes: &[u8], at: usize) -> Option<u8>
     }
 }
 
+/// Which IP header begins behind the EtherType?
+pub fn ip_version(packet: &[u8]) -> Option<IpVersion>
+    ensures { result ≡ version_of packet.now }
+{
+    if is_ipv4(packet) {
+        Some(IpVersion::V4)
+    } else if is_ipv6(packet) {
+        Some(IpVersion::V6)
+    } else {
+        None
+    }
+}
+
+/// Does an IP header of this version begin behind the EtherType?
+#[inline(always)]
+pub fn is_version(packet: &[u8], version: IpVersion) -> bool
+    ensures { result ≡ is_version_of version packet.now }
+{
+    match version {
+        IpVersion::V4 => is_ipv4(packet),
+        IpVersion::V6 => is_ipv6(packet),
+    }
+}
+
 /// Does an IPv4 header begin behind the EtherType?
 #[tactic(auto, unfolding(crate::specs::Packets::is_ipv4))]
-pub fn is_ipv4(packet: &[u8]) -> bool
-    ensures there { result ≡ is_ipv4_of packet.now }
-    ensures room { IsTrue result → 3 ≤ length packet.now }
+fn is_ipv4(packet: &[u8]) -> bool
+    ensures { result ≡ is_ipv4_of packet.now }
 {
     packet.len() > HEADER
         && word(packet, 0) == IPV4
@@ -131,33 +200,40 @@ pub fn is_ipv4(packet: &[u8]) -> bool
         && packet[HEADER] % 16 >= 5
 }
 
-/// Does a TCP or UDP header begin behind the IPv4 header?
-#[tactic(auto, unfolding(crate::specs::Packets::has_transport))]
-pub fn has_transport(packet: &[u8]) -> bool
-    ensures there { result ≡ has_transport_of packet.now }
-    ensures room { IsTrue result → 12 ≤ length packet.now }
-    ensures kind { IsTrue result → (is_tcp packet.now || is_udp packet.now) ≡ true }
+/// Does an IPv6 header begin behind the EtherType?
+#[tactic(auto, unfolding(crate::specs::Packets::is_ipv6))]
+fn is_ipv6(packet: &[u8]) -> bool
+    ensures { result ≡ is_ipv6_of packet.now }
 {
-    is_ipv4(packet) && has_segment(packet)
+    packet.len() > HEADER && word(packet, 0) == IPV6 && packet[HEADER] / 16 == 6
 }
 
-/// Does a TCP or UDP header begin behind this IPv4 header?
-#[tactic(auto, unfolding(crate::specs::Packets::has_transport))]
-pub fn has_segment(packet: &[u8]) -> bool
-    requires { is_ipv4_of packet.now ≡ true }
-    ensures there { result ≡ has_transport_of packet.now }
-    ensures room { IsTrue result → 12 ≤ length packet.now }
-    ensures kind { IsTrue result → (is_tcp packet.now || is_udp packet.now) ≡ true }
-{
-    packet.len() > PROTOCOL
-        && (packet[PROTOCOL] == TCP || packet[PROTOCOL] == UDP)
-        && word(packet, FRAGMENT) % 8192 == 0
-        && 4 * u16::from(packet[HEADER] % 16) <= word(packet, TOTAL_LEN)
-}
-
-/// The places of the IPv4 header.
+/// The protocol of the data behind the header, where it is captured.
 #[inline(always)]
-pub fn header_plan(packet: &[u8]) -> HeaderPlan
+pub fn protocol(packet: &[u8], version: IpVersion) -> Option<u8>
+    requires { version_of packet.now ≡ Some version }
+    ensures { result ≡ protocol_of packet.now }
+{
+    byte(true, packet.len(), packet, version.format().protocol)
+}
+
+/// The datagram's length, where it is captured and can be stated in 16 bits.
+#[inline(always)]
+pub fn total_len(packet: &[u8], version: IpVersion) -> Option<u16>
+    requires { version_of packet.now ≡ Some version }
+    ensures { result ≡ total_len_of packet.now }
+{
+    let format = version.format();
+    if packet.len() < format.total_len + 2 {
+        return None;
+    }
+    word(packet, format.total_len).checked_add(format.uncounted)
+}
+
+/// The places of the IP header.
+#[inline(always)]
+pub fn header_plan(packet: &[u8], version: Option<IpVersion>) -> HeaderPlan
+    requires { version ≡ version_of packet.now }
     ensures plan { result ≡ header_plan_of packet.now }
     ensures tos { IfSome result.tos (λ s. s.at + s.len ≤ length packet.now) }
     ensures ttl { IfSome result.ttl (λ s. s.at + s.len ≤ length packet.now) }
@@ -165,120 +241,58 @@ pub fn header_plan(packet: &[u8]) -> HeaderPlan
     ensures dst_ip { IfSome result.dst_ip (λ s. s.at + s.len ≤ length packet.now) }
     ensures sum_at { IfSome result.sum_at (λ at. at + 2 ≤ length packet.now) }
 {
-    let there = is_ipv4(packet);
+    let Some(version) = version else {
+        return HeaderPlan::none();
+    };
+    let format = version.format();
     let end = packet.len();
-    let total_len = if there && end >= TOTAL_LEN + 2 {
-        Some(word(packet, TOTAL_LEN))
-    } else {
-        None
-    };
     HeaderPlan {
-        tos: within(there, end, TOS, 1),
-        ttl: within(there, end, TTL, 1),
-        src_ip: within(there, end, SRC_IP, 4),
-        dst_ip: within(there, end, DST_IP, 4),
-        proto: byte(there, end, packet, PROTOCOL),
-        total_len,
-        sum_at: place(there, end, HEADER_SUM, 2),
+        tos: tos_span(packet, version),
+        ttl: within(true, end, format.ttl, 1),
+        src_ip: within(true, end, format.src_ip, format.address_len),
+        dst_ip: within(true, end, format.dst_ip, format.address_len),
+        proto: protocol(packet, version),
+        total_len: total_len(packet, version),
+        sum_at: header_sum_at(packet, version),
     }
 }
 
-/// The length of the IPv4 header.
-pub fn header_len(packet: &[u8]) -> usize
-    requires { 3 ≤ length packet.now }
+/// Where the type of service lies, which IPv4's header alone has.
+#[inline(always)]
+pub fn tos_span(packet: &[u8], version: IpVersion) -> Option<Span>
+    requires { version_of packet.now ≡ Some version }
+    ensures span { result ≡ packet_span Field.Tos packet.now }
+    ensures inside { IfSome result (λ s. s.at + s.len ≤ length packet.now) }
+{
+    match version {
+        IpVersion::V4 => within(true, packet.len(), TOS, 1),
+        IpVersion::V6 => None,
+    }
+}
+
+/// Where the header checksum stands, which IPv4's header alone has.
+#[inline(always)]
+pub fn header_sum_at(packet: &[u8], version: IpVersion) -> Option<usize>
+    requires { version_of packet.now ≡ Some version }
+    ensures place { result ≡ header_sum_at_of packet.now }
+    ensures inside { IfSome result (λ at. at + 2 ≤ length packet.now) }
+{
+    match version {
+        IpVersion::V4 => place(true, packet.len(), HEADER_SUM, 2),
+        IpVersion::V6 => None,
+    }
+}
+
+/// The length of the IP header.
+#[inline(always)]
+pub fn header_len(packet: &[u8], version: IpVersion) -> usize
+    requires { version_of packet.now ≡ Some version }
     ensures len { result ≡ header_len_of packet.now }
+    ensures least { 20 ≤ result }
     ensures bound { result ≤ 60 }
-    ensures least { is_ipv4_of packet.now ≡ true → 20 ≤ result }
 {
-    4 * usize::from(packet[HEADER] % 16)
-}
-
-/// Where the transport header begins.
-pub fn segment_at(packet: &[u8]) -> usize
-    requires { 3 ≤ length packet.now }
-    ensures at { result ≡ segment_at_of packet.now }
-    ensures bound { result ≤ 62 }
-{
-    header_len(packet) + HEADER
-}
-
-/// Where the captured bytes of the datagram end.
-pub fn datagram_end(packet: &[u8]) -> usize
-    requires { 6 ≤ length packet.now }
-    ensures end { result ≡ datagram_end_of packet.now }
-    ensures inside { result ≤ length packet.now }
-    ensures short { result ≤ 65537 }
-{
-    packet
-        .len()
-        .min(usize::from(word(packet, TOTAL_LEN)) + HEADER)
-}
-
-/// Where the data behind a transport header that begins at `start` lies, below `end`.
-#[inline(always)]
-pub fn data_span(packet: &[u8], start: usize, end: usize) -> Option<Span>
-    requires there { IsTrue (has_transport_of packet.now) }
-    requires room { 12 ≤ length packet.now }
-    requires begins { start ≡ segment_at_of packet.now }
-    requires ends { end ≡ datagram_end_of packet.now }
-    ensures span { result ≡ data_span_of packet.now }
-    ensures inside { IfSome result (λ s. s.at + s.len ≤ end) }
-{
-    let at = if packet[PROTOCOL] == UDP {
-        start + UDP_HEADER_LEN
-    } else if start + TCP_OFFSET < end && packet[start + TCP_OFFSET] / 16 >= 5 {
-        4 * usize::from(packet[start + TCP_OFFSET] / 16) + start
-    } else {
-        return None;
-    };
-    if at <= end {
-        Some(Span { at, len: end - at })
-    } else {
-        None
+    match version {
+        IpVersion::V4 => 4 * usize::from(packet[HEADER] % 16),
+        IpVersion::V6 => usize::from(IPV6_HEADER_LEN),
     }
-}
-
-/// The places of the transport header.
-#[inline(always)]
-pub fn segment_plan(packet: &[u8]) -> SegmentPlan
-    ensures plan { result ≡ segment_plan_of packet.now }
-    ensures src_port { IfSome result.src_port (λ s. s.at + s.len ≤ length packet.now) }
-    ensures dst_port { IfSome result.dst_port (λ s. s.at + s.len ≤ length packet.now) }
-    ensures payload { IfSome result.payload (λ s. s.at + s.len ≤ length packet.now) }
-    ensures short { IfSome result.payload (λ s. s.len ≤ 65537) }
-    ensures sum_at { IfSome result.sum_at (λ at. at + 2 ≤ length packet.now) }
-{
-    if !has_transport(packet) {
-        return SegmentPlan {
-            src_port: None,
-            dst_port: None,
-            payload: None,
-            control_bits: None,
-            sum_at: None,
-        };
-    }
-    let start = segment_at(packet);
-    let end = datagram_end(packet);
-    let is_udp = packet[PROTOCOL] == UDP;
-    let sum = if is_udp { UDP_SUM } else { TCP_SUM };
-    SegmentPlan {
-        src_port: within(true, end, start + SRC_PORT, 2),
-        dst_port: within(true, end, start + DST_PORT, 2),
-        payload: data_span(packet, start, end),
-        control_bits: byte(!is_udp, end, packet, start + TCP_CONTROL),
-        sum_at: place(true, end, start + sum, 2),
-    }
-}
-
-/// Do the data and the control bits of a TCP packet lie and stand as in a plan?
-pub fn has_data_of(packet: &[u8], plan: &SegmentPlan) -> bool
-    requires there { IsTrue (has_transport_of packet.now) }
-    requires room { 12 ≤ length packet.now }
-    requires tcp { is_tcp packet.now ≡ true }
-    ensures { result ≡ (same_span plan.now.payload (data_span_of packet.now) && same_number plan.now.control_bits (control_bits packet.now)) }
-{
-    let start = segment_at(packet);
-    let end = datagram_end(packet);
-    plan.payload == data_span(packet, start, end)
-        && plan.control_bits == byte(true, end, packet, start + TCP_CONTROL)
 }

@@ -1,11 +1,13 @@
 //! Finding the fields of a frame.
 ghost use Rattle.std.specs.Prelude.{◌≡◌, ◌≤◌, ◌+◌, ◌*◌, ◌<◌, ◌^◌, length, IfSome};
-ghost use Rattle.packet_fields.specs.Frames.{is_tpid, tags_len, packet_at, packet as packet_of};
-ghost use Rattle.packet_fields.specs.Fields.{layout_of, tag_span, moved as moved_of};
+ghost use Rattle.packet_fields.specs.Frames.{is_tpid, tags_len, type_at, packet_at, packet as packet_of};
+ghost use Rattle.packet_fields.specs.Fields.{layout_of, tag_span, ether_type as ether_type_of, moved as moved_of};
+ghost use Rattle.packet_fields.specs.Outlines.{version_of};
 ghost use Rattle.std.specs.Option.{option_map};
 
-use crate::packet::{header_plan, segment_plan, within, word};
+use crate::packet::{IpVersion, header_plan, ip_version, within, word};
 use crate::plan::{Layout, Span};
+use crate::transport::segment_plan;
 
 const CUSTOMER_TAG: u16 = 0x8100;
 
@@ -17,9 +19,24 @@ pub fn layout(frame: &[u8]) -> Layout
 {
     let start = packet_place(frame);
     let packet = packet_from(frame, start);
-    let header = header_plan(packet);
-    let segment = segment_plan(packet);
-    let has_type = frame.len() >= 14;
+    match ip_version(packet) {
+        Some(IpVersion::V4) => layout_by(frame, start, Some(IpVersion::V4)),
+        Some(IpVersion::V6) => layout_by(frame, start, Some(IpVersion::V6)),
+        None => layout_by(frame, start, None),
+    }
+}
+
+/// The layout of a frame, of whose packet the version is known.
+#[inline(always)]
+fn layout_by(frame: &[u8], start: usize, version: Option<IpVersion>) -> Layout
+    requires begins { start ≡ packet_at frame.now }
+    requires inside { start ≤ length frame.now }
+    requires version { version ≡ version_of (packet_of frame.now) }
+    ensures { result ≡ layout_of frame.now }
+{
+    let packet = packet_from(frame, start);
+    let header = header_plan(packet, version);
+    let segment = segment_plan(packet, version);
     Layout {
         spans: [
             within(true, frame.len(), 0, 6),
@@ -33,12 +50,8 @@ pub fn layout(frame: &[u8]) -> Layout
             moved(segment.dst_port, start),
             moved(segment.payload, start),
         ],
-        type_at: if has_type { Some(start) } else { None },
-        ether_type: if has_type {
-            Some(word(packet, 0))
-        } else {
-            None
-        },
+        type_at: type_place(frame, start),
+        ether_type: ether_type(frame, start),
         proto: header.proto,
         ip_len: header.total_len,
         tcp_flags: segment.control_bits,
@@ -79,6 +92,26 @@ pub fn packet_from(frame: &[u8], start: usize) -> &[u8]
     ensures len { length result.now + start ≡ length frame.now }
 {
     &frame[start..]
+}
+
+/// The place of the EtherType.
+fn type_place(frame: &[u8], start: usize) -> Option<usize>
+    requires { start ≡ packet_at frame.now }
+    ensures { result ≡ type_at frame.now }
+{
+    if frame.len() >= 14 { Some(start) } else { None }
+}
+
+/// The frame's EtherType.
+pub fn ether_type(frame: &[u8], start: usize) -> Option<u16>
+    requires { start ≡ packet_at frame.now }
+    ensures { result ≡ ether_type_of frame.now }
+{
+    if frame.len() >= 14 {
+        Some(word(frame, start))
+    } else {
+        None
+    }
 }
 
 /// The bytes between the addresses and the EtherType.

@@ -1,21 +1,23 @@
 //! The checksums of a packet after a change.
-ghost use Rattle.std.specs.Prelude.{◌≡◌, ◌≤◌, ◌<◌, ◌+◌, ◌^◌, true, length, IfSome, if◌then◌else◌};
-ghost use Rattle.packet_fields.specs.Packets.{is_ipv4 as is_ipv4_of, header_len as header_len_of, data_span};
+ghost use Rattle.std.specs.Prelude.{◌≡◌, ◌≤◌, ◌<◌, ◌+◌, ◌^◌, ◌%◌, Some, true, length, IfSome, if◌then◌else◌};
+ghost use Rattle.packet_fields.specs.Packets.{has_transport as has_transport_of, header_len as header_len_of, data_span};
 ghost use Rattle.packet_fields.specs.Fields.{value};
 ghost use Rattle.packet_fields.specs.declared.field.Field.{Field};
 ghost use Rattle.packet_fields.specs.Writing.{overwritten, rest_of};
+ghost use Rattle.packet_fields.specs.Outlines.{version_of};
 ghost use Rattle.packet_fields.specs.Plans.{header_plan_of, segment_plan_of};
 ghost use Rattle.packet_fields.specs.Checksums.{same_header_plan, same_segment_plan, word_bytes, header_sealed, segment_sealed, packet_sealed, sealed, HasRightSums};
 ghost use Rattle.packet_fields.specs.Changes.{IsChange, header_bytes, segment_bytes, checksum_after, has_same_headers as has_same_headers_of};
 
 use crate::access::part;
 use crate::packet::{
-    HEADER, HEADER_SUM, PROTOCOL, SRC_IP, SegmentPlan, TOTAL_LEN, UDP, has_data_of, has_transport,
-    header_len, is_ipv4, segment_at, segment_plan, word,
+    HEADER, HEADER_SUM, IpVersion, header_len, header_sum_at, ip_version, is_version, protocol,
+    total_len, word,
 };
 use crate::places::{packet_from, packet_place};
 use crate::plan::Span;
 use crate::sums::Change;
+use crate::transport::{SegmentPlan, has_data_of, has_segment, is_udp, segment_at, segment_plan};
 use byteorder::{BigEndian, ByteOrder};
 
 /// Adjusts the checksums of a frame once, from what it was to what it is (RFC 1624, 3, equation 3). A
@@ -48,64 +50,84 @@ fn seal_frame(before: &[u8], after: &mut [u8])
 fn seal_packet(old: &[u8], new: &mut [u8])
     ensures { new.new ≡ packet_sealed old.now new.old }
 {
-    if !has_same_headers(old, new) {
+    match ip_version(old) {
+        Some(IpVersion::V4) => seal_version(old, new, IpVersion::V4),
+        Some(IpVersion::V6) => seal_version(old, new, IpVersion::V6),
+        None => {}
+    }
+}
+
+/// Adjusts the checksums of a packet, where the old one has an IP header of this version.
+#[inline(always)]
+fn seal_version(old: &[u8], new: &mut [u8], version: IpVersion)
+    requires { version_of old.now ≡ Some version }
+    ensures { new.new ≡ packet_sealed old.now new.old }
+{
+    if !has_same_headers(old, new, version) {
         return;
     }
-    let plan = segment_plan(old);
-    if has_same_segment(old, new, &plan) {
-        seal_header(old, new);
-        seal_segment(old, new, &plan);
+    let plan = segment_plan(old, Some(version));
+    if has_same_segment(old, new, version, &plan) {
+        seal_header(old, new, version);
+        seal_segment(old, new, version, &plan);
     }
 }
 
-/// Do two packets have IPv4 headers with the same places and fixed values?
-fn has_same_headers(old: &[u8], new: &[u8]) -> bool
+/// Do two packets, the old one of this version, have IP headers with the same places and fixed values?
+#[inline(always)]
+fn has_same_headers(old: &[u8], new: &[u8], version: IpVersion) -> bool
+    requires { version_of old.now ≡ Some version }
     ensures { result ≡ has_same_headers_of old.now new.now }
 {
-    is_ipv4(old)
-        && is_ipv4(new)
-        && old.len() == new.len()
-        && header_len(old) == header_len(new)
-        && has_same_header(old, new)
+    if !is_version(new, version) {
+        return false;
+    }
+    old.len() == new.len()
+        && header_len(old, version) == header_len(new, version)
+        && has_same_header(old, new, version)
 }
 
-/// Do the IPv4 headers of two packets of the same length have the same places and fixed values?
-fn has_same_header(old: &[u8], new: &[u8]) -> bool
-    requires old_ipv4 { is_ipv4_of old.now ≡ true }
-    requires new_ipv4 { is_ipv4_of new.now ≡ true }
+/// Do the IP headers of two packets of the same version and length have the same places and fixed values?
+#[inline(always)]
+fn has_same_header(old: &[u8], new: &[u8], version: IpVersion) -> bool
+    requires old_version { version_of old.now ≡ Some version }
+    requires new_version { version_of new.now ≡ Some version }
     requires same_len { length old.now ≡ length new.now }
     ensures { result ≡ same_header_plan (header_plan_of old.now) (header_plan_of new.now) }
 {
-    (old.len() <= PROTOCOL || old[PROTOCOL] == new[PROTOCOL])
-        && (old.len() < TOTAL_LEN + 2 || word(old, TOTAL_LEN) == word(new, TOTAL_LEN))
+    protocol(old, version) == protocol(new, version)
+        && total_len(old, version) == total_len(new, version)
 }
 
 /// Do the transport headers of two packets with the same header have the same places and fixed values,
 /// where the old one has this plan?
-fn has_same_segment(old: &[u8], new: &[u8], plan: &SegmentPlan) -> bool
+#[inline(always)]
+fn has_same_segment(old: &[u8], new: &[u8], version: IpVersion, plan: &SegmentPlan) -> bool
+    requires version { version_of old.now ≡ Some version }
+    requires same_version { version_of new.now ≡ Some version }
     requires plan { plan.now ≡ segment_plan_of old.now }
     requires headers { has_same_headers_of old.now new.now ≡ true }
     ensures { result ≡ same_segment_plan (segment_plan_of old.now) (segment_plan_of new.now) }
 {
     if plan.src_port.is_none() {
-        return *plan == segment_plan(new);
+        return *plan == segment_plan(new, Some(version));
     }
-    has_transport(new) && (old[PROTOCOL] == UDP || has_data_of(new, plan))
+    has_segment(new, version) && (is_udp(old, version) || has_data_of(new, version, plan))
 }
 
-/// Adjusts the header checksum of a packet of the same lengths.
-fn seal_header(old: &[u8], new: &mut [u8])
-    requires ipv4 { is_ipv4_of old.now ≡ true }
+/// Adjusts the header checksum of a packet of the same lengths, if its header has one.
+#[inline(always)]
+fn seal_header(old: &[u8], new: &mut [u8], version: IpVersion)
+    requires version { version_of old.now ≡ Some version }
     requires same_len { length old.now ≡ length new.old }
     requires same_header { header_len_of old.now ≡ header_len_of new.old }
     ensures { new.new ≡ header_sealed old.now new.old }
 {
-    if old.len() < HEADER_SUM + 2 {
-        return;
+    if let Some(at) = header_sum_at(old, version) {
+        let end = (header_len(old, version) + HEADER).min(old.len());
+        let checksum = header_change(old, new, end).applied(word(old, at));
+        write_word(new, at, checksum);
     }
-    let end = (header_len(old) + HEADER).min(old.len());
-    let checksum = header_change(old, new, end).applied(word(old, HEADER_SUM));
-    write_word(new, HEADER_SUM, checksum);
 }
 
 /// What changed under the checksum of a header that ends at `end`.
@@ -118,12 +140,15 @@ fn header_change(old: &[u8], new: &[u8], end: usize) -> Change
 {
     Change::none()
         .with_bytes(&old[HEADER..HEADER_SUM], &new[HEADER..HEADER_SUM])
-        .with_bytes(&old[SRC_IP..end], &new[SRC_IP..end])
+        .with_bytes(&old[HEADER_SUM + 2..end], &new[HEADER_SUM + 2..end])
 }
 
-/// Adjusts the TCP or UDP checksum of a packet of the same lengths and places, where the old one has this
-/// plan.
-fn seal_segment(old: &[u8], new: &mut [u8], plan: &SegmentPlan)
+/// Adjusts the TCP or UDP checksum of a packet of the same version, lengths and places, where the old one has
+/// this plan.
+#[inline(always)]
+fn seal_segment(old: &[u8], new: &mut [u8], version: IpVersion, plan: &SegmentPlan)
+    requires version { version_of old.now ≡ Some version }
+    requires same_version { version_of new.old ≡ Some version }
     requires plan { plan.now ≡ segment_plan_of old.now }
     requires payload { IfSome plan.now.payload (λ s. s.at + s.len ≤ length old.now) }
     requires short { IfSome plan.now.payload (λ s. s.len ≤ 65537) }
@@ -134,23 +159,37 @@ fn seal_segment(old: &[u8], new: &mut [u8], plan: &SegmentPlan)
     ensures { new.new ≡ segment_sealed old.now new.old }
 {
     if let Some(at) = plan.sum_at {
-        let change = segment_change(old, new, segment_at(old), plan.payload);
-        let checksum = segment_checksum(old[PROTOCOL] == UDP, word(old, at), change);
+        let format = version.format();
+        let addresses = Span {
+            at: format.src_ip,
+            len: 2 * format.address_len,
+        };
+        let change = segment_change(old, new, addresses, segment_at(old, version), plan.payload);
+        let checksum = segment_checksum(is_udp(old, version), word(old, at), change);
         write_word(new, at, checksum);
     }
 }
 
 /// What changed under the checksum of a transport header that begins at `start`.
-fn segment_change(old: &[u8], new: &[u8], start: usize, payload: Option<Span>) -> Change
+#[inline(always)]
+fn segment_change(
+    old: &[u8],
+    new: &[u8],
+    addresses: Span,
+    start: usize,
+    payload: Option<Span>,
+) -> Change
     requires same { length old.now ≡ length new.now }
-    requires addresses { 22 ≤ start }
+    requires addresses { addresses.at + addresses.len ≤ start }
+    requires few { addresses.len ≤ 32 }
+    requires even { addresses.len % 2 ≡ 0 }
     requires ports { start + 4 ≤ length old.now }
     requires payload { IfSome payload (λ s. s.at + s.len ≤ length old.now) }
     requires short { IfSome payload (λ s. s.len ≤ 65537) }
-    ensures { IsChange (segment_bytes start payload old.now) (segment_bytes start payload new.now) result }
+    ensures { IsChange (segment_bytes addresses start payload old.now) (segment_bytes addresses start payload new.now) result }
 {
     let change = Change::none()
-        .with_bytes(&old[SRC_IP..SRC_IP + 8], &new[SRC_IP..SRC_IP + 8])
+        .with_bytes(part(old, addresses), part(new, addresses))
         .with_bytes(&old[start..start + 4], &new[start..start + 4]);
     match payload {
         Some(span) => change.with_data(part(old, span), part(new, span)),

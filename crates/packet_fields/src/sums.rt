@@ -64,6 +64,7 @@ impl Change {
     }
 
     /// The same of data, which may be long and seldom changes: to compare it is far cheaper than to sum it.
+    #[inline(always)]
     pub fn with_data(self, old: &[u8], new: &[u8]) -> Self
         requires same { length old.now ≡ length new.now }
         requires short { length old.now ≤ 2 ^ 17 }

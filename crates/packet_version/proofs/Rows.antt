@@ -1,7 +1,7 @@
 -- Worked rows, computed by the definitions.
 use Rattle.std.proofs.Common.{◌≡◌, ℕ, List, [], ◌∷◌, ◌++◌, refl, Some, None, true}
 use Rattle.packet_fields.specs.Frames.{tags_len}
-use Rattle.packet_fields.specs.Packets.{is_ipv4, has_transport}
+use Rattle.packet_fields.specs.Packets.{is_ipv4, is_ipv6, has_transport}
 use Rattle.packet_fields.specs.Writing.{written_in, rest_of}
 use Rattle.packet_fields.specs.declared.field.Field.{Field}
 use Rattle.packet_fields.specs.declared.field.Field.TheVariants.{LinkDst, LinkSrc, Tag, Tos, Ttl, SrcIp, DstIp, SrcPort, DstPort, Payload}
@@ -33,11 +33,11 @@ abbrev apart : ℕ → List ℕ → PlainApart
 apart taggers frame = record { parts = as_list (split_parts taggers frame); rest = rest_of frame; fixed = fixed_of 7 frame }
 
 joined_short : joined (apart 0 short) ≡ short
-unfolding written_in tags_len is_ipv4 has_transport
+unfolding written_in tags_len is_ipv4 is_ipv6 has_transport
 joined_short = refl
 
 joined_packet : joined (apart 0 packet) ≡ packet
-unfolding written_in tags_len is_ipv4 has_transport
+unfolding written_in tags_len is_ipv4 is_ipv6 has_transport
 joined_packet = refl
 
 -- the tags of a frame without any have room for those that two functions add
@@ -78,16 +78,16 @@ both_mode = refl
 
 -- the destination is copied once, and no other field
 one_copy : copies_due stage DstIp (split_parts 0 packet DstIp) ≡ 1
-unfolding mode_of tags_len is_ipv4
+unfolding mode_of tags_len is_ipv4 is_ipv6
 one_copy = refl
 
 no_copy : copies_due stage SrcPort (split_parts 0 packet SrcPort) ≡ 0
-unfolding mode_of tags_len is_ipv4 has_transport
+unfolding mode_of tags_len is_ipv4 is_ipv6 has_transport
 no_copy = refl
 
 -- a frame without the field needs none
 no_copy_of_nothing : copies_due stage DstIp (split_parts 0 short DstIp) ≡ 0
-unfolding is_ipv4
+unfolding is_ipv4 is_ipv6
 no_copy_of_nothing = refl
 
 -- the monitor is dealt no tags and no data
@@ -96,12 +96,12 @@ unfolding tags_len
 watched = refl
 
 watched_port : values_of (as_map (dealt (apart 0 packet) watches).parts) DstPort ≡ Some (0 ∷ 53 ∷ [])
-unfolding tags_len is_ipv4 has_transport
+unfolding tags_len is_ipv4 is_ipv6 has_transport
 watched_port = refl
 
 -- what no branch touches stays in the base
 kept_data : values_of (packet_parts (based stage (apart 0 packet))) Payload ≡ Some []
-unfolding mode_of tags_len is_ipv4 has_transport
+unfolding mode_of tags_len is_ipv4 is_ipv6 has_transport
 kept_data = refl
 
 -- a branch of a balancer holds what a balancer names

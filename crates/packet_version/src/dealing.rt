@@ -34,7 +34,7 @@ use std::slice;
 /// taking the packet apart, and is no copy: the frame's bytes in its place are of no account from then on.
 ///
 /// Memory is taken for the list of versions, for the parts of each branch that writes some field, for
-/// each of them that has room for more than 12 bytes, and for one loan where a branch reads a field that
+/// each of them that has room for more than 16 bytes, and for one loan where a branch reads a field that
 /// it doesn't write.
 pub fn deal(
     alloc: Global,
@@ -65,7 +65,7 @@ pub fn deal(
 /// No other branch has any of the packet, so nothing is lent, and no base stands beside the version:
 /// [`Version::rejoin`] puts the packet together again. Else it is as [`deal`] says, and so is what it counts.
 /// A branch that writes neither the tags nor the payload writes in the packet itself, and takes no memory.
-/// For another memory is taken for its parts, and for each of them that has room for more than 12 bytes.
+/// For another memory is taken for its parts, and for each of them that has room for more than 16 bytes.
 #[inline(always)]
 pub fn deal_whole(
     alloc: Global,

@@ -6,8 +6,8 @@ use smallvec::SmallVec;
 use std::alloc::{AllocError, Global};
 use std::marker::Model;
 
-// Every field of fixed length, and three tags, lie in the part itself.
-const INLINE: usize = 12;
+// Every field of fixed length, the longest of which is an IPv6 address, and four tags lie in the part itself.
+const INLINE: usize = 16;
 
 /// A field's bytes, who wrote them last in this stage, and how many bytes fit without taking memory.
 ///
@@ -53,9 +53,9 @@ impl Part {
         })
     }
 
-    /// A part of at most twelve bytes, by this writer. It takes no memory.
+    /// A part of at most sixteen bytes, by this writer. It takes no memory.
     pub(crate) fn few(alloc: Global, bytes: &[u8], writer: u32) -> Part
-        requires { length bytes.now ≤ 12 }
+        requires { length bytes.now ≤ 16 }
         ensures { result ≡ by_writer writer (fresh 0 bytes.now) }
     {
         let room = bytes.len();

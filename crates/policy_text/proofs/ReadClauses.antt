@@ -27,6 +27,13 @@ pub read_no_lead : (words : List (Bor (List ℕ))) (d : Bor (List ℕ)) (before 
 read_no_lead words d before place at inside miss =
     ap (clauses_from before place) (seen_at words at d inside) ∙ no_lead before place (get_or words at d).now (drop (at + 1) (seen words)) miss
 
+-- a leading word with no value behind it
+pub read_alone : (words : List (Bor (List ℕ))) (d : Bor (List ℕ)) (before : List Clause) (place at : ℕ) → at + 1 ≡ length words → may_lead before (get_or words at d).now ≡ true →
+    clauses_from before place (drop at (seen words)) ≡ Err (place + 1)
+read_alone words d before place at last lead =
+    let none : drop (at + 1) (seen words) ≡ [] = drop_all (at + 1) (seen words) (rw length-map (omega arith)) in
+    ap (clauses_from before place) (seen_at words at d (omega arith) ∙ ap (λ ws. (get_or words at d).now ∷ ws) none) ∙ rw lead refl
+
 -- two words in front
 seen_two : (words : List (Bor (List ℕ))) (d : Bor (List ℕ)) (at : ℕ) → at + 1 < length words → drop at (seen words) ≡ (get_or words at d).now ∷ (get_or words (at + 1) d).now ∷ drop (at + 2) (seen words)
 seen_two words d at inside =

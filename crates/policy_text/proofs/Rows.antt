@@ -5,10 +5,13 @@ use Rattle.std.specs.Str.{all_scalars}
 use Rattle.std.specs.Str.Lossy.{utf8_valid_len}
 use Rattle.std.proofs.lemmas.Str.{utf8_valid_len-IsUtf8}
 use Rattle.action_profile.specs.declared.kind.Kind.TheVariants.{Firewall, Monitor, Nat}
-use Rattle.policy_text.specs.declared.clause.Clause.TheVariants.{Src, Sport, Dport, Proto, TagId}
+use Rattle.policy_text.specs.declared.clause.Clause.TheVariants.{Src, Dst, Src6, Sport, Dport, Proto, TagId}
 use Rattle.policy_text.specs.declared.fault.TextFault.TheVariants.{Syntax, UnknownKind, DuplicateName, UnknownName, TooManyFunctions, TooManyChains, TooManyRules, BadVersionLine}
 use Rattle.policy_text.specs.declared.policy.Statement.TheVariants.{Order, Priority, First, Last}
+use Rattle.policy_text.specs.Addresses6.{address6_of, prefix6_of}
 use Rattle.policy_text.specs.Bytes.{mac_of, pattern_of}
+use Rattle.policy_text.specs.Clauses.{clauses_of}
+use Rattle.policy_text.specs.Meeting.{is_within6}
 use Rattle.policy_text.specs.Values.{is_name, number_of, address_of, prefix_of, range_of}
 use Rattle.std.specs.List.{flat_map}
 use Rattle.policy_text.specs.Grammar.{policy_of, policy_of_utf8, after_line}
@@ -130,3 +133,139 @@ odd_digits = refl
 
 empty_pattern : pattern_of (codes "hex") [] ≡ None
 empty_pattern = refl
+
+-- IPv6 addresses (RFC 4291, 2.2)
+address6_with_gap : address6_of (codes "2001:db8::1") ≡ Some 0x2001_0db8_0000_0000_0000_0000_0000_0001
+unfolding address6_of
+address6_with_gap = refl
+
+address6_of_zeros : address6_of (codes "::") ≡ Some 0
+unfolding address6_of
+address6_of_zeros = refl
+
+address6_loopback : address6_of (codes "::1") ≡ Some 1
+unfolding address6_of
+address6_loopback = refl
+
+address6_gap_behind : address6_of (codes "1::") ≡ Some 0x0001_0000_0000_0000_0000_0000_0000_0000
+unfolding address6_of
+address6_gap_behind = refl
+
+address6_in_full : address6_of (codes "1:2:3:4:5:6:7:8") ≡ Some 0x0001_0002_0003_0004_0005_0006_0007_0008
+unfolding address6_of
+address6_in_full = refl
+
+address6_two_groups : address6_of (codes "1::8") ≡ Some 0x0001_0000_0000_0000_0000_0000_0000_0008
+unfolding address6_of
+address6_two_groups = refl
+
+address6_one_zero : address6_of (codes "1:2:3:4:5:6::8") ≡ Some 0x0001_0002_0003_0004_0005_0006_0000_0008
+unfolding address6_of
+address6_one_zero = refl
+
+address6_either_case : address6_of (codes "FE80::aBcD") ≡ Some 0xfe80_0000_0000_0000_0000_0000_0000_abcd
+unfolding address6_of
+address6_either_case = refl
+
+three_colons : address6_of (codes ":::") ≡ None
+unfolding address6_of
+three_colons = refl
+
+two_gaps : address6_of (codes "1::2::3") ≡ None
+unfolding address6_of
+two_gaps = refl
+
+nine_groups : address6_of (codes "1:2:3:4:5:6:7:8:9") ≡ None
+unfolding address6_of
+nine_groups = refl
+
+eight_groups_and_a_gap : address6_of (codes "1:2:3:4:5:6:7::8") ≡ None
+unfolding address6_of
+eight_groups_and_a_gap = refl
+
+gap_behind_eight : address6_of (codes "1:2:3:4:5:6:7:8::") ≡ None
+unfolding address6_of
+gap_behind_eight = refl
+
+gap_before_eight : address6_of (codes "::1:2:3:4:5:6:7:8") ≡ None
+unfolding address6_of
+gap_before_eight = refl
+
+seven_groups : address6_of (codes "1:2:3:4:5:6:7") ≡ None
+unfolding address6_of
+seven_groups = refl
+
+five_digits : address6_of (codes "12345::") ≡ None
+unfolding address6_of
+five_digits = refl
+
+no_digit : address6_of (codes "g::") ≡ None
+unfolding address6_of
+no_digit = refl
+
+no_text : address6_of (codes "") ≡ None
+unfolding address6_of
+no_text = refl
+
+colon_in_front : address6_of (codes ":1") ≡ None
+unfolding address6_of
+colon_in_front = refl
+
+colon_behind : address6_of (codes "1:") ≡ None
+unfolding address6_of
+colon_behind = refl
+
+bytes_in_dots : address6_of (codes "::10.0.0.1") ≡ None
+unfolding address6_of
+bytes_in_dots = refl
+
+prefix6_of_32_bits : prefix6_of (codes "2001:db8::/32") ≡ Some (0x2001_0db8_0000_0000_0000_0000_0000_0000, 32)
+unfolding address6_of
+prefix6_of_32_bits = refl
+
+prefix6_of_0_bits : prefix6_of (codes "::/0") ≡ Some (0, 0)
+unfolding address6_of
+prefix6_of_0_bits = refl
+
+prefix6_of_128_bits : prefix6_of (codes "::/128") ≡ Some (0, 128)
+unfolding address6_of
+prefix6_of_128_bits = refl
+
+prefix6_of_an_address : prefix6_of (codes "::1") ≡ Some (1, 128)
+unfolding address6_of
+prefix6_of_an_address = refl
+
+prefix6_of_129_bits : prefix6_of (codes "::/129") ≡ None
+unfolding address6_of
+prefix6_of_129_bits = refl
+
+prefix6_of_no_bits : prefix6_of (codes "::/") ≡ None
+unfolding address6_of
+prefix6_of_no_bits = refl
+
+prefix6_of_four_digits : prefix6_of (codes "::/0001") ≡ None
+unfolding address6_of
+prefix6_of_four_digits = refl
+
+prefix6_cut_twice : prefix6_of (codes "::/1/1") ≡ None
+unfolding address6_of
+prefix6_cut_twice = refl
+
+within_32_bits : is_within6 0x2001_0db8_0000_0000_0000_0000_0000_0000 32 0x2001_0db8_0000_0000_0000_0000_0000_0001 ≡ true
+within_32_bits = refl
+
+beyond_32_bits : is_within6 0x2001_0db8_0000_0000_0000_0000_0000_0000 32 0x2001_0db9_0000_0000_0000_0000_0000_0000 ≡ false
+beyond_32_bits = refl
+
+-- a value tells the version of IP, and each leading word stands once for both
+clauses_of_both : clauses_of (codes "src" ∷ codes "2001:db8::/32" ∷ codes "dst" ∷ codes "10.0.0.0/8" ∷ []) ≡ Ok (Src6 0x2001_0db8_0000_0000_0000_0000_0000_0000 32 ∷ Dst 167772160 8 ∷ [])
+unfolding address6_of
+clauses_of_both = refl
+
+source_twice : clauses_of (codes "src" ∷ codes "10.0.0.0/8" ∷ codes "src" ∷ codes "::1" ∷ []) ≡ Err 2
+unfolding address6_of
+source_twice = refl
+
+destination_of_neither : clauses_of (codes "src" ∷ codes "::1" ∷ codes "dst" ∷ codes "1.2.3.4.5" ∷ []) ≡ Err 3
+unfolding address6_of
+destination_of_neither = refl

@@ -7,6 +7,7 @@ use Rattle.std.proofs.lemmas.List.{take_rest, take_all, append-nil, append_assoc
 use Rattle.std.proofs.lemmas.List.Splits.{slice_split_first, slice_split_none, length-slice_split}
 use Rattle.std.proofs.lemmas.List.Elements.{filter-append}
 use Rattle.policy_text.specs.Lines.{Line, telling, numbered, is_line_feed, lines_from, words_of, PlacedWord, IsCut, IsShared, is_blank, words_from, spoken, placed}
+use Rattle.policy_text.specs.Addresses6.{prefix6_of_parts}
 use Rattle.policy_text.specs.Bytes.{mac_of_parts}
 use Rattle.policy_text.specs.Values.{address_of_parts, prefix_of_parts, range_of_parts}
 use Rattle.std.proofs.lemmas.List.Sums.{fails_before_first}
@@ -112,6 +113,10 @@ address_none a b c d (e ∷ parts) some = refl
 pub prefix_none : (a b : List ℕ) (parts : List (List ℕ)) → 0 < length parts → prefix_of_parts (a ∷ b ∷ parts) ≡ None
 prefix_none a b [] some = absurd (omega arith)
 prefix_none a b (e ∷ parts) some = refl
+
+pub prefix6_none : (a b : List ℕ) (parts : List (List ℕ)) → 0 < length parts → prefix6_of_parts (a ∷ b ∷ parts) ≡ None
+prefix6_none a b [] some = absurd (omega arith)
+prefix6_none a b (e ∷ parts) some = refl
 
 pub range_none : (a b : List ℕ) (parts : List (List ℕ)) → 0 < length parts → range_of_parts (a ∷ b ∷ parts) ≡ None
 range_none a b [] some = absurd (omega arith)

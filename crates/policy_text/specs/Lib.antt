@@ -1,7 +1,9 @@
+pub mod Addresses6
 pub mod Bytes
 pub mod Clauses
 pub mod Forms
 pub mod Grammar
+pub mod Groups
 pub mod Lines
 pub mod Meeting
 pub mod Names

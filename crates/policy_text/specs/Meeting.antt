@@ -3,19 +3,23 @@ use Rattle.std.specs.Prelude.{ℕ, ◌-◌, ◌/◌, ◌^◌, Bool, true, false,
 use Rattle.std.specs.Option.{option_map_or}
 use Rattle.std.specs.List.{list_all}
 use Rattle.policy_text.specs.declared.clause.Clause.{Clause}
-use Rattle.policy_text.specs.declared.clause.Clause.TheVariants.{Src, Dst, Sport, Dport, Proto, TagId, NoTag}
+use Rattle.policy_text.specs.declared.clause.Clause.TheVariants.{Src, Dst, Src6, Dst6, Sport, Dport, Proto, TagId, NoTag}
 use Rattle.policy_text.specs.declared.clause.Match.{Match}
 use Rattle.policy_text.specs.declared.seen.Seen.{Seen}
 use Rattle.policy_text.specs.declared.seen.TagSeen.{TagSeen}
 use Rattle.policy_text.specs.declared.seen.TagSeen.TheVariants.{Bare, Id}
 
--- the first bits of an address, all of them where there are no more
-abbrev pub first_bits : ℕ → ℕ → ℕ
-first_bits bits address = address / 2 ^ (32 - bits)
+-- the first bits of an address of this width, all of them where there are no more
+abbrev pub first_bits : ℕ → ℕ → ℕ → ℕ
+first_bits width bits address = address / 2 ^ (width - bits)
 
--- the address begins with the prefix's first bits
+-- the IPv4 address, of 32 bits (RFC 791), begins with the prefix's first bits
 abbrev pub is_within : ℕ → ℕ → ℕ → Bool
-is_within prefix bits address = first_bits bits address == first_bits bits prefix
+is_within prefix bits address = first_bits 32 bits address == first_bits 32 bits prefix
+
+-- the IPv6 address, of 128 bits (RFC 4291, 2.3), begins with the prefix's first bits
+abbrev pub is_within6 : ℕ → ℕ → ℕ → Bool
+is_within6 prefix bits address = first_bits 128 bits address == first_bits 128 bits prefix
 
 abbrev pub is_between : ℕ → ℕ → ℕ → Bool
 is_between low high port = nat_le low port && nat_le port high
@@ -28,10 +32,12 @@ abbrev pub is_bare : TagSeen → Bool
 is_bare Bare = true
 is_bare tag = false
 
--- a clause on an absent value isn't met
+-- A clause on an absent value isn't met: so a prefix of one version of IP isn't met by a packet of the other.
 abbrev pub is_met : Seen → Clause → Bool
 is_met seen (Src prefix bits) = option_map_or (is_within prefix bits) seen.src false
 is_met seen (Dst prefix bits) = option_map_or (is_within prefix bits) seen.dst false
+is_met seen (Src6 prefix bits) = option_map_or (is_within6 prefix bits) seen.src6 false
+is_met seen (Dst6 prefix bits) = option_map_or (is_within6 prefix bits) seen.dst6 false
 is_met seen (Sport low high) = option_map_or (is_between low high) seen.sport false
 is_met seen (Dport low high) = option_map_or (is_between low high) seen.dport false
 is_met seen (Proto p) = option_map_or (λ x. x == p) seen.proto false

@@ -55,7 +55,8 @@ fn byte_of_digits(high: u8, low: u8) -> Option<u8>
     Some(high * 16 + low)
 }
 
-fn hex_digit(b: u8) -> Option<u8>
+/// The value of a hexadecimal digit, of either case.
+pub(crate) fn hex_digit(b: u8) -> Option<u8>
     ensures value { result ≡ hex_digit_of b }
     ensures small { IfSome result (λ d. d < 16) }
 {

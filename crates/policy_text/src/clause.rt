@@ -8,13 +8,17 @@ pub struct Match {
     pub clauses: Items<Clause>,
 }
 
-/// One demand on a packet.
+/// One demand on a packet. Addresses have their first byte in the highest bits.
 #[derive(Clone, Copy, Debug, PartialEq, Eq)]
 pub enum Clause {
-    /// The first bits of the source address, and how many of them count.
+    /// The first bits of the IPv4 source address, and how many of them count.
     Src(u32, u8),
-    /// The first bits of the destination address, and how many of them count.
+    /// The first bits of the IPv4 destination address, and how many of them count.
     Dst(u32, u8),
+    /// The first bits of the IPv6 source address, and how many of them count.
+    Src6(u128, u8),
+    /// The first bits of the IPv6 destination address, and how many of them count.
+    Dst6(u128, u8),
     /// The least and the greatest source port.
     Sport(u16, u16),
     /// The least and the greatest destination port.

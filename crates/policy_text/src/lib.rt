@@ -6,9 +6,11 @@
 //! so far; `specs/Soundness.antt` says what holds of every policy that is read: names differ, limits
 //! are kept, and each order speaks of functions of its own chain.
 //!
-//! [`read_match`] reads clauses, and [`fits`] says whether a packet meets them; [`is_within`] says whether
-//! an address lies in a prefix. The values that settings spell are read by [`number`], [`address`],
-//! [`prefix`], [`range`], [`mac`] and [`pattern`].
+//! [`read_match`] reads clauses, and [`fits`] says whether a packet meets them; [`is_within`] and
+//! [`is_within6`] say whether an address lies in a prefix. The values that clauses and settings spell
+//! are read by [`number`], [`address`], [`prefix`], [`address6`], [`prefix6`], [`range`], [`mac`] and
+//! [`pattern`]: IPv4 addresses are four decimal numbers (RFC 791), IPv6 addresses eight hexadecimal
+//! groups (RFC 4291, 2.2), and a clause takes a prefix of either.
 //!
 //! The meaning of settings, which differs from kind to kind, and whether orders contradict each
 //! other are left out.
@@ -21,6 +23,7 @@ mod counting;
 mod draft;
 mod fault;
 mod form;
+mod laws;
 mod line;
 mod matching;
 mod name;
@@ -31,15 +34,18 @@ mod policy;
 mod reading;
 mod seen;
 mod value;
+mod value6;
 
 pub use bytes::{mac, pattern};
 pub use clause::{Clause, Match};
 pub use fault::{BuildFault, MatchFault, TextFault};
 pub use item_list::Items;
-pub use matching::read_match;
+pub use laws::{prefixes_have_one_version, prefixes_keep_to_their_version};
+pub use matching::{clause_of, read_match};
 pub use name::{Name, Word};
 pub use names::{name_at, names_at};
 pub use parsing::parse;
 pub use policy::{ChainPolicy, FunctionDecl, Policy, Setting, Statement};
-pub use seen::{Seen, TagSeen, fits, is_within};
+pub use seen::{Seen, TagSeen, fits, is_within, is_within6};
 pub use value::{address, is_name, number, prefix, range};
+pub use value6::{address6, prefix6};

@@ -3,12 +3,13 @@
 ghost use Rattle.std.specs.Prelude.{◌≡◌, ◌+◌, ◌^◌, ◌<◌, [], length, map, IfOk, Option};
 ghost use Rattle.std.specs.List.{list_any};
 ghost use Rattle.std.specs.Str.{bytes_eq};
-ghost use Rattle.policy_text.specs.Clauses.{lead_of, leads, protocol_of, tag_of, clause_of, may_lead, clauses_from, clauses_of, ReadsMatch};
+ghost use Rattle.policy_text.specs.Clauses.{lead_of, leads, source_of, destination_of, protocol_of, tag_of, clause_of, may_lead, clauses_from, clauses_of, ReadsMatch};
 
 use crate::clause::{Clause, Match};
 use crate::fault::MatchFault;
 use crate::name::Word;
 use crate::value::{number, prefix, range};
+use crate::value6::prefix6;
 use item_list::Items;
 use std::alloc::{AllocError, Global};
 
@@ -91,6 +92,8 @@ fn lead_of(clause: Clause) -> &'static [u8]
     match clause {
         Clause::Src(_, _) => b"src",
         Clause::Dst(_, _) => b"dst",
+        Clause::Src6(_, _) => b"src",
+        Clause::Dst6(_, _) => b"dst",
         Clause::Sport(_, _) => b"sport",
         Clause::Dport(_, _) => b"dport",
         Clause::Proto(_) => b"proto",
@@ -99,14 +102,14 @@ fn lead_of(clause: Clause) -> &'static [u8]
     }
 }
 
-// What a leading word and its value say.
-fn clause_of(lead: &[u8], value: &[u8]) -> Option<Clause>
+/// What a leading word and its value say, where they are a clause.
+pub fn clause_of(lead: &[u8], value: &[u8]) -> Option<Clause>
     ensures { result ≡ clause_of lead.now value.now }
 {
     if lead == b"src".as_slice() {
-        prefix(value).map(|(address, bits)| Clause::Src(address, bits))
+        source_of(value)
     } else if lead == b"dst".as_slice() {
-        prefix(value).map(|(address, bits)| Clause::Dst(address, bits))
+        destination_of(value)
     } else if lead == b"sport".as_slice() {
         range(value).map(|(low, high)| Clause::Sport(low, high))
     } else if lead == b"dport".as_slice() {
@@ -117,6 +120,25 @@ fn clause_of(lead: &[u8], value: &[u8]) -> Option<Clause>
         tag_of(value)
     } else {
         None
+    }
+}
+
+// A prefix of either version of IP.
+fn source_of(value: &[u8]) -> Option<Clause>
+    ensures { result ≡ source_of value.now }
+{
+    match prefix(value) {
+        Some((address, bits)) => Some(Clause::Src(address, bits)),
+        None => prefix6(value).map(|(address, bits)| Clause::Src6(address, bits)),
+    }
+}
+
+fn destination_of(value: &[u8]) -> Option<Clause>
+    ensures { result ≡ destination_of value.now }
+{
+    match prefix(value) {
+        Some((address, bits)) => Some(Clause::Dst(address, bits)),
+        None => prefix6(value).map(|(address, bits)| Clause::Dst6(address, bits)),
     }
 }
 

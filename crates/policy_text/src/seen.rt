@@ -1,7 +1,7 @@
 //! What of a packet the clauses look at.
 
 ghost use Rattle.std.specs.Prelude.{◌≡◌};
-ghost use Rattle.policy_text.specs.Meeting.{first_bits, is_within, is_between, has_id, is_bare, is_met, is_fitting};
+ghost use Rattle.policy_text.specs.Meeting.{first_bits, is_within, is_within6, is_between, has_id, is_bare, is_met, is_fitting};
 
 use crate::clause::{Clause, Match};
 
@@ -17,12 +17,15 @@ pub enum TagSeen {
 }
 
 /// The values that the clauses look at, where the packet has them. Addresses have their first byte
-/// in the highest bits.
+/// in the highest bits. An IPv6 packet has no `src` and `dst`, and an IPv4 packet no `src6` and
+/// `dst6`.
 #[derive(Clone, Copy, Debug, PartialEq, Eq)]
 pub struct Seen {
     pub tag: TagSeen,
     pub src: Option<u32>,
     pub dst: Option<u32>,
+    pub src6: Option<u128>,
+    pub dst6: Option<u128>,
     pub sport: Option<u16>,
     pub dport: Option<u16>,
     pub proto: Option<u8>,
@@ -42,6 +45,8 @@ fn is_met(seen: &Seen, clause: Clause) -> bool
     match clause {
         Clause::Src(prefix, bits) => seen.src.map_or(false, |a| is_within(prefix, bits, a)),
         Clause::Dst(prefix, bits) => seen.dst.map_or(false, |a| is_within(prefix, bits, a)),
+        Clause::Src6(prefix, bits) => seen.src6.map_or(false, |a| is_within6(prefix, bits, a)),
+        Clause::Dst6(prefix, bits) => seen.dst6.map_or(false, |a| is_within6(prefix, bits, a)),
         Clause::Sport(low, high) => seen.sport.map_or(false, |p| is_between(low, high, p)),
         Clause::Dport(low, high) => seen.dport.map_or(false, |p| is_between(low, high, p)),
         Clause::Proto(protocol) => seen.proto.map_or(false, |p| p == protocol),
@@ -50,21 +55,43 @@ fn is_met(seen: &Seen, clause: Clause) -> bool
     }
 }
 
-/// Does an address begin with the prefix's first bits?
+/// Does an IPv4 address begin with the prefix's first bits? Both have their first byte in the highest
+/// bits (RFC 791).
 pub fn is_within(prefix: u32, bits: u8, address: u32) -> bool
     ensures { result ≡ is_within prefix bits address }
 {
     first_bits(bits, address) == first_bits(bits, prefix)
 }
 
-// The first bits of an address, as a number.
+/// Does an IPv6 address begin with the prefix's first bits? Both have their first byte in the highest
+/// bits (RFC 4291, 2.3).
+pub fn is_within6(prefix: u128, bits: u8, address: u128) -> bool
+    ensures { result ≡ is_within6 prefix bits address }
+{
+    first_bits6(bits, address) == first_bits6(bits, prefix)
+}
+
+// The first bits of an IPv4 address, as a number.
 fn first_bits(bits: u8, address: u32) -> u32
-    ensures { result ≡ first_bits bits address }
+    ensures { result ≡ first_bits 32 bits address }
 {
     if bits == 0 {
         0
     } else if bits < 32 {
         address >> (32 - bits)
+    } else {
+        address
+    }
+}
+
+// The first bits of an IPv6 address, as a number.
+fn first_bits6(bits: u8, address: u128) -> u128
+    ensures { result ≡ first_bits 128 bits address }
+{
+    if bits == 0 {
+        0
+    } else if bits < 128 {
+        address >> (128 - bits)
     } else {
         address
     }

@@ -1,12 +1,12 @@
 //! The lines that set a nexthop up.
 ghost use Rattle.std.specs.Prelude.{◌≡◌, IfOk};
-ghost use Rattle.nf_mark.specs.NexthopLines.{rule_of, fit_to};
+ghost use Rattle.nf_mark.specs.NexthopLines.{rule_of};
 
 use crate::link_address::{LinkAddress, read_link};
 use crate::nexthop::NexthopRule;
 use function_lines::FunctionLine;
 use item_list::Items;
-use policy_text::{Clause, Match, Word, prefix};
+use policy_text::{Clause, Match, Word, clause_of};
 use std::alloc::{AllocError, Global};
 
 impl FunctionLine for NexthopRule {
@@ -23,7 +23,7 @@ impl FunctionLine for NexthopRule {
         {
             let link_dst = read_link(words[3].bytes());
             let link_src = read_link(words[5].bytes());
-            rule_of(alloc, prefix(words[1].bytes()), link_dst, link_src)
+            rule_of(alloc, clause_of(b"dst", words[1].bytes()), link_dst, link_src)
         } else {
             Ok(None)
         }
@@ -37,13 +37,13 @@ impl FunctionLine for NexthopRule {
 
 fn rule_of(
     alloc: Global,
-    prefix: Option<(u32, u8)>,
+    clause: Option<Clause>,
     link_dst: Option<LinkAddress>,
     link_src: Option<LinkAddress>,
 ) -> Result<Option<NexthopRule>, AllocError>
-    ensures { IfOk result (λ rule. rule ≡ rule_of prefix link_dst link_src) }
+    ensures { IfOk result (λ rule. rule ≡ rule_of clause link_dst link_src) }
 {
-    let Some((address, bits)) = prefix else {
+    let Some(clause) = clause else {
         return Ok(None);
     };
     let Some(link_dst) = link_dst else {
@@ -52,19 +52,11 @@ fn rule_of(
     let Some(link_src) = link_src else {
         return Ok(None);
     };
-    let fit = fit_to(alloc, address, bits)?;
+    let mut clauses = Items::new(Vec::new(alloc));
+    clauses.push(clause)?;
     Ok(Some(NexthopRule {
-        fit,
+        fit: Match { clauses },
         link_dst,
         link_src,
     }))
-}
-
-/// Asks for packets with a destination in a prefix.
-fn fit_to(alloc: Global, address: u32, bits: u8) -> Result<Match, AllocError>
-    ensures { IfOk result (λ fit. fit ≡ fit_to (address, bits)) }
-{
-    let mut clauses = Items::new(Vec::new(alloc));
-    clauses.push(Clause::Dst(address, bits))?;
-    Ok(Match { clauses })
 }

@@ -42,7 +42,7 @@ impl Asking for TagRule {
     ghost may_ask = { is_seen };
 
     fn may_ask(clause: Clause) -> bool {
-        matches!(clause, Clause::Src(_, _))
+        matches!(clause, Clause::Src(_, _) | Clause::Src6(_, _))
     }
 }
 

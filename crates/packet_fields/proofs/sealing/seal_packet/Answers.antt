@@ -1,21 +1,5 @@
-use Rattle.packet_fields.proofs.Sealed.{same_places, after_header}
-use Rattle.packet_fields.proofs.SamePlaces.{same_when, other_headers, other_segment, stays, seals}
+use Rattle.packet_fields.proofs.SamePlaces.{other_version, stays}
 use Rattle.packet_fields.proofs.sealing.seal_packet.Goals as goal
 
-pub returns-then-not-has_same_headers : goal.returns-then-not-has_same_headers
-returns-then-not-has_same_headers c = stays c.args.old.now c.args.new.now (other_headers c.args.old.now c.args.new.now c.if-not-has_same_headers.ensures)
-
-pub seal_header-requires-clause-same_header : goal.seal_header-requires-clause-same_header
-seal_header-requires-clause-same_header c = (same_places c.args.old.now c.args.new.now (same_when c.args.old.now c.args.new.now c.if-not-has_same_headers.ensures c.if-has_same_segment.ensures)).header
-
-pub seal_segment-requires-clause-same_header : goal.seal_segment-requires-clause-same_header
-seal_segment-requires-clause-same_header c = (after_header c.args.old.now c.args.new.now c.seal_header.new.new (same_when c.args.old.now c.args.new.now c.if-not-has_same_headers.ensures c.if-has_same_segment.ensures) c.seal_header.ensures).header
-
-pub seal_segment-requires-clause-same_data : goal.seal_segment-requires-clause-same_data
-seal_segment-requires-clause-same_data c = (after_header c.args.old.now c.args.new.now c.seal_header.new.new (same_when c.args.old.now c.args.new.now c.if-not-has_same_headers.ensures c.if-has_same_segment.ensures) c.seal_header.ensures).payload
-
-pub returns-then-has_same_segment : goal.returns-then-has_same_segment
-returns-then-has_same_segment c = seals c.args.old.now c.args.new.now c.seal_header.new.new c.seal_segment.new.new (same_when c.args.old.now c.args.new.now c.if-not-has_same_headers.ensures c.if-has_same_segment.ensures) c.seal_header.ensures c.seal_segment.ensures
-
-pub returns-else-has_same_segment : goal.returns-else-has_same_segment
-returns-else-has_same_segment c = stays c.args.old.now c.args.new.now (other_segment c.args.old.now c.args.new.now c.if-has_same_segment.ensures)
+pub returns-in-None : goal.returns-in-None
+returns-in-None c = stays c.args.old.now c.args.new.now (other_version c.args.old.now c.args.new.now c.in-None.ensures)

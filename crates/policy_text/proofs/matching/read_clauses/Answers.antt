@@ -1,6 +1,6 @@
 use Rattle.std.proofs.Common.{◌+◌, ◌∙◌, ap, sym, arith, drop}
 use Rattle.policy_text.specs.Clauses.{clauses_from}
-use Rattle.policy_text.proofs.ReadClauses.{seen, read_clause, read_no_value, read_no_lead}
+use Rattle.policy_text.proofs.ReadClauses.{seen, read_clause, read_no_value, read_no_lead, read_alone}
 use Rattle.policy_text.proofs.matching.read_clauses.Goals as goal
 
 pub clauses-preserved : goal.clauses-preserved
@@ -18,3 +18,8 @@ pub returns-in_default : goal.returns-in_default
 returns-in_default c =
     let lead = sym c.may_lead.ensures ∙ c.if-not-may_lead.false in
     sym c.clauses.invariant.1 ∙ read_no_value c.args.words.now _ _ _ c.clauses.at (omega arith) (rw c.deref.ensures.value at lead) (sym c.clause_of.ensures ∙ c.in_default.is)
+
+pub returns-then-at-words : goal.returns-then-at-words
+returns-then-at-words c =
+    let lead = sym c.may_lead.ensures ∙ c.if-not-may_lead.false in
+    sym c.clauses.invariant.1 ∙ read_alone c.args.words.now _ _ _ c.clauses.at (omega arith) (rw c.deref.ensures.value at lead)
