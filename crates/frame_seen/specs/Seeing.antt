@@ -1,6 +1,9 @@
 -- Believed: what the clauses of a policy see of a packet, as numbers, most significant byte first.
 use Rattle.std.specs.Prelude.{ℕ, ◌%◌, ◌==◌, if◌then◌else◌, List, length, take, drop, Option, Some, None}
 use Rattle.std.specs.Option.{option_map, option_map_or, option_and_then}
+use Rattle.std.specs.Net.Addr.{segments_of}
+use Rattle.std.specs.declared.net.ip_addr.IpAddr.{IpAddr}
+use Rattle.std.specs.declared.net.ip_addr.IpAddr.TheVariants.{V4, V6}
 use Rattle.byteorder.specs.Endian.{big_number}
 use Rattle.packet_fields.specs.Fields.{value, layout_of}
 use Rattle.packet_fields.specs.declared.field.Field.{Field}
@@ -21,6 +24,19 @@ outermost tags = if length tags == 0 then Bare else Id (vlan_id tags)
 -- an address of so many bytes as a number: 4 bytes are one of IPv4 (RFC 791, 3.1), 16 one of IPv6 (RFC 8200, 3)
 abbrev pub address_of : ℕ → List ℕ → Option ℕ
 address_of size bytes = if length bytes == size then Some (big_number size bytes) else None
+
+-- the address of either version that these bytes are
+abbrev pub ip_address_of : List ℕ → Option IpAddr
+ip_address_of bytes =
+    if length bytes == 4 then Some (V4 (record { octets = bytes })) else
+    if length bytes == 16 then Some (V6 (record { segments = segments_of bytes })) else None
+
+-- where a packet comes from, and where it goes, by the values of its fields
+abbrev pub source_address : (Field → Option (List ℕ)) → Option IpAddr
+source_address values = option_and_then ip_address_of (values SrcIp)
+
+abbrev pub destination_address : (Field → Option (List ℕ)) → Option IpAddr
+destination_address values = option_and_then ip_address_of (values DstIp)
 
 -- what is seen where the fields have these values, by the protocol of the IP header
 abbrev pub seen_by : (Field → Option (List ℕ)) → Option ℕ → Seen

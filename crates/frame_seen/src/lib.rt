@@ -8,4 +8,4 @@
 
 mod seeing;
 
-pub use seeing::{seen, seen_address, seen_address6, seen_port, seen_tags};
+pub use seeing::{seen, seen_address, seen_address6, seen_ip_address, seen_port, seen_tags};

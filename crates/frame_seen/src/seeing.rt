@@ -5,11 +5,12 @@ ghost use Rattle.byteorder.specs.Endian.{big_number};
 ghost use Rattle.packet_fields.specs.Fields.{IsLengthOf};
 ghost use Rattle.packet_fields.specs.declared.field.Field.{Field};
 ghost use Rattle.policy_text.specs.declared.seen.TagSeen.{TagSeen};
-ghost use Rattle.frame_seen.specs.Seeing.{outermost, address_of, seen_of};
+ghost use Rattle.frame_seen.specs.Seeing.{outermost, address_of, ip_address_of, seen_of};
 
 use byteorder::{BigEndian, ByteOrder};
 use packet_fields::{Field, Outline};
 use policy_text::{Seen, TagSeen};
+use std::net::IpAddr;
 
 /// What clauses see of a frame. Takes no memory.
 pub fn seen(frame: &[u8]) -> Seen
@@ -62,6 +63,18 @@ pub fn seen_address6(bytes: Option<&[u8]>) -> Option<u128>
     } else {
         None
     }
+}
+
+/// An address of either version of IP, by how many bytes it has: 4 are one of IPv4 (RFC 791, 3.1), 16 one of IPv6 (RFC 8200, 3).
+pub fn seen_ip_address(bytes: Option<&[u8]>) -> Option<IpAddr>
+    ensures { result ≡ option_and_then ip_address_of (option_copied bytes.entry) }
+{
+    let bytes = bytes?;
+    if let Ok(octets) = <[u8; 4]>::try_from(bytes) {
+        return Some(IpAddr::from(octets));
+    }
+    let octets = <[u8; 16]>::try_from(bytes).ok()?;
+    Some(IpAddr::from(octets))
 }
 
 /// A port as a number, most significant byte first (RFC 793, 3.1; RFC 768).

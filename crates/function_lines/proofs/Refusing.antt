@@ -1,12 +1,12 @@
 -- The least refused line is refused, and none before it.
-use Rattle.std.proofs.Common.{◌≡◌, ◌≤◌, ◌∙◌, ℕ, List, [], ◌∷◌, ◌++◌, refl, sym, ap, subst, append_assoc, Bool, true, false, ◌⊎◌, inl, inr, arith}
+use Rattle.std.proofs.Common.{◌≡◌, ◌≤◌, ◌∙◌, ℕ, List, [], ◌∷◌, ◌++◌, map, filter, refl, sym, ap, subst, append_assoc, Bool, true, false, ◌⊎◌, inl, inr, arith}
 use Rattle.std.specs.Prelude.{if◌then◌else◌, min, Option, None, Some, IfSome, fold}
 use Rattle.std.proofs.lemmas.Bool.{cases_lt}
 use Rattle.std.proofs.lemmas.List.{append-nil}
 use Rattle.policy_text.specs.declared.policy.Setting.{Setting}
 use Rattle.policy_text.specs.declared.policy.FunctionDecl.{FunctionDecl}
-use Rattle.function_lines.specs.KindLines.{KindLines, said_by, lacks_one, is_refused, refused_behind, refused_lines, refused_line, lesser, least}
-use Rattle.function_lines.specs.Refusing.{IsRefused, setting, missing}
+use Rattle.function_lines.specs.KindLines.{KindLines, said_by, lacks_one, is_refused, refused_behind, is_clashing, clashing, refused_lines, refused_line, lesser, least}
+use Rattle.function_lines.specs.Refusing.{IsRefused, setting, clash, missing}
 
 -- a number is one of these
 abbrev Among : ℕ → List ℕ → Type 0
@@ -84,10 +84,29 @@ module _ {L : Type 0} (lines : KindLines L) (decl : FunctionDecl) where
     | inr others ↦ behind_refused (before ++ s ∷ []) later n (split ∙ sym (append_assoc before (s ∷ []) later)) others
   ]
 
+  -- what the lines of the declaration say
+  said : List L
+  said = said_by lines decl.settings
+
+  clashing_refused : (before later : List Setting) (n : ℕ) → decl.settings ≡ before ++ later → Among n (clashing lines said later) → IsRefused lines decl n
+  clashing_refused before [] n split h = absurd h
+  clashing_refused before (s ∷ later) n split h = by (is_clashing lines said s) refl h
+    where
+      others : Among n (clashing lines said later) → IsRefused lines decl n
+      others among = clashing_refused (before ++ s ∷ []) later n (split ∙ sym (append_assoc before (s ∷ []) later)) among
+
+      by : (b : Bool) → is_clashing lines said s ≡ b → Among n (map (λ (t : Setting). t.line) (if b then s ∷ filter (is_clashing lines said) later else filter (is_clashing lines said) later)) → IsRefused lines decl n
+      by true is (inl same) = subst (λ m. IsRefused lines decl m) (sym same) (clash before s later split is)
+      by true is (inr among) = others among
+      by false is among = others among
+
   among_refused : (n : ℕ) → Among n (refused_lines lines decl) → IsRefused lines decl n
-  among_refused n h = elim (in_either n (refused_behind lines [] decl.settings) (if lacks_one lines (said_by lines decl.settings) then decl.line ∷ [] else []) h) [
+  among_refused n h = elim (in_either n (refused_behind lines [] decl.settings) (clashing lines said decl.settings ++ (if lacks_one lines said then decl.line ∷ [] else [])) h) [
     | inl own ↦ behind_refused [] decl.settings n refl own
-    | inr fn ↦ let is = told (lacks_one lines (said_by lines decl.settings)) decl.line n fn in subst (λ m. IsRefused lines decl m) is.1 (missing is.0)
+    | inr others ↦ elim (in_either n (clashing lines said decl.settings) (if lacks_one lines said then decl.line ∷ [] else []) others) [
+      | inl beside ↦ clashing_refused [] decl.settings n refl beside
+      | inr fn ↦ let is = told (lacks_one lines said) decl.line n fn in subst (λ m. IsRefused lines decl m) is.1 (missing is.0)
+    ]
   ]
 
   refused_behind_at : (before first : List Setting) (s : Setting) (later : List Setting) → is_refused lines (before ++ first) s ≡ true → Among s.line (refused_behind lines before (first ++ s ∷ later))
@@ -98,13 +117,33 @@ module _ {L : Type 0} (lines : KindLines L) (decl : FunctionDecl) where
       in_second s.line (if is_refused lines before t then t.line ∷ [] else []) (refused_behind lines (before ++ t ∷ []) (first ++ s ∷ later))
       (refused_behind_at (before ++ t ∷ []) first s later (subst (λ b. is_refused lines b s ≡ true) (sym (append_assoc before (t ∷ []) first)) is))
 
+  clashing_at : (first : List Setting) (s : Setting) (later : List Setting) → is_clashing lines said s ≡ true → Among s.line (clashing lines said (first ++ s ∷ later))
+  clashing_at [] s later is = by (is_clashing lines said s) is
+    where
+      by : (b : Bool) → b ≡ true → Among s.line (map (λ (t : Setting). t.line) (if b then s ∷ filter (is_clashing lines said) later else filter (is_clashing lines said) later))
+      by true e = inl refl
+      by false e = absurd cc
+  clashing_at (t ∷ first) s later is = by (is_clashing lines said t) (clashing_at first s later is)
+    where
+      rest : List Setting
+      rest = filter (is_clashing lines said) (first ++ s ∷ later)
+
+      by : (b : Bool) → Among s.line (clashing lines said (first ++ s ∷ later)) → Among s.line (map (λ (u : Setting). u.line) (if b then t ∷ rest else rest))
+      by true among = inr among
+      by false among = among
+
   refused_among : (n : ℕ) → IsRefused lines decl n → Among n (refused_lines lines decl)
   refused_among n (setting before s later split is) =
-      in_first s.line (refused_behind lines [] decl.settings) (if lacks_one lines (said_by lines decl.settings) then decl.line ∷ [] else [])
+      in_first s.line (refused_behind lines [] decl.settings) (clashing lines said decl.settings ++ (if lacks_one lines said then decl.line ∷ [] else []))
       (subst (λ settings. Among s.line (refused_behind lines [] settings)) (sym split) (refused_behind_at [] before s later is))
+  refused_among n (clash before s later split is) =
+      in_second s.line (refused_behind lines [] decl.settings) (clashing lines said decl.settings ++ (if lacks_one lines said then decl.line ∷ [] else []))
+      (in_first s.line (clashing lines said decl.settings) (if lacks_one lines said then decl.line ∷ [] else [])
+      (subst (λ settings. Among s.line (clashing lines said settings)) (sym split) (clashing_at before s later is)))
   refused_among n (missing is) =
-      in_second decl.line (refused_behind lines [] decl.settings) (if lacks_one lines (said_by lines decl.settings) then decl.line ∷ [] else [])
-      (tell (lacks_one lines (said_by lines decl.settings)) decl.line is)
+      in_second decl.line (refused_behind lines [] decl.settings) (clashing lines said decl.settings ++ (if lacks_one lines said then decl.line ∷ [] else []))
+      (in_second decl.line (clashing lines said decl.settings) (if lacks_one lines said then decl.line ∷ [] else [])
+      (tell (lacks_one lines said) decl.line is))
 
   pub named : (line : ℕ) → refused_line lines decl ≡ Some line → IsRefused lines decl line
   named line e = elim (is_among None (refused_lines lines decl) line e) [ inl never ↦ absurd (nothing never) | inr among ↦ among_refused line among ]

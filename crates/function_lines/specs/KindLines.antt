@@ -1,15 +1,21 @@
 -- Believed: the lines of a declaration, which of them are refused, and the least of these, for a function of any kind.
-use Rattle.std.specs.Prelude.{ℕ, min, List, [], ◌∷◌, ◌++◌, Bool, not, ◌&&◌, ◌||◌, if◌then◌else◌, Option, Some, None, is_none, slice_index_or, filter_map, fold, codes}
+use Rattle.std.specs.Prelude.{ℕ, min, List, [], ◌∷◌, ◌++◌, map, filter, Bool, false, not, ◌&&◌, ◌||◌, if◌then◌else◌, Option, Some, None, is_none, slice_index_or, filter_map, fold, codes}
 use Rattle.std.specs.List.{list_any}
+use Rattle.std.specs.Option.{option_map_or}
 use Rattle.std.specs.Str.{bytes_eq}
 use Rattle.policy_text.specs.declared.policy.FunctionDecl.{FunctionDecl}
 use Rattle.policy_text.specs.declared.policy.Setting.{Setting}
 
--- The lines of a kind: what the words of a line say, none where they are no line of it, and the lines that each
--- declaration has to have, each as the test that it passes.
+-- The lines of a kind: what the words of a line say, none where they are no line of it, the lines that each
+-- declaration has to have, each as the test that it passes, and which lines can't stand beside these.
 pub record KindLines (L : Type 0) : Type 0 where
   pub line_of : List (List ℕ) → Option L
   pub required : List (L → Bool)
+  pub clashes : List L → L → Bool
+
+-- each line of the kind can stand beside any others
+abbrev pub never_clash : {L : Type 0} → List L → L → Bool
+never_clash said line = false
 
 -- what the lines say that are lines of the kind, in order
 abbrev pub said_by : {L : Type 0} → KindLines L → List Setting → List L
@@ -40,9 +46,19 @@ abbrev pub refused_behind : {L : Type 0} → KindLines L → List Setting → Li
 refused_behind lines before [] = []
 refused_behind lines before (s ∷ later) = (if is_refused lines before s then s.line ∷ [] else []) ++ refused_behind lines (before ++ s ∷ []) later
 
--- all refused lines of a declaration: the `fn` line too, where a line is missing that has to be there
+-- a line of the kind that can't stand beside what these say
+abbrev pub is_clashing : {L : Type 0} → KindLines L → List L → Setting → Bool
+is_clashing lines said s = option_map_or (lines.clashes said) (lines.line_of s.words) false
+
+abbrev pub clashing : {L : Type 0} → KindLines L → List L → List Setting → List ℕ
+clashing lines said settings = map (λ s. s.line) (filter (is_clashing lines said) settings)
+
+-- all refused lines of a declaration: those that can't stand beside what its lines say, and the `fn` line where a line is
+-- missing that has to be there, too
 abbrev pub refused_lines : {L : Type 0} → KindLines L → FunctionDecl → List ℕ
-refused_lines lines decl = refused_behind lines [] decl.settings ++ (if lacks_one lines (said_by lines decl.settings) then decl.line ∷ [] else [])
+refused_lines lines decl =
+    let said = said_by lines decl.settings in
+    refused_behind lines [] decl.settings ++ clashing lines said decl.settings ++ (if lacks_one lines said then decl.line ∷ [] else [])
 
 -- the lesser of two lines
 abbrev pub lesser : Option ℕ → ℕ → Option ℕ

@@ -1,9 +1,9 @@
 //! What the lines of a declaration have in common, whatever the kind of function that they set up.
 //!
-//! A kind says which words are one of its lines and which of its lines each declaration has to have, once, as a
-//! [`FunctionLine`]. The rest is the same for all kinds: [`read_lines`] gives the lines of a declaration, or the least line that
-//! is refused. A line is refused where it isn't one of its kind's, and where it is a `set` whose key stood before; the `fn` line
-//! is refused where a line that has to be there is missing. [`least_refused_line`] says that the line that is named is refused and
+//! A kind says which words are one of its lines, which of its lines each declaration has to have and which can't stand together,
+//! once, as a [`FunctionLine`]. The rest is the same for all kinds: [`read_lines`] gives the lines of a declaration, or the least
+//! line that is refused. A line is refused where it isn't one of its kind's, where it is a `set` whose key stood before, and where
+//! it can't stand beside the others; the `fn` line is refused where a line that has to be there is missing. [`least_refused_line`] says that the line that is named is refused and
 //! no line before it.
 //!
 //! Kinds whose rules ask for clauses share [`read_fit`], which reads them, and [`first_met`], the first rule that a packet meets.

@@ -7,7 +7,7 @@ use std::alloc::{AllocError, Global};
 
 /// What a line of a kind of function says.
 pub trait FunctionLine: Drop {
-    /// What words are a line of the kind, and which of its lines each declaration has to have.
+    /// What words are a line of the kind, which of its lines each declaration has to have, and which can't stand together.
     ghost kind_lines: { KindLines Self };
 
     /// Reads a line, or answers `None` where it is no line of the kind.
@@ -17,4 +17,8 @@ pub trait FunctionLine: Drop {
     /// Is a line missing among these that each declaration has to have?
     fn lacks_one(lines: &[Self]) -> bool
         ensures { result ≡ lacks_one kind_lines lines.now };
+
+    /// Can a line of the kind not stand beside these, which are all lines of its declaration?
+    fn clashes(lines: &[Self], line: &Self) -> bool
+        ensures { result ≡ kind_lines.clashes lines.now line.now };
 }

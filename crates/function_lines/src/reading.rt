@@ -1,8 +1,8 @@
 //! Reads the lines of a declaration.
-ghost use Rattle.std.specs.Prelude.{◌≡◌, ◌||◌, ◌++◌, if◌then◌else◌, false, is_none, OnOk, IfOk};
-ghost use Rattle.std.specs.Option.{option_to_list};
+ghost use Rattle.std.specs.Prelude.{◌≡◌, ◌||◌, ◌++◌, if◌then◌else◌, false, is_none, fold, OnOk, IfOk};
+ghost use Rattle.std.specs.Option.{option_map_or, option_to_list};
 ghost use Rattle.function_lines.specs.Builds.{Builds};
-ghost use Rattle.function_lines.specs.KindLines.{lacks_one, lesser, repeats};
+ghost use Rattle.function_lines.specs.KindLines.{lacks_one, clashing, lesser, repeats};
 
 use crate::line::FunctionLine;
 use crate::settings::{least_refused, repeats};
@@ -11,7 +11,8 @@ use policy_text::{BuildFault, FunctionDecl, Setting};
 use std::alloc::{AllocError, Global};
 
 /// The lines of a declaration in order, or the least line of it that is refused: one that is no line of
-/// the kind, a second `set` of a key, or the `fn` line, where a line is missing that has to be there.
+/// the kind, a second `set` of a key, one that can't stand beside the others, or the `fn` line, where a line
+/// is missing that has to be there.
 #[tactic(auto, using(crate::proofs::Gathering::begins, crate::proofs::Gathering::goes_on))]
 pub fn read_lines<L: FunctionLine>(
     alloc: Global,
@@ -29,10 +30,40 @@ pub fn read_lines<L: FunctionLine>(
         least = least_behind(least, &line, &settings[..place], setting);
         keep(&mut lines, line)?;
     }
+    let least = least_clashing(alloc, lines.as_slice(), settings, least)?;
     let lacks_one = L::lacks_one(lines.as_slice());
     match least_refused(least, lacks_one, decl.line) {
         Some(line) => Err(BuildFault::BadSetting(line)),
         None => Ok(lines),
+    }
+}
+
+// The least refused line, with those of these settings that can't stand beside the lines. Each is read once more, since
+// what the lines say is known behind the last of them.
+fn least_clashing<L: FunctionLine>(
+    alloc: Global,
+    lines: &[L],
+    settings: &[Setting],
+    least: Option<u32>,
+) -> Result<Option<u32>, AllocError>
+    ensures { IfOk result (λ line. line ≡ fold lesser least (clashing L.kind_lines lines.now settings.now)) }
+{
+    let mut least = least;
+    'settings: for place in 0..settings.len() {
+        let setting = &settings[place];
+        let line = L::read(alloc, setting.words.as_slice())?;
+        least = least_refused(least, is_clashing(lines, &line), setting.line);
+    }
+    Ok(least)
+}
+
+// Can the line, where there is one, not stand beside these?
+fn is_clashing<L: FunctionLine>(lines: &[L], line: &Option<L>) -> bool
+    ensures { result ≡ option_map_or (L.kind_lines.clashes lines.now) line.now false }
+{
+    match line {
+        Some(line) => L::clashes(lines, line),
+        None => false,
     }
 }
 
