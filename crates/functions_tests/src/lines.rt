@@ -32,6 +32,10 @@ impl FunctionLine for SizeLine {
     fn lacks_one(lines: &[SizeLine]) -> bool {
         !is_there(lines)
     }
+
+    fn clashes(_lines: &[SizeLine], _line: &SizeLine) -> bool {
+        false
+    }
 }
 
 // Is a size among these lines?

@@ -3,7 +3,7 @@ use Rattle.std.specs.Prelude.{ℕ, List, [], ◌∷◌, Bool, true, false, if◌
 use Rattle.std.specs.Option.{option_map}
 use Rattle.std.specs.Str.{bytes_eq}
 use Rattle.policy_text.specs.declared.clause.Match.{Match}
-use Rattle.function_lines.specs.KindLines.{KindLines}
+use Rattle.function_lines.specs.KindLines.{KindLines, never_clash}
 use Rattle.function_lines.specs.Rules.{fit_of}
 use Rattle.nf_filter.specs.declared.lines.FirewallLine.{FirewallLine}
 use Rattle.nf_filter.specs.declared.lines.FirewallLine.TheVariants as lines
@@ -30,4 +30,4 @@ line_of words = None
 
 -- the lines of a firewall, none of which has to be there
 abbrev pub firewall_lines : KindLines FirewallLine
-firewall_lines = record { line_of = line_of; required = [] }
+firewall_lines = record { line_of = line_of; required = []; clashes = never_clash }

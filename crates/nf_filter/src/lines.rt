@@ -40,6 +40,10 @@ impl FunctionLine for FirewallLine {
     fn lacks_one(_lines: &[FirewallLine]) -> bool {
         false
     }
+
+    fn clashes(_lines: &[FirewallLine], _line: &FirewallLine) -> bool {
+        false
+    }
 }
 
 fn rule_of(

@@ -5,7 +5,7 @@ use Rattle.policy_text.specs.Values.{number_of}
 use Rattle.policy_text.specs.declared.clause.Clause.{Clause}
 use Rattle.policy_text.specs.declared.clause.Clause.TheVariants.{TagId, NoTag}
 use Rattle.policy_text.specs.declared.clause.Match.{Match}
-use Rattle.function_lines.specs.KindLines.{KindLines}
+use Rattle.function_lines.specs.KindLines.{KindLines, never_clash}
 use Rattle.nf_mark.specs.Clauses.{fit_of_such}
 use Rattle.nf_mark.specs.declared.marker.MarkRule.{MarkRule}
 
@@ -28,4 +28,4 @@ line_of words = None
 
 -- the lines of a marker, none of which has to be there
 abbrev pub marker_lines : KindLines MarkRule
-marker_lines = record { line_of = line_of; required = [] }
+marker_lines = record { line_of = line_of; required = []; clashes = never_clash }

@@ -5,7 +5,7 @@ use Rattle.std.specs.Str.{bytes_eq}
 use Rattle.policy_text.specs.Clauses.{clause_of}
 use Rattle.policy_text.specs.Bytes.{mac_of}
 use Rattle.policy_text.specs.declared.clause.Clause.{Clause}
-use Rattle.function_lines.specs.KindLines.{KindLines}
+use Rattle.function_lines.specs.KindLines.{KindLines, never_clash}
 use Rattle.nf_mark.specs.declared.link_address.LinkAddress.{LinkAddress}
 use Rattle.nf_mark.specs.declared.nexthop.NexthopRule.{NexthopRule}
 use Rattle.nf_mark.specs.Links.{link_of}
@@ -24,4 +24,4 @@ line_of words = None
 
 -- the lines of a nexthop, none of which has to be there
 abbrev pub nexthop_lines : KindLines NexthopRule
-nexthop_lines = record { line_of = line_of; required = [] }
+nexthop_lines = record { line_of = line_of; required = []; clashes = never_clash }

@@ -5,7 +5,7 @@ use Rattle.policy_text.specs.Values.{number_of}
 use Rattle.policy_text.specs.declared.clause.Clause.{Clause}
 use Rattle.policy_text.specs.declared.clause.Clause.TheVariants.{Src, Src6}
 use Rattle.policy_text.specs.declared.clause.Match.{Match}
-use Rattle.function_lines.specs.KindLines.{KindLines}
+use Rattle.function_lines.specs.KindLines.{KindLines, never_clash}
 use Rattle.nf_mark.specs.Clauses.{fit_of_such}
 use Rattle.nf_mark.specs.declared.tagger.TagRule.{TagRule}
 
@@ -33,4 +33,4 @@ line_of words = None
 
 -- the lines of a tagger, none of which has to be there
 abbrev pub tagger_lines : KindLines TagRule
-tagger_lines = record { line_of = line_of; required = [] }
+tagger_lines = record { line_of = line_of; required = []; clashes = never_clash }

@@ -21,4 +21,8 @@ impl FunctionLine for NoLine {
     fn lacks_one(_lines: &[NoLine]) -> bool {
         false
     }
+
+    fn clashes(_lines: &[NoLine], _line: &NoLine) -> bool {
+        false
+    }
 }

@@ -2,7 +2,7 @@
 use Rattle.std.specs.Prelude.{ℕ, List, [], ◌∷◌, if◌then◌else◌, Option, None, codes}
 use Rattle.std.specs.Str.{bytes_eq}
 use Rattle.policy_text.specs.Bytes.{pattern_of}
-use Rattle.function_lines.specs.KindLines.{KindLines}
+use Rattle.function_lines.specs.KindLines.{KindLines, never_clash}
 
 -- the pattern of a line, none where it has none
 unfoldable pub line_of : List (List ℕ) → Option (List ℕ)
@@ -11,4 +11,4 @@ line_of words = None
 
 -- the lines of a kind that knows patterns alone, none of which has to be there
 abbrev pub pattern_lines : KindLines (List ℕ)
-pattern_lines = record { line_of = line_of; required = [] }
+pattern_lines = record { line_of = line_of; required = []; clashes = never_clash }

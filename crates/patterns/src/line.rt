@@ -26,4 +26,8 @@ impl FunctionLine for Pattern {
     fn lacks_one(_lines: &[Pattern]) -> bool {
         false
     }
+
+    fn clashes(_lines: &[Pattern], _line: &Pattern) -> bool {
+        false
+    }
 }

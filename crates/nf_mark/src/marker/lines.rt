@@ -31,6 +31,10 @@ impl FunctionLine for MarkRule {
     fn lacks_one(_lines: &[MarkRule]) -> bool {
         false
     }
+
+    fn clashes(_lines: &[MarkRule], _line: &MarkRule) -> bool {
+        false
+    }
 }
 
 impl Asking for MarkRule {

@@ -23,7 +23,12 @@ impl FunctionLine for NexthopRule {
         {
             let link_dst = read_link(words[3].bytes());
             let link_src = read_link(words[5].bytes());
-            rule_of(alloc, clause_of(b"dst", words[1].bytes()), link_dst, link_src)
+            rule_of(
+                alloc,
+                clause_of(b"dst", words[1].bytes()),
+                link_dst,
+                link_src,
+            )
         } else {
             Ok(None)
         }
@@ -31,6 +36,10 @@ impl FunctionLine for NexthopRule {
 
     // No line of a nexthop has to be there.
     fn lacks_one(_lines: &[NexthopRule]) -> bool {
+        false
+    }
+
+    fn clashes(_lines: &[NexthopRule], _line: &NexthopRule) -> bool {
         false
     }
 }

@@ -34,6 +34,10 @@ impl FunctionLine for TagRule {
     fn lacks_one(_lines: &[TagRule]) -> bool {
         false
     }
+
+    fn clashes(_lines: &[TagRule], _line: &TagRule) -> bool {
+        false
+    }
 }
 
 impl Asking for TagRule {
