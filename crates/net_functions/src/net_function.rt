@@ -24,7 +24,7 @@ pub enum NetFunction {
     Limiter(Limiter),
     /// Writes the type of service, whose high six bits are the DSCP (RFC 2474).
     Marker(Marker),
-    /// Takes one off the time to live, and drops what would have none left (RFC 791).
+    /// Takes one off the time to live, and drops what would have none left (RFC 791, RFC 8200).
     Hop(Hop),
     /// Puts a tag before the tags that are there (IEEE 802.1Q).
     Tagger(Tagger),

@@ -1,7 +1,7 @@
 //! Network functions that decide whether a packet passes, and change nothing of it.
 //!
 //! A [`Firewall`] is a list of rules, each with clauses on a packet's addresses, ports, protocol and
-//! outermost VLAN id (RFC 791, RFC 793, RFC 768, IEEE 802.1Q). The first rule whose clauses are all
+//! outermost VLAN id (RFC 791, RFC 8200, RFC 793, RFC 768, IEEE 802.1Q). The first rule whose clauses are all
 //! met decides, and where none is the default does, which allows unless it is set otherwise.
 //! [`Firewall::build`] makes it of the lines that an operator wrote, or names the least line that is
 //! refused.

@@ -23,11 +23,11 @@ hop_by said = record {}
 abbrev pub hop_of : FunctionDecl → Hop
 hop_of decl = hop_by (said_by no_lines decl.settings)
 
--- the time to live is one byte of the IPv4 header (RFC 791, 3.1)
+-- the time to live is one byte of the IPv4 header (RFC 791, 3.1), or as the hop limit of the IPv6 header (RFC 8200, 3)
 abbrev pub ttl_of : Option (List ℕ) → Option ℕ
 ttl_of field = option_map (λ bytes. slice_index bytes 0) field
 
--- a packet whose time is over is dropped (RFC 791, 3.2)
+-- a packet whose time is over is dropped (RFC 791, 3.2; RFC 8200, 3)
 abbrev pub verdict_by : Option ℕ → Verdict
 verdict_by None = Pass
 verdict_by (Some ttl) = if nat_le ttl 1 then Drop else Pass

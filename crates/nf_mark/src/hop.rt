@@ -9,7 +9,8 @@ use packet_version::{View, unwritten_stays, written_is_one_value};
 use policy_text::{BuildFault, FunctionDecl};
 use std::alloc::{AllocError, Global};
 
-/// Takes one off a packet's time to live, as each node does that sends it on (RFC 791, 3.2; RFC 1812, 5.3.1).
+/// Takes one off a packet's time to live, as each node does that sends it on (RFC 791, 3.2; RFC 1812, 5.3.1;
+/// RFC 8200, 3).
 #[derive(Clone, Copy, Debug)]
 pub struct Hop;
 
@@ -68,7 +69,7 @@ ghost use Rattle.packet_fields.specs.declared.field.Field.{Field};
 ghost use Rattle.packet_version.specs.Views.{seen_values, HasBytes};
 ghost use Rattle.nf_mark.specs.Hops.{ttl_of};
 
-/// The time to live of the packet behind a view (RFC 791, 3.1).
+/// The time to live of the packet behind a view (RFC 791, 3.1), which IPv6 names hop limit (RFC 8200, 3).
 fn ttl_in(view: &View) -> Option<u8>
     requires profile { view.now.profile ≡ profile_of Kind.Hop }
     ensures ttl { result ≡ ttl_of (seen_values view.now Field.Ttl) }

@@ -1,9 +1,9 @@
 //! Network functions that rewrite packets and keep nothing of them: their heads, their tags and their data.
 //!
 //! A [`Marker`] writes the IPv4 type of service (RFC 791, 3.1), whose high six bits are the DSCP (RFC 2474, 3): that of the first
-//! rule whose clauses a packet meets. A [`Nexthop`] sends a packet over another link: by the first rule whose prefix holds its
-//! destination it writes both link addresses (IEEE 802.3, 3.1.1). A [`Hop`] takes one off the time to live, and drops a packet for
-//! which nothing would be left (RFC 791, 3.2). A [`Tagger`] puts a customer tag before the tags that a packet has, and an
+//! rule whose clauses a packet meets; IPv6's traffic class is no field, so an IPv6 packet stays as it is. A [`Nexthop`] sends a packet over another link: by the first rule whose prefix holds its
+//! destination it writes both link addresses (IEEE 802.3, 3.1.1). A [`Hop`] takes one off the time to live, which IPv6 names hop
+//! limit, and drops a packet for which nothing would be left (RFC 791, 3.2; RFC 8200, 3). A [`Tagger`] puts a customer tag before the tags that a packet has, and an
 //! [`Untagger`] takes the outermost tag off (IEEE 802.1Q, 9.3). Where a packet lacks the field that would be written, it stays as
 //! it is.
 //!

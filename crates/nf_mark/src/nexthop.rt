@@ -16,7 +16,7 @@ use std::alloc::AllocError;
 /// A rule: the link addresses of a packet whose destination lies in a prefix.
 #[derive(Debug, Drop)]
 pub struct NexthopRule {
-    /// One clause: the prefix of the IPv4 destination.
+    /// One clause: the prefix of the destination, of either version of IP.
     pub fit: Match,
     /// The interface that the frame goes to.
     pub link_dst: LinkAddress,

@@ -174,14 +174,14 @@ impl View {
         self.fixed.ether_type
     }
 
-    /// The IPv4 header's protocol (RFC 791, 3.1), where it is captured.
+    /// The protocol of the IPv4 header (RFC 791, 3.1) or the next header of the IPv6 header (RFC 8200, 3), where it is captured.
     pub fn proto(&self) -> Option<u8>
         ensures { result ≡ self.now.version.fixed.proto }
     {
         self.fixed.proto
     }
 
-    /// The IPv4 header's total length in bytes (RFC 791, 3.1), where it is captured.
+    /// IPv4's total length in bytes (RFC 791, 3.1), or 40 more than IPv6's payload length (RFC 8200, 3), where it is captured.
     pub fn ip_len(&self) -> Option<u16>
         ensures { result ≡ self.now.version.fixed.ip_len }
     {
