@@ -4,4 +4,5 @@ pub mod Drawing
 pub mod Sums
 pub mod Putting
 pub mod Counting
+pub mod Ipv4Packets
 pub mod RightSums

@@ -6,12 +6,13 @@ use Rattle.std.proofs.lemmas.List.{take_rest}
 use Rattle.pcap_io.specs.declared.capture.PcapRecord.{PcapRecord}
 use Rattle.packet_fields.specs.Checksums.{HasRightSums, IsRight, folded, header_of, pseudo_header as pseudo_header_in, segment_of, words}
 use Rattle.packet_fields.specs.Frames.{packet, tags_len, word}
-use Rattle.packet_fields.specs.Packets.{checksum_at, datagram_end, has_transport, header_sum_at, is_ipv4, is_udp, segment_sum_at}
+use Rattle.packet_fields.specs.Packets.{by_version, checksum_at, datagram_end, datagram_len, has_transport, header_byte, header_sum_at, header_word, in_header, is_ipv4, is_ipv6, is_udp, segment_at, segment_sum_at}
 use Rattle.demo_capture.specs.declared.draws.Draws.{Draws}
 use Rattle.demo_capture.specs.Draws.{destination_port_of, draws_after, is_tcp, number_after, payload_len, payload_of, protocol_of, source_port_of}
 use Rattle.demo_capture.specs.DemoFrames.{checksum_of, frame_of, frame_with, ip_header, ip_header_with, pseudo_header, segment_checksum, segment_len, segment_with, tcp_header, udp_header}
 use Rattle.demo_capture.specs.DemoCapture.{demo_records, record_of, records_from}
 use Rattle.demo_capture.specs.Written.{WritesSums}
+use Rattle.demo_capture.proofs.Ipv4Packets.{alone_false, transport_there}
 use Rattle.demo_capture.proofs.Lengths.{length_frame, length_segment, length_segment_with}
 use Rattle.demo_capture.proofs.Sums.{sum-append, sum_pseudo}
 
@@ -79,44 +80,83 @@ module _ (total k net host to : ℕ) (xs : List ℕ) where
       let p = ip_packet total protocol k net host to xs in
       cond-true (is_ipv4 p && nat_le 14 (length p)) (Some 12) None (and_from (is_ipv4 p) (nat_le 14 (length p)) (ipv4_is protocol) (le-leb 14 (length p) (omega arith)))
 
+  not_ipv6 : (protocol : ℕ) → is_ipv6 (ip_packet total protocol k net host to xs) ≡ false
+  unfolding is_ipv6
+  not_ipv6 protocol = alone_false (nat_lt 2 (length (ip_packet total protocol k net host to xs)))
+
+  -- so its numbers are those of IPv4
+  four : (protocol m n : ℕ) → by_version (ip_packet total protocol k net host to xs) m n ≡ m
+  four protocol m n = cond-false (is_ipv6 (ip_packet total protocol k net host to xs)) n m (not_ipv6 protocol)
+
+  len_is : (protocol : ℕ) → datagram_len (ip_packet total protocol k net host to xs) ≡ (total / 256) * 256 + total % 256
+  len_is protocol = let p = ip_packet total protocol k net host to xs in four protocol (header_word p 2) (header_word p 4 + 40)
+
   end_is : (protocol : ℕ) → total ≡ 20 + length xs → datagram_end (ip_packet total protocol k net host to xs) ≡ 22 + length xs
-  end_is protocol is = omega arith
+  end_is protocol is = omega (arith, len_is protocol)
+
+  begins_at : (protocol : ℕ) → segment_at (ip_packet total protocol k net host to xs) ≡ 22
+  begins_at protocol = ap in_header (four protocol 20 40)
 
   segment_is : (protocol : ℕ) → total ≡ 20 + length xs → segment_of (ip_packet total protocol k net host to xs) ≡ xs
   segment_is protocol is =
-      let len : datagram_end (ip_packet total protocol k net host to xs) - 22 ≡ length xs - 0 = omega (arith, end_is protocol is) in
-      ap (λ (n : ℕ). take n xs) len ∙ take_rest xs 0
+      let p = ip_packet total protocol k net host to xs in
+      let len : datagram_end p - 22 ≡ length xs - 0 = omega (arith, end_is protocol is) in
+      ap (λ (at : ℕ). take (datagram_end p - at) (drop at p)) (begins_at protocol) ∙ ap (λ (n : ℕ). take n xs) len ∙ take_rest xs 0
 
   transport_is : (protocol : ℕ) → ((protocol == 6) || (protocol == 17)) ≡ true → total ≡ 20 + length xs → has_transport (ip_packet total protocol k net host to xs) ≡ true
-  unfolding has_transport
   transport_is protocol known is =
       let p = ip_packet total protocol k net host to xs in
       let fits : nat_le 20 ((total / 256) * 256 + total % 256) ≡ true = le-leb 20 ((total / 256) * 256 + total % 256) (omega arith) in
-      let behind : nat_lt 11 (length p) ≡ true = lt-ltb 11 (length p) (omega arith) in
-      and_from (is_ipv4 p) (nat_lt 11 (length p) && (((protocol == 6) || (protocol == 17)) && nat_le 20 ((total / 256) * 256 + total % 256))) (ipv4_is protocol)
-      (and_from (nat_lt 11 (length p)) (((protocol == 6) || (protocol == 17)) && nat_le 20 ((total / 256) * 256 + total % 256)) behind
-      (and_from ((protocol == 6) || (protocol == 17)) (nat_le 20 ((total / 256) * 256 + total % 256)) known fits))
+      transport_there p (ipv4_is protocol) (not_ipv6 protocol) (omega arith) known refl fits
+
+  tcp_sum_at : checksum_at (ip_packet total 6 k net host to xs) ≡ 38
+  tcp_sum_at =
+      let p = ip_packet total 6 k net host to xs in
+      let other : is_udp p ≡ false = ap (λ (at : ℕ). header_byte p at == 17) (four 6 9 6) in
+      cond-false (is_udp p) (segment_at p + 6) (segment_at p + 16) other ∙ ap (λ (at : ℕ). at + 16) (begins_at 6)
+
+  udp_sum_at : checksum_at (ip_packet total 17 k net host to xs) ≡ 28
+  udp_sum_at =
+      let p = ip_packet total 17 k net host to xs in
+      let own : is_udp p ≡ true = ap (λ (at : ℕ). header_byte p at == 17) (four 17 9 6) in
+      cond-true (is_udp p) (segment_at p + 6) (segment_at p + 16) own ∙ ap (λ (at : ℕ). at + 6) (begins_at 17)
 
   segment_there : (b : Bool) → total ≡ 20 + length xs → (if b then 20 else 8) ≤ length xs → IsSome (segment_sum_at (ip_packet total (if b then 6 else 17) k net host to xs))
   segment_there true is long =
       let p = ip_packet total 6 k net host to xs in
-      let fits : nat_le 40 (datagram_end p) ≡ true = le-leb 40 (datagram_end p) (omega (arith, end_is 6 is)) in
-      let here : segment_sum_at p ≡ Some 38 = cond-true (has_transport p && nat_le 40 (datagram_end p)) (Some 38) None (and_from (has_transport p) (nat_le 40 (datagram_end p)) (transport_is 6 refl is) fits) in
+      let fits : nat_le (checksum_at p + 2) (datagram_end p) ≡ true = le-leb (checksum_at p + 2) (datagram_end p) (omega (arith, end_is 6 is, tcp_sum_at)) in
+      let here : segment_sum_at p ≡ Some (checksum_at p) = cond-true (has_transport p && nat_le (checksum_at p + 2) (datagram_end p)) (Some (checksum_at p)) None (and_from (has_transport p) (nat_le (checksum_at p + 2) (datagram_end p)) (transport_is 6 refl is) fits) in
       subst (λ (o : Option ℕ). IsSome o) (sym here) refl
   segment_there false is long =
       let p = ip_packet total 17 k net host to xs in
-      let fits : nat_le 30 (datagram_end p) ≡ true = le-leb 30 (datagram_end p) (omega (arith, end_is 17 is)) in
-      let here : segment_sum_at p ≡ Some 28 = cond-true (has_transport p && nat_le 30 (datagram_end p)) (Some 28) None (and_from (has_transport p) (nat_le 30 (datagram_end p)) (transport_is 17 refl is) fits) in
+      let fits : nat_le (checksum_at p + 2) (datagram_end p) ≡ true = le-leb (checksum_at p + 2) (datagram_end p) (omega (arith, end_is 17 is, udp_sum_at)) in
+      let here : segment_sum_at p ≡ Some (checksum_at p) = cond-true (has_transport p && nat_le (checksum_at p + 2) (datagram_end p)) (Some (checksum_at p)) None (and_from (has_transport p) (nat_le (checksum_at p + 2) (datagram_end p)) (transport_is 17 refl is) fits) in
       subst (λ (o : Option ℕ). IsSome o) (sym here) refl
 
   -- the sum of the header, its checksum included
   header_sum : (protocol : ℕ) → sum (words (header_of (ip_packet total protocol k net host to xs))) ≡ 0x4500 + total + (0x4000 + protocol) + k + 0x0a00 + (net * 256 + host) + 0xc633 + (0x6400 + to)
   unfolding words
-  header_sum protocol = omega arith
+  header_sum protocol = by (is_ipv6 p) (not_ipv6 protocol)
+    where
+      p : List ℕ
+      p = ip_packet total protocol k net host to xs
+
+      by : (six : Bool) → six ≡ false → sum (words (take (if six then 40 else 20) (drop 2 (ip_packet total protocol k net host to xs)))) ≡ 0x4500 + total + (0x4000 + protocol) + k + 0x0a00 + (net * 256 + host) + 0xc633 + (0x6400 + to)
+      by false is = omega arith
+      by true is = absurd cc
 
   pseudo_sum : (protocol : ℕ) → sum (pseudo_header_in (ip_packet total protocol k net host to xs)) ≡ protocol + (total - 20) + 0x0a00 + (net * 256 + host) + 0xc633 + (0x6400 + to)
   unfolding words
-  pseudo_sum protocol = omega arith
+  pseudo_sum protocol = by (is_ipv6 p) (not_ipv6 protocol)
+    where
+      p : List ℕ
+      p = ip_packet total protocol k net host to xs
+
+      by : (six : Bool) → six ≡ false →
+          sum (header_byte p (if six then 6 else 9) ∷ ((if six then header_word p 4 + 40 else header_word p 2) - (if six then 40 else 20)) ∷ words (take (2 * (if six then 16 else 4)) (drop (in_header (if six then 8 else 12)) p)))
+          ≡ protocol + (total - 20) + 0x0a00 + (net * 256 + host) + 0xc633 + (0x6400 + to)
+      by false is = omega arith
+      by true is = absurd cc
 
 -- the sum of a header of the demo without its checksum
 own_header_sum : (r : Draws) → sum (words (ip_header_with 0 r)) ≡ 0x4500 + (20 + segment_len r) + (0x4000 + protocol_of r) + 0x0a00 + ((r.a % 4) * 256 + (1 + (r.a / 4) % 200)) + 0xc633 + (0x6400 + (1 + r.b % 8))
@@ -176,10 +216,15 @@ segment_right r =
 udp_by : (b : Bool) (total k net host to c : ℕ) (r : Draws) (xs : List ℕ) → (b ≡ false → c ≢ 0)
     → is_udp (ip_packet total (if b then 6 else 17) k net host to ((if b then tcp_header c r else udp_header c r) ++ xs)) ≡ true
     → word (ip_packet total (if b then 6 else 17) k net host to ((if b then tcp_header c r else udp_header c r) ++ xs)) (checksum_at (ip_packet total (if b then 6 else 17) k net host to ((if b then tcp_header c r else udp_header c r) ++ xs))) ≢ 0
-udp_by true total k net host to c r xs some udp = absurd (cc)
+udp_by true total k net host to c r xs some udp =
+    let p = ip_packet total 6 k net host to (tcp_header c r ++ xs) in
+    let other : false ≡ true = sym (ap (λ (at : ℕ). header_byte p at == 17) (four total k net host to (tcp_header c r ++ xs) 6 9 6)) ∙ udp in
+    absurd cc
 udp_by false total k net host to c r xs some udp =
+    let p = ip_packet total 17 k net host to (udp_header c r ++ xs) in
     let here : (c / 256) * 256 + c % 256 ≡ c = omega arith in
-    λ e. some refl (sym here ∙ e)
+    let there : word p (checksum_at p) ≡ (c / 256) * 256 + c % 256 = ap (word p) (udp_sum_at total k net host to (udp_header c r ++ xs)) in
+    λ e. some refl (sym here ∙ sym there ∙ e)
 
 header_len_by : (b : Bool) (n m : ℕ) → m ≡ (if b then 20 else 8) + n → (if b then 20 else 8) ≤ m
 header_len_by true n m is = omega arith
