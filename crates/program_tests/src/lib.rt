@@ -6,6 +6,8 @@ mod gates;
 #[cfg(test)]
 mod hostile;
 #[cfg(test)]
+mod ipv6;
+#[cfg(test)]
 mod marks;
 #[cfg(test)]
 mod options;

@@ -92,7 +92,7 @@ fn push_datagram(
 }
 
 // Leads a capture through a policy, with one merger, two and many, over links and on boards, and compares what it gives.
-fn compare(
+pub fn compare(
     rt: &(impl Abort + AllocGlobal + Threads + Wait + Clock + Sync),
     policy: &[u8],
     capture: &[u8],
