@@ -85,20 +85,19 @@ module _ {L : Type 0} (lines : KindLines L) (decl : FunctionDecl) where
   ]
 
   -- what the lines of the declaration say
-  said : List L
+  abbrev said : List L
   said = said_by lines decl.settings
 
   clashing_refused : (before later : List Setting) (n : ℕ) → decl.settings ≡ before ++ later → Among n (clashing lines said later) → IsRefused lines decl n
   clashing_refused before [] n split h = absurd h
-  clashing_refused before (s ∷ later) n split h = by (is_clashing lines said s) refl h
+  clashing_refused before (s ∷ later) n split h =
+      by (is_clashing lines said s) refl (λ among. clashing_refused (before ++ s ∷ []) later n (split ∙ sym (append_assoc before (s ∷ []) later)) among) h
     where
-      others : Among n (clashing lines said later) → IsRefused lines decl n
-      others among = clashing_refused (before ++ s ∷ []) later n (split ∙ sym (append_assoc before (s ∷ []) later)) among
-
-      by : (b : Bool) → is_clashing lines said s ≡ b → Among n (map (λ (t : Setting). t.line) (if b then s ∷ filter (is_clashing lines said) later else filter (is_clashing lines said) later)) → IsRefused lines decl n
-      by true is (inl same) = subst (λ m. IsRefused lines decl m) (sym same) (clash before s later split is)
-      by true is (inr among) = others among
-      by false is among = others among
+      by : (b : Bool) → is_clashing lines said s ≡ b → (Among n (clashing lines said later) → IsRefused lines decl n) →
+          Among n (map (λ (t : Setting). t.line) (if b then s ∷ filter (is_clashing lines said) later else filter (is_clashing lines said) later)) → IsRefused lines decl n
+      by true is others (inl same) = subst (λ m. IsRefused lines decl m) (sym same) (clash before s later split is)
+      by true is others (inr among) = others among
+      by false is others among = others among
 
   among_refused : (n : ℕ) → Among n (refused_lines lines decl) → IsRefused lines decl n
   among_refused n h = elim (in_either n (refused_behind lines [] decl.settings) (clashing lines said decl.settings ++ (if lacks_one lines said then decl.line ∷ [] else [])) h) [

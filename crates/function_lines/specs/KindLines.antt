@@ -58,7 +58,7 @@ clashing lines said settings = map (λ s. s.line) (filter (is_clashing lines sai
 abbrev pub refused_lines : {L : Type 0} → KindLines L → FunctionDecl → List ℕ
 refused_lines lines decl =
     let said = said_by lines decl.settings in
-    refused_behind lines [] decl.settings ++ clashing lines said decl.settings ++ (if lacks_one lines said then decl.line ∷ [] else [])
+    refused_behind lines [] decl.settings ++ (clashing lines said decl.settings ++ (if lacks_one lines said then decl.line ∷ [] else []))
 
 -- the lesser of two lines
 abbrev pub lesser : Option ℕ → ℕ → Option ℕ
