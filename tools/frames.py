@@ -88,13 +88,25 @@ def ipv4(source, destination, content, options=b'', offset=0, more=False, lead=N
     return head + struct.pack('>H', total) + source + destination + options + body
 
 
-def ipv6(source, destination, content, hop_limit=64, traffic_class=0, length=None, lead=None, before=b''):
-    """A whole packet, RFC 8200. `length` stands in the place of the payload's, `lead` in that of the first byte, and `before` behind the header."""
+# Extension headers of IPv6, by the numbers that name them in the header before (RFC 8200, 4.2 to 4.6).
+HOP_BY_HOP, ROUTING, FRAGMENT, DESTINATION = 0, 43, 44, 60
+
+
+def extended(kind, content, offset=0, more=False):
+    """The same content behind an extension header of eight bytes."""
+    protocol, segment = content
+    padding = bytes.fromhex('0104 00000000')
+    rest = {FRAGMENT: struct.pack('>HI', offset + more, 0x12345678), ROUTING: bytes([253]) + bytes(5)}.get(kind, padding)
+    return kind, lambda source, destination: bytes([protocol, 0]) + rest + segment(source, destination)
+
+
+def ipv6(source, destination, content, ttl=64, traffic_class=0, payload_length=None, lead=None):
+    """A whole packet, RFC 8200, whose payload may tell another length than it has. `lead` stands in the place of the first byte."""
     protocol, segment = content
     source, destination = address(source), address(destination)
-    body = before + segment(source, destination)
+    body = segment(source, destination)
     first = 0x60 + (traffic_class >> 4) if lead is None else lead
-    head = struct.pack('>BBHHBB', first, (traffic_class & 0xF) << 4, 0, len(body) if length is None else length, protocol, hop_limit)
+    head = struct.pack('>BBHHBB', first, (traffic_class & 0xF) << 4, 0, len(body) if payload_length is None else payload_length, protocol, ttl)
     return head + source + destination + body
 
 
@@ -125,8 +137,10 @@ def ping6():
     return plain6('2001:db8::66', echo6(1))
 
 
-# Where checksums stand in a frame: in an IPv4 header without a tag and behind one, and in TCP and UDP behind a header of five words.
+# Where checksums stand in a frame: in an IPv4 header without a tag and behind one, in TCP and UDP behind a header of five words, and in both
+# behind that of IPv6.
 IPV4_SUM, TAGGED_IPV4_SUM, TCP_SUM, UDP_SUM = 14 + 10, 18 + 10, 34 + 16, 34 + 6
+TCP6_SUM, UDP6_SUM = 54 + 16, 54 + 6
 
 
 def miscounted(frame, at):
@@ -134,9 +148,9 @@ def miscounted(frame, at):
     return frame[:at] + bytes([frame[at] ^ 0x5A]) + frame[at + 1 :]
 
 
-def uncounted(frame):
+def uncounted(frame, at=UDP_SUM):
     """The same frame of UDP without a checksum, which is written as 0."""
-    return frame[:UDP_SUM] + b'\0\0' + frame[UDP_SUM + 2 :]
+    return frame[:at] + b'\0\0' + frame[at + 2 :]
 
 
 class Capture(typing.NamedTuple):

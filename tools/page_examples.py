@@ -1,10 +1,12 @@
 """The examples of docs/POLICY.md: what the page says is printed, and what it says becomes of packets.
 
-Each block of a policy, or of a command that prints one, has behind it what `nfp plan` prints for it. Behind that may stand a table
-of packets with the head `| record | ..`, and a block of the report that they give. A packet is spelled as in `UDP from
-10.1.4.20:40000 to 198.51.100.5:53`, with more behind it where that counts: `, 500 bytes` for its IPv4 length, `, tos 184`, `, ttl 1`,
-`, data ..` for what UDP or TCP carry, `, tags 100 and 7 pcp 5` for the VLAN ids of its tags from the outermost on, with priorities
-that aren't 0, and `, cut to 20 bytes` for what was captured of the frame; `, a later fragment`, without ports, and `, in MPLS` and the like
+Each block of a policy, or of a command that prints one, has behind it what `nfp plan` prints for it. Behind that may stand a table of
+packets with the head `| record | ..`, and a block of the report that they give. A packet is spelled as in `UDP from 10.1.4.20:40000 to
+198.51.100.5:53` or `ping from 2001:db8::7 to 2001:db8::80`, with brackets where a port stands behind an address of IPv6. More stands
+behind it where that counts: `, 500 bytes` for its length with the IP header, `, tos 184`, `, ttl 1` for the hop limit of IPv6 too, `,
+traffic class 184` and `, payload length 0` of an IPv6 header, `, data ..` for what UDP or TCP carry, `, tags 100 and 7 pcp 5` for the
+VLAN ids of its tags from the outermost on, with priorities that aren't 0, and `, cut to 20 bytes` for what was captured of the frame; `,
+a later fragment`, without ports, `, behind a routing header` and the like for an extension header of IPv6, and `, in MPLS` and the like
 for what it stands in. What becomes of it is told in the same words.
 """
 
@@ -19,18 +21,21 @@ import policy_rules
 
 BLOCK, TABLE = r'^```(policy|sh|plan|order|report)\n(.*?)^```$', r'^\| record \|([^\n]*)\n\|[-|]+\n((?:\|[^\n]*\n)+)'
 PART = re.compile(f'{BLOCK}|{TABLE}', re.MULTILINE | re.DOTALL)
-END = r'([0-9.]+)(?::(\d+))?'
-PACKET = re.compile(f'(UDP|TCP|ping) from {END} to {END}')
+END = re.compile(r'\[([0-9a-f:]+)\]:(\d+)|([0-9.]+):(\d+)|([0-9.]+|[0-9a-f:]+)')
+PACKET = re.compile(r'(UDP|TCP|ping) from (\S+) to (\S+)')
 TAG = r'(\d+)(?: pcp (\d))?'
 MORE = {
     'length': re.compile('([0-9,]+) bytes'),
     'cut': re.compile(r'cut to (\d+) bytes'),
     'tos': re.compile(r'tos (\d+)'),
     'ttl': re.compile(r'ttl (\d+)'),
+    'traffic_class': re.compile(r'traffic class (\d+)'),
+    'payload_length': re.compile(r'payload length (\d+)'),
     'tags': re.compile(f'tags? ({TAG}(?: and {TAG})*)'),
     'data': re.compile('data `(.*)`'),
     'fragment': re.compile('(a later fragment)'),
-    'inside': re.compile('in (PPPoE|MPLS|LLC|GRE|VXLAN|a tag of type 0x9100)'),
+    'behind': re.compile('behind a (hop-by-hop|routing|fragment|destination) header'),
+    'inside': re.compile('in (PPPoE|MPLS|LLC|GRE|IPv4|VXLAN|a tag of type 0x9100)'),
 }
 
 
@@ -71,12 +76,8 @@ def arp(tags):
     return frames.ethernet(frames.TYPE_ARP, request[14:], tags=tags, to=frames.BROADCAST)
 
 
-def ping_of_ipv6(tags):
-    return frames.plain6('2001:db8::66', frames.echo6(1), tags=tags)
-
-
 # What is told without ends.
-OTHERS = {'ARP': arp, 'IPv6 ping': ping_of_ipv6}
+OTHERS = {'ARP': arp}
 
 
 def behind(ether_type, header):
@@ -95,28 +96,53 @@ INSIDE = {
     'MPLS': behind(0x8847, lambda _: struct.pack('>I', 100 << 12 | 1 << 8 | 64)),
     'LLC': lambda frame: behind(len(frame) - 14 + 8, lambda _: bytes.fromhex('aaaa03 000000 0800'))(frame),
     'GRE': tunnelled(lambda frame: (47, lambda *_: bytes.fromhex('0000 0800') + frame[14:])),
+    'IPv4': tunnelled(lambda frame: (41, lambda *_: frame[14:])),
     'VXLAN': tunnelled(lambda frame: frames.udp(50000, 4789, bytes.fromhex('08000000 00000700') + frame)),
     'a tag of type 0x9100': lambda frame: frame[:12] + frames.tag(0x9100, 20) + frame[12:],
 }
+
+
+# The extension headers of IPv6 by their names.
+EXTENSIONS = {'hop-by-hop': frames.HOP_BY_HOP, 'routing': frames.ROUTING, 'fragment': frames.FRAGMENT, 'destination': frames.DESTINATION}
+
+
+def end_of(text):
+    """The address and the port that an end tells, or no port."""
+    spelled = END.fullmatch(text)
+    if spelled is None:
+        raise ValueError(f'no end of a packet: {text}')
+    six, six_port, four, four_port, alone = spelled.groups()
+    return six or four or alone, int(six_port or four_port or 0)
 
 
 def packet_of(text, said, tags):
     spelled = PACKET.fullmatch(text)
     if spelled is None:
         raise ValueError(f'no packet: {text}')
-    what, source, source_port, destination, port = spelled.groups()
-    fields = {name: int(said[name]) for name in ('tos', 'ttl') if name in said}
-    if what == 'ping':
-        return frames.plain(source, frames.echo(1), to=destination, tags=tags, **fields)
+    what, (source, source_port), (destination, port) = spelled[1], end_of(spelled[2]), end_of(spelled[3])
+    is_ipv6 = ':' in source
+    fields = {name: int(said[name]) for name in ('tos', 'ttl', 'traffic_class', 'payload_length') if name in said}
+    content = content_of(what, source_port, port, said, is_ipv6)
     if 'fragment' in said:
-        rest = frames.TCP if what == 'TCP' else frames.UDP, lambda *_: said['data'].encode('ascii')
-        return frames.plain(source, rest, to=destination, tags=tags, offset=1480, **fields)
-    if what == 'TCP':
-        content, header = lambda data: frames.tcp(int(source_port), int(port), frames.PUSH_ACK, data), 40
-    else:
-        content, header = lambda data: frames.udp(int(source_port), int(port), data), 28
+        rest = content[0], lambda *_: said['data'].encode('ascii')
+        if is_ipv6:
+            content = frames.extended(frames.FRAGMENT, rest, offset=1480)
+        else:
+            content, fields['offset'] = rest, 1480
+    elif 'behind' in said:
+        content = frames.extended(EXTENSIONS[said['behind']], content, more=said['behind'] == 'fragment')
+    made = frames.plain6 if is_ipv6 else frames.plain
+    return made(source, content, to=destination, tags=tags, **fields)
+
+
+def content_of(what, source_port, port, said, is_ipv6):
+    """What stands behind the IP header of a packet of this kind."""
+    if what == 'ping':
+        return frames.echo6(1) if is_ipv6 else frames.echo(1)
+    header = (40 if is_ipv6 else 20) + (20 if what == 'TCP' else 8)
     size = int(said['length'].replace(',', '')) - header if 'length' in said else 0
-    return frames.plain(source, content(said.get('data', '.' * size).encode('ascii')), to=destination, tags=tags, **fields)
+    data = said.get('data', '.' * size).encode('ascii')
+    return frames.tcp(source_port, port, frames.PUSH_ACK, data) if what == 'TCP' else frames.udp(source_port, port, data)
 
 
 def microseconds(text):
@@ -199,6 +225,12 @@ def tags_text(tags):
 def ends_text(frame):
     """Where a frame comes from and where it goes, with the ports that it has."""
     packet = packet_rules.Packet(frame, 0)
-    ends = [(packet.address(address), packet.port(port)) for address, port in (('src', 'sport'), ('dst', 'dport'))]
-    source, destination = (f'{address}' if port is None else f'{address}:{port}' for address, port in ends)
+    source, destination = (end_text(packet.address(address), packet.port(port)) for address, port in (('src', 'sport'), ('dst', 'dport')))
     return f'from {source} to {destination}'
+
+
+def end_text(address, port):
+    """An address, and a port where there is one. One of IPv6 stands in brackets before it (RFC 5952, 6)."""
+    if port is None:
+        return f'{address}'
+    return f'[{address}]:{port}' if address.version == 6 else f'{address}:{port}'
