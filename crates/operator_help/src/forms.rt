@@ -3,7 +3,7 @@
 
 use crate::lines::{Row, part, rows_of, until};
 use action_profile::{KINDS, Kind};
-use policy_text::{address, mac, number, prefix, range};
+use policy_text::{address, address6, mac, number, prefix, prefix6, range};
 use std::alloc::{AllocError, Global};
 
 /// The most bytes of a pattern.
@@ -33,7 +33,7 @@ pub fn forms_of(kind: Kind) -> &'static str {
     match kind {
         Kind::Firewall => "  set default allow|deny\n  rule allow|deny CLAUSE ..",
         Kind::Signature | Kind::Redactor => "  rule text WORD\n  rule hex DIGITS",
-        Kind::Nat => "  set inside PREFIX\n  set public ADDRESS\n  set ports LO-HI",
+        Kind::Nat => "  set inside IPV4-PREFIX\n  set public IPV4-ADDRESS\n  set ports LO-HI",
         Kind::Balancer => "  set vip ADDRESS\n  rule backend ADDRESS",
         Kind::Limiter => "  set rate 1-4294967295\n  set burst 1-4294967295",
         Kind::Marker => "  rule tos 0-255 CLAUSE ..",
@@ -176,8 +176,12 @@ fn fits(wanted: &[u8], word: &[u8]) -> bool {
 
 fn fits_one(wanted: &[u8], word: &[u8]) -> bool {
     if wanted == b"PREFIX".as_slice() {
-        prefix(word).is_some()
+        prefix(word).is_some() || prefix6(word).is_some()
     } else if wanted == b"ADDRESS".as_slice() {
+        address(word).is_some() || address6(word).is_some()
+    } else if wanted == b"IPV4-PREFIX".as_slice() {
+        prefix(word).is_some()
+    } else if wanted == b"IPV4-ADDRESS".as_slice() {
         address(word).is_some()
     } else if wanted == b"PORTS".as_slice() {
         range(word).is_some()

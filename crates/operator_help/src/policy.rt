@@ -41,7 +41,7 @@ const NO_LINE: &str =
     "no line begins with `{}`, but with one of: chain fn set rule order priority position";
 
 const CLAUSES: &str =
-    "a CLAUSE, each at most once, is: {}\na PREFIX is as 10.1.0.0/16 or 10.1.2.3, PORTS are as 80 or 1000-1999";
+    "a CLAUSE, each at most once, is: {}\na PREFIX is as 10.1.0.0/16, 10.1.2.3 or 2001:db8::/32, PORTS are as 80 or 1000-1999";
 
 /// A policy that was refused: the name of its file, and its text as it was read.
 #[derive(Clone, Copy)]

@@ -11,6 +11,9 @@ use text_lines::Piece::{Number, Text};
 
 const MISSING: &str = "a line is missing that a {} can't be without, or it is wrong: it needs {}";
 
+const OTHER_VERSION: &str =
+    "a server has an address of the same version of IP as the one that is set: of IPv4 or of IPv6";
+
 const TWICE: &str = "it is set already, in line {}; take one of the two lines away";
 
 /// A line that a function refuses among its settings.
@@ -88,7 +91,8 @@ fn quote_misfit(
     }
 }
 
-// Quotes the line that is refused, behind these. One that fits a form stands among them already.
+// Quotes the line that is refused, behind these. One that fits a form sets what stands among them already, or is a rule that can't
+// stand beside the others, as a server's.
 fn quote_setting(
     page: &mut Page,
     policy: PolicyText<'_>,
@@ -100,6 +104,9 @@ fn quote_setting(
         return Ok(());
     }
     quote_row(page, policy, row, None)?;
+    if row.begins_with(b"rule") {
+        return page.tell(OTHER_VERSION, &[]);
+    }
     match setting_before(rows, row.word(1)) {
         Some(other) => {
             page.tell(TWICE, &[Number(u64::from(other.number))])?;
