@@ -3,6 +3,8 @@
 from frames import (
     ACK,
     BROADCAST,
+    DESTINATION,
+    FRAGMENT,
     IPV4_SUM,
     MICRO,
     NANO,
@@ -12,20 +14,28 @@ from frames import (
     SYN,
     TAGGED_IPV4_SUM,
     TCP,
+    TCP6_SUM,
     TCP_SUM,
     TYPE_ARP,
     TYPE_IPV4,
+    TYPE_IPV6,
     TYPE_PPPOE,
     UDP,
+    UDP6_SUM,
     VLAN_TAG,
     Capture,
     arp_request,
+    asked_neighbour,
     echo,
+    echo6,
     ethernet,
+    extended,
     ipv4,
+    ipv6,
     ping6,
     miscounted,
     plain,
+    plain6,
     tag,
     tcp,
     udp,
@@ -40,6 +50,9 @@ RECORD_ROUTE = bytes.fromhex('070b04') + b'\0' * 8 + b'\0'
 ROUTER_ALERT = bytes.fromhex('94040000')
 OFFICE, NEIGHBOUR, OTHER_TEN, GUEST, SCREEN, SCANNER = '10.1.4.20', '10.1.4.21', '10.2.4.20', '192.168.20.31', '192.168.20.10', '203.0.113.66'
 RESOLVER, CUSTOMER, PROBE = '192.0.2.53', '198.51.100.200', '203.0.113.9'
+
+# Behind `quic` from 2001:db8:7::8 they make the sum of a packet to 2001:db8:1:9::2 one that is written as 0xffff.
+ENDS_AT_ZERO = bytes.fromhex('0460')
 
 
 def page(port):
@@ -318,6 +331,55 @@ def shop():
     ]
 
 
+def both_versions():
+    """What came to a site by both versions of IP, and how many bytes of it were captured."""
+    web, shop = '192.0.2.80', '2001:db8:1::80'
+    visitor, ann, bob, scanner = '198.51.100.7', '2001:db8:7::7', '2001:db8:7::8', '2001:db8:66::66'
+
+    def to_web(source, port=443, **fields):
+        return plain(source, tcp(50001, port, SYN), to=web, **fields)
+
+    def to_shop(source, port=50001, flags=ACK, service=443, **fields):
+        return plain6(source, tcp(port, service, flags), to=shop, **fields)
+
+    def said(source, data):
+        return plain6(source, udp(50001, 443, data), to=shop)
+
+    neighbour = ethernet(TYPE_IPV6, ipv6('fe80::1', 'ff02::1:ff00:80', asked_neighbour(shop), ttl=255), to=bytes.fromhex('3333ff000080'))
+    hidden = plain6(bob, extended(DESTINATION, tcp(50001, 25, SYN)), to=shop)
+    long_upload = plain6(bob, tcp(50001, 443, PUSH_ACK, b'.' * 1426), to=shop)
+    return [
+        ('ARP request of the gateway', arp_request('192.0.2.254', web), None),
+        ('the gateway asks for its neighbour 2001:db8:1::80', neighbour, None),
+        ('TCP SYN of a visitor by IPv4', to_web(visitor), None),
+        ('TCP SYN of a visitor by IPv6', to_shop(ann, flags=SYN), None),
+        ('TCP SYN of a second one, from a port of the same number', to_shop(bob, flags=SYN), None),
+        ('the first one goes on', to_shop(ann), None),
+        ('UDP of the first one', said(ann, b'quic'), None),
+        ('UDP of the second one, whose checksum comes out as 0', said(bob, b'quic' + ENDS_AT_ZERO), None),
+        ('the same without a checksum', uncounted(said(bob, b'quic' + ENDS_AT_ZERO), UDP6_SUM), None),
+        ('the second one goes on, with a wrong TCP checksum', miscounted(to_shop(bob), TCP6_SUM), None),
+        ('the same in VLAN 10', to_shop(bob, tags=tag(VLAN_TAG, 10)), None),
+        ('an upload of the second one, cut by the snaplen', long_upload, None),
+        ('TCP SYN of the scanner by IPv4', to_web(SCANNER), None),
+        ('TCP SYN of the scanner by IPv6', to_shop(scanner, flags=SYN), None),
+        ('the scanner by another address of its network', to_shop('2001:db8:66::1:1', flags=SYN), None),
+        ('somebody outside with an address of the site, IPv4', to_web('192.0.2.20'), None),
+        ('the same by IPv6', to_shop('2001:db8:1::20', flags=SYN), None),
+        ('mail by IPv4', to_web(visitor, 25), None),
+        ('mail by IPv6', to_shop(bob, flags=SYN, service=25), None),
+        ('mail behind an extension header', hidden, None),
+        ('the scanner by IPv6, in a tunnel of IPv4', plain(visitor, (41, lambda *_: to_shop(scanner, flags=SYN)[14:]), to=web), None),
+        ('first fragment of the second visitor', plain6(bob, extended(FRAGMENT, tcp(50001, 443, PUSH_ACK, b'x' * 28), more=True), to=shop), None),
+        ('ping of the second visitor', plain6(bob, echo6(1), to=shop), None),
+        ('TCP SYN of a third visitor, whose hop limit is at its end', to_shop('2001:db8:7::9', flags=SYN, ttl=1), None),
+        ('TCP of a fourth one, cut behind the source port', to_shop('2001:db8:7::a'), 56),
+        ('the same, cut inside the destination', to_shop('2001:db8:7::a'), 53),
+        ('the same, cut inside the source', to_shop('2001:db8:7::a'), 37),
+        ('a header that tells version 4 behind the type of IPv6', to_shop(scanner, flags=SYN, lead=0x45), None),
+    ]
+
+
 def slow_line():
     """What was seen on a line with a source that sends too much, with the microseconds since FIRST_SECOND."""
     backup, camera, server = '10.1.0.10', '10.1.0.30', '192.0.2.80'
@@ -476,6 +538,7 @@ def provider_edge():
     ]
 
 
+TWO_VERSIONS = Capture('<', MICRO, 96, [(n * 180_503, *record) for n, record in enumerate(both_versions())])
 UPGRADE = Capture('<', MICRO, 262144, [(n * 180_503, *record) for n, record in enumerate(handed_on())])
 
 # By the names of the folders. A folder in another one has this one's capture. The example without a capture is planned and not run.
@@ -492,6 +555,8 @@ MADE = {
     'refused-policy/other-way': UPGRADE,
     'site-edge': Capture('<', MICRO, 262144, [(n * 180_503, *record) for n, record in enumerate(edge())]),
     'two-servers': Capture('<', MICRO, 96, [(n * 180_503, *record) for n, record in enumerate(shop())]),
+    'both-versions': TWO_VERSIONS,
+    'both-versions/ipv4-alone': TWO_VERSIONS,
     'slowed-source': Capture('<', MICRO, 96, slow_line()),
     'voice-marking': Capture('<', MICRO, 262144, [(n * 180_503, *record) for n, record in enumerate(calls())]),
     'redacted-secret': Capture('<', MICRO, 262144, [(n * 180_503, *record) for n, record in enumerate(logins())]),

@@ -64,12 +64,23 @@ def echo(number):
     return ICMP, segment
 
 
-def echo6(number):
+def icmp6(kind, rest):
+    """A message of RFC 4443, whose checksum takes in the addresses."""
+
     def segment(source, destination):
-        total = transport_checksum(source, destination, ICMP6, struct.pack('>BBHHH', 128, 0, 0, 7, number))
-        return struct.pack('>BBHHH', 128, 0, total, 7, number)
+        total = transport_checksum(source, destination, ICMP6, struct.pack('>BBH', kind, 0, 0) + rest)
+        return struct.pack('>BBH', kind, 0, total) + rest
 
     return ICMP6, segment
+
+
+def echo6(number):
+    return icmp6(128, struct.pack('>HH', 7, number))
+
+
+def asked_neighbour(target):
+    """Who has this address? With that of the one who asks (RFC 4861, 4.3)."""
+    return icmp6(135, bytes(4) + address(target) + bytes([1, 1]) + STATION)
 
 
 SYN, ACK, PUSH_ACK = 0x02, 0x10, 0x18
