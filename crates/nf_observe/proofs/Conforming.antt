@@ -1,7 +1,7 @@
 -- A bucket pays for all packets of a source that keeps to its rate.
-use Rattle.std.proofs.Common.{◌≡◌, ◌≤◌, ◌+◌, ◌-◌, ◌*◌, ◌∙◌, ℕ, List, [], ◌∷◌, Bool, true, false, refl, sym, ap, arith}
+use Rattle.std.proofs.Common.{◌≡◌, ◌≤◌, ◌+◌, ◌-◌, ◌*◌, ◌∙◌, ℕ, List, [], ◌∷◌, Bool, true, refl, ap, arith}
 use Rattle.std.proofs.Math.Nat.{add-mul, zero-mul, mul-le-mul_right}
-use Rattle.std.specs.Prelude.{if◌then◌else◌, nat_lt}
+use Rattle.std.specs.Prelude.{if◌then◌else◌}
 use Rattle.nf_observe.specs.Buckets.{tokens_of, full, filled, affords, paid}
 use Rattle.nf_observe.specs.Spending.{Arrival, bytes_paid, bytes_of, IsCovered, IsConforming}
 use Rattle.nf_observe.specs.declared.bucket.TokenBucket.{TokenBucket}

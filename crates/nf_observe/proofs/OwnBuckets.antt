@@ -1,23 +1,34 @@
 -- What comes from one source changes its own bucket alone.
-use Rattle.std.proofs.Common.{◌≡◌, ◌≢◌, ◌∙◌, ℕ, List, Bool, true, false, Option, Some, None, refl, ap, arith}
-use Rattle.std.specs.Prelude.{if◌then◌else◌, nat_eq}
+use Rattle.std.proofs.Common.{◌≡◌, ◌∙◌, ℕ, List, Bool, true, false, Option, Some, refl, ap, subst}
+use Rattle.std.specs.Prelude.{if◌then◌else◌}
 use Rattle.std.specs.Option.{option_map_or}
+use Rattle.std.specs.contracts.net.ip_addr.IpAddrPartialEq.TheImpl as addresses
+use Rattle.std.specs.declared.net.ip_addr.IpAddr.{IpAddr}
+use Rattle.std.specs.declared.net.ip_addr.IpAddr.TheVariants.{V4, V6}
 use Rattle.first_sight.specs.FirstSight.{belonging, noted}
+use Rattle.first_sight.specs.SameAddress.{is_same_address}
 use Rattle.nf_observe.specs.Buckets.{full, filled, paid}
 use Rattle.nf_observe.specs.Limiters.{bucket_of, limited}
 use Rattle.nf_observe.specs.declared.bucket.TokenBucket.{TokenBucket}
 use Rattle.nf_observe.specs.declared.limiter.Limiter.{Limiter}
 
 -- what was noted for a key is found again, and nothing else has changed
+abbrev pub IsFoundBy : (IpAddr → IpAddr → Bool) → Type 0
+IsFoundBy eq = (seen : List (IpAddr × TokenBucket)) (key asked : IpAddr) (value : TokenBucket) →
+    belonging eq (noted eq seen key value) asked ≡ (if eq asked key then Some value else belonging eq seen asked)
+
 abbrev pub IsFound : Type 0
-IsFound = (seen : List (ℕ × TokenBucket)) (key asked : ℕ) (value : TokenBucket) →
-    belonging nat_eq (noted nat_eq seen key value) asked ≡ (if nat_eq asked key then Some value else belonging nat_eq seen asked)
+IsFound = IsFoundBy is_same_address
 
-same : (n : ℕ) → nat_eq n n ≡ true
-same n = grind arith
+-- how the code compares addresses is whether they are the same
+agrees : (a b : IpAddr) → addresses.ghosts.eq a b ≡ is_same_address a b
+agrees (V4 a) (V4 b) = refl
+agrees (V4 a) (V6 b) = refl
+agrees (V6 a) (V4 b) = refl
+agrees (V6 a) (V6 b) = refl
 
-differs : (m n : ℕ) → m ≢ n → nat_eq m n ≡ false
-differs m n other = grind arith
+pub as_compared : IsFoundBy addresses.ghosts.eq → IsFound
+as_compared found = subst IsFoundBy (λ i a b. agrees a b i) found
 
 found_by : (b : Bool) {A : Type 0} (mine rest : A) → b ≡ true → (if b then mine else rest) ≡ mine
 found_by true mine rest is = refl
@@ -30,12 +41,12 @@ rest_by true mine rest is = absurd cc
 abbrev bucket_by : Limiter → ℕ → Option TokenBucket → TokenBucket
 bucket_by l later found = option_map_or (filled l.rate l.burst later) found (full l.burst later)
 
-pub pays_alone : IsFound → (l : Limiter) (source bytes time later : ℕ) →
-    bucket_of (limited l source bytes time).after source later ≡ filled l.rate l.burst later (paid (bucket_of l source time) bytes)
-pays_alone found l source bytes time later =
-    ap (bucket_by l later) (found l.sources source source (paid (bucket_of l source time) bytes) ∙ found_by (nat_eq source source) _ _ (same source))
+pub pays_alone : IsFound → (l : Limiter) (source same : IpAddr) (bytes time later : ℕ) → is_same_address same source ≡ true →
+    bucket_of (limited l source bytes time).after same later ≡ filled l.rate l.burst later (paid (bucket_of l source time) bytes)
+pays_alone found l source same bytes time later is =
+    ap (bucket_by l later) (found l.sources source same (paid (bucket_of l source time) bytes) ∙ found_by (is_same_address same source) _ _ is)
 
-pub others_stay : IsFound → (l : Limiter) (source other bytes time later : ℕ) → other ≢ source →
+pub others_stay : IsFound → (l : Limiter) (source other : IpAddr) (bytes time later : ℕ) → is_same_address other source ≡ false →
     bucket_of (limited l source bytes time).after other later ≡ bucket_of l other later
 others_stay found l source other bytes time later differ =
-    ap (bucket_by l later) (found l.sources source other (paid (bucket_of l source time) bytes) ∙ rest_by (nat_eq other source) _ _ (differs other source differ))
+    ap (bucket_by l later) (found l.sources source other (paid (bucket_of l source time) bytes) ∙ rest_by (is_same_address other source) _ _ differ)

@@ -1,5 +1,6 @@
 -- For proofs: a limiter does what its profile says, and no more.
 use Rattle.std.specs.Prelude.{◌≡◌, ℕ, List, Option, Some, None, IfSome, refl}
+use Rattle.std.specs.declared.net.ip_addr.IpAddr.{IpAddr}
 use Rattle.packet_fields.specs.declared.field.Field.{Field}
 use Rattle.packet_fields.specs.declared.field.Field.TheVariants.{Tag}
 use Rattle.action_profile.specs.Profiles.{profile_of}
@@ -8,18 +9,18 @@ use Rattle.chain_walk.specs.Laws.{KeepsProfile}
 use Rattle.chain_walk.specs.Shown.{Values, shown_by}
 use Rattle.chain_walk.specs.Step.{stepped}
 use Rattle.chain_walk.specs.declared.fixed.Fixed.{Fixed}
-use Rattle.frame_seen.specs.Seeing.{seen_by}
+use Rattle.frame_seen.specs.Seeing.{source_address}
 use Rattle.nf_observe.specs.Limiters.{limiter_behaviour, limited_by}
 use Rattle.nf_observe.specs.declared.limiter.Limiter.{Limiter}
 
 -- it writes nothing, whether or not it knows source and length
-none_written : (l : Limiter) (source bytes : Option ℕ) (time : ℕ) (x : Field) → (limited_by l source bytes time).written x ≡ None
+none_written : (l : Limiter) (source : Option IpAddr) (bytes : Option ℕ) (time : ℕ) (x : Field) → (limited_by l source bytes time).written x ≡ None
 none_written l (Some source) (Some bytes) time x = refl
 none_written l (Some source) None time x = refl
 none_written l None bytes time x = refl
 
 writes_none : (fixed : Fixed) (l : Limiter) (v : Values) (x : Field) → (stepped limiter_behaviour fixed l v).written x ≡ None
-writes_none fixed l v x = none_written l (seen_by (shown_by (profile_of kinds.Limiter) fixed v).values fixed.proto).src fixed.ip_len fixed.time x
+writes_none fixed l v x = none_written l (source_address (shown_by (profile_of kinds.Limiter) fixed v).values) fixed.ip_len fixed.time x
 
 if_none : (written : Option (List ℕ)) (P : List ℕ → Type 0) → written ≡ None → IfSome written P
 if_none None P h = tt

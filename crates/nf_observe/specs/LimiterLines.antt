@@ -3,7 +3,7 @@ use Rattle.std.specs.Prelude.{ℕ, List, [], ◌∷◌, Bool, true, false, ◌==
 use Rattle.std.specs.Option.{option_map}
 use Rattle.std.specs.Str.{bytes_eq}
 use Rattle.policy_text.specs.Values.{number_of}
-use Rattle.function_lines.specs.KindLines.{KindLines}
+use Rattle.function_lines.specs.KindLines.{KindLines, never_clash}
 use Rattle.nf_observe.specs.declared.limiter.lines.LimiterLine.{LimiterLine}
 use Rattle.nf_observe.specs.declared.limiter.lines.LimiterLine.TheVariants as lines
 
@@ -36,4 +36,4 @@ is_burst (lines.Burst n) = true
 
 -- the lines of a limiter, both of which have to be there
 abbrev pub limiter_lines : KindLines LimiterLine
-limiter_lines = record { line_of = line_of; required = is_rate ∷ is_burst ∷ [] }
+limiter_lines = record { line_of = line_of; required = is_rate ∷ is_burst ∷ []; clashes = never_clash }

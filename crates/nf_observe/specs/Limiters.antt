@@ -1,7 +1,8 @@
 -- Believed: a limiter: how it is declared, what it lets pass, and the lines that tell its state.
-use Rattle.std.specs.Prelude.{ℕ, List, [], Bool, true, false, nat_eq, Option, Some, fold}
+use Rattle.std.specs.Prelude.{ℕ, List, [], Bool, true, false, Option, Some, fold}
 use Rattle.std.specs.Option.{option_map_or}
-use Rattle.frame_seen.specs.Seeing.{seen_by}
+use Rattle.std.specs.declared.net.ip_addr.IpAddr.{IpAddr}
+use Rattle.frame_seen.specs.Seeing.{source_address}
 use Rattle.action_profile.specs.Profiles.{profile_of}
 use Rattle.action_profile.specs.declared.kind.Kind.TheVariants as kinds
 use Rattle.chain_walk.specs.Shown.{Shown}
@@ -10,6 +11,7 @@ use Rattle.chain_walk.specs.declared.verdict.Verdict.{Verdict}
 use Rattle.chain_walk.specs.declared.verdict.Verdict.TheVariants.{Pass, Drop}
 use Rattle.nf_observe.specs.Buckets.{full, filled, affords, paid}
 use Rattle.first_sight.specs.FirstSight.{belonging, noted, lines_by}
+use Rattle.first_sight.specs.SameAddress.{is_same_address}
 use Rattle.nf_observe.specs.StateLines.{source_line}
 use Rattle.nf_observe.specs.declared.bucket.TokenBucket.{TokenBucket}
 use Rattle.nf_observe.specs.declared.limiter.Limiter.{Limiter}
@@ -30,8 +32,8 @@ abbrev pub limiter_by : List LimiterLine → Limiter
 limiter_by said = fold with_line unset_limiter said
 
 -- the bucket of a source at this time: a source that is new has a full one
-abbrev pub bucket_of : Limiter → ℕ → ℕ → TokenBucket
-bucket_of l source time = option_map_or (filled l.rate l.burst time) (belonging nat_eq l.sources source) (full l.burst time)
+abbrev pub bucket_of : Limiter → IpAddr → ℕ → TokenBucket
+bucket_of l source time = option_map_or (filled l.rate l.burst time) (belonging is_same_address l.sources source) (full l.burst time)
 
 -- a packet that is not paid for is dropped
 abbrev pub verdict_by : Bool → Verdict
@@ -39,21 +41,22 @@ verdict_by true = Pass
 verdict_by false = Drop
 
 -- the source's bucket pays for a packet of so many bytes at this time
-abbrev pub limited : Limiter → ℕ → ℕ → ℕ → Step Limiter
+abbrev pub limited : Limiter → IpAddr → ℕ → ℕ → Step Limiter
 limited l source bytes time = record {
-  after = record l { sources = noted nat_eq l.sources source (paid (bucket_of l source time) bytes) };
+  after = record l { sources = noted is_same_address l.sources source (paid (bucket_of l source time) bytes) };
   verdict = verdict_by (affords (bucket_of l source time) bytes);
   written = nothing;
 }
 
 -- a packet whose source or length isn't known passes
-abbrev pub limited_by : Limiter → Option ℕ → Option ℕ → ℕ → Step Limiter
+abbrev pub limited_by : Limiter → Option IpAddr → Option ℕ → ℕ → Step Limiter
 limited_by l (Some source) (Some bytes) time = limited l source bytes time
 limited_by l source bytes time = record { after = l; verdict = Pass; written = nothing }
 
--- a limiter judges by the source and the IPv4 total length, and writes nothing
+-- A limiter judges by the source and the IP length, and writes nothing. The IP length is IPv4's total length (RFC 791, 3.1), and of
+-- IPv6 the 40 bytes of the header and its payload length (RFC 8200, 3).
 abbrev pub limiter_step : Limiter → Shown → Step Limiter
-limiter_step l shown = limited_by l (seen_by shown.values shown.fixed.proto).src shown.fixed.ip_len shown.fixed.time
+limiter_step l shown = limited_by l (source_address shown.values) shown.fixed.ip_len shown.fixed.time
 
 -- how limiters behave
 abbrev pub limiter_behaviour : Behaviour Limiter

@@ -2,8 +2,9 @@
 use Rattle.std.specs.Prelude.{ℕ, List, [], ◌∷◌, Option, codes}
 use Rattle.std.specs.Fmt.{decimal}
 use Rattle.std.specs.Option.{option_map_or}
+use Rattle.std.specs.declared.net.ip_addr.IpAddr.{IpAddr}
 use Rattle.text_lines.specs.Texts.{joined, line_of}
-use Rattle.first_sight.specs.Addresses.{dotted}
+use Rattle.first_sight.specs.Addresses.{address_text}
 use Rattle.nf_observe.specs.declared.bucket.TokenBucket.{TokenBucket}
 use Rattle.nf_observe.specs.declared.flow.Endpoint.{Endpoint}
 use Rattle.nf_observe.specs.declared.flow.FiveTuple.{FiveTuple}
@@ -15,7 +16,7 @@ port_text port = option_map_or decimal port (codes "-")
 
 -- `ADDRESS PORT`
 unfoldable pub endpoint_text : Endpoint → List ℕ
-endpoint_text e = joined (dotted e.address ∷ codes " " ∷ port_text e.port ∷ [])
+endpoint_text e = joined (address_text e.address ∷ codes " " ∷ port_text e.port ∷ [])
 
 -- `  flow PROTO SOURCE PORT DESTINATION PORT packets N bytes N`
 unfoldable pub flow_line : FiveTuple → FlowCounts → List ℕ
@@ -24,5 +25,5 @@ flow_line flow counts = line_of
     ∷ codes " packets " ∷ decimal counts.packets ∷ codes " bytes " ∷ decimal counts.bytes ∷ [])
 
 -- `  source ADDRESS tokens N at MOMENT`
-unfoldable pub source_line : ℕ → TokenBucket → List ℕ
-source_line source bucket = line_of (codes "  source " ∷ dotted source ∷ codes " tokens " ∷ decimal bucket.tokens ∷ codes " at " ∷ decimal bucket.moment ∷ [])
+unfoldable pub source_line : IpAddr → TokenBucket → List ℕ
+source_line source bucket = line_of (codes "  source " ∷ address_text source ∷ codes " tokens " ∷ decimal bucket.tokens ∷ codes " at " ∷ decimal bucket.moment ∷ [])

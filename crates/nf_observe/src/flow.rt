@@ -3,10 +3,13 @@ ghost use Rattle.std.specs.Cmp.{partial_equiv_from_equiv};
 ghost use Rattle.nf_observe.specs.SameFlow.{is_same_endpoint, is_same_flow};
 ghost use Rattle.nf_observe.specs.SameFlowLaws.{same_endpoint, same_flow};
 
-/// An address, and the port there. Numbers are read most significant byte first.
+use std::net::IpAddr;
+
+/// An address of either version of IP, and the port there, which is read most significant byte first.
 #[derive(Clone, Copy, Hash, Debug)]
 pub struct Endpoint {
-    pub address: u32,
+    /// An address of IPv4 is never one of IPv6, so flows of both versions stay apart.
+    pub address: IpAddr,
     /// None where the packet has no ports, as a fragment that isn't the first.
     pub port: Option<u16>,
 }
@@ -28,7 +31,7 @@ impl Eq for Endpoint {
 /// What tells flows apart.
 #[derive(Clone, Copy, Hash, Debug)]
 pub struct FiveTuple {
-    /// The IPv4 header's protocol (RFC 791, 3.1).
+    /// The IPv4 header's protocol (RFC 791, 3.1), or the IPv6 header's next header (RFC 8200, 3).
     pub proto: u8,
     pub source: Endpoint,
     pub destination: Endpoint,

@@ -1,9 +1,11 @@
 //! What counts of flows and token buckets are worth.
-ghost use Rattle.std.specs.Prelude.{◌≡◌, ◌≢◌, ℕ, ◌+◌, ◌-◌, ◌*◌, ◌≤◌, List, [], ◌∷◌, ◌++◌, is_some, if◌then◌else◌};
+ghost use Rattle.std.specs.Prelude.{◌≡◌, ℕ, ◌+◌, ◌-◌, ◌*◌, ◌≤◌, List, [], ◌∷◌, ◌++◌, true, false, is_some, if◌then◌else◌};
 ghost use Rattle.std.specs.Map.{keys_of};
+ghost use Rattle.std.specs.declared.net.ip_addr.IpAddr.{IpAddr};
 ghost use Rattle.nf_observe.specs.Buckets.{tokens_of, full, filled, affords, paid};
 ghost use Rattle.nf_observe.specs.Counting.{Sight, flows_with, counts_of, of_flow, totals};
 ghost use Rattle.first_sight.specs.FirstSight.{belonging};
+ghost use Rattle.first_sight.specs.SameAddress.{is_same_address};
 ghost use Rattle.nf_observe.specs.Flows.{counted};
 ghost use Rattle.nf_observe.specs.SameFlow.{is_same_flow};
 ghost use Rattle.nf_observe.specs.Spending.{Arrival, left_by, bytes_paid, bytes_of, IsConforming, IsWithinRate};
@@ -16,6 +18,7 @@ ghost use Rattle.nf_observe.specs.declared.flow.FlowCounts.{FlowCounts};
 use crate::bucket::TokenBucket;
 use crate::flow::{FiveTuple, FlowCounts};
 use first_sight::noted_is_found;
+use std::net::IpAddr;
 
 /// What is counted of each flow are its packets and their bytes, whatever comes in between. A flow that is
 /// known keeps its place, and a new one goes last.
@@ -44,13 +47,13 @@ pub fn conforming_sources_pass()
 {}
 
 /// Each source has a bucket of its own, which alone decides on its packets and pays for them: what comes from one source
-/// leaves the buckets of all others as they are.
+/// leaves the buckets of all others as they are. An address of IPv4 and one of IPv6 are two sources.
 pub fn sources_have_their_own_buckets()
-    ensures decides { (l : Limiter) (source bytes time : ℕ) → (limited l source bytes time).verdict ≡ verdict_by (affords (bucket_of l source time) bytes) }
-    ensures pays { (l : Limiter) (source bytes time later : ℕ) →
-        bucket_of (limited l source bytes time).after source later ≡ filled l.rate l.burst later (paid (bucket_of l source time) bytes) }
-    ensures others { (l : Limiter) (source other bytes time later : ℕ) → other ≢ source →
+    ensures decides { (l : Limiter) (source : IpAddr) (bytes time : ℕ) → (limited l source bytes time).verdict ≡ verdict_by (affords (bucket_of l source time) bytes) }
+    ensures pays { (l : Limiter) (source same : IpAddr) (bytes time later : ℕ) → is_same_address same source ≡ true →
+        bucket_of (limited l source bytes time).after same later ≡ filled l.rate l.burst later (paid (bucket_of l source time) bytes) }
+    ensures others { (l : Limiter) (source other : IpAddr) (bytes time later : ℕ) → is_same_address other source ≡ false →
         bucket_of (limited l source bytes time).after other later ≡ bucket_of l other later }
 {
-    noted_is_found::<u32, TokenBucket>();
+    noted_is_found::<IpAddr, TokenBucket>();
 }

@@ -1,11 +1,12 @@
 //! Network functions that watch packets, and change nothing of them.
 //!
 //! A [`Monitor`] counts the packets and bytes of each flow: packets of one protocol between the same
-//! addresses and ports (RFC 791, RFC 793, RFC 768). A packet's bytes are its IPv4 total length. Both counts
+//! addresses of IPv4 or IPv6 and the same ports (RFC 791, RFC 8200, RFC 793, RFC 768). A packet's bytes are its IP length:
+//! IPv4's total length, or IPv6's header of 40 bytes and its payload length. Both counts
 //! stop at the largest number of 64 bits. [`flows_count_their_packets`] says that each flow has the counts of
 //! its own packets. No line sets a monitor up: [`Monitor::build`] refuses any.
 //!
-//! A [`Limiter`] drops what a source sends beyond a rate. Each source has a [`TokenBucket`], which is full
+//! A [`Limiter`] drops what a source sends beyond a rate. Each source, an address of IPv4 or IPv6, has a [`TokenBucket`], which is full
 //! at first, holds the tokens of a burst and fills by the rate; a packet passes where its bucket pays for it.
 //! A token is what a rate of one byte a second brings in one nanosecond, so no fraction is ever lost. What
 //! comes in a span is computed in 128 bits, and nothing wraps. [`buckets_keep_the_rate`] says that no bucket
@@ -21,6 +22,8 @@
 //! A state is a list in the order of first sight, and contracts see that list. The code finds a key by its
 //! hash (`first_sight::FirstSeen`), so no step searches through a state. Where memory runs out, function and
 //! packet are as they were; so is the text to which the lines of a state were to be appended.
+//!
+//! An address of IPv4 is never one of IPv6, so flows and sources of the two versions are never taken for each other.
 //!
 //! Nothing is ever forgotten: a state grows with each new flow or source.
 #![tactic(auto)]

@@ -6,11 +6,12 @@ mod lines;
 use crate::bucket::TokenBucket;
 use chain_walk::Verdict;
 use first_sight::FirstSeen;
-use frame_seen::seen_address;
+use frame_seen::seen_ip_address;
 pub use lines::LimiterLine;
 use packet_fields::Field;
 use packet_version::{View, unwritten_stays};
 use std::alloc::AllocError;
+use std::net::IpAddr;
 
 /// Drops what a source sends beyond a rate.
 #[derive(Debug, Drop)]
@@ -19,8 +20,8 @@ pub struct Limiter {
     pub rate: u32,
     /// How many bytes a source may send at once that was quiet.
     pub burst: u32,
-    /// The bucket of each source, in the order of first sight.
-    pub sources: FirstSeen<u32, TokenBucket>,
+    /// The bucket of each source, in the order of first sight. An address of IPv4 is never one of IPv6.
+    pub sources: FirstSeen<IpAddr, TokenBucket>,
 }
 
 impl Limiter {
@@ -75,7 +76,7 @@ impl Limiter {
     }
 
     // Lets a packet of so many bytes pass where the source's bucket pays for it.
-    fn charge(&mut self, source: u32, bytes: u16, time: u64) -> Result<Verdict, AllocError>
+    fn charge(&mut self, source: IpAddr, bytes: u16, time: u64) -> Result<Verdict, AllocError>
         ensures after { OnOk result (self.new ≡ (limited self.old source bytes time).after) }
         ensures verdict { IfOk result (λ verdict. verdict ≡ (limited self.old source bytes time).verdict) }
         ensures stays { OnErr result (self.new ≡ self.old) }
@@ -86,7 +87,7 @@ impl Limiter {
     }
 
     // The bucket of a source at this time: a new one is full.
-    fn bucket_of(&self, source: u32, time: u64) -> TokenBucket
+    fn bucket_of(&self, source: IpAddr, time: u64) -> TokenBucket
         ensures { result ≡ bucket_of self.now source time }
     {
         match self.sources.get(&source) {
@@ -99,7 +100,7 @@ impl Limiter {
 ghost use Rattle.std.specs.Prelude.{◌≡◌};
 ghost use Rattle.action_profile.specs.Profiles.{profile_of};
 ghost use Rattle.action_profile.specs.declared.kind.Kind.{Kind};
-ghost use Rattle.frame_seen.specs.Seeing.{seen_by};
+ghost use Rattle.frame_seen.specs.Seeing.{source_address};
 ghost use Rattle.packet_version.specs.Views.{seen_values};
 ghost use Rattle.nf_observe.specs.Limiters.{verdict_by};
 
@@ -114,9 +115,9 @@ fn verdict(affords: bool) -> Verdict
 }
 
 /// The source of the packet behind a view.
-fn source_in(view: &View) -> Option<u32>
+fn source_in(view: &View) -> Option<IpAddr>
     requires profile { view.now.profile ≡ profile_of Kind.Limiter }
-    ensures { result ≡ (seen_by (seen_values view.now) view.now.version.fixed.proto).src }
+    ensures { result ≡ source_address (seen_values view.now) }
 {
-    seen_address(view.get(Field::SrcIp))
+    seen_ip_address(view.get(Field::SrcIp))
 }

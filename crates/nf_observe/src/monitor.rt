@@ -6,7 +6,7 @@ use crate::flow::{Endpoint, FiveTuple, FlowCounts};
 pub use build::MonitorLine;
 use chain_walk::Verdict;
 use first_sight::FirstSeen;
-use frame_seen::{seen_address, seen_port};
+use frame_seen::{seen_ip_address, seen_port};
 use packet_fields::Field;
 use packet_version::{View, unwritten_stays};
 use std::alloc::AllocError;
@@ -84,23 +84,22 @@ impl Monitor {
 ghost use Rattle.std.specs.Prelude.{◌≡◌};
 ghost use Rattle.action_profile.specs.Profiles.{profile_of};
 ghost use Rattle.action_profile.specs.declared.kind.Kind.{Kind};
-ghost use Rattle.frame_seen.specs.Seeing.{seen_by};
 ghost use Rattle.packet_version.specs.Views.{seen_values};
 ghost use Rattle.nf_observe.specs.Monitors.{flow_of};
 
 /// The flow of the packet behind a view.
 fn flow_in(view: &View) -> Option<FiveTuple>
     requires profile { view.now.profile ≡ profile_of Kind.Monitor }
-    ensures { result ≡ flow_of (seen_by (seen_values view.now) view.now.version.fixed.proto) }
+    ensures { result ≡ flow_of (seen_values view.now) view.now.version.fixed.proto }
 {
     Some(FiveTuple {
         proto: view.proto()?,
         source: Endpoint {
-            address: seen_address(view.get(Field::SrcIp))?,
+            address: seen_ip_address(view.get(Field::SrcIp))?,
             port: seen_port(view.get(Field::SrcPort)),
         },
         destination: Endpoint {
-            address: seen_address(view.get(Field::DstIp))?,
+            address: seen_ip_address(view.get(Field::DstIp))?,
             port: seen_port(view.get(Field::DstPort)),
         },
     })

@@ -6,8 +6,9 @@ use crate::bucket::TokenBucket;
 use crate::flow::{Endpoint, FiveTuple, FlowCounts};
 use crate::limiter::Limiter;
 use crate::monitor::Monitor;
-use first_sight::{EntryLines, push_address};
+use first_sight::{EntryLines, push_ip_address};
 use std::alloc::{AllocError, Global};
+use std::net::IpAddr;
 use text_lines::Piece::{Number, Text};
 use text_lines::{push_line, push_pieces};
 
@@ -46,7 +47,7 @@ impl EntryLines<FiveTuple, FlowCounts> for Monitor {
     }
 }
 
-impl EntryLines<u32, TokenBucket> for Limiter {
+impl EntryLines<IpAddr, TokenBucket> for Limiter {
     ghost use Rattle.nf_observe.specs.StateLines.{source_line};
 
     ghost line = { λ limiter place source. source_line source.0 source.1 };
@@ -57,11 +58,11 @@ impl EntryLines<u32, TokenBucket> for Limiter {
         alloc: Global,
         text: &mut Vec<u8>,
         _place: usize,
-        source: &u32,
+        source: &IpAddr,
         bucket: &TokenBucket,
     ) -> Result<(), AllocError> {
         push_pieces(alloc, text, &[Text(b"  source ")])?;
-        push_address(alloc, text, *source)?;
+        push_ip_address(alloc, text, *source)?;
         push_line(
             alloc,
             text,
@@ -79,7 +80,7 @@ impl EntryLines<u32, TokenBucket> for Limiter {
 fn push_endpoint(alloc: Global, text: &mut Vec<u8>, endpoint: &Endpoint) -> Result<(), AllocError>
     ensures { OnOk result (text.new.items ≡ text.old.items ++ endpoint_text endpoint.now) }
 {
-    push_address(alloc, text, endpoint.address)?;
+    push_ip_address(alloc, text, endpoint.address)?;
     push_pieces(alloc, text, &[Text(b" ")])?;
     push_port(alloc, text, endpoint.port)
 }

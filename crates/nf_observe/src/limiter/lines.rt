@@ -34,6 +34,11 @@ impl FunctionLine for LimiterLine {
     fn lacks_one(lines: &[LimiterLine]) -> bool {
         !has_rate(lines) || !has_burst(lines)
     }
+
+    // Each line can stand beside any others.
+    fn clashes(_lines: &[LimiterLine], _line: &LimiterLine) -> bool {
+        false
+    }
 }
 
 fn has_rate(lines: &[LimiterLine]) -> bool

@@ -23,6 +23,11 @@ impl FunctionLine for MonitorLine {
     fn lacks_one(_lines: &[MonitorLine]) -> bool {
         false
     }
+
+    // Each line can stand beside any others.
+    fn clashes(_lines: &[MonitorLine], _line: &MonitorLine) -> bool {
+        false
+    }
 }
 
 impl Monitor {
