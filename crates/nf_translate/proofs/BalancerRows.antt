@@ -2,13 +2,17 @@
 use Rattle.std.proofs.Common.{◌≡◌, ℕ, List, [], ◌∷◌, refl}
 use Rattle.std.specs.Prelude.{codes, Some, None}
 use Rattle.std.specs.Fmt.{digits}
+use Rattle.std.specs.Net.Addr.{ipv4_bits}
+use Rattle.std.specs.Net.Text.{hex}
 use Rattle.packet_fields.specs.declared.field.Field.TheVariants.{SrcIp, DstIp, SrcPort}
 use Rattle.action_profile.specs.declared.kind.Kind.TheVariants as kinds
+use Rattle.policy_text.specs.Addresses6.{address6_of}
 use Rattle.policy_text.specs.declared.policy.FunctionDecl.{FunctionDecl}
+use Rattle.policy_text.specs.declared.policy.Setting.{Setting}
 use Rattle.chain_walk.specs.Shown.{Values}
 use Rattle.chain_walk.specs.Step.{Step, stepped}
 use Rattle.chain_walk.specs.declared.fixed.Fixed.{Fixed}
-use Rattle.function_lines.specs.KindLines.{refused_line}
+use Rattle.function_lines.specs.KindLines.{refused_line, refused_lines}
 use Rattle.first_sight.specs.Addresses.{dotted}
 use Rattle.nf_translate.specs.BalancerLines.{line_of, balancer_lines}
 use Rattle.nf_translate.specs.Balancers.{PlainBalancer, balancer_of, balancer_behaviour, flow_line, flow_lines}
@@ -36,7 +40,7 @@ no_backend = refl
 
 -- a prefix is no address
 no_address : line_of (codes "rule" ∷ codes "backend" ∷ codes "10.0.1.0/24" ∷ []) ≡ None
-unfolding line_of
+unfolding line_of address6_of
 no_address = refl
 
 -- what the packet of a TCP flow shows
@@ -83,5 +87,80 @@ unfolding line_of declared step once first packet tcp
 passed_by = refl
 
 two_lines : flow_lines twice ≡ codes "  flow 6 192.168.0.7 256 backend 10.0.1.1\n  flow 6 192.168.0.7 257 backend 10.0.1.2\n"
-unfolding line_of declared step twice once first other packet tcp flow_line dotted digits
+unfolding line_of declared step twice once first other packet tcp flow_line dotted digits ipv4_bits
 two_lines = refl
+
+-- the same with IPv6: 2001:db8::2, and the backend 2001:db8::9 (RFC 3849)
+declared6 : FunctionDecl
+declared6 = record {
+  name = codes "lb";
+  line = 3;
+  kind = kinds.Balancer;
+  settings =
+      (record { line = 4; words = codes "set" ∷ codes "vip" ∷ codes "2001:db8::2" ∷ [] }) ∷
+      (record { line = 5; words = codes "rule" ∷ codes "backend" ∷ codes "2001:db8::9" ∷ [] }) ∷ [];
+}
+
+may_stand6 : refused_line balancer_lines declared6 ≡ None
+unfolding line_of address6_of declared6
+may_stand6 = refl
+
+-- what the packet of a UDP flow shows, from 2001:db8::1 to the virtual address
+udp : Fixed
+udp = record { time = 0; ether_type = Some 34525; proto = Some 17; ip_len = Some 48; tcp_flags = None }
+
+address6 : ℕ → List ℕ
+address6 host = 32 ∷ 1 ∷ 13 ∷ 184 ∷ 0 ∷ 0 ∷ 0 ∷ 0 ∷ 0 ∷ 0 ∷ 0 ∷ 0 ∷ 0 ∷ 0 ∷ 0 ∷ host ∷ []
+
+step6 : Values → Step PlainBalancer
+step6 v = stepped balancer_behaviour udp (balancer_of declared6) v
+
+first6 : Values
+first6 = packet (address6 1) (3 ∷ 232 ∷ []) (address6 2)
+
+written6 : (step6 first6).written DstIp ≡ Some (address6 9)
+unfolding line_of address6_of declared6 step6 first6 address6 packet udp
+written6 = refl
+
+one_line6 : flow_lines (step6 first6).after ≡ codes "  flow 17 2001:db8:0:0:0:0:0:1 1000 backend 2001:db8:0:0:0:0:0:9\n"
+unfolding line_of address6_of declared6 step6 first6 address6 packet udp flow_line digits hex
+one_line6 = refl
+
+-- a packet to an address that has the same first eight bytes goes on as it is
+passed_by6 : (step6 (packet (address6 1) (3 ∷ 232 ∷ []) (address6 3))).written DstIp ≡ None
+unfolding line_of address6_of declared6 step6 address6 packet udp
+passed_by6 = refl
+
+-- a declaration at line 3, and its lines
+lines : List Setting → FunctionDecl
+lines settings = record { name = codes "lb"; line = 3; kind = kinds.Balancer; settings = settings }
+
+vip : ℕ → List ℕ → Setting
+vip line address = record { line = line; words = codes "set" ∷ codes "vip" ∷ address ∷ [] }
+
+backend : ℕ → List ℕ → Setting
+backend line address = record { line = line; words = codes "rule" ∷ codes "backend" ∷ address ∷ [] }
+
+-- a backend of the other version is refused, and the `fn` line isn't, though there is no other backend
+other_version : refused_lines balancer_lines (lines (vip 4 (codes "10.0.0.1") ∷ backend 5 (codes "2001:db8::9") ∷ [])) ≡ 5 ∷ []
+unfolding line_of address6_of lines vip backend
+other_version = refl
+
+other_version6 : refused_lines balancer_lines (lines (vip 4 (codes "2001:db8::2") ∷ backend 5 (codes "2001:db8::9") ∷ backend 6 (codes "10.0.1.1") ∷ [])) ≡ 6 ∷ []
+unfolding line_of address6_of lines vip backend
+other_version6 = refl
+
+-- so is one that stands before the virtual address
+backend_before : refused_lines balancer_lines (lines (backend 4 (codes "2001:db8::9") ∷ backend 5 (codes "10.0.1.1") ∷ vip 6 (codes "10.0.0.1") ∷ [])) ≡ 4 ∷ []
+unfolding line_of address6_of lines vip backend
+backend_before = refl
+
+-- the first virtual address counts, though a second is refused
+first_counts : refused_lines balancer_lines (lines (vip 4 (codes "10.0.0.1") ∷ vip 5 (codes "2001:db8::2") ∷ backend 6 (codes "10.0.1.1") ∷ [])) ≡ 5 ∷ []
+unfolding line_of address6_of lines vip backend
+first_counts = refl
+
+-- without a virtual address that can be read, no backend is refused, but the `fn` line is
+unread : refused_lines balancer_lines (lines (vip 4 (codes "10.0.0") ∷ backend 5 (codes "10.0.1.1") ∷ backend 6 (codes "2001:db8::9") ∷ [])) ≡ 4 ∷ 3 ∷ []
+unfolding line_of address6_of lines vip backend
+unread = refl

@@ -2,5 +2,6 @@ pub mod BalancerRows
 pub mod Building
 pub mod Known
 pub mod NatRows
+pub mod OneVersion
 pub mod OrderedPorts
 pub mod Standing

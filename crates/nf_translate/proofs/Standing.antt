@@ -7,21 +7,23 @@ use Rattle.policy_text.specs.Meeting.{is_within}
 use Rattle.chain_walk.specs.Step.{Step}
 use Rattle.nf_translate.specs.declared.endpoint.Endpoint.{Endpoint}
 use Rattle.nf_translate.specs.declared.nat.NatSettings.{NatSettings}
-use Rattle.nf_translate.specs.Endpoints.{is_known, place_of, with_endpoint}
+use Rattle.nf_translate.specs.declared.client.Client.{Client}
+use Rattle.nf_translate.specs.Clients.{is_same as is_same_client, is_known as is_known_client, place_of as place_of_client, with_client}
+use Rattle.nf_translate.specs.Endpoints.{is_same, is_known, place_of, with_endpoint}
 use Rattle.nf_translate.specs.Balancers.{PlainBalancer, balanced, backend_at, to_address}
 use Rattle.nf_translate.specs.Nats.{PlainNat, public_port, port_at, place_at, of_protocol, mapped, leaving, coming, translated}
 use Rattle.nf_translate.specs.Standing.{KeepsBackend, HasPorts}
-use Rattle.nf_translate.proofs.Known.{at_place, one_place, keeps_place, stays_known, new_place, known_place, IsLater, same_later, seen_later, seen_length}
+use Rattle.nf_translate.proofs.Known.{same_is, at_place, one_place, keeps_place, stays_known, new_place, known_place, IsLater, same_later, seen_later, seen_length}
 
-keeps_by : (flow : Endpoint) (b : PlainBalancer) (flows : List Endpoint) → IsLater b.flows flows → is_known b.flows flow ≡ true → KeepsBackend flow b (record b { flows = flows })
+keeps_by : (flow : Client) (b : PlainBalancer) (flows : List Client) → IsLater b.flows flows → is_known_client b.flows flow ≡ true → KeepsBackend flow b (record b { flows = flows })
 keeps_by flow b flows later known = record {
-  known = ap (λ l. is_known l flow) later.is ∙ stays_known b.flows later.more flow known;
-  backend = ap (backend_at b.settings) (ap (λ l. place_of l flow) later.is ∙ keeps_place b.flows later.more flow known);
+  known = ap (λ l. is_known_client l flow) later.is ∙ stays_known is_same_client b.flows later.more flow known;
+  backend = ap (backend_at b.settings) (ap (λ l. place_of_client l flow) later.is ∙ keeps_place is_same_client b.flows later.more flow known);
 }
 
-pub keeps_backend : (flow : Endpoint) (b : PlainBalancer) (other : Option Endpoint) → is_known b.flows flow ≡ true → KeepsBackend flow b (balanced b other).after
-keeps_backend flow b None known = record { known = known; backend = refl }
-keeps_backend flow b (Some other) known = keeps_by flow b (with_endpoint b.flows other) (seen_later b.flows other) known
+pub keeps_backend : (flow : Client) (b : PlainBalancer) (destination : Option (List ℕ)) (other : Option Client) → is_known_client b.flows flow ≡ true → KeepsBackend flow b (balanced b destination other).after
+keeps_backend flow b destination None known = record { known = known; backend = refl }
+keeps_backend flow b destination (Some other) known = keeps_by flow b (with_client b.flows other) (seen_later is_same_client b.flows other) known
 
 -- a translation as it is later: what was mapped stands in front
 record IsLaterNat (n later : PlainNat) : Type 0 where
@@ -34,7 +36,7 @@ either P false s t hs ht = ht
 
 leaving_later : (n : PlainNat) (source : Endpoint) (port : Option ℕ) → IsLaterNat n (leaving n source port).after
 leaving_later n source None = record { settings = refl; mappings = same_later n.mappings }
-leaving_later n source (Some port) = record { settings = refl; mappings = seen_later n.mappings source }
+leaving_later n source (Some port) = record { settings = refl; mappings = seen_later is_same n.mappings source }
 
 coming_later : (n : PlainNat) (inside : Option Endpoint) → IsLaterNat n (coming n inside).after
 coming_later n None = record { settings = refl; mappings = same_later n.mappings }
@@ -83,7 +85,7 @@ pub comes_back : (n : PlainNat) (source : Endpoint) (address port : ℕ) → por
 comes_back n source address port h =
     ap (λ p. option_and_then (of_protocol source.proto) (option_and_then (slice_get (with_endpoint n.mappings source)) (place_at n.settings p))) (port_is _ (public_port n.settings (place_of n.mappings source)) port h)
     ∙ ap (λ o. option_and_then (of_protocol source.proto) (option_and_then (slice_get (with_endpoint n.mappings source)) o)) (place_again n.settings.low (place_of n.mappings source))
-    ∙ ap (option_and_then (of_protocol source.proto)) (at_place n.mappings source)
+    ∙ ap (option_and_then (of_protocol source.proto)) (at_place is_same same_is n.mappings source)
     ∙ own_protocol source
 
 -- the ports
@@ -91,7 +93,7 @@ within : (n : PlainNat) (source : Endpoint) (b : Bool) → nat_le (public_port n
 within n source false is has = has
 within n source true is has =
     let place : n.settings.low + place_of n.mappings source ≤ n.settings.high = grind arith in
-    let count = seen_length n.mappings source (n.settings.high + 1 - n.settings.low) (omega (arith, has)) (omega (arith, place)) in
+    let count = seen_length is_same n.mappings source (n.settings.high + 1 - n.settings.low) (omega (arith, has)) (omega (arith, place)) in
     omega (arith, has, place, count)
 
 pub stays_within : (n : PlainNat) (ends : Option (Endpoint × Endpoint)) → HasPorts n → HasPorts (translated n ends).after
@@ -117,11 +119,11 @@ is_new n source has none = by (is_known n.mappings source) refl
   where
     by : (b : Bool) → is_known n.mappings source ≡ b → b ≡ false
     by false h = refl
-    by true h = absurd (let place = known_place n.mappings source h in let beyond = past _ _ none in omega (arith, has, place, beyond))
+    by true h = absurd (let place = known_place is_same n.mappings source h in let beyond = past _ _ none in omega (arith, has, place, beyond))
 
 pub all_taken : (n : PlainNat) (source : Endpoint) → HasPorts n → port_at n.settings (place_of n.mappings source) ≡ None → n.settings.low + length n.mappings ≡ n.settings.high + 1
 all_taken n source has none =
-    let place = new_place n.mappings source (is_new n source has none) in
+    let place = new_place is_same n.mappings source (is_new n source has none) in
     let beyond = past _ _ none in
     omega (arith, has, place, beyond)
 
@@ -131,8 +133,8 @@ pub given_once : (n : PlainNat) (a b : Endpoint) (port : ℕ) → is_known n.map
 given_once n a b port ha hb pa pb =
     let mine = port_is _ (public_port n.settings (place_of n.mappings a)) port pa in
     let other = port_is _ (public_port n.settings (place_of n.mappings b)) port pb in
-    one_place n.mappings a b ha hb (omega (arith, mine, other))
+    one_place is_same same_is n.mappings a b ha hb (omega (arith, mine, other))
 
 -- the backends take turns
-pub takes_turn : (b : PlainBalancer) (flow : Endpoint) → is_known b.flows flow ≡ false → (balanced b (Some flow)).written ≡ to_address (backend_at b.settings (length b.flows))
-takes_turn b flow new = ap (λ place. to_address (backend_at b.settings place)) (new_place b.flows flow new)
+pub takes_turn : (b : PlainBalancer) (destination : Option (List ℕ)) (flow : Client) → is_known_client b.flows flow ≡ false → (balanced b destination (Some flow)).written ≡ to_address (backend_at b.settings (length b.flows)) destination
+takes_turn b destination flow new = ap (λ place. to_address (backend_at b.settings place) destination) (new_place is_same_client b.flows flow new)

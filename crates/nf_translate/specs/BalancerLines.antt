@@ -1,18 +1,20 @@
--- Believed: the lines that set a balancer up: `set vip` with an address, once, and `rule backend` with an address, at least once.
-use Rattle.std.specs.Prelude.{ℕ, List, [], ◌∷◌, Bool, true, false, if◌then◌else◌, Option, None, codes}
-use Rattle.std.specs.Option.{option_map}
+-- Believed: the lines that set a balancer up: `set vip` with an address, once, and `rule backend` with an address of the same version of IP, at
+-- least once.
+use Rattle.std.specs.Prelude.{ℕ, List, [], ◌∷◌, Bool, true, false, not, if◌then◌else◌, Option, Some, None, find, codes}
+use Rattle.std.specs.Option.{option_map, option_map_or, option_and_then}
 use Rattle.std.specs.Str.{bytes_eq}
-use Rattle.policy_text.specs.Values.{address_of}
+use Rattle.std.specs.declared.net.ip_addr.IpAddr.{IpAddr}
 use Rattle.function_lines.specs.KindLines.{KindLines}
 use Rattle.nf_translate.specs.declared.balancer_lines.BalancerLine.{BalancerLine}
 use Rattle.nf_translate.specs.declared.balancer_lines.BalancerLine.TheVariants as lines
+use Rattle.nf_translate.specs.Addresses.{ip_address_of, is_same_version}
 
 -- the virtual address: vip, and the address
 abbrev pub virtual_address_of : List ℕ → List ℕ → Option BalancerLine
-virtual_address_of key text = if bytes_eq key (codes "vip") then option_map (λ address. lines.VirtualAddress address) (address_of text) else None
+virtual_address_of key text = if bytes_eq key (codes "vip") then option_map (λ address. lines.VirtualAddress address) (ip_address_of text) else None
 
 abbrev pub backend_of : List ℕ → List ℕ → Option BalancerLine
-backend_of key text = if bytes_eq key (codes "backend") then option_map (λ address. lines.Backend address) (address_of text) else None
+backend_of key text = if bytes_eq key (codes "backend") then option_map (λ address. lines.Backend address) (ip_address_of text) else None
 
 -- what a line says, none where it is no line of a balancer
 unfoldable pub line_of : List (List ℕ) → Option BalancerLine
@@ -29,6 +31,25 @@ abbrev pub is_backend : BalancerLine → Bool
 is_backend (lines.Backend address) = true
 is_backend line = false
 
+-- the virtual address that a line sets
+abbrev pub virtual_in : BalancerLine → Option IpAddr
+virtual_in (lines.VirtualAddress address) = Some address
+virtual_in line = None
+
+-- the backend that a line adds
+abbrev pub backend_in : BalancerLine → Option IpAddr
+backend_in (lines.Backend address) = Some address
+backend_in line = None
+
+-- the virtual address: that of the first line that sets one
+abbrev pub virtual_address_by : List BalancerLine → Option IpAddr
+virtual_address_by said = option_and_then virtual_in (find is_virtual_address said)
+
+-- a backend can't stand beside a virtual address of the other version of IP
+abbrev pub clashes : List BalancerLine → BalancerLine → Bool
+clashes said (lines.Backend address) = option_map_or (λ virtual. not (is_same_version virtual address)) (virtual_address_by said) false
+clashes said line = false
+
 -- the lines of a balancer: the virtual address and some backend have to be there
 abbrev pub balancer_lines : KindLines BalancerLine
-balancer_lines = record { line_of = line_of; required = is_virtual_address ∷ is_backend ∷ [] }
+balancer_lines = record { line_of = line_of; required = is_virtual_address ∷ is_backend ∷ []; clashes = clashes }

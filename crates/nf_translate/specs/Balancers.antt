@@ -1,11 +1,11 @@
 -- Believed: a balancer: how it is declared, what it does as a function of a chain, and the lines of its state.
-use Rattle.std.specs.Prelude.{ℕ, ◌%◌, List, [], ◌∷◌, ◌++◌, length, slice_index, ◌==◌, if◌then◌else◌, Option, Some, None, fold, codes}
-use Rattle.std.specs.Option.{option_and_then}
+use Rattle.std.specs.Prelude.{ℕ, ◌%◌, List, [], ◌∷◌, length, slice_index_or, ◌==◌, if◌then◌else◌, Option, Some, None, filter_map, codes}
+use Rattle.std.specs.Option.{option_and_then, unwrap_or}
 use Rattle.std.specs.Fmt.{decimal}
+use Rattle.std.specs.declared.net.ip_addr.IpAddr.{IpAddr}
 use Rattle.packet_fields.specs.declared.field.Field.TheVariants.{DstIp}
 use Rattle.policy_text.specs.declared.policy.FunctionDecl.{FunctionDecl}
-use Rattle.policy_text.specs.declared.seen.Seen.{Seen}
-use Rattle.frame_seen.specs.Seeing.{seen_by}
+use Rattle.frame_seen.specs.Seeing.{destination_address}
 use Rattle.action_profile.specs.Profiles.{profile_of}
 use Rattle.action_profile.specs.declared.kind.Kind.TheVariants as kinds
 use Rattle.chain_walk.specs.Shown.{Shown, Values}
@@ -13,33 +13,24 @@ use Rattle.chain_walk.specs.Step.{Step, Behaviour, nothing}
 use Rattle.chain_walk.specs.declared.verdict.Verdict.TheVariants.{Pass}
 use Rattle.function_lines.specs.KindLines.{said_by}
 use Rattle.text_lines.specs.Texts.{line_of}
-use Rattle.first_sight.specs.Addresses.{dotted}
+use Rattle.first_sight.specs.Addresses.{address_text}
 use Rattle.first_sight.specs.FirstSight.{lines_by}
-use Rattle.nf_translate.specs.declared.endpoint.Endpoint.{Endpoint}
+use Rattle.first_sight.specs.SameAddress.{is_same_address}
+use Rattle.nf_translate.specs.declared.client.Client.{Client}
 use Rattle.nf_translate.specs.declared.balancer.BalancerSettings.{BalancerSettings}
 use Rattle.nf_translate.specs.declared.balancer_lines.BalancerLine.{BalancerLine}
-use Rattle.nf_translate.specs.declared.balancer_lines.BalancerLine.TheVariants as lines
-use Rattle.nf_translate.specs.Addresses.{address_bytes}
-use Rattle.nf_translate.specs.Endpoints.{place_of, with_endpoint, source_of}
-use Rattle.nf_translate.specs.BalancerLines.{balancer_lines}
+use Rattle.nf_translate.specs.Addresses.{ip_address_bytes, ipv4_address}
+use Rattle.nf_translate.specs.BalancerLines.{balancer_lines, virtual_address_by, backend_in}
+use Rattle.nf_translate.specs.Clients.{place_of, with_client, source_of}
 
--- How a balancer is set up, and the flows that it has seen, in the order of first sight.
+-- How a balancer is set up, and the clients whose flows it has seen, in the order of first sight.
 pub record PlainBalancer : Type 0 where
   pub settings : BalancerSettings
-  pub flows : List Endpoint
+  pub flows : List Client
 
--- before any line
-abbrev pub no_settings : BalancerSettings
-no_settings = record { virtual_address = 0; backends = [] }
-
--- the settings with what one more line says
-abbrev pub with_line : BalancerSettings → BalancerLine → BalancerSettings
-with_line s (lines.VirtualAddress address) = record s { virtual_address = address }
-with_line s (lines.Backend address) = record s { backends = s.backends ++ address ∷ [] }
-
--- what these lines say, one after another
+-- what these lines say: 0.0.0.0 stands where no line sets the virtual address, which no declaration may leave out
 abbrev pub settings_by : List BalancerLine → BalancerSettings
-settings_by said = fold with_line no_settings said
+settings_by said = record { virtual_address = unwrap_or (virtual_address_by said) (ipv4_address 0); backends = filter_map backend_in said }
 
 -- a balancer that has seen no flow
 abbrev pub balancer_by : List BalancerLine → PlainBalancer
@@ -50,33 +41,38 @@ abbrev pub balancer_of : FunctionDecl → PlainBalancer
 balancer_of decl = balancer_by (said_by balancer_lines decl.settings)
 
 -- the backend of the flow at a place, both counted from 0: the backends take turns, as listed
-abbrev pub backend_at : BalancerSettings → ℕ → ℕ
-backend_at s place = slice_index s.backends (place % length s.backends)
+abbrev pub backend_at : BalancerSettings → ℕ → IpAddr
+backend_at s place = slice_index_or s.backends (place % length s.backends) s.virtual_address
 
 -- the flow of a packet that is sent to the virtual address
-abbrev pub flow_of : BalancerSettings → Seen → Option Endpoint
-flow_of s seen = option_and_then (λ address. if address == s.virtual_address then source_of seen else None) seen.dst
+abbrev pub flow_of : BalancerSettings → Values → Option ℕ → Option Client
+flow_of s values proto = option_and_then (λ address. if is_same_address address s.virtual_address then source_of values proto else None) (destination_address values)
 
--- this address is written as the destination, and nothing else
-abbrev pub to_address : ℕ → Values
-to_address address DstIp = Some (address_bytes address)
-to_address address f = None
+-- new bytes in place of those of a field, where they are as many
+abbrev pub in_place_of : Option (List ℕ) → List ℕ → Option (List ℕ)
+in_place_of (Some old) new = if length new == length old then Some new else None
+in_place_of None new = None
+
+-- this address is written in place of this destination, and nothing else
+abbrev pub to_address : IpAddr → Option (List ℕ) → Values
+to_address address destination DstIp = in_place_of destination (ip_address_bytes address)
+to_address address destination f = None
 
 -- a packet of a flow goes to the flow's backend, and any other goes on as it is
-abbrev pub balanced : PlainBalancer → Option Endpoint → Step PlainBalancer
-balanced b (Some flow) = record { after = record b { flows = with_endpoint b.flows flow }; verdict = Pass; written = to_address (backend_at b.settings (place_of b.flows flow)) }
-balanced b None = record { after = b; verdict = Pass; written = nothing }
+abbrev pub balanced : PlainBalancer → Option (List ℕ) → Option Client → Step PlainBalancer
+balanced b destination (Some flow) = record { after = record b { flows = with_client b.flows flow }; verdict = Pass; written = to_address (backend_at b.settings (place_of b.flows flow)) destination }
+balanced b destination None = record { after = b; verdict = Pass; written = nothing }
 
 abbrev pub balancer_step : PlainBalancer → Shown → Step PlainBalancer
-balancer_step b shown = balanced b (flow_of b.settings (seen_by shown.values shown.fixed.proto))
+balancer_step b shown = balanced b (shown.values DstIp) (flow_of b.settings shown.values shown.fixed.proto)
 
 -- how balancers behave
 abbrev pub balancer_behaviour : Behaviour PlainBalancer
 balancer_behaviour = record { profile = λ b. profile_of kinds.Balancer; step = balancer_step }
 
 -- the line of the flow at a place
-unfoldable pub flow_line : BalancerSettings → ℕ → Endpoint → List ℕ
-flow_line s place flow = line_of (codes "  flow " ∷ decimal flow.proto ∷ codes " " ∷ dotted flow.address ∷ codes " " ∷ decimal flow.port ∷ codes " backend " ∷ dotted (backend_at s place) ∷ [])
+unfoldable pub flow_line : BalancerSettings → ℕ → Client → List ℕ
+flow_line s place flow = line_of (codes "  flow " ∷ decimal flow.proto ∷ codes " " ∷ address_text flow.address ∷ codes " " ∷ decimal flow.port ∷ codes " backend " ∷ address_text (backend_at s place) ∷ [])
 
 -- the lines in which a balancer tells its flows
 abbrev pub flow_lines : PlainBalancer → List ℕ

@@ -1,5 +1,7 @@
 pub mod Addresses
 pub mod Endpoints
+pub mod Clients
+pub mod ClientLaws
 pub mod BalancerLines
 pub mod Balancers
 pub mod BalancerLaws

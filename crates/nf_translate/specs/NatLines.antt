@@ -4,7 +4,7 @@ use Rattle.std.specs.List.{list_any}
 use Rattle.std.specs.Option.{option_map, option_and_then}
 use Rattle.std.specs.Str.{bytes_eq}
 use Rattle.policy_text.specs.Values.{address_of, prefix_of, range_of}
-use Rattle.function_lines.specs.KindLines.{KindLines}
+use Rattle.function_lines.specs.KindLines.{KindLines, never_clash}
 use Rattle.nf_translate.specs.declared.nat_lines.NatLine.{NatLine}
 use Rattle.nf_translate.specs.declared.nat_lines.NatLine.TheVariants as lines
 
@@ -42,4 +42,4 @@ is_ports line = false
 
 -- the lines of a translation, all of which have to be there
 abbrev pub nat_lines : KindLines NatLine
-nat_lines = record { line_of = line_of; required = is_inside ∷ is_public ∷ is_ports ∷ [] }
+nat_lines = record { line_of = line_of; required = is_inside ∷ is_public ∷ is_ports ∷ []; clashes = never_clash }

@@ -1,18 +1,26 @@
 -- For proofs: what the flows of a balancer and the mappings of a translation are worth, in other words than their steps.
-use Rattle.std.specs.Prelude.{◌≡◌, ◌≤◌, ◌+◌, ℕ, true, length}
-use Rattle.nf_translate.specs.declared.endpoint.Endpoint.{Endpoint}
-use Rattle.nf_translate.specs.Endpoints.{is_known, place_of}
+use Rattle.std.specs.Prelude.{◌≡◌, ◌≤◌, ◌+◌, true, length, All}
+use Rattle.std.specs.declared.net.ip_addr.IpAddr.{IpAddr}
+use Rattle.nf_translate.specs.declared.balancer.BalancerSettings.{BalancerSettings}
+use Rattle.nf_translate.specs.declared.client.Client.{Client}
+use Rattle.nf_translate.specs.Addresses.{ip_address_bytes, is_same_version}
+use Rattle.nf_translate.specs.Clients.{is_known, place_of}
 use Rattle.nf_translate.specs.Balancers.{PlainBalancer, backend_at}
 use Rattle.nf_translate.specs.Nats.{PlainNat}
 
 -- the backend of a flow
-abbrev pub backend_of : PlainBalancer → Endpoint → ℕ
+abbrev pub backend_of : PlainBalancer → Client → IpAddr
 backend_of b flow = backend_at b.settings (place_of b.flows flow)
 
 -- A flow is known to a balancer that comes of this one, and has the backend that it had.
-pub record KeepsBackend (flow : Endpoint) (b later : PlainBalancer) : Type 0 where
+pub record KeepsBackend (flow : Client) (b later : PlainBalancer) : Type 0 where
   pub known : is_known later.flows flow ≡ true
   pub backend : backend_of later flow ≡ backend_of b flow
+
+-- Every backend is of the version of the virtual address, and has as many bytes.
+pub record HasOneVersion (s : BalancerSettings) : Type 0 where
+  pub version : All (λ backend. is_same_version s.virtual_address backend ≡ true) s.backends
+  pub bytes : All (λ backend. length (ip_address_bytes backend) ≡ length (ip_address_bytes s.virtual_address)) s.backends
 
 -- each mapping has a public port among those that are set
 abbrev pub HasPorts : PlainNat → Type 0

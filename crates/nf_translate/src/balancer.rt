@@ -1,22 +1,23 @@
 //! A balancer, and what it does with a packet.
-use crate::endpoint::Endpoint;
+use crate::client::Client;
 use chain_walk::Verdict;
-use first_sight::{EntryLines, FirstSeen, lines_of_keys, push_address};
-use frame_seen::{seen_address, seen_port};
+use first_sight::{EntryLines, FirstSeen, lines_of_keys, push_ip_address};
+use frame_seen::{seen_ip_address, seen_port};
 use item_list::Items;
 use packet_fields::Field;
 use packet_version::{View, unwritten_stays, written_is_one_value};
 use std::alloc::{AllocError, Global};
 use std::marker::Model;
+use std::net::IpAddr;
 use text_lines::{Piece, push_line, push_pieces};
 
 /// How a balancer is set up.
 #[derive(Debug, Drop)]
 pub struct BalancerSettings {
     /// The address to which packets are sent that are to be balanced.
-    pub virtual_address: u32,
+    pub virtual_address: IpAddr,
     /// The addresses of the backends, which take turns. One may stand twice.
-    pub backends: Items<u32>,
+    pub backends: Items<IpAddr>,
 }
 
 /// Sends each flow to one of several backends.
@@ -24,7 +25,7 @@ pub struct BalancerSettings {
 pub struct Balancer {
     settings: BalancerSettings,
     // A flow's place is all that is kept of it.
-    flows: FirstSeen<Endpoint, ()>,
+    flows: FirstSeen<Client, ()>,
 }
 
 impl Model for Balancer {
@@ -43,7 +44,7 @@ impl Balancer {
     ghost use Rattle.std.specs.Prelude.{◌≡◌, ◌<◌, ◌++◌, [], length, slice_index_or, IfOk, OnOk, OnErr};
     ghost use Rattle.std.specs.List.{flat_map};
     ghost use Rattle.packet_version.specs.Views.{viewed, wrote_all};
-    ghost use Rattle.nf_translate.specs.Endpoints.{place_of, with_endpoint};
+    ghost use Rattle.nf_translate.specs.Clients.{place_of, with_client};
     ghost use Rattle.nf_translate.specs.Balancers.{backend_at, balancer_behaviour, flow_lines};
     ghost use Rattle.nf_translate.specs.StateRows.{flow_rows};
 
@@ -75,15 +76,14 @@ impl Balancer {
             return Ok(Verdict::Pass);
         };
         let backend = self.backend_for(flow)?;
-        view.set(Field::DstIp, &backend.to_be_bytes());
-        written_is_one_value();
+        write_destination(view, backend);
         Ok(Verdict::Pass)
     }
 
     // The backend of a flow, which is noted where it is new.
-    fn backend_for(&mut self, flow: Endpoint) -> Result<u32, AllocError>
+    fn backend_for(&mut self, flow: Client) -> Result<IpAddr, AllocError>
         ensures backend { IfOk result (λ backend. backend ≡ backend_at self.old.settings (place_of self.old.flows flow)) }
-        ensures after { OnOk result (self.new ≡ record self.old { flows = with_endpoint self.old.flows flow }) }
+        ensures after { OnOk result (self.new ≡ record self.old { flows = with_client self.old.flows flow }) }
         ensures stays { OnErr result (self.new ≡ self.old) }
     {
         let place = self.flows.note(flow, ())?;
@@ -97,7 +97,7 @@ impl Balancer {
         ensures stays { OnErr result (out.new.items ≡ out.old.items) }
     {
         // A line tells of a flow its place and its key, and the list of the flows is that of the keys.
-        lines_of_keys::<Endpoint, ()>();
+        lines_of_keys::<Client, ()>();
         self.flows.push_lines(self, out)
     }
 
@@ -106,7 +106,7 @@ impl Balancer {
         ensures count { result ≡ length (flow_rows self.now) }
         ensures told { flat_map (λ row. row) (flow_rows self.now) ≡ flow_lines self.now }
     {
-        lines_of_keys::<Endpoint, ()>();
+        lines_of_keys::<Client, ()>();
         self.flows.line_count(self)
     }
 
@@ -116,12 +116,12 @@ impl Balancer {
         ensures line { OnOk result (out.new.items ≡ out.old.items ++ slice_index_or (flow_rows self.now) place []) }
         ensures stays { OnErr result (out.new.items ≡ out.old.items) }
     {
-        lines_of_keys::<Endpoint, ()>();
+        lines_of_keys::<Client, ()>();
         self.flows.push_line(self, place, out)
     }
 }
 
-impl EntryLines<Endpoint, ()> for Balancer {
+impl EntryLines<Client, ()> for Balancer {
     ghost use Rattle.nf_translate.specs.Balancers.{flow_line};
 
     ghost line = { λ b place flow. flow_line b.settings place flow.0 };
@@ -132,7 +132,7 @@ impl EntryLines<Endpoint, ()> for Balancer {
         alloc: Global,
         text: &mut Vec<u8>,
         place: usize,
-        flow: &Endpoint,
+        flow: &Client,
         _nothing: &(),
     ) -> Result<(), AllocError> {
         push_pieces(
@@ -144,7 +144,7 @@ impl EntryLines<Endpoint, ()> for Balancer {
                 Piece::Text(b" "),
             ],
         )?;
-        push_address(alloc, text, flow.address)?;
+        push_ip_address(alloc, text, flow.address)?;
         push_pieces(
             alloc,
             text,
@@ -154,21 +154,21 @@ impl EntryLines<Endpoint, ()> for Balancer {
                 Piece::Text(b" backend "),
             ],
         )?;
-        push_address(alloc, text, backend_at(&self.settings, place))?;
+        push_ip_address(alloc, text, backend_at(&self.settings, place))?;
         push_line(alloc, text, &[])
     }
 }
 
-ghost use Rattle.std.specs.Prelude.{◌≡◌, ◌<◌, length, IsSome};
+ghost use Rattle.std.specs.Prelude.{◌≡◌, ◌<◌, ◌==◌, false, length};
+ghost use Rattle.std.specs.Option.{option_copied, option_map_or};
 ghost use Rattle.action_profile.specs.Profiles.{profile_of};
 ghost use Rattle.action_profile.specs.declared.kind.Kind.{Kind};
 ghost use Rattle.packet_fields.specs.declared.field.Field.{Field};
-ghost use Rattle.frame_seen.specs.Seeing.{seen_by};
-ghost use Rattle.packet_version.specs.Views.{seen_values, HasBytes};
-ghost use Rattle.nf_translate.specs.Balancers.{backend_at, flow_of};
+ghost use Rattle.packet_version.specs.Views.{seen_values, wrote_all, alone};
+ghost use Rattle.nf_translate.specs.Balancers.{backend_at, flow_of, in_place_of, to_address};
 
 /// The backend of the flow at a place.
-fn backend_at(settings: &BalancerSettings, place: usize) -> u32
+fn backend_at(settings: &BalancerSettings, place: usize) -> IpAddr
     requires { 0 < length settings.now.backends }
     ensures { result ≡ backend_at settings.now place }
 {
@@ -177,18 +177,51 @@ fn backend_at(settings: &BalancerSettings, place: usize) -> u32
 }
 
 /// The flow of the packet behind a view, where it was sent to the virtual address.
-fn flow_in(settings: &BalancerSettings, view: &View) -> Option<Endpoint>
+fn flow_in(settings: &BalancerSettings, view: &View) -> Option<Client>
     requires profile { view.now.profile ≡ profile_of Kind.Balancer }
-    ensures flow { result ≡ flow_of settings.now (seen_by (seen_values view.now) view.now.version.fixed.proto) }
-    ensures sent { IsSome result → HasBytes view.now Field.DstIp (λ address. length address ≡ 4) }
+    ensures { result ≡ flow_of settings.now (seen_values view.now) view.now.version.fixed.proto }
 {
-    let destination = seen_address(view.get(Field::DstIp))?;
+    let destination = seen_ip_address(view.get(Field::DstIp))?;
     if destination != settings.virtual_address {
         return None;
     }
-    Some(Endpoint {
+    Some(Client {
         proto: view.proto()?,
-        address: seen_address(view.get(Field::SrcIp))?,
+        address: seen_ip_address(view.get(Field::SrcIp))?,
         port: seen_port(view.get(Field::SrcPort))?,
     })
+}
+
+/// Writes where a packet goes.
+fn write_destination(view: &mut View, address: IpAddr)
+    requires profile { view.old.profile ≡ profile_of Kind.Balancer }
+    ensures { view.new ≡ wrote_all (to_address address (seen_values view.old Field.DstIp)) view.old }
+{
+    match address {
+        IpAddr::V4(address) => write_bytes(view, &address.octets()),
+        IpAddr::V6(address) => write_bytes(view, &address.octets()),
+    }
+}
+
+/// Writes these bytes in place of a packet's destination, where it has as many.
+fn write_bytes(view: &mut View, bytes: &[u8])
+    requires profile { view.old.profile ≡ profile_of Kind.Balancer }
+    ensures { view.new ≡ wrote_all (alone Field.DstIp (in_place_of (seen_values view.old Field.DstIp) bytes.now)) view.old }
+{
+    if has_length(view.get(Field::DstIp), bytes.len()) {
+        view.set(Field::DstIp, bytes);
+        written_is_one_value();
+    } else {
+        unwritten_stays(view);
+    }
+}
+
+/// Is the value there, and has it so many bytes?
+fn has_length(value: Option<&[u8]>, size: usize) -> bool
+    ensures { result ≡ option_map_or (λ bytes. length bytes == size) (option_copied value.entry) false }
+{
+    match value {
+        Some(bytes) => bytes.len() == size,
+        None => false,
+    }
 }

@@ -1,11 +1,12 @@
 //! Makes a balancer of the lines that declare it.
 
 use crate::balancer::{Balancer, BalancerSettings};
-use crate::balancer_lines::BalancerLine;
+use crate::balancer_lines::{BalancerLine, virtual_address_by};
 use function_lines::read_lines;
 use item_list::Items;
 use policy_text::{BuildFault, FunctionDecl};
 use std::alloc::{AllocError, Global};
+use std::net::IpAddr;
 
 impl Balancer {
     ghost use Rattle.std.specs.Prelude.{◌≡◌};
@@ -15,8 +16,8 @@ impl Balancer {
     ghost use Rattle.nf_translate.specs.Balancers.{balancer_by};
 
     /// Makes the balancer that is declared, or names the least line of the declaration that is refused:
-    /// one that is no line of a balancer, a second `set vip`, or the `fn` line, where there is no `set vip`
-    /// or no `rule backend`.
+    /// one that is no line of a balancer, a second `set vip`, a backend of another version of IP than the virtual
+    /// address, or the `fn` line, where there is no `set vip` or no `rule backend`.
     #[tactic(auto, using(crate::proofs::Building::has_backends))]
     pub fn build(alloc: Global, decl: &FunctionDecl) -> Result<Balancer, BuildFault>
         requires { decl.now.kind ≡ Kind.Balancer }
@@ -29,37 +30,47 @@ impl Balancer {
 }
 
 impl BalancerSettings {
-    ghost use Rattle.std.specs.Prelude.{◌≡◌, IfOk, OnOk};
-    ghost use Rattle.nf_translate.specs.Balancers.{no_settings, settings_by, with_line};
+    ghost use Rattle.std.specs.Prelude.{◌≡◌, IfOk};
+    ghost use Rattle.nf_translate.specs.Balancers.{settings_by};
 
-    // What these lines say, one after another.
+    // What these lines say.
     fn of_lines(alloc: Global, lines: Items<BalancerLine>) -> Result<BalancerSettings, AllocError>
         ensures { IfOk result (λ settings. settings ≡ settings_by lines) }
     {
-        let mut settings = BalancerSettings::none(alloc);
-        'lines: for line in lines.into_vec() {
-            settings.take(line)?;
-        }
-        Ok(settings)
+        let virtual_address = match virtual_address_by(lines.as_slice()) {
+            Some(address) => address,
+            None => IpAddr::from([0, 0, 0, 0]),
+        };
+        let backends = backends_of(alloc, lines)?;
+        Ok(BalancerSettings {
+            virtual_address,
+            backends,
+        })
     }
+}
 
-    fn none(alloc: Global) -> BalancerSettings
-        ensures { result ≡ no_settings }
-    {
-        BalancerSettings {
-            virtual_address: 0,
-            backends: Items::new(Vec::new(alloc)),
-        }
-    }
+ghost use Rattle.std.specs.Prelude.{◌≡◌, ◌++◌, IfOk, OnOk, filter_map};
+ghost use Rattle.std.specs.Option.{option_to_list};
+ghost use Rattle.nf_translate.specs.BalancerLines.{backend_in};
 
-    // Does what the line says.
-    fn take(&mut self, line: BalancerLine) -> Result<(), AllocError>
-        ensures { OnOk result (self.new ≡ with_line self.old line) }
-    {
-        match line {
-            BalancerLine::VirtualAddress(address) => self.virtual_address = address,
-            BalancerLine::Backend(address) => self.backends.push(address)?,
-        }
-        Ok(())
+// The backends that these lines add, in order.
+#[tactic(auto, using(crate::proofs::Building::one_more))]
+fn backends_of(alloc: Global, lines: Items<BalancerLine>) -> Result<Items<IpAddr>, AllocError>
+    ensures { IfOk result (λ backends. backends ≡ filter_map backend_in lines) }
+{
+    let mut backends = Items::new(Vec::new(alloc));
+    'lines: for line in lines.into_vec() {
+        add_backend(&mut backends, line)?;
     }
+    Ok(backends)
+}
+
+// Adds the backend of the line, where it adds one.
+fn add_backend(backends: &mut Items<IpAddr>, line: BalancerLine) -> Result<(), AllocError>
+    ensures { OnOk result (backends.new ≡ backends.old ++ option_to_list (backend_in line)) }
+{
+    if let BalancerLine::Backend(address) = line {
+        backends.push(address)?;
+    }
+    Ok(())
 }

@@ -1,22 +1,37 @@
 //! What flows and mappings are worth, in other words than the steps.
-ghost use Rattle.std.specs.Prelude.{◌≡◌, ◌+◌, ℕ, true, false, length, Some, None};
+ghost use Rattle.std.specs.Prelude.{◌≡◌, ◌+◌, ℕ, List, Option, true, false, length, Some, None};
+ghost use Rattle.packet_fields.specs.declared.field.Field.{Field};
 ghost use Rattle.policy_text.specs.declared.policy.FunctionDecl.{FunctionDecl};
 ghost use Rattle.chain_walk.specs.Shown.{Values};
 ghost use Rattle.chain_walk.specs.Step.{stepped};
 ghost use Rattle.chain_walk.specs.declared.fixed.Fixed.{Fixed};
+ghost use Rattle.function_lines.specs.KindLines.{refused_line};
+ghost use Rattle.nf_translate.specs.declared.client.Client.{Client};
 ghost use Rattle.nf_translate.specs.declared.endpoint.Endpoint.{Endpoint};
+ghost use Rattle.nf_translate.specs.Addresses.{ip_address_bytes};
+ghost use Rattle.nf_translate.specs.BalancerLines.{balancer_lines};
+ghost use Rattle.nf_translate.specs.Balancers.{PlainBalancer, backend_at, balanced, balancer_behaviour, balancer_of, flow_of, to_address};
+ghost use Rattle.nf_translate.specs.Clients.{is_known as is_known_client};
 ghost use Rattle.nf_translate.specs.Endpoints.{is_known, place_of};
-ghost use Rattle.nf_translate.specs.Balancers.{PlainBalancer, backend_at, balanced, balancer_behaviour, to_address};
 ghost use Rattle.nf_translate.specs.Nats.{PlainNat, leaving, mapped, nat_behaviour, nat_of, port_at};
-ghost use Rattle.nf_translate.specs.Standing.{KeepsBackend, HasPorts};
+ghost use Rattle.nf_translate.specs.Standing.{KeepsBackend, HasOneVersion, HasPorts, backend_of};
 
 /// Once a packet of a flow came, the balancer knows the flow, and the flow keeps its backend, whatever packets
 /// come. The backends take turns as listed: a flow that is new gets the one whose turn it is by the number of flows before it.
 pub fn flows_keep_their_backends()
-    ensures known { (b : PlainBalancer) (flow : Endpoint) → is_known (balanced b (Some flow)).after.flows flow ≡ true }
-    ensures kept { (fixed : Fixed) (b : PlainBalancer) (v : Values) (flow : Endpoint) → is_known b.flows flow ≡ true → KeepsBackend flow b (stepped balancer_behaviour fixed b v).after }
-    ensures turns { (b : PlainBalancer) (flow : Endpoint) → is_known b.flows flow ≡ false → (balanced b (Some flow)).written ≡ to_address (backend_at b.settings (length b.flows)) }
-    ensures one_more { (b : PlainBalancer) (flow : Endpoint) → is_known b.flows flow ≡ false → length (balanced b (Some flow)).after.flows ≡ length b.flows + 1 }
+    ensures known { (b : PlainBalancer) (destination : Option (List ℕ)) (flow : Client) → is_known_client (balanced b destination (Some flow)).after.flows flow ≡ true }
+    ensures kept { (fixed : Fixed) (b : PlainBalancer) (v : Values) (flow : Client) → is_known_client b.flows flow ≡ true → KeepsBackend flow b (stepped balancer_behaviour fixed b v).after }
+    ensures turns { (b : PlainBalancer) (destination : Option (List ℕ)) (flow : Client) → is_known_client b.flows flow ≡ false → (balanced b destination (Some flow)).written ≡ to_address (backend_at b.settings (length b.flows)) destination }
+    ensures one_more { (b : PlainBalancer) (destination : Option (List ℕ)) (flow : Client) → is_known_client b.flows flow ≡ false → length (balanced b destination (Some flow)).after.flows ≡ length b.flows + 1 }
+{}
+
+/// In a balancer that is declared without a refused line, every backend is of the version of the virtual address, and that stays so
+/// whatever packets come. So each packet that is sent to the virtual address, and has a client, gets all bytes of its backend's address.
+pub fn backends_are_of_one_version()
+    ensures declared { (decl : FunctionDecl) → refused_line balancer_lines decl ≡ None → HasOneVersion (balancer_of decl).settings }
+    ensures kept { (fixed : Fixed) (b : PlainBalancer) (v : Values) → (stepped balancer_behaviour fixed b v).after.settings ≡ b.settings }
+    ensures written { (fixed : Fixed) (b : PlainBalancer) (v : Values) (flow : Client) → HasOneVersion b.settings → flow_of b.settings v fixed.proto ≡ Some flow →
+        (stepped balancer_behaviour fixed b v).written Field.DstIp ≡ Some (ip_address_bytes (backend_of b flow)) }
 {}
 
 /// Once a packet left by a public port, what is sent to that port by the same protocol comes back to where the packet

@@ -1,14 +1,15 @@
 //! Network functions that give packets other addresses, flow by flow.
 //!
-//! A flow is told by where its packets come from, its [`Endpoint`]: the protocol, the source address and
-//! the source port (RFC 791, RFC 793, RFC 768).
+//! A flow is told by where its packets come from: the protocol, the source address and the source port
+//! (RFC 791, RFC 8200, RFC 793, RFC 768).
 //!
-//! A [`Balancer`] sends what comes to its virtual address to one of its backends, all packets of a flow to
-//! the same. It keeps the flows in the order of first sight, and the backends take turns.
+//! A [`Balancer`] sends what comes to its virtual address to one of its backends, all packets of a flow, which is told by its
+//! [`Client`], to the same. It keeps the flows in the order of first sight, and the backends take turns. Its addresses are all of
+//! IPv4 or all of IPv6.
 //!
-//! A [`Nat`] lets the endpoints of a prefix share one public address (RFC 3022): each has a public port of
+//! A [`Nat`] lets the endpoints of a prefix share one public address (RFC 3022): each [`Endpoint`] has a public port of
 //! its own, in the order of first sight, and what is sent to that port comes back to it. Where no port is
-//! left, and where nobody has the port, the packet is dropped.
+//! left, and where nobody has the port, the packet is dropped. It is for IPv4 alone, and a packet of IPv6 passes.
 //!
 //! [`Balancer::build`] and [`Nat::build`] make them of the lines that an operator wrote, or name the least
 //! line that is refused. As functions of a chain they have one meaning each, `balancer_behaviour` of
@@ -17,16 +18,17 @@
 //! tells the flows or the mappings. That they keep to their profiles are `balancer_keeps` and `nat_keeps`
 //! of `specs/BalancerLaws.antt` and `specs/NatLaws.antt`.
 //!
-//! In other words than the steps: [`flows_keep_their_backends`], [`packets_come_back`] and
+//! In other words than the steps: [`flows_keep_their_backends`], [`backends_are_of_one_version`], [`packets_come_back`] and
 //! [`ports_run_out_once_all_are_taken`].
 //!
-//! An endpoint is found by its key (`first_sight::FirstSeen`), and a mapping by its public port: nothing is
+//! A client and an endpoint are found by their key (`first_sight::FirstSeen`), and a mapping by its public port: nothing is
 //! searched. Flows and mappings are never forgotten, so memory alone limits the flows of a balancer.
 #![tactic(auto)]
 
 mod balancer;
 mod balancer_build;
 mod balancer_lines;
+mod client;
 mod endpoint;
 mod laws;
 mod nat;
@@ -34,6 +36,10 @@ mod nat_build;
 mod nat_lines;
 
 pub use balancer::{Balancer, BalancerSettings};
+pub use client::Client;
 pub use endpoint::Endpoint;
-pub use laws::{flows_keep_their_backends, packets_come_back, ports_run_out_once_all_are_taken};
+pub use laws::{
+    backends_are_of_one_version, flows_keep_their_backends, packets_come_back,
+    ports_run_out_once_all_are_taken,
+};
 pub use nat::{Nat, NatSettings};

@@ -38,6 +38,10 @@ impl FunctionLine for NatLine {
     fn lacks_one(lines: &[NatLine]) -> bool {
         !has_inside(lines) || !has_public(lines) || !has_ports(lines)
     }
+
+    fn clashes(_lines: &[NatLine], _line: &NatLine) -> bool {
+        false
+    }
 }
 
 fn value_of(key: &[u8], text: &[u8]) -> Option<NatLine>

@@ -1,6 +1,0 @@
-use Rattle.std.proofs.Common.{◌≡◌}
-use Rattle.nf_translate.specs.Balancers.{settings_by}
-use Rattle.nf_translate.proofs.balancer.BalancerSettings.of_lines.Given as goal
-
-abbrev pub invariant-lines : goal.invariant-lines
-invariant-lines l = l.settings ≡ settings_by l.yielded
