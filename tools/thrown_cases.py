@@ -40,6 +40,15 @@ def some_address6(rng):
     return rng.choice(['2001:db8::1', '2001:db8::2', '2001:DB8::9', '::', '::1', 'fe80::1', '1:2:3:4:5:6:7:8', 'ffff:ffff:ffff:ffff:ffff:ffff:ffff:ffff'])
 
 
+# What comes in the place of an address or a prefix: spellings at the ends of what there is, and past them.
+SPELLED_IP = (
+    '10.0.0.1 010.000.000.001 10.0.0.256 10.0.0 10.0.0.0.1 0010.0.0.1 10.0.0.0/32 10.0.0.0/33 10.0.0.0/032 10.0.0.0/ '
+    ':: ::/0 ::/00 ::/000 ::/0000 ::/128 ::/129 ::/-1 ::/ ::1 1:: 2001:DB8::ABCD 2001:db8::/32 0:0:0:0:0:0:0:0 0000:0000:0000:0000:0000:0000:0000:0000 '
+    '1:2:3:4:5:6:7:: ::2:3:4:5:6:7:8 1::3:4:5:6:7:8 1:2:3:4:5:6:7:8 1:2:3:4:5:6:7:8:: ::1:2:3:4:5:6:7:8 1:2:3:4::5:6:7:8 1:2:3:4:5:6:7 1:2:3:4:5:6:7:8:9 '
+    '1::2::3 ::: ::::: 1:::2 : :1 1: 12345:: g:: ::0x1 ::ffff:10.0.0.1 ::10.0.0.1 1.2.3.4:: [::1] ::1%1 ::1/64/64 fe80::1/10 /64 :/ ::#1'
+).split()
+
+
 def some_prefix4(rng):
     return some_address(rng) + rng.choice(['', '/0', '/1', '/8', '/24', '/31', '/32'])
 
@@ -142,24 +151,47 @@ def made_policy(rng):
 UNUSUAL = [{'options': b'\x01' * 8}, {'offset': 8}, {'more': True}, {'ttl': 1}, {'ttl': 0}, {'tos': 255}, {'lead': 0x4F}, {'lead': 0x44}]
 
 
-# What an IPv6 header seldom has: a last hop, a traffic class, a version or length of its own, an extension header (RFC 8200, 4.3).
-UNUSUAL6 = [{'hop_limit': 1}, {'hop_limit': 0}, {'traffic_class': 255}, {'lead': 0x4F}, {'length': 0}, {'length': 9}, {'length': 65496}, {'before': bytes(8)}]
+# What an IPv6 header seldom has: a last hop, a traffic class, a version of its own, and a payload length that isn't that of the payload: none, one
+# that ends in the header of UDP or TCP, the greatest of a packet of 65,535 bytes, one more, and the greatest that there is.
+UNUSUAL6 = [{'ttl': 1}, {'ttl': 0}, {'traffic_class': 255}, {'lead': 0x6F}, {'lead': 0x4F}, {'lead': 0x70}]
+UNUSUAL6 += [{'payload_length': length} for length in (0, 1, 4, 7, 8, 9, 19, 20, 65495, 65496, 65535)]
+
+# What may stand between an IPv6 header and that of TCP or UDP, and what a next header names that is neither: none at all (59), ESP, SCTP.
+EXTENSIONS = [frames.HOP_BY_HOP, frames.ROUTING, frames.FRAGMENT, frames.DESTINATION]
+OTHER_NEXT = [59, 50, 132, 1, 4, 41]
 
 
 def some_tag(rng):
     return frames.tag(rng.choice([frames.VLAN_TAG, frames.SERVICE_TAG]), rng.choice([0, 7, 100, 4095]))
 
 
-def made_frame(rng):
-    is_ipv4 = rng.randrange(2) == 0
-    made, address, unusual = (frames.plain, some_address, UNUSUAL) if is_ipv4 else (frames.plain6, some_address6, UNUSUAL6)
-    source, to = address(rng), address(rng)
+def some_content(rng, is_ipv4):
     data = rng.choice([b'', b'a', b'my secret', b'evil secret', b'.' * 64, bytes(range(256)), b'a' * 1400])
     ports = rng.choice([1000, 1001, 40000, 65535, 0]), rng.choice([53, 80, 40000])
     content = rng.choice([frames.udp(*ports, data), frames.tcp(*ports, rng.choice([2, 16, 24]), data), frames.echo(1) if is_ipv4 else frames.echo6(1)])
+    if is_ipv4 or rng.randrange(8):
+        return content
+    if rng.randrange(3) == 0:
+        return rng.choice(OTHER_NEXT), content[1]
+    return frames.extended(rng.choice(EXTENSIONS), content, offset=rng.choice([0, 8, 1480]), more=rng.randrange(2) == 0)
+
+
+def with_sum(rng, frame, at):
+    """The same frame with another checksum: none, the one that stands for 0, or a wrong one."""
+    (there,) = struct.unpack_from('>H', frame, at)
+    return frame[:at] + struct.pack('>H', rng.choice([0, 0xFFFF, there ^ 1, rng.randrange(65536)])) + frame[at + 2 :]
+
+
+def made_frame(rng):
+    is_ipv4 = rng.randrange(2) == 0
+    made, address, unusual = (frames.plain, some_address, UNUSUAL) if is_ipv4 else (frames.plain6, some_address6, UNUSUAL6)
+    source, to, content = address(rng), address(rng), some_content(rng, is_ipv4)
     tags = b''.join(some_tag(rng) for _ in range(rng.choice([0, 0, 0, 1, 2])))
-    more = rng.choice([{}, {}, {}, *unusual])
+    more = rng.choice([{}, {}, {}, {}, {}, {}, rng.choice(unusual), rng.choice(unusual)])
     frame = made(source, content, to=to, tags=tags, **more)
+    if content[0] in (frames.TCP, frames.UDP) and rng.randrange(4) == 0:
+        header, own = len(tags) + (34 if is_ipv4 else 54), 16 if content[0] == frames.TCP else 6
+        frame = with_sum(rng, frame, header + own)
     others = [frames.arp_request(some_address(rng), some_address(rng)), frames.ping6(), b'', b'\0' * 13, frame[: rng.randrange(len(frame) + 1)]]
     return frame if rng.randrange(8) else rng.choice(others)
 
@@ -262,7 +294,7 @@ OF_BYTES = [flip_bit, flip_bit, set_byte, cut, cut_front, double, delete, insert
 
 WORDS = sorted(
     {*policy_rules.KINDS, *policy_rules.CLAUSES, *'nfp chain fn set rule order priority position before > first last match allow deny default'.split()}
-    | set('inside public ports vip backend rate burst tos to from vid pcp text hex tcp udp none 1 a a-b A _ - 10.0.0.0/8 0-65535 2001:db8::/32 :: 1::2::3'.split())
+    | set('inside public ports vip backend rate burst tos to from vid pcp text hex tcp udp none 1 a a-b A _ - 10.0.0.0/8 0-65535 2001:db8::/32 ::'.split())
 )
 
 
@@ -322,6 +354,15 @@ def put_number(rng, data):
     return data[: chosen.start()] + rng.choice(SPELLED).encode() + data[chosen.end() :]
 
 
+def put_address(rng, data):
+    """What stands in the place of an address or a prefix of either version of IP."""
+    addresses = list(re.finditer(rb'(?<=[ \t])[0-9a-fA-F]*[.:][0-9a-fA-F.:]*(/[0-9]*)?', data))
+    if not addresses:
+        return data
+    chosen = rng.choice(addresses)
+    return data[: chosen.start()] + rng.choice(SPELLED_IP).encode() + data[chosen.end() :]
+
+
 def rename(rng, data):
     """A name becomes another's, or one at the end of what a name may be."""
     names = re.findall(rb'(?:chain|fn) ([a-z][a-z0-9_-]*)', data)
@@ -358,7 +399,7 @@ def other_ends(rng, data):
 
 
 OF_LINES = [with_lines(swap), with_lines(repeat), with_lines(repeat_often), with_lines(remove), with_words(swap), with_words(repeat), with_words(remove)]
-OF_WORDS = [with_words(put_word), with_words(add_word), put_number, put_number, put_number, rename, append_statements]
+OF_WORDS = [with_words(put_word), with_words(add_word), put_number, put_number, put_number, put_address, put_address, put_address, rename, append_statements]
 OF_LIMITS = [append_chains, append_functions, other_ends, lengthen]
 
 
@@ -391,11 +432,14 @@ def record_field(rng, data):
     return put_in(data, begin + field, 4, value, order_of(data)) if begin + RECORD_HEAD <= len(data) else data
 
 
-# Fields of a frame by their places in one without tags and options: type, version and header length, marks, IPv4 length, fragment,
-# time to live, protocol, checksum, addresses, ports, length of UDP or a part of TCP's number, offset of TCP's data, checksums; and of
-# IPv6 the length, next header, hop limit, the last of both addresses, ports, UDP's checksum, TCP's offset and checksum.
-FRAME_FIELDS = [(18, 2), (20, 1), (21, 1), (36, 2), (52, 2), (54, 2), (56, 2), (60, 2), (66, 1), (70, 2), (12, 2), (14, 1), (15, 1), (16, 2), (20, 2), (22, 1), (23, 1), (24, 2), (26, 4), (30, 4), (34, 2), (36, 2), (38, 2), (40, 2), (46, 1), (50, 2)]
-FRAME_VALUES = [*ENDS, 0x0800, 0x8100, 0x88A8, 0x86DD, 0x45, 0x4F, 0x44, 0x2000, 0x50, 0xF0, 6, 17, 19, 20, 21, 27, 28, 29]
+# Fields of a frame by their places in one without tags and options, and their sizes: the type, and the version of the header behind it; of
+# IPv4 marks, length, fragment, time to live, protocol, checksum, addresses, ports, length of UDP or a part of TCP's number, offset of TCP's data,
+# and checksums; of IPv6 the length, next header, hop limit, the last of both addresses, ports, UDP's checksum, TCP's offset and checksum.
+OF_BOTH = [(12, 2), (14, 1)]
+OF_IPV4 = [(15, 1), (16, 2), (20, 2), (22, 1), (23, 1), (24, 2), (26, 4), (30, 4), (34, 2), (36, 2), (38, 2), (40, 2), (46, 1), (50, 2)]
+OF_IPV6 = [(18, 2), (18, 2), (20, 1), (20, 1), (21, 1), (36, 2), (52, 2), (54, 2), (56, 2), (60, 2), (66, 1), (70, 2)]
+FRAME_FIELDS = [*OF_BOTH, *OF_BOTH, *OF_IPV4, *OF_IPV6]
+FRAME_VALUES = [*ENDS, 0x0800, 0x8100, 0x88A8, 0x86DD, 0x45, 0x4F, 0x44, 0x60, 0x6F, 0x2000, 0x50, 0xF0, 6, 17, 19, 20, 21, 27, 28, 29, 43, 44, 58, 59, 65495, 65496]
 
 
 def frame_field(rng, data):
