@@ -12,7 +12,7 @@ use Rattle.chain_walk.specs.declared.verdict.Verdict.TheVariants.{Drop}
 use Rattle.function_lines.specs.KindLines.{refused_line}
 use Rattle.first_sight.specs.Addresses.{dotted}
 use Rattle.nf_translate.specs.NatLines.{line_of, nat_lines}
-use Rattle.nf_translate.specs.Nats.{PlainNat, nat_of, nat_behaviour, mapping_line, mapping_lines}
+use Rattle.nf_translate.specs.Nats.{PlainNat, nat_of, nat_behaviour, mapping_line, mapping_lines, passed}
 
 -- 10.0.0.0/8 inside, and the ports 4000 and 4001 of 203.0.113.1
 declared : FunctionDecl
@@ -117,6 +117,14 @@ other_protocol = refl
 nobody_there : (step (nat_of declared) 6 returns).verdict ≡ Drop
 unfolding line_of declared step returns packet with_protocol
 nobody_there = refl
+
+-- a packet of IPv6, here from 2001:db8::1 to 2001:db8::2 (RFC 3849), passes as it is
+address6 : ℕ → List ℕ
+address6 host = 32 ∷ 1 ∷ 13 ∷ 184 ∷ 0 ∷ 0 ∷ 0 ∷ 0 ∷ 0 ∷ 0 ∷ 0 ∷ 0 ∷ 0 ∷ 0 ∷ 0 ∷ host ∷ []
+
+passes6 : step twice 17 (packet (address6 1) (1 ∷ 0 ∷ []) (address6 2) (15 ∷ 160 ∷ [])) ≡ passed twice
+unfolding step address6 packet with_protocol
+passes6 = refl
 
 two_lines : mapping_lines twice ≡ codes "  map 6 10.0.0.5 256 port 4000\n  map 6 10.0.0.6 256 port 4001\n"
 unfolding line_of declared step twice once leaves packet with_protocol mapping_line dotted digits

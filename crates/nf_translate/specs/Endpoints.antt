@@ -1,4 +1,4 @@
--- Believed: endpoints of flows, and the order in which they were first seen.
+-- Believed: endpoints of flows of IPv4, and the order in which they were first seen.
 use Rattle.std.specs.Prelude.{ℕ, List, Bool, ◌==◌, ◌&&◌, Option, Some, None}
 use Rattle.std.specs.Option.{option_map, option_and_then}
 use Rattle.first_sight.specs.FirstSight as sight

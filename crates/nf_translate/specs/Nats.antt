@@ -1,4 +1,4 @@
--- Believed: a translation of addresses and ports (RFC 3022): how it is declared, what it does as a function of a chain, and the lines of its state.
+-- Believed: a translation of addresses and ports of IPv4 (RFC 3022): how it is declared, what it does as a function of a chain, and the lines of its state.
 use Rattle.std.specs.Prelude.{ℕ, ◌+◌, ◌-◌, List, [], ◌∷◌, slice_get, ◌==◌, nat_le, if◌then◌else◌, Option, Some, None, fold, codes}
 use Rattle.std.specs.Option.{option_and_then}
 use Rattle.std.specs.Fmt.{decimal}
@@ -105,6 +105,7 @@ translated n (Some ends) =
     if ends.1.address == n.settings.public_address then coming n (mapped n ends.1) else passed n
 translated n None = passed n
 
+-- a packet of IPv6 has no such ends, so it passes
 abbrev pub nat_step : PlainNat → Shown → Step PlainNat
 nat_step n shown = translated n (ends_of (seen_by shown.values shown.fixed.proto))
 
