@@ -377,7 +377,7 @@ COMPLETE = {'nat', 'balancer', 'limiter'}
 
 
 def backends_apart(said):
-    """The places of the backends that aren't of the family of the virtual address, which is that of its first line that can be read."""
+    """The places of the backends that aren't of the version of the virtual address, which is that of its first line that can be read."""
     virtual = next((value for lead, value in said if lead == ('set', 'vip')), None)
     for place, (lead, value) in enumerate(said):
         if lead == ('rule', 'backend') and virtual is not None and value.version != virtual.version:

@@ -54,7 +54,7 @@ def some_prefix4(rng):
 
 
 def some_prefix(rng):
-    """Of either family."""
+    """Of either version of IP."""
     return rng.choice([some_prefix4(rng), some_address6(rng) + rng.choice(['', '/0', '/1', '/32', '/64', '/127', '/128'])])
 
 
@@ -90,7 +90,7 @@ def nat_lines(rng):
 
 
 def balancer_lines(rng):
-    """Of one family, but for one in ten."""
+    """Of one version of IP, but for one in ten."""
     virtual = rng.choice([some_address, some_address6])
     backend = virtual if rng.randrange(10) else some_address
     return [f'set vip {virtual(rng)}'] + [f'rule backend {backend(rng)}' for _ in range(1 + rng.randrange(3))]
