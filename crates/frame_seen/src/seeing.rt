@@ -17,12 +17,14 @@ pub fn seen(frame: &[u8]) -> Seen
     ensures { result ≡ seen_of frame.now }
 {
     let outline = Outline::of(frame);
+    let source = outline.get(Field::SrcIp, frame);
+    let destination = outline.get(Field::DstIp, frame);
     Seen {
         tag: seen_tags(outline.get(Field::Tag, frame)),
-        src: seen_address(outline.get(Field::SrcIp, frame)),
-        dst: seen_address(outline.get(Field::DstIp, frame)),
-        src6: seen_address6(outline.get(Field::SrcIp, frame)),
-        dst6: seen_address6(outline.get(Field::DstIp, frame)),
+        src: seen_address(source),
+        dst: seen_address(destination),
+        src6: seen_address6(source),
+        dst6: seen_address6(destination),
         sport: seen_port(outline.get(Field::SrcPort, frame)),
         dport: seen_port(outline.get(Field::DstPort, frame)),
         proto: outline.protocol(frame),

@@ -94,12 +94,14 @@ fn seen_in(view: &View) -> Seen
     requires profile { view.now.profile ≡ profile_of Kind.Firewall }
     ensures { result ≡ seen_by (seen_values view.now) view.now.version.fixed.proto }
 {
+    let source = view.get(Field::SrcIp);
+    let destination = view.get(Field::DstIp);
     Seen {
         tag: seen_tags(view.get(Field::Tag)),
-        src: seen_address(view.get(Field::SrcIp)),
-        dst: seen_address(view.get(Field::DstIp)),
-        src6: seen_address6(view.get(Field::SrcIp)),
-        dst6: seen_address6(view.get(Field::DstIp)),
+        src: seen_address(source),
+        dst: seen_address(destination),
+        src6: seen_address6(source),
+        dst6: seen_address6(destination),
         sport: seen_port(view.get(Field::SrcPort)),
         dport: seen_port(view.get(Field::DstPort)),
         proto: view.proto(),

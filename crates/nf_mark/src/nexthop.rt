@@ -112,12 +112,13 @@ fn seen_in(view: &View) -> Seen
     requires profile { view.now.profile ≡ profile_of Kind.Nexthop }
     ensures { result ≡ seen_by (shown_in view.now).values view.now.version.fixed.proto }
 {
+    let destination = view.get(Field::DstIp);
     Seen {
         tag: TagSeen::Absent,
         src: None,
-        dst: seen_address(view.get(Field::DstIp)),
+        dst: seen_address(destination),
         src6: None,
-        dst6: seen_address6(view.get(Field::DstIp)),
+        dst6: seen_address6(destination),
         sport: None,
         dport: None,
         proto: view.proto(),

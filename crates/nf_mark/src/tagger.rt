@@ -124,11 +124,12 @@ fn seen_in(view: &View) -> Seen
     requires profile { view.now.profile ≡ profile_of Kind.Tagger }
     ensures { result ≡ seen_by (shown_in view.now).values view.now.version.fixed.proto }
 {
+    let source = view.get(Field::SrcIp);
     Seen {
         tag: seen_tags(view.get(Field::Tag)),
-        src: seen_address(view.get(Field::SrcIp)),
+        src: seen_address(source),
         dst: None,
-        src6: seen_address6(view.get(Field::SrcIp)),
+        src6: seen_address6(source),
         dst6: None,
         sport: None,
         dport: None,
