@@ -21,7 +21,7 @@ pub enum Kind {
     Marker,
     /// Sets the link addresses of the next hop.
     Nexthop,
-    /// Lowers the time to live, and drops a packet whose time is up (RFC 1812, 5.3.1).
+    /// Lowers the time to live, which IPv6 names hop limit, and drops a packet whose time is up (RFC 1812, 5.3.1; RFC 8200, 3).
     Hop,
     /// Overwrites patterns in the data.
     Redactor,
