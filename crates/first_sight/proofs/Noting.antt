@@ -1,15 +1,20 @@
 -- A key that was seen keeps its place and gets the value, and a new one goes last.
-use Rattle.std.proofs.Common.{◌≡◌, ◌∙◌, List, [], ◌∷◌, ◌++◌, map, Bool, true, false, ◌||◌, Option, Some, is_some, refl, sym, ap, subst, true≢false}
+use Rattle.std.proofs.Common.{◌≡◌, ◌<◌, ◌∙◌, ℕ, suc, ◌+◌, List, [], ◌∷◌, ◌++◌, map, length, position, Bool, true, false, cond, not, ◌||◌, Option, Some, is_some, refl, sym, ap, subst, arith, true≢false}
 use Rattle.std.specs.Prelude.{if◌then◌else◌}
 use Rattle.std.specs.Cmp.{IsEquivalence}
 use Rattle.std.specs.List.{IsDistinct, AllByRecursion}
 use Rattle.std.specs.Map.{keys_of}
 use Rattle.indexmap.specs.IndexMap.{insert_entry}
-use Rattle.first_sight.specs.FirstSight.{is_seen, seen_with, belonging, with_value, noted}
+use Rattle.indexmap.specs.Layout.{set_value_at}
+use Rattle.first_sight.specs.FirstSight.{place_of, is_seen, seen_with, belonging, with_value, noted}
+use Rattle.first_sight.proofs.Places.{place_found}
 
 behind : {A : Type 0} (b : Bool) (a : A) (xs ys : List A) → a ∷ (if b then xs else ys) ≡ (if b then a ∷ xs else a ∷ ys)
 behind true a xs ys = refl
 behind false a xs ys = refl
+
+one_more : (n : ℕ) → 1 + n ≡ suc n
+one_more n = omega arith
 
 own_key : {K V : Type 0} (b : Bool) (e : K × V) (value : V) → (if b then (e.0, value) else e).0 ≡ e.0
 own_key true e value = refl
@@ -99,6 +104,23 @@ module _ {K V : Type 0} (eq : K → K → Bool) where
 
     pub inserted_is_noted : (old new : List (K × V)) (key : K) (value : V) → new ≡ insert_entry eq old key value → IsDistinct eq (keys_of new) → new ≡ noted eq old key value
     inserted_is_noted old new key value is distinct = is ∙ as_noted old key value (subst (λ l. IsDistinct eq (keys_of l)) is distinct)
+
+    -- the value at the place of a key that was seen is the key's
+    set_at_place : (seen : List (K × V)) (key : K) (value : V) → place_of eq (keys_of seen) key < length (keys_of seen) → IsDistinct eq (keys_of seen) → set_value_at seen (place_of eq (keys_of seen) key) value ≡ noted eq seen key value
+    unfolding IsDistinct
+    set_at_place [] key value inside distinct = absurd (omega arith)
+    set_at_place (e ∷ later) key value inside distinct = by (eq key e.0) refl inside (set_at_place later key value)
+      where
+        by : (b : Bool) → eq key e.0 ≡ b → cond (not b) (1 + place_of eq (keys_of later) key) 0 < length (keys_of (e ∷ later)) →
+            (place_of eq (keys_of later) key < length (keys_of later) → IsDistinct eq (keys_of later) → set_value_at later (place_of eq (keys_of later) key) value ≡ noted eq later key value) →
+            set_value_at (e ∷ later) (cond (not b) (1 + place_of eq (keys_of later) key) 0) value ≡ noted eq (e ∷ later) key value
+        by true same inside rest = ap (λ l. (e.0, value) ∷ l) (sym (untouched later key value (others eq laws key e.0 (keys_of later) same distinct.0))) ∙ sym (noted_own e later key value same)
+        by false other inside rest = ap (λ p. set_value_at (e ∷ later) p value) (one_more (place_of eq (keys_of later) key)) ∙ ap (λ l. e ∷ l) (rest (omega arith) distinct.1) ∙ sym (noted_behind e later key value other)
+
+    pub renewed : (seen : List (K × V)) (key : K) (place : ℕ) (value : V) → position (eq key) (keys_of seen) ≡ Some place → IsDistinct eq (keys_of seen) → set_value_at seen place value ≡ noted eq seen key value
+    renewed seen key place value found distinct =
+        let at = place_found (eq key) (keys_of seen) place found in
+        ap (λ p. set_value_at seen p value) (sym at.0) ∙ set_at_place seen key value (subst (λ p. p < length (keys_of seen)) (sym at.0) at.1) distinct
 
     -- a key that is asked for, and is another, finds what it found
     aside_of : (seen : List (K × V)) (key asked : K) (value : V) → eq asked key ≡ false → belonging eq (map (with_value eq key value) seen) asked ≡ belonging eq seen asked

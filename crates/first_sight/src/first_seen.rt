@@ -54,8 +54,9 @@ impl<K: Eq + Hash, V> FirstSeen<K, V> {
 }
 
 impl<K: Eq + Hash + Drop, V: Copy + Drop> FirstSeen<K, V> {
-    ghost use Rattle.std.specs.Prelude.{◌≡◌, None, IfOk, OnOk, OnErr};
+    ghost use Rattle.std.specs.Prelude.{◌≡◌, Some, None, IfOk, OnOk, OnErr, position};
     ghost use Rattle.std.specs.Map.{keys_of};
+    ghost use Rattle.std.specs.Option.{option_map};
     ghost use Rattle.first_sight.specs.FirstSight.{belonging, noted, place_of, seen_with};
 
     /// What belongs to a key that was seen.
@@ -63,6 +64,25 @@ impl<K: Eq + Hash + Drop, V: Copy + Drop> FirstSeen<K, V> {
         ensures { result ≡ belonging K.eq self.now key.now }
     {
         self.entries.get(key).copied()
+    }
+
+    /// The place of a key that was seen, counted from 0, and what belongs to the key.
+    pub fn find(&self, key: &K) -> Option<(usize, V)>
+        ensures place { option_map (λ found. found.0) result ≡ position (K.eq key.now) (keys_of self.now) }
+        ensures value { option_map (λ found. found.1) result ≡ belonging K.eq self.now key.now }
+    {
+        let (place, _, value) = self.entries.get_full(key)?;
+        Some((place, *value))
+    }
+
+    /// Gives this to a key that was seen, by its place: as [`FirstSeen::note`] does, and without looking for the key
+    /// again.
+    pub fn renew(&mut self, key: &K, place: usize, value: V)
+        requires place { position (K.eq key.now) (keys_of self.old) ≡ Some place }
+        ensures noted { self.new ≡ noted K.eq self.old key.now value }
+    {
+        let (_, belonging) = self.entries.pair_mut(place);
+        *belonging = value;
     }
 
     /// Gives this to a key, and answers the key's place, counted from 0. A key that was seen keeps its place, and

@@ -25,9 +25,12 @@ pub struct Limiter {
 }
 
 impl Limiter {
-    ghost use Rattle.std.specs.Prelude.{◌≡◌, ◌<◌, ◌++◌, [], length, slice_index_or, OnOk, OnErr, IfOk};
+    ghost use Rattle.std.specs.Prelude.{◌≡◌, ◌<◌, ◌++◌, [], length, slice_index_or, position, OnOk, OnErr, IfOk};
     ghost use Rattle.std.specs.List.{flat_map};
+    ghost use Rattle.std.specs.Map.{keys_of};
     ghost use Rattle.packet_version.specs.Views.{viewed, wrote_all};
+    ghost use Rattle.first_sight.specs.FirstSight.{noted};
+    ghost use Rattle.first_sight.specs.SameAddress.{is_same_address};
     ghost use Rattle.nf_observe.specs.Limiters.{limiter_behaviour, limiter_text, bucket_of, limited};
     ghost use Rattle.nf_observe.specs.StateRows.{limiter_rows};
 
@@ -81,19 +84,40 @@ impl Limiter {
         ensures verdict { IfOk result (λ verdict. verdict ≡ (limited self.old source bytes time).verdict) }
         ensures stays { OnErr result (self.new ≡ self.old) }
     {
-        let bucket = self.bucket_of(source, time);
-        self.sources.note(source, bucket.paid(bytes))?;
+        let (place, bucket) = self.place_and_bucket(source, time);
+        self.note(place, source, bucket.paid(bytes))?;
         Ok(verdict(bucket.affords(bytes)))
     }
 
-    // The bucket of a source at this time: a new one is full.
-    fn bucket_of(&self, source: IpAddr, time: u64) -> TokenBucket
-        ensures { result ≡ bucket_of self.now source time }
+    // The place of a source that was seen, and the source's bucket at this time: a new one is full.
+    fn place_and_bucket(&self, source: IpAddr, time: u64) -> (Option<usize>, TokenBucket)
+        ensures place { result.0 ≡ position (is_same_address source) (keys_of self.now.sources) }
+        ensures bucket { result.1 ≡ bucket_of self.now source time }
     {
-        match self.sources.get(&source) {
-            Some(bucket) => bucket.filled(self.rate, self.burst, time),
-            None => TokenBucket::full(self.burst, time),
+        match self.sources.find(&source) {
+            Some((place, bucket)) => (Some(place), bucket.filled(self.rate, self.burst, time)),
+            None => (None, TokenBucket::full(self.burst, time)),
         }
+    }
+
+    // Gives a source this bucket. The place is that of a source that was seen, which isn't looked for again.
+    fn note(
+        &mut self,
+        place: Option<usize>,
+        source: IpAddr,
+        bucket: TokenBucket,
+    ) -> Result<(), AllocError>
+        requires place { place ≡ position (is_same_address source) (keys_of self.old.sources) }
+        ensures noted { OnOk result (self.new ≡ record self.old { sources = noted is_same_address self.old.sources source bucket }) }
+        ensures stays { OnErr result (self.new ≡ self.old) }
+    {
+        match place {
+            Some(place) => self.sources.renew(&source, place, bucket),
+            None => {
+                self.sources.note(source, bucket)?;
+            }
+        }
+        Ok(())
     }
 }
 

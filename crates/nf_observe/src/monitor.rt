@@ -75,8 +75,12 @@ impl Monitor {
         ensures counted { OnOk result (self.new.flows ≡ counted self.old.flows flow bytes) }
         ensures stays { OnErr result (self.new ≡ self.old) }
     {
-        let counts = self.flows.get(&flow).unwrap_or(FlowCounts::NONE);
-        self.flows.note(flow, counts.with_packet(bytes))?;
+        match self.flows.find(&flow) {
+            Some((place, counts)) => self.flows.renew(&flow, place, counts.with_packet(bytes)),
+            None => {
+                self.flows.note(flow, FlowCounts::NONE.with_packet(bytes))?;
+            }
+        }
         Ok(())
     }
 }
