@@ -1,4 +1,5 @@
 pub mod Noting
 pub mod Places
 pub mod Rows
+pub mod Sameness
 pub mod Telling

@@ -1,13 +1,33 @@
-//! Addresses as text.
-ghost use Rattle.std.specs.Prelude.{◌≡◌, ◌++◌, ◌<◌, OnOk, codes};
+//! Addresses as text, and when two are the same.
+ghost use Rattle.std.specs.Prelude.{◌≡◌, ◌++◌, ◌<◌, OnOk, codes, nat_eq};
+ghost use Rattle.std.specs.Cmp.Lexicographic.{pointwise};
 ghost use Rattle.std.specs.List.{flat_map};
 ghost use Rattle.std.specs.Char.{digit_char};
 ghost use Rattle.std.specs.Net.Text.{hex, groups_text, leading_zero_digits};
 ghost use Rattle.first_sight.specs.Addresses.{dotted, address_text};
+ghost use Rattle.first_sight.specs.SameAddress.{is_same_address};
 
 use std::alloc::{AllocError, Global};
 use std::net::IpAddr;
 use text_lines::{Piece, push_pieces};
+
+/// Are two addresses the same? It answers as `==` does. Those of IPv4 are compared as numbers, which is cheaper than byte by byte.
+pub fn same_address(a: IpAddr, b: IpAddr) -> bool
+    ensures { result ≡ is_same_address a b }
+{
+    match (a, b) {
+        (IpAddr::V4(a), IpAddr::V4(b)) => same_octets(a.octets(), b.octets()),
+        (IpAddr::V6(a), IpAddr::V6(b)) => a == b,
+        _ => false,
+    }
+}
+
+/// Are four bytes the same as four others? They are compared as one number.
+fn same_octets(a: [u8; 4], b: [u8; 4]) -> bool
+    ensures { result ≡ pointwise nat_eq a b }
+{
+    u32::from_be_bytes(a) == u32::from_be_bytes(b)
+}
 
 /// Appends an address of either version: one of IPv4 as four decimal numbers parted by dots, the highest byte first (RFC 791, 3.1), and
 /// one of IPv6 as eight hexadecimal groups in lower case parted by colons, without leading zeros and none of them left out (RFC 4291,

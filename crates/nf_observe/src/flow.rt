@@ -3,6 +3,7 @@ ghost use Rattle.std.specs.Cmp.{partial_equiv_from_equiv};
 ghost use Rattle.nf_observe.specs.SameFlow.{is_same_endpoint, is_same_flow};
 ghost use Rattle.nf_observe.specs.SameFlowLaws.{same_endpoint, same_flow};
 
+use first_sight::same_address;
 use std::net::IpAddr;
 
 /// An address of either version of IP, and the port there, which is read most significant byte first.
@@ -20,7 +21,7 @@ impl PartialEq for Endpoint {
     ghost laws = { partial_equiv_from_equiv same_endpoint };
 
     fn eq(&self, other: &Endpoint) -> bool {
-        self.address == other.address && self.port == other.port
+        same_address(self.address, other.address) && self.port == other.port
     }
 }
 

@@ -1,7 +1,7 @@
 //! A balancer, and what it does with a packet.
 use crate::client::Client;
 use chain_walk::Verdict;
-use first_sight::{EntryLines, FirstSeen, lines_of_keys, push_ip_address};
+use first_sight::{EntryLines, FirstSeen, lines_of_keys, push_ip_address, same_address};
 use frame_seen::{seen_ip_address, seen_port};
 use item_list::Items;
 use packet_fields::Field;
@@ -182,7 +182,7 @@ fn flow_in(settings: &BalancerSettings, view: &View) -> Option<Client>
     ensures { result ≡ flow_of settings.now (seen_values view.now) view.now.version.fixed.proto }
 {
     let destination = seen_ip_address(view.get(Field::DstIp))?;
-    if destination != settings.virtual_address {
+    if !same_address(destination, settings.virtual_address) {
         return None;
     }
     Some(Client {

@@ -3,6 +3,7 @@ ghost use Rattle.std.specs.Cmp.{partial_equiv_from_equiv};
 ghost use Rattle.nf_translate.specs.Clients.{is_same};
 ghost use Rattle.nf_translate.specs.ClientLaws.{same_client};
 
+use first_sight::same_address;
 use std::net::IpAddr;
 
 /// Where the packets of a flow come from: their protocol, an address of IPv4 or of IPv6, and a port (RFC 791, RFC 8200, RFC 793,
@@ -20,7 +21,9 @@ impl PartialEq for Client {
     ghost laws = { partial_equiv_from_equiv same_client };
 
     fn eq(&self, other: &Client) -> bool {
-        self.proto == other.proto && self.address == other.address && self.port == other.port
+        self.proto == other.proto
+            && same_address(self.address, other.address)
+            && self.port == other.port
     }
 }
 
