@@ -1,5 +1,6 @@
 //! The lines of a kind of function.
-ghost use Rattle.std.specs.Prelude.{◌≡◌, IfOk};
+ghost use Rattle.std.specs.Prelude.{◌≡◌, false, IfOk};
+ghost use Rattle.std.specs.Option.{option_map_or};
 ghost use Rattle.function_lines.specs.KindLines.{KindLines, lacks_one};
 
 use policy_text::Word;
@@ -18,7 +19,7 @@ pub trait FunctionLine: Drop {
     fn lacks_one(lines: &[Self]) -> bool
         ensures { result ≡ lacks_one kind_lines lines.now };
 
-    /// Can a line of the kind not stand beside these, which are all lines of its declaration?
-    fn clashes(lines: &[Self], line: &Self) -> bool
-        ensures { result ≡ kind_lines.clashes lines.now line.now };
+    /// Is there a line that can't stand beside these, which are all lines of its declaration?
+    fn clashes(lines: &[Self], line: &Option<Self>) -> bool
+        ensures { result ≡ option_map_or (kind_lines.clashes lines.now) line.now false };
 }

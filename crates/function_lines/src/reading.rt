@@ -1,6 +1,6 @@
 //! Reads the lines of a declaration.
 ghost use Rattle.std.specs.Prelude.{◌≡◌, ◌||◌, ◌++◌, if◌then◌else◌, false, is_none, fold, OnOk, IfOk};
-ghost use Rattle.std.specs.Option.{option_map_or, option_to_list};
+ghost use Rattle.std.specs.Option.{option_to_list};
 ghost use Rattle.function_lines.specs.Builds.{Builds};
 ghost use Rattle.function_lines.specs.KindLines.{lacks_one, clashing, lesser, repeats};
 
@@ -52,19 +52,9 @@ fn least_clashing<L: FunctionLine>(
     'settings: for place in 0..settings.len() {
         let setting = &settings[place];
         let line = L::read(alloc, setting.words.as_slice())?;
-        least = least_refused(least, is_clashing(lines, &line), setting.line);
+        least = least_refused(least, L::clashes(lines, &line), setting.line);
     }
     Ok(least)
-}
-
-// Can the line, where there is one, not stand beside these?
-fn is_clashing<L: FunctionLine>(lines: &[L], line: &Option<L>) -> bool
-    ensures { result ≡ option_map_or (L.kind_lines.clashes lines.now) line.now false }
-{
-    match line {
-        Some(line) => L::clashes(lines, line),
-        None => false,
-    }
 }
 
 // Keeps the line, where there is one.

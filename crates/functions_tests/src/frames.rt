@@ -14,6 +14,8 @@ fn sees_the_values_of_a_tagged_frame(rt: HostRuntime) {
         tag: TagSeen::Id(7),
         src: Some(0x0a00_0009),
         dst: Some(0x0a00_0002),
+        src6: None,
+        dst6: None,
         sport: Some(1000),
         dport: Some(53),
         proto: Some(17),

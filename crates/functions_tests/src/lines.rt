@@ -33,7 +33,7 @@ impl FunctionLine for SizeLine {
         !is_there(lines)
     }
 
-    fn clashes(_lines: &[SizeLine], _line: &SizeLine) -> bool {
+    fn clashes(_lines: &[SizeLine], _line: &Option<SizeLine>) -> bool {
         false
     }
 }

@@ -18,6 +18,8 @@ fn clauses_are_read_and_met(rt: HostRuntime) -> Result<(), Fail> {
         tag: TagSeen::Bare,
         src: Some(0x0a01_0203),
         dst: None,
+        src6: None,
+        dst6: None,
         sport: None,
         dport: None,
         proto: Some(17),

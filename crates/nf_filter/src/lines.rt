@@ -41,7 +41,7 @@ impl FunctionLine for FirewallLine {
         false
     }
 
-    fn clashes(_lines: &[FirewallLine], _line: &FirewallLine) -> bool {
+    fn clashes(_lines: &[FirewallLine], _line: &Option<FirewallLine>) -> bool {
         false
     }
 }

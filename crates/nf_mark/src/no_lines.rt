@@ -22,7 +22,7 @@ impl FunctionLine for NoLine {
         false
     }
 
-    fn clashes(_lines: &[NoLine], _line: &NoLine) -> bool {
+    fn clashes(_lines: &[NoLine], _line: &Option<NoLine>) -> bool {
         false
     }
 }

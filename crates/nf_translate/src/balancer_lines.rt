@@ -3,7 +3,7 @@ ghost use Rattle.std.specs.Prelude.{◌≡◌, find};
 ghost use Rattle.std.specs.List.{list_any};
 ghost use Rattle.std.specs.Option.{option_copied};
 ghost use Rattle.nf_translate.specs.Addresses.{ip_address_of, ipv4_address, ipv6_address, is_same_version};
-ghost use Rattle.nf_translate.specs.BalancerLines.{virtual_address_of, backend_of, is_virtual_address, is_backend, virtual_in, virtual_address_by};
+ghost use Rattle.nf_translate.specs.BalancerLines.{virtual_address_of, backend_of, is_virtual_address, is_backend, virtual_in, virtual_address_by, clashes};
 
 use function_lines::FunctionLine;
 use policy_text::{Word, address, address6};
@@ -44,14 +44,24 @@ impl FunctionLine for BalancerLine {
         !has_virtual_address(lines) || !has_backend(lines)
     }
 
-    fn clashes(lines: &[BalancerLine], line: &BalancerLine) -> bool {
+    fn clashes(lines: &[BalancerLine], line: &Option<BalancerLine>) -> bool {
         match line {
-            BalancerLine::VirtualAddress(_) => false,
-            BalancerLine::Backend(address) => match virtual_address_by(lines) {
-                Some(virtual_address) => !is_same_version(virtual_address, *address),
-                None => false,
-            },
+            Some(line) => clashes(lines, line),
+            None => false,
         }
+    }
+}
+
+// Is the line a backend of the other version of IP than the virtual address?
+fn clashes(lines: &[BalancerLine], line: &BalancerLine) -> bool
+    ensures { result ≡ clashes lines.now line.now }
+{
+    match line {
+        BalancerLine::VirtualAddress(_) => false,
+        BalancerLine::Backend(address) => match virtual_address_by(lines) {
+            Some(virtual_address) => !is_same_version(virtual_address, *address),
+            None => false,
+        },
     }
 }
 

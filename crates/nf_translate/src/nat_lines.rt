@@ -39,7 +39,7 @@ impl FunctionLine for NatLine {
         !has_inside(lines) || !has_public(lines) || !has_ports(lines)
     }
 
-    fn clashes(_lines: &[NatLine], _line: &NatLine) -> bool {
+    fn clashes(_lines: &[NatLine], _line: &Option<NatLine>) -> bool {
         false
     }
 }

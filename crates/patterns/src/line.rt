@@ -27,7 +27,7 @@ impl FunctionLine for Pattern {
         false
     }
 
-    fn clashes(_lines: &[Pattern], _line: &Pattern) -> bool {
+    fn clashes(_lines: &[Pattern], _line: &Option<Pattern>) -> bool {
         false
     }
 }

@@ -32,7 +32,7 @@ impl FunctionLine for MarkRule {
         false
     }
 
-    fn clashes(_lines: &[MarkRule], _line: &MarkRule) -> bool {
+    fn clashes(_lines: &[MarkRule], _line: &Option<MarkRule>) -> bool {
         false
     }
 }

@@ -39,7 +39,7 @@ impl FunctionLine for NexthopRule {
         false
     }
 
-    fn clashes(_lines: &[NexthopRule], _line: &NexthopRule) -> bool {
+    fn clashes(_lines: &[NexthopRule], _line: &Option<NexthopRule>) -> bool {
         false
     }
 }

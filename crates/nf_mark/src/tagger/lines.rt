@@ -35,7 +35,7 @@ impl FunctionLine for TagRule {
         false
     }
 
-    fn clashes(_lines: &[TagRule], _line: &TagRule) -> bool {
+    fn clashes(_lines: &[TagRule], _line: &Option<TagRule>) -> bool {
         false
     }
 }

@@ -36,7 +36,7 @@ impl FunctionLine for LimiterLine {
     }
 
     // Each line can stand beside any others.
-    fn clashes(_lines: &[LimiterLine], _line: &LimiterLine) -> bool {
+    fn clashes(_lines: &[LimiterLine], _line: &Option<LimiterLine>) -> bool {
         false
     }
 }

@@ -25,7 +25,7 @@ impl FunctionLine for MonitorLine {
     }
 
     // Each line can stand beside any others.
-    fn clashes(_lines: &[MonitorLine], _line: &MonitorLine) -> bool {
+    fn clashes(_lines: &[MonitorLine], _line: &Option<MonitorLine>) -> bool {
         false
     }
 }
