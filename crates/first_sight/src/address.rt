@@ -1,13 +1,15 @@
 //! Addresses as text, and when two are the same.
-ghost use Rattle.std.specs.Prelude.{◌≡◌, ◌++◌, ◌<◌, OnOk, codes, nat_eq};
+ghost use Rattle.std.specs.Prelude.{◌≡◌, ◌++◌, ◌<◌, OnOk, codes, fold, nat_eq};
 ghost use Rattle.std.specs.Cmp.Lexicographic.{pointwise};
 ghost use Rattle.std.specs.List.{flat_map};
 ghost use Rattle.std.specs.Char.{digit_char};
 ghost use Rattle.std.specs.Net.Text.{hex, groups_text, leading_zero_digits};
 ghost use Rattle.first_sight.specs.Addresses.{dotted, address_text};
+ghost use Rattle.first_sight.specs.HashedAddress.{endpoint_writes};
 ghost use Rattle.first_sight.specs.SameAddress.{is_same_address};
 
 use std::alloc::{AllocError, Global};
+use std::hash::Hasher;
 use std::net::IpAddr;
 use text_lines::{Piece, push_pieces};
 
@@ -19,6 +21,21 @@ pub fn same_address(a: IpAddr, b: IpAddr) -> bool
         (IpAddr::V4(a), IpAddr::V4(b)) => same_octets(a.octets(), b.octets()),
         (IpAddr::V6(a), IpAddr::V6(b)) => a == b,
         _ => false,
+    }
+}
+
+/// Feeds an address and a port there to a hasher: of IPv4 as one number, since that costs the least.
+pub fn hash_endpoint<H: Hasher>(address: IpAddr, port: u16, state: &mut H)
+    ensures { state.new ≡ fold H.write state.old (endpoint_writes address port) }
+{
+    match address {
+        IpAddr::V4(address) => {
+            state.write_u64(u64::from(address.to_bits()) * 65_536 + u64::from(port));
+        }
+        IpAddr::V6(address) => {
+            state.write_u128(address.to_bits());
+            state.write_u16(port);
+        }
     }
 }
 

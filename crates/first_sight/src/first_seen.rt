@@ -59,13 +59,6 @@ impl<K: Eq + Hash + Drop, V: Copy + Drop> FirstSeen<K, V> {
     ghost use Rattle.std.specs.Option.{option_map};
     ghost use Rattle.first_sight.specs.FirstSight.{belonging, noted, place_of, seen_with};
 
-    /// What belongs to a key that was seen.
-    pub fn get(&self, key: &K) -> Option<V>
-        ensures { result ≡ belonging K.eq self.now key.now }
-    {
-        self.entries.get(key).copied()
-    }
-
     /// The place of a key that was seen, counted from 0, and what belongs to the key.
     pub fn find(&self, key: &K) -> Option<(usize, V)>
         ensures place { option_map (λ found. found.0) result ≡ position (K.eq key.now) (keys_of self.now) }

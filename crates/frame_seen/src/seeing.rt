@@ -32,6 +32,7 @@ pub fn seen(frame: &[u8]) -> Seen
 }
 
 /// The outermost of a frame's tags, where the frame is long enough to have some.
+#[inline(always)]
 pub fn seen_tags(tags: Option<&[u8]>) -> TagSeen
     requires { IfSome tags (λ bytes. IsLengthOf Field.Tag (length bytes.now)) }
     ensures { result ≡ option_map_or outermost (option_copied tags.entry) TagSeen.Absent }
@@ -44,6 +45,7 @@ pub fn seen_tags(tags: Option<&[u8]>) -> TagSeen
 }
 
 /// An IPv4 address as a number, most significant byte first (RFC 791, 3.1). An address of IPv6 is none.
+#[inline(always)]
 pub fn seen_address(bytes: Option<&[u8]>) -> Option<u32>
     ensures { result ≡ option_and_then (address_of 4) (option_copied bytes.entry) }
 {
@@ -56,6 +58,7 @@ pub fn seen_address(bytes: Option<&[u8]>) -> Option<u32>
 }
 
 /// An IPv6 address as a number, most significant byte first (RFC 8200, 3). An address of IPv4 is none.
+#[inline(always)]
 pub fn seen_address6(bytes: Option<&[u8]>) -> Option<u128>
     ensures { result ≡ option_and_then (address_of 16) (option_copied bytes.entry) }
 {
@@ -80,6 +83,7 @@ pub fn seen_ip_address(bytes: Option<&[u8]>) -> Option<IpAddr>
 }
 
 /// A port as a number, most significant byte first (RFC 793, 3.1; RFC 768).
+#[inline(always)]
 pub fn seen_port(bytes: Option<&[u8]>) -> Option<u16>
     requires { IfSome bytes (λ port. length port.now ≡ 2) }
     ensures { result ≡ option_map (big_number 2) (option_copied bytes.entry) }

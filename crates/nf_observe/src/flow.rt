@@ -1,13 +1,14 @@
 //! Flows, and what is counted of them.
 ghost use Rattle.std.specs.Cmp.{partial_equiv_from_equiv};
 ghost use Rattle.nf_observe.specs.SameFlow.{is_same_endpoint, is_same_flow};
-ghost use Rattle.nf_observe.specs.SameFlowLaws.{same_endpoint, same_flow};
+ghost use Rattle.nf_observe.specs.SameFlowLaws.{same_endpoint, same_flow, flow_end_writes, flow_end_alike};
 
-use first_sight::same_address;
+use first_sight::{hash_endpoint, same_address};
+use std::hash::{Hash, Hasher};
 use std::net::IpAddr;
 
 /// An address of either version of IP, and the port there, which is read most significant byte first.
-#[derive(Clone, Copy, Hash, Debug)]
+#[derive(Clone, Copy, Debug)]
 pub struct Endpoint {
     /// An address of IPv4 is never one of IPv6, so flows of both versions stay apart.
     pub address: IpAddr,
@@ -27,6 +28,17 @@ impl PartialEq for Endpoint {
 
 impl Eq for Endpoint {
     ghost laws = { same_endpoint };
+}
+
+impl Hash for Endpoint {
+    ghost hash_input = { flow_end_writes };
+
+    ghost respects_eq = { flow_end_alike };
+
+    fn hash<H: Hasher>(&self, state: &mut H) {
+        // An absent port is hashed as 0, which hardly any packet has.
+        hash_endpoint(self.address, self.port.unwrap_or(0), state);
+    }
 }
 
 /// What tells flows apart.

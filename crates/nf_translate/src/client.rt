@@ -1,14 +1,15 @@
 //! A client of a virtual address.
 ghost use Rattle.std.specs.Cmp.{partial_equiv_from_equiv};
 ghost use Rattle.nf_translate.specs.Clients.{is_same};
-ghost use Rattle.nf_translate.specs.ClientLaws.{same_client};
+ghost use Rattle.nf_translate.specs.ClientLaws.{same_client, client_writes, client_alike};
 
-use first_sight::same_address;
+use first_sight::{hash_endpoint, same_address};
+use std::hash::{Hash, Hasher};
 use std::net::IpAddr;
 
 /// Where the packets of a flow come from: their protocol, an address of IPv4 or of IPv6, and a port (RFC 791, RFC 8200, RFC 793,
 /// RFC 768).
-#[derive(Clone, Copy, Debug, Hash)]
+#[derive(Clone, Copy, Debug)]
 pub struct Client {
     pub proto: u8,
     pub address: IpAddr,
@@ -29,4 +30,15 @@ impl PartialEq for Client {
 
 impl Eq for Client {
     ghost laws = { same_client };
+}
+
+impl Hash for Client {
+    ghost hash_input = { client_writes };
+
+    ghost respects_eq = { client_alike };
+
+    fn hash<H: Hasher>(&self, state: &mut H) {
+        self.proto.hash(state);
+        hash_endpoint(self.address, self.port, state);
+    }
 }
