@@ -1,8 +1,8 @@
 //! The burst that is led through a chain.
+use capture_bytes::PcapRecord;
 use classifier::{Burst, Item};
 use item_list::Items;
 use packet_fields::Frame;
-use pcap_io::PcapRecord;
 use std::alloc::{AllocError, Global};
 
 /// The packets of a burst where the words say nothing else.

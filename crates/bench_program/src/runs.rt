@@ -2,6 +2,7 @@
 ghost use Rattle.std.specs.Prelude.{◌≡◌, ◌≤◌, length, map, IfOk, vec_len};
 
 use action_profile::{Profile, all_fields};
+use capture_bytes::Unit;
 use chain_walk::Fate;
 use classifier::Burst;
 use frame_walk::walk_chain;
@@ -13,7 +14,6 @@ use nfp_outside::OpenGate;
 use pace::Pace;
 use packet_fields::Frame;
 use packet_version::Tally;
-use pcap_io::Unit;
 use piped_run::{MergeWay, run_piped};
 use std::alloc::{AllocError, Global};
 use std::rt::Clock;

@@ -1,8 +1,8 @@
 -- Believed: the packets of a capture, each with the chain that takes it, and where they end.
 use Rattle.std.specs.Prelude.{List, map}
-use Rattle.pcap_io.specs.Capture.{time_of}
-use Rattle.pcap_io.specs.declared.capture.Unit.{Unit as TimeUnit}
-use Rattle.pcap_io.specs.declared.capture.PcapRecord.{PcapRecord}
+use Rattle.capture_bytes.specs.Packets.{time_of}
+use Rattle.capture_bytes.specs.declared.packet.Unit.{Unit as TimeUnit}
+use Rattle.capture_bytes.specs.declared.packet.PcapRecord.{PcapRecord}
 use Rattle.chain_walk.specs.declared.walk.Fate.{Fate}
 use Rattle.service_walk.specs.Service.{Classed, fates_among, chains_after}
 use Rattle.policy_text.specs.declared.policy.ChainPolicy.{ChainPolicy}

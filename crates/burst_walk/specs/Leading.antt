@@ -1,8 +1,8 @@
 -- For proofs: how the chains of a service lead the packets of a burst, each its own.
 use Rattle.std.specs.Prelude.{◌≡◌, ◌<◌, ◌^◌, ℕ, suc, List, [], ◌∷◌, map, length, Option, Some, None}
-use Rattle.pcap_io.specs.Capture.{IsShort}
-use Rattle.pcap_io.specs.declared.capture.PcapRecord.{PcapRecord}
-use Rattle.pcap_io.specs.declared.capture.Unit.{Unit as TimeUnit}
+use Rattle.capture_bytes.specs.Packets.{IsShort}
+use Rattle.capture_bytes.specs.declared.packet.PcapRecord.{PcapRecord}
+use Rattle.capture_bytes.specs.declared.packet.Unit.{Unit as TimeUnit}
 use Rattle.packet_fields.specs.declared.field.Field.{Field}
 use Rattle.policy_text.specs.declared.clause.Match.{Match}
 use Rattle.chain_walk.specs.Packets.{fates, functions_after}

@@ -1,6 +1,6 @@
 //! The packets of a burst on their way through the chains, each chain with its own.
 ghost use Rattle.std.specs.Prelude.{◌≡◌, ◌≤◌, ◌<◌, ◌^◌, All, IfOk, length, map};
-ghost use Rattle.pcap_io.specs.Capture.{IsShort};
+ghost use Rattle.capture_bytes.specs.Packets.{IsShort};
 ghost use Rattle.chain_walk.specs.Packets.{fates};
 ghost use Rattle.service_walk.specs.Service.{packets_in};
 ghost use Rattle.service_walk.specs.Weaving.{each_fates};
@@ -8,12 +8,12 @@ ghost use Rattle.chain_service.specs.NamedFunctions.{named_behaviour};
 ghost use Rattle.burst_walk.specs.Leading.{IsWritable, LeadsChain, LeadsEach, classed_items};
 
 use crate::merging::Merging;
+use capture_bytes::Unit;
 use chain_service::{NamedFunction, ServiceChain};
 use chain_walk::{Fate, frames_walk_as_fields, values_stay_well_formed};
 use classifier::Burst;
 use item_list::Items;
 use nfp_outside::Gate;
-use pcap_io::Unit;
 use piped_run::run_piped;
 use std::alloc::{AllocError, Global};
 use std::rt::Clock;

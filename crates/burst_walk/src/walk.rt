@@ -7,11 +7,11 @@ ghost use Rattle.burst_walk.specs.Leading.{IsClassed, IsWritable, LeadsEach, all
 use crate::lead::lead;
 use crate::merging::Merging;
 use crate::weave::weave;
+use capture_bytes::Unit;
 use chain_service::{NamedFunction, Service};
 use chain_walk::Fate;
 use classifier::{Burst, class_is_the_first};
 use nfp_outside::Gate;
-use pcap_io::Unit;
 use service_walk::fates_are_woven;
 use std::alloc::{AllocError, Global};
 use std::rt::Clock;

@@ -8,8 +8,8 @@ use Rattle.std.specs.Str.{bytes_eq}
 use Rattle.packet_fields.specs.Fields.{name_of}
 use Rattle.packet_fields.specs.declared.field.Field.{Field}
 use Rattle.pcap_io.specs.declared.capture.CaptureFault.{CaptureFault}
-use Rattle.pcap_io.specs.declared.capture.PcapRecord.{PcapRecord}
-use Rattle.pcap_io.specs.declared.capture.Unit.{Unit as TimeUnit}
+use Rattle.capture_bytes.specs.declared.packet.PcapRecord.{PcapRecord}
+use Rattle.capture_bytes.specs.declared.packet.Unit.{Unit as TimeUnit}
 use Rattle.action_profile.specs.FieldSets.{all_fields}
 use Rattle.action_profile.specs.Kinds.{kind_name}
 use Rattle.chain_walk.specs.declared.walk.Fate.{Fate}

@@ -5,7 +5,7 @@ use Rattle.std.specs.List.{flat_map, sum_by, zip, enumerate_from}
 use Rattle.std.proofs.lemmas.Grind.{flat_map-append}
 use Rattle.std.proofs.lemmas.List.Sums.{sum_by-append}
 use Rattle.packet_fields.specs.declared.field.Field.{Field}
-use Rattle.pcap_io.specs.declared.capture.PcapRecord.{PcapRecord}
+use Rattle.capture_bytes.specs.declared.packet.PcapRecord.{PcapRecord}
 use Rattle.chain_walk.specs.Packets.{Packet}
 use Rattle.chain_walk.specs.declared.walk.Fate.{Fate}
 use Rattle.graph_compile.specs.declared.graph.Stage.{Stage}

@@ -4,7 +4,7 @@ use Rattle.std.specs.Prelude.{count_by, Option}
 use Rattle.std.proofs.lemmas.List.{append-nil, map-append, length-map}
 use Rattle.nfp_outside.specs.declared.slot.Slot.{Slot}
 use Rattle.nfp_outside.specs.Outside.{SlotView}
-use Rattle.pcap_io.specs.declared.capture.PcapRecord.{PcapRecord}
+use Rattle.capture_bytes.specs.declared.packet.PcapRecord.{PcapRecord}
 use Rattle.service_walk.specs.Service.{Classed}
 use Rattle.burst_walk.specs.Fates.{all_classed, chains_behind, fates_of}
 use Rattle.capture_run.specs.Emitted.{emitted_all}

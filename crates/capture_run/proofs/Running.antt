@@ -6,7 +6,7 @@ use Rattle.std.proofs.lemmas.List.{append-nil}
 use Rattle.nfp_outside.specs.declared.slot.Slot.{Slot}
 use Rattle.nfp_outside.specs.Outside.{SlotView}
 use Rattle.pcap_io.specs.Capture.{Body, IsHeadFault, with_record}
-use Rattle.pcap_io.specs.declared.capture.PcapRecord.{PcapRecord}
+use Rattle.capture_bytes.specs.declared.packet.PcapRecord.{PcapRecord}
 use Rattle.pcap_io.specs.declared.capture.CaptureFault.{CaptureFault}
 use Rattle.capture_run.specs.Passing.{PassBreaks, Passes, lines_next, out_next}
 use Rattle.capture_run.specs.Running.{Goes, PassesBody, RunBreaks, RunsAll}

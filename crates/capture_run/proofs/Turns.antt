@@ -11,7 +11,7 @@ use Rattle.nfp_outside.specs.declared.slot.Slot.TheVariants as slots
 use Rattle.nfp_outside.specs.Outside.{SlotView, IsRisen}
 use Rattle.pcap_io.specs.Capture.{Body, IsHeadFault, IsShort, with_record}
 use Rattle.pcap_io.specs.declared.capture.CaptureFault.{CaptureFault}
-use Rattle.pcap_io.specs.declared.capture.PcapRecord.{PcapRecord}
+use Rattle.capture_bytes.specs.declared.packet.PcapRecord.{PcapRecord}
 use Rattle.pcap_io.specs.declared.fault.PcapFault.{PcapFault}
 use Rattle.pcap_io.specs.declared.fault.PcapFault.TheVariants as refusals
 use Rattle.policy_text.specs.declared.clause.Match.{Match}

@@ -5,8 +5,8 @@ use Rattle.std.proofs.lemmas.List.{append-nil}
 use Rattle.nfp_outside.specs.declared.slot.Slot.{Slot}
 use Rattle.nfp_outside.specs.Outside.{SlotView}
 use Rattle.pcap_io.specs.declared.capture.CaptureFault.{CaptureFault}
-use Rattle.pcap_io.specs.declared.capture.PcapRecord.{PcapRecord}
-use Rattle.pcap_io.specs.declared.capture.Unit.{Unit as TimeUnit}
+use Rattle.capture_bytes.specs.declared.packet.PcapRecord.{PcapRecord}
+use Rattle.capture_bytes.specs.declared.packet.Unit.{Unit as TimeUnit}
 use Rattle.chain_service.specs.Services.{Chains}
 use Rattle.burst_walk.specs.Fates.{all_classed, chains_behind, fates_of}
 use Rattle.capture_report.specs.Report.{copies_due, drop_lines, is_gone, names_among, report_bytes, report_of, summary, title}

@@ -5,8 +5,8 @@ use Rattle.nfp_outside.specs.declared.slot.Slot.TheVariants.{Out, Report}
 use Rattle.nfp_outside.specs.Outside.{SlotView}
 use Rattle.pcap_io.specs.Capture.{Body, IsHeadFault}
 use Rattle.pcap_io.specs.declared.capture.CaptureFault.{CaptureFault}
-use Rattle.pcap_io.specs.declared.capture.PcapRecord.{PcapRecord}
-use Rattle.pcap_io.specs.declared.capture.Unit.{Unit as TimeUnit}
+use Rattle.capture_bytes.specs.declared.packet.PcapRecord.{PcapRecord}
+use Rattle.capture_bytes.specs.declared.packet.Unit.{Unit as TimeUnit}
 use Rattle.chain_walk.specs.declared.walk.Fate.{Fate}
 use Rattle.chain_service.specs.Services.{Chains}
 use Rattle.burst_walk.specs.Fates.{fates_of}

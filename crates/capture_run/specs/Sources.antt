@@ -4,7 +4,7 @@ use Rattle.std.specs.Option.{option_map}
 use Rattle.nfp_outside.specs.Outside.{SlotView}
 use Rattle.pcap_io.specs.Capture.{Body, IsHeadFault, IsShort, with_record}
 use Rattle.pcap_io.specs.declared.capture.CaptureFault.{CaptureFault}
-use Rattle.pcap_io.specs.declared.capture.PcapRecord.{PcapRecord}
+use Rattle.capture_bytes.specs.declared.packet.PcapRecord.{PcapRecord}
 
 -- A record was read, and what follows it is left.
 pub record GivesRecord {S : Type 0} (left : S → SlotView → Option Body) (given : S → ℕ) (r : PcapRecord) (before after : S) (old new : SlotView) : Type 0 where

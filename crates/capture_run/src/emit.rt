@@ -10,11 +10,11 @@ ghost use Rattle.capture_run.specs.Slots.{Puts, Breaks};
 use crate::fault::RunFault;
 use crate::sink::Sink;
 use crate::write::put_record;
+use capture_bytes::PcapRecord;
 use chain_walk::Fate;
 use classifier::Item;
 use nfp_outside::Desk;
 use packet_fields::{Frame, seal};
-use pcap_io::PcapRecord;
 
 /// Puts the records of the packets that passed into Out, in their order: with the frame that its chain left, sealed, or as it
 /// was read where no chain took it.

@@ -1,7 +1,7 @@
 //! Takes the records of a capture, and runs each burst where its last packet was read.
 ghost use Rattle.std.specs.Prelude.{◌≡◌, ◌≢◌, ◌≤◌, ◌<◌, ◌+◌, ◌-◌, ◌^◌, true, All, IfOk, IfErr, IsSome, length};
 ghost use Rattle.nfp_outside.specs.declared.slot.Slot.{Slot};
-ghost use Rattle.pcap_io.specs.Capture.{IsShort};
+ghost use Rattle.capture_bytes.specs.Packets.{IsShort};
 ghost use Rattle.capture_run.specs.Passing.{Ends, IsFresh, IsReady, IsTold, PassBreaks, StopBreaks, StopEnds, TakeBreaks, Takes};
 ghost use Rattle.burst_walk.specs.Leading.{IsClassed, records_of};
 ghost use Rattle.capture_run.specs.Running.{RunBreaks, RunsAll};

@@ -3,7 +3,7 @@ ghost use Rattle.std.specs.Prelude.{◌≡◌, ◌≢◌, ◌<◌, ◌^◌, ℕ,
 ghost use Rattle.nfp_outside.specs.declared.slot.Slot.{Slot};
 ghost use Rattle.nfp_outside.specs.Outside.{Appends, AppendsPrefix, WriteCause};
 ghost use Rattle.pcap_io.specs.Written.{record_bytes};
-ghost use Rattle.pcap_io.specs.declared.capture.PcapRecord.{PcapRecord};
+ghost use Rattle.capture_bytes.specs.declared.packet.PcapRecord.{PcapRecord};
 
 use nfp_outside::{Desk, OutsideFault, Slot};
 use pcap_io::{PcapRecord, Writer};

@@ -5,8 +5,8 @@ ghost use Rattle.capture_run.specs.Slots.{Puts, Breaks, fault_seen};
 
 use crate::fault::RunFault;
 use crate::sink::Sink;
+use capture_bytes::PcapRecord;
 use nfp_outside::{Desk, OutsideFault, Slot, write_whole};
-use pcap_io::PcapRecord;
 
 /// Puts a record into Out.
 pub fn put_record<W: Sink, D: Desk>(

@@ -3,7 +3,7 @@ use Rattle.std.proofs.Common.{◌≡◌, ℕ, ◌+◌, ◌<◌, zero, suc, inl, 
 use Rattle.std.proofs.lemmas.Bool.{cases_Bool, leb-false, lt-leb, or_from, or_parts}
 use Rattle.std.proofs.lemmas.List.Sums.{sum_by-append}
 use Rattle.std.proofs.lemmas.List.Elements.{All-cons, All-head, All-nil, All-same, All-tail}
-use Rattle.pcap_io.specs.declared.capture.PcapRecord.{PcapRecord}
+use Rattle.capture_bytes.specs.declared.packet.PcapRecord.{PcapRecord}
 use Rattle.classifier.specs.declared.burst.Item.{Item}
 use Rattle.classifier.specs.Cutting.{IsClosedByLast, IsCut, bursts_from, captured, in_a_row, is_full, numbered, rest_from, unnumbered}
 

@@ -1,6 +1,6 @@
 -- Rows worked by hand: frames of one and two bytes, in bursts of two packets.
 use Rattle.std.proofs.Common.{◌≡◌, ℕ, List, [], ◌∷◌, Option, Some, None, refl, true, false}
-use Rattle.pcap_io.specs.declared.capture.PcapRecord.{PcapRecord}
+use Rattle.capture_bytes.specs.declared.packet.PcapRecord.{PcapRecord}
 use Rattle.classifier.specs.declared.burst.Item.{Item}
 use Rattle.classifier.specs.Cutting.{bursts_from, captured, is_full, numbered, rest_from}
 

@@ -1,7 +1,7 @@
 -- For proofs: packets, numbered from 1 in their order, cut into bursts.
 use Rattle.std.specs.Prelude.{ℕ, ◌≡◌, ◌+◌, List, [], ◌∷◌, ◌++◌, Bool, true, false, ◌||◌, Option, All, length, nat_le, if◌then◌else◌}
 use Rattle.std.specs.List.{sum_by}
-use Rattle.pcap_io.specs.declared.capture.PcapRecord.{PcapRecord}
+use Rattle.capture_bytes.specs.declared.packet.PcapRecord.{PcapRecord}
 use Rattle.classifier.specs.declared.burst.Item.{Item}
 
 -- the bytes that were captured of these packets
@@ -31,6 +31,10 @@ after c packet class =
     if closes c packet class
     then record { limit = c.limit; added = c.added + 1; held = [] }
     else record { limit = c.limit; added = c.added + 1; held = with_packet c packet class }
+
+-- the same cutter with no packet in its open burst
+abbrev pub closed_now : Cutting → Cutting
+closed_now c = record { limit = c.limit; added = c.added; held = [] }
 
 -- packets and their classes, numbered from here
 abbrev pub numbered : ℕ → List (PcapRecord × Option ℕ) → List Item

@@ -1,6 +1,6 @@
 //! A packet with its number, and the packets that run together.
+use capture_bytes::PcapRecord;
 use item_list::Items;
-use pcap_io::PcapRecord;
 
 /// A packet of the capture, with its number from 1 and the chain that takes it, if one does.
 #[derive(Drop)]

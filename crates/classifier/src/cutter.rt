@@ -1,10 +1,10 @@
 //! The cutter of packets into bursts.
 ghost use Rattle.std.specs.Prelude.{◌≡◌, ◌↔◌, ◌<◌, ◌≤◌, ◌-◌, ◌^◌, [], IsTrue, IfOk, IfSome, IsSome, OnErr, OnOk, length};
-ghost use Rattle.classifier.specs.Cutting.{after, closes, with_packet};
+ghost use Rattle.classifier.specs.Cutting.{after, closed_now, closes, with_packet};
 
 use crate::burst::{Burst, Item};
+use capture_bytes::PcapRecord;
 use item_list::Items;
-use pcap_io::PcapRecord;
 use std::alloc::{AllocError, Global};
 use std::marker::Model;
 use std::mem;
@@ -89,6 +89,21 @@ impl Cutter {
         Ok(Some(Burst {
             items: mem::replace(&mut self.held, next),
         }))
+    }
+
+    /// Closes the open burst, which may be empty, and gives it; what is added next goes on with the numbers. On want of memory
+    /// nothing changes.
+    pub fn cut_now(&mut self) -> Result<Burst, AllocError>
+        ensures burst { IfOk result (λ b. b.items ≡ self.old.held) }
+        ensures few { IfOk result (λ b. length b.items ≤ 65536) }
+        ensures closed { OnOk result (self.new ≡ closed_now self.old) }
+        ensures err { OnErr result (self.new ≡ self.old) }
+    {
+        let next = Items::new(Vec::with_capacity(self.alloc, self.limit as usize)?);
+        self.bytes = 0;
+        Ok(Burst {
+            items: mem::replace(&mut self.held, next),
+        })
     }
 
     /// The open burst, which may be empty.

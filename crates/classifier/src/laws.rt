@@ -1,7 +1,7 @@
 //! What classes and cutting are worth.
 ghost use Rattle.std.specs.Prelude.{◌≡◌, ◌↔◌, ◌<◌, ℕ, ◌+◌, ◌++◌, List, [], ◌∷◌, Option, Some, None, All, true, false, if◌then◌else◌, length, map, slice_index_or};
 ghost use Rattle.frame_seen.specs.Seeing.{seen_of};
-ghost use Rattle.pcap_io.specs.declared.capture.PcapRecord.{PcapRecord};
+ghost use Rattle.capture_bytes.specs.declared.packet.PcapRecord.{PcapRecord};
 ghost use Rattle.policy_text.specs.Meeting.{is_fitting};
 ghost use Rattle.policy_text.specs.declared.clause.Match.{Match};
 ghost use Rattle.classifier.specs.Classes.{class_of};

@@ -1,7 +1,7 @@
 -- The record that is next, and those behind it.
 use Rattle.std.proofs.Common.{◌≡◌, ◌≤◌, ◌<◌, ◌+◌, ◌-◌, ◌^◌, ◌∙◌, ℕ, suc, [], ◌∷◌, ap, sym, refl, arith}
-use Rattle.pcap_io.specs.declared.capture.PcapRecord.{PcapRecord}
-use Rattle.pcap_io.specs.Capture.{IsShort}
+use Rattle.capture_bytes.specs.declared.packet.PcapRecord.{PcapRecord}
+use Rattle.capture_bytes.specs.Packets.{IsShort}
 use Rattle.demo_capture.specs.declared.draws.Draws.{Draws}
 use Rattle.demo_capture.specs.Draws.{draws_after, number_after}
 use Rattle.demo_capture.specs.Giving.{DemoLeft, GivesNext}

@@ -3,7 +3,7 @@ use Rattle.std.proofs.Common.{◌≡◌, ◌≢◌, ◌≤◌, ◌<◌, ◌+◌,
 use Rattle.std.specs.Prelude.{All, Option, Some, None, IsSome, nat_le, nat_lt, if◌then◌else◌, ◌==◌, ◌&&◌, ◌||◌}
 use Rattle.std.proofs.lemmas.Bool.{and_from, cases_eq, cond-true, cond-false, le-leb, lt-ltb, ne_eqb}
 use Rattle.std.proofs.lemmas.List.{take_rest}
-use Rattle.pcap_io.specs.declared.capture.PcapRecord.{PcapRecord}
+use Rattle.capture_bytes.specs.declared.packet.PcapRecord.{PcapRecord}
 use Rattle.packet_fields.specs.Checksums.{HasRightSums, IsRight, folded, header_of, pseudo_header as pseudo_header_in, segment_of, words}
 use Rattle.packet_fields.specs.Frames.{packet, tags_len, word}
 use Rattle.packet_fields.specs.Packets.{by_version, checksum_at, datagram_end, datagram_len, has_transport, header_byte, header_sum_at, header_word, in_header, is_ipv4, is_ipv6, is_udp, segment_at, segment_sum_at}

@@ -3,7 +3,7 @@ use Rattle.std.proofs.Common.{◌≡◌, ℕ, List, [], ◌∷◌, ◌++◌, len
 use Rattle.std.specs.Prelude.{codes}
 use Rattle.std.specs.Fmt.{digits}
 use Rattle.pcap_io.specs.Written.{head_bytes}
-use Rattle.pcap_io.specs.declared.capture.PcapRecord.{PcapRecord}
+use Rattle.capture_bytes.specs.declared.packet.PcapRecord.{PcapRecord}
 use Rattle.packet_fields.specs.Checksums.{words}
 use Rattle.demo_capture.specs.declared.draws.Draws.{Draws}
 use Rattle.demo_capture.specs.Draws.{draws_after, letters, next_number}

@@ -2,9 +2,9 @@
 use Rattle.std.specs.Prelude.{codes, ℕ, zero, suc, ◌+◌, ◌*◌, ◌/◌, ◌%◌, List, [], ◌∷◌, length, None}
 use Rattle.std.specs.List.{flat_map}
 use Rattle.pcap_io.specs.declared.capture.CaptureHead.{CaptureHead}
-use Rattle.pcap_io.specs.declared.capture.Endian.TheVariants.{Little}
-use Rattle.pcap_io.specs.declared.capture.PcapRecord.{PcapRecord}
-use Rattle.pcap_io.specs.declared.capture.Unit.TheVariants.{Micro}
+use Rattle.capture_bytes.specs.declared.order.Endian.TheVariants.{Little}
+use Rattle.capture_bytes.specs.declared.packet.PcapRecord.{PcapRecord}
+use Rattle.capture_bytes.specs.declared.packet.Unit.TheVariants.{Micro}
 use Rattle.pcap_io.specs.Capture.{Body}
 use Rattle.text_lines.specs.Texts.{line_of}
 use Rattle.demo_capture.specs.declared.draws.Draws.{Draws}

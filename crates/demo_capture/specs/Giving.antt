@@ -1,7 +1,7 @@
 -- For proofs: what is left of the demo's records, and what giving one leaves.
 use Rattle.std.specs.Prelude.{◌≡◌, ◌<◌, ◌+◌, ℕ, List, ◌∷◌}
-use Rattle.pcap_io.specs.Capture.{IsShort}
-use Rattle.pcap_io.specs.declared.capture.PcapRecord.{PcapRecord}
+use Rattle.capture_bytes.specs.Packets.{IsShort}
+use Rattle.capture_bytes.specs.declared.packet.PcapRecord.{PcapRecord}
 
 -- how many records were given, and those that are still to come
 pub record DemoLeft : Type 0 where

@@ -1,11 +1,11 @@
 //! The records of the demo's capture, one after another.
 ghost use Rattle.std.specs.Prelude.{◌≡◌, ◌≤◌, IfOk, length};
-ghost use Rattle.pcap_io.specs.Capture.{IsShort};
+ghost use Rattle.capture_bytes.specs.Packets.{IsShort};
 ghost use Rattle.demo_capture.specs.DemoCapture.{record_of};
 
 use crate::draws::{Draws, draw_four};
 use crate::frame::make_frame;
-use pcap_io::PcapRecord;
+use capture_bytes::PcapRecord;
 use std::alloc::{AllocError, Global};
 use std::marker::Model;
 

@@ -1,8 +1,8 @@
 -- For proofs: the packets of a burst that a chain takes.
 use Rattle.std.specs.Prelude.{ℕ, List, map, filter, Bool, false, ◌==◌}
 use Rattle.std.specs.Option.{option_map_or}
-use Rattle.pcap_io.specs.Capture.{time_of}
-use Rattle.pcap_io.specs.declared.capture.Unit.{Unit as TimeUnit}
+use Rattle.capture_bytes.specs.Packets.{time_of}
+use Rattle.capture_bytes.specs.declared.packet.Unit.{Unit as TimeUnit}
 use Rattle.chain_walk.specs.Packets.{Packet}
 use Rattle.classifier.specs.declared.burst.Item.{Item}
 

@@ -9,13 +9,13 @@ ghost use Rattle.graph_run.specs.Running.{IsRunning, profiles_of};
 
 use crate::packet::run_packet;
 use crate::running::Running;
+use capture_bytes::Unit;
 use chain_walk::{Fate, packets_walk_in_a_row};
 use classifier::{Burst, Item};
 use graph_compile::Graph;
 use net_functions::Function;
 use nfp_outside::{Gate, OpenGate};
 use packet_version::Tally;
-use pcap_io::Unit;
 use std::alloc::{AllocError, Global};
 use std::sync::Wait;
 

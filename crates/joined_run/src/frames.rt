@@ -4,12 +4,12 @@ ghost use Rattle.graph_run.specs.Packets.{packets_taken};
 ghost use Rattle.merge_ops.specs.Fates.{fate_behind};
 ghost use Rattle.joined_run.specs.Splits.{AreSplit};
 
+use capture_bytes::Unit;
 use chain_walk::Fate;
 use classifier::Item;
 use graph_run::is_of;
 use merge_ops::Merged;
 use packet_version::split;
-use pcap_io::Unit;
 use std::alloc::{AllocError, Global};
 
 /// The packets of a burst that are of the chain with this number, in their order, each taken apart: the record

@@ -10,8 +10,8 @@ use Rattle.nfp_outside.specs.Weights.{weight_of, no_weight, heavier}
 use Rattle.pcap_io.specs.Capture.{Body}
 use Rattle.pcap_io.specs.Written.{head_bytes, record_bytes}
 use Rattle.pcap_io.specs.declared.capture.CaptureHead.{CaptureHead}
-use Rattle.pcap_io.specs.declared.capture.Endian.{Endian}
-use Rattle.pcap_io.specs.declared.capture.PcapRecord.{PcapRecord}
+use Rattle.capture_bytes.specs.declared.order.Endian.{Endian}
+use Rattle.capture_bytes.specs.declared.packet.PcapRecord.{PcapRecord}
 use Rattle.policy_judge.specs.declared.judged.Judged.{Judged}
 use Rattle.policy_judge.specs.Judging.{judged}
 use Rattle.command_words.specs.declared.requests.DemoInput.{DemoInput}

@@ -3,7 +3,7 @@ use Rattle.std.proofs.Common.{◌≡◌, ◌∙◌, ℕ, List, ap}
 use Rattle.std.specs.Prelude.{None, Ok}
 use Rattle.pcap_io.specs.Capture.{capture_of}
 use Rattle.pcap_io.specs.declared.capture.CaptureHead.{CaptureHead}
-use Rattle.pcap_io.specs.declared.capture.PcapRecord.{PcapRecord}
+use Rattle.capture_bytes.specs.declared.packet.PcapRecord.{PcapRecord}
 use Rattle.policy_judge.specs.declared.judged.Judged.{Judged}
 use Rattle.policy_judge.specs.Judging.{judged}
 use Rattle.nfp_run.specs.declared.outcome.Outcome.TheVariants.{Done}

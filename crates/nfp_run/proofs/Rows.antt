@@ -5,8 +5,8 @@ use Rattle.std.specs.Fmt.{digits}
 use Rattle.std.specs.Net.Addr.{ipv4_bits}
 use Rattle.pcap_io.specs.declared.capture.CaptureFault.TheVariants.{CutRecord, CutHead}
 use Rattle.pcap_io.specs.Capture.{body_of}
-use Rattle.pcap_io.specs.declared.capture.Endian.TheVariants.{Little}
-use Rattle.pcap_io.specs.declared.capture.Unit.TheVariants.{Micro}
+use Rattle.capture_bytes.specs.declared.order.Endian.TheVariants.{Little}
+use Rattle.capture_bytes.specs.declared.packet.Unit.TheVariants.{Micro}
 use Rattle.pcap_io.specs.Written.{head_bytes, record_head}
 use Rattle.packet_fields.specs.Frames.{tags_len}
 use Rattle.packet_fields.specs.Packets.{is_ipv4, is_ipv6, has_transport}

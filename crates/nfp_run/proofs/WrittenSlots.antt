@@ -7,7 +7,7 @@ use Rattle.nfp_outside.specs.Outside.{SlotView, Attaches}
 use Rattle.pcap_io.specs.Capture.{Body}
 use Rattle.pcap_io.specs.Written.{head_bytes, record_bytes}
 use Rattle.pcap_io.specs.declared.capture.CaptureHead.{CaptureHead}
-use Rattle.pcap_io.specs.declared.capture.PcapRecord.{PcapRecord}
+use Rattle.capture_bytes.specs.declared.packet.PcapRecord.{PcapRecord}
 use Rattle.chain_service.specs.Services.{Chains}
 use Rattle.capture_report.specs.declared.ended.Ended.{Ended}
 use Rattle.capture_run.specs.declared.fault.RunFault.{RunFault}

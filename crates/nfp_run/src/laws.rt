@@ -2,7 +2,7 @@
 ghost use Rattle.std.specs.Prelude.{◌≡◌, ℕ, List, None, IsOk, Ok};
 ghost use Rattle.pcap_io.specs.Capture.{capture_of};
 ghost use Rattle.pcap_io.specs.declared.capture.CaptureHead.{CaptureHead};
-ghost use Rattle.pcap_io.specs.declared.capture.PcapRecord.{PcapRecord};
+ghost use Rattle.capture_bytes.specs.declared.packet.PcapRecord.{PcapRecord};
 ghost use Rattle.policy_judge.specs.declared.judged.Judged.{Judged};
 ghost use Rattle.policy_judge.specs.Judging.{judged};
 ghost use Rattle.nfp_run.specs.declared.outcome.Outcome.{Outcome};

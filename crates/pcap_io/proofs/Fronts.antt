@@ -1,36 +1,24 @@
 -- What a buffer that was filled says of what was left.
-use Rattle.std.proofs.Common.{◌≡◌, ◌≤◌, ◌<◌, ◌+◌, ◌-◌, ◌∙◌, ℕ, List, length, take, drop, refl, ap, sym, subst, arith, Bool, true, false}
-use Rattle.std.specs.Prelude.{Option, Some, None, MatchOption, IfSome, Result, Ok, Err, if◌then◌else◌, ◌==◌, ◌&&◌, nat_lt}
+use Rattle.std.proofs.Common.{◌≡◌, ◌≤◌, ◌<◌, ◌∙◌, ℕ, List, length, take, drop, refl, ap, sym, subst, arith, Bool, true, false}
+use Rattle.std.specs.Prelude.{Option, Some, None, Result, Ok, Err, if◌then◌else◌, ◌==◌, ◌&&◌, nat_lt}
 use Rattle.std.specs.Option.{option_map}
 use Rattle.std.proofs.Math.Seq.{take-length}
 use Rattle.std.proofs.lemmas.Bool.{le-ltb, lt-ltb, ltb-false, ltb-true}
-use Rattle.std.proofs.lemmas.List.{length-take-le, drop-drop, drop-take}
-use Rattle.byteorder.specs.Endian.{big_number, little_number}
-use Rattle.byteorder.specs.Numbers.{big_from-take, little_from-take}
-use Rattle.nfp_outside.specs.Outside.{SlotView, TakesFront}
-use Rattle.pcap_io.specs.declared.capture.Endian.{Endian}
-use Rattle.pcap_io.specs.declared.capture.Endian.TheVariants.{Big, Little}
-use Rattle.pcap_io.specs.declared.capture.Unit.{Unit as TimeUnit}
-use Rattle.pcap_io.specs.declared.capture.Unit.TheVariants.{Micro, Nano}
+use Rattle.std.proofs.lemmas.List.{length-take-le}
+use Rattle.nfp_outside.specs.Outside.{SlotView}
+use Rattle.capture_bytes.specs.declared.order.Endian.{Endian}
+use Rattle.capture_bytes.specs.declared.order.Endian.TheVariants.{Big, Little}
+use Rattle.capture_bytes.specs.declared.packet.Unit.{Unit as TimeUnit}
+use Rattle.capture_bytes.specs.declared.packet.Unit.TheVariants.{Micro, Nano}
 use Rattle.pcap_io.specs.declared.capture.CaptureHead.{CaptureHead}
 use Rattle.pcap_io.specs.declared.capture.CaptureFault.{CaptureFault}
 use Rattle.pcap_io.specs.declared.capture.CaptureFault.TheVariants.{BadMagic, BadVersion, BadLink, CutHead}
 use Rattle.pcap_io.specs.Capture.{number_at, kind_of, head_of_kind, head_of, body_of, capture_of, with_body}
-use Rattle.pcap_io.specs.Filling.{Fills, FillsFrom}
+use Rattle.capture_bytes.specs.Filling.{Fills, FillsFrom}
+use Rattle.capture_bytes.specs.FillingLaws.{told_some, told_none, if_some, if_told}
+use Rattle.capture_bytes.specs.NumberLaws.{same_number}
 use Rattle.pcap_io.specs.Reader.{reader_at, ReadsHead, RefusesHead, IsHeadFault}
 use Rattle.pcap_io.proofs.Records.{otherwise, chosen, both}
-
--- a number at the front is that of the whole
-number_take : (order : Endian) (n at k : ℕ) (bytes : List ℕ) → n ≤ k → number_at order n at (take (at + k) bytes) ≡ number_at order n at bytes
-number_take Big n at k bytes h = ap (big_number n) (drop-take at k bytes) ∙ big_from-take 0 n k (drop at bytes) (omega arith)
-number_take Little n at k bytes h = ap (little_number n) (drop-take at k bytes) ∙ little_from-take 0 n k (drop at bytes) (omega arith)
-
-number_within : (order : Endian) (n at m : ℕ) (bytes : List ℕ) → at + n ≤ m → number_at order n at (take m bytes) ≡ number_at order n at bytes
-number_within order n at m bytes h = ap (λ k. number_at order n at (take k bytes)) (let e : m ≡ at + (m - at) = omega arith in e) ∙ number_take order n at (m - at) bytes (omega arith)
-
--- two lists with the same front have the same numbers there
-pub same_number : (order : Endian) (n at m : ℕ) (xs ys : List ℕ) → at + n ≤ m → take m xs ≡ take m ys → number_at order n at xs ≡ number_at order n at ys
-same_number order n at m xs ys h same = sym (number_within order n at m xs h) ∙ ap (number_at order n at) same ∙ number_within order n at m ys h
 
 -- the kind of a head by its two readings of the magic number
 abbrev kind_from : ℕ → ℕ → Option (Endian × TimeUnit)
@@ -99,21 +87,6 @@ whole_head k buffer head within size accepted = by_size (nat_lt k 24) refl
         let refused : ◌≡◌ {A = Result CaptureHead CaptureFault} (Err CutHead) (Ok head) = sym (cut (take k buffer) (omega (arith, came))) ∙ accepted in absurd cc
     by_size false long = omega (arith, ltb-false k 24 long)
 
--- what a slot shows after a filled buffer, by what it showed
-pub told_some : (k : ℕ) (buffer bytes : List ℕ) (old new : SlotView) → Fills k buffer old new → old.bytes ≡ Some bytes → FillsFrom k bytes buffer new
-told_some k buffer bytes old new fills is = subst (λ o. MatchOption o (new.bytes ≡ None) (λ left. FillsFrom k left buffer new)) is fills.told
-
-pub told_none : (k : ℕ) (buffer : List ℕ) (old new : SlotView) → Fills k buffer old new → old.bytes ≡ None → new.bytes ≡ None
-told_none k buffer old new fills is = subst (λ o. MatchOption o (new.bytes ≡ None) (λ left. FillsFrom k left buffer new)) is fills.told
-
-pub if_some : {X : Type 0} (P : X → Type 0) (o : Option X) → ((x : X) → o ≡ Some x → P x) → IfSome o P
-if_some P None f = tt
-if_some P (Some x) f = f x refl
-
-pub if_told : {X : Type 0} (P : Option X → Type 0) (o : Option X) → (o ≡ None → P None) → ((x : X) → o ≡ Some x → P (Some x)) → P o
-if_told P None f g = f refl
-if_told P (Some x) f g = g x refl
-
 pub read_head : (k : ℕ) (buffer : List ℕ) (head : CaptureHead) (old new : SlotView) → length buffer ≡ 24 → Fills k buffer old new → head_of (take k buffer) ≡ Ok head → ReadsHead head (reader_at head.order 0) old new
 read_head k buffer head old new size fills accepted =
     let all : k ≡ 24 = whole_head k buffer head fills.within size accepted in
@@ -154,28 +127,3 @@ refuse_head k buffer fault old new size fills refused =
       first = if_some (λ bytes. head_of bytes ≡ Err fault) old.bytes first;
       whole = if_some (λ bytes. capture_of bytes ≡ Err fault) old.bytes (λ (bytes : List ℕ) (is : old.bytes ≡ Some bytes). ap (with_body (drop 24 bytes)) (first bytes is));
     }
-
-pub fills_taken : (k : ℕ) (buffer : List ℕ) (old new : SlotView) → Fills k buffer old new → TakesFront (length buffer) old new
-fills_taken k buffer old new fills = record {
-  same_name = fills.same_name;
-  told = if_told (λ o. MatchOption o (new.bytes ≡ None) (λ bytes. (n : ℕ) × (n ≤ length buffer) × (new.bytes ≡ Some (drop n bytes)))) old.bytes (told_none k buffer old new fills)
-      (λ (bytes : List ℕ) (is : old.bytes ≡ Some bytes). (k, fills.within, (told_some k buffer bytes old new fills is).rest));
-}
-
--- two takings are one
-pub taken_twice : (a b : ℕ) (x y z : SlotView) → TakesFront a x y → TakesFront b y z → TakesFront (a + b) x z
-taken_twice a b x y z first second = record { same_name = second.same_name ∙ first.same_name; told = twice x.bytes first.told }
-  where
-    twice : (o : Option (List ℕ)) → MatchOption o (y.bytes ≡ None) (λ bytes. (n : ℕ) × (n ≤ a) × (y.bytes ≡ Some (drop n bytes))) →
-        MatchOption o (z.bytes ≡ None) (λ bytes. (n : ℕ) × (n ≤ a + b) × (z.bytes ≡ Some (drop n bytes)))
-    twice None h = subst (λ o. MatchOption o (z.bytes ≡ None) (λ bytes. (n : ℕ) × (n ≤ b) × (z.bytes ≡ Some (drop n bytes)))) h second.told
-    twice (Some bytes) h =
-        let more : (n : ℕ) × (n ≤ b) × (z.bytes ≡ Some (drop n (drop h.0 bytes))) = subst (λ o. MatchOption o (z.bytes ≡ None) (λ left. (n : ℕ) × (n ≤ b) × (z.bytes ≡ Some (drop n left)))) h.2 second.told in
-        (h.0 + more.0, omega (arith, h.1, more.1), more.2 ∙ ap (λ l. Some l) (drop-drop more.0 h.0 bytes))
-
-pub taken_less : (a b : ℕ) (x y : SlotView) → a ≤ b → TakesFront a x y → TakesFront b x y
-taken_less a b x y less taken = record { same_name = taken.same_name; told = more x.bytes taken.told }
-  where
-    more : (o : Option (List ℕ)) → MatchOption o (y.bytes ≡ None) (λ bytes. (n : ℕ) × (n ≤ a) × (y.bytes ≡ Some (drop n bytes))) → MatchOption o (y.bytes ≡ None) (λ bytes. (n : ℕ) × (n ≤ b) × (y.bytes ≡ Some (drop n bytes)))
-    more None h = h
-    more (Some bytes) h = (h.0, omega (arith, h.1), h.2)

@@ -3,7 +3,6 @@ pub mod Rows
 pub mod Spelling
 pub mod Reading
 pub mod Relation
-pub mod Pieces
 pub mod Fronts
 pub mod Steps
 pub mod JoinedNumbers

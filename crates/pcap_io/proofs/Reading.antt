@@ -1,68 +1,25 @@
 -- What is read is spelled as it would be written.
-use Rattle.std.proofs.Common.{◌≡◌, ◌≢◌, ◌≤◌, ◌<◌, ◌+◌, ◌^◌, ◌∙◌, ℕ, zero, suc, List, [], ◌∷◌, ◌++◌, length, take, drop, get_or, refl, ap, sym, append_assoc, length-drop, subst, arith, Bool, true, false}
+use Rattle.std.proofs.Common.{◌≡◌, ◌≢◌, ◌≤◌, ◌<◌, ◌+◌, ◌^◌, ◌∙◌, ℕ, List, [], ◌∷◌, ◌++◌, length, take, drop, refl, ap, sym, append_assoc, length-drop, subst, arith, Bool, true, false}
 use Rattle.std.specs.Prelude.{Option, Some, None, Result, Ok, Err, nat_lt, ◌==◌, ◌&&◌}
 use Rattle.std.specs.Result.{result_ok}
 use Rattle.std.specs.List.{flat_map, AllByRecursion}
 use Rattle.std.proofs.Math.Seq.{take-add}
 use Rattle.std.proofs.lemmas.Bool.{ltb-false, eqb-true, eqb-false}
-use Rattle.std.proofs.lemmas.List.{take-append-drop, get_or-drop, drop-drop, length-take-le}
+use Rattle.std.proofs.lemmas.List.{take-append-drop, drop-drop, length-take-le}
 use Rattle.std.proofs.lemmas.List.Concat.{flat_map-cons}
 use Rattle.std.proofs.lemmas.List.Elements.{All-from_recursion}
-use Rattle.std.proofs.lemmas.Nat.{le_bytes_2, le_bytes_4, be_bytes_2, be_bytes_4}
 use Rattle.std.proofs.lemmas.Option.{some_pair_parts}
-use Rattle.byteorder.specs.Numbers.{big_from-lt, little_from-lt}
-use Rattle.pcap_io.specs.declared.capture.PcapRecord.{PcapRecord}
+use Rattle.capture_bytes.specs.declared.packet.PcapRecord.{PcapRecord}
 use Rattle.pcap_io.specs.declared.capture.CaptureHead.{CaptureHead}
 use Rattle.pcap_io.specs.declared.capture.CaptureFault.{CaptureFault}
-use Rattle.pcap_io.specs.declared.capture.Endian.{Endian}
-use Rattle.pcap_io.specs.declared.capture.Endian.TheVariants.{Big, Little}
-use Rattle.pcap_io.specs.declared.capture.Unit.{Unit as TimeUnit}
-use Rattle.pcap_io.specs.declared.capture.Unit.TheVariants.{Micro, Nano}
+use Rattle.capture_bytes.specs.declared.order.Endian.{Endian}
+use Rattle.capture_bytes.specs.declared.order.Endian.TheVariants.{Big, Little}
+use Rattle.capture_bytes.specs.declared.packet.Unit.{Unit as TimeUnit}
+use Rattle.capture_bytes.specs.declared.packet.Unit.TheVariants.{Micro, Nano}
 use Rattle.pcap_io.specs.Capture.{Body, magic_of, kind_of, head_of_kind, number_at, captured_of, record_of, head_of, next_of, and_rest, body_of, with_body, capture_of}
 use Rattle.pcap_io.specs.Written.{IsBytes, bytes_of, head_bytes, record_head, record_bytes, FitsRecord, IsCapture, ending_of}
+use Rattle.capture_bytes.specs.NumberLaws.{spelled_2, spelled_4, fits_4, bytes_behind}
 use Rattle.pcap_io.proofs.Records.{both, body_next}
-
-four : (a b c d : ℕ) (xs : List ℕ) → IsBytes (a ∷ b ∷ c ∷ d ∷ xs) → (i : ℕ) → get_or (a ∷ b ∷ c ∷ d ∷ []) i 0 < 256
-four a b c d xs small zero = small 0
-four a b c d xs small (suc zero) = small 1
-four a b c d xs small (suc (suc zero)) = small 2
-four a b c d xs small (suc (suc (suc zero))) = small 3
-four a b c d xs small (suc (suc (suc (suc i)))) = omega arith
-
-two : (a b : ℕ) (xs : List ℕ) → IsBytes (a ∷ b ∷ xs) → (i : ℕ) → get_or (a ∷ b ∷ []) i 0 < 256
-two a b xs small zero = small 0
-two a b xs small (suc zero) = small 1
-two a b xs small (suc (suc i)) = omega arith
-
-first_4 : (order : Endian) (xs : List ℕ) → 4 ≤ length xs → IsBytes xs → bytes_of order 4 (number_at order 4 0 xs) ≡ take 4 xs
-first_4 Big (a ∷ b ∷ c ∷ d ∷ xs) long small = be_bytes_4 (a ∷ b ∷ c ∷ d ∷ []) (number_at Big 4 0 (a ∷ b ∷ c ∷ d ∷ xs)) refl (four a b c d xs small) (omega arith)
-first_4 Little (a ∷ b ∷ c ∷ d ∷ xs) long small = le_bytes_4 (a ∷ b ∷ c ∷ d ∷ []) (number_at Little 4 0 (a ∷ b ∷ c ∷ d ∷ xs)) refl (four a b c d xs small) (omega arith)
-first_4 order xs long small = absurd (omega arith)
-
-first_2 : (order : Endian) (xs : List ℕ) → 2 ≤ length xs → IsBytes xs → bytes_of order 2 (number_at order 2 0 xs) ≡ take 2 xs
-first_2 Big (a ∷ b ∷ xs) long small = be_bytes_2 (a ∷ b ∷ []) (number_at Big 2 0 (a ∷ b ∷ xs)) refl (two a b xs small) (omega arith)
-first_2 Little (a ∷ b ∷ xs) long small = le_bytes_2 (a ∷ b ∷ []) (number_at Little 2 0 (a ∷ b ∷ xs)) refl (two a b xs small) (omega arith)
-first_2 order xs long small = absurd (omega arith)
-
--- the bytes of what follows are bytes
-bytes_behind : (n : ℕ) (xs : List ℕ) → IsBytes xs → IsBytes (drop n xs)
-bytes_behind n xs small i = rw (get_or-drop n xs i 0) (small (n + i))
-
-at_drop : (order : Endian) (n at : ℕ) (xs : List ℕ) → number_at order n at xs ≡ number_at order n 0 (drop at xs)
-at_drop Big n at xs = refl
-at_drop Little n at xs = refl
-
--- four bytes at a place are those of their number
-spelled_4 : (order : Endian) (at : ℕ) (xs : List ℕ) → at + 4 ≤ length xs → IsBytes xs → bytes_of order 4 (number_at order 4 at xs) ≡ take 4 (drop at xs)
-spelled_4 order at xs long small = ap (bytes_of order 4) (at_drop order 4 at xs) ∙ first_4 order (drop at xs) (omega (arith, length-drop at xs)) (bytes_behind at xs small)
-
-spelled_2 : (order : Endian) (at : ℕ) (xs : List ℕ) → at + 2 ≤ length xs → IsBytes xs → bytes_of order 2 (number_at order 2 at xs) ≡ take 2 (drop at xs)
-spelled_2 order at xs long small = ap (bytes_of order 2) (at_drop order 2 at xs) ∙ first_2 order (drop at xs) (omega (arith, length-drop at xs)) (bytes_behind at xs small)
-
--- four bytes are a number of 32 bits
-fits_4 : (order : Endian) (at : ℕ) (xs : List ℕ) → IsBytes xs → number_at order 4 at xs < 2 ^ 32
-fits_4 Big at xs small = big_from-lt 0 4 (drop at xs) (bytes_behind at xs small)
-fits_4 Little at xs small = little_from-lt 0 4 (drop at xs) (bytes_behind at xs small)
 
 joined_4 : (a a' b b' c c' d d' : List ℕ) → a ≡ a' → b ≡ b' → c ≡ c' → d ≡ d' → a ++ b ++ c ++ d ≡ a' ++ b' ++ c' ++ d'
 joined_4 a a' b b' c c' d d' p q r s = cc

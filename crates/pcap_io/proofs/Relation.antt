@@ -1,9 +1,9 @@
 -- The body of a capture, as a function and as a relation.
 use Rattle.std.proofs.Common.{◌≡◌, ◌<◌, ◌+◌, ◌∙◌, ℕ, zero, suc, List, [], ◌∷◌, length, refl, ap, sym, subst, arith}
 use Rattle.std.specs.Prelude.{Option, Some, None, Result, Ok, Err}
-use Rattle.pcap_io.specs.declared.capture.PcapRecord.{PcapRecord}
+use Rattle.capture_bytes.specs.declared.packet.PcapRecord.{PcapRecord}
 use Rattle.pcap_io.specs.declared.capture.CaptureFault.{CaptureFault}
-use Rattle.pcap_io.specs.declared.capture.Endian.{Endian}
+use Rattle.capture_bytes.specs.declared.order.Endian.{Endian}
 use Rattle.pcap_io.specs.Capture.{next_of, and_rest, with_record, body_of, IsBody}
 use Rattle.pcap_io.proofs.Records.{body_next, next_less}
 

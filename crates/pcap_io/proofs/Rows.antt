@@ -1,11 +1,11 @@
 -- Captures byte by byte, with what the definitions say of them.
 use Rattle.std.proofs.Common.{◌≡◌, ◌+◌, ◌++◌, ℕ, List, [], ◌∷◌, take, refl}
 use Rattle.std.specs.Prelude.{Some, None, Ok, Err, replicate}
-use Rattle.pcap_io.specs.declared.capture.Endian.TheVariants.{Big, Little}
-use Rattle.pcap_io.specs.declared.capture.Unit.TheVariants.{Micro, Nano}
+use Rattle.capture_bytes.specs.declared.order.Endian.TheVariants.{Big, Little}
+use Rattle.capture_bytes.specs.declared.packet.Unit.TheVariants.{Micro, Nano}
 use Rattle.pcap_io.specs.declared.capture.CaptureFault.TheVariants.{BadMagic, BadVersion, BadLink, CutHead, CutRecord, FrameTooLong, TooManyRecords}
 use Rattle.pcap_io.specs.declared.capture.CaptureHead.{CaptureHead}
-use Rattle.pcap_io.specs.declared.capture.PcapRecord.{PcapRecord}
+use Rattle.capture_bytes.specs.declared.packet.PcapRecord.{PcapRecord}
 use Rattle.pcap_io.specs.Capture.{head_of, next_of, body_of, capture_of, time_of}
 use Rattle.pcap_io.specs.Written.{head_bytes, record_head, record_bytes}
 

@@ -8,13 +8,13 @@ use Rattle.std.proofs.lemmas.List.{drop-drop}
 use Rattle.std.proofs.lemmas.List.Concat.{flat_map-cons}
 use Rattle.std.proofs.lemmas.List.Elements.{recursion_from_All}
 use Rattle.byteorder.specs.Numbers.{big_number-reads_back, little_number-reads_back}
-use Rattle.pcap_io.specs.declared.capture.PcapRecord.{PcapRecord}
+use Rattle.capture_bytes.specs.declared.packet.PcapRecord.{PcapRecord}
 use Rattle.pcap_io.specs.declared.capture.CaptureHead.{CaptureHead}
 use Rattle.pcap_io.specs.declared.capture.CaptureFault.{CaptureFault}
-use Rattle.pcap_io.specs.declared.capture.Endian.{Endian}
-use Rattle.pcap_io.specs.declared.capture.Endian.TheVariants.{Big, Little}
-use Rattle.pcap_io.specs.declared.capture.Unit.{Unit as TimeUnit}
-use Rattle.pcap_io.specs.declared.capture.Unit.TheVariants.{Micro, Nano}
+use Rattle.capture_bytes.specs.declared.order.Endian.{Endian}
+use Rattle.capture_bytes.specs.declared.order.Endian.TheVariants.{Big, Little}
+use Rattle.capture_bytes.specs.declared.packet.Unit.{Unit as TimeUnit}
+use Rattle.capture_bytes.specs.declared.packet.Unit.TheVariants.{Micro, Nano}
 use Rattle.pcap_io.specs.Capture.{Body, number_at, captured_of, record_of, head_of, next_of, and_rest, with_record, body_of, with_body, capture_of}
 use Rattle.pcap_io.specs.Written.{head_bytes, record_head, record_bytes, FitsRecord, IsCapture, ending_of}
 use Rattle.pcap_io.proofs.Records.{otherwise, next_whole, body_next}

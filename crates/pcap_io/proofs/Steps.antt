@@ -6,16 +6,18 @@ use Rattle.std.proofs.Math.Seq.{take-length}
 use Rattle.std.proofs.lemmas.Bool.{le-ltb, lt-ltb, eq-eqb}
 use Rattle.std.proofs.lemmas.List.{drop-drop}
 use Rattle.nfp_outside.specs.Outside.{SlotView, TakesFront}
-use Rattle.pcap_io.specs.declared.capture.Endian.{Endian}
-use Rattle.pcap_io.specs.declared.capture.PcapRecord.{PcapRecord}
+use Rattle.capture_bytes.specs.declared.order.Endian.{Endian}
+use Rattle.capture_bytes.specs.declared.packet.PcapRecord.{PcapRecord}
 use Rattle.pcap_io.specs.declared.capture.CaptureFault.{CaptureFault}
 use Rattle.pcap_io.specs.declared.capture.CaptureFault.TheVariants.{CutRecord, FrameTooLong, TooManyRecords}
 use Rattle.pcap_io.specs.declared.fault.PcapFault.TheVariants.{Capture}
 use Rattle.pcap_io.specs.Capture.{number_at, captured_of, record_of, next_of, and_rest, with_record, body_of}
-use Rattle.pcap_io.specs.Filling.{Fills, FillsFrom, EndsWithin}
+use Rattle.capture_bytes.specs.Filling.{Fills, FillsFrom}
+use Rattle.capture_bytes.specs.FillingLaws.{fills_taken, taken_twice, taken_less, told_some, told_none, if_some, if_told}
+use Rattle.capture_bytes.specs.NumberLaws.{same_number}
+use Rattle.pcap_io.specs.Filling.{EndsWithin}
 use Rattle.pcap_io.specs.Reader.{reader_at, ReadsRecord, IsAtEnd, RefusesRecord, IsRecordFault}
 use Rattle.pcap_io.proofs.Records.{otherwise, chosen, not_equal, empty, next_whole, body_next, body_end}
-use Rattle.pcap_io.proofs.Fronts.{fills_taken, taken_twice, taken_less, same_number, told_some, told_none, if_some, if_told}
 
 -- the one fault of an answer
 pub only_fault : {T : Type 0} (P : CaptureFault → Type 0) (f : CaptureFault) → P f → (fault : CaptureFault) → IsErrOf {T = T} (Err (Capture f)) (Capture fault) → P fault

@@ -1,19 +1,15 @@
 -- Believed: the classic pcap file format: a head of 24 bytes, and then records, each a head of 16 bytes and its frame.
-use Rattle.std.specs.Prelude.{◌≡◌, ◌≤◌, ◌+◌, ◌*◌, ℕ, zero, suc, List, [], ◌∷◌, length, take, drop, if◌then◌else◌, ◌==◌, nat_lt, ◌&&◌, Option, Some, None, Result, Ok, Err, IsErr}
-use Rattle.byteorder.specs.Endian.{big_number, little_number}
-use Rattle.pcap_io.specs.declared.capture.Endian.{Endian}
-use Rattle.pcap_io.specs.declared.capture.Endian.TheVariants.{Big, Little}
-use Rattle.pcap_io.specs.declared.capture.Unit.{Unit as TimeUnit}
-use Rattle.pcap_io.specs.declared.capture.Unit.TheVariants.{Micro, Nano}
+use Rattle.std.specs.Prelude.{◌≡◌, ◌+◌, ℕ, zero, suc, List, [], ◌∷◌, length, take, drop, if◌then◌else◌, ◌==◌, nat_lt, ◌&&◌, Option, Some, None, Result, Ok, Err, IsErr}
+use Rattle.capture_bytes.specs.declared.order.Endian.{Endian}
+use Rattle.capture_bytes.specs.declared.order.Endian.TheVariants.{Big, Little}
+use Rattle.capture_bytes.specs.declared.packet.Unit.{Unit as TimeUnit}
+use Rattle.capture_bytes.specs.declared.packet.Unit.TheVariants.{Micro, Nano}
+pub use Rattle.capture_bytes.specs.Numbers.{number_at}
+pub use Rattle.capture_bytes.specs.Packets.{time_of, IsShort}
 use Rattle.pcap_io.specs.declared.capture.CaptureHead.{CaptureHead}
 use Rattle.pcap_io.specs.declared.capture.CaptureFault.{CaptureFault}
 use Rattle.pcap_io.specs.declared.capture.CaptureFault.TheVariants.{BadMagic, BadVersion, BadLink, CutHead, CutRecord, FrameTooLong, TooManyRecords}
-use Rattle.pcap_io.specs.declared.capture.PcapRecord.{PcapRecord}
-
--- the number in n bytes at a place, in this order
-abbrev pub number_at : Endian → ℕ → ℕ → List ℕ → ℕ
-number_at Big n at bytes = big_number n (drop at bytes)
-number_at Little n at bytes = little_number n (drop at bytes)
+use Rattle.capture_bytes.specs.declared.packet.PcapRecord.{PcapRecord}
 
 -- the magic number that stands for a unit
 abbrev pub magic_of : TimeUnit → ℕ
@@ -123,12 +119,3 @@ abbrev pub IsBody : Endian → ℕ → List ℕ → List PcapRecord → Option C
 IsBody order given bytes [] None = next_of order given bytes ≡ Ok None
 IsBody order given bytes [] (Some fault) = next_of order given bytes ≡ Err fault
 IsBody order given bytes (r ∷ rs) fault = (rest : List ℕ) × (next_of order given bytes ≡ Ok (Some (r, rest))) × IsBody order (given + 1) rest rs fault
-
--- the time of a record in nanoseconds
-abbrev pub time_of : TimeUnit → PcapRecord → ℕ
-time_of Micro r = r.seconds * 1000000000 + r.fraction * 1000
-time_of Nano r = r.seconds * 1000000000 + r.fraction
-
--- a frame of a length that is accepted
-abbrev pub IsShort : PcapRecord → Type 0
-IsShort r = length r.frame ≤ 262144

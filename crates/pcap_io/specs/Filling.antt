@@ -1,21 +1,9 @@
--- For proofs: what reading up to a number of bytes takes off what is left in a slot.
-use Rattle.std.specs.Prelude.{◌≡◌, ◌≤◌, ◌<◌, ℕ, List, length, take, drop, Some, None, MatchOption, IfSome}
+-- For proofs: how reading up to a number of bytes is refused, and where a capture ends within them.
+use Rattle.std.specs.Prelude.{◌≡◌, ◌<◌, ℕ, length, IfSome}
 use Rattle.nfp_outside.specs.declared.slot.Slot.TheVariants.{Capture as CaptureSlot}
 use Rattle.nfp_outside.specs.Outside.{SlotView, TakesFront, IsRisen}
 use Rattle.pcap_io.specs.declared.fault.PcapFault.{PcapFault}
 use Rattle.pcap_io.specs.declared.fault.PcapFault.TheVariants.{Capture, ReadFault, OutOfMemory}
-
--- the first k bytes that were left are at the front of the buffer; fewer than it holds only where no more were left
-pub record FillsFrom (k : ℕ) (bytes buffer : List ℕ) (new : SlotView) : Type 0 where
-  pub some_left : k ≤ length bytes
-  pub front : take k buffer ≡ take k bytes
-  pub rest : new.bytes ≡ Some (drop k bytes)
-  pub end_only : k < length buffer → length bytes ≡ k
-
-pub record Fills (k : ℕ) (buffer : List ℕ) (old new : SlotView) : Type 0 where
-  pub within : k ≤ length buffer
-  pub same_name : new.name ≡ old.name
-  pub told : MatchOption old.bytes (new.bytes ≡ None) (λ bytes. FillsFrom k bytes buffer new)
 
 -- what a refused reading says and leaves
 abbrev pub IsCause : PcapFault → ℕ → ℕ → Type 0

@@ -4,9 +4,9 @@ use Rattle.std.specs.Option.{option_map}
 use Rattle.nfp_outside.specs.declared.slot.Slot.{Slot}
 use Rattle.nfp_outside.specs.declared.slot.Slot.TheVariants.{Capture as CaptureSlot}
 use Rattle.nfp_outside.specs.Outside.{SlotView, IsRisen}
-use Rattle.pcap_io.specs.declared.capture.Endian.{Endian}
+use Rattle.capture_bytes.specs.declared.order.Endian.{Endian}
 use Rattle.pcap_io.specs.declared.capture.CaptureHead.{CaptureHead}
-use Rattle.pcap_io.specs.declared.capture.PcapRecord.{PcapRecord}
+use Rattle.capture_bytes.specs.declared.packet.PcapRecord.{PcapRecord}
 use Rattle.pcap_io.specs.declared.capture.CaptureFault.{CaptureFault}
 use Rattle.pcap_io.specs.declared.capture.CaptureFault.TheVariants.{BadMagic, BadVersion, BadLink, CutHead, CutRecord, FrameTooLong, TooManyRecords}
 use Rattle.pcap_io.specs.declared.fault.PcapFault.{PcapFault}

@@ -1,18 +1,12 @@
 -- Believed: how captures are written.
-use Rattle.std.specs.Prelude.{◌≡◌, ◌≤◌, ◌<◌, ◌^◌, ℕ, List, ◌++◌, length, slice_index, All, Option, Some, None, Result, Ok, Err}
+use Rattle.std.specs.Prelude.{◌≡◌, ◌≤◌, ◌<◌, ◌^◌, ℕ, List, ◌++◌, length, All, Option, Some, None, Result, Ok, Err}
 use Rattle.std.specs.List.{flat_map}
-use Rattle.byteorder.specs.Endian.{big_bytes, little_bytes}
-use Rattle.pcap_io.specs.declared.capture.Endian.{Endian}
-use Rattle.pcap_io.specs.declared.capture.Endian.TheVariants.{Big, Little}
+pub use Rattle.capture_bytes.specs.Numbers.{bytes_of, IsBytes}
+use Rattle.capture_bytes.specs.declared.order.Endian.{Endian}
 use Rattle.pcap_io.specs.declared.capture.CaptureFault.{CaptureFault}
-use Rattle.pcap_io.specs.declared.capture.PcapRecord.{PcapRecord}
+use Rattle.capture_bytes.specs.declared.packet.PcapRecord.{PcapRecord}
 use Rattle.pcap_io.specs.declared.capture.CaptureHead.{CaptureHead}
 use Rattle.pcap_io.specs.Capture.{Body, magic_of, next_of, IsShort}
-
--- the n bytes of a number, in this order
-abbrev pub bytes_of : Endian → ℕ → ℕ → List ℕ
-bytes_of Big n x = big_bytes n x
-bytes_of Little n x = little_bytes n x
 
 -- the 24 bytes of a head: magic, version 2.4, zone, sigfigs, snaplen, link type 1
 unfoldable pub head_bytes : CaptureHead → List ℕ
@@ -27,10 +21,6 @@ record_head order r = bytes_of order 4 r.seconds ++ bytes_of order 4 r.fraction 
 -- a record of a capture in this order
 abbrev pub record_bytes : Endian → PcapRecord → List ℕ
 record_bytes order r = record_head order r ++ r.frame
-
--- numbers that are bytes
-abbrev pub IsBytes : List ℕ → Type 0
-IsBytes bytes = (i : ℕ) → slice_index bytes i < 256
 
 -- the numbers of a head are of 32 bits
 pub record FitsHead (head : CaptureHead) : Type 0 where

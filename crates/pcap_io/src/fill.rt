@@ -1,8 +1,8 @@
-//! Reading up to a number of bytes of the slot Capture, in whatever pieces they come.
+//! Reading up to a number of bytes of the slot Capture, refused as captures are.
 ghost use Rattle.std.specs.Prelude.{◌≡◌, ◌≢◌, ◌≤◌, IsSome, IfOk, IfErr, length};
 ghost use Rattle.nfp_outside.specs.declared.slot.Slot.{Slot};
-ghost use Rattle.nfp_outside.specs.Outside.{TakesFront};
-ghost use Rattle.pcap_io.specs.Filling.{Fills, IsRefusal};
+ghost use Rattle.capture_bytes.specs.Filling.{Fills};
+ghost use Rattle.pcap_io.specs.Filling.{IsRefusal};
 
 use crate::fault::PcapFault;
 use nfp_outside::{Desk, DeskFault, Slot};
@@ -15,17 +15,9 @@ pub fn fill<D: Desk>(desk: &mut D, into: &mut [u8]) -> Result<usize, PcapFault>
     ensures later { (D.slots desk.old Slot.Capture).faults ≤ (D.slots desk.new Slot.Capture).faults }
     ensures others { (s : Slot) → s ≢ Slot.Capture → D.slots desk.new s ≡ D.slots desk.old s }
 {
-    let mut done = 0;
-    'pieces: while done < into.len() {
-        let count = match desk.read(Slot::Capture, &mut into[done..]) {
-            Ok(count) => count,
-            Err(DeskFault::Failed) => return Err(PcapFault::ReadFault(Slot::Capture)),
-            Err(DeskFault::NoMemory) => return Err(PcapFault::OutOfMemory),
-        };
-        if count == 0 {
-            return Ok(done);
-        }
-        done += count;
+    match capture_bytes::fill(desk, into) {
+        Ok(count) => Ok(count),
+        Err(DeskFault::Failed) => Err(PcapFault::ReadFault(Slot::Capture)),
+        Err(DeskFault::NoMemory) => Err(PcapFault::OutOfMemory),
     }
-    Ok(done)
 }

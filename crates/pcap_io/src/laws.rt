@@ -2,8 +2,8 @@
 ghost use Rattle.std.specs.Prelude.{◌≡◌, ℕ, List, Ok, Option};
 ghost use Rattle.pcap_io.specs.declared.capture.CaptureFault.{CaptureFault};
 ghost use Rattle.pcap_io.specs.declared.capture.CaptureHead.{CaptureHead};
-ghost use Rattle.pcap_io.specs.declared.capture.Endian.{Endian};
-ghost use Rattle.pcap_io.specs.declared.capture.PcapRecord.{PcapRecord};
+ghost use Rattle.capture_bytes.specs.declared.order.Endian.{Endian};
+ghost use Rattle.capture_bytes.specs.declared.packet.PcapRecord.{PcapRecord};
 ghost use Rattle.pcap_io.specs.Capture.{Body, body_of, capture_of, IsBody};
 ghost use Rattle.pcap_io.specs.Written.{IsBytes, IsCapture};
 

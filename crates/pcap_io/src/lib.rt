@@ -19,13 +19,13 @@ mod capture;
 mod fault;
 mod fill;
 mod laws;
-mod numbers;
 mod parse;
 mod reader;
 mod record;
 mod writer;
 
-pub use capture::{CaptureFault, CaptureHead, Endian, PcapRecord, Unit};
+pub use capture::{CaptureFault, CaptureHead};
+pub use capture_bytes::{Endian, PcapRecord, Unit};
 pub use fault::PcapFault;
 pub use laws::{body_is_relation, read_is_written, written_is_read};
 pub use reader::Reader;

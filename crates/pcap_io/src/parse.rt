@@ -3,8 +3,8 @@ ghost use Rattle.std.specs.Prelude.{◌≡◌, ◌≤◌, length};
 ghost use Rattle.std.specs.Option.{option_map};
 ghost use Rattle.pcap_io.specs.Capture.{kind_of, head_of, head_of_kind};
 
-use crate::capture::{CaptureFault, CaptureHead, Endian, Unit};
-use crate::numbers::{u16_at, u32_at};
+use crate::capture::{CaptureFault, CaptureHead};
+use capture_bytes::{Endian, Unit, u16_at, u32_at};
 
 pub const HEAD_LEN: usize = 24;
 

@@ -1,11 +1,25 @@
-use crate::capture::{CaptureHead, Endian, PcapRecord};
+ghost use Rattle.std.specs.Prelude.{◌≡◌, ◌≤◌, length, take};
+
+use crate::capture::CaptureHead;
 use crate::fault::PcapFault;
 use crate::fill::fill;
 use crate::parse::{HEAD_LEN, head_in};
 use crate::record::read_next;
+use capture_bytes::{Endian, PcapRecord};
 use nfp_outside::{Desk, Slot};
 use std::alloc::Global;
 use std::marker::Model;
+
+/// Room for a head, with these bytes at its front.
+fn behind(first: &[u8]) -> [u8; HEAD_LEN]
+    requires { length first.now ≤ 4 }
+    ensures size { length result ≡ 24 }
+    ensures front { take (length first.now) result ≡ first.now }
+{
+    let mut bytes = [0; HEAD_LEN];
+    bytes[..first.len()].copy_from_slice(first);
+    bytes
+}
 
 /// Reads a capture record by record off the slot Capture of a desk, in whatever pieces the desk
 /// gives it.
@@ -28,9 +42,10 @@ impl Model for Reader {
 }
 
 impl Reader {
-    ghost use Rattle.std.specs.Prelude.{◌≡◌, ◌≢◌, ◌≤◌, IsSome, IfOk, OnErr, IfSome, IfNone, IsErrOf, false};
+    ghost use Rattle.std.specs.Prelude.{◌≡◌, ◌≢◌, ◌≤◌, IsSome, IfOk, OnErr, IfSome, IfNone, IsErrOf, false, length};
     ghost use Rattle.nfp_outside.specs.declared.slot.Slot.{Slot};
     ghost use Rattle.nfp_outside.specs.Outside.{TakesFront};
+    ghost use Rattle.capture_bytes.specs.Filling.{unread};
     ghost use Rattle.pcap_io.specs.declared.capture.CaptureFault.{CaptureFault};
     ghost use Rattle.pcap_io.specs.Reader.{reader_at, refused, ReadsHead, RefusesHead, ReadsRecord, IsAtEnd, RefusesRecord, ReaderCause};
 
@@ -46,9 +61,26 @@ impl Reader {
         ensures cause { ReaderCause (D.slots desk.old Slot.Capture) (D.slots desk.new Slot.Capture) result }
         ensures others { (s : Slot) → s ≢ Slot.Capture → D.slots desk.new s ≡ D.slots desk.old s }
     {
-        let mut bytes = [0; HEAD_LEN];
-        let count = fill(desk, &mut bytes)?;
-        match head_in(&bytes[..count]) {
+        Reader::begin_after(desk, &[])
+    }
+
+    /// Reads the head as [`Reader::begin`] does, where its first bytes, at most four, were taken already and are these.
+    pub fn begin_after<D: Desk>(
+        desk: &mut D,
+        first: &[u8],
+    ) -> Result<(CaptureHead, Reader), PcapFault>
+        requires attached { IsSome (D.slots desk.old Slot.Capture).name }
+        requires few { length first.now ≤ 4 }
+        ensures head { IfOk result (λ x. ReadsHead x.0 x.1 (unread first.now (D.slots desk.old Slot.Capture)) (D.slots desk.new Slot.Capture)) }
+        ensures refused { (fault : CaptureFault) → IsErrOf result (PcapFault.Capture fault) → RefusesHead fault (unread first.now (D.slots desk.old Slot.Capture)) }
+        ensures taken { TakesFront 24 (D.slots desk.old Slot.Capture) (D.slots desk.new Slot.Capture) }
+        ensures cause { ReaderCause (D.slots desk.old Slot.Capture) (D.slots desk.new Slot.Capture) result }
+        ensures others { (s : Slot) → s ≢ Slot.Capture → D.slots desk.new s ≡ D.slots desk.old s }
+    {
+        let mut bytes = behind(first);
+        let known = first.len();
+        let count = fill(desk, &mut bytes[known..])?;
+        match head_in(&bytes[..known + count]) {
             Ok(head) => Ok((head, Reader::resume(&head, 0))),
             Err(fault) => Err(PcapFault::Capture(fault)),
         }

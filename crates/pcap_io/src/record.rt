@@ -3,13 +3,14 @@ ghost use Rattle.std.specs.Prelude.{◌≡◌, ◌≢◌, ◌≤◌, ◌+◌, Is
 ghost use Rattle.nfp_outside.specs.declared.slot.Slot.{Slot};
 ghost use Rattle.nfp_outside.specs.Outside.{TakesFront};
 ghost use Rattle.pcap_io.specs.declared.capture.CaptureFault.{CaptureFault};
-ghost use Rattle.pcap_io.specs.Filling.{Fills, EndsWithin, IsRefusal};
+ghost use Rattle.capture_bytes.specs.Filling.{Fills};
+ghost use Rattle.pcap_io.specs.Filling.{EndsWithin, IsRefusal};
 ghost use Rattle.pcap_io.specs.Reader.{reader_at, ReadsRecord, IsAtEnd, RefusesRecord, ReaderCause};
 
-use crate::capture::{CaptureFault, Endian, PcapRecord};
+use crate::capture::CaptureFault;
 use crate::fault::PcapFault;
 use crate::fill::fill;
-use crate::numbers::u32_at;
+use capture_bytes::{Endian, PcapRecord, u32_at};
 use nfp_outside::{Desk, Slot};
 use packet_fields::Frame;
 use std::alloc::Global;

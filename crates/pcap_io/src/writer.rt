@@ -2,10 +2,10 @@ ghost use Rattle.std.specs.Prelude.{◌≡◌, ◌<◌, ◌^◌, length};
 ghost use Rattle.pcap_io.specs.Capture.{magic_of};
 ghost use Rattle.pcap_io.specs.Written.{head_bytes, record_head};
 
-use crate::capture::{CaptureHead, Endian, PcapRecord, Unit};
-use crate::numbers::{put_u16, put_u32};
+use crate::capture::CaptureHead;
 use crate::parse::{ETHERNET, HEAD_LEN, MAGIC_MICRO, MAGIC_NANO, VERSION_MAJOR, VERSION_MINOR};
 use crate::record::RECORD_HEAD_LEN;
+use capture_bytes::{Endian, PcapRecord, Unit, put_u16, put_u32};
 use nfp_outside::{Desk, OutsideFault, Slot, write_whole};
 use std::marker::Model;
 
@@ -19,7 +19,7 @@ pub struct Writer {
 }
 
 impl Model for Writer {
-    ghost use Rattle.pcap_io.specs.declared.capture.Endian.{Endian};
+    ghost use Rattle.capture_bytes.specs.declared.order.Endian.{Endian};
 
     ghost Value = { Endian };
 

@@ -3,7 +3,7 @@ use Rattle.std.proofs.Common.{◌≡◌, ◌∙◌, ◌<◌, ◌≤◌, ◌+◌,
 use Rattle.std.specs.Prelude.{filter, if◌then◌else◌}
 use Rattle.std.proofs.lemmas.List.{drop_more, drop_all}
 use Rattle.packet_fields.specs.Writing.{rest_of}
-use Rattle.pcap_io.specs.declared.capture.Unit.{Unit as TimeUnit}
+use Rattle.capture_bytes.specs.declared.packet.Unit.{Unit as TimeUnit}
 use Rattle.chain_walk.specs.Packets.{Packet}
 use Rattle.classifier.specs.declared.burst.Item.{Item}
 use Rattle.packet_version.specs.Splitting.{IsWhole, packet_parts, split_parts, taken_apart}

@@ -1,16 +1,16 @@
 //! The frames of a burst, taken apart one after another.
 ghost use Rattle.std.specs.Prelude.{◌≡◌, length, IfOk};
-ghost use Rattle.pcap_io.specs.declared.capture.Unit.{Unit as TimeUnit};
+ghost use Rattle.capture_bytes.specs.declared.packet.Unit.{Unit as TimeUnit};
 ghost use Rattle.graph_run.specs.Packets.{packet_of, packets_taken};
 ghost use Rattle.message_links.specs.Messages.{Fits};
 ghost use Rattle.stage_nodes.specs.Streams.{of_merged};
 ghost use Rattle.piped_run.specs.Frames.{apart_of};
 
+use capture_bytes::Unit;
 use classifier::Item;
 use graph_run::is_of;
 use merge_ops::Merged;
 use packet_version::split;
-use pcap_io::Unit;
 use stage_nodes::Supply;
 use std::alloc::{AllocError, Global};
 use std::marker::Model;

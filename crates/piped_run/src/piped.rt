@@ -7,6 +7,7 @@ ghost use Rattle.graph_run.specs.Packets.{packets_taken};
 
 use crate::frames::{Frames, numbers_of};
 use crate::pipe::pipe_frames;
+use capture_bytes::Unit;
 use chain_walk::Fate;
 use classifier::Burst;
 use graph_compile::Graph;
@@ -17,7 +18,6 @@ use nfp_outside::Gate;
 use node_run::MergeWay;
 use pace::{Lead, Pace};
 use packet_version::{Tally, frames_come_apart};
-use pcap_io::Unit;
 use std::alloc::{AllocError, Global};
 use std::rt::Clock;
 use std::sync::Wait;

@@ -1,8 +1,8 @@
 //! Packets, numbered and cut into bursts.
 
+use capture_bytes::PcapRecord;
 use classifier::Cutter;
 use packet_fields::Frame;
-use pcap_io::PcapRecord;
 use std::alloc::{AllocError, Global};
 use std::test::Fail;
 

@@ -5,6 +5,7 @@ ghost use Rattle.action_profile.specs.declared.kind.Kind.{Kind};
 ghost use Rattle.net_functions.specs.NetFunctions.{net_behaviour};
 
 use action_profile::{Kind, profile};
+use capture_bytes::{PcapRecord, Unit};
 use chain_walk::Fate;
 use classifier::{Burst, Item};
 use fixtures::UDP;
@@ -16,7 +17,6 @@ use net_functions::NetFunction;
 use nf_filter::Firewall;
 use packet_fields::{Field, Frame};
 use packet_version::Tally;
-use pcap_io::{PcapRecord, Unit};
 use std::alloc::{AllocError, Global};
 use std::test::Fail;
 

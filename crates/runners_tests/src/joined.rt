@@ -6,6 +6,7 @@ ghost use Rattle.net_functions.specs.NetFunctions.{net_behaviour};
 
 use crate::graphs::{firewall, open_and_shut};
 use action_profile::{Kind, profile};
+use capture_bytes::{PcapRecord, Unit};
 use chain_walk::Fate;
 use classifier::{Burst, Item};
 use fixtures::udp;
@@ -18,7 +19,6 @@ use nf_mark::Hop;
 use nfp_outside::Gate;
 use packet_fields::{Field, Frame};
 use packet_version::Tally;
-use pcap_io::{PcapRecord, Unit};
 use std::alloc::{AllocError, Global};
 use std::sync::Wait;
 use std::sync::atomic::{AtomicU64, Ordering};

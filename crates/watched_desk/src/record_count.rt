@@ -1,7 +1,7 @@
 //! The records of a capture, counted as its bytes pass.
 ghost use Rattle.std.specs.Prelude.{◌≤◌, ◌<◌, length};
 
-use pcap_io::Endian;
+use capture_bytes::Endian;
 
 /// The bytes of a capture's head.
 const FILE_HEAD: u32 = 24;

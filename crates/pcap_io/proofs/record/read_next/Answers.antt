@@ -2,7 +2,7 @@ use Rattle.std.proofs.Common.{◌≡◌, ◌≤◌, ◌<◌, ◌+◌, refl, leng
 use Rattle.nfp_outside.specs.declared.slot.Slot.TheVariants.{Capture as CaptureSlot}
 use Rattle.pcap_io.specs.declared.capture.CaptureFault.TheVariants.{CutRecord, FrameTooLong, TooManyRecords}
 use Rattle.pcap_io.specs.Reader.{RefusesRecord, reader_at}
-use Rattle.pcap_io.proofs.Fronts.{fills_taken}
+use Rattle.capture_bytes.specs.FillingLaws.{fills_taken}
 use Rattle.pcap_io.proofs.Steps.{only_fault, at_end, too_many, ends_in_head, claims_more, ends_in_frame, record_read, same_record, whole_count, taken_both}
 use Rattle.pcap_io.proofs.record.read_next.Goals as goal
 

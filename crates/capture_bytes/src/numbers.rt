@@ -1,12 +1,11 @@
-//! Numbers of a capture at their places, in the capture's order.
+//! Numbers at their places, in either byte order.
 ghost use Rattle.std.specs.Prelude.{◌≡◌, ◌≤◌, ◌+◌, ◌++◌, length, take};
-ghost use Rattle.pcap_io.specs.Capture.{number_at};
-ghost use Rattle.pcap_io.specs.Written.{bytes_of};
+ghost use Rattle.capture_bytes.specs.Numbers.{number_at, bytes_of};
 
-use crate::capture::Endian;
+use crate::order::Endian;
 use byteorder::{BigEndian, ByteOrder, LittleEndian};
 
-// The number of 16 bits at a place.
+/// The number of 16 bits at a place.
 pub fn u16_at(order: Endian, bytes: &[u8], at: usize) -> u16
     requires { at + 2 ≤ length bytes.now }
     ensures { result ≡ number_at order 2 at bytes.now }
@@ -17,7 +16,7 @@ pub fn u16_at(order: Endian, bytes: &[u8], at: usize) -> u16
     }
 }
 
-// The number of 32 bits at a place.
+/// The number of 32 bits at a place.
 pub fn u32_at(order: Endian, bytes: &[u8], at: usize) -> u32
     requires { at + 4 ≤ length bytes.now }
     ensures { result ≡ number_at order 4 at bytes.now }
@@ -28,7 +27,7 @@ pub fn u32_at(order: Endian, bytes: &[u8], at: usize) -> u32
     }
 }
 
-// Writes a number of 16 bits at a place.
+/// Writes a number of 16 bits at a place.
 pub fn put_u16(order: Endian, bytes: &mut [u8], at: usize, number: u16)
     requires { at + 2 ≤ length bytes.old }
     ensures { take (at + 2) bytes.new ≡ take at bytes.old ++ bytes_of order 2 number }
@@ -39,7 +38,7 @@ pub fn put_u16(order: Endian, bytes: &mut [u8], at: usize, number: u16)
     }
 }
 
-// Writes a number of 32 bits at a place.
+/// Writes a number of 32 bits at a place.
 pub fn put_u32(order: Endian, bytes: &mut [u8], at: usize, number: u32)
     requires { at + 4 ≤ length bytes.old }
     ensures { take (at + 4) bytes.new ≡ take at bytes.old ++ bytes_of order 4 number }

@@ -1,6 +1,6 @@
 use Rattle.std.proofs.Common.{◌-◌, length}
-use Rattle.pcap_io.proofs.Pieces.{HasFilled}
-use Rattle.pcap_io.proofs.fill.fill.Given as goal
+use Rattle.capture_bytes.proofs.Pieces.{HasFilled}
+use Rattle.capture_bytes.proofs.filling.fill.Given as goal
 
 abbrev pub invariant-pieces : goal.invariant-pieces
 invariant-pieces g l = HasFilled g.D.Desk.slots l.into l.done l.fn.desk l.desk

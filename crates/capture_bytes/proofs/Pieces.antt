@@ -1,14 +1,12 @@
 -- How the pieces that a read gives add up.
-use Rattle.std.proofs.Common.{◌≡◌, ◌≢◌, ◌≤◌, ◌<◌, ◌+◌, ◌-◌, ◌++◌, ◌∙◌, ℕ, List, length, take, drop, refl, ap, sym, subst, length-append, length-drop, arith}
+use Rattle.std.proofs.Common.{◌≡◌, ◌≢◌, ◌≤◌, ◌<◌, ◌+◌, ◌++◌, ◌∙◌, ℕ, List, length, take, drop, refl, ap, sym, subst, length-append, length-drop, arith}
 use Rattle.std.specs.Prelude.{Option, Some, None, MatchOption}
-use Rattle.std.proofs.Math.Seq.{take-add, take-append-add, take-length}
-use Rattle.std.proofs.lemmas.Slice.{take-put_mid}
-use borrow.Rule.Slice.PartMut.{put_mid, mid_of, same_len_mid}
+use Rattle.std.proofs.Math.Seq.{take-add, take-append-add}
 use Rattle.std.proofs.lemmas.List.{length-take-le, drop-drop}
 use Rattle.nfp_outside.specs.declared.slot.Slot.{Slot}
 use Rattle.nfp_outside.specs.declared.slot.Slot.TheVariants.{Capture}
-use Rattle.nfp_outside.specs.Outside.{SlotView, Reads, Takes}
-use Rattle.pcap_io.specs.Filling.{Fills, FillsFrom}
+use Rattle.nfp_outside.specs.Outside.{SlotView, Reads, Takes, TakesFront}
+use Rattle.capture_bytes.specs.Filling.{Fills, FillsFrom}
 
 -- so many of the bytes that were left are at the front of the buffer
 pub record IsFront (done : ℕ) (bytes buffer : List ℕ) (now : Option (List ℕ)) : Type 0 where
@@ -23,20 +21,6 @@ pub record HasFilled {D : Type 0} (slots : D → Slot → SlotView) (buffer : Li
   pub told : MatchOption (slots old Capture).bytes ((slots new Capture).bytes ≡ None) (λ bytes. IsFront done bytes buffer (slots new Capture).bytes)
   pub later : (slots old Capture).faults ≤ (slots new Capture).faults
   pub others : (s : Slot) → s ≢ Capture → slots new s ≡ slots old s
-
--- as many bytes as the end of the buffer has
-pub room_of : (done : ℕ) (buffer piece : List ℕ) → done ≤ length buffer → length piece ≡ length (mid_of done (length buffer - done) buffer) → length piece + done ≡ length buffer
-room_of done buffer piece within size = omega (arith, size, length-take-le (length buffer - done) (drop done buffer) (omega (arith, length-drop done buffer)))
-
--- a buffer whose end was written anew
-pub put_end : (done : ℕ) (buffer piece : List ℕ) → done ≤ length buffer → length piece + done ≡ length buffer → put_mid done (length buffer - done) buffer piece ≡ take done buffer ++ piece
-put_end done buffer piece within room =
-    let whole : length (put_mid done (length buffer - done) buffer piece) ≡ length piece + done = same_len_mid done (length buffer - done) buffer piece (middle done buffer piece within room) ∙ sym room in
-    sym (take-length (put_mid done (length buffer - done) buffer piece)) ∙ ap (λ n. take n (put_mid done (length buffer - done) buffer piece)) whole
-    ∙ take-put_mid done (length buffer - done) buffer piece (length piece + done) (omega arith) within
-  where
-    middle : (done : ℕ) (buffer piece : List ℕ) → done ≤ length buffer → length piece + done ≡ length buffer → length piece ≡ length (mid_of done (length buffer - done) buffer)
-    middle done buffer piece within room = let e : length (mid_of done (length buffer - done) buffer) ≡ length buffer - done = length-take-le (length buffer - done) (drop done buffer) (omega (arith, length-drop done buffer)) in omega (arith, e)
 
 front_more : (front piece bytes : List ℕ) (done k : ℕ) → length front ≡ done → front ≡ take done bytes → take k piece ≡ take k (drop done bytes) → take (done + k) (front ++ piece) ≡ take (done + k) bytes
 front_more front piece bytes done k size same more =
@@ -88,3 +72,12 @@ fills_end slots buffer piece done old mid new so_far room some reads = record {
   same_name = reads.same_name ∙ so_far.same_name;
   told = told_end buffer piece done (slots old Capture).bytes (slots mid Capture) (slots new Capture) so_far.within some reads so_far.told;
 }
+
+-- at most as many bytes were taken as the buffer has
+front_taken : (buffer : List ℕ) (done : ℕ) (before : Option (List ℕ)) (new : SlotView) → done ≤ length buffer → MatchOption before (new.bytes ≡ None) (λ bytes. IsFront done bytes buffer new.bytes) →
+    MatchOption before (new.bytes ≡ None) (λ bytes. (k : ℕ) × (k ≤ length buffer) × (new.bytes ≡ Some (drop k bytes)))
+front_taken buffer done None new within told = told
+front_taken buffer done (Some bytes) new within told = (done, within, told.rest)
+
+pub filled_taken : {D : Type 0} (slots : D → Slot → SlotView) (buffer : List ℕ) (done : ℕ) (old new : D) → HasFilled slots buffer done old new → TakesFront (length buffer) (slots old Capture) (slots new Capture)
+filled_taken slots buffer done old new so_far = record { same_name = so_far.same_name; told = front_taken buffer done (slots old Capture).bytes (slots new Capture) so_far.within so_far.told }

@@ -1,6 +1,7 @@
 use Rattle.std.proofs.Common.{◌<◌, length, arith}
-use Rattle.pcap_io.proofs.Pieces.{put_end, room_of, filled_more, fills_end}
-use Rattle.pcap_io.proofs.fill.fill.Goals as goal
+use Rattle.capture_bytes.specs.FillingLaws.{put_end, room_of}
+use Rattle.capture_bytes.proofs.Pieces.{filled_more, fills_end}
+use Rattle.capture_bytes.proofs.filling.fill.Goals as goal
 
 pub returns-then-count-eq0-clause-ok : goal.returns-then-count-eq0-clause-ok
 returns-then-count-eq0-clause-ok g c =
