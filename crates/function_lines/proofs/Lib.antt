@@ -1,2 +1,3 @@
+pub mod EnoughSeen
 pub mod Gathering
 pub mod Refusing

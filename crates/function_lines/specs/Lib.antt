@@ -1,3 +1,4 @@
+pub mod Asking
 pub mod Builds
 pub mod KindLines
 pub mod Refusing

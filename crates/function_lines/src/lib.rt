@@ -6,12 +6,14 @@
 //! it can't stand beside the others; the `fn` line is refused where a line that has to be there is missing. [`least_refused_line`] says that the line that is named is refused and
 //! no line before it.
 //!
-//! Kinds whose rules ask for clauses share [`read_fit`], which reads them, and [`first_met`], the first rule that a packet meets.
+//! Kinds whose rules ask for clauses share [`read_fit`], which reads them, and [`FitRules`], which gives the first rule that a packet
+//! meets and says which values of a packet have to be seen for that.
 //!
 //! What a line does to a function is left to its kind. What the lines of a function say is kept as [`SharedItems`], so that the
 //! same function can be there once more without a second copy of them.
 #![tactic(auto)]
 
+mod asking;
 mod laws;
 mod line;
 mod reading;
@@ -19,8 +21,9 @@ mod rule;
 mod settings;
 mod shared;
 
+pub use asking::{Asked, FitRules};
 pub use laws::least_refused_line;
 pub use line::FunctionLine;
 pub use reading::read_lines;
-pub use rule::{Fitting, first_met, read_fit};
+pub use rule::{Fitting, read_fit};
 pub use shared::SharedItems;

@@ -18,7 +18,7 @@ pub trait Fitting {
 }
 
 /// The first rule whose clauses a packet meets, all of them.
-pub fn first_met<'a, R: Fitting>(rules: &'a [R], seen: &Seen) -> Option<&'a R>
+pub(crate) fn first_met<'a, R: Fitting>(rules: &'a [R], seen: &Seen) -> Option<&'a R>
     ensures { option_copied result ≡ first_met R.fit seen.now rules.now }
 {
     rules.iter().find(|rule| fits(rule.fit(), seen))

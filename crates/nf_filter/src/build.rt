@@ -2,7 +2,7 @@
 
 use crate::firewall::{Firewall, Rule};
 use crate::lines::FirewallLine;
-use function_lines::{SharedItems, read_lines};
+use function_lines::{FitRules, read_lines};
 use item_list::Items;
 use policy_text::{BuildFault, FunctionDecl};
 use std::alloc::{AllocError, Global};
@@ -82,7 +82,7 @@ impl Draft {
         ensures { IfOk result (λ firewall. firewall ≡ self) }
     {
         let Draft { default, rules } = self;
-        let rules = SharedItems::new(alloc, rules)?;
+        let rules = FitRules::new(alloc, rules)?;
         Ok(Firewall { default, rules })
     }
 }

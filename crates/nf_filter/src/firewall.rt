@@ -2,7 +2,7 @@
 use crate::verdict::verdict;
 use chain_walk::Verdict;
 use frame_seen::{seen_address, seen_address6, seen_port, seen_tags};
-use function_lines::{Fitting, SharedItems, first_met};
+use function_lines::{Asked, FitRules, Fitting};
 use packet_fields::Field;
 use packet_version::{View, unwritten_stays};
 use policy_text::{Match, Seen};
@@ -28,7 +28,7 @@ impl Fitting for Rule {
 pub struct Firewall {
     /// Does a packet pass that meets no rule?
     pub default: bool,
-    pub rules: SharedItems<Rule>,
+    pub rules: FitRules<Rule>,
 }
 
 impl Firewall {
@@ -50,7 +50,7 @@ impl Firewall {
     pub(crate) fn judge(&self, seen: &Seen) -> bool
         ensures { result ≡ passes self.now seen.now }
     {
-        match first_met(self.rules.as_slice(), seen) {
+        match self.rules.first_met(seen) {
             Some(rule) => rule.allow,
             None => self.default,
         }
@@ -59,8 +59,11 @@ impl Firewall {
 
 impl Firewall {
     ghost use Rattle.std.specs.Prelude.{◌≡◌, Ok, true, is_ok};
-    ghost use Rattle.packet_version.specs.Views.{viewed, wrote_all};
-    ghost use Rattle.nf_filter.specs.Firewalls.{firewall_behaviour};
+    ghost use Rattle.action_profile.specs.Profiles.{profile_of};
+    ghost use Rattle.action_profile.specs.declared.kind.Kind.{Kind};
+    ghost use Rattle.frame_seen.specs.Seeing.{seen_by};
+    ghost use Rattle.packet_version.specs.Views.{seen_values, viewed, wrote_all};
+    ghost use Rattle.nf_filter.specs.Firewalls.{firewall_behaviour, passes};
 
     /// Judges one packet through a view of a firewall's profile. It writes nothing and takes no memory.
     pub fn step(&mut self, view: &mut View) -> Result<Verdict, AllocError>
@@ -71,7 +74,17 @@ impl Firewall {
     {
         // Nothing is written, so the view is as it was.
         unwritten_stays(view);
-        Ok(verdict(self.judge(&seen_in(view))))
+        Ok(verdict(self.passes(view)))
+    }
+
+    // Does the packet behind a view pass? Of it is seen what the rules ask for.
+    #[tactic(auto, unfolding(crate::specs::Firewalls::passes))]
+    fn passes(&self, view: &View) -> bool
+        requires profile { view.now.profile ≡ profile_of Kind.Firewall }
+        ensures { result ≡ passes self.now (seen_by (seen_values view.now) view.now.version.fixed.proto) }
+    {
+        let asked = self.rules.asked();
+        self.judge(&seen_in(view, asked))
     }
 
     /// Appends the lines of its state, of which a firewall has none.
@@ -83,27 +96,40 @@ impl Firewall {
     }
 }
 
-ghost use Rattle.std.specs.Prelude.{◌≡◌};
-ghost use Rattle.action_profile.specs.Profiles.{profile_of};
+ghost use Rattle.std.specs.Prelude.{◌≡◌, true, length, IfSome};
+ghost use Rattle.std.specs.Option.{option_copied};
+ghost use Rattle.packet_fields.specs.Fields.{IsLengthOf};
+ghost use Rattle.action_profile.specs.Profiles.{profile_of, reads_of};
 ghost use Rattle.action_profile.specs.declared.kind.Kind.{Kind};
 ghost use Rattle.frame_seen.specs.Seeing.{seen_by};
+ghost use Rattle.function_lines.specs.Asking.{Shows};
 ghost use Rattle.packet_version.specs.Views.{seen_values};
 
-/// What clauses see of the packet behind a view.
-fn seen_in(view: &View) -> Seen
+/// What clauses see of the packet behind a view that look at these values.
+fn seen_in(view: &View, asked: Asked) -> Seen
     requires profile { view.now.profile ≡ profile_of Kind.Firewall }
-    ensures { result ≡ seen_by (seen_values view.now) view.now.version.fixed.proto }
+    ensures { Shows asked (seen_by (seen_values view.now) view.now.version.fixed.proto) result }
 {
-    let source = view.get(Field::SrcIp);
-    let destination = view.get(Field::DstIp);
+    let source = asked_value(view, asked.source, Field::SrcIp);
+    let destination = asked_value(view, asked.destination, Field::DstIp);
     Seen {
-        tag: seen_tags(view.get(Field::Tag)),
+        tag: seen_tags(asked_value(view, asked.tag, Field::Tag)),
         src: seen_address(source),
         dst: seen_address(destination),
         src6: seen_address6(source),
         dst6: seen_address6(destination),
-        sport: seen_port(view.get(Field::SrcPort)),
-        dport: seen_port(view.get(Field::DstPort)),
+        sport: seen_port(asked_value(view, asked.source_port, Field::SrcPort)),
+        dport: seen_port(asked_value(view, asked.destination_port, Field::DstPort)),
         proto: view.proto(),
     }
+}
+
+/// The bytes of a field, where it is asked for.
+#[inline(always)]
+fn asked_value(view: &View, is_asked: bool, field: Field) -> Option<&[u8]>
+    requires read { reads_of view.now.profile field ≡ true }
+    ensures value { is_asked ≡ true → option_copied result ≡ seen_values view.now field }
+    ensures size { IfSome result (λ bytes. IsLengthOf field (length bytes.now)) }
+{
+    if is_asked { view.get(field) } else { None }
 }

@@ -6,7 +6,7 @@ mod lines;
 use crate::present::has_field;
 use chain_walk::Verdict;
 use frame_seen::{seen_address, seen_address6, seen_port};
-use function_lines::{Fitting, SharedItems, first_met};
+use function_lines::{FitRules, Fitting};
 use packet_fields::Field;
 use packet_version::{View, unwritten_stays, written_is_one_value};
 use policy_text::{Match, Seen, TagSeen};
@@ -31,7 +31,7 @@ impl Fitting for MarkRule {
 /// Rules, of which the first that a packet meets says its type of service.
 #[derive(Debug, Drop)]
 pub struct Marker {
-    pub rules: SharedItems<MarkRule>,
+    pub rules: FitRules<MarkRule>,
 }
 
 impl Marker {
@@ -77,7 +77,7 @@ impl Marker {
     fn tos_for(&self, seen: &Seen) -> Option<u8>
         ensures { result ≡ tos_for self.now seen.now }
     {
-        match first_met(self.rules.as_slice(), seen) {
+        match self.rules.first_met(seen) {
             Some(rule) => Some(rule.tos),
             None => None,
         }

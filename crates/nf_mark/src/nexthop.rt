@@ -7,7 +7,7 @@ use crate::link_address::LinkAddress;
 use crate::present::has_field;
 use chain_walk::Verdict;
 use frame_seen::{seen_address, seen_address6};
-use function_lines::{Fitting, SharedItems, first_met};
+use function_lines::{FitRules, Fitting};
 use packet_fields::Field;
 use packet_version::{View, later_write_stands_over, unwritten_stays, written_is_one_value};
 use policy_text::{Match, Seen, TagSeen};
@@ -35,7 +35,7 @@ impl Fitting for NexthopRule {
 /// Rules, of which the first whose prefix holds a packet's destination says over which link it goes.
 #[derive(Debug, Drop)]
 pub struct Nexthop {
-    pub rules: SharedItems<NexthopRule>,
+    pub rules: FitRules<NexthopRule>,
 }
 
 impl Nexthop {
@@ -77,7 +77,7 @@ impl Nexthop {
         if !has_field(view, Field::LinkSrc) {
             return None;
         }
-        first_met(self.rules.as_slice(), &seen_in(view))
+        self.rules.first_met(&seen_in(view))
     }
 
     /// The same nexthop once more, with the same rules in memory. Its one refusal is want of memory.

@@ -6,7 +6,7 @@ mod lines;
 use crate::present::has_field;
 use chain_walk::Verdict;
 use frame_seen::{seen_address, seen_address6, seen_tags};
-use function_lines::{Fitting, SharedItems, first_met};
+use function_lines::{FitRules, Fitting};
 use packet_fields::Field;
 use packet_version::{View, unwritten_stays, written_is_one_value};
 use policy_text::{Match, Seen};
@@ -32,7 +32,7 @@ impl Fitting for TagRule {
 /// Rules, of which the first that a packet meets says which tag it gets.
 #[derive(Debug, Drop)]
 pub struct Tagger {
-    pub rules: SharedItems<TagRule>,
+    pub rules: FitRules<TagRule>,
 }
 
 impl Tagger {
@@ -80,7 +80,7 @@ impl Tagger {
     fn control_for(&self, seen: &Seen) -> Option<u16>
         ensures { result ≡ control_for self.now seen.now }
     {
-        match first_met(self.rules.as_slice(), seen) {
+        match self.rules.first_met(seen) {
             Some(rule) => Some(rule.control),
             None => None,
         }

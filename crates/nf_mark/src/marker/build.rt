@@ -1,7 +1,7 @@
 //! Makes a marker of the lines that declare it.
 
 use crate::marker::{MarkRule, Marker};
-use function_lines::{SharedItems, read_lines};
+use function_lines::{FitRules, read_lines};
 use policy_text::{BuildFault, FunctionDecl};
 use std::alloc::Global;
 
@@ -20,7 +20,7 @@ impl Marker {
     {
         let rules = read_lines::<MarkRule>(alloc, decl)?;
         Ok(Marker {
-            rules: SharedItems::new(alloc, rules)?,
+            rules: FitRules::new(alloc, rules)?,
         })
     }
 }

@@ -1,7 +1,7 @@
 //! Makes a nexthop of the lines that declare it.
 
 use crate::nexthop::{Nexthop, NexthopRule};
-use function_lines::{SharedItems, read_lines};
+use function_lines::{FitRules, read_lines};
 use policy_text::{BuildFault, FunctionDecl};
 use std::alloc::Global;
 
@@ -20,7 +20,7 @@ impl Nexthop {
     {
         let rules = read_lines::<NexthopRule>(alloc, decl)?;
         Ok(Nexthop {
-            rules: SharedItems::new(alloc, rules)?,
+            rules: FitRules::new(alloc, rules)?,
         })
     }
 }

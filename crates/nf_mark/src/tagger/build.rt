@@ -1,7 +1,7 @@
 //! Makes a tagger of the lines that declare it.
 
 use crate::tagger::{TagRule, Tagger};
-use function_lines::{SharedItems, read_lines};
+use function_lines::{FitRules, read_lines};
 use policy_text::{BuildFault, FunctionDecl};
 use std::alloc::Global;
 
@@ -20,7 +20,7 @@ impl Tagger {
     {
         let rules = read_lines::<TagRule>(alloc, decl)?;
         Ok(Tagger {
-            rules: SharedItems::new(alloc, rules)?,
+            rules: FitRules::new(alloc, rules)?,
         })
     }
 }
