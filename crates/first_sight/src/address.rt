@@ -14,8 +14,9 @@ use std::net::IpAddr;
 use text_lines::{Piece, push_pieces};
 
 /// Are two addresses the same? It answers as `==` does. Those of IPv4 are compared as numbers, which is cheaper than byte by byte.
-pub fn same_address(a: IpAddr, b: IpAddr) -> bool
-    ensures { result ≡ is_same_address a b }
+#[inline(always)]
+pub fn same_address(a: &IpAddr, b: &IpAddr) -> bool
+    ensures { result ≡ is_same_address a.now b.now }
 {
     match (a, b) {
         (IpAddr::V4(a), IpAddr::V4(b)) => same_octets(a.octets(), b.octets()),
@@ -25,8 +26,9 @@ pub fn same_address(a: IpAddr, b: IpAddr) -> bool
 }
 
 /// Feeds an address and a port there to a hasher: of IPv4 as one number, since that costs the least.
-pub fn hash_endpoint<H: Hasher>(address: IpAddr, port: u16, state: &mut H)
-    ensures { state.new ≡ fold H.write state.old (endpoint_writes address port) }
+#[inline(always)]
+pub fn hash_endpoint<H: Hasher>(address: &IpAddr, port: u16, state: &mut H)
+    ensures { state.new ≡ fold H.write state.old (endpoint_writes address.now port) }
 {
     match address {
         IpAddr::V4(address) => {

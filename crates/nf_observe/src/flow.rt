@@ -22,7 +22,7 @@ impl PartialEq for Endpoint {
     ghost laws = { partial_equiv_from_equiv same_endpoint };
 
     fn eq(&self, other: &Endpoint) -> bool {
-        same_address(self.address, other.address) && self.port == other.port
+        same_address(&self.address, &other.address) && self.port == other.port
     }
 }
 
@@ -37,7 +37,7 @@ impl Hash for Endpoint {
 
     fn hash<H: Hasher>(&self, state: &mut H) {
         // An absent port is hashed as 0, which hardly any packet has.
-        hash_endpoint(self.address, self.port.unwrap_or(0), state);
+        hash_endpoint(&self.address, self.port.unwrap_or(0), state);
     }
 }
 

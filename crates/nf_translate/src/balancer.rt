@@ -182,7 +182,7 @@ fn flow_in(settings: &BalancerSettings, view: &View) -> Option<Client>
     ensures { result ≡ flow_of settings.now (seen_values view.now) view.now.version.fixed.proto }
 {
     let destination = seen_ip_address(view.get(Field::DstIp))?;
-    if !same_address(destination, settings.virtual_address) {
+    if !same_address(&destination, &settings.virtual_address) {
         return None;
     }
     Some(Client {

@@ -23,7 +23,7 @@ impl PartialEq for Client {
 
     fn eq(&self, other: &Client) -> bool {
         self.proto == other.proto
-            && same_address(self.address, other.address)
+            && same_address(&self.address, &other.address)
             && self.port == other.port
     }
 }
@@ -39,6 +39,6 @@ impl Hash for Client {
 
     fn hash<H: Hasher>(&self, state: &mut H) {
         self.proto.hash(state);
-        hash_endpoint(self.address, self.port, state);
+        hash_endpoint(&self.address, self.port, state);
     }
 }

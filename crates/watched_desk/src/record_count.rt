@@ -1,16 +1,16 @@
 //! The records of a capture, counted as its bytes pass.
 ghost use Rattle.std.specs.Prelude.{◌≤◌, ◌<◌, length};
 
-use capture_bytes::Endian;
+use capture_bytes::{Endian, u32_at};
 
 /// The bytes of a capture's head.
 const FILE_HEAD: u32 = 24;
 
 /// The bytes of a record's head.
-const RECORD_HEAD: u32 = 16;
+const RECORD_HEAD: usize = 16;
 
 /// The first of the four bytes of a record's head that say how long its frame is.
-const LENGTH_AT: u32 = 8;
+const LENGTH_AT: usize = 8;
 
 /// The first byte of a magic number whose highest byte comes first.
 const MAGIC_HIGH: u8 = 0xa1;
@@ -21,7 +21,7 @@ enum Place {
     /// So many bytes behind the beginning of the capture's head.
     FileHead(u32),
     /// So many bytes behind the beginning of a record's head.
-    RecordHead(u32),
+    RecordHead(usize),
     /// So many bytes before the end of a frame, and at least one.
     Frame(u32),
 }
@@ -60,7 +60,8 @@ impl RecordCount {
         }
     }
 
-    // Takes some bytes off the front, and says how many: what is here of a frame, or one byte of a head.
+    // Takes some bytes off the front, and says how many: what is here of a frame, a record's head that is here whole, or one byte of
+    // a head.
     fn take(&mut self, bytes: &[u8]) -> usize
         requires { 0 < length bytes.now }
         ensures some { 0 < result }
@@ -70,6 +71,12 @@ impl RecordCount {
             Place::FileHead(at) => {
                 self.file_head(at, bytes[0]);
                 1
+            }
+            // Most heads come in one piece.
+            Place::RecordHead(0) if bytes.len() >= RECORD_HEAD => {
+                self.length = u32_at(self.order, bytes, LENGTH_AT);
+                self.begin_frame();
+                RECORD_HEAD
             }
             Place::RecordHead(at) => {
                 self.record_head(at, bytes[0]);
@@ -96,7 +103,7 @@ impl RecordCount {
     }
 
     // A byte of a record's head.
-    fn record_head(&mut self, at: u32, byte: u8) {
+    fn record_head(&mut self, at: usize, byte: u8) {
         if at >= LENGTH_AT && at < LENGTH_AT + 4 {
             self.length = joined(self.order, self.length, byte);
         }
