@@ -2,19 +2,18 @@
 ghost use Rattle.std.specs.Prelude.{◌≡◌, ◌≤◌, length, map, IfOk, vec_len};
 
 use action_profile::{Profile, all_fields};
-use capture_bytes::Unit;
+use capture_bytes::{Unit, Unit};
 use chain_walk::Fate;
 use classifier::Burst;
 use frame_walk::walk_chain;
 use graph_compile::compile;
 use graph_run::{Running, run_plain};
-use joined_run::run_joined;
 use net_functions::{Function, NetFunction};
 use nfp_outside::OpenGate;
 use pace::Pace;
 use packet_fields::Frame;
 use packet_version::Tally;
-use piped_run::{MergeWay, run_piped};
+use piped_run::{MergeWay, run_joined, run_piped};
 use std::alloc::{AllocError, Global};
 use std::rt::Clock;
 use std::sync::Wait;

@@ -80,11 +80,11 @@ pub next_going : {F : Type 0} (k : Kit F) (may : F → ℕ → PlainVersion → 
     → AreEnding k may all was functions tally short → was ≡ n ∷ todo → is_going k may n
 next_going k may all was todo n functions tally short h t = All-head (is_going k may) n todo (subst (All (is_going k may)) t h.going)
 
-added_before : {F : Type 0} (f : Option F) (fs : List F) → added f [] ++ fs ≡ added f fs
+pub added_before : {F : Type 0} (f : Option F) (fs : List F) → added f [] ++ fs ≡ added f fs
 added_before None fs = refl
 added_before (Some f) fs = refl
 
-raised_on : (t a b : ℕ) → raised (raised t a) b ≡ raised t (a + b)
+pub raised_on : (t a b : ℕ) → raised (raised t a) b ≡ raised t (a + b)
 raised_on t a b = omega arith
 
 pub one_ended : {F : Type 0} (k : Kit F) (may : F → ℕ → PlainVersion → Type 0) (all was todo : List (Node F)) (n : Node F) (done : Done F) (functions functions' : List F) (tally tally' : List ℕ) (short short' : Bool)
@@ -109,7 +109,7 @@ one_ended k may all was todo n done functions functions' tally tally' short shor
       ∙ h.counted m.0 f;
 }
 
-raised_none : (t : ℕ) → raised t 0 ≡ t
+pub raised_none : (t : ℕ) → raised t 0 ≡ t
 raised_none t = omega arith
 
 pub all_ended : {F : Type 0} (k : Kit F) (may : F → ℕ → PlainVersion → Type 0) (all todo : List (Node F)) (functions : List F) (tally : List ℕ) (short : Bool)
@@ -126,7 +126,7 @@ all_ended k may all todo functions tally short h t w = record {
 pub all_going : {F : Type 0} (k : Kit F) (may : F → ℕ → PlainVersion → Type 0) (ns : List (Node F)) → All (is_ready k may) ns → All (is_going k may) ns
 all_going k may ns r = All-weaker (is_ready k may) (is_going k may) (ready_going k may) ns r
 
-raised_both : (a b x y : ℕ) → a ≡ raised 0 b → raised 0 x ≡ raised 0 y → raised 0 (a + x) ≡ raised 0 (b + y)
+pub raised_both : (a b x y : ℕ) → a ≡ raised 0 b → raised 0 x ≡ raised 0 y → raised 0 (a + x) ≡ raised 0 (b + y)
 raised_both a b x y e h = omega arith
 
 all_made : {F : Type 0} (k : Kit F) (may : F → ℕ → PlainVersion → Type 0) (f : Field) (ns : List (Node F)) → All (is_ready k may) ns → raised 0 (made_by_all f ns) ≡ raised 0 (copies_by_all f ns)
@@ -149,34 +149,34 @@ crew_kept k may old new done r h keeps w =
 raised_sum : (t a b : ℕ) → raised (raised t (raised 0 a)) b ≡ raised t (a + b)
 raised_sum t a b = omega arith
 
-pub crew_gathered : {F S : Type 0} (k : Kit F) (crew_of : S → List (Node F)) (was todo : List S) (one : S) (done : CrewDone F) (functions new all : List F)
-    → was ≡ one ∷ todo → CrewKeeps k (crew_of one) done → done.short ≡ false → new ≡ functions ++ done.functions.items
-    → functions ++ gather k (flat (map crew_of was)) ≡ all → new ++ gather k (flat (map crew_of todo)) ≡ all
+pub crew_gathered : {F : Type 0} (k : Kit F) (was todo : List (List (Node F))) (one : List (Node F)) (done : CrewDone F) (functions new all : List F)
+    → was ≡ one ∷ todo → CrewKeeps k one done → done.short ≡ false → new ≡ functions ++ done.functions.items
+    → functions ++ gather k (flat was) ≡ all → new ++ gather k (flat todo) ≡ all
 unfolding flat
-crew_gathered k crew_of was todo one done functions new all t keeps short e h =
-    let rest = gather k (flat (map crew_of todo)) in
+crew_gathered k was todo one done functions new all t keeps short e h =
+    let rest = gather k (flat todo) in
     ap (λ y. y ++ rest) e ∙ append_assoc functions done.functions.items rest ∙ ap (λ y. functions ++ (y ++ rest)) (keeps short).functions
-    ∙ ap (λ y. functions ++ y) (sym (gather_append k (crew_of one) (flat (map crew_of todo)))) ∙ ap (λ y. functions ++ gather k (flat (map crew_of y))) (sym t) ∙ h
+    ∙ ap (λ y. functions ++ y) (sym (gather_append k one (flat todo))) ∙ ap (λ y. functions ++ gather k (flat y)) (sym t) ∙ h
 
-pub crews_gathered : {F S : Type 0} (k : Kit F) (crew_of : S → List (Node F)) (todo : List S) (functions all : List F) → todo ≡ [] → functions ++ gather k (flat (map crew_of todo)) ≡ all → functions ≡ all
+pub crews_gathered : {F : Type 0} (k : Kit F) (todo : List (List (Node F))) (functions all : List F) → todo ≡ [] → functions ++ gather k (flat todo) ≡ all → functions ≡ all
 unfolding gather flat
-crews_gathered k crew_of todo functions all t h = sym (append-nil functions) ∙ ap (λ y. functions ++ gather k (flat (map crew_of y))) (sym t) ∙ h
+crews_gathered k todo functions all t h = sym (append-nil functions) ∙ ap (λ y. functions ++ gather k (flat y)) (sym t) ∙ h
 
-pub crew_counted : {F S : Type 0} (k : Kit F) (crew_of : S → List (Node F)) (was todo : List S) (one : S) (done : CrewDone F) (tally new : List ℕ) (f : Field) (all : ℕ)
-    → was ≡ one ∷ todo → CrewKeeps k (crew_of one) done → done.short ≡ false → count_of new f ≡ raised (count_of tally f) (count_of done.tally f)
-    → raised (count_of tally f) (copies_by_all f (flat (map crew_of was))) ≡ all → raised (count_of new f) (copies_by_all f (flat (map crew_of todo))) ≡ all
+pub crew_counted : {F : Type 0} (k : Kit F) (was todo : List (List (Node F))) (one : List (Node F)) (done : CrewDone F) (tally new : List ℕ) (f : Field) (all : ℕ)
+    → was ≡ one ∷ todo → CrewKeeps k one done → done.short ≡ false → count_of new f ≡ raised (count_of tally f) (count_of done.tally f)
+    → raised (count_of tally f) (copies_by_all f (flat was)) ≡ all → raised (count_of new f) (copies_by_all f (flat todo)) ≡ all
 unfolding flat
-crew_counted k crew_of was todo one done tally new f all t keeps short e h =
-    let rest = copies_by_all f (flat (map crew_of todo)) in
+crew_counted k was todo one done tally new f all t keeps short e h =
+    let rest = copies_by_all f (flat todo) in
     ap (λ y. raised y rest) (e ∙ ap (λ y. raised (count_of tally f) y) ((keeps short).copies f))
-    ∙ raised_sum (count_of tally f) (copies_by_all f (crew_of one)) rest
-    ∙ ap (raised (count_of tally f)) (sym (copies_append f (crew_of one) (flat (map crew_of todo))))
-    ∙ ap (λ y. raised (count_of tally f) (copies_by_all f (flat (map crew_of y)))) (sym t)
+    ∙ raised_sum (count_of tally f) (copies_by_all f one) rest
+    ∙ ap (raised (count_of tally f)) (sym (copies_append f one (flat todo)))
+    ∙ ap (λ y. raised (count_of tally f) (copies_by_all f (flat y))) (sym t)
     ∙ h
 
-pub crews_counted : {F S : Type 0} (crew_of : S → List (Node F)) (todo : List S) (tally : List ℕ) (f : Field) (all : ℕ) → todo ≡ [] → raised (count_of tally f) (copies_by_all f (flat (map crew_of todo))) ≡ all → count_of tally f ≡ all
+pub crews_counted : {F : Type 0} (todo : List (List (Node F))) (tally : List ℕ) (f : Field) (all : ℕ) → todo ≡ [] → raised (count_of tally f) (copies_by_all f (flat todo)) ≡ all → count_of tally f ≡ all
 unfolding copies_by_all flat
-crews_counted crew_of todo tally f all t h = sym (raised_none (count_of tally f)) ∙ ap (λ y. raised (count_of tally f) (copies_by_all f (flat (map crew_of y)))) (sym t) ∙ h
+crews_counted todo tally f all t h = sym (raised_none (count_of tally f)) ∙ ap (λ y. raised (count_of tally f) (copies_by_all f (flat y))) (sym t) ∙ h
 
 -- the cut
 

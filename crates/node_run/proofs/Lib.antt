@@ -6,3 +6,4 @@ pub mod Running
 mod Turning
 mod Crewing
 mod Sorting
+mod Grouping

@@ -24,7 +24,7 @@ use Rattle.node_run.specs.declared.first.First.{First}
 use Rattle.node_run.specs.declared.wire.WiredStage.{WiredStage}
 use Rattle.node_run.specs.Firsts.{IsDue, IsFirst}
 use Rattle.node_run.specs.Nodes.{AreNodes, in_turn, copies_by_all, gather, is_ready, no_copies}
-use Rattle.node_run.specs.Runs.{AreLaid, AreStarted, CanRun, Collects, HasLed, HasRun, IsLaid, fates_behind, flat, is_found}
+use Rattle.node_run.specs.Runs.{AreLaid, AreStarted, CanRun, Collects, HasLed, HasRun, IsLaid, MayRun, fates_behind, flat, is_found}
 use Rattle.node_run.specs.Wired.{IsWired}
 use Rattle.node_run.proofs.Crewing.{all_in_crews}
 use Rattle.node_run.proofs.Shares.{came_all}
@@ -225,30 +225,39 @@ pub first_due : {F S : Type 0} (k : Kit F) (may : F → ℕ → PlainVersion →
     → IsWired k may comes m count s xs source w → IsDue comes (dealer_copies s.parts.touches xs) w.dealer
 first_due k may comes m count s xs source w i = record { coming = xs; due = i.due; none = i.none; makes = λ f. ap (λ y. dealer_copies y xs f) i.touches }
 
-pub can_run : {F S H : Type 0} (k : Kit F) (may : F → ℕ → PlainVersion → Type 0) (comes : S → List (PlainMessage PlainApart) → Type 0) (count room : ℕ) (packets : List (PlainMessage PlainApart)) (functions : List F) (made copies : Field → ℕ) (first : First S) (behind : List (List (PlainMessage PlainApart))) (laid : List (Node F)) (crews : List (List (Node F))) (started : List H)
-    → IsFirst comes made first → IsLaid k may count packets functions copies behind laid → flat crews ≡ laid → started ≡ [] → length crews ≤ room → CanRun k may comes made first crews started room count behind packets
-can_run k may comes count room packets functions made copies first behind laid crews started d h c e le = record {
-  deals = d;
-  ready = all_in_crews (is_ready k may) crews (subst (All (is_ready k may)) (sym c) h.nodes.ready);
+pub may_run : {F S : Type 0} (k : Kit F) (may : F → ℕ → PlainVersion → Type 0) (comes : S → List (PlainMessage PlainApart) → Type 0) (count : ℕ) (packets : List (PlainMessage PlainApart)) (functions : List F) (made copies : Field → ℕ) (first : First S) (behind : List (List (PlainMessage PlainApart))) (laid : List (Node F))
+    → IsFirst comes made first → IsLaid k may count packets functions copies behind laid → MayRun k may comes made first laid count behind packets
+may_run k may comes count packets functions made copies first behind laid d h = record { deals = d; ready = h.nodes.ready; long = h.long; takes = h.takes }
+
+pub can_run : {F S H : Type 0} (k : Kit F) (may : F → ℕ → PlainVersion → Type 0) (comes : S → List (PlainMessage PlainApart) → Type 0) (count room : ℕ) (packets : List (PlainMessage PlainApart)) (made : Field → ℕ) (first : First S) (behind : List (List (PlainMessage PlainApart))) (nodes : List (Node F)) (crews : List (List (Node F))) (started : List H)
+    → MayRun k may comes made first nodes count behind packets → flat crews ≡ nodes → started ≡ [] → length crews ≤ room → CanRun k may comes made first crews started room count behind packets
+can_run k may comes count room packets made first behind nodes crews started h c e le = record {
+  deals = h.deals;
+  ready = all_in_crews (is_ready k may) crews (subst (All (is_ready k may)) (sym c) h.ready);
   empty = e;
   fits = le;
   long = h.long;
   takes = h.takes;
 }
 
+-- what is said of the nodes of crews is said of the nodes
+pub ran_so : {F : Type 0} (k : Kit F) (copies : Field → ℕ) (ran nodes : List (Node F)) (due : List (PlainMessage PlainApart)) (functions : List F) (fates : List Fate) (tally : List ℕ)
+    → ran ≡ nodes → HasRun k copies ran due functions fates tally → HasRun k copies nodes due functions fates tally
+ran_so k copies ran nodes due functions fates tally e r = subst (λ y. HasRun k copies y due functions fates tally) e r
+
 -- what a run of the laid nodes gave is what the stages make of the packets
 copies_of_all : {F : Type 0} (k : Kit F) (all todo : List (PlainStage F)) (s : PlainStage F) (xs : List (PlainMessage PlainApart)) (f : Field) → all ≡ s ∷ todo → dealer_copies s.parts.touches xs f + copies_along k todo (passed k s xs) f ≡ copies_along k all xs f
 unfolding copies_along
 copies_of_all k all todo s xs f t = ap (λ y. copies_along k y xs f) (sym t)
 
-pub led_by : {F : Type 0} (k : Kit F) (may : F → ℕ → PlainVersion → Type 0) (count : ℕ) (all todo : List (PlainStage F)) (s : PlainStage F) (xs : List (PlainMessage PlainApart)) (behind : List (List (PlainMessage PlainApart))) (laid ran : List (Node F)) (functions : List F) (fates : List Fate) (tally : List ℕ)
-    → all ≡ s ∷ todo → ran ≡ laid → IsLaid k may count (through k all xs) (flat (ends_of k all xs)) (λ f. copies_along k todo (passed k s xs) f) behind laid
-    → HasRun k (dealer_copies s.parts.touches xs) ran (through k all xs) functions fates tally → HasLed k all xs functions fates tally
-led_by k may count all todo s xs behind laid ran functions fates tally t e h r = record {
-  gives = r.gives ∙ ap (gather k) e ∙ h.nodes.gives;
+pub led_by : {F : Type 0} (k : Kit F) (may : F → ℕ → PlainVersion → Type 0) (count : ℕ) (all todo : List (PlainStage F)) (s : PlainStage F) (xs : List (PlainMessage PlainApart)) (behind : List (List (PlainMessage PlainApart))) (laid : List (Node F)) (functions : List F) (fates : List Fate) (tally : List ℕ)
+    → all ≡ s ∷ todo → IsLaid k may count (through k all xs) (flat (ends_of k all xs)) (λ f. copies_along k todo (passed k s xs) f) behind laid
+    → HasRun k (dealer_copies s.parts.touches xs) laid (through k all xs) functions fates tally → HasLed k all xs functions fates tally
+led_by k may count all todo s xs behind laid functions fates tally t h r = record {
+  gives = r.gives ∙ h.nodes.gives;
   told = r.told;
   found = r.found;
-  counted = λ f. r.counted f ∙ ap (raised 0) (ap (λ y. dealer_copies s.parts.touches xs f + y) (ap (copies_by_all f) e ∙ h.nodes.makes f) ∙ copies_of_all k all todo s xs f t);
+  counted = λ f. r.counted f ∙ ap (raised 0) (ap (λ y. dealer_copies s.parts.touches xs f + y) (h.nodes.makes f) ∙ copies_of_all k all todo s xs f t);
 }
 
 -- no stage

@@ -48,6 +48,21 @@ pub record CrewGives {F : Type 0} (k : Kit F) (nodes : List (Node F)) (done : Cr
 abbrev pub CrewKeeps : {F : Type 0} → Kit F → List (Node F) → CrewDone F → Type 0
 CrewKeeps k nodes done = done.short ≡ false → CrewGives k nodes done
 
+-- what nodes gave back together: the functions, in order, and the copies of a field that they tell
+unfoldable pub given_by : {F : Type 0} → List (Done F) → List F
+given_by [] = []
+given_by (d ∷ ds) = added d.function (given_by ds)
+
+unfoldable pub told_by : {F : Type 0} → Field → List (Done F) → ℕ
+told_by f [] = 0
+told_by f (d ∷ ds) = count_of d.tally f + told_by f ds
+
+-- Nodes gave back all this together, and none was short.
+pub record GivesTogether {F : Type 0} (dones : List (Done F)) (crew : CrewDone F) : Type 0 where
+  pub found : All (λ d. d.short ≡ false) dones
+  pub gives : crew.functions.items ≡ given_by dones
+  pub counted : (f : Field) → count_of crew.tally f ≡ raised 0 (told_by f dones)
+
 -- Nodes are sorted, those that give functions back before the others, but for these; of all these functions are given back, and so
 -- many copies made.
 pub record AreSorted {F : Type 0} (k : Kit F) (may : F → ℕ → PlainVersion → Type 0) (functions : List F) (copies : Field → ℕ) (first others todo : List (Node F)) : Type 0 where

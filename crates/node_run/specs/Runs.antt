@@ -65,6 +65,13 @@ pub record AreStarted {N S : Type 0} (crew_of : S → N) (ready : N → Type 0) 
   pub ready_rest : All ready todo
   pub fits : length started + length todo ≤ room
 
+-- the first dealer may deal, nodes are ready to be run, and what comes behind the last can be collected
+pub record MayRun {F S : Type 0} (k : Kit F) (may : F → ℕ → PlainVersion → Type 0) (comes : S → List (PlainMessage PlainApart) → Type 0) (copies : Field → ℕ) (first : First S) (nodes : List (Node F)) (count : ℕ) (behind : List (List (PlainMessage PlainApart))) (due : List (PlainMessage PlainApart)) : Type 0 where
+  pub deals : IsFirst comes copies first
+  pub ready : All (is_ready k may) nodes
+  pub long : length due ≡ count
+  pub takes : ComesFrom behind due
+
 -- the first dealer may deal, crews are ready to be started, with room for as many handles, and what comes behind the last can be
 -- collected
 pub record CanRun {F S H : Type 0} (k : Kit F) (may : F → ℕ → PlainVersion → Type 0) (comes : S → List (PlainMessage PlainApart) → Type 0) (copies : Field → ℕ) (first : First S) (crews : List (List (Node F))) (started : List H) (room count : ℕ) (behind : List (List (PlainMessage PlainApart))) (due : List (PlainMessage PlainApart)) : Type 0 where

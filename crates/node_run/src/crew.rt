@@ -48,7 +48,7 @@ impl<F: Drop> Crew<F> {
     }
 
     /// Its nodes.
-    fn into_nodes(self) -> Vec<Node<F>>
+    pub(crate) fn into_nodes(self) -> Vec<Node<F>>
         ensures { result.items ≡ self }
     {
         self.nodes

@@ -57,6 +57,42 @@ pub(crate) fn crews_of<F: Drop>(
     Ok(crews)
 }
 
+/// The nodes as groups of which no node waits for another of its own: the branches of a stage, its mergers, or the
+/// dealer of the next. The one refusal is want of memory.
+pub(crate) fn groups_of<F: Drop>(
+    alloc: Global,
+    nodes: Vec<Node<F>>,
+) -> Result<Vec<Crew<F>>, AllocError>
+    ensures { IfOk result (λ groups. flat groups.items ≡ nodes.items) }
+{
+    let mut last = Rank::Dealer;
+    let mut groups = Vec::new(alloc);
+    for node in nodes {
+        let rank = rank_of(&node);
+        place(alloc, &mut groups, node, rank != last, usize::MAX)?;
+        last = rank;
+    }
+    Ok(groups)
+}
+
+/// Where a node stands in its stage.
+#[derive(Clone, Copy, PartialEq, Eq)]
+enum Rank {
+    Dealer,
+    Branch,
+    Merger,
+}
+
+/// Where this node stands.
+fn rank_of<F>(node: &Node<F>) -> Rank {
+    match node {
+        Node::Dealer(_) => Rank::Dealer,
+        Node::Branch(_) => Rank::Branch,
+        Node::Replica(_) => Rank::Branch,
+        Node::Merger(_) => Rank::Merger,
+    }
+}
+
 /// One node more, in a crew of its own where one is due and there may be more, and else in the last.
 fn place<F: Drop>(
     alloc: Global,

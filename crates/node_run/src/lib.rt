@@ -9,7 +9,9 @@
 //! packets come to them, are cut into crews, no more of them than the machine has use for ([`most_threads`]). Each crew
 //! runs on a thread of its own where one can be started; else the caller runs it to its end, once it has dealt all
 //! packets, and goes on with the next. A crew takes the packets in their order, and each through its nodes in their
-//! order.
+//! order. That is the schedule of a run whose nodes are all at work at once ([`Schedule`]). They may also be at work in
+//! turn: the branches of a stage with all packets, then its mergers, then the dealer of the next stage, each such group
+//! side by side and joined before the next begins. The nodes, their links and what is proved of each are the same.
 //!
 //! A branch whose functions keep no state has a node for each merger, its replicas: each has the versions of its
 //! merger's packets, which the dealer gives in turn, and gives what its functions make of them to that merger. Such
@@ -43,7 +45,7 @@
 //! How it is laid out: `fans` makes the links by which a stream is shared in turn, `meeting` where the branches
 //! of a stage meet its mergers, by `over_links` or `on_board`, `branches`, `replicas`, `mergers` and `wire` the
 //! nodes of a stage, with `lanes` for their order, `cut` makes crews of them, `first` runs the dealer of the first
-//! stage, `crew` a crew, `start` starts and joins one, `keeping` keeps what they give back, `collect` takes what comes
+//! stage, `crew` a crew, `start` starts and joins one, `in_turn` runs group after group, `keeping` keeps what they give back, `collect` takes what comes
 //! behind the last stage, and `run` puts it all together.
 //!
 //! What is left out: that a call which waits ever returns, and so that a run ends.
@@ -56,6 +58,7 @@ mod cut;
 mod ended;
 mod fans;
 mod first;
+mod in_turn;
 mod keeping;
 mod lanes;
 mod meeting;
@@ -65,6 +68,7 @@ mod on_board;
 mod over_links;
 mod replicas;
 mod run;
+mod schedule;
 mod stage;
 mod start;
 mod wire;
@@ -72,4 +76,5 @@ mod wire;
 pub use cut::most_threads;
 pub use meeting::MergeWay;
 pub use run::run_nodes;
+pub use schedule::Schedule;
 pub use stage::StageWork;

@@ -8,7 +8,7 @@ ghost use Rattle.stage_nodes.specs.Streams.{copies_along, ends_of, through};
 ghost use Rattle.stage_nodes.specs.Flows.{MayPassAll};
 ghost use Rattle.node_run.specs.Firsts.{IsFirst};
 ghost use Rattle.node_run.specs.Nodes.{copies_by_all, gather, is_ready};
-ghost use Rattle.node_run.specs.Runs.{AreLaid, CanRun, HasLed, HasRun, IsLaid, fates_behind, flat, is_found};
+ghost use Rattle.node_run.specs.Runs.{AreLaid, CanRun, HasLed, HasRun, IsLaid, MayRun, fates_behind, flat, is_found};
 ghost use Rattle.node_run.specs.Stages.{plain_stage};
 ghost use Rattle.node_run.specs.Starts.{crew_of};
 
@@ -16,9 +16,11 @@ use crate::collect::collect;
 use crate::crew::Crew;
 use crate::cut::{crews_of, most_crews};
 use crate::first::{Dealt, First, deal_first};
+use crate::in_turn::run_in_turn;
 use crate::keeping::keep_crew;
 use crate::meeting::{MergeWay, take_first};
 use crate::node::Node;
+use crate::schedule::Schedule;
 use crate::stage::StageWork;
 use crate::start::{Started, finish, start};
 use crate::wire::{WiredStage, wire_stage};
@@ -39,11 +41,13 @@ use std::thread::{Scope, Threads};
 /// turn. What the branches give comes to the mergers in the way asked for. `D.due` are the packets that come.
 ///
 /// The caller deals the packets of the first stage, and collects the fate of each behind the last. Each other
-/// dealer, each branch and each merger is a node, and they are cut into crews, no more of them than threads fit the
-/// machine. Each crew has a thread of its own where one can be started, else the caller runs it to its end once it has
-/// dealt. All links and boards are made before the first step, with room for every message. What comes of the packets
-/// doesn't depend on the number of mergers or of crews, on the way or on the order of steps. The one refusal is want of
-/// memory, wherever it is found; all threads are joined before it returns.
+/// dealer, each branch and each merger is a node. Where all are at work at once they are cut into crews, no more of them
+/// than threads fit the machine; each crew has a thread of its own where one can be started, else the caller runs it to
+/// its end once it has dealt. Where they are at work in turn, one group after another runs to its end, each node of it
+/// on a thread of its own where one can be started. All links and boards are made before the first step, with room for
+/// every message. What comes of the packets doesn't depend on the number of mergers or of crews, on the way, the schedule
+/// or the order of steps. The one refusal is want of memory, wherever it is found; all threads are joined before it
+/// returns.
 pub fn run_nodes<
     F: BranchWork + Drop + Send,
     S: Supply + Drop,
@@ -59,6 +63,7 @@ pub fn run_nodes<
     count: u32,
     mergers: u32,
     way: MergeWay,
+    schedule: Schedule,
 ) -> Result<(Vec<F>, Vec<Fate>, Tally), AllocError>
     requires some { 0 < mergers }
     requires few_mergers { mergers ≤ 16 }
@@ -83,7 +88,9 @@ pub fn run_nodes<
         let fates = collect(rt, alloc, packets, count)?;
         return Ok((Vec::new(alloc), fates, Tally::new()));
     }
-    run_stages::<F, S, D, R, G>(rt, alloc, gate, stages, packets, count, mergers, way)
+    run_stages::<F, S, D, R, G>(
+        rt, alloc, gate, stages, packets, count, mergers, way, schedule,
+    )
 }
 
 /// The same where there is a stage.
@@ -102,6 +109,7 @@ fn run_stages<
     count: u32,
     mergers: u32,
     way: MergeWay,
+    schedule: Schedule,
 ) -> Result<(Vec<F>, Vec<Fate>, Tally), AllocError>
     requires stages { 0 < length stages.items }
     requires some { 0 < mergers }
@@ -121,9 +129,63 @@ fn run_stages<
         next,
     } = wired;
     let behind = wire_all(alloc, stages, next, mergers, way, count, &mut nodes)?;
+    run_laid(
+        rt,
+        alloc,
+        gate,
+        schedule,
+        First::Due(dealer),
+        nodes,
+        behind,
+        count,
+    )
+}
+
+/// Runs the nodes of all stages under a schedule.
+fn run_laid<
+    F: BranchWork + Drop + Send,
+    S: Supply + Drop,
+    R: Threads + Wait + Sync,
+    G: Gate + Sync,
+>(
+    rt: &R,
+    alloc: Global,
+    gate: &G,
+    schedule: Schedule,
+    first: First<S>,
+    nodes: Vec<Node<F>>,
+    behind: Inlets<Apart>,
+    count: u32,
+) -> Result<(Vec<F>, Vec<Fate>, Tally), AllocError>
+    requires run { (copies : Field → ℕ) × (due : List (PlainMessage PlainApart)) × MayRun F.kit F.may S.comes copies first nodes.items count behind due }
+    ensures { (copies : Field → ℕ) (due : List (PlainMessage PlainApart)) → MayRun F.kit F.may S.comes copies first nodes.items count behind due → IfOk result (λ ran. HasRun F.kit copies nodes.items due ran.0.items ran.1.items ran.2) }
+{
+    match schedule {
+        Schedule::AtOnce => run_at_once(rt, alloc, gate, first, nodes, behind, count),
+        Schedule::InTurn => run_in_turn(rt, alloc, gate, first, nodes, behind, count),
+    }
+}
+
+/// Runs the nodes all at the same time, as crews.
+fn run_at_once<
+    F: BranchWork + Drop + Send,
+    S: Supply + Drop,
+    R: Threads + Wait + Sync,
+    G: Gate + Sync,
+>(
+    rt: &R,
+    alloc: Global,
+    gate: &G,
+    first: First<S>,
+    nodes: Vec<Node<F>>,
+    behind: Inlets<Apart>,
+    count: u32,
+) -> Result<(Vec<F>, Vec<Fate>, Tally), AllocError>
+    requires run { (copies : Field → ℕ) × (due : List (PlainMessage PlainApart)) × MayRun F.kit F.may S.comes copies first nodes.items count behind due }
+    ensures { (copies : Field → ℕ) (due : List (PlainMessage PlainApart)) → MayRun F.kit F.may S.comes copies first nodes.items count behind due → IfOk result (λ ran. HasRun F.kit copies nodes.items due ran.0.items ran.1.items ran.2) }
+{
     let crews = crews_of(alloc, nodes, most_crews(rt, count))?;
     let started = Vec::with_capacity(alloc, crews.len())?;
-    let first = First::Due(dealer);
     run_scoped(rt, alloc, gate, first, crews, started, behind, count)
 }
 

@@ -2,14 +2,9 @@
 use Rattle.std.proofs.Common.{◌≡◌, ◌∙◌, ◌<◌, ◌≤◌, ◌+◌, ℕ, Bool, true, false, List, [], ◌∷◌, ◌++◌, map, length, drop, get_or, sym, ap, refl, arith, length-append}
 use Rattle.std.specs.Prelude.{filter, if◌then◌else◌}
 use Rattle.std.proofs.lemmas.List.{drop_more, drop_all}
-use Rattle.packet_fields.specs.Writing.{rest_of}
 use Rattle.capture_bytes.specs.declared.packet.Unit.{Unit as TimeUnit}
-use Rattle.chain_walk.specs.Packets.{Packet}
 use Rattle.classifier.specs.declared.burst.Item.{Item}
-use Rattle.packet_version.specs.Splitting.{IsWhole, packet_parts, split_parts, taken_apart}
 use Rattle.graph_run.specs.Packets.{is_of, packet_of, packets_taken}
-use Rattle.joined_run.specs.Splits.{AreSplit}
-use Rattle.piped_run.specs.Frames.{apart_of}
 
 taken_more : (unit : TimeUnit) (chain : ℕ) (item : Item) (items : List Item) (t : Bool) → is_of chain item ≡ t → packets_taken unit chain (item ∷ items) ≡ (if t then packet_of unit item ∷ packets_taken unit chain items else packets_taken unit chain items)
 taken_more unit chain item items true is = ap (λ (t : Bool). map (packet_of unit) (if t then item ∷ filter (is_of chain) items else filter (is_of chain) items)) is
@@ -38,10 +33,3 @@ pub noted_all : (chain : ℕ) (items : List Item) (numbers : List ℕ) (i : ℕ)
 noted_all chain items numbers i has past unit =
     let none : length (packets_taken unit chain (drop i items)) ≡ 0 = ap (λ (l : List Item). length (packets_taken unit chain l)) (drop_all i items past) in
     omega (arith, has unit, none)
-
--- a frame that was taken apart is split
-pub are_split : (taggers : ℕ) (packets : List Packet) → ((taggers time : ℕ) (frame : List ℕ) → packet_parts (taken_apart taggers time frame) ≡ split_parts taggers frame) → ((taggers time : ℕ) (frame : List ℕ) → IsWhole (packet_parts (taken_apart taggers time frame)) (rest_of frame)) →
-    AreSplit taggers packets (map (apart_of taggers) packets)
-unfolding AreSplit
-are_split taggers [] parts fits = tt
-are_split taggers (p ∷ packets) parts fits = (record { parts = parts taggers p.time p.frame; rest = refl; fixed = refl; fits = fits taggers p.time p.frame }, are_split taggers packets parts fits)

@@ -10,34 +10,20 @@ use Rattle.chain_walk.specs.declared.walk.Fate.{Fate}
 use Rattle.classifier.specs.declared.burst.Item.{Item}
 use Rattle.graph_compile.specs.declared.graph.Graph.{Graph}
 use Rattle.packet_version.specs.Tallies.{count_of, raised}
-use Rattle.packet_fields.specs.Writing.{rest_of}
-use Rattle.packet_version.specs.Splitting.{IsWhole, packet_parts, split_parts, taken_apart}
-use Rattle.merge_ops.specs.declared.merging.Merged.{Merged}
 use Rattle.graph_run.specs.Counting.{RaisesAll, RaisesUpTo, copies_made}
 use Rattle.graph_run.specs.Leading.{Leads}
 use Rattle.graph_run.specs.Packets.{is_of, packet_of, packets_taken}
 use Rattle.graph_run.specs.Rooms.{adders_from}
 use Rattle.graph_run.specs.Running.{PlainRunning, profiles_of}
-use Rattle.joined_run.specs.Splits.{AreSplit}
-use Rattle.piped_run.specs.Frames.{PlainFrames, all_apart}
-use Rattle.piped_run.proofs.Framing.{are_split}
+use Rattle.stream_law.specs.Apart.{all_apart}
+use Rattle.piped_run.specs.Frames.{PlainFrames, apart_from}
 
--- the packets that were taken apart, with room for the tags that the functions add
-pub split_so : {F : Type 0} (b : Behaviour F) (functions shown : List F) (taggers : ℕ) (unit : TimeUnit) (chain : ℕ) (items here : List Item) (apart : List Merged) →
-    taggers ≡ adders_from (map b.profile shown) 1 → shown ≡ functions → here ≡ items → AreSplit taggers (packets_taken unit chain here) apart →
-    AreSplit (adders_from (profiles_of b functions) 1) (packets_taken unit chain items) apart
-split_so {F} b functions shown taggers unit chain items here apart adders are is split =
-    subst (λ n. AreSplit n (packets_taken unit chain items) apart) (adders ∙ ap (λ (l : List F). adders_from (map b.profile l) 1) are)
-    (subst (λ (l : List Item). AreSplit taggers (packets_taken unit chain l) apart) is split)
-
--- so the frames of a burst are, as they come apart
-pub frames_split : {F : Type 0} (b : Behaviour F) (functions shown : List F) (taggers : ℕ) (unit : TimeUnit) (chain : ℕ) (items here : List Item) (frames : PlainFrames) →
-    ((taggers time : ℕ) (frame : List ℕ) → packet_parts (taken_apart taggers time frame) ≡ split_parts taggers frame) → ((taggers time : ℕ) (frame : List ℕ) → IsWhole (packet_parts (taken_apart taggers time frame)) (rest_of frame)) →
+-- the packets that come apart are those of the burst, with room for the tags that the functions add
+pub frames_same : {F : Type 0} (b : Behaviour F) (functions shown : List F) (taggers : ℕ) (unit : TimeUnit) (chain : ℕ) (items here : List Item) (frames : PlainFrames) →
     taggers ≡ adders_from (map b.profile shown) 1 → shown ≡ functions → here ≡ items → frames ≡ record { taggers = taggers; packets = packets_taken unit chain here } →
-    AreSplit (adders_from (profiles_of b functions) 1) (packets_taken unit chain items) (all_apart frames)
-frames_split {F} b functions shown taggers unit chain items here frames parts fits adders are is made =
-    split_so b functions shown taggers unit chain items here (all_apart frames) adders are is
-    (subst (λ (f : PlainFrames). AreSplit taggers (packets_taken unit chain here) (all_apart f)) (sym made) (are_split taggers (packets_taken unit chain here) parts fits))
+    all_apart (adders_from (profiles_of b functions) 1) (packets_taken unit chain items) ≡ apart_from frames
+frames_same {F} b functions shown taggers unit chain items here frames adders are is made =
+    sym (ap apart_from made ∙ (λ i. all_apart ((adders ∙ ap (λ (l : List F). adders_from (map b.profile l) 1) are) i) (packets_taken unit chain (is i))))
 
 pub taken_few : (unit : TimeUnit) (chain : ℕ) (items : List Item) → length (packets_taken unit chain items) ≤ length items
 taken_few unit chain items = let same = length-map (filter (is_of chain) items) (packet_of unit) in let fewer = fewer_left items in omega arith

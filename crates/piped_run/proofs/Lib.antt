@@ -5,3 +5,5 @@ mod Passing
 mod Leading
 mod Framing
 mod Cloning
+mod Taking
+mod PutBack

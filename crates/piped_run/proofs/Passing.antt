@@ -16,11 +16,11 @@ use Rattle.burst_law.specs.Stations.{Turn, one_by_one}
 use Rattle.burst_law.specs.Owned.{owned_by}
 use Rattle.burst_law.specs.Bursts.{Message, chain_burst}
 use Rattle.burst_law.specs.Copies.{chain_copies}
-use Rattle.branch_owners.specs.Standing.{EachStands}
+use Rattle.piped_run.specs.Standing.{EachStands}
 use Rattle.graph_run.specs.Counting.{RaisesAll, RaisesUpTo}
 use Rattle.graph_run.specs.Running.{IsRunning}
-use Rattle.joined_run.specs.Leaving.{KeepsRests}
-use Rattle.joined_run.specs.Messages.{as_message}
+use Rattle.stream_law.specs.Rests.{KeepsRests}
+use Rattle.stream_law.specs.Messages.{as_message}
 use Rattle.stage_nodes.specs.Streams.{PlainStage, of_merged, as_merged, through, ends_of}
 use Rattle.node_run.specs.Runs.{fates_behind, flat}
 use Rattle.stream_law.specs.Owned.{PlainOwned, owned_kit}

@@ -18,7 +18,7 @@ use Rattle.merge_ops.specs.declared.arrival.Arrival.TheVariants as cames
 use Rattle.burst_law.specs.Stations.{Turn, then_state}
 use Rattle.graph_run.specs.Carrying.{as_version, as_branch_end, wrote_at}
 use Rattle.graph_run.specs.Staging.{Holds, IsCarried, IsWhatWasWritten}
-use Rattle.branch_run.specs.Streams.{IsOwnReady}
+use Rattle.stream_law.specs.Owned.{IsOwnReady}
 use Rattle.message_links.specs.Messages.{PlainMessage, PlainMessage.Live, PlainMessage.Nil, is_short, plain}
 use Rattle.message_links.specs.declared.message.Message.{Message}
 use Rattle.message_links.specs.declared.message.Message.TheVariants as made

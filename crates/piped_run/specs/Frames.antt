@@ -3,25 +3,21 @@ use Rattle.std.specs.Prelude.{◌≡◌, ℕ, List, map}
 use Rattle.chain_walk.specs.Packets.{Packet}
 use Rattle.chain_walk.specs.Step.{Behaviour}
 use Rattle.chain_walk.specs.declared.walk.Fate.{Fate}
-use Rattle.packet_version.specs.Splitting.{taken_apart}
 use Rattle.merge_ops.specs.Fates.{fate_behind}
 use Rattle.merge_ops.specs.declared.merging.Merged.{Merged}
-use Rattle.merge_ops.specs.declared.merging.Merged.TheVariants.{Whole}
 use Rattle.burst_law.specs.Bursts.{chain_burst}
-use Rattle.joined_run.specs.Leaving.{KeepsRests}
-use Rattle.joined_run.specs.Messages.{as_message}
+use Rattle.stream_law.specs.Rests.{KeepsRests}
+use Rattle.stream_law.specs.Apart.{all_apart}
+use Rattle.stream_law.specs.Messages.{as_message}
 
 -- Packets that are still to be taken apart, each with room for so many tags more.
 pub record PlainFrames : Type 0 where
   pub taggers : ℕ
   pub packets : List Packet
 
--- a packet in parts
-abbrev pub apart_of : ℕ → Packet → Merged
-apart_of taggers p = Whole (taken_apart taggers p.time p.frame)
-
-abbrev pub all_apart : PlainFrames → List Merged
-all_apart frames = map (apart_of frames.taggers) frames.packets
+-- all of them in parts
+abbrev pub apart_from : PlainFrames → List Merged
+apart_from frames = all_apart frames.taggers frames.packets
 
 -- Packets in parts end as those of a burst that walks through the chain, and these are their fates. What is left of a frame without its
 -- fields stays.

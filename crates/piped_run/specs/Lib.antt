@@ -1,2 +1,4 @@
 pub mod Turns
 pub mod Frames
+pub mod Places
+pub mod Standing

@@ -4,7 +4,7 @@ use Rattle.action_profile.specs.declared.rights.Profile.{Profile}
 use Rattle.packet_version.specs.Versions.{PlainVersion}
 use Rattle.merge_ops.specs.declared.arrival.Arrival.{Arrival}
 use Rattle.merge_ops.specs.declared.arrival.Arrival.TheVariants as came
-use Rattle.branch_run.specs.Streams.{IsOwnReady}
+use Rattle.stream_law.specs.Owned.{IsOwnReady}
 use Rattle.message_links.specs.Messages.{PlainMessage, PlainMessage.Live, PlainMessage.Nil, PlainMessage.Short}
 
 -- a version is ready for functions with these profiles and positions, and anything else passes on

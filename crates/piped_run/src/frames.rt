@@ -4,7 +4,7 @@ ghost use Rattle.capture_bytes.specs.declared.packet.Unit.{Unit as TimeUnit};
 ghost use Rattle.graph_run.specs.Packets.{packet_of, packets_taken};
 ghost use Rattle.message_links.specs.Messages.{Fits};
 ghost use Rattle.stage_nodes.specs.Streams.{of_merged};
-ghost use Rattle.piped_run.specs.Frames.{apart_of};
+ghost use Rattle.stream_law.specs.Apart.{apart_of};
 
 use capture_bytes::Unit;
 use classifier::Item;
@@ -52,9 +52,9 @@ impl<'a> Frames<'a> {
 impl<'a> Supply for Frames<'a> {
     ghost use Rattle.std.specs.Prelude.{◌≡◌, map};
     ghost use Rattle.stage_nodes.specs.Streams.{of_merged};
-    ghost use Rattle.piped_run.specs.Frames.{all_apart};
+    ghost use Rattle.piped_run.specs.Frames.{apart_from};
 
-    ghost comes = { λ f xs. xs ≡ map of_merged (all_apart f) };
+    ghost comes = { λ f xs. xs ≡ map of_merged (apart_from f) };
 
     fn next<R: Wait>(&mut self, _rt: &R, alloc: Global) -> Merged {
         'items: while let Some((item, rest)) = self.rest.split_first() {

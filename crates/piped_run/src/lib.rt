@@ -1,24 +1,29 @@
-//! Runs bursts of packets through the graph of a chain, its dealers, branches and mergers side by side.
+//! Runs bursts of packets through the graph of a chain, whose dealers, branches and mergers are nodes.
 //!
-//! [`run_piped`] does what `run_joined` of `joined_run` does, and promises the same word for word: the packets
-//! end as those that walk through the chain one after another, and so do the functions; the tally rises by the
-//! same copies; want of memory is the one refusal. The way is another: no stage waits for the stage before it.
-//! Each stage has a dealer, its branches and its mergers, and each of these is a node. The first dealer runs in the
-//! caller's thread and takes frames apart as it deals them; the others share as many threads as fit the machine. A dealer takes a packet, deals it to the branches, and takes the next while they
-//! are still at work; a branch takes what it is dealt in the packets' order; a merger puts together what the
-//! branches gave of a packet, and gives it to the next stage's dealer. A branch whose functions keep no state, by
-//! their profiles, has a node for each merger, with the same functions. So a packet may be in the first stage
-//! while the one before it is in the last. The nodes give each other messages over links of one giver and one
-//! taker each. What branches give to mergers goes over such links too ([`MergeWay::Inbox`]), or each branch puts
-//! it in its place on the merger's board, which looks at a packet's word until it has the bit of each
-//! branch ([`MergeWay::Board`]). The two ways have one contract, which says nothing of the way.
+//! [`run_piped`] and [`run_joined`] do what `run_plain` of `graph_run` does, and promise the same word for word: the
+//! packets end as those that walk through the chain one after another, and so do the functions; the tally rises by the
+//! same copies; want of memory is the one refusal. Both lead the burst through the same nodes (`node_run`). Each stage
+//! has a dealer, its branches and its mergers, and each of these is a node. A dealer takes a packet and deals it to the
+//! branches; a branch takes what it is dealt in the packets' order; a merger puts together what the branches gave of a
+//! packet, and gives it to the next stage's dealer. The first dealer runs in the caller's thread and takes frames apart
+//! as it deals them. A branch whose functions keep no state, by their profiles, has a node for each merger, with the same
+//! functions. The nodes give each other messages over links of one giver and one taker each. What branches give to
+//! mergers goes over such links too ([`MergeWay::Inbox`]), or each branch puts it in its place on the merger's board,
+//! which looks at a packet's word until it has the bit of each branch ([`MergeWay::Board`]). The two ways have one
+//! contract, which says nothing of the way.
 //!
-//! The functions of the chain are split among the branches that own them, and put together in chain order
-//! once all nodes have ended. [`branch_turn`] is a branch's work on one packet: its functions one after
-//! another, until one drops it. Where a graph has one stage of one branch, or no stage, nothing could run
-//! beside it, and the burst runs in the caller's thread; a burst without packets starts no thread. Where steps
-//! are so light that threads cost more than they save, which the clock tells of the bursts before (`pace`), a
-//! burst goes through the graph on the caller's thread (`run_gated` of `graph_run`).
+//! Under [`run_piped`] all nodes are at work at the same time, and share as many threads as fit the machine: no stage
+//! waits for the stage before it, so a packet may be in the first stage while the one before it is in the last. Where a
+//! graph has one stage of one branch, or no stage, nothing could run beside it, and where steps are so light that threads
+//! cost more than they save, which the clock tells of the bursts before (`pace`), threads don't pay: such bursts go
+//! through the graph on the caller's thread (`run_gated` of `graph_run`). Under [`run_joined`] all packets go through one
+//! stage before the next begins: its branches side by side, then its mergers. Where every stage has one branch it runs as
+//! `run_gated` too. A burst without packets starts no thread.
+//!
+//! The functions of the chain are split among the branches that own them (`splitting`), and put together in chain order
+//! once all nodes have ended (`returning`): each branch has the functions at its positions, and functions that are split
+//! so are put together to the same list. [`branch_turn`] is a branch's work on one packet: its functions one after
+//! another, until one drops it.
 //!
 //! Why this is the walk is told by `stream_law`: what is due on each link is fixed before the first step, and
 //! what comes behind the last stage is what packets give that walk through the chain one after another.
@@ -33,13 +38,18 @@
 
 mod back;
 mod frames;
+mod joined;
 mod owned;
 mod pipe;
 mod piped;
+mod returning;
+mod splitting;
+mod stages;
 mod turn;
 mod works;
 
 pub use chain_walk::Fate;
+pub use joined::run_joined;
 pub use message_links::Message;
 pub use node_run::MergeWay;
 pub use piped::run_piped;

@@ -4,23 +4,24 @@ ghost use Rattle.burst_law.specs.Bursts.{chain_burst};
 ghost use Rattle.burst_law.specs.Copies.{chain_copies};
 ghost use Rattle.graph_run.specs.Counting.{RaisesAll, RaisesUpTo};
 ghost use Rattle.graph_run.specs.Running.{IsRunning, profiles_of};
-ghost use Rattle.joined_run.specs.Messages.{as_message};
-ghost use Rattle.joined_run.specs.Ready.{AllEnter};
-ghost use Rattle.joined_run.specs.Works.{Fits};
-ghost use Rattle.piped_run.specs.Frames.{EndsAs, all_apart};
+ghost use Rattle.stream_law.specs.Messages.{as_message};
+ghost use Rattle.stream_law.specs.Ready.{AllEnter};
+ghost use Rattle.stream_law.specs.Ready.{Fits};
+ghost use Rattle.piped_run.specs.Frames.{EndsAs, apart_from};
 
 use crate::back::end_works;
 use crate::frames::Frames;
 use crate::owned::OwnedFunctions;
+use crate::returning::put_together;
+use crate::splitting::split_functions;
 use crate::works::begin_works;
-use branch_owners::{put_together, split_functions};
 use burst_law::burst_is_chain;
 use chain_walk::Fate;
 use graph_compile::{Graph, Stage};
 use graph_run::functions_keep_to_profiles;
 use net_functions::Function;
 use nfp_outside::Gate;
-use node_run::{MergeWay, most_threads, run_nodes};
+use node_run::{MergeWay, Schedule, most_threads, run_nodes};
 use packet_version::Tally;
 use std::alloc::{AllocError, Global};
 use std::marker::Brand;
@@ -30,7 +31,7 @@ use stream_law::nodes_walk_the_chain;
 
 /// Leads all packets that these frames hold, which have these record numbers, through the stages of a graph: the
 /// caller takes them apart and deals them to the first stage, and each other dealer, each branch and each merger
-/// is a node; nodes share as many threads as fit the machine. The functions and the packets end as if the packets
+/// is a node, at work under this schedule. The functions and the packets end as if the packets
 /// walked through the chain one after another. No node is started for a burst without packets, and there are no
 /// more mergers than packets, nor than pay.
 ///
@@ -46,20 +47,21 @@ pub(crate) fn pipe_frames<F: Function + Drop + Send, G: Gate + Sync, R: Threads 
     frames: Frames,
     mergers: u32,
     way: MergeWay,
+    schedule: Schedule,
     tally: &mut Tally,
 ) -> Result<(Vec<F>, Vec<Fate>), AllocError>
     requires running { IsRunning F.behaviour functions.items graph.now }
-    requires enter { AllEnter (profiles_of F.behaviour functions.items) 1 (all_apart frames) }
-    requires fits { All Fits (all_apart frames) }
-    requires numbers { length numbers.now ≡ length (all_apart frames) }
-    requires few { length (all_apart frames) ≤ 65536 }
+    requires enter { AllEnter (profiles_of F.behaviour functions.items) 1 (apart_from frames) }
+    requires fits { All Fits (apart_from frames) }
+    requires numbers { length numbers.now ≡ length (apart_from frames) }
+    requires few { length (apart_from frames) ≤ 65536 }
     requires some_mergers { 1 ≤ mergers }
     requires few_mergers { mergers ≤ 16 }
-    ensures functions { IfOk result (λ left. left.0.items ≡ (chain_burst F.behaviour functions.items (map as_message (all_apart frames.entry))).state) }
-    ensures fates { IfOk result (λ left. EndsAs F.behaviour functions.items (all_apart frames.entry) left.1.items) }
+    ensures functions { IfOk result (λ left. left.0.items ≡ (chain_burst F.behaviour functions.items (map as_message (apart_from frames.entry))).state) }
+    ensures fates { IfOk result (λ left. EndsAs F.behaviour functions.items (apart_from frames.entry) left.1.items) }
     ensures running { IfOk result (λ left. IsRunning F.behaviour left.0.items graph.now) }
-    ensures counted { OnOk result (RaisesAll (λ f. chain_copies F.behaviour graph.now.stages f functions.items (map as_message (all_apart frames.entry))) tally.old tally.new) }
-    ensures refused { OnErr result (RaisesUpTo (λ f. chain_copies F.behaviour graph.now.stages f functions.items (map as_message (all_apart frames.entry))) tally.old tally.new) }
+    ensures counted { OnOk result (RaisesAll (λ f. chain_copies F.behaviour graph.now.stages f functions.items (map as_message (apart_from frames.entry))) tally.old tally.new) }
+    ensures refused { OnErr result (RaisesUpTo (λ f. chain_copies F.behaviour graph.now.stages f functions.items (map as_message (apart_from frames.entry))) tally.old tally.new) }
 {
     functions_keep_to_profiles::<F>();
     burst_is_chain::<F>();
@@ -74,7 +76,7 @@ pub(crate) fn pipe_frames<F: Function + Drop + Send, G: Gate + Sync, R: Threads 
     let owned = split_functions(alloc, stages, functions)?;
     let works = begin_works(alloc, stages, owned, numbers, chain)?;
     let (works, fates, made) = run_nodes::<OwnedFunctions<F>, Frames, Brand, R, G>(
-        rt, alloc, gate, works, frames, count, mergers, way,
+        rt, alloc, gate, works, frames, count, mergers, way, schedule,
     )?;
     let owned = end_works(alloc, stages, works)?;
     let functions = put_together(alloc, stages, owners, owned)?;

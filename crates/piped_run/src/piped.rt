@@ -5,19 +5,17 @@ ghost use Rattle.graph_run.specs.Counting.{RaisesUpTo, copies_made};
 ghost use Rattle.graph_run.specs.Leading.{Leads};
 ghost use Rattle.graph_run.specs.Packets.{packets_taken};
 
-use crate::frames::{Frames, numbers_of};
-use crate::pipe::pipe_frames;
+use crate::stages::run_stages;
 use capture_bytes::Unit;
 use chain_walk::Fate;
 use classifier::Burst;
 use graph_compile::Graph;
-use graph_run::{Running, count_adders, run_gated};
-use joined_run::{bursts_in_parts_lead, run_joined};
+use graph_run::{Running, run_gated};
 use net_functions::Function;
 use nfp_outside::Gate;
-use node_run::MergeWay;
+use node_run::{MergeWay, Schedule};
 use pace::{Lead, Pace};
-use packet_version::{Tally, frames_come_apart};
+use packet_version::Tally;
 use std::alloc::{AllocError, Global};
 use std::rt::Clock;
 use std::sync::Wait;
@@ -61,14 +59,24 @@ pub fn run_piped<F: Function + Drop + Send, G: Gate + Sync, R: Threads + Wait + 
     ensures refused { OnErr result (RaisesUpTo (copies_made run.graph.stages (packets_taken unit chain burst.now.items) (fates F.behaviour run.functions (packets_taken unit chain burst.now.items))) tally.old tally.new) }
 {
     if is_one_branch(run.graph()) {
-        return run_joined(rt, alloc, run, burst, unit, chain, tally, mergers, gate);
+        return run_gated(rt, alloc, run, burst, unit, chain, tally, gate);
     }
     let mut pace = run.pace();
     let lead = pace.lead();
     let start = Instant::now(rt).ok();
     let (run, fates) = match lead {
         Lead::Threads => run_stages(
-            rt, alloc, run, burst, unit, chain, tally, mergers, gate, way,
+            rt,
+            alloc,
+            run,
+            burst,
+            unit,
+            chain,
+            tally,
+            mergers,
+            gate,
+            way,
+            Schedule::AtOnce,
         )?,
         Lead::Alone => run_gated(rt, alloc, run, burst, unit, chain, tally, gate)?,
     };
@@ -88,38 +96,6 @@ fn tell<R: Clock>(rt: &R, pace: &mut Pace, lead: Lead, packets: usize, start: Op
         let nanos = u64::try_from(took.as_nanos()).unwrap_or(u64::MAX);
         pace.tell(lead, packets, nanos);
     }
-}
-
-/// Leads the packets of a burst through the stages of a graph, whose dealers, branches and mergers are nodes.
-fn run_stages<F: Function + Drop + Send, G: Gate + Sync, R: Threads + Wait + Sync>(
-    rt: &R,
-    alloc: Global,
-    run: Running<F>,
-    burst: &Burst,
-    unit: Unit,
-    chain: u32,
-    tally: &mut Tally,
-    mergers: u32,
-    gate: &G,
-    way: MergeWay,
-) -> Result<(Running<F>, Vec<Fate>), AllocError>
-    requires few { length burst.now.items ≤ 65536 }
-    requires some_mergers { 1 ≤ mergers }
-    requires few_mergers { mergers ≤ 16 }
-    ensures leads { IfOk result (λ ran. Leads F.behaviour run (packets_taken unit chain burst.now.items) tally.old tally.new ran.0 ran.1.items) }
-    ensures refused { OnErr result (RaisesUpTo (copies_made run.graph.stages (packets_taken unit chain burst.now.items) (fates F.behaviour run.functions (packets_taken unit chain burst.now.items))) tally.old tally.new) }
-{
-    bursts_in_parts_lead::<F>();
-    frames_come_apart();
-    let (functions, graph) = run.into_parts();
-    let taggers = count_adders(&functions);
-    let items = burst.items.as_slice();
-    let numbers = numbers_of(alloc, items, chain)?;
-    let frames = Frames::new(items, unit, chain, taggers);
-    let (functions, fates) = pipe_frames(
-        rt, alloc, gate, chain, &numbers, &graph, functions, frames, mergers, way, tally,
-    )?;
-    Ok((Running::new(functions, graph), fates))
 }
 
 /// Does a graph have no stage but one of one branch?

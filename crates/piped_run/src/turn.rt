@@ -1,7 +1,7 @@
 //! The functions of a branch, in turn on what comes of a packet.
 ghost use Rattle.std.specs.Prelude.{◌≡◌, ℕ, false, true, IfOk, OnOk, OnErr};
 ghost use Rattle.graph_run.specs.Running.{profiles_of};
-ghost use Rattle.branch_run.specs.Streams.{IsOwnReady};
+ghost use Rattle.stream_law.specs.Owned.{IsOwnReady};
 ghost use Rattle.message_links.specs.Messages.{PlainMessage.Live, PlainMessage.Nil, is_short, plain};
 ghost use Rattle.stream_law.specs.Owned.{ran_by};
 ghost use Rattle.piped_run.specs.Turns.{IsReadyMessage, as_sent, is_live};

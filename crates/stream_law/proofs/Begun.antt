@@ -14,7 +14,7 @@ use Rattle.graph_compile.specs.declared.graph.Stage.{Stage}
 use Rattle.burst_law.specs.Owned.{owned, owned_in, owned_by}
 use Rattle.graph_run.specs.Running.{IsRunning}
 use Rattle.graph_run.specs.Stages.{end_of}
-use Rattle.joined_run.specs.Ready.{AllOwn}
+use Rattle.stream_law.proofs.Staged.{AllOwn}
 use Rattle.stream_law.proofs.Through.{AllReady}
 
 -- the laws of graphs, as they are cited

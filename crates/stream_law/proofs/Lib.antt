@@ -8,3 +8,5 @@ pub mod Staged
 pub mod Through
 pub mod Begun
 pub mod Walked
+pub mod Fated
+pub mod Framed

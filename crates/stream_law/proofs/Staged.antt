@@ -1,9 +1,8 @@
 -- A burst through the nodes of one stage.
-use Rattle.std.proofs.Common.{◌≡◌, ◌∙◌, ◌<◌, ◌≤◌, ◌+◌, ℕ, zero, suc, false, List, [], ◌∷◌, length, map, ap, refl, sym, subst, arith}
-use Rattle.std.specs.Prelude.{All, Option, Some, None, is_some, option_map, slice_get, if◌then◌else◌}
-use Rattle.std.specs.List.{list_any}
-use Rattle.std.proofs.lemmas.List.{length-map}
+use Rattle.std.proofs.Common.{◌≡◌, ◌∙◌, ◌<◌, ◌≤◌, ◌+◌, ℕ, zero, suc, List, [], ◌∷◌, ◌++◌, length, map, ap, refl, sym, subst, arith}
+use Rattle.std.specs.Prelude.{All, Option, Some, None, is_some, option_map, slice_get, if◌then◌else◌, zip}
 use Rattle.std.proofs.lemmas.List.Sums.{sum_by-cons}
+use Rattle.std.proofs.lemmas.List.Elements.{All-head, All-tail}
 use Rattle.std.proofs.lemmas.Option.{slice_get_within}
 use Rattle.packet_fields.specs.declared.field.Field.{Field}
 use Rattle.action_profile.specs.Modes.{copies}
@@ -11,48 +10,71 @@ use Rattle.action_profile.specs.declared.parts.Touch.{Touch}
 use Rattle.action_profile.specs.declared.rights.Profile.{Profile}
 use Rattle.chain_walk.specs.Step.{Behaviour}
 use Rattle.graph_compile.specs.Lawful.{IsLawfulStage}
+use Rattle.graph_compile.specs.Parts.{profile_at}
 use Rattle.graph_compile.specs.declared.graph.Branch.{Branch}
 use Rattle.graph_compile.specs.declared.graph.Stage.{Stage}
+use Rattle.graph_law.specs.Branches.{BranchEnd}
 use Rattle.packet_version.specs.Parts.{PlainPart}
-use Rattle.packet_version.specs.Splitting.{packet_parts}
+use Rattle.packet_version.specs.Splitting.{PlainApart, packet_parts}
 use Rattle.packet_version.specs.Versions.{PlainVersion}
-use Rattle.merge_ops.specs.Merging.{is_short}
-use Rattle.merge_ops.specs.declared.arrival.Arrival.{Arrival}
+use Rattle.packet_version.specs.Dealing.{dealt}
 use Rattle.merge_ops.specs.declared.merging.Merged.{Merged}
 use Rattle.merge_ops.specs.declared.merging.Merged.TheVariants as ends
-use Rattle.burst_law.specs.Bursts.{stage_burst}
+use Rattle.burst_law.specs.Bursts.{branch_stream, stage_burst, merged_from}
 use Rattle.burst_law.specs.Copies.{due_in}
-use Rattle.burst_law.specs.Stations.{across}
-use Rattle.burst_merge.specs.Joining.{BelongsTo, joined_lefts}
+use Rattle.burst_law.specs.Stations.{Turn, across, beside, then_both}
 use Rattle.graph_run.specs.Staging.{Holds}
-use Rattle.graph_run.specs.Stages.{end_of}
-use Rattle.joined_run.specs.Messages.{as_message, burst_copies}
-use Rattle.joined_run.specs.Leaving.{Follows, LeavesBurst}
-use Rattle.joined_run.specs.Ready.{AllOwn, MayEnter, AllEnter, IsBurstReady}
-use Rattle.joined_run.specs.Works.{Fits, left_of}
-use Rattle.joined_run.specs.Streamed.{HasTaken, AllStreamed, HaveRun}
-use Rattle.message_links.specs.Messages.{PlainMessage}
-use Rattle.stage_nodes.specs.Streams.{PlainStage, parted, ran, left, as_arrival, of_merged, as_merged, came_from, stayed, passed, due_of, dealer_copies}
+use Rattle.graph_run.specs.Stages.{AllCarried, GoesFrom, end_of}
+use Rattle.message_links.specs.Messages.{PlainMessage, PlainMessage.Live, first, rest}
+use Rattle.stage_nodes.specs.Streams.{PlainStage, parted, gave, moved, ran, left, as_arrival, of_merged, came_from, stayed, passed, due_of, dealer_copies}
 use Rattle.stage_nodes.specs.Flows.{AllMayTake, MayPass}
+use Rattle.stream_law.specs.Messages.{as_message, burst_copies}
 use Rattle.stream_law.specs.Owned.{PlainOwned, owned_kit, owned_may}
+use Rattle.stream_law.specs.Ready.{MayEnter, AllEnter, Fits}
 use Rattle.stream_law.specs.Works.{works_in}
-use Rattle.stream_law.proofs.Taken.{either_none, has_taken, none_lost, dealt_same, none_dealt_short, may_take_all, ran_many}
-use Rattle.stream_law.proofs.Whole.{all_fit}
-use Rattle.stream_law.proofs.Rows.{AllEven, all_of_as, rows_same, rows_belong}
+use Rattle.stream_law.proofs.Turned.{ran_carried}
+use Rattle.stream_law.proofs.Taken.{as_ends, may_take_all, moved_packets, moved_positions, moved_profiles, stream_same}
+use Rattle.stream_law.proofs.Rows.{Follows, LeavesBurst, PacketPasses, RowsPass, all_of_as, gone_passes, joined_all, more_pass, none_pass, whole_passes}
 use Rattle.stream_law.proofs.Cited.{AreLaws}
 
--- each branch holds what its functions name
-unfoldable AllHold : List Profile → ℕ → ℕ → List Branch → List Touch → Type 0
-AllHold chain low high [] [] = Unit {0}
-AllHold chain low high (x ∷ branches) (t ∷ touches) = Holds chain t low high x.positions × AllHold chain low high branches touches
-AllHold chain low high branches touches = ⊥
+-- each branch owns functions with the profiles of its positions
+unfoldable pub AllOwn : {F : Type 0} → Behaviour F → List Profile → List Branch → List (List F) → Type 0
+AllOwn b chain [] [] = Unit {0}
+AllOwn b chain (x ∷ branches) (own ∷ owns) = (map (profile_at chain) x.positions ≡ map (λ p. Some p) (map b.profile own)) × AllOwn b chain branches owns
+AllOwn b chain branches owns = ⊥
 
-hold_each : (chain : List Profile) (low high : ℕ) (branches : List Branch) (touches : List Touch) → length touches ≡ length branches → ((j : ℕ) (x : Branch) (t : Touch) → slice_get branches j ≡ Some x → slice_get touches j ≡ Some t → Holds chain t low high x.positions) → AllHold chain low high branches touches
-unfolding AllHold
-hold_each chain low high [] [] same each = tt
-hold_each chain low high [] (t ∷ touches) same each = absurd (omega arith)
-hold_each chain low high (x ∷ branches) [] same each = absurd (omega arith)
-hold_each chain low high (x ∷ branches) (t ∷ touches) same each = (each 0 x t refl refl, hold_each chain low high branches touches (omega arith) (λ j y u a b. each (suc j) y u a b))
+-- A stage is ready for packets that may enter it at this position.
+pub record IsReadyStage {F : Type 0} (b : Behaviour F) (chain : List Profile) (at : ℕ) (stage : Stage) (owns : List (List F)) : Type 0 where
+  pub lawful : IsLawfulStage chain at stage
+  pub position : 1 ≤ at
+  pub within : end_of at stage ≤ suc (length chain)
+  pub some : 0 < length stage.branches
+  pub few : length stage.branches ≤ 64
+  pub owners : AllOwn b chain stage.branches owns
+
+-- A branch with its touch: it holds what its functions name, and the burst has at least so many packets.
+record IsFitted {F : Type 0} (b : Behaviour F) (chain : List Profile) (low high n : ℕ) (t : Touch) (o : PlainOwned F) : Type 0 where
+  at : map (profile_at chain) o.positions ≡ map (λ p. Some p) (map b.profile o.functions)
+  holds : Holds chain t low high o.positions
+  enough : n ≤ o.packets
+
+unfoldable AllFitted : {F : Type 0} → Behaviour F → List Profile → ℕ → ℕ → ℕ → List Touch → List (PlainOwned F) → Type 0
+AllFitted b chain low high n [] [] = Unit {0}
+AllFitted b chain low high n (t ∷ touches) (o ∷ works) = IsFitted b chain low high n t o × AllFitted b chain low high n touches works
+AllFitted b chain low high n touches works = ⊥
+
+all_fitted : {F : Type 0} (b : Behaviour F) (chain : List Profile) (low high n : ℕ) (branches : List Branch) (touches : List Touch) (owns : List (List F)) → length touches ≡ length branches → AllOwn b chain branches owns →
+    ((j : ℕ) (x : Branch) (t : Touch) → slice_get branches j ≡ Some x → slice_get touches j ≡ Some t → Holds chain t low high x.positions) → AllFitted b chain low high n touches (works_in branches owns n)
+unfolding AllFitted AllOwn works_in
+all_fitted b chain low high n [] [] [] same own each = tt
+all_fitted b chain low high n [] [] (o ∷ owns) same own each = absurd own
+all_fitted b chain low high n [] (t ∷ touches) owns same own each = absurd (omega arith)
+all_fitted b chain low high n (x ∷ branches) [] owns same own each = absurd (omega arith)
+all_fitted b chain low high n (x ∷ branches) (t ∷ touches) [] same own each = absurd own
+all_fitted b chain low high n (x ∷ branches) (t ∷ touches) (o ∷ owns) same own each = (
+  record { at = own.0; holds = each 0 x t refl refl; enough = omega arith },
+  all_fitted b chain low high n branches touches owns (omega arith) own.1 (λ j y u a b. each (suc j) y u a b),
+)
 
 as_many_own : {F : Type 0} (b : Behaviour F) (chain : List Profile) (branches : List Branch) (owns : List (List F)) → AllOwn b chain branches owns → length owns ≡ length branches
 unfolding AllOwn
@@ -67,59 +89,104 @@ works_many [] owns n same = refl
 works_many (x ∷ branches) [] n same = absurd (omega arith)
 works_many (x ∷ branches) (own ∷ owns) n same = ap suc (works_many branches owns n (omega arith))
 
--- the branches take what they are dealt
-abbrev owned_branch : {F : Type 0} → Branch → List F → ℕ → PlainOwned F
-owned_branch x own n = record { functions = own; positions = x.positions; packets = n }
+-- what the branches give of a packet, and what they are after it
+unfoldable gave_all : {F : Type 0} → Behaviour F → List Touch → List (PlainOwned F) → PlainMessage PlainApart → List (PlainMessage PlainVersion)
+gave_all b [] works x = []
+gave_all b (t ∷ touches) [] x = []
+gave_all b (t ∷ touches) (o ∷ works) x = gave (owned_kit b) o (parted t x) ∷ gave_all b touches works x
 
-abbrev nows_of : {F : Type 0} → Behaviour F → List Touch → List (PlainOwned F) → List Merged → List (List F)
-nows_of b touches works packets = map (λ o. o.functions) (stayed (owned_kit b) touches works (map of_merged packets))
+unfoldable moved_all : {F : Type 0} → Behaviour F → List Touch → List (PlainOwned F) → PlainMessage PlainApart → List (PlainOwned F)
+moved_all b [] works x = []
+moved_all b (t ∷ touches) [] x = []
+moved_all b (t ∷ touches) (o ∷ works) x = moved (owned_kit b) o (parted t x) ∷ moved_all b touches works x
 
-abbrev came_of : {F : Type 0} → Behaviour F → List Touch → List (PlainOwned F) → List Merged → List (List Arrival)
-came_of b touches works packets = map (map as_arrival) (came_from (owned_kit b) touches works (map of_merged packets))
+came_first : {F : Type 0} (b : Behaviour F) (touches : List Touch) (works : List (PlainOwned F)) (x : PlainMessage PlainApart) (xs : List (PlainMessage PlainApart)) → map first (came_from (owned_kit b) touches works (x ∷ xs)) ≡ gave_all b touches works x
+unfolding came_from ran gave_all
+came_first b [] works x xs = refl
+came_first b (t ∷ touches) [] x xs = refl
+came_first b (t ∷ touches) (o ∷ works) x xs = ap (λ l. gave (owned_kit b) o (parted t x) ∷ l) (came_first b touches works x xs)
 
-all_streamed : {F : Type 0} (b : Behaviour F) (chain : List Profile) (low n : ℕ) (branches : List Branch) (touches : List Touch) (packets : List Merged) (owns : List (List F)) → AreLaws b → length touches ≡ length branches → length owns ≡ length branches → AllEnter chain low packets →
-    AllStreamed b branches touches packets owns (nows_of b touches (works_in branches owns n) packets) (came_of b touches (works_in branches owns n) packets)
-unfolding AllStreamed works_in stayed came_from
-all_streamed b chain low n [] [] packets [] laws ts os enter = tt
-all_streamed b chain low n [] [] packets (own ∷ owns) laws ts os enter = absurd (omega arith)
-all_streamed b chain low n [] (t ∷ touches) packets owns laws ts os enter = absurd (omega arith)
-all_streamed b chain low n (x ∷ branches) [] packets owns laws ts os enter = absurd (omega arith)
-all_streamed b chain low n (x ∷ branches) (t ∷ touches) packets [] laws ts os enter = absurd (omega arith)
-all_streamed {F} b chain low n (x ∷ branches) (t ∷ touches) packets (own ∷ owns) laws ts os enter =
-    let o : PlainOwned F = owned_branch x own n in
-    let xs : List (PlainMessage PlainVersion) = map (parted t) (map of_merged packets) in (
-      subst (λ (dealt : List Arrival). HasTaken b x.positions own (left (owned_kit b) o xs).functions dealt (map as_arrival (ran (owned_kit b) o xs))) (sym (dealt_same chain low t packets enter)) (has_taken b o xs laws.behind laws.later laws.keeps),
-      all_streamed b chain low n branches touches packets owns laws (omega arith) (omega arith) enter,
-    )
+came_rest : {F : Type 0} (b : Behaviour F) (touches : List Touch) (works : List (PlainOwned F)) (x : PlainMessage PlainApart) (xs : List (PlainMessage PlainApart)) → map rest (came_from (owned_kit b) touches works (x ∷ xs)) ≡ came_from (owned_kit b) touches (moved_all b touches works x) xs
+unfolding came_from ran moved_all
+came_rest b [] works x xs = refl
+came_rest b (t ∷ touches) [] x xs = refl
+came_rest b (t ∷ touches) (o ∷ works) x xs = ap (λ l. ran (owned_kit b) (moved (owned_kit b) o (parted t x)) (map (parted t) xs) ∷ l) (came_rest b touches works x xs)
 
-none_came_short : {F : Type 0} (b : Behaviour F) (chain : List Profile) (low : ℕ) (touches : List Touch) (works : List (PlainOwned F)) (packets : List Merged) → AllEnter chain low packets → list_any (list_any is_short) (came_of b touches works packets) ≡ false
-unfolding came_from
-none_came_short b chain low [] works packets enter = refl
-none_came_short b chain low (t ∷ touches) [] packets enter = refl
-none_came_short b chain low (t ∷ touches) (o ∷ works) packets enter =
-    either_none (list_any is_short (map as_arrival (ran (owned_kit b) o (map (parted t) (map of_merged packets))))) (list_any (list_any is_short) (came_of b touches works packets))
-    (none_lost b o (map (parted t) (map of_merged packets)) (none_dealt_short chain low t packets enter)) (none_came_short b chain low touches works packets enter)
+came_front : {F : Type 0} (b : Behaviour F) (touches : List Touch) (works : List (PlainOwned F)) (x : PlainMessage PlainApart) (xs : List (PlainMessage PlainApart)) → across 0 (map as_ends (came_from (owned_kit b) touches works (x ∷ xs))) ≡ as_ends (map first (came_from (owned_kit b) touches works (x ∷ xs)))
+unfolding came_from ran
+came_front b [] works x xs = refl
+came_front b (t ∷ touches) [] x xs = refl
+came_front b (t ∷ touches) (o ∷ works) x xs = ap (λ l. as_ends (gave (owned_kit b) o (parted t x) ∷ []) ++ l) (came_front b touches works x xs)
 
-came_even : {F : Type 0} (b : Behaviour F) (touches : List Touch) (works : List (PlainOwned F)) (packets : List Merged) → AllEven (length packets) (came_from (owned_kit b) touches works (map of_merged packets))
-unfolding AllEven came_from
-came_even b [] works packets = tt
-came_even b (t ∷ touches) [] packets = tt
-came_even b (t ∷ touches) (o ∷ works) packets = (
-  ran_many b o (map (parted t) (map of_merged packets)) ∙ (length-map (map of_merged packets) (parted t) ∙ length-map packets of_merged),
-  came_even b touches works packets,
+fitted_after : {F : Type 0} (b : Behaviour F) (chain : List Profile) (low high n : ℕ) (touches : List Touch) (works : List (PlainOwned F)) (x : PlainMessage PlainApart) → AreLaws b → AllFitted b chain low high n touches works → AllFitted b chain low high n touches (moved_all b touches works x)
+unfolding AllFitted moved_all
+fitted_after b chain low high n [] [] x laws fitted = tt
+fitted_after b chain low high n [] (o ∷ works) x laws fitted = absurd fitted
+fitted_after b chain low high n (t ∷ touches) [] x laws fitted = absurd fitted
+fitted_after b chain low high n (t ∷ touches) (o ∷ works) x laws fitted = (
+  record {
+    at = ap (map (profile_at chain)) (moved_positions b o (parted t x)) ∙ fitted.0.at ∙ ap (map (λ p. Some p)) (sym (moved_profiles b o (parted t x) laws.keeps));
+    holds = subst (Holds chain t low high) (sym (moved_positions b o (parted t x))) fitted.0.holds;
+    enough = subst (λ m. n ≤ m) (sym (moved_packets b o (parted t x))) fitted.0.enough;
+  },
+  fitted_after b chain low high n touches works x laws fitted.1,
 )
 
-all_may_take : {F : Type 0} (b : Behaviour F) (chain : List Profile) (low high n : ℕ) (branches : List Branch) (touches : List Touch) (packets : List Merged) (owns : List (List F)) → AreLaws b → AllOwn b chain branches owns → AllHold chain low high branches touches → AllEnter chain low packets → length packets ≤ n →
-    AllMayTake (owned_kit b) (owned_may b) touches (works_in branches owns n) (map of_merged packets)
-unfolding AllMayTake AllOwn AllHold works_in
-all_may_take b chain low high n [] [] packets owns laws own holds enter many = tt
-all_may_take b chain low high n (x ∷ branches) (t ∷ touches) packets (o ∷ owns) laws own holds enter many = (
-  may_take_all b chain low high t (owned_branch x o n) 0 packets laws.dealt laws.keeps own.0 holds.0 enter (omega arith),
-  all_may_take b chain low high n branches touches packets owns laws own.1 holds.1 enter many,
+-- what they give of a packet may be put together
+row_carried : {F : Type 0} (b : Behaviour F) (chain : List Profile) (low high n : ℕ) (touches : List Touch) (works : List (PlainOwned F)) (whole : PlainApart) → AreLaws b → AllFitted b chain low high n touches works → GoesFrom chain low whole →
+    AllCarried chain whole high touches (map as_arrival (gave_all b touches works (Live whole)))
+unfolding AllFitted AllCarried gave_all
+row_carried b chain low high n [] [] whole laws fitted goes = tt
+row_carried b chain low high n [] (o ∷ works) whole laws fitted goes = absurd fitted
+row_carried b chain low high n (t ∷ touches) [] whole laws fitted goes = absurd fitted
+row_carried b chain low high n (t ∷ touches) (o ∷ works) whole laws fitted goes = (
+  ran_carried b chain whole t low high o.positions o.functions (Live (dealt whole t)) laws.behind laws.later laws.keeps fitted.0.at fitted.0.holds (laws.dealt chain whole t low goes),
+  row_carried b chain low high n touches works whole laws fitted.1 goes,
 )
-all_may_take b chain low high n (x ∷ branches) (t ∷ touches) packets [] laws own holds enter many = absurd own
-all_may_take b chain low high n (x ∷ branches) [] packets owns laws own holds enter many = absurd holds
-all_may_take b chain low high n [] (t ∷ touches) packets owns laws own holds enter many = absurd holds
+
+packet_passes : {F : Type 0} (b : Behaviour F) (chain : List Profile) (low high n : ℕ) (touches : List Touch) (works : List (PlainOwned F)) (m : Merged) → AreLaws b → AllFitted b chain low high n touches works → low ≤ high → MayEnter chain low m → Fits m →
+    PacketPasses chain high touches m (gave_all b touches works (of_merged m))
+packet_passes b chain low high n touches works (ends.Whole whole) laws fitted rises enter fits =
+    whole_passes chain low high touches whole (gave_all b touches works (Live whole)) laws.merging enter fits rises (row_carried b chain low high n touches works whole laws fitted enter)
+packet_passes b chain low high n touches works (ends.Gone p) laws fitted rises enter fits = gone_passes chain high touches p (gave_all b touches works (of_merged (ends.Gone p)))
+packet_passes b chain low high n touches works ends.Short laws fitted rises enter fits = absurd enter
+
+-- the packets, one after another
+rows_pass : {F : Type 0} (b : Behaviour F) (chain : List Profile) (low high n : ℕ) (touches : List Touch) (works : List (PlainOwned F)) (packets : List Merged) → AreLaws b → AllFitted b chain low high n touches works → low ≤ high → AllEnter chain low packets → All Fits packets →
+    RowsPass chain high touches packets (came_from (owned_kit b) touches works (map of_merged packets))
+rows_pass b chain low high n touches works [] laws fitted rises enter fits = none_pass chain high touches (came_from (owned_kit b) touches works [])
+rows_pass {F} b chain low high n touches works (m ∷ packets) laws fitted rises enter fits =
+    let x : PlainMessage PlainApart = of_merged m in
+    let xs : List (PlainMessage PlainApart) = map of_merged packets in
+    more_pass chain high touches m packets (came_from (owned_kit b) touches works (x ∷ xs)) (came_front b touches works x xs)
+    (subst (PacketPasses chain high touches m) (sym (came_first b touches works x xs)) (packet_passes b chain low high n touches works m laws fitted rises (enter 0 m refl) (All-head Fits m packets fits)))
+    (subst (RowsPass chain high touches packets) (sym (came_rest b touches works x xs))
+    (rows_pass b chain low high n touches (moved_all b touches works x) packets laws (fitted_after b chain low high n touches works x laws fitted) rises (λ k p e. enter (suc k) p e) (All-tail Fits m packets fits)))
+
+-- the branches, each with all packets
+streams_same : {F : Type 0} (b : Behaviour F) (n : ℕ) (branches : List Branch) (touches : List Touch) (owns : List (List F)) (packets : List Merged) → AreLaws b → length touches ≡ length branches → length owns ≡ length branches →
+    ◌≡◌ {A = Turn (List (List F)) (List (List BranchEnd))} (beside (branch_stream b) (zip branches touches) owns (map as_message packets))
+    (record { state = map (λ o. o.functions) (stayed (owned_kit b) touches (works_in branches owns n) (map of_merged packets)); gives = map as_ends (came_from (owned_kit b) touches (works_in branches owns n) (map of_merged packets)) })
+unfolding beside works_in stayed came_from
+streams_same b n [] [] [] packets laws ts os = refl
+streams_same b n [] [] (own ∷ owns) packets laws ts os = absurd (omega arith)
+streams_same b n [] (t ∷ touches) owns packets laws ts os = absurd (omega arith)
+streams_same b n (x ∷ branches) [] owns packets laws ts os = absurd (omega arith)
+streams_same b n (x ∷ branches) (t ∷ touches) [] packets laws ts os = absurd (omega arith)
+streams_same {F} b n (x ∷ branches) (t ∷ touches) (own ∷ owns) packets laws ts os =
+    let o : PlainOwned F = record { functions = own; positions = x.positions; packets = n } in
+    λ i. then_both (stream_same b o x t packets laws.keeps laws.same refl i) (streams_same b n branches touches owns packets laws (omega arith) (omega arith) i)
+
+all_may_take : {F : Type 0} (b : Behaviour F) (chain : List Profile) (low high n : ℕ) (touches : List Touch) (works : List (PlainOwned F)) (packets : List Merged) → AreLaws b → AllFitted b chain low high n touches works → AllEnter chain low packets → length packets ≤ n →
+    AllMayTake (owned_kit b) (owned_may b) touches works (map of_merged packets)
+unfolding AllMayTake AllFitted
+all_may_take b chain low high n [] [] packets laws fitted enter many = tt
+all_may_take b chain low high n [] (o ∷ works) packets laws fitted enter many = absurd fitted
+all_may_take b chain low high n (t ∷ touches) [] packets laws fitted enter many = absurd fitted
+all_may_take b chain low high n (t ∷ touches) (o ∷ works) packets laws fitted enter many = (
+  (let enough = fitted.0.enough in may_take_all b chain low high t o 0 packets laws.dealt laws.keeps fitted.0.at fitted.0.holds enter (omega arith)),
+  all_may_take b chain low high n touches works packets laws fitted.1 enter many,
+)
 
 -- the copies that its dealer makes
 due_same : {F : Type 0} (b : Behaviour F) (chain : List Profile) (low : ℕ) (stage : Stage) (f : Field) (m : Merged) → AreLaws b → IsLawfulStage chain low stage → MayEnter chain low m → due_of stage.parts.touches f (of_merged m) ≡ due_in f stage (as_message m)
@@ -164,7 +231,7 @@ owned_stage stage owns n = record { parts = stage.parts; branches = works_in sta
 
 -- the packets behind it
 abbrev pub passed_by : {F : Type 0} → Behaviour F → Stage → List (List F) → ℕ → List Merged → List Merged
-passed_by b stage owns n packets = map as_merged (passed (owned_kit b) (owned_stage stage owns n) (map of_merged packets))
+passed_by b stage owns n packets = joined_all stage.parts.touches packets (came_from (owned_kit b) stage.parts.touches (works_in stage.branches owns n) (map of_merged packets))
 
 -- What is known of a burst behind the nodes of a stage.
 pub record HasPassed {F : Type 0} (b : Behaviour F) (chain : List Profile) (at : ℕ) (stage : Stage) (owns : List (List F)) (n : ℕ) (packets : List Merged) : Type 0 where
@@ -176,43 +243,33 @@ pub record HasPassed {F : Type 0} (b : Behaviour F) (chain : List Profile) (at :
   pub same : map of_merged (passed_by b stage owns n packets) ≡ passed (owned_kit b) (owned_stage stage owns n) (map of_merged packets)
   pub counted : (f : Field) → dealer_copies stage.parts.touches (map of_merged packets) f ≡ burst_copies stage (map as_message packets) f
 
-pub stage_passed : {F : Type 0} (b : Behaviour F) (chain : List Profile) (at : ℕ) (stage : Stage) (owns : List (List F)) (n : ℕ) (packets : List Merged) → AreLaws b → IsBurstReady b chain at stage owns packets → All Fits packets → length packets ≤ n → n ≤ 65536 →
+pub stage_passed : {F : Type 0} (b : Behaviour F) (chain : List Profile) (at : ℕ) (stage : Stage) (owns : List (List F)) (n : ℕ) (packets : List Merged) → AreLaws b → IsReadyStage b chain at stage owns → AllEnter chain at packets → All Fits packets → length packets ≤ n →
     HasPassed b chain at stage owns n packets
-stage_passed {F} b chain at stage owns n packets laws ready fits many few =
+unfolding stage_burst
+stage_passed {F} b chain at stage owns n packets laws ready enter fits many =
     let touches : List Touch = stage.parts.touches in
     let works : List (PlainOwned F) = works_in stage.branches owns n in
-    let nows : List (List F) = nows_of b touches works packets in
-    let came : List (List Arrival) = came_of b touches works packets in
-    let columns = came_from (owned_kit b) touches works (map of_merged packets) in
     let ts = (laws.owners chain at stage ready.lawful).touches in
-    let os = as_many_own b chain stage.branches owns ready.owns in
+    let os = as_many_own b chain stage.branches owns ready.owners in
     let ws = works_many stage.branches owns n os in
     let some = ready.some in
-    let low = ready.few in
-    let run : HaveRun b stage packets owns nows came = record {
-      streamed = all_streamed b chain at n stage.branches touches packets owns laws ts os ready.enter;
-      found = none_came_short b chain at touches works packets ready.enter;
-    } in
-    let bound : length packets ≤ 65536 = omega arith in
-    let whole = laws.taken_whole chain at stage owns nows packets came ready fits bound run in
-    let on = laws.taken_on chain at stage owns nows packets came ready fits bound run in
-    let even = came_even b touches works packets in
-    let rows = rows_same chain at touches packets columns ready.enter even in
-    let holds = hold_each chain at (end_of at stage) stage.branches touches ts (λ j x t a e. laws.holds chain at j stage x t ready.lawful ready.position ready.within a e) in
+    let few = ready.few in
+    let fitted = all_fitted b chain at (end_of at stage) n stage.branches touches owns ts ready.owners (λ j x t a e. laws.holds chain at j stage x t ready.lawful ready.position ready.within a e) in
+    let rows = rows_pass b chain at (end_of at stage) n touches works packets laws fitted (omega arith) enter fits in
+    let streams = streams_same b n stage.branches touches owns packets laws ts os in
     record {
       may = record {
         modes = laws.modes chain at stage ready.lawful;
         some = omega arith;
         few = omega arith;
         owners = ws ∙ sym ts;
-        take = all_may_take b chain at (end_of at stage) n stage.branches touches packets owns laws ready.owns holds ready.enter many;
-        belong = rows_belong chain at touches packets columns even whole.belongs;
+        take = all_may_take b chain at (end_of at stage) n touches works packets laws fitted enter many;
+        belong = rows.belong;
       };
-      functions = laws.taken_functions chain at stage owns nows packets came ready fits bound run;
-      packets_are = ap (map as_message) rows ∙ laws.taken_packets chain at stage owns nows packets came ready fits bound run;
-      leaves = subst (LeavesBurst chain (end_of at stage) packets) (sym rows) on;
-      fits = subst (All Fits) (sym rows) (all_fit chain (end_of at stage) 0 (map (left_of touches) packets) came laws.values laws.wrote laws.shape
-          (λ j left e. subst (λ i. BelongsTo left (across i came)) (omega arith) (whole.belongs j left e)) (next_enter chain (end_of at stage) packets (joined_lefts (map (left_of touches) packets) came) on));
+      functions = sym (ap (λ (r : Turn (List (List F)) (List (List BranchEnd))). r.state) streams);
+      packets_are = rows.messages ∙ sym (ap (λ (r : Turn (List (List F)) (List (List BranchEnd))). merged_from 0 (map as_message packets) r.gives) streams);
+      leaves = rows.leaves;
+      fits = rows.fits;
       same = all_of_as (passed (owned_kit b) (owned_stage stage owns n) (map of_merged packets));
-      counted = λ f. copies_same b chain at stage f packets laws ready.lawful ready.enter;
+      counted = λ f. copies_same b chain at stage f packets laws ready.lawful enter;
     }

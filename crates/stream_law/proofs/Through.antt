@@ -5,7 +5,6 @@ use Rattle.std.proofs.lemmas.Option.{slice_get_within}
 use Rattle.packet_fields.specs.declared.field.Field.{Field}
 use Rattle.action_profile.specs.declared.rights.Profile.{Profile}
 use Rattle.chain_walk.specs.Step.{Behaviour}
-use Rattle.graph_compile.specs.Lawful.{IsLawfulStage}
 use Rattle.graph_compile.specs.declared.graph.Stage.{Stage}
 use Rattle.packet_version.specs.Splitting.{PlainApart}
 use Rattle.merge_ops.specs.declared.merging.Merged.{Merged}
@@ -14,27 +13,17 @@ use Rattle.burst_law.specs.Stations.{along, weight_along}
 use Rattle.burst_law.specs.Bursts.{Message, stage_burst}
 use Rattle.burst_law.specs.Copies.{due_in}
 use Rattle.graph_run.specs.Stages.{end_of}
-use Rattle.joined_run.specs.Messages.{as_message}
-use Rattle.joined_run.specs.Leaving.{Follows, LeavesBurst, KeepsRest, KeepsRests}
-use Rattle.joined_run.specs.Ready.{MayEnter, AllOwn, AllEnter, IsBurstReady}
-use Rattle.joined_run.specs.Works.{Fits}
 use Rattle.message_links.specs.Messages.{PlainMessage}
 use Rattle.stage_nodes.specs.Streams.{of_merged, as_merged, passed, through, ends_of, copies_along}
 use Rattle.stage_nodes.specs.Flows.{MayPassAll}
+use Rattle.stream_law.specs.Rests.{KeepsRest, KeepsRests}
+use Rattle.stream_law.specs.Messages.{as_message}
 use Rattle.stream_law.specs.Owned.{owned_kit, owned_may}
+use Rattle.stream_law.specs.Ready.{MayEnter, AllEnter, Fits}
 use Rattle.stream_law.specs.Works.{works_of}
-use Rattle.stream_law.proofs.Rows.{all_as_of}
+use Rattle.stream_law.proofs.Rows.{Follows, LeavesBurst, all_as_of, same_some}
 use Rattle.stream_law.proofs.Cited.{AreLaws}
-use Rattle.stream_law.proofs.Staged.{HasPassed, owned_stage, passed_by, stage_passed, next_enter, some_at}
-
--- A stage is ready for packets that may enter it.
-pub record IsReadyStage {F : Type 0} (b : Behaviour F) (chain : List Profile) (at : ℕ) (stage : Stage) (owns : List (List F)) : Type 0 where
-  pub lawful : IsLawfulStage chain at stage
-  pub position : 1 ≤ at
-  pub within : end_of at stage ≤ suc (length chain)
-  pub some : 0 < length stage.branches
-  pub few : length stage.branches ≤ 64
-  pub owners : AllOwn b chain stage.branches owns
+use Rattle.stream_law.proofs.Staged.{HasPassed, IsReadyStage, owned_stage, passed_by, stage_passed, next_enter, some_at}
 
 -- stages one after another, the first from this position on
 unfoldable pub AllReady : {F : Type 0} → Behaviour F → List Profile → ℕ → List Stage → List (List (List F)) → Type 0
@@ -47,9 +36,6 @@ keeps_itself : (chain : List Profile) (position : ℕ) (m : Merged) → MayEnter
 keeps_itself chain position (ends.Whole w) may = refl
 keeps_itself chain position (ends.Gone p) may = refl
 keeps_itself chain position ends.Short may = may
-
-same_some : {A : Type 0} (x y : A) → Some x ≡ Some y → x ≡ y
-same_some x y e = cc
 
 pub rests_first : (chain : List Profile) (position : ℕ) (packets : List Merged) → AllEnter chain position packets → KeepsRests packets packets
 rests_first chain position packets enter = record {
@@ -105,21 +91,18 @@ one_gone b chain at s stages owns owned n start packets here later = record {
   counted = λ f i. here.counted f i + later.counted f i;
 }
 
-pub all_gone : {F : Type 0} (b : Behaviour F) (chain : List Profile) (at : ℕ) (stages : List Stage) (owned : List (List (List F))) (n : ℕ) (start packets : List Merged) → AreLaws b → AllReady b chain at stages owned → AllEnter chain at packets → All Fits packets → length packets ≤ n → n ≤ 65536 → KeepsRests start packets →
+pub all_gone : {F : Type 0} (b : Behaviour F) (chain : List Profile) (at : ℕ) (stages : List Stage) (owned : List (List (List F))) (n : ℕ) (start packets : List Merged) → AreLaws b → AllReady b chain at stages owned → AllEnter chain at packets → All Fits packets → length packets ≤ n → KeepsRests start packets →
     HasGone b stages owned n start (map of_merged packets) (map as_message packets)
 unfolding AllReady
-all_gone b chain at [] [] n start packets laws ready enter fits many few rests = none_gone b n start packets rests
-all_gone {F} b chain at (s ∷ stages) (owns ∷ owned) n start packets laws ready enter fits many few rests =
+all_gone b chain at [] [] n start packets laws ready enter fits many rests = none_gone b n start packets rests
+all_gone {F} b chain at (s ∷ stages) (owns ∷ owned) n start packets laws ready enter fits many rests =
     let stage = ready.0 in
-    let position = stage.position in
-    let within = stage.within in
-    let burst : IsBurstReady b chain at s owns packets = record { lawful = stage.lawful; position = position; within = within; some = stage.some; few = stage.few; owns = stage.owners; enter = enter } in
-    let here = stage_passed b chain at s owns n packets laws burst fits many few in
+    let here = stage_passed b chain at s owns n packets laws stage enter fits many in
     let after : List Merged = passed_by b s owns n packets in
     let count = here.leaves.count in
-    let later = all_gone b chain (end_of at s) stages owned n start after laws ready.1 (next_enter chain (end_of at s) packets after here.leaves) here.fits (omega arith) few (rests_on chain (end_of at s) start packets after rests here.leaves) in
+    let later = all_gone b chain (end_of at s) stages owned n start after laws ready.1 (next_enter chain (end_of at s) packets after here.leaves) here.fits (omega arith) (rests_on chain (end_of at s) start packets after rests here.leaves) in
     one_gone b chain at s stages owns owned n start packets here
     (subst (λ (xs : List (PlainMessage PlainApart)). HasGone b stages owned n start xs (stage_burst b s owns (map as_message packets)).gives) here.same
     (subst (λ (ms : List Message). HasGone b stages owned n start (map of_merged after) ms) here.packets_are later))
-all_gone b chain at [] (owns ∷ owned) n start packets laws ready enter fits many few rests = absurd ready
-all_gone b chain at (s ∷ stages) [] n start packets laws ready enter fits many few rests = absurd ready
+all_gone b chain at [] (owns ∷ owned) n start packets laws ready enter fits many rests = absurd ready
+all_gone b chain at (s ∷ stages) [] n start packets laws ready enter fits many rests = absurd ready

@@ -11,12 +11,10 @@ use Rattle.graph_compile.specs.Parts.{profile_at}
 use Rattle.graph_law.specs.Branches.{BranchEnd, moved_function, moved_end, written_at}
 use Rattle.packet_version.specs.Splitting.{PlainApart}
 use Rattle.packet_version.specs.Versions.{PlainVersion, HoldsNamed}
-use Rattle.merge_ops.specs.Merging.{is_short}
 use Rattle.burst_law.specs.Owned.{turned}
 use Rattle.burst_law.specs.Stations.{Turn, then_state}
 use Rattle.graph_run.specs.Carrying.{as_version, as_branch_end, wrote_at}
-use Rattle.graph_run.specs.Staging.{Holds, IsCarried}
-use Rattle.branch_run.specs.Streams.{MayBeCarried}
+use Rattle.graph_run.specs.Staging.{Holds, IsCarried, IsCarriedBy}
 use Rattle.message_links.specs.Messages.{PlainMessage, PlainMessage.Live, PlainMessage.Nil, PlainMessage.Short}
 use Rattle.stage_nodes.specs.Streams.{as_arrival}
 use Rattle.stream_law.specs.Owned.{moved_by, went_by, ran_by}
@@ -78,22 +76,6 @@ ran_same b (q ∷ qs) (f ∷ fs) x m keeps h =
     ap (then_state (moved_by b f m)) (ran_same b qs fs x (went_by b q f m) keeps (stays_fixed b q f x m h))
     ∙ (λ i. then_state (moved_same b f x m h i) (turned b x qs fs (went_same b q f x m keeps h i)))
 
--- what goes on is short only where it came so
-went_there : {F : Type 0} (b : Behaviour F) (q : ℕ) (f : F) (m : PlainMessage PlainVersion) → is_short (as_arrival m) ≡ false → is_short (as_arrival (went_by b q f m)) ≡ false
-went_there b q f (Live v) e = by_verdict (is_drop (stepped b v.fixed f (as_version v).values).verdict)
-  where
-    by_verdict : (d : Bool) → is_short (as_arrival (if d then Nil q else Live (wrote_at q (stepped b v.fixed f (as_version v).values).written v))) ≡ false
-    by_verdict true = refl
-    by_verdict false = refl
-went_there b q f (Nil p) e = refl
-went_there b q f Short e = e
-
-pub ran_there : {F : Type 0} (b : Behaviour F) (qs : List ℕ) (fs : List F) (m : PlainMessage PlainVersion) → is_short (as_arrival m) ≡ false → is_short (as_arrival (ran_by b qs fs m).gives) ≡ false
-unfolding ran_by
-ran_there b [] fs m e = e
-ran_there b (q ∷ qs) [] m e = e
-ran_there b (q ∷ qs) (f ∷ fs) m e = ran_there b qs fs (went_by b q f m) (went_there b q f m e)
-
 -- functions keep their profiles
 moved_profile : {F : Type 0} (b : Behaviour F) (f : F) (m : PlainMessage PlainVersion) → KeepsProfile b → b.profile (moved_by b f m) ≡ b.profile f
 moved_profile b f (Live v) keeps = keeps.stays v.fixed f (as_version v).values
@@ -131,25 +113,25 @@ pub rest_same : {A : Type 0} {x y : A} {xs ys : List A} → x ∷ xs ≡ y ∷ y
 rest_same e = cc
 
 went_on : {F : Type 0} (b : Behaviour F) (chain : List Profile) (whole : PlainApart) (touch : Touch) (low high q : ℕ) (rest : List ℕ) (f : F) (m : PlainMessage PlainVersion) → GoesOnBehind F → KeepsProfile b →
-    Next chain touch low high q rest → profile_at chain q ≡ Some (b.profile f) → MayBeCarried chain whole touch low (as_arrival m) → MayBeCarried chain whole touch (q + 1) (as_arrival (went_by b q f m))
+    Next chain touch low high q rest → profile_at chain q ≡ Some (b.profile f) → IsCarriedBy chain whole touch low (as_arrival m) → IsCarriedBy chain whole touch (q + 1) (as_arrival (went_by b q f m))
 went_on b chain whole touch low high q rest f (Live v) behind keeps next mine carried = by_verdict (is_drop (stepped b v.fixed f (as_version v).values).verdict)
   where
-    by_verdict : (d : Bool) → MayBeCarried chain whole touch (q + 1) (as_arrival (if d then Nil q else Live (wrote_at q (stepped b v.fixed f (as_version v).values).written v)))
+    by_verdict : (d : Bool) → IsCarriedBy chain whole touch (q + 1) (as_arrival (if d then Nil q else Live (wrote_at q (stepped b v.fixed f (as_version v).values).written v)))
     by_verdict true = tt
     by_verdict false =
         behind b chain whole touch low q f v keeps next.position next.rises mine
         (subst (λ p. HoldsNamed p touch) (same_Some next.profile (b.profile f) (sym next.is ∙ mine)) next.named) carried
 went_on b chain whole touch low high q rest f (Nil p) behind keeps next mine carried = tt
-went_on b chain whole touch low high q rest f Short behind keeps next mine carried = tt
+went_on b chain whole touch low high q rest f Short behind keeps next mine carried = carried
 
-carried_later : (chain : List Profile) (whole : PlainApart) (touch : Touch) (low high : ℕ) (m : PlainMessage PlainVersion) → GoesOnLater → low ≤ high → MayBeCarried chain whole touch low (as_arrival m) → MayBeCarried chain whole touch high (as_arrival m)
+carried_later : (chain : List Profile) (whole : PlainApart) (touch : Touch) (low high : ℕ) (m : PlainMessage PlainVersion) → GoesOnLater → low ≤ high → IsCarriedBy chain whole touch low (as_arrival m) → IsCarriedBy chain whole touch high (as_arrival m)
 carried_later chain whole touch low high (Live v) later le carried = later chain whole touch low high v le carried
 carried_later chain whole touch low high (Nil p) later le carried = tt
-carried_later chain whole touch low high Short later le carried = tt
+carried_later chain whole touch low high Short later le carried = carried
 
 -- a version goes on through all of them
 pub ran_carried : {F : Type 0} (b : Behaviour F) (chain : List Profile) (whole : PlainApart) (touch : Touch) (low high : ℕ) (qs : List ℕ) (fs : List F) (m : PlainMessage PlainVersion) → GoesOnBehind F → GoesOnLater → KeepsProfile b →
-    map (profile_at chain) qs ≡ map (λ p. Some p) (map b.profile fs) → Holds chain touch low high qs → MayBeCarried chain whole touch low (as_arrival m) → MayBeCarried chain whole touch high (as_arrival (ran_by b qs fs m).gives)
+    map (profile_at chain) qs ≡ map (λ p. Some p) (map b.profile fs) → Holds chain touch low high qs → IsCarriedBy chain whole touch low (as_arrival m) → IsCarriedBy chain whole touch high (as_arrival (ran_by b qs fs m).gives)
 unfolding ran_by
 ran_carried b chain whole touch low high [] fs m behind later keeps at holds carried = carried_later chain whole touch low high m later (none_held chain touch low high holds) carried
 ran_carried b chain whole touch low high (q ∷ qs) [] m behind later keeps at holds carried = absurd cc

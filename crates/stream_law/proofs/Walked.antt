@@ -10,8 +10,8 @@ use Rattle.burst_law.specs.Stations.{Turn}
 use Rattle.burst_law.specs.Owned.{owned_by}
 use Rattle.burst_law.specs.Bursts.{Message, graph_burst, chain_burst}
 use Rattle.burst_law.specs.Copies.{graph_copies, chain_copies}
-use Rattle.joined_run.specs.Leaving.{KeepsRests}
-use Rattle.joined_run.specs.Messages.{as_message}
+use Rattle.stream_law.specs.Rests.{KeepsRests}
+use Rattle.stream_law.specs.Messages.{as_message}
 use Rattle.stage_nodes.specs.Flows.{MayPassAll}
 use Rattle.stage_nodes.specs.Streams.{of_merged, as_merged, through, ends_of, copies_along}
 use Rattle.stream_law.specs.Owned.{owned_kit, owned_may}
@@ -43,7 +43,7 @@ gone : {F : Type 0} (b : Behaviour F) (graph : Graph) (functions : List F) (pack
     HasGone b graph.stages (owned_by graph.stages functions) (length packets) packets (map of_merged packets) (map as_message packets)
 gone b graph functions packets laws graphs ready =
     all_gone b (map b.profile functions) 1 graph.stages (owned_by graph.stages functions) (length packets) packets packets laws
-    (graph_ready b graph functions graphs.staged graphs.rising graphs.many graphs.each ready.running) ready.enter ready.fits (omega arith) ready.few (rests_first (map b.profile functions) 1 packets ready.enter)
+    (graph_ready b graph functions graphs.staged graphs.rising graphs.many graphs.each ready.running) ready.enter ready.fits (omega arith) (rests_first (map b.profile functions) 1 packets ready.enter)
 
 -- What is known of the burst.
 pub record HasWalked {F : Type 0} (b : Behaviour F) (graph : Graph) (functions : List F) (packets : List Merged) : Type 0 where

@@ -1,7 +1,6 @@
 -- A packet that was put together behind a stage is whole again.
-use Rattle.std.proofs.Common.{◌≡◌, ◌≢◌, ◌∙◌, ◌<◌, ◌+◌, ℕ, suc, Bool, true, false, List, [], ◌∷◌, length, ap, refl, sym, subst, arith}
-use Rattle.std.specs.Prelude.{All, Option, Some, None, is_some, option_map, IfSome, if◌then◌else◌, slice_get, slice_index_or}
-use Rattle.std.proofs.lemmas.List.Elements.{All-nil, All-cons}
+use Rattle.std.proofs.Common.{◌≡◌, ◌≢◌, ◌∙◌, ◌<◌, ℕ, Bool, true, false, List, length, ap, refl, sym, subst, arith}
+use Rattle.std.specs.Prelude.{Option, Some, None, is_some, option_map, IfSome, if◌then◌else◌, slice_index_or}
 use Rattle.packet_fields.specs.Frames.{is_tag_list}
 use Rattle.packet_fields.specs.declared.field.Field.{Field}
 use Rattle.packet_fields.specs.declared.field.Field.TheVariants.{Tag}
@@ -12,7 +11,7 @@ use Rattle.chain_walk.specs.Shown.{AreWellFormed}
 use Rattle.packet_version.specs.Parts.{PlainPart, Parts, unwritten, values_of, writer_in}
 use Rattle.packet_version.specs.Splitting.{PlainApart, IsWhole, IsShapedAs, packet_parts}
 use Rattle.packet_version.specs.Versions.{version_parts}
-use Rattle.packet_version.specs.Dealing.{dealt_parts}
+use Rattle.packet_version.specs.Dealing.{dealt_parts, based}
 use Rattle.merge_ops.specs.Behind.{no_touch, IsFrom, AreFrom, value_by, value_behind}
 use Rattle.merge_ops.specs.Merging.{part_of, writer_of, last_writer, decision_of}
 use Rattle.merge_ops.specs.Taking.{arrival_at, merged_packet, merged_by, merged}
@@ -23,13 +22,9 @@ use Rattle.merge_ops.specs.declared.decision.Decision.TheVariants as decisions
 use Rattle.merge_ops.specs.declared.decision.MergeOp.{MergeOp}
 use Rattle.merge_ops.specs.declared.merging.Merged.{Merged}
 use Rattle.merge_ops.specs.declared.merging.Merged.TheVariants as ends
-use Rattle.burst_law.specs.Stations.{across}
-use Rattle.burst_merge.specs.Joining.{BelongsTo, joined_left, joined_from}
-use Rattle.burst_merge.specs.declared.left.Left.{Left}
-use Rattle.burst_merge.specs.declared.left.Left.TheVariants as lefts
 use Rattle.graph_run.specs.Carrying.{values_in}
-use Rattle.joined_run.specs.Ready.{MayEnter}
-use Rattle.joined_run.specs.Works.{Fits}
+use Rattle.graph_run.specs.Stages.{LeavesStage}
+use Rattle.stream_law.specs.Ready.{Fits}
 
 -- the laws of merging, as they are cited
 abbrev pub ValuesBehind : Type 0
@@ -138,21 +133,12 @@ whole_again whole touches base arrivals after values law shape from is formed =
     (shape (packet_parts whole) (packet_parts (merged_packet base arrivals)) whole.rest from.fits
     (shaped whole touches base arrivals t.ops values law from t.takes (subst (λ (w : PlainApart). AreWellFormed (values_in w)) (sym t.same) formed))))
 
--- and so are all packets behind a stage
-one_fits : (chain : List Profile) (next : ℕ) (left : Left) (row : List Arrival) → ValuesBehind → LastWrote → ShapeFits → BelongsTo left row → MayEnter chain next (joined_left left row) → Fits (joined_left left row)
-one_fits chain next (lefts.Base base) row values law shape belongs enter = by_end (merged base row) refl enter
+-- and so is what a merger makes of a packet
+pub merged_fits : (chain : List Profile) (next : ℕ) (whole : PlainApart) (touches : List Touch) (row : List Arrival) → ValuesBehind → LastWrote → ShapeFits → AreFrom whole touches (based touches whole) row → LeavesStage chain next whole (merged (based touches whole) row) →
+    Fits (merged (based touches whole) row)
+merged_fits chain next whole touches row values law shape from leaves = by_end (merged (based touches whole) row) refl leaves
   where
-    by_end : (m : Merged) → merged base row ≡ m → MayEnter chain next m → Fits m
-    by_end (ends.Whole after) is goes = whole_again belongs.whole belongs.touches base row after values law shape belongs.from is goes.formed
-    by_end (ends.Gone p) is goes = tt
-    by_end ends.Short is goes = tt
-one_fits chain next (lefts.Gone p) row values law shape belongs enter = tt
-
-pub all_fit : (chain : List Profile) (next k : ℕ) (ls : List Left) (came : List (List Arrival)) → ValuesBehind → LastWrote → ShapeFits → ((j : ℕ) (left : Left) → slice_get ls j ≡ Some left → BelongsTo left (across (k + j) came)) →
-    ((j : ℕ) (m : Merged) → slice_get (joined_from k ls came) j ≡ Some m → MayEnter chain next m) → All Fits (joined_from k ls came)
-unfolding joined_from
-all_fit chain next k [] came values law shape belongs enter = All-nil Fits
-all_fit chain next k (left ∷ ls) came values law shape belongs enter =
-    All-cons Fits (joined_left left (across k came)) (joined_from (suc k) ls came)
-    (one_fits chain next left (across k came) values law shape (subst (λ n. BelongsTo left (across n came)) (omega arith) (belongs 0 left refl)) (enter 0 (joined_left left (across k came)) refl))
-    (all_fit chain next (suc k) ls came values law shape (λ j l e. subst (λ n. BelongsTo l (across n came)) (omega arith) (belongs (suc j) l e)) (λ j m e. enter (suc j) m e))
+    by_end : (m : Merged) → merged (based touches whole) row ≡ m → LeavesStage chain next whole m → Fits m
+    by_end (ends.Whole after) is behind = whole_again whole touches (based touches whole) row after values law shape from is behind.goes.formed
+    by_end (ends.Gone p) is behind = tt
+    by_end ends.Short is behind = tt

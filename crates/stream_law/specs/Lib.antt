@@ -1,3 +1,7 @@
 pub mod Owned
 pub mod Works
 pub mod Ready
+pub mod Messages
+pub mod Rests
+pub mod Apart
+pub mod Ended

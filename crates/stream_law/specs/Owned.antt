@@ -1,11 +1,15 @@
 -- For proofs: the functions that a branch owns, one after another on what comes to it.
-use Rattle.std.specs.Prelude.{◌≡◌, ◌<◌, ℕ, List, [], ◌∷◌, length, if◌then◌else◌}
+use Rattle.std.specs.Prelude.{◌≡◌, ◌<◌, ℕ, List, [], ◌∷◌, length, map, Some, if◌then◌else◌}
+use Rattle.action_profile.specs.declared.parts.Touch.{Touch}
+use Rattle.action_profile.specs.declared.rights.Profile.{Profile}
 use Rattle.chain_walk.specs.Step.{Behaviour, stepped, is_drop}
+use Rattle.graph_compile.specs.Parts.{profile_at}
+use Rattle.packet_version.specs.Splitting.{PlainApart}
 use Rattle.packet_version.specs.Versions.{PlainVersion}
 use Rattle.burst_law.specs.Stations.{Turn, then_state}
 use Rattle.graph_run.specs.Carrying.{as_version, wrote_at}
 use Rattle.graph_run.specs.Running.{profiles_of}
-use Rattle.branch_run.specs.Streams.{IsOwnReady}
+use Rattle.graph_run.specs.Staging.{Holds, IsCarried}
 use Rattle.message_links.specs.Messages.{PlainMessage, PlainMessage.Live, PlainMessage.Nil, PlainMessage.Short}
 use Rattle.stage_nodes.specs.Streams.{Kit}
 
@@ -14,6 +18,21 @@ pub record PlainOwned (F : Type 0) : Type 0 where
   pub functions : List F
   pub positions : List ℕ
   pub packets : ℕ
+
+-- Functions with these profiles have these positions in a chain, which rise from one bound to another, and a branch with this
+-- touch holds what they name.
+pub record IsBranch (chain : List Profile) (touch : Touch) (low high : ℕ) (positions : List ℕ) (own : List Profile) : Type 0 where
+  pub at : map (profile_at chain) positions ≡ map (λ p. Some p) own
+  pub holds : Holds chain touch low high positions
+
+-- A version is ready for a branch that owns functions with these profiles.
+pub record IsOwnReady (own : List Profile) (positions : List ℕ) (version : PlainVersion) : Type 0 where
+  pub chain : List Profile
+  pub whole : PlainApart
+  pub low : ℕ
+  pub high : ℕ
+  pub branch : IsBranch chain version.touch low high positions own
+  pub carried : IsCarried chain whole version.touch low version
 
 -- a function as it leaves what comes to it; what has no packet it never sees
 abbrev pub moved_by : {F : Type 0} → Behaviour F → F → PlainMessage PlainVersion → F

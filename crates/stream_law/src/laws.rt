@@ -6,8 +6,8 @@ ghost use Rattle.merge_ops.specs.declared.merging.Merged.{Merged};
 ghost use Rattle.burst_law.specs.Owned.{owned_by};
 ghost use Rattle.burst_law.specs.Bursts.{chain_burst};
 ghost use Rattle.burst_law.specs.Copies.{chain_copies};
-ghost use Rattle.joined_run.specs.Leaving.{KeepsRests};
-ghost use Rattle.joined_run.specs.Messages.{as_message};
+ghost use Rattle.stream_law.specs.Rests.{KeepsRests};
+ghost use Rattle.stream_law.specs.Messages.{as_message};
 ghost use Rattle.stage_nodes.specs.Flows.{MayPassAll};
 ghost use Rattle.stage_nodes.specs.Streams.{of_merged, as_merged, through, ends_of, copies_along};
 ghost use Rattle.stream_law.specs.Owned.{owned_kit, owned_may};
@@ -18,9 +18,8 @@ use burst_law::{burst_is_chain, copies_are_same, owned_is_whole};
 use graph_compile::{lawful_graph_is_staged, lawful_stage_has_owners, stages_rise};
 use graph_run::{
     branches_hold_what_is_named, dealt_versions_go_on, due_copies_are_counted,
-    functions_keep_to_profiles, versions_go_on,
+    functions_keep_to_profiles, merged_packets_go_on, versions_go_on,
 };
-use joined_run::taken_packets_make_a_stage;
 use merge_ops::{last_writer_is_greatest, merged_is_written_last};
 use net_functions::Function;
 use packet_version::shape_fits;
@@ -71,7 +70,7 @@ pub fn nodes_walk_the_chain<F: Function>()
     last_writer_is_greatest();
     merged_is_written_last();
     shape_fits();
-    taken_packets_make_a_stage::<F>();
+    merged_packets_go_on();
     burst_is_chain::<F>();
     copies_are_same::<F>();
 }

@@ -8,12 +8,18 @@
 //! the branches are left with, are those of packets that walk through the chain one after another, each as
 //! the packet before left it. The copies that the dealers make are those that the walks tell.
 //!
-//! It rests on the law of bursts (`burst_law`) and on what `joined_run` says of a stage. A branch of nodes
-//! never sees what another branch gives, so its stream is the same whether the branches run one after
-//! another or side by side; a merger puts each packet together from what the branches gave for it alone.
+//! It rests on the law of bursts (`burst_law`). A branch of nodes never sees what another branch gives, so its
+//! stream is the same whether the branches run one after another or side by side; a merger puts each packet
+//! together from what the branches gave for it alone.
+//!
+//! [`bursts_in_parts_lead`] ties a burst of packets in parts to whole frames that walk: frames that were taken
+//! apart may enter, and where packets in parts end as those that walk, so do the frames.
+//!
 //! There is no code here: what runs the nodes is a crate above.
 #![tactic(auto)]
 
+mod frames;
 mod laws;
 
+pub use frames::bursts_in_parts_lead;
 pub use laws::nodes_walk_the_chain;

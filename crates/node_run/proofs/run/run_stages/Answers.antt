@@ -1,8 +1,8 @@
-use Rattle.std.proofs.Common.{ap, arith, map}
+use Rattle.std.proofs.Common.{ap, map}
 use Rattle.stage_nodes.specs.Streams.{through, dealer_copies}
-use Rattle.node_run.specs.Runs.{HasRun, flat}
+use Rattle.node_run.specs.Runs.{HasRun}
 use Rattle.node_run.specs.Stages.{plain_stage}
-use Rattle.node_run.proofs.Running.{can_run, first_due, first_laid, first_passes, led_by, ok_so}
+use Rattle.node_run.proofs.Running.{may_run, first_due, first_laid, first_passes, led_by, ok_so}
 use Rattle.node_run.proofs.run.run_stages.Goals as goal
 
 pub wire_stage-requires-clause-pass : goal.wire_stage-requires-clause-pass
@@ -11,14 +11,14 @@ wire_stage-requires-clause-pass g c = first_passes g.F.BranchWork.kit g.F.Branch
 pub wire_all-requires-clause-lays : goal.wire_all-requires-clause-lays
 wire_all-requires-clause-lays g c = (_, _, _, first_laid g.F.BranchWork.kit g.F.BranchWork.may g.S.Supply.comes c.args.mergers c.args.count _ _ (plain_stage c.take_first-work.result) g.D.LinkDue.due _ c.in_ok-wired.wired c.requires.some c.requires.many c.requires.pass (ap (map plain_stage) c.take_first-work.ensures) c.in_ok-wired.ensures)
 
-pub run_scoped-requires-clause-run : goal.run_scoped-requires-clause-run
-run_scoped-requires-clause-run g c κs within =
+pub run_laid-requires-clause-run : goal.run_laid-requires-clause-run
+run_laid-requires-clause-run g c κs within =
     let laid = c.in_ok-behind.ensures _ _ _ (first_laid g.F.BranchWork.kit g.F.BranchWork.may g.S.Supply.comes c.args.mergers c.args.count _ _ (plain_stage c.take_first-work.result) g.D.LinkDue.due _ c.in_ok-wired.wired c.requires.some c.requires.many c.requires.pass (ap (map plain_stage) c.take_first-work.ensures) c.in_ok-wired.ensures) in (
       _,
       _,
-      can_run g.F.BranchWork.kit g.F.BranchWork.may g.S.Supply.comes c.args.count _ _ _ _ _ _ _ _ _ _
+      may_run g.F.BranchWork.kit g.F.BranchWork.may g.S.Supply.comes c.args.count _ _ _ _ _ _ _
           (first_due g.F.BranchWork.kit g.F.BranchWork.may g.S.Supply.comes c.args.mergers c.args.count (plain_stage c.take_first-work.result) g.D.LinkDue.due _ c.in_ok-wired.wired c.in_ok-wired.ensures)
-          laid c.in_ok-crews.ensures.nodes c.in_ok-started.ensures.items (omega (arith, c.in_ok-started.ensures.capacity, c.len.ensures, c.in_ok-crews.crews.ok.0)),
+          laid,
     )
 
 pub returns : goal.returns
@@ -26,8 +26,8 @@ returns g c =
     let row = ap (map plain_stage) c.take_first-work.ensures in
     let laid = c.in_ok-behind.ensures _ _ _ (first_laid g.F.BranchWork.kit g.F.BranchWork.may g.S.Supply.comes c.args.mergers c.args.count _ _ (plain_stage c.take_first-work.result) g.D.LinkDue.due _ c.in_ok-wired.wired c.requires.some c.requires.many c.requires.pass row c.in_ok-wired.ensures) in
     let made = dealer_copies (plain_stage c.take_first-work.result).parts.touches g.D.LinkDue.due in
-    let runs = can_run g.F.BranchWork.kit g.F.BranchWork.may g.S.Supply.comes c.args.count _ _ _ made _ _ _ _ _ _
+    let runs = may_run g.F.BranchWork.kit g.F.BranchWork.may g.S.Supply.comes c.args.count _ _ made _ _ _ _
     (first_due g.F.BranchWork.kit g.F.BranchWork.may g.S.Supply.comes c.args.mergers c.args.count (plain_stage c.take_first-work.result) g.D.LinkDue.due _ c.in_ok-wired.wired c.in_ok-wired.ensures)
-    laid c.in_ok-crews.ensures.nodes c.in_ok-started.ensures.items (omega (arith, c.in_ok-started.ensures.capacity, c.len.ensures, c.in_ok-crews.crews.ok.0)) in
-    ok_so (λ ran. HasRun g.F.BranchWork.kit made (flat c.in_ok-crews.crews.items) (through g.F.BranchWork.kit (map plain_stage c.args.stages.items) g.D.LinkDue.due) ran.0.items ran.1.items ran.2) _ c.run_scoped.result
-    (c.run_scoped.ensures made _ runs) (λ ran r. led_by g.F.BranchWork.kit g.F.BranchWork.may c.args.count _ _ (plain_stage c.take_first-work.result) g.D.LinkDue.due _ _ _ ran.0.items ran.1.items ran.2 row c.in_ok-crews.ensures.nodes laid r)
+    laid in
+    ok_so (λ ran. HasRun g.F.BranchWork.kit made _ (through g.F.BranchWork.kit (map plain_stage c.args.stages.items) g.D.LinkDue.due) ran.0.items ran.1.items ran.2) _ c.run_laid.result
+    (c.run_laid.ensures made _ runs) (λ ran r. led_by g.F.BranchWork.kit g.F.BranchWork.may c.args.count _ _ (plain_stage c.take_first-work.result) g.D.LinkDue.due _ _ ran.0.items ran.1.items ran.2 row laid r)

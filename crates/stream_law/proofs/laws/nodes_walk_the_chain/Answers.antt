@@ -8,18 +8,20 @@ returns g c =
       keeps = c.functions_keep_to_profiles.ensures;
       behind = c.versions_go_on.ensures.written;
       later = c.versions_go_on.ensures.later;
+      same = c.dealt_versions_go_on.ensures.same;
       dealt = c.dealt_versions_go_on.ensures.carried;
       owners = c.lawful_stage_has_owners.ensures;
       holds = c.branches_hold_what_is_named.ensures;
       modes = c.due_copies_are_counted.ensures.modes;
       copies = c.due_copies_are_counted.ensures.copies;
-      values = c.merged_is_written_last.ensures.values;
-      wrote = c.last_writer_is_greatest.ensures.wrote;
-      shape = c.shape_fits.ensures;
-      taken_whole = c.taken_packets_make_a_stage.ensures.whole;
-      taken_functions = c.taken_packets_make_a_stage.ensures.functions;
-      taken_packets = c.taken_packets_make_a_stage.ensures.packets;
-      taken_on = c.taken_packets_make_a_stage.ensures.behind;
+      merging = record {
+        from = c.merged_packets_go_on.ensures.from;
+        end = c.merged_packets_go_on.ensures.end;
+        leaves = c.merged_packets_go_on.ensures.leaves;
+        values = c.merged_is_written_last.ensures.values;
+        wrote = c.last_writer_is_greatest.ensures.wrote;
+        shape = c.shape_fits.ensures;
+      };
     } in
     let graphs : AreGraphLaws g.row.F.Denot = record {
       staged = c.lawful_graph_is_staged.ensures.staged;

@@ -1,5 +1,0 @@
-use Rattle.branch_owners.proofs.Taking.{Took}
-use Rattle.branch_owners.proofs.splitting.split_branch.Given as goal
-
-abbrev pub invariant-loop-position : goal.invariant-loop-position
-invariant-loop-position g l = Took l.fn.places l.places l.positions l.own.items l.position-index

@@ -1,2 +1,0 @@
-pub mod OwnTurns
-pub mod Streaming

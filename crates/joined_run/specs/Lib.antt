@@ -1,9 +1,0 @@
-pub mod Messages
-pub mod Ready
-pub mod Leaving
-pub mod Ended
-pub mod Turning
-pub mod Splits
-pub mod Works
-pub mod Streamed
-pub mod Alone

@@ -1,0 +1,262 @@
+-- Functions that are taken out of their places.
+use Rattle.std.proofs.Common.{◌≡◌, ◌≢◌, ◌∙◌, ◌<◌, ◌≤◌, ◌+◌, ◌-◌, ℕ, zero, suc, Bool, List, [], ◌∷◌, ◌++◌, map, length, take, drop, get_or, set, append_assoc, append-nil, sym, ap, refl, subst, arith, inl, inr, eq-eqb, ne_eqb}
+use Rattle.std.specs.Prelude.{◌⊎◌, ◌==◌, Option, Some, None, slice_get, if◌then◌else◌}
+use Rattle.std.specs.List.{flat_map, cons_option}
+use Rattle.std.proofs.lemmas.List.{drop_more, drop_all, get_or-set_other, length-set, length-map, map-append}
+use Rattle.std.proofs.lemmas.List.Sums.{sum_by-cons}
+use Rattle.std.proofs.lemmas.Grind.{flat_map-append}
+use Rattle.graph_compile.specs.Facts.{positions_of, all_positions, times}
+use Rattle.graph_compile.specs.declared.graph.Branch.{Branch}
+use Rattle.graph_compile.specs.declared.graph.Stage.{Stage}
+use Rattle.burst_law.specs.Owned.{owned, owned_in, owned_by}
+use Rattle.piped_run.specs.Places.{AreThere, at_place}
+use Rattle.piped_run.specs.Standing.{EachStands}
+
+abbrev one_if : Bool → ℕ
+one_if t = if t then 1 else 0
+
+-- how often a number stands in a list
+times_cons : (x q : ℕ) (qs : List ℕ) → times x (q ∷ qs) ≡ one_if (q == x) + times x qs
+times_cons x q qs = sum_by-cons (λ y. if y == x then 1 else 0) q qs
+
+one_here : (q : ℕ) → one_if (q == q) ≡ 1
+one_here q = ap one_if (eq-eqb q q refl)
+
+none_here : (x q : ℕ) → q ≢ x → one_if (q == x) ≡ 0
+none_here x q ne = ap one_if (ne_eqb q x ne)
+
+pub times_same : (q : ℕ) (qs : List ℕ) → times q (q ∷ qs) ≡ suc (times q qs)
+times_same q qs = let a = times_cons q q qs in let b = one_here q in omega arith
+
+pub times_other : (x q : ℕ) (qs : List ℕ) → q ≢ x → times x (q ∷ qs) ≡ times x qs
+times_other x q qs ne = let a = times_cons x q qs in let b = none_here x q ne in omega arith
+
+pub times_there : (qs : List ℕ) (j q : ℕ) → slice_get qs j ≡ Some q → 1 ≤ times q qs
+times_there [] j q e = absurd cc
+times_there (x ∷ qs) zero q e = let same : x ≡ q = cc in subst (λ y. 1 ≤ times y (x ∷ qs)) same (let t = times_same x qs in omega arith)
+times_there (x ∷ qs) (suc j) q e = let rest = times_there qs j q e in let more = times_cons q x qs in omega arith
+
+-- one is taken out of its place
+pub taken_one : {F : Type 0} (functions : List F) (places : List (Option F)) (q : ℕ) (rest : List ℕ) → AreThere functions places (q ∷ rest) → AreThere functions (set places (q - 1) None) rest
+taken_one {F} functions places q rest was = record {
+  count = length-set places (q - 1) None ∙ was.count;
+  within = λ j x e. was.within (suc j) x e;
+  there = λ j x e. get_or-set_other places (q - 1) (x - 1) None None (apart j x e) ∙ was.there (suc j) x e;
+  once = λ x. let some = was.once x in let more = times_cons x q rest in omega arith;
+}
+  where
+    apart : (j x : ℕ) → slice_get rest j ≡ Some x → x - 1 ≢ q - 1
+    apart j x e same =
+        let low = (was.within 0 q refl).0 in let lower = (was.within (suc j) x e).0 in
+        let is : x ≡ q = omega arith in
+        let one = was.once q in let here = times_same q rest in
+        let again : 1 ≤ times q rest = subst (λ y. 1 ≤ times y rest) is (times_there rest j x e) in
+        omega arith
+
+-- the function in a place
+pub one_there : {F : Type 0} (functions : List F) (places : List (Option F)) (q : ℕ) (rest : List ℕ) → AreThere functions places (q ∷ rest) → (f : F) × (at_place places (q - 1) ≡ Some f) × (slice_get functions (q - 1) ≡ Some f)
+one_there functions places q rest was = by_place functions (q - 1) (let w = was.within 0 q refl in omega arith) (was.there 0 q refl)
+  where
+    by_place : {F : Type 0} (fs : List F) (k : ℕ) → k < length fs → {o : Option F} → o ≡ slice_get fs k → (f : F) × (o ≡ Some f) × (slice_get fs k ≡ Some f)
+    by_place [] k less is = absurd (omega arith)
+    by_place (f ∷ fs) zero less is = (f, is, refl)
+    by_place (f ∷ fs) (suc k) less is = by_place fs k (omega arith) is
+
+-- so many functions of a branch are taken
+pub record Took {F : Type 0} (first now : List (Option F)) (positions : List ℕ) (own : List F) (i : ℕ) : Type 0 where
+  pub owns : (functions : List F) (later : List ℕ) → AreThere functions first (positions ++ later) → own ++ owned (drop i positions) functions ≡ owned positions functions
+  pub left : (functions : List F) (later : List ℕ) → AreThere functions first (positions ++ later) → AreThere functions now (drop i positions ++ later)
+
+abbrev pub Somewhere : {F : Type 0} → List (Option F) → List ℕ → Type 0
+Somewhere {F} places positions = (functions : List F) × (later : List ℕ) × AreThere functions places (positions ++ later)
+
+pub took_none : {F : Type 0} (places : List (Option F)) (positions : List ℕ) (own : List F) → own ≡ [] → Took places places positions own 0
+took_none places positions own none = record {
+  owns = λ functions later there. ap (λ l. l ++ owned positions functions) none;
+  left = λ functions later there. there;
+}
+
+-- what is next
+next_there : {F : Type 0} (first now : List (Option F)) (positions : List ℕ) (own : List F) (i : ℕ) (functions : List F) (later : List ℕ) → Took first now positions own i → AreThere functions first (positions ++ later) → i < length positions →
+    AreThere functions now (get_or positions i 0 ∷ (drop (i + 1) positions ++ later))
+next_there first now positions own i functions later took there inside = subst (λ l. AreThere functions now (l ++ later)) (drop_more positions i 0 inside) (took.left functions later there)
+
+pub next_within : {F : Type 0} (first now : List (Option F)) (positions : List ℕ) (own : List F) (i : ℕ) → Took first now positions own i → Somewhere first positions → i < length positions →
+    (1 ≤ get_or positions i 0) × (get_or positions i 0 ≤ length now)
+next_within first now positions own i took some inside =
+    let next = next_there first now positions own i some.0 some.1 took some.2 inside in
+    let w = next.within 0 (get_or positions i 0) refl in let n = next.count in
+    (w.0, omega arith)
+
+pub next_full : {F : Type 0} (first now : List (Option F)) (positions : List ℕ) (own : List F) (i : ℕ) → Took first now positions own i → Somewhere first positions → i < length positions →
+    at_place now (get_or positions i 0 - 1) ≡ None → ⊥
+next_full first now positions own i took some inside none =
+    let next = next_there first now positions own i some.0 some.1 took some.2 inside in
+    let f = one_there some.0 now (get_or positions i 0) (drop (i + 1) positions ++ some.1) next in
+    full f.0 (sym none ∙ f.1)
+  where
+    full : {F : Type 0} (f : F) → None ≡ Some f → ⊥
+    full f e = cc
+
+pub took_more : {F : Type 0} (first now : List (Option F)) (positions : List ℕ) (own more : List F) (i : ℕ) (f : F) → Took first now positions own i → i < length positions → at_place now (get_or positions i 0 - 1) ≡ Some f → more ≡ own ++ f ∷ [] →
+    Took first (set now (get_or positions i 0 - 1) None) positions more (i + 1)
+took_more {F} first now positions own more i f took inside is push = record {
+  owns = λ functions later there.
+      let next = next_there first now positions own i functions later took there inside in
+      let g = one_there functions now (get_or positions i 0) (drop (i + 1) positions ++ later) next in
+      let same : f ≡ g.0 = some_same f g.0 (sym is ∙ g.1) in
+      ap (λ l. l ++ owned (drop (i + 1) positions) functions) push
+      ∙ append_assoc own (f ∷ []) (owned (drop (i + 1) positions) functions)
+      ∙ ap (λ x. own ++ cons_option x (owned (drop (i + 1) positions) functions)) (ap (λ x. Some x) same ∙ sym g.2)
+      ∙ ap (λ l. own ++ owned l functions) (sym (drop_more positions i 0 inside))
+      ∙ took.owns functions later there;
+  left = λ functions later there. taken_one functions now (get_or positions i 0) (drop (i + 1) positions ++ later) (next_there first now positions own i functions later took there inside);
+}
+  where
+    some_same : (x y : F) → Some x ≡ Some y → x ≡ y
+    some_same x y e = cc
+
+pub took_all : {F : Type 0} (first now : List (Option F)) (positions : List ℕ) (own : List F) (i : ℕ) (functions : List F) (later : List ℕ) → Took first now positions own i → length positions ≤ i → AreThere functions first (positions ++ later) → (own ≡ owned positions functions) × AreThere functions now later
+took_all first now positions own i functions later took past there =
+    let none = drop_all i positions past in (
+      sym (append-nil own) ∙ ap (λ l. own ++ owned l functions) (sym none) ∙ took.owns functions later there,
+      subst (λ l. AreThere functions now (l ++ later)) none (took.left functions later there),
+    )
+
+-- the positions of one branch, and those of the others
+positions_more : (b : Branch) (branches : List Branch) (later : List ℕ) → positions_of (b ∷ branches) ++ later ≡ b.positions ++ (positions_of branches ++ later)
+positions_more b branches later = append_assoc b.positions (positions_of branches) later
+
+-- the positions of one stage, and those of the others
+stages_more : (s : Stage) (stages : List Stage) → all_positions (s ∷ stages) ≡ positions_of s.branches ++ all_positions stages
+stages_more s stages = flat_map-append (λ (b : Branch). b.positions) s.branches (flat_map (λ (t : Stage). t.branches) stages)
+
+pub branches_left : (branches : List Branch) (i : ℕ) (d : Branch) (later : List ℕ) → i < length branches → positions_of (drop i branches) ++ later ≡ (get_or branches i d).positions ++ (positions_of (drop (i + 1) branches) ++ later)
+branches_left branches i d later inside = ap (λ l. positions_of l ++ later) (drop_more branches i d inside) ∙ positions_more (get_or branches i d) (drop (i + 1) branches) later
+
+pub stages_left : (stages : List Stage) (i : ℕ) (d : Stage) → i < length stages → all_positions (drop i stages) ≡ positions_of (get_or stages i d).branches ++ all_positions (drop (i + 1) stages)
+stages_left stages i d inside = ap all_positions (drop_more stages i d inside) ∙ stages_more (get_or stages i d) (drop (i + 1) stages)
+
+-- one list more
+pub list_more : {A : Type 0} (done more rest later all : List A) (x : A) → more ≡ done ++ x ∷ [] → rest ≡ x ∷ later → done ++ rest ≡ all → more ++ later ≡ all
+list_more done more rest later all x push next is = ap (λ l. l ++ later) push ∙ (append_assoc done (x ∷ []) later ∙ (ap (λ l. done ++ l) (sym next) ∙ is))
+
+-- so many branches of a stage have their functions
+pub record TookStage {F V : Type 0} (items : V → List F) (first now : List (Option F)) (branches : List Branch) (own : List V) (i : ℕ) : Type 0 where
+  pub owns : (functions : List F) (later : List ℕ) → AreThere functions first (positions_of branches ++ later) → map items own ++ owned_in (drop i branches) functions ≡ owned_in branches functions
+  pub left : (functions : List F) (later : List ℕ) → AreThere functions first (positions_of branches ++ later) → AreThere functions now (positions_of (drop i branches) ++ later)
+
+pub stage_none : {F V : Type 0} (items : V → List F) (places : List (Option F)) (branches : List Branch) (own : List V) → own ≡ [] → TookStage items places places branches own 0
+stage_none items places branches own none = record {
+  owns = λ functions later there. ap (λ l. map items l ++ owned_in branches functions) none;
+  left = λ functions later there. there;
+}
+
+pub branch_there : {F V : Type 0} (items : V → List F) (first now : List (Option F)) (branches : List Branch) (own : List V) (i : ℕ) (d : Branch) (functions : List F) (later : List ℕ) → TookStage items first now branches own i → i < length branches → AreThere functions first (positions_of branches ++ later) →
+    AreThere functions now ((get_or branches i d).positions ++ (positions_of (drop (i + 1) branches) ++ later))
+branch_there items first now branches own i d functions later took inside there = subst (AreThere functions now) (branches_left branches i d later inside) (took.left functions later there)
+
+-- what taking the functions at these positions gave
+pub record Gave {F : Type 0} (positions : List ℕ) (before after : List (Option F)) (taken : List F) : Type 0 where
+  pub own : (functions : List F) (later : List ℕ) → AreThere functions before (positions ++ later) → taken ≡ owned positions functions
+  pub left : (functions : List F) (later : List ℕ) → AreThere functions before (positions ++ later) → AreThere functions after later
+
+map_push : {A B : Type 0} (f : A → B) (xs more : List A) (x : A) → more ≡ xs ++ x ∷ [] → map f more ≡ map f xs ++ f x ∷ []
+map_push f xs more x push = ap (map f) push ∙ map-append f xs (x ∷ [])
+
+pub stage_more : {F V : Type 0} (items : V → List F) (first now after : List (Option F)) (branches : List Branch) (own more : List V) (v : V) (i : ℕ) (d : Branch) → TookStage items first now branches own i → i < length branches →
+    Gave (get_or branches i d).positions now after (items v) → more ≡ own ++ v ∷ [] → TookStage items first after branches more (i + 1)
+stage_more {F} items first now after branches own more v i d took inside gave push = record {
+  owns = λ functions later there.
+      let b : Branch = get_or branches i d in
+      let here = branch_there items first now branches own i d functions later took inside there in
+      list_more (map items own) (map items more) (owned_in (drop i branches) functions) (owned_in (drop (i + 1) branches) functions) (owned_in branches functions) (items v) (map_push items own more v push)
+      (ap (λ l. owned_in l functions) (drop_more branches i d inside) ∙ ap (λ (l : List F). l ∷ owned_in (drop (i + 1) branches) functions) (sym (gave.own functions (positions_of (drop (i + 1) branches) ++ later) here)))
+      (took.owns functions later there);
+  left = λ functions later there. gave.left functions (positions_of (drop (i + 1) branches) ++ later) (branch_there items first now branches own i d functions later took inside there);
+}
+
+pub stage_all : {F V : Type 0} (items : V → List F) (first now : List (Option F)) (branches : List Branch) (own : List V) (i : ℕ) (functions : List F) (later : List ℕ) → TookStage items first now branches own i → length branches ≤ i → AreThere functions first (positions_of branches ++ later) →
+    (map items own ≡ owned_in branches functions) × AreThere functions now later
+stage_all items first now branches own i functions later took past there =
+    let none = drop_all i branches past in (
+      sym (append-nil (map items own)) ∙ ap (λ l. map items own ++ owned_in l functions) (sym none) ∙ took.owns functions later there,
+      subst (λ l. AreThere functions now (positions_of l ++ later)) none (took.left functions later there),
+    )
+
+-- so many stages have their functions
+pub record TookAll {F V : Type 0} (items : V → List (List F)) (functions : List F) (now : List (Option F)) (stages : List Stage) (owned : List V) (i : ℕ) : Type 0 where
+  pub owns : map items owned ++ owned_by (drop i stages) functions ≡ owned_by stages functions
+  pub left : AreThere functions now (all_positions (drop i stages))
+
+-- each function stands in its place, and each position of a chain stands once
+in_place : {F : Type 0} (functions : List F) (k : ℕ) → k < length functions → at_place (map (λ f. Some f) functions) k ≡ slice_get functions k
+in_place [] k less = absurd (omega arith)
+in_place (f ∷ functions) zero less = refl
+in_place (f ∷ functions) (suc k) less = in_place functions k (omega arith)
+
+pub stands_within : (stages : List Stage) (n : ℕ) → EachStands stages n → (q : ℕ) → 1 ≤ times q (all_positions stages) → (1 ≤ q) × (q ≤ n)
+stands_within stages n each q some = by_place (le_or q 1) (le_or n q)
+  where
+    le_or : (a b : ℕ) → (a < b) ⊎ (b ≤ a)
+    le_or zero zero = inr (omega arith)
+    le_or zero (suc b) = inl (omega arith)
+    le_or (suc a) zero = inr (omega arith)
+    le_or (suc a) (suc b) = elim (le_or a b) [ inl h ↦ inl (omega (arith, h)) | inr h ↦ inr (omega (arith, h)) ]
+
+    by_place : (q < 1) ⊎ (1 ≤ q) → (n < q) ⊎ (q ≤ n) → (1 ≤ q) × (q ≤ n)
+    by_place (inl low) high = absurd (let none = each.no_other q (inl low) in omega arith)
+    by_place (inr low) (inl high) = absurd (let none = each.no_other q (inr high) in omega arith)
+    by_place (inr low) (inr high) = (low, high)
+
+pub all_there : {F : Type 0} (functions : List F) (stages : List Stage) → EachStands stages (length functions) → AreThere functions (map (λ f. Some f) functions) (all_positions stages)
+all_there functions stages each = record {
+  count = length-map functions (λ f. Some f);
+  within = λ j q e. stands_within stages (length functions) each q (times_there (all_positions stages) j q e);
+  there = λ j q e. let w = stands_within stages (length functions) each q (times_there (all_positions stages) j q e) in in_place functions (q - 1) (let low = w.0 in let high = w.1 in omega arith);
+  once = λ q. once q;
+}
+  where
+    some_or : (n : ℕ) → (n ≤ 1) ⊎ (1 ≤ n)
+    some_or zero = inl (omega arith)
+    some_or (suc n) = inr (omega arith)
+
+    once : (q : ℕ) → times q (all_positions stages) ≤ 1
+    once q = by_count (some_or (times q (all_positions stages)))
+      where
+        by_count : (times q (all_positions stages) ≤ 1) ⊎ (1 ≤ times q (all_positions stages)) → times q (all_positions stages) ≤ 1
+        by_count (inl few) = few
+        by_count (inr some) = let w = stands_within stages (length functions) each q some in let one = each.each_once q w.0 w.1 in omega arith
+
+pub all_none : {F V : Type 0} (items : V → List (List F)) (functions : List F) (places : List (Option F)) (stages : List Stage) (owned : List V) → owned ≡ [] → places ≡ map (λ f. Some f) functions → EachStands stages (length functions) → TookAll items functions places stages owned 0
+all_none items functions places stages owned none full each = record {
+  owns = ap (λ l. map items l ++ owned_by stages functions) none;
+  left = subst (λ l. AreThere functions l (all_positions stages)) (sym full) (all_there functions stages each);
+}
+
+pub stage_there : {F V : Type 0} (items : V → List (List F)) (functions : List F) (now : List (Option F)) (stages : List Stage) (owned : List V) (i : ℕ) (d : Stage) → TookAll items functions now stages owned i → i < length stages →
+    AreThere functions now (positions_of (get_or stages i d).branches ++ all_positions (drop (i + 1) stages))
+stage_there items functions now stages owned i d took inside = subst (AreThere functions now) (stages_left stages i d inside) took.left
+
+pub all_more : {F V : Type 0} (items : V → List (List F)) (functions : List F) (now after : List (Option F)) (stages : List Stage) (owned more : List V) (v : V) (i : ℕ) (d : Stage) → TookAll items functions now stages owned i → i < length stages →
+    items v ≡ owned_in (get_or stages i d).branches functions → AreThere functions after (all_positions (drop (i + 1) stages)) → more ≡ owned ++ v ∷ [] → TookAll items functions after stages more (i + 1)
+all_more {F} items functions now after stages owned more v i d took inside own left push = record {
+  owns = list_more (map items owned) (map items more) (owned_by (drop i stages) functions) (owned_by (drop (i + 1) stages) functions) (owned_by stages functions) (items v) (map_push items owned more v push)
+      (ap (λ l. owned_by l functions) (drop_more stages i d inside) ∙ ap (λ (l : List (List F)). l ∷ owned_by (drop (i + 1) stages) functions) (sym own)) took.owns;
+  left = left;
+}
+
+pub all_taken : {F V : Type 0} (items : V → List (List F)) (functions : List F) (now : List (Option F)) (stages : List Stage) (owned : List V) (i : ℕ) → TookAll items functions now stages owned i → length stages ≤ i → map items owned ≡ owned_by stages functions
+all_taken items functions now stages owned i took past = sym (append-nil (map items owned)) ∙ ap (λ l. map items owned ++ owned_by l functions) (sym (drop_all i stages past)) ∙ took.owns
+
+-- the same places, lent, and the same branches
+pub there_in : {F : Type 0} (functions : List F) (places lent : List (Option F)) (branches own : List Branch) (later : List ℕ) → lent ≡ places → branches ≡ own → AreThere functions places (positions_of own ++ later) → AreThere functions lent (positions_of branches ++ later)
+there_in functions places lent branches own later lends same there = subst (λ l. AreThere functions l (positions_of branches ++ later)) (sym lends) (subst (λ l. AreThere functions places (positions_of l ++ later)) (sym same) there)
+
+-- what was written back of a list is that list
+pub wrote_back : {A : Type 0} (n : ℕ) (xs ys : List A) → length xs ≡ n → take n (xs ++ drop (length xs) ys) ≡ xs
+wrote_back n xs ys e = ap (λ k. take k (xs ++ drop (length xs) ys)) (sym e) ∙ front xs (drop (length xs) ys)
+  where
+    front : {A : Type 0} (xs ys : List A) → take (length xs) (xs ++ ys) ≡ xs
+    front [] ys = refl
+    front (x ∷ xs) ys = ap (λ l. x ∷ l) (front xs ys)
