@@ -4,8 +4,8 @@ use Rattle.std.proofs.lemmas.List.{append-nil, length-map}
 use Rattle.action_profile.specs.declared.parts.Touch.{Touch}
 use Rattle.packet_version.specs.Splitting.{PlainApart}
 use Rattle.packet_version.specs.Versions.{PlainVersion}
-use Rattle.message_links.specs.Messages.{PlainMessage}
-use Rattle.message_links.specs.Turns.{share, share_len}
+use Rattle.packet_messages.specs.Messages.{PlainMessage}
+use Rattle.packet_messages.specs.Turns.{share, share_len}
 use Rattle.stage_nodes.specs.Streams.{Kit, PlainStage, parted, ran, came_from}
 use Rattle.stage_nodes.specs.Flows.{MayPass}
 use Rattle.node_run.specs.declared.meeting.Meeting.{Meeting}

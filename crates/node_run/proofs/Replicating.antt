@@ -4,8 +4,8 @@ use Rattle.std.proofs.lemmas.List.{append-nil}
 use Rattle.std.proofs.lemmas.List.Elements.{All-nil, All-push}
 use Rattle.packet_fields.specs.declared.field.Field.{Field}
 use Rattle.packet_version.specs.Versions.{PlainVersion}
-use Rattle.message_links.specs.Messages.{PlainMessage, PlainMessage.Live, PlainMessage.Nil, PlainMessage.Short}
-use Rattle.message_links.specs.Turns.{share, share_len, shares_from, shares}
+use Rattle.packet_messages.specs.Messages.{PlainMessage, PlainMessage.Live, PlainMessage.Nil, PlainMessage.Short}
+use Rattle.packet_messages.specs.Turns.{share, share_len, shares_from, shares}
 use Rattle.stage_nodes.specs.Streams.{Kit, gave, moved, ran, left}
 use Rattle.stage_nodes.specs.Flows.{MayTake, MayTakeAll, MayTakeEach}
 use Rattle.stage_nodes.specs.Dues.{BranchDue}
@@ -14,7 +14,7 @@ use Rattle.node_run.specs.declared.node.Node.{Node}
 use Rattle.node_run.specs.declared.node.Node.TheVariants as node
 use Rattle.node_run.specs.Nodes.{AreNodes, branch_ready}
 use Rattle.node_run.specs.Replicas.{AreReplicas, KeepsNothing, ReplicasFit}
-use Rattle.message_links.proofs.Turning.{share_long, one_share}
+use Rattle.packet_messages.proofs.Turning.{share_long, one_share}
 use Rattle.node_run.proofs.Wiring.{all_head, all_tail, nodes_are, nodes_push, tail_is}
 
 -- its functions stay

@@ -11,8 +11,8 @@ use Rattle.chain_walk.specs.declared.walk.Fate.{Fate}
 use Rattle.merge_ops.specs.Fates.{fate_behind}
 use Rattle.merge_ops.specs.declared.merging.Merged.{Merged}
 use Rattle.merge_ops.specs.declared.merging.Merged.TheVariants as ends
-use Rattle.message_links.specs.Messages.{PlainMessage, Fits, is_short}
-use Rattle.message_links.specs.Turns.{shares}
+use Rattle.packet_messages.specs.Messages.{PlainMessage, Fits, is_short}
+use Rattle.packet_messages.specs.Turns.{shares}
 use Rattle.stage_nodes.specs.Streams.{Kit, PlainStage, as_merged, of_merged, passed, through, ends_of, stayed, dealer_copies, copies_along}
 use Rattle.stage_nodes.specs.Flows.{MayPass, MayPassAll}
 use Rattle.stage_nodes.specs.Dues.{ComesFrom, DealerDue}

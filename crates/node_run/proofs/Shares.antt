@@ -3,9 +3,9 @@ use Rattle.std.proofs.Common.{◌≡◌, ◌<◌, ◌≤◌, ◌+◌, ◌-◌, �
 use Rattle.std.specs.Prelude.{◌⊎◌}
 use Rattle.std.proofs.Math.Nat.{div-eq_of_lt, div-eq-sub-div}
 use Rattle.packet_version.specs.Splitting.{PlainApart}
-use Rattle.message_links.specs.Messages.{PlainMessage, first, front, rest, turned}
-use Rattle.message_links.specs.Turns.{share, share_len, shares_from, shares, columns_from}
-use Rattle.message_links.proofs.Turning.{last_share, first_share, turned_shares, one_share, share_long}
+use Rattle.packet_messages.specs.Messages.{PlainMessage, first, front, rest, turned}
+use Rattle.packet_messages.specs.Turns.{share, share_len, shares_from, shares, columns_from}
+use Rattle.packet_messages.proofs.Turning.{last_share, first_share, turned_shares, one_share, share_long}
 use Rattle.stage_nodes.specs.Dues.{ComesFrom}
 use Rattle.node_run.specs.Nodes.{in_turn}
 

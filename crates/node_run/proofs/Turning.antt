@@ -5,7 +5,7 @@ use Rattle.packet_fields.specs.declared.field.Field.{Field}
 use Rattle.packet_version.specs.Splitting.{PlainApart}
 use Rattle.packet_version.specs.Tallies.{count_of, raised}
 use Rattle.packet_version.specs.Versions.{PlainVersion}
-use Rattle.message_links.specs.Messages.{PlainMessage, rest}
+use Rattle.packet_messages.specs.Messages.{PlainMessage, rest}
 use Rattle.stage_nodes.specs.Streams.{Kit, left, dealer_copies, merged_rows}
 use Rattle.stage_nodes.specs.Dues.{ComesFrom, BranchDue, DealerDue}
 use Rattle.stage_nodes.specs.Turns.{BranchOwes, DealerOwes, MergerOwes}

@@ -9,8 +9,8 @@ use Rattle.action_profile.specs.declared.parts.Touch.{Touch}
 use Rattle.packet_version.specs.Splitting.{PlainApart}
 use Rattle.packet_version.specs.Tallies.{count_of}
 use Rattle.packet_version.specs.Versions.{PlainVersion}
-use Rattle.message_links.specs.Messages.{PlainMessage, Owing, first, front, rest}
-use Rattle.message_links.specs.Turns.{share, share_len, shares_from, shares, columns, columns_from}
+use Rattle.packet_messages.specs.Messages.{PlainMessage, Owing, first, front, rest}
+use Rattle.packet_messages.specs.Turns.{share, share_len, shares_from, shares, columns, columns_from}
 use Rattle.stage_nodes.specs.Streams.{Kit, PlainStage, parted, base_of, moved, joined, ran, left, came_from, stayed, merged_rows, passed, dealer_copies}
 use Rattle.stage_nodes.specs.Flows.{MayTakeAll, MayTakeEach, AllMayTake, Belongs, AllBelong, MayPass}
 use Rattle.stage_nodes.specs.Dues.{AreFanned, ComesFrom, DealerDue, BranchDue, MergerDue}
@@ -22,7 +22,7 @@ use Rattle.node_run.specs.declared.node.Node.TheVariants as node
 use Rattle.node_run.specs.declared.wire.WiredStage.{WiredStage}
 use Rattle.node_run.specs.Nodes.{AreNodes, added, in_turn, copies_by, copies_by_all, gather, is_ready, left_by, merger_ready, no_copies}
 use Rattle.node_run.specs.Wired.{AreWired, AreWiring, IsFanned, IsWired, MergersFit}
-use Rattle.message_links.proofs.Turning.{share_long, one_share}
+use Rattle.packet_messages.proofs.Turning.{share_long, one_share}
 use Rattle.node_run.proofs.Shares.{columns_front, columns_rest}
 
 -- an iterator at its end has nothing left

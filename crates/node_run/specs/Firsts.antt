@@ -3,7 +3,7 @@ use Rattle.std.specs.Prelude.{◌≡◌, ℕ, List, false}
 use Rattle.packet_fields.specs.declared.field.Field.{Field}
 use Rattle.packet_version.specs.Splitting.{PlainApart}
 use Rattle.packet_version.specs.Tallies.{count_of, raised}
-use Rattle.message_links.specs.Messages.{PlainMessage}
+use Rattle.packet_messages.specs.Messages.{PlainMessage}
 use Rattle.stage_nodes.specs.Dues.{DealerDue}
 use Rattle.stage_nodes.specs.Streams.{dealer_copies}
 use Rattle.stage_nodes.specs.declared.dealer.Dealer.{Dealer}

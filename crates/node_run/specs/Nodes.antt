@@ -4,7 +4,7 @@ use Rattle.packet_fields.specs.declared.field.Field.{Field}
 use Rattle.packet_version.specs.Tallies.{count_of, raised}
 use Rattle.packet_version.specs.Splitting.{PlainApart}
 use Rattle.packet_version.specs.Versions.{PlainVersion}
-use Rattle.message_links.specs.Messages.{PlainMessage, first, front, turned}
+use Rattle.packet_messages.specs.Messages.{PlainMessage, first, front, turned}
 use Rattle.stage_nodes.specs.Streams.{Kit, left, dealer_copies}
 use Rattle.stage_nodes.specs.Dues.{ComesFrom, DealerDue, BranchDue, MergerDue}
 use Rattle.stage_nodes.specs.Turns.{BranchOwes, MergerOwes}

@@ -1,8 +1,8 @@
 -- For proofs: the nodes of a branch that keeps no state, one for each merger.
 use Rattle.std.specs.Prelude.{◌≡◌, ℕ, List, length, All}
 use Rattle.packet_version.specs.Versions.{PlainVersion}
-use Rattle.message_links.specs.Messages.{PlainMessage}
-use Rattle.message_links.specs.Turns.{shares_from}
+use Rattle.packet_messages.specs.Messages.{PlainMessage}
+use Rattle.packet_messages.specs.Turns.{shares_from}
 use Rattle.stage_nodes.specs.Streams.{Kit, ran}
 use Rattle.stage_nodes.specs.Flows.{MayTakeAll}
 

@@ -6,7 +6,7 @@ use Rattle.packet_version.specs.Tallies.{count_of, raised}
 use Rattle.packet_version.specs.Versions.{PlainVersion}
 use Rattle.chain_walk.specs.declared.walk.Fate.{Fate}
 use Rattle.merge_ops.specs.Fates.{fate_behind}
-use Rattle.message_links.specs.Messages.{PlainMessage, is_short}
+use Rattle.packet_messages.specs.Messages.{PlainMessage, is_short}
 use Rattle.stage_nodes.specs.Streams.{Kit, PlainStage, as_merged, through, ends_of, copies_along}
 use Rattle.stage_nodes.specs.Flows.{MayPassAll}
 use Rattle.stage_nodes.specs.Dues.{ComesFrom}

@@ -5,8 +5,8 @@ use Rattle.action_profile.specs.declared.parts.Touch.{Touch}
 use Rattle.packet_version.specs.Splitting.{PlainApart}
 use Rattle.packet_version.specs.Tallies.{count_of}
 use Rattle.packet_version.specs.Versions.{PlainVersion}
-use Rattle.message_links.specs.Messages.{PlainMessage}
-use Rattle.message_links.specs.Turns.{share, shares, shares_from, columns, columns_from}
+use Rattle.packet_messages.specs.Messages.{PlainMessage}
+use Rattle.packet_messages.specs.Turns.{share, shares, shares_from, columns, columns_from}
 use Rattle.stage_nodes.specs.Dues.{AreFanned, AreShared, DealerDue}
 use Rattle.stage_nodes.specs.Streams.{Kit, PlainStage, came_from, left, parted, passed, ran, stayed, merged_rows}
 use Rattle.stage_nodes.specs.Flows.{AllMayTake, AllBelong, MayTakeAll}

@@ -1,7 +1,7 @@
 //! The branches of a stage, with their links from the dealer and their ends of where they meet the mergers.
 ghost use Rattle.std.specs.Prelude.{◌≡◌, ◌<◌, ◌≤◌, length, map, All, IfOk, OnOk};
-ghost use Rattle.message_links.specs.Messages.{Owing, front, rest};
-ghost use Rattle.message_links.specs.Turns.{columns, shares};
+ghost use Rattle.packet_messages.specs.Messages.{Owing, front, rest};
+ghost use Rattle.packet_messages.specs.Turns.{columns, shares};
 ghost use Rattle.stage_nodes.specs.Streams.{came_from, parted};
 ghost use Rattle.stage_nodes.specs.Flows.{AllMayTake};
 ghost use Rattle.node_run.specs.Wired.{AreWired, HasWired, MayWire};
@@ -10,7 +10,7 @@ use crate::fans::fan;
 use crate::node::Node;
 use crate::replicas::{replicas_of, wire_replicas};
 use action_profile::Touch;
-use message_links::{Fans, Inlets, Outlets, Parcel};
+use packet_messages::{Fans, Inlets, Outlets, Parcel};
 use packet_version::{Apart, Version};
 use ruled_links::LinkDue;
 use stage_nodes::{Branch, BranchWork, ToMergers, take_ends};

@@ -1,7 +1,7 @@
 //! What comes out behind the last stage.
 ghost use Rattle.std.specs.Prelude.{◌≡◌, [], ℕ, suc, List, All, IfOk, OnOk, vec_capacity};
 ghost use Rattle.packet_version.specs.Splitting.{PlainApart};
-ghost use Rattle.message_links.specs.Messages.{PlainMessage};
+ghost use Rattle.packet_messages.specs.Messages.{PlainMessage};
 ghost use Rattle.node_run.specs.Runs.{Collects, fates_behind, is_found};
 
 use chain_walk::Fate;

@@ -1,8 +1,8 @@
 //! The links by which a stream of packets is shared in turn.
 ghost use Rattle.std.specs.Prelude.{◌≡◌, ◌<◌, ◌≤◌, length, IfOk};
-ghost use Rattle.message_links.specs.Turns.{share, share_len, shares};
+ghost use Rattle.packet_messages.specs.Turns.{share, share_len, shares};
 
-use message_links::{Inlet, Inlets, Outlet, Outlets, Parcel, edge};
+use packet_messages::{Inlet, Inlets, Outlet, Outlets, Parcel, edge};
 use ruled_links::LinkDue;
 use std::alloc::{AllocError, Global};
 use std::marker::Brand;

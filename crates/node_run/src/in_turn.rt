@@ -3,7 +3,7 @@ ghost use Rattle.std.specs.Prelude.{◌≡◌, ◌<◌, ℕ, List, length, All, 
 ghost use Rattle.packet_fields.specs.declared.field.Field.{Field};
 ghost use Rattle.packet_version.specs.Splitting.{PlainApart};
 ghost use Rattle.packet_version.specs.Tallies.{count_of, raised};
-ghost use Rattle.message_links.specs.Messages.{PlainMessage};
+ghost use Rattle.packet_messages.specs.Messages.{PlainMessage};
 ghost use Rattle.node_run.specs.Crews.{CrewKeeps, GivesTogether};
 ghost use Rattle.node_run.specs.Nodes.{Keeps, copies_by_all, gather, is_going, is_ready};
 ghost use Rattle.node_run.specs.Runs.{HasRun, MayRun, flat};
@@ -15,8 +15,8 @@ use crate::first::{Dealt, First, deal_first};
 use crate::keeping::{keep, keep_crew};
 use crate::node::{Done, Node, run_node};
 use chain_walk::Fate;
-use message_links::Inlets;
 use nfp_outside::Gate;
+use packet_messages::Inlets;
 use packet_version::{Apart, Tally};
 use stage_nodes::{BranchWork, Supply};
 use std::alloc::{AllocError, Global};

@@ -19,7 +19,7 @@
 //! branch's functions and gives them back, and each other has the same functions once more, which it drops.
 //!
 //! What the branches of a stage give comes to its mergers in one of two ways ([`MergeWay`]). Over links, each
-//! branch has a link to each merger, and a merger asks its links in branch order. On boards (`message_boards`),
+//! branch has a link to each merger, and a merger asks its links in branch order. On boards (`packet_messages`),
 //! each merger has a word for each of its packets and a place for each branch's version: a branch puts what it
 //! gives and marks the word, and the merger looks at the words in rising order, each until all branches have
 //! marked it. Either is a `Meeting`: for each merger the ends of the branches and its own, seen as the messages
@@ -30,7 +30,7 @@
 //! dealer for the mergers of the stage before, and the caller for the mergers of the last stage. The first
 //! dealer waits for nobody: it has the burst itself. Whoever waits looks again and again, and pauses between two
 //! looks. Nobody waits for room, since all links, boards and tables are made before the first node starts, with
-//! room for all that is due on them (`message_links`); so a crew can be run before those that take from it, and
+//! room for all that is due on them (`packet_messages`); so a crew can be run before those that take from it, and
 //! crews are started in the order in which packets come to them. Of all turns that are still to be taken, the one of
 //! the least packet, and among those of the first node, waits for none of the others, and is the next of its crew. So
 //! nodes of one crew never keep each other waiting for good.

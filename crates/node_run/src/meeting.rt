@@ -1,13 +1,13 @@
 //! Where what comes from the branches of a stage meets its mergers.
 ghost use Rattle.std.specs.Prelude.{◌≡◌, ◌<◌, ◌∷◌, length, map, IfOk};
-ghost use Rattle.message_links.specs.Turns.{share};
+ghost use Rattle.packet_messages.specs.Turns.{share};
 ghost use Rattle.stage_nodes.specs.Streams.{came_from};
 ghost use Rattle.node_run.specs.Wired.{MayMeet, Meets};
 
 use crate::on_board::meet_on_board;
 use crate::over_links::meet_over_links;
 use action_profile::Touch;
-use message_links::Parcel;
+use packet_messages::Parcel;
 use packet_version::Apart;
 use ruled_links::LinkDue;
 use stage_nodes::{BranchWork, FromBranches, ToMergers};

@@ -7,7 +7,7 @@ ghost use Rattle.node_run.specs.Wired.{MergersFit};
 use crate::fans::share_count;
 use crate::meeting::take_first;
 use crate::node::Node;
-use message_links::{Inlets, Outlets};
+use packet_messages::{Inlets, Outlets};
 use packet_version::{Apart, Base};
 use stage_nodes::{BranchWork, FromBranches, Merger};
 use std::alloc::{AllocError, Global};

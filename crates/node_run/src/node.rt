@@ -1,8 +1,8 @@
 //! A node of any kind.
 ghost use Rattle.node_run.specs.Nodes.{HasTurned, Keeps, is_going};
 
-use message_links::Inlets;
 use nfp_outside::Gate;
+use packet_messages::Inlets;
 use packet_version::{Apart, Tally};
 use stage_nodes::{Branch, BranchWork, Dealer, Merger, run_branch, run_dealer, run_merger};
 use std::alloc::Global;

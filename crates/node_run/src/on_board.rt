@@ -1,14 +1,13 @@
 //! A stage's branches and a merger meet on a board.
 ghost use Rattle.std.specs.Prelude.{◌≡◌, map, IfOk};
-ghost use Rattle.message_links.specs.Turns.{share};
+ghost use Rattle.packet_messages.specs.Turns.{share};
 ghost use Rattle.stage_nodes.specs.Streams.{came_from};
 ghost use Rattle.node_run.specs.Wired.{MayMeet};
 
 use crate::fans::share_count;
 use action_profile::Touch;
 use merge_board::BoardDue;
-use message_boards::{BoardOutlet, board_ends};
-use message_links::Parcel;
+use packet_messages::{BoardOutlet, Parcel, board_ends};
 use packet_version::{Apart, Version};
 use ruled_links::LinkDue;
 use stage_nodes::{BranchWork, FromBranches, ToMerger, ToMergers};

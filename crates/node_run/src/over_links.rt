@@ -1,12 +1,12 @@
 //! A stage's branches and a merger meet over links, one from each branch.
 ghost use Rattle.std.specs.Prelude.{◌≡◌, ◌<◌, length, map, IfOk};
-ghost use Rattle.message_links.specs.Turns.{share};
+ghost use Rattle.packet_messages.specs.Turns.{share};
 ghost use Rattle.stage_nodes.specs.Streams.{came_from, parted, ran};
 ghost use Rattle.node_run.specs.Wired.{MayMeet};
 
 use crate::fans::share_count;
 use action_profile::Touch;
-use message_links::{Inlet, Inlets, Outlet, Parcel, edge};
+use packet_messages::{Inlet, Inlets, Outlet, Parcel, edge};
 use packet_version::{Apart, Version};
 use ruled_links::LinkDue;
 use stage_nodes::{BranchWork, FromBranches, ToMerger, ToMergers};

@@ -2,7 +2,7 @@
 ghost use Rattle.std.specs.Prelude.{◌≡◌, ◌<◌, ◌≤◌, ◌++◌, ◌+◌, ◌-◌, ◌∷◌, [], ℕ, suc, List, IfOk, IfSome, OnOk};
 ghost use Rattle.packet_fields.specs.declared.field.Field.{Field};
 ghost use Rattle.packet_version.specs.Versions.{PlainVersion};
-ghost use Rattle.message_links.specs.Messages.{PlainMessage};
+ghost use Rattle.packet_messages.specs.Messages.{PlainMessage};
 ghost use Rattle.stage_nodes.specs.Streams.{left};
 ghost use Rattle.node_run.specs.Nodes.{AreNodes, branch_ready};
 ghost use Rattle.node_run.specs.Wired.{HasWired, MayWire};
@@ -12,7 +12,7 @@ use crate::branches::{Branches, version_fan};
 use crate::fans::share_count;
 use crate::node::Node;
 use action_profile::Touch;
-use message_links::{Inlets, Parcel};
+use packet_messages::{Inlets, Parcel};
 use packet_version::{Apart, Version};
 use ruled_links::LinkDue;
 use stage_nodes::{Branch, BranchWork, ToMergers};

@@ -3,7 +3,7 @@ ghost use Rattle.std.specs.Prelude.{◌≡◌, ◌<◌, ◌≤◌, ◌++◌, ◌
 ghost use Rattle.packet_fields.specs.declared.field.Field.{Field};
 ghost use Rattle.packet_version.specs.Splitting.{PlainApart};
 ghost use Rattle.packet_version.specs.Tallies.{count_of, raised};
-ghost use Rattle.message_links.specs.Messages.{PlainMessage};
+ghost use Rattle.packet_messages.specs.Messages.{PlainMessage};
 ghost use Rattle.stage_nodes.specs.Streams.{copies_along, ends_of, through};
 ghost use Rattle.stage_nodes.specs.Flows.{MayPassAll};
 ghost use Rattle.node_run.specs.Firsts.{IsFirst};
@@ -25,8 +25,8 @@ use crate::stage::StageWork;
 use crate::start::{Started, finish, start};
 use crate::wire::{WiredStage, wire_stage};
 use chain_walk::Fate;
-use message_links::{Inlets, Parcel};
 use nfp_outside::Gate;
+use packet_messages::{Inlets, Parcel};
 use packet_version::{Apart, Tally};
 use ruled_links::LinkDue;
 use stage_nodes::{BranchWork, Supply};

@@ -1,6 +1,6 @@
 //! The links of a stage, where its branches meet its mergers, and the nodes at their ends.
 ghost use Rattle.std.specs.Prelude.{◌≡◌, ◌<◌, ◌≤◌, length, map, IfOk};
-ghost use Rattle.message_links.specs.Turns.{shares};
+ghost use Rattle.packet_messages.specs.Turns.{shares};
 ghost use Rattle.stage_nodes.specs.Streams.{base_of, passed};
 ghost use Rattle.stage_nodes.specs.Flows.{MayPass};
 ghost use Rattle.node_run.specs.Stages.{plain_stage};
@@ -14,7 +14,7 @@ use crate::mergers::wire_mergers;
 use crate::node::Node;
 use crate::stage::StageWork;
 use action_profile::StageParts;
-use message_links::{Inlets, Outlets, Parcel};
+use packet_messages::{Inlets, Outlets, Parcel};
 use packet_version::{Apart, Base, Tally};
 use ruled_links::LinkDue;
 use stage_nodes::{BranchWork, Dealer, Supply};

@@ -7,7 +7,7 @@ use Rattle.chain_walk.specs.Step.{Behaviour}
 use Rattle.chain_walk.specs.Laws.{KeepsProfile}
 use Rattle.packet_version.specs.Versions.{PlainVersion}
 use Rattle.graph_run.specs.Carrying.{as_version}
-use Rattle.message_links.specs.Messages.{PlainMessage, PlainMessage.Live, PlainMessage.Nil, PlainMessage.Short}
+use Rattle.packet_messages.specs.Messages.{PlainMessage, PlainMessage.Live, PlainMessage.Nil, PlainMessage.Short}
 use Rattle.stream_law.specs.Owned.{PlainOwned, moved_by, went_by, ran_by, owned_kit}
 
 -- a function keeps no state by its profile

@@ -1,5 +1,4 @@
 mod Turns
-mod Starting
 mod Ending
 mod Passing
 mod Leading
@@ -7,3 +6,4 @@ mod Framing
 mod Cloning
 mod Taking
 mod PutBack
+mod Staying

@@ -13,7 +13,7 @@ use Rattle.chain_walk.specs.declared.walk.Fate.{Fate}
 use Rattle.merge_ops.specs.Fates.{fate_behind}
 use Rattle.merge_ops.specs.declared.merging.Merged.{Merged}
 use Rattle.burst_law.specs.Stations.{Turn, one_by_one}
-use Rattle.burst_law.specs.Owned.{owned_by}
+use Rattle.burst_law.specs.Owned.{owned, owned_by}
 use Rattle.burst_law.specs.Bursts.{Message, chain_burst}
 use Rattle.burst_law.specs.Copies.{chain_copies}
 use Rattle.piped_run.specs.Standing.{EachStands}
@@ -26,7 +26,6 @@ use Rattle.node_run.specs.Runs.{fates_behind, flat}
 use Rattle.stream_law.specs.Owned.{PlainOwned, owned_kit}
 use Rattle.stream_law.specs.Works.{works_of}
 use Rattle.piped_run.specs.Frames.{EndsAs}
-use Rattle.piped_run.proofs.Starting.{owned_many}
 
 -- the laws that are cited
 abbrev pub ProfilesInBursts : Type 0 → Type 0
@@ -57,19 +56,14 @@ runs_on b graph first now running same = record {
   full = running.full;
 }
 
--- functions that are split have a list for each branch of their stages
-pub split_fits : {F V : Type 0} (items : V → List (List F)) (many : V → ℕ) (stages : List Stage) (owned : List V) (functions : List F) → ((v : V) → many v ≡ length (items v)) → map items owned ≡ owned_by stages functions → map many owned ≡ map (λ s. length s.branches) stages
-split_fits {F} {V} items many stages owned functions counts is = counted owned ∙ ap (map (λ own. length own)) is ∙ owned_many stages functions
-  where
-    counted : (owned : List V) → map many owned ≡ map (λ own. length own) (map items owned)
-    counted [] = refl
-    counted (v ∷ owned) = λ i. counts v i ∷ counted owned i
+-- functions that are split by stage and branch have a list for each branch
+pub owned_many : {F : Type 0} (stages : List Stage) (functions : List F) → map (λ own. length own) (owned_by stages functions) ≡ map (λ s. length s.branches) stages
+owned_many [] functions = refl
+owned_many (s ∷ stages) functions = λ i. length-map s.branches (λ x. owned x.positions functions) i ∷ owned_many stages functions i
 
 -- the works that were begun are those of the graph
-pub begun_works : {F V : Type 0} (items : V → List (List F)) (graph : Graph) (stages : List Stage) (functions : List F) (owned : List V) (works : List (PlainStage (PlainOwned F))) (n many : ℕ) → stages ≡ graph.stages → map items owned ≡ owned_by stages functions → n ≡ many →
-    works ≡ works_of stages (map items owned) n → works ≡ works_for graph functions many
-begun_works {F} {V} items graph stages functions owned works n many are split same is =
-    is ∙ (λ k. works_of (are k) ((split ∙ ap (λ (l : List Stage). owned_by l functions) are) k) (same k))
+pub begun_works : {F : Type 0} (graph : Graph) (stages : List Stage) (functions : List F) (works : List (PlainStage (PlainOwned F))) (n many : ℕ) → stages ≡ graph.stages → n ≡ many → works ≡ works_of stages (owned_by stages functions) n → works ≡ works_for graph functions many
+begun_works graph stages functions works n many are same is = is ∙ (λ k. works_of (are k) (owned_by (are k) functions) (same k))
 
 -- how many works there are at the end of each stage
 pub ends_fit : {F : Type 0} (stages : List Stage) (ends : List (List (PlainOwned F))) (functions : List F) → map (λ l. map (λ o. o.functions) l) ends ≡ owned_by stages functions → map (λ l. length l) ends ≡ map (λ s. length s.branches) stages

@@ -9,6 +9,9 @@ use Rattle.graph_compile.specs.Facts.{positions_of, all_positions, times}
 use Rattle.graph_compile.specs.declared.graph.Branch.{Branch}
 use Rattle.graph_compile.specs.declared.graph.Stage.{Stage}
 use Rattle.burst_law.specs.Owned.{owned, owned_in, owned_by}
+use Rattle.stage_nodes.specs.Streams.{PlainStage}
+use Rattle.stream_law.specs.Owned.{PlainOwned}
+use Rattle.stream_law.specs.Works.{works_in, works_of}
 use Rattle.piped_run.specs.Places.{AreThere, at_place}
 use Rattle.piped_run.specs.Standing.{EachStands}
 
@@ -141,52 +144,54 @@ stages_left stages i d inside = ap all_positions (drop_more stages i d inside) �
 pub list_more : {A : Type 0} (done more rest later all : List A) (x : A) → more ≡ done ++ x ∷ [] → rest ≡ x ∷ later → done ++ rest ≡ all → more ++ later ≡ all
 list_more done more rest later all x push next is = ap (λ l. l ++ later) push ∙ (append_assoc done (x ∷ []) later ∙ (ap (λ l. done ++ l) (sym next) ∙ is))
 
--- so many branches of a stage have their functions
-pub record TookStage {F V : Type 0} (items : V → List F) (first now : List (Option F)) (branches : List Branch) (own : List V) (i : ℕ) : Type 0 where
-  pub owns : (functions : List F) (later : List ℕ) → AreThere functions first (positions_of branches ++ later) → map items own ++ owned_in (drop i branches) functions ≡ owned_in branches functions
+-- so many branches of a stage are works with their functions
+pub record TookStage {F : Type 0} (n : ℕ) (first now : List (Option F)) (branches : List Branch) (works : List (PlainOwned F)) (i : ℕ) : Type 0 where
+  pub owns : (functions : List F) (later : List ℕ) → AreThere functions first (positions_of branches ++ later) → works ++ works_in (drop i branches) (owned_in (drop i branches) functions) n ≡ works_in branches (owned_in branches functions) n
   pub left : (functions : List F) (later : List ℕ) → AreThere functions first (positions_of branches ++ later) → AreThere functions now (positions_of (drop i branches) ++ later)
 
-pub stage_none : {F V : Type 0} (items : V → List F) (places : List (Option F)) (branches : List Branch) (own : List V) → own ≡ [] → TookStage items places places branches own 0
-stage_none items places branches own none = record {
-  owns = λ functions later there. ap (λ l. map items l ++ owned_in branches functions) none;
+pub stage_none : {F : Type 0} (n : ℕ) (places : List (Option F)) (branches : List Branch) (works : List (PlainOwned F)) → works ≡ [] → TookStage n places places branches works 0
+stage_none n places branches works none = record {
+  owns = λ functions later there. ap (λ l. l ++ works_in branches (owned_in branches functions) n) none;
   left = λ functions later there. there;
 }
 
-pub branch_there : {F V : Type 0} (items : V → List F) (first now : List (Option F)) (branches : List Branch) (own : List V) (i : ℕ) (d : Branch) (functions : List F) (later : List ℕ) → TookStage items first now branches own i → i < length branches → AreThere functions first (positions_of branches ++ later) →
+pub branch_there : {F : Type 0} (n : ℕ) (first now : List (Option F)) (branches : List Branch) (works : List (PlainOwned F)) (i : ℕ) (d : Branch) (functions : List F) (later : List ℕ) → TookStage n first now branches works i → i < length branches → AreThere functions first (positions_of branches ++ later) →
     AreThere functions now ((get_or branches i d).positions ++ (positions_of (drop (i + 1) branches) ++ later))
-branch_there items first now branches own i d functions later took inside there = subst (AreThere functions now) (branches_left branches i d later inside) (took.left functions later there)
+branch_there n first now branches works i d functions later took inside there = subst (AreThere functions now) (branches_left branches i d later inside) (took.left functions later there)
 
 -- what taking the functions at these positions gave
 pub record Gave {F : Type 0} (positions : List ℕ) (before after : List (Option F)) (taken : List F) : Type 0 where
   pub own : (functions : List F) (later : List ℕ) → AreThere functions before (positions ++ later) → taken ≡ owned positions functions
   pub left : (functions : List F) (later : List ℕ) → AreThere functions before (positions ++ later) → AreThere functions after later
 
-map_push : {A B : Type 0} (f : A → B) (xs more : List A) (x : A) → more ≡ xs ++ x ∷ [] → map f more ≡ map f xs ++ f x ∷ []
-map_push f xs more x push = ap (map f) push ∙ map-append f xs (x ∷ [])
-
-pub stage_more : {F V : Type 0} (items : V → List F) (first now after : List (Option F)) (branches : List Branch) (own more : List V) (v : V) (i : ℕ) (d : Branch) → TookStage items first now branches own i → i < length branches →
-    Gave (get_or branches i d).positions now after (items v) → more ≡ own ++ v ∷ [] → TookStage items first after branches more (i + 1)
-stage_more {F} items first now after branches own more v i d took inside gave push = record {
+pub stage_more : {F : Type 0} (n : ℕ) (first now after : List (Option F)) (branches : List Branch) (works more : List (PlainOwned F)) (w : PlainOwned F) (taken : List F) (i : ℕ) (d : Branch) → TookStage n first now branches works i → i < length branches →
+    Gave (get_or branches i d).positions now after taken → w ≡ record { functions = taken; positions = (get_or branches i d).positions; packets = n } → more ≡ works ++ w ∷ [] → TookStage n first after branches more (i + 1)
+unfolding works_in
+stage_more {F} n first now after branches works more w taken i d took inside gave same push = record {
   owns = λ functions later there.
       let b : Branch = get_or branches i d in
-      let here = branch_there items first now branches own i d functions later took inside there in
-      list_more (map items own) (map items more) (owned_in (drop i branches) functions) (owned_in (drop (i + 1) branches) functions) (owned_in branches functions) (items v) (map_push items own more v push)
-      (ap (λ l. owned_in l functions) (drop_more branches i d inside) ∙ ap (λ (l : List F). l ∷ owned_in (drop (i + 1) branches) functions) (sym (gave.own functions (positions_of (drop (i + 1) branches) ++ later) here)))
+      let rest : List (PlainOwned F) = works_in (drop (i + 1) branches) (owned_in (drop (i + 1) branches) functions) n in
+      let here = branch_there n first now branches works i d functions later took inside there in
+      list_more works more (works_in (drop i branches) (owned_in (drop i branches) functions) n) rest (works_in branches (owned_in branches functions) n) w push
+      (ap (λ (l : List Branch). works_in l (owned_in l functions) n) (drop_more branches i d inside)
+      ∙ ap (λ (own : List F). record { functions = own; positions = b.positions; packets = n } ∷ rest) (sym (gave.own functions (positions_of (drop (i + 1) branches) ++ later) here))
+      ∙ ap (λ (x : PlainOwned F). x ∷ rest) (sym same))
       (took.owns functions later there);
-  left = λ functions later there. gave.left functions (positions_of (drop (i + 1) branches) ++ later) (branch_there items first now branches own i d functions later took inside there);
+  left = λ functions later there. gave.left functions (positions_of (drop (i + 1) branches) ++ later) (branch_there n first now branches works i d functions later took inside there);
 }
 
-pub stage_all : {F V : Type 0} (items : V → List F) (first now : List (Option F)) (branches : List Branch) (own : List V) (i : ℕ) (functions : List F) (later : List ℕ) → TookStage items first now branches own i → length branches ≤ i → AreThere functions first (positions_of branches ++ later) →
-    (map items own ≡ owned_in branches functions) × AreThere functions now later
-stage_all items first now branches own i functions later took past there =
+pub stage_all : {F : Type 0} (n : ℕ) (first now : List (Option F)) (branches : List Branch) (works : List (PlainOwned F)) (i : ℕ) (functions : List F) (later : List ℕ) → TookStage n first now branches works i → length branches ≤ i → AreThere functions first (positions_of branches ++ later) →
+    (works ≡ works_in branches (owned_in branches functions) n) × AreThere functions now later
+unfolding works_in
+stage_all n first now branches works i functions later took past there =
     let none = drop_all i branches past in (
-      sym (append-nil (map items own)) ∙ ap (λ l. map items own ++ owned_in l functions) (sym none) ∙ took.owns functions later there,
+      sym (append-nil works) ∙ ap (λ (l : List Branch). works ++ works_in l (owned_in l functions) n) (sym none) ∙ took.owns functions later there,
       subst (λ l. AreThere functions now (positions_of l ++ later)) none (took.left functions later there),
     )
 
--- so many stages have their functions
-pub record TookAll {F V : Type 0} (items : V → List (List F)) (functions : List F) (now : List (Option F)) (stages : List Stage) (owned : List V) (i : ℕ) : Type 0 where
-  pub owns : map items owned ++ owned_by (drop i stages) functions ≡ owned_by stages functions
+-- so many stages are works with their functions
+pub record TookAll {F V : Type 0} (as_plain : V → PlainStage (PlainOwned F)) (n : ℕ) (functions : List F) (now : List (Option F)) (stages : List Stage) (works : List V) (i : ℕ) : Type 0 where
+  pub owns : map as_plain works ++ works_of (drop i stages) (owned_by (drop i stages) functions) n ≡ works_of stages (owned_by stages functions) n
   pub left : AreThere functions now (all_positions (drop i stages))
 
 -- each function stands in its place, and each position of a chain stands once
@@ -228,26 +233,32 @@ all_there functions stages each = record {
         by_count (inl few) = few
         by_count (inr some) = let w = stands_within stages (length functions) each q some in let one = each.each_once q w.0 w.1 in omega arith
 
-pub all_none : {F V : Type 0} (items : V → List (List F)) (functions : List F) (places : List (Option F)) (stages : List Stage) (owned : List V) → owned ≡ [] → places ≡ map (λ f. Some f) functions → EachStands stages (length functions) → TookAll items functions places stages owned 0
-all_none items functions places stages owned none full each = record {
-  owns = ap (λ l. map items l ++ owned_by stages functions) none;
+pub all_none : {F V : Type 0} (as_plain : V → PlainStage (PlainOwned F)) (n : ℕ) (functions : List F) (places : List (Option F)) (stages : List Stage) (works : List V) → works ≡ [] → places ≡ map (λ f. Some f) functions → EachStands stages (length functions) → TookAll as_plain n functions places stages works 0
+all_none {F} {V} as_plain n functions places stages works none full each = record {
+  owns = ap (λ (l : List V). map as_plain l ++ works_of stages (owned_by stages functions) n) none;
   left = subst (λ l. AreThere functions l (all_positions stages)) (sym full) (all_there functions stages each);
 }
 
-pub stage_there : {F V : Type 0} (items : V → List (List F)) (functions : List F) (now : List (Option F)) (stages : List Stage) (owned : List V) (i : ℕ) (d : Stage) → TookAll items functions now stages owned i → i < length stages →
+pub stage_there : {F V : Type 0} (as_plain : V → PlainStage (PlainOwned F)) (n : ℕ) (functions : List F) (now : List (Option F)) (stages : List Stage) (works : List V) (i : ℕ) (d : Stage) → TookAll as_plain n functions now stages works i → i < length stages →
     AreThere functions now (positions_of (get_or stages i d).branches ++ all_positions (drop (i + 1) stages))
-stage_there items functions now stages owned i d took inside = subst (AreThere functions now) (stages_left stages i d inside) took.left
+stage_there as_plain n functions now stages works i d took inside = subst (AreThere functions now) (stages_left stages i d inside) took.left
 
-pub all_more : {F V : Type 0} (items : V → List (List F)) (functions : List F) (now after : List (Option F)) (stages : List Stage) (owned more : List V) (v : V) (i : ℕ) (d : Stage) → TookAll items functions now stages owned i → i < length stages →
-    items v ≡ owned_in (get_or stages i d).branches functions → AreThere functions after (all_positions (drop (i + 1) stages)) → more ≡ owned ++ v ∷ [] → TookAll items functions after stages more (i + 1)
-all_more {F} items functions now after stages owned more v i d took inside own left push = record {
-  owns = list_more (map items owned) (map items more) (owned_by (drop i stages) functions) (owned_by (drop (i + 1) stages) functions) (owned_by stages functions) (items v) (map_push items owned more v push)
-      (ap (λ l. owned_by l functions) (drop_more stages i d inside) ∙ ap (λ (l : List (List F)). l ∷ owned_by (drop (i + 1) stages) functions) (sym own)) took.owns;
+pub all_more : {F V : Type 0} (as_plain : V → PlainStage (PlainOwned F)) (n : ℕ) (functions : List F) (now after : List (Option F)) (stages : List Stage) (works more : List V) (v : V) (i : ℕ) (d : Stage) → TookAll as_plain n functions now stages works i → i < length stages →
+    as_plain v ≡ record { parts = (get_or stages i d).parts; branches = works_in (get_or stages i d).branches (owned_in (get_or stages i d).branches functions) n } →
+    AreThere functions after (all_positions (drop (i + 1) stages)) → more ≡ works ++ v ∷ [] → TookAll as_plain n functions after stages more (i + 1)
+unfolding works_of
+all_more {F} {V} as_plain n functions now after stages works more v i d took inside own left push = record {
+  owns =
+      let rest : List (PlainStage (PlainOwned F)) = works_of (drop (i + 1) stages) (owned_by (drop (i + 1) stages) functions) n in
+      list_more (map as_plain works) (map as_plain more) (works_of (drop i stages) (owned_by (drop i stages) functions) n) rest (works_of stages (owned_by stages functions) n) (as_plain v)
+      (ap (map as_plain) push ∙ map-append as_plain works (v ∷ []))
+      (ap (λ (l : List Stage). works_of l (owned_by l functions) n) (drop_more stages i d inside) ∙ ap (λ (x : PlainStage (PlainOwned F)). x ∷ rest) (sym own)) took.owns;
   left = left;
 }
 
-pub all_taken : {F V : Type 0} (items : V → List (List F)) (functions : List F) (now : List (Option F)) (stages : List Stage) (owned : List V) (i : ℕ) → TookAll items functions now stages owned i → length stages ≤ i → map items owned ≡ owned_by stages functions
-all_taken items functions now stages owned i took past = sym (append-nil (map items owned)) ∙ ap (λ l. map items owned ++ owned_by l functions) (sym (drop_all i stages past)) ∙ took.owns
+pub all_taken : {F V : Type 0} (as_plain : V → PlainStage (PlainOwned F)) (n : ℕ) (functions : List F) (now : List (Option F)) (stages : List Stage) (works : List V) (i : ℕ) → TookAll as_plain n functions now stages works i → length stages ≤ i → map as_plain works ≡ works_of stages (owned_by stages functions) n
+unfolding works_of
+all_taken as_plain n functions now stages works i took past = sym (append-nil (map as_plain works)) ∙ ap (λ (l : List Stage). map as_plain works ++ works_of l (owned_by l functions) n) (sym (drop_all i stages past)) ∙ took.owns
 
 -- the same places, lent, and the same branches
 pub there_in : {F : Type 0} (functions : List F) (places lent : List (Option F)) (branches own : List Branch) (later : List ℕ) → lent ≡ places → branches ≡ own → AreThere functions places (positions_of own ++ later) → AreThere functions lent (positions_of branches ++ later)

@@ -19,9 +19,9 @@ use Rattle.burst_law.specs.Stations.{Turn, then_state}
 use Rattle.graph_run.specs.Carrying.{as_version, as_branch_end, wrote_at}
 use Rattle.graph_run.specs.Staging.{Holds, IsCarried, IsWhatWasWritten}
 use Rattle.stream_law.specs.Owned.{IsOwnReady}
-use Rattle.message_links.specs.Messages.{PlainMessage, PlainMessage.Live, PlainMessage.Nil, is_short, plain}
-use Rattle.message_links.specs.declared.message.Message.{Message}
-use Rattle.message_links.specs.declared.message.Message.TheVariants as made
+use Rattle.packet_messages.specs.Messages.{PlainMessage, PlainMessage.Live, PlainMessage.Nil, is_short, plain}
+use Rattle.packet_messages.specs.declared.message.Message.{Message}
+use Rattle.packet_messages.specs.declared.message.Message.TheVariants as made
 use Rattle.stage_nodes.specs.Streams.{Kit, gave, moved}
 use Rattle.stream_law.specs.Owned.{moved_by, went_by, ran_by}
 use Rattle.piped_run.specs.Turns.{as_sent}

@@ -1,11 +1,14 @@
 -- For proofs: what comes of a packet to the functions of a branch.
-use Rattle.std.specs.Prelude.{ℕ, List, Bool, true, false}
+use Rattle.std.specs.Prelude.{◌≡◌, ◌<◌, ◌⊎◌, ℕ, List, Bool, true, false, length, slice_index_or}
 use Rattle.action_profile.specs.declared.rights.Profile.{Profile}
+use Rattle.chain_walk.specs.Shown.{Values}
+use Rattle.chain_walk.specs.Step.{Behaviour, stepped}
+use Rattle.chain_walk.specs.declared.fixed.Fixed.{Fixed}
 use Rattle.packet_version.specs.Versions.{PlainVersion}
 use Rattle.merge_ops.specs.declared.arrival.Arrival.{Arrival}
 use Rattle.merge_ops.specs.declared.arrival.Arrival.TheVariants as came
 use Rattle.stream_law.specs.Owned.{IsOwnReady}
-use Rattle.message_links.specs.Messages.{PlainMessage, PlainMessage.Live, PlainMessage.Nil, PlainMessage.Short}
+use Rattle.packet_messages.specs.Messages.{PlainMessage, PlainMessage.Live, PlainMessage.Nil, PlainMessage.Short}
 
 -- a version is ready for functions with these profiles and positions, and anything else passes on
 abbrev pub IsReadyMessage : List Profile → List ℕ → PlainMessage PlainVersion → Type 0
@@ -24,3 +27,12 @@ abbrev pub as_sent : Arrival → PlainMessage PlainVersion
 as_sent (came.Version version) = Live version
 as_sent (came.Nil p) = Nil p
 as_sent came.Short = Short
+
+-- a function as it was, or as its step left it, whatever that was shown
+abbrev pub IsOrMoved : {F : Type 0} → Behaviour F → F → F → Type 0
+IsOrMoved b was now = (now ≡ was) ⊎ ((fixed : Fixed) × (values : Values) × (now ≡ (stepped b fixed was values).after))
+
+-- Each function stands in its place, as it was or as its step left it.
+pub record EachStays {F : Type 0} (b : Behaviour F) (old new : List F) : Type 0 where
+  pub count : length new ≡ length old
+  pub each : (k : ℕ) (d : F) → k < length old → IsOrMoved b (slice_index_or old k d) (slice_index_or new k d)

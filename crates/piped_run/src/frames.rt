@@ -2,7 +2,7 @@
 ghost use Rattle.std.specs.Prelude.{◌≡◌, length, IfOk};
 ghost use Rattle.capture_bytes.specs.declared.packet.Unit.{Unit as TimeUnit};
 ghost use Rattle.graph_run.specs.Packets.{packet_of, packets_taken};
-ghost use Rattle.message_links.specs.Messages.{Fits};
+ghost use Rattle.packet_messages.specs.Messages.{Fits};
 ghost use Rattle.stage_nodes.specs.Streams.{of_merged};
 ghost use Rattle.stream_law.specs.Apart.{apart_of};
 

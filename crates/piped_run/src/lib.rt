@@ -20,14 +20,14 @@
 //! stage before the next begins: its branches side by side, then its mergers. Where every stage has one branch it runs as
 //! `run_gated` too. A burst without packets starts no thread.
 //!
-//! The functions of the chain are split among the branches that own them (`splitting`), and put together in chain order
-//! once all nodes have ended (`returning`): each branch has the functions at its positions, and functions that are split
+//! The functions of the chain are taken out of their places for the branches that own them (`splitting`), and put back in
+//! chain order once all nodes have ended (`returning`): each branch has the functions at its positions, and functions that are split
 //! so are put together to the same list. [`branch_turn`] is a branch's work on one packet: its functions one after
 //! another, until one drops it.
 //!
 //! Why this is the walk is told by `stream_law`: what is due on each link is fixed before the first step, and
 //! what comes behind the last stage is what packets give that walk through the chain one after another.
-//! Here the graph is made the works of nodes (`works`), frames are taken apart one after another (`frames`), the
+//! Here a graph and its functions are made the works of nodes (`works`), frames are taken apart one after another (`frames`), the
 //! nodes are run and put packets together to frames behind the last stage (`node_run`), and their functions are
 //! given back (`back`).
 //!
@@ -50,7 +50,7 @@ mod works;
 
 pub use chain_walk::Fate;
 pub use joined::run_joined;
-pub use message_links::Message;
 pub use node_run::MergeWay;
+pub use packet_messages::Message;
 pub use piped::run_piped;
 pub use turn::branch_turn;

@@ -3,9 +3,9 @@ ghost use Rattle.std.specs.Prelude.{◌≡◌, false, All, IfOk, IfSome, IsSome}
 
 use crate::turn::branch_turn;
 use graph_run::functions_keep_to_profiles;
-use message_links::Message;
 use net_functions::Function;
 use nfp_outside::Gate;
+use packet_messages::Message;
 use packet_version::Version;
 use stage_nodes::BranchWork;
 use std::alloc::{AllocError, Global};

@@ -13,7 +13,6 @@ use crate::back::end_works;
 use crate::frames::Frames;
 use crate::owned::OwnedFunctions;
 use crate::returning::put_together;
-use crate::splitting::split_functions;
 use crate::works::begin_works;
 use burst_law::burst_is_chain;
 use chain_walk::Fate;
@@ -73,8 +72,7 @@ pub(crate) fn pipe_frames<F: Function + Drop + Send, G: Gate + Sync, R: Threads 
     let owners = functions.len();
     let count = numbers.len() as u32;
     let mergers = mergers_that_pay(rt, stages, mergers.min(count));
-    let owned = split_functions(alloc, stages, functions)?;
-    let works = begin_works(alloc, stages, owned, numbers, chain)?;
+    let works = begin_works(alloc, stages, functions, numbers, chain)?;
     let (works, fates, made) = run_nodes::<OwnedFunctions<F>, Frames, Brand, R, G>(
         rt, alloc, gate, works, frames, count, mergers, way, schedule,
     )?;

@@ -2,15 +2,15 @@
 ghost use Rattle.std.specs.Prelude.{◌≡◌, ℕ, false, true, IfOk, OnOk, OnErr};
 ghost use Rattle.graph_run.specs.Running.{profiles_of};
 ghost use Rattle.stream_law.specs.Owned.{IsOwnReady};
-ghost use Rattle.message_links.specs.Messages.{PlainMessage.Live, PlainMessage.Nil, is_short, plain};
+ghost use Rattle.packet_messages.specs.Messages.{PlainMessage.Live, PlainMessage.Nil, is_short, plain};
 ghost use Rattle.stream_law.specs.Owned.{ran_by};
-ghost use Rattle.piped_run.specs.Turns.{IsReadyMessage, as_sent, is_live};
+ghost use Rattle.piped_run.specs.Turns.{EachStays, IsReadyMessage, as_sent, is_live};
 
 use graph_run::{step_on, versions_go_on};
 use merge_ops::Arrival;
-use message_links::{Message, boxed};
 use net_functions::Function;
 use nfp_outside::Gate;
+use packet_messages::{Message, boxed};
 use packet_version::Version;
 use std::alloc::{AllocError, Global};
 use std::sync::Wait;
@@ -19,7 +19,8 @@ use std::sync::Wait;
 /// the packet with this record number, until one drops it. Each step passes the gate first. A packet that
 /// is gone already passes on as such, and no function sees it.
 ///
-/// Short where memory is; then nothing is said of the functions' states. Their profiles stay in every case.
+/// Short where memory is; then nothing is said of the functions' states, but that each function stands in its place
+/// as it was or as its step left it: no kind, setting or order changes in any case.
 pub fn branch_turn<F: Function, G: Gate, R: Wait>(
     rt: &R,
     alloc: Global,
@@ -33,6 +34,7 @@ pub fn branch_turn<F: Function, G: Gate, R: Wait>(
     requires ready { IsReadyMessage (profiles_of F.behaviour functions.old) positions.now (plain message) }
     ensures ran { is_short (plain result) ≡ false → plain result ≡ (ran_by F.behaviour positions.now functions.old (plain message)).gives }
     ensures functions { is_short (plain result) ≡ false → functions.new ≡ (ran_by F.behaviour positions.now functions.old (plain message)).state }
+    ensures each { EachStays F.behaviour functions.old functions.new }
     ensures profiles { profiles_of F.behaviour functions.new ≡ profiles_of F.behaviour functions.old }
     ensures gone { (p : ℕ) → plain message ≡ Nil p → plain result ≡ Nil p }
     ensures stays { is_live (plain message) ≡ false → functions.new ≡ functions.old }
@@ -76,6 +78,7 @@ fn turn_on<F: Function, G: Gate, R: Wait>(
     requires ready { IsOwnReady (profiles_of F.behaviour functions.old) positions.now version }
     ensures functions { OnOk result (functions.new ≡ (ran_by F.behaviour positions.now functions.old (Live version)).state) }
     ensures arrival { IfOk result (λ arrival. as_sent arrival ≡ (ran_by F.behaviour positions.now functions.old (Live version)).gives) }
+    ensures each { EachStays F.behaviour functions.old functions.new }
     ensures profiles { profiles_of F.behaviour functions.new ≡ profiles_of F.behaviour functions.old }
 {
     versions_go_on::<F>();

@@ -1,35 +1,44 @@
-//! The functions of a graph, as the works of its nodes.
-ghost use Rattle.std.specs.Prelude.{◌≡◌, length, map, IfOk};
+//! The functions of a chain, split among the branches that own them, as the works of nodes.
+ghost use Rattle.std.specs.Prelude.{◌≡◌, ◌++◌, ℕ, List, length, map, IfOk, OnOk};
+ghost use Rattle.graph_compile.specs.Facts.{positions_of};
+ghost use Rattle.burst_law.specs.Owned.{owned_by, owned_in};
 ghost use Rattle.node_run.specs.Stages.{plain_stage};
 ghost use Rattle.stream_law.specs.Works.{works_in, works_of};
+ghost use Rattle.piped_run.specs.Places.{AreThere};
+ghost use Rattle.piped_run.specs.Standing.{EachStands};
 
 use crate::owned::OwnedFunctions;
+use crate::splitting::{places_of, split_branch};
 use action_profile::StageParts;
 use graph_compile::{Branch, Stage};
 use item_list::Items;
 use node_run::StageWork;
 use std::alloc::{AllocError, Global};
 
-/// The functions of these stages, which are split by stage and branch, as works for the packets with these
-/// record numbers. The one refusal is want of memory.
+/// The functions of a chain as works for the packets with these record numbers: each branch of these stages has those
+/// that stand at its positions, in their order. The one refusal is want of memory.
 pub(crate) fn begin_works<F: Drop>(
     alloc: Global,
     stages: &[Stage],
-    owned: Vec<Vec<Vec<F>>>,
+    functions: Vec<F>,
     numbers: &[u32],
     chain: u32,
 ) -> Result<Vec<StageWork<OwnedFunctions<F>>>, AllocError>
-    requires { map (λ own. length own.items) owned.items ≡ map (λ s. length s.branches) stages.now }
-    ensures { IfOk result (λ works. map plain_stage works.items ≡ works_of stages.now (map (λ own. map (λ v. v.items) own.items) owned.items) (length numbers.now)) }
+    requires { EachStands stages.now (length functions.items) }
+    ensures { IfOk result (λ works. map plain_stage works.items ≡ works_of stages.now (owned_by stages.now functions.items) (length numbers.now)) }
 {
+    let mut places = places_of(alloc, functions)?;
     let mut works = Vec::with_capacity(alloc, stages.len())?;
-    let mut index = 0;
-    'stages: for own in owned {
-        let stage = &stages[index];
+    for stage in stages {
+        let branches = begin_branches(
+            alloc,
+            stage.branches.as_slice(),
+            &mut places,
+            numbers,
+            chain,
+        )?;
         let parts = same_parts(alloc, &stage.parts)?;
-        let branches = begin_branches(alloc, stage.branches.as_slice(), own, numbers, chain)?;
         works.push(StageWork { parts, branches })?;
-        index += 1;
     }
     Ok(works)
 }
@@ -45,23 +54,23 @@ fn same_parts(alloc: Global, parts: &StageParts) -> Result<StageParts, AllocErro
     })
 }
 
-/// The functions of each branch of a stage, as a work.
+/// The functions of each branch of a stage, which are taken out of their places, as a work.
 fn begin_branches<F: Drop>(
     alloc: Global,
     branches: &[Branch],
-    own: Vec<Vec<F>>,
+    places: &mut [Option<F>],
     numbers: &[u32],
     chain: u32,
 ) -> Result<Vec<OwnedFunctions<F>>, AllocError>
-    requires { length own.items ≡ length branches.now }
-    ensures { IfOk result (λ works. works.items ≡ works_in branches.now (map (λ v. v.items) own.items) (length numbers.now)) }
+    requires there { (functions : List F) × (later : List ℕ) × AreThere functions places.old (positions_of branches.now ++ later) }
+    ensures own { (functions : List F) (later : List ℕ) → AreThere functions places.old (positions_of branches.now ++ later) → IfOk result (λ works. works.items ≡ works_in branches.now (owned_in branches.now functions) (length numbers.now)) }
+    ensures left { (functions : List F) (later : List ℕ) → AreThere functions places.old (positions_of branches.now ++ later) → OnOk result (AreThere functions places.new later) }
 {
     let mut works = Vec::with_capacity(alloc, branches.len())?;
-    let mut index = 0;
-    'branches: for functions in own {
-        let work = begin_branch(alloc, &branches[index], functions, numbers, chain)?;
+    for branch in branches {
+        let functions = split_branch(alloc, branch.positions.as_slice(), places)?;
+        let work = begin_branch(alloc, branch, functions, numbers, chain)?;
         works.push(work)?;
-        index += 1;
     }
     Ok(works)
 }

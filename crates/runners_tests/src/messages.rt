@@ -1,9 +1,9 @@
 //! Messages of packets go over links, one by one and in rows.
 ghost use Rattle.std.specs.Prelude.{◌≡◌, ◌∷◌, [], IfOk};
-ghost use Rattle.message_links.specs.Messages.{PlainMessage.Live, PlainMessage.Nil, PlainMessage.Short};
+ghost use Rattle.packet_messages.specs.Messages.{PlainMessage.Live, PlainMessage.Nil, PlainMessage.Short};
 
-use message_links::{
-    Fans, Inlet, Inlets, Message, Outlet, Outlets, Parcel, boxed, edge, message_without,
+use packet_messages::{
+    Fans, Inlet, Inlets, Message, Outlet, Outlets, Parcel, all_boxed, boxed, edge, message_without,
 };
 use ruled_links::LinkDue;
 use std::alloc::{AllocError, Global};
@@ -88,8 +88,8 @@ fn unshared(alloc: Global, outlet: Outlet<u32>) -> Result<Outlets<u32>, AllocErr
     Ok(list)
 }
 
-/// Whether two parts found memory, and what came of them and of the position behind each.
-fn in_rows<R: Wait>(rt: &R, alloc: Global) -> Result<(bool, [Came; 4]), AllocError> {
+/// What came of two parts, and of the position behind each.
+fn in_rows<R: Wait>(rt: &R, alloc: Global) -> Result<[Came; 4], AllocError> {
     let (outlet, inlet) = two_due::<Brand>(alloc, 5, 2)?;
     let (other_outlet, other_inlet) = two_due::<Brand>(alloc, 6, 2)?;
     let mut fans = Fans::new(alloc);
@@ -97,18 +97,18 @@ fn in_rows<R: Wait>(rt: &R, alloc: Global) -> Result<(bool, [Came; 4]), AllocErr
     fans.push(unshared(alloc, other_outlet)?)?;
     let mut inlets = alone(alloc, inlet)?;
     inlets.push(other_inlet)?;
-    let found = fans.give_each(rt, alloc, Vec::from_array(alloc, [5, 6])?);
+    let row = all_boxed(alloc, Vec::from_array(alloc, [5, 6])?)?;
+    fans.give_each(rt, row);
     fans.give_word(rt, Some(2));
     let first = taken(inlets.accept_next(rt));
     let second = taken(inlets.accept_at(rt, 0));
     let third = taken(inlets.accept_next(rt));
-    Ok((found, [first, second, third, taken(inlets.accept_next(rt))]))
+    Ok([first, second, third, taken(inlets.accept_next(rt))])
 }
 
 #[test]
 fn rows_come_in_turn(rt: HostRuntime) -> Result<(), Fail> {
-    let (found, all) = in_rows(&rt, rt.alloc())?;
-    assert!(rt; found);
+    let all = in_rows(&rt, rt.alloc())?;
     assert_eq!(rt;
         all,
         [

@@ -2,8 +2,8 @@
 use Rattle.std.proofs.Common.{◌≡◌, ◌≢◌, ◌<◌, ◌≤◌, ◌+◌, ◌-◌, ◌*◌, ◌∙◌, ℕ, suc, List, [], ◌∷◌, length, refl, arith, ap, sym, subst, Bool, false, inl, inr}
 use Rattle.std.proofs.Math.Nat.{add-mul}
 use Rattle.packet_version.specs.Versions.{PlainVersion}
-use Rattle.message_links.specs.Messages.{PlainMessage, Fits, Owing, first, rest, front, turned, is_short}
-use Rattle.message_links.specs.Turns.{shares}
+use Rattle.packet_messages.specs.Messages.{PlainMessage, Fits, Owing, first, rest, front, turned, is_short}
+use Rattle.packet_messages.specs.Turns.{shares}
 use Rattle.stage_nodes.specs.Streams.{Kit, gave, moved, ran, left}
 use Rattle.stage_nodes.specs.Flows.{MayTake, MayTakeEach}
 use Rattle.stage_nodes.specs.Dues.{BranchDue, NothingOwed}

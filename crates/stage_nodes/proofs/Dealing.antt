@@ -1,6 +1,6 @@
 -- A dealer before and after one packet.
 use Rattle.std.proofs.Common.{◌≡◌, ◌≢◌, ◌<◌, ◌≤◌, ◌+◌, ◌-◌, ◌∙◌, ℕ, suc, List, [], ◌∷◌, length, map, refl, arith, ap, sym, subst, Bool, false, All, inl, inr}
-use Rattle.std.specs.Prelude.{Option, Some, None, is_some, not}
+use Rattle.std.specs.Prelude.{Some, None}
 use Rattle.std.proofs.lemmas.List.Elements.{All-cons, All-nil}
 use Rattle.std.proofs.lemmas.List.Sums.{sum_by-cons}
 use Rattle.packet_fields.specs.declared.field.Field.{Field}
@@ -8,13 +8,15 @@ use Rattle.action_profile.specs.declared.parts.StageParts.{StageParts}
 use Rattle.action_profile.specs.declared.parts.Touch.{Touch}
 use Rattle.packet_version.specs.Splitting.{PlainApart}
 use Rattle.packet_version.specs.Versions.{PlainVersion}
-use Rattle.packet_version.specs.Dealing.{dealt}
+use Rattle.packet_version.specs.Dealing.{dealt, based}
 use Rattle.packet_version.specs.Tallies.{count_of, raised}
-use Rattle.message_links.specs.Messages.{PlainMessage, PlainMessage.Live, PlainMessage.Nil, PlainMessage.Short, Fits, Owing, first, front, turned, is_short, word}
-use Rattle.message_links.specs.Turns.{shares}
+use Rattle.packet_messages.specs.Messages.{PlainMessage, PlainMessage.Live, PlainMessage.Nil, PlainMessage.Short, Fits, Owing, first, front, turned, is_short}
+use Rattle.packet_messages.specs.Turns.{shares}
 use Rattle.stage_nodes.specs.Streams.{parted, base_of, due_of, dealer_copies}
 use Rattle.stage_nodes.specs.Dues.{AreFanned, DealerDue, NothingOwed}
-use Rattle.stage_nodes.specs.Turns.{HasMore, DealerReady, RaisesByMessage, Stops, Splits, DealerAt}
+use Rattle.stage_nodes.specs.Turns.{HasMore, DealerReady, RaisesByMessage, Deals, DealerAt, GivenFits, IsBoxed, is_lost}
+use Rattle.stage_nodes.specs.declared.dealer.Given.{Given}
+use Rattle.stage_nodes.specs.declared.dealer.Given.TheVariants.{Row, Word}
 use Rattle.stage_nodes.proofs.Shares.{turned_shares, no_shares}
 use Rattle.stage_nodes.proofs.Ends.{due_is, begins, Front, front_of, some_more, none_more}
 
@@ -57,7 +59,7 @@ all_short : (fans : List (List (List (PlainMessage PlainVersion)))) → All (λ 
 all_short [] = All-nil _
 all_short (fan ∷ fans) = All-cons (λ y. Fits (first (front y)) Short) fan fans (inr refl) (all_short fans)
 
-row_live : (touches : List Touch) (whole : PlainApart) → map (λ p. Live p) (map (dealt whole) touches) ≡ map (λ t. parted t (Live whole)) touches
+row_live : (touches : List Touch) (whole : PlainApart) → map (λ v. Live v) (map (dealt whole) touches) ≡ map (λ t. parted t (Live whole)) touches
 row_live [] whole = refl
 row_live (t ∷ touches) whole = ap (λ y. Live (dealt whole t) ∷ y) (row_live touches whole)
 
@@ -96,23 +98,26 @@ came_live : {S : Type 0} {comes : S → List (PlainMessage PlainApart) → Type 
     → (t : DealerTurn comes touches source versions bases) → FitsNext comes source message → message ≡ Live whole → t.next ≡ Live whole
 came_live {S} {comes} touches source versions bases message whole t fits live = sym (due_is t.next message (fits t.next t.later t.takes) (ap is_short live)) ∙ live
 
-pub row_due : {S : Type 0} {comes : S → List (PlainMessage PlainApart) → Type 0} (touches : List Touch) (source : S) (versions : List (List (List (PlainMessage PlainVersion)))) (bases : List (List (PlainMessage PlainApart))) (message : PlainMessage PlainApart) (old new : List ℕ) (base : PlainApart) (row : List PlainVersion)
-    → DealerTurn comes touches source versions bases → FitsNext comes source message → Splits touches message old new base row → map (λ p. Live p) row ≡ map (λ fan. first (front fan)) versions
-row_due {S} {comes} touches source versions bases message old new base row t fits s =
-    ap (map (λ p. Live p)) s.given ∙ row_live touches s.whole ∙ sym (t.row ∙ ap (λ y. map (λ t. parted t y) touches) (came_live touches source versions bases message s.whole t fits s.live))
-
-pub base_fits : {S : Type 0} {comes : S → List (PlainMessage PlainApart) → Type 0} (touches : List Touch) (source : S) (versions : List (List (List (PlainMessage PlainVersion)))) (bases : List (List (PlainMessage PlainApart))) (message : PlainMessage PlainApart) (old new : List ℕ) (base : PlainApart) (row : List PlainVersion) (reply : PlainMessage PlainApart)
-    → DealerTurn comes touches source versions bases → FitsNext comes source message → Splits touches message old new base row → Fits (Live base) reply → Fits (first (front bases)) reply
-base_fits {S} {comes} touches source versions bases message old new base row reply t fits s boxed =
-    subst (λ y. Fits y reply) (sym (t.base.is ∙ ap (base_of touches) (came_live touches source versions bases message s.whole t fits s.live) ∙ ap (λ y. Live y) (sym s.stays))) boxed
-
-pub words_fit : {S : Type 0} {comes : S → List (PlainMessage PlainApart) → Type 0} (touches : List Touch) (source : S) (versions : List (List (List (PlainMessage PlainVersion)))) (bases : List (List (PlainMessage PlainApart))) (message : PlainMessage PlainApart) (short : Bool) (old new : List ℕ) (position : Option ℕ)
-    → DealerTurn comes touches source versions bases → FitsNext comes source message → Stops touches message short old new position
-    → All (λ fan. Fits (first (front fan)) (word position)) versions × Fits (first (front bases)) (word position)
-words_fit {S} {comes} touches source versions bases message short old new None t fits st = (all_short versions, inr refl)
-words_fit {S} {comes} touches source versions bases message short old new (Some q) t fits st =
+-- what a dealer gives fits
+pub given_fits : {S : Type 0} {comes : S → List (PlainMessage PlainApart) → Type 0} (touches : List Touch) (source : S) (versions : List (List (List (PlainMessage PlainVersion)))) (bases : List (List (PlainMessage PlainApart))) (message : PlainMessage PlainApart) (short : Bool) (old new : List ℕ) (given : Given)
+    → DealerTurn comes touches source versions bases → FitsNext comes source message → Deals touches message short old new given → GivenFits versions bases given
+given_fits {S} {comes} touches source versions bases message short old new (Row base row) t fits d =
+    let s = d.1 in
+    let is = came_live touches source versions bases message s.whole t fits s.live in (
+      s.given ∙ row_live touches s.whole ∙ sym (t.row ∙ ap (λ y. map (λ t. parted t y) touches) is),
+      inl (sym (t.base.is ∙ ap (base_of touches) is ∙ ap (λ y. Live y) (sym s.stays))),
+    )
+given_fits {S} {comes} touches source versions bases message short old new (Word None) t fits st = (all_short versions, inr refl)
+given_fits {S} {comes} touches source versions bases message short old new (Word (Some q)) t fits st =
     let is : t.next ≡ Nil q = sym (due_is t.next message (fits t.next t.later t.takes) (ap is_short st.1)) ∙ st.1 in
     (t.words q is, inl (sym (t.base.is ∙ ap (base_of touches) is)))
+
+-- parts in boxes are what a dealer gives
+pub boxed_deals : (touches : List Touch) (x : PlainMessage PlainApart) (whole : PlainApart) (short : Bool) (old new : List ℕ) (base : PlainApart) (versions : List PlainVersion) (given : Given)
+    → short ≡ false → x ≡ Live whole → base ≡ based touches whole → versions ≡ map (dealt whole) touches → RaisesByMessage touches x old new → IsBoxed base versions given → Deals touches x short old new given
+boxed_deals touches x whole short old new base versions (Row b row) w live stays dealt counted boxed = (w, record { whole = whole; live = live; stays = boxed.0 ∙ stays; given = boxed.1 ∙ ap (map (λ v. Live v)) dealt; counted = counted })
+boxed_deals touches x whole short old new base versions (Word None) w live stays dealt counted boxed = tt
+boxed_deals touches x whole short old new base versions (Word (Some q)) w live stays dealt counted boxed = absurd boxed
 
 -- a packet that was dealt, or had been dropped before, was counted
 pub record WasCounted (touches : List Touch) (message : PlainMessage PlainApart) (short : Bool) (old new : List ℕ) : Type 0 where
@@ -120,14 +125,11 @@ pub record WasCounted (touches : List Touch) (message : PlainMessage PlainApart)
   pub there : is_short message ≡ false
   pub counted : RaisesByMessage touches message old new
 
-pub split_counted : (touches : List Touch) (message : PlainMessage PlainApart) (short : Bool) (old new : List ℕ) (base : PlainApart) (row : List PlainVersion)
-    → short ≡ false → Splits touches message old new base row → WasCounted touches message short old new
-split_counted touches message short old new base row w s = record { ample = w; there = ap is_short s.live; counted = s.counted }
-
-pub word_counted : (touches : List Touch) (message : PlainMessage PlainApart) (short after : Bool) (old new : List ℕ) (position : Option ℕ)
-    → Stops touches message short old new position → is_some position ≡ not after → after ≡ false → WasCounted touches message short old new
-word_counted touches message short after old new None st e w = absurd (let x = e ∙ ap not w in cc)
-word_counted touches message short after old new (Some q) st e w = record { ample = st.0; there = ap is_short st.1; counted = st.2 }
+pub given_counted : (touches : List Touch) (message : PlainMessage PlainApart) (short after : Bool) (old new : List ℕ) (given : Given)
+    → Deals touches message short old new given → after ≡ is_lost given → after ≡ false → WasCounted touches message short old new
+given_counted touches message short after old new (Row base row) d e w = record { ample = d.0; there = ap is_short d.1.live; counted = d.1.counted }
+given_counted touches message short after old new (Word None) st e w = absurd (let x = sym w ∙ e in cc)
+given_counted touches message short after old new (Word (Some q)) st e w = record { ample = st.0; there = ap is_short st.1; counted = st.2 }
 
 raised_twice : (c d s : ℕ) → raised (raised c d) s ≡ raised c (d + s)
 raised_twice c d s = omega arith

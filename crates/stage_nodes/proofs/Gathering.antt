@@ -7,7 +7,7 @@ use Rattle.acc_table.specs.Arrivals.{Table, arrivals, with_arrival, nothing, IsO
 use Rattle.acc_table.specs.declared.table.Complete.{Complete}
 use Rattle.packet_version.specs.Versions.{PlainVersion}
 use Rattle.merge_ops.specs.declared.arrival.Arrival.{Arrival}
-use Rattle.message_links.specs.Messages.{PlainMessage, Fits, AllFit, Owing, first, rest}
+use Rattle.packet_messages.specs.Messages.{PlainMessage, Fits, AllFit, Owing, first, rest}
 use Rattle.stage_nodes.specs.Streams.{as_arrival}
 use Rattle.stage_nodes.specs.Gathering.{partly, IsGathering, IsReady, MayCome, ArrivalFits, RowFits}
 

@@ -11,7 +11,7 @@ use Rattle.merge_ops.specs.Behind.{AreArrivals, IsFrom, no_touch}
 use Rattle.merge_ops.specs.declared.arrival.Arrival.{Arrival}
 use Rattle.merge_ops.specs.declared.arrival.Arrival.TheVariants as came
 use Rattle.merge_ops.specs.declared.merging.Merged.TheVariants as ends
-use Rattle.message_links.specs.Messages.{PlainMessage, PlainMessage.Live, PlainMessage.Nil, PlainMessage.Short, Fits, Owing, first, rest}
+use Rattle.packet_messages.specs.Messages.{PlainMessage, PlainMessage.Live, PlainMessage.Nil, PlainMessage.Short, Fits, Owing, first, is_short, rest}
 use Rattle.stage_nodes.specs.Streams.{as_arrival, of_merged, joined, merged_rows}
 use Rattle.stage_nodes.specs.Flows.{Belongs, AllBelong}
 use Rattle.stage_nodes.specs.Dues.{MergerDue}
@@ -185,9 +185,19 @@ pub merger_gave : (count i n : ℕ) (short : Bool) (bases : List (PlainMessage P
     → MergerAt n short bases columns outlet → outlet ≡ []
 merger_gave count i n short bases columns outlet le e a = none_left outlet (a.many ∙ e ∙ none_more count i le)
 
-pub merger_goes_on : (n : ℕ) (short after : Bool) (bases bases' : List (PlainMessage PlainApart)) (columns columns' : List (List (PlainMessage PlainVersion))) (outlet outlet' : List (PlainMessage PlainApart))
-    → MergerAt (suc n) short bases columns outlet → short ≡ false → bases' ≡ rest bases → columns' ≡ map rest columns → outlet' ≡ rest outlet → MergerAt n after bases' columns' outlet'
-merger_goes_on n short after bases bases' columns columns' outlet outlet' a w b i o = record {
-  many = rest_length n outlet outlet' a.many o;
-  due = λ v. due_goes_on n bases bases' columns columns' outlet outlet' (a.due w) b i o;
-}
+-- a message is due to the dealer behind, and what comes of the packet fits it
+pub merger_owes : (n : ℕ) (short : Bool) (bases : List (PlainMessage PlainApart)) (columns : List (List (PlainMessage PlainVersion))) (outlet now : List (PlainMessage PlainApart)) → now ≡ outlet → MergerAt (suc n) short bases columns outlet → Owing now
+merger_owes n short bases columns outlet now e a = let l = ap length e in let m = a.many in omega arith
+
+pub merger_fits : (outlet now : List (PlainMessage PlainApart)) (reply : PlainMessage PlainApart) → now ≡ outlet → Fits (first outlet) reply → Fits (first now) reply
+merger_fits outlet now reply e fits = subst (λ y. Fits (first y) reply) (sym e) fits
+
+pub merger_goes_on : (n : ℕ) (short after : Bool) (reply : PlainMessage PlainApart) (bases bases' : List (PlainMessage PlainApart)) (columns columns' : List (List (PlainMessage PlainVersion))) (outlet now outlet' : List (PlainMessage PlainApart))
+    → MergerAt (suc n) short bases columns outlet → after ≡ is_short reply → (is_short reply ≡ false → short ≡ false) → (is_short reply ≡ false → (bases' ≡ rest bases) × (columns' ≡ map rest columns)) → now ≡ outlet → outlet' ≡ rest now → MergerAt n after bases' columns' outlet'
+merger_goes_on n short after reply bases bases' columns columns' outlet now outlet' a is ample taken stays o =
+    let left : outlet' ≡ rest outlet = o ∙ ap rest stays in record {
+      many = rest_length n outlet outlet' a.many left;
+      due = λ v.
+          let w : is_short reply ≡ false = sym is ∙ v in
+          due_goes_on n bases bases' columns columns' outlet outlet' (a.due (ample w)) (taken w).0 (taken w).1 left;
+    }

@@ -6,7 +6,7 @@ use Rattle.packet_version.specs.Dealing.{dealt, based}
 use Rattle.packet_version.specs.Splitting.{PlainApart}
 use Rattle.packet_version.specs.Versions.{PlainVersion}
 use Rattle.merge_ops.specs.Merging.{decision_of}
-use Rattle.message_links.specs.Messages.{PlainMessage, PlainMessage.Live, PlainMessage.Nil, PlainMessage.Short}
+use Rattle.packet_messages.specs.Messages.{PlainMessage, PlainMessage.Live, PlainMessage.Nil, PlainMessage.Short}
 use Rattle.stage_nodes.specs.Streams.{Kit, base_of, ran, left, joined, came_from, merged_rows, dealer_copies}
 
 -- a branch takes two versions, and between them a word that a packet was dropped

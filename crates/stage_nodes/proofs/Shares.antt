@@ -1,8 +1,8 @@
 -- The links that a stream is shared to, in turn.
 use Rattle.std.proofs.Common.{◌≡◌, ◌<◌, ◌+◌, ◌∙◌, ℕ, zero, suc, pred, List, [], ◌∷◌, ◌++◌, length, refl, arith, ap}
 use Rattle.std.proofs.lemmas.List.Elements.{All-cons, All-nil}
-use Rattle.message_links.specs.Messages.{front, turned}
-use Rattle.message_links.specs.Turns.{share, shares_from, shares}
+use Rattle.packet_messages.specs.Messages.{front, turned}
+use Rattle.packet_messages.specs.Turns.{share, shares_from, shares}
 use Rattle.stage_nodes.specs.Dues.{NothingOwed}
 
 later_shares : {A : Type 0} (m i c : ℕ) (x : A) (xs : List A) → shares_from m (suc i) c (x ∷ xs) ≡ shares_from m i c xs

@@ -1,7 +1,7 @@
 -- What comes from the mergers of a stage, in turn.
 use Rattle.std.proofs.Common.{◌≡◌, ◌<◌, ◌∙◌, List, ◌∷◌, length, ap, subst}
 use Rattle.packet_version.specs.Splitting.{PlainApart}
-use Rattle.message_links.specs.Messages.{PlainMessage, Fits, Owing, first, front, turned}
+use Rattle.packet_messages.specs.Messages.{PlainMessage, Fits, Owing, first, front, turned}
 use Rattle.stage_nodes.specs.Dues.{ComesFrom}
 use Rattle.stage_nodes.specs.Turns.{HasMore}
 use Rattle.stage_nodes.proofs.Shares.{turned_shares}

@@ -1,7 +1,7 @@
 -- Lists of lists, of which the first so many gave their first element.
 use Rattle.std.proofs.Common.{◌≡◌, ◌<◌, ◌≤◌, ◌+◌, ◌∙◌, ℕ, zero, suc, List, [], ◌∷◌, ◌++◌, length, map, refl, arith, ap, sym, subst, slice_index_or, slice_set, All}
 use Rattle.std.proofs.lemmas.List.Elements.{All-get_or}
-use Rattle.message_links.specs.Messages.{rest, front}
+use Rattle.packet_messages.specs.Messages.{rest, front}
 
 unfoldable pub swept : {A : Type 0} → ℕ → List (List A) → List (List A)
 swept zero ls = ls

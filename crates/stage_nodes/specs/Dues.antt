@@ -5,8 +5,8 @@ use Rattle.action_profile.specs.declared.parts.StageParts.{StageParts}
 use Rattle.action_profile.specs.declared.parts.Touch.{Touch}
 use Rattle.packet_version.specs.Splitting.{PlainApart}
 use Rattle.packet_version.specs.Versions.{PlainVersion}
-use Rattle.message_links.specs.Messages.{PlainMessage}
-use Rattle.message_links.specs.Turns.{shares}
+use Rattle.packet_messages.specs.Messages.{PlainMessage}
+use Rattle.packet_messages.specs.Turns.{shares}
 use Rattle.stage_nodes.specs.Streams.{Kit, parted, base_of, ran, left, merged_rows}
 use Rattle.stage_nodes.specs.Flows.{MayTakeEach, AllBelong}
 

@@ -5,7 +5,7 @@ use Rattle.action_profile.specs.declared.parts.Touch.{Touch}
 use Rattle.packet_version.specs.Splitting.{PlainApart}
 use Rattle.packet_version.specs.Versions.{PlainVersion}
 use Rattle.merge_ops.specs.Behind.{AreArrivals}
-use Rattle.message_links.specs.Messages.{PlainMessage, PlainMessage.Live, PlainMessage.Nil, PlainMessage.Short, first, rest}
+use Rattle.packet_messages.specs.Messages.{PlainMessage, PlainMessage.Live, PlainMessage.Nil, PlainMessage.Short, first, rest}
 use Rattle.stage_nodes.specs.Streams.{Kit, PlainStage, parted, base_of, moved, as_arrival, came_from, passed}
 
 -- a branch may take a message of the packet with this number in the burst, counted from 0

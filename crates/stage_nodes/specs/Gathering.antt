@@ -4,7 +4,7 @@ use Rattle.acc_table.specs.Arrivals.{Table, arrivals, nothing, IsOpen}
 use Rattle.packet_version.specs.Versions.{PlainVersion}
 use Rattle.merge_ops.specs.declared.arrival.Arrival.{Arrival}
 use Rattle.merge_ops.specs.declared.arrival.Arrival.TheVariants.{Short}
-use Rattle.message_links.specs.Messages.{PlainMessage}
+use Rattle.packet_messages.specs.Messages.{PlainMessage}
 use Rattle.stage_nodes.specs.Streams.{as_arrival}
 
 -- these have come, and of so many branches nothing yet

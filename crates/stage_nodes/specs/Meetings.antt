@@ -1,7 +1,7 @@
 -- For proofs: what is still due where branches and mergers meet, whether over links or on a board.
 use Rattle.std.specs.Prelude.{List}
 use Rattle.packet_version.specs.Versions.{PlainVersion}
-use Rattle.message_links.specs.Messages.{PlainMessage}
+use Rattle.packet_messages.specs.Messages.{PlainMessage}
 use Rattle.stage_nodes.specs.declared.to_mergers.Outward.{Outward}
 use Rattle.stage_nodes.specs.declared.to_mergers.Outward.TheVariants as out
 use Rattle.stage_nodes.specs.declared.from_branches.Inward.{Inward}

@@ -1,7 +1,7 @@
 -- For proofs: the messages that are due on each link of a run, as lists of plain data. A run is some stages, one after another; in each
 -- a dealer deals every packet to the branches, each branch takes what it is dealt in the packets' order, and what comes from the
 -- branches is put together packet by packet.
-use Rattle.std.specs.Prelude.{ℕ, ◌+◌, zero, suc, List, [], ◌∷◌, map}
+use Rattle.std.specs.Prelude.{ℕ, ◌+◌, List, [], ◌∷◌, map}
 use Rattle.std.specs.List.{sum_by}
 use Rattle.packet_fields.specs.declared.field.Field.{Field}
 use Rattle.action_profile.specs.declared.parts.StageParts.{StageParts}
@@ -14,7 +14,7 @@ use Rattle.merge_ops.specs.declared.arrival.Arrival.{Arrival}
 use Rattle.merge_ops.specs.declared.arrival.Arrival.TheVariants as came
 use Rattle.merge_ops.specs.declared.merging.Merged.{Merged}
 use Rattle.merge_ops.specs.declared.merging.Merged.TheVariants as ends
-use Rattle.message_links.specs.Messages.{PlainMessage, PlainMessage.Live, PlainMessage.Nil, PlainMessage.Short, first, rest}
+use Rattle.packet_messages.specs.Messages.{PlainMessage, PlainMessage.Live, PlainMessage.Nil, PlainMessage.Short, first, rest}
 
 -- What the functions of a branch make of a version, and the functions after it.
 pub record Kit (F : Type 0) : Type 0 where
@@ -108,12 +108,6 @@ through k (s ∷ stages) xs = through k stages (passed k s xs)
 unfoldable pub ends_of : {F : Type 0} → Kit F → List (PlainStage F) → List (PlainMessage PlainApart) → List (List F)
 ends_of k [] xs = []
 ends_of k (s ∷ stages) xs = stayed k s.parts.touches s.branches xs ∷ ends_of k stages (passed k s xs)
-
--- into the stage behind so many, or behind the last
-unfoldable pub entering : {F : Type 0} → Kit F → List (PlainStage F) → List (PlainMessage PlainApart) → ℕ → List (PlainMessage PlainApart)
-entering k stages xs zero = xs
-entering k [] xs (suc n) = xs
-entering k (s ∷ stages) xs (suc n) = entering k stages (passed k s xs) n
 
 -- the copies of a field that a dealer makes of a message's packet, of all that come, and those of all dealers
 abbrev pub due_of : List Touch → Field → PlainMessage PlainApart → ℕ

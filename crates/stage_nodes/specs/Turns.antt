@@ -1,5 +1,5 @@
 -- For proofs: a node before and after one packet.
-use Rattle.std.specs.Prelude.{◌≡◌, ℕ, suc, List, [], ◌∷◌, length, map, Bool, false, Option, Some, None}
+use Rattle.std.specs.Prelude.{◌≡◌, ℕ, suc, List, [], ◌∷◌, length, map, All, Bool, false, Option, Some, None, is_none}
 use Rattle.packet_fields.specs.declared.field.Field.{Field}
 use Rattle.action_profile.specs.declared.parts.StageParts.{StageParts}
 use Rattle.action_profile.specs.declared.parts.Touch.{Touch}
@@ -10,14 +10,14 @@ use Rattle.packet_version.specs.Tallies.{count_of, raised}
 use Rattle.merge_ops.specs.declared.arrival.Arrival.{Arrival}
 use Rattle.merge_ops.specs.Behind.{AreArrivals}
 use Rattle.merge_ops.specs.Taking.{merged}
-use Rattle.message_links.specs.Messages.{PlainMessage, PlainMessage.Live, PlainMessage.Nil, PlainMessage.Short}
+use Rattle.packet_messages.specs.Messages.{PlainMessage, PlainMessage.Live, PlainMessage.Nil, PlainMessage.Short, Fits, first, front, plain, word}
 use Rattle.stage_nodes.specs.Streams.{Kit, of_merged, due_of, dealer_copies}
 use Rattle.stage_nodes.specs.Dues.{DealerDue, BranchDue, MergerDue}
 use Rattle.stage_nodes.specs.declared.branch.Branch as branches
 use Rattle.stage_nodes.specs.declared.dealer.Dealer as dealers
 use Rattle.stage_nodes.specs.declared.merger.Merger as mergers
-use Rattle.stage_nodes.specs.declared.dealer.Dealt.{Dealt}
-use Rattle.stage_nodes.specs.declared.dealer.Dealt.TheVariants.{Row, Word}
+use Rattle.stage_nodes.specs.declared.dealer.Given.{Given}
+use Rattle.stage_nodes.specs.declared.dealer.Given.TheVariants.{Row, Word}
 
 -- something is still to come from what supplies a dealer
 abbrev pub HasMore : {S : Type 0} → (S → List (PlainMessage PlainApart) → Type 0) → S → Type 0
@@ -40,17 +40,33 @@ Stops touches x short old new (Some position) = (short ≡ false) × (x ≡ Nil 
 Stops touches x short old new None = Unit {0}
 
 -- the packet of a message was dealt to branches with these touches
-pub record Splits (touches : List Touch) (x : PlainMessage PlainApart) (old new : List ℕ) (base : PlainApart) (row : List PlainVersion) : Type 0 where
+pub record Splits (touches : List Touch) (x : PlainMessage PlainApart) (old new : List ℕ) (base : PlainApart) (row : List (PlainMessage PlainVersion)) : Type 0 where
   pub whole : PlainApart
   pub live : x ≡ Live whole
   pub stays : base ≡ based touches whole
-  pub given : row ≡ map (dealt whole) touches
+  pub given : row ≡ map (λ v. Live v) (map (dealt whole) touches)
   pub counted : RaisesByMessage touches x old new
 
--- what a dealer makes of a message
-abbrev pub Deals : List Touch → PlainMessage PlainApart → Bool → List ℕ → List ℕ → Dealt → Type 0
-Deals touches x short old new (Row base row) = (short ≡ false) × Splits touches x old new base row.items
+-- what a dealer gives of the packet of a message
+abbrev pub Deals : List Touch → PlainMessage PlainApart → Bool → List ℕ → List ℕ → Given → Type 0
+Deals touches x short old new (Row base row) = (short ≡ false) × Splits touches x old new base.value (map plain row.items)
 Deals touches x short old new (Word position) = Stops touches x short old new position
+
+-- these parts in boxes, or the word that memory is short
+abbrev pub IsBoxed : PlainApart → List PlainVersion → Given → Type 0
+IsBoxed base versions (Row b row) = (b.value ≡ base) × (map plain row.items ≡ map (λ v. Live v) versions)
+IsBoxed base versions (Word None) = Unit {0}
+IsBoxed base versions (Word (Some position)) = ⊥
+
+-- it is the word that memory is short
+abbrev pub is_lost : Given → Bool
+is_lost (Row base row) = false
+is_lost (Word position) = is_none position
+
+-- it is what is due to the branches and to the merger whose turn it is, or fits that
+abbrev pub GivenFits : List (List (List (PlainMessage PlainVersion))) → List (List (PlainMessage PlainApart)) → Given → Type 0
+GivenFits versions bases (Row base row) = (map plain row.items ≡ map (λ fan. first (front fan)) versions) × Fits (first (front bases)) (Live base.value)
+GivenFits versions bases (Word position) = All (λ fan. Fits (first (front fan)) (word position)) versions × Fits (first (front bases)) (word position)
 
 -- So many packets of a dealer are still to come. With the copies that are due of them its counts come to these, unless it is short.
 pub record DealerAt {S : Type 0} (comes : S → List (PlainMessage PlainApart) → Type 0) (parts : StageParts) (n : ℕ) (total : Field → ℕ) (short : Bool) (counts : List ℕ) (source : S) (versions : List (List (List (PlainMessage PlainVersion)))) (bases : List (List (PlainMessage PlainApart))) : Type 0 where

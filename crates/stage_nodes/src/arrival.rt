@@ -1,10 +1,10 @@
 //! What comes from a branch, of the message that says it.
 ghost use Rattle.std.specs.Prelude.{◌≡◌};
-ghost use Rattle.message_links.specs.Messages.{plain};
+ghost use Rattle.packet_messages.specs.Messages.{plain};
 ghost use Rattle.stage_nodes.specs.Streams.{as_arrival};
 
 use merge_ops::Arrival;
-use message_links::Message;
+use packet_messages::Message;
 use packet_version::Version;
 
 /// A message from a branch as what comes from it.

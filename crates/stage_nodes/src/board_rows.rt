@@ -1,14 +1,13 @@
 //! How a packet comes to a merger from a board, all its branches' parts at once.
 ghost use Rattle.std.specs.Prelude.{◌≡◌, ◌<◌, ◌≤◌, [], length, map, All, IfOk};
 ghost use Rattle.std.specs.Vec.{vec_capacity};
-ghost use Rattle.message_links.specs.Messages.{Owing, first, rest};
+ghost use Rattle.packet_messages.specs.Messages.{Owing, first, rest};
 ghost use Rattle.stage_nodes.specs.Streams.{as_arrival};
 ghost use Rattle.stage_nodes.specs.Gathering.{RowFits};
 
 use crate::arrival::arrival_of;
 use merge_ops::Arrival;
-use message_boards::BoardInlets;
-use message_links::Parcel;
+use packet_messages::{BoardInlets, Parcel};
 use packet_version::Version;
 use std::alloc::{AllocError, Global};
 use std::marker::Model;
@@ -25,7 +24,7 @@ impl Model for BoardRows {
     ghost use Rattle.std.specs.Prelude.{List, length};
     ghost use Rattle.std.specs.Vec.{vec_capacity};
     ghost use Rattle.packet_version.specs.Versions.{PlainVersion};
-    ghost use Rattle.message_links.specs.Messages.{PlainMessage};
+    ghost use Rattle.packet_messages.specs.Messages.{PlainMessage};
     ghost use Rattle.stage_nodes.specs.Gathering.{IsClear};
 
     ghost Value = { List (List (PlainMessage PlainVersion)) };

@@ -1,6 +1,6 @@
 //! The node of a branch.
 ghost use Rattle.std.specs.Prelude.{◌≡◌, ◌+◌, ◌-◌, ℕ, suc, false};
-ghost use Rattle.message_links.specs.Messages.{is_short, plain};
+ghost use Rattle.packet_messages.specs.Messages.{is_short, plain};
 ghost use Rattle.stage_nodes.specs.Streams.{gave, left, moved};
 ghost use Rattle.stage_nodes.specs.Flows.{MayTake};
 ghost use Rattle.stage_nodes.specs.Dues.{BranchDue, NothingOwed};
@@ -8,8 +8,8 @@ ghost use Rattle.stage_nodes.specs.Turns.{BranchOwes, BranchReady};
 
 use crate::to_mergers::ToMergers;
 use crate::work::BranchWork;
-use message_links::{Inlet, Message};
 use nfp_outside::Gate;
+use packet_messages::{Inlet, Message};
 use packet_version::Version;
 use std::alloc::Global;
 use std::sync::Wait;

@@ -1,18 +1,18 @@
 //! The node of a dealer.
-ghost use Rattle.std.specs.Prelude.{◌≡◌, ◌<◌, ◌≤◌, ◌-◌, ℕ, suc, false, List, length, All};
+ghost use Rattle.std.specs.Prelude.{◌≡◌, ◌<◌, ◌≤◌, ◌-◌, ℕ, suc, false, List, length, map, All};
 ghost use Rattle.packet_fields.specs.declared.field.Field.{Field};
 ghost use Rattle.action_profile.specs.Modes.{modes_of};
 ghost use Rattle.packet_version.specs.Splitting.{PlainApart};
 ghost use Rattle.packet_version.specs.Tallies.{count_of, raised};
-ghost use Rattle.message_links.specs.Messages.{PlainMessage};
+ghost use Rattle.packet_messages.specs.Messages.{Owing, PlainMessage, front, turned};
 ghost use Rattle.stage_nodes.specs.Streams.{dealer_copies, of_merged};
 ghost use Rattle.stage_nodes.specs.Dues.{DealerDue, NothingOwed};
-ghost use Rattle.stage_nodes.specs.Turns.{DealerAt, DealerOwes, DealerReady, Deals};
+ghost use Rattle.stage_nodes.specs.Turns.{DealerAt, DealerOwes, DealerReady, Deals, GivenFits, IsBoxed, is_lost};
 
 use crate::supply::Supply;
 use action_profile::StageParts;
 use merge_ops::Merged;
-use message_links::{Fans, Outlets, boxed, message_without};
+use packet_messages::{Fans, Message, Outlets, all_boxed, message_without};
 use packet_version::{Base, Tally, Version, deal};
 use std::alloc::Global;
 use std::mem;
@@ -34,9 +34,9 @@ pub struct Dealer<S> {
 
 /// What a dealer gives of a packet.
 #[derive(Drop)]
-pub(crate) enum Dealt {
+pub(crate) enum Given {
     /// Its base, and a version for each branch.
-    Row(Base, Vec<Version>),
+    Row(Box<Base>, Vec<Message<Version>>),
     /// A word without a packet: where it was dropped, or that memory is short.
     Word(Option<u32>),
 }
@@ -93,45 +93,76 @@ impl<S: Supply> Dealer<S> {
         ensures count { self.new.count ≡ self.old.count }
     {
         let packet = self.source.next(rt, alloc);
-        match dealing(alloc, &self.parts, packet, short, tally) {
-            Dealt::Row(base, row) => {
-                let found = self.versions.give_each(rt, alloc, row);
-                let base = boxed(alloc, base);
-                let short = !found || base.is_short();
-                self.bases.give_next(rt, base);
-                short
-            }
-            Dealt::Word(position) => {
-                self.versions.give_word(rt, position);
-                self.bases.give_next(rt, message_without(position));
-                position.is_none()
-            }
+        let given = dealing(alloc, &self.parts, packet, short, tally);
+        give_out(rt, &mut self.versions, &mut self.bases, given)
+    }
+}
+
+/// Gives what a dealer gives of a packet to the branches and to the merger whose turn it is; says whether that is the
+/// word that memory is short.
+fn give_out<R: Wait>(
+    rt: &R,
+    versions: &mut Fans<Version>,
+    bases: &mut Outlets<Base>,
+    given: Given,
+) -> bool
+    requires versions_due { All (λ fan. Owing (front fan)) versions.old }
+    requires some { 0 < length bases.old }
+    requires base_due { Owing (front bases.old) }
+    requires fits { GivenFits versions.old bases.old given }
+    ensures versions { versions.new ≡ map turned versions.old }
+    ensures bases { bases.new ≡ turned bases.old }
+    ensures short { result ≡ is_lost given }
+{
+    match given {
+        Given::Row(base, row) => {
+            versions.give_each(rt, row);
+            bases.give_next(rt, Message::Live(base));
+            false
+        }
+        Given::Word(position) => {
+            versions.give_word(rt, position);
+            bases.give_next(rt, message_without(position));
+            position.is_none()
         }
     }
 }
 
-/// What a dealer makes of a packet.
+/// What a dealer gives of a packet. Once it is short that is the word that memory is.
 fn dealing(
     alloc: Global,
     parts: &StageParts,
     packet: Merged,
     short: bool,
     tally: &mut Tally,
-) -> Dealt
+) -> Given
     requires some { 1 ≤ length parts.now.touches }
     requires few { length parts.now.touches ≤ 64 }
     requires modes { parts.now.modes ≡ modes_of parts.now.touches }
     ensures { Deals parts.now.touches (of_merged packet) short tally.old tally.new result }
 {
     if short {
-        return Dealt::Word(None);
+        return Given::Word(None);
     }
     match packet {
         Merged::Whole(whole) => match deal(alloc, whole, parts, tally) {
-            Ok((base, versions)) => Dealt::Row(base, versions),
-            Err(_) => Dealt::Word(None),
+            Ok((base, versions)) => in_boxes(alloc, base, versions),
+            Err(_) => Given::Word(None),
         },
-        Merged::Gone(position) => Dealt::Word(Some(position)),
-        Merged::Short => Dealt::Word(None),
+        Merged::Gone(position) => Given::Word(Some(position)),
+        Merged::Short => Given::Word(None),
+    }
+}
+
+/// The base and the versions of a packet in boxes, or the word that memory is short.
+fn in_boxes(alloc: Global, base: Base, versions: Vec<Version>) -> Given
+    ensures { IsBoxed base versions.items result }
+{
+    let Ok(row) = all_boxed(alloc, versions) else {
+        return Given::Word(None);
+    };
+    match Box::new(alloc, base) {
+        Ok(base) => Given::Row(base, row),
+        Err(_) => Given::Word(None),
     }
 }

@@ -1,14 +1,13 @@
 //! Where a merger takes what the branches of its stage give.
 ghost use Rattle.std.specs.Prelude.{◌≡◌, ◌<◌, ◌≤◌, [], length, map, All, IfOk};
 ghost use Rattle.std.specs.Vec.{vec_capacity};
-ghost use Rattle.message_links.specs.Messages.{Owing, first, rest};
+ghost use Rattle.packet_messages.specs.Messages.{Owing, first, rest};
 ghost use Rattle.stage_nodes.specs.Gathering.{RowFits};
 
 use crate::board_rows::BoardRows;
 use crate::link_rows::LinkRows;
 use merge_ops::Arrival;
-use message_boards::BoardInlets;
-use message_links::Inlets;
+use packet_messages::{BoardInlets, Inlets};
 use packet_version::Version;
 use std::alloc::{AllocError, Global};
 use std::marker::Model;
@@ -31,7 +30,7 @@ pub struct FromBranches {
 impl Model for FromBranches {
     ghost use Rattle.std.specs.Prelude.{List};
     ghost use Rattle.packet_version.specs.Versions.{PlainVersion};
-    ghost use Rattle.message_links.specs.Messages.{PlainMessage};
+    ghost use Rattle.packet_messages.specs.Messages.{PlainMessage};
     ghost use Rattle.stage_nodes.specs.Meetings.{due_inward};
 
     ghost Value = { List (List (PlainMessage PlainVersion)) };

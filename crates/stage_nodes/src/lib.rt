@@ -7,8 +7,8 @@
 //! nodes with the same functions ([`BranchWork::try_clone`]), to which the dealer gives versions in turn. A
 //! [`Merger`] takes of each of its packets what the branches made of it and what stayed of it, puts it together
 //! again (`merge_ops`), and gives it to the dealer behind. Branches and mergers meet in one of two ways, and
-//! neither node knows which: [`ToMerger`] and [`FromBranches`] are ends of links (`message_links`), where the
-//! merger asks one branch after another, or seats at the merger's board (`message_boards`), where each branch puts
+//! neither node knows which: [`ToMerger`] and [`FromBranches`] are ends of links (`packet_messages`), where the
+//! merger asks one branch after another, or seats at the merger's board (`packet_messages`), where each branch puts
 //! what it gives and the merger looks until all is there. Each node owns its ends of links and its seats, and
 //! shares nothing else, so it can run on a thread of its own: [`run_dealer`], [`run_branch`] and [`run_merger`] run
 //! one until all its packets went through it.

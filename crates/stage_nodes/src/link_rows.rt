@@ -2,13 +2,13 @@
 ghost use Rattle.std.specs.Prelude.{◌≡◌, ◌<◌, ◌≤◌, ◌++◌, ◌∷◌, [], List, length, map, All, IfOk};
 ghost use Rattle.std.specs.Vec.{vec_capacity};
 ghost use Rattle.merge_ops.specs.declared.arrival.Arrival.{Arrival};
-ghost use Rattle.message_links.specs.Messages.{Owing, first, rest};
+ghost use Rattle.packet_messages.specs.Messages.{Owing, first, rest};
 ghost use Rattle.stage_nodes.specs.Gathering.{IsGathering, IsReady, MayCome, RowFits};
 
 use crate::arrival::arrival_of;
 use acc_table::{AccTable, open_packets_take_a_place_each};
 use merge_ops::Arrival;
-use message_links::Inlets;
+use packet_messages::Inlets;
 use packet_version::Version;
 use std::alloc::{AllocError, Global};
 use std::marker::Model;
@@ -25,7 +25,7 @@ pub(crate) struct LinkRows {
 impl Model for LinkRows {
     ghost use Rattle.std.specs.Prelude.{List, length};
     ghost use Rattle.packet_version.specs.Versions.{PlainVersion};
-    ghost use Rattle.message_links.specs.Messages.{PlainMessage};
+    ghost use Rattle.packet_messages.specs.Messages.{PlainMessage};
     ghost use Rattle.stage_nodes.specs.Gathering.{IsReady};
 
     ghost Value = { List (List (PlainMessage PlainVersion)) };

@@ -1,12 +1,12 @@
 //! The node of a merger.
-ghost use Rattle.std.specs.Prelude.{◌≡◌, ◌<◌, ◌-◌, ◌^◌, [], ℕ, suc, length};
-ghost use Rattle.message_links.specs.Messages.{Fits, plain};
+ghost use Rattle.std.specs.Prelude.{◌≡◌, ◌<◌, ◌-◌, ◌^◌, [], ℕ, suc, false, length, map};
+ghost use Rattle.packet_messages.specs.Messages.{Fits, Owing, first, is_short, plain, rest};
 ghost use Rattle.stage_nodes.specs.Streams.{of_merged};
 ghost use Rattle.stage_nodes.specs.Turns.{BelongTo, MergerAt, MergerOwes, joined_row};
 
 use crate::from_branches::FromBranches;
 use merge_ops::{Arrival, Merged, merge};
-use message_links::{Inlet, Message, Outlet, boxed};
+use packet_messages::{Inlet, Message, Outlet, boxed};
 use packet_version::{Apart, Base};
 use std::alloc::Global;
 use std::mem;
@@ -72,16 +72,47 @@ impl Merger {
             MergerAt n result self.new.base self.new.inlets self.new.outlet }
         ensures count { self.new.count ≡ self.old.count }
     {
+        let reply = self.reply(rt, alloc, row, packet, short);
+        give_on(rt, &mut self.outlet, reply)
+    }
+
+    /// What comes of the next packet, which has this number here. Once the merger is short that is the word that
+    /// memory is, and nothing is taken any more.
+    fn reply<R: Wait>(
+        &mut self,
+        rt: &R,
+        alloc: Global,
+        row: &mut Vec<Arrival>,
+        packet: u32,
+        short: bool,
+    ) -> Message<Apart>
+        requires empty { row.old.items ≡ [] }
+        requires at { (n : ℕ) × MergerAt (suc n) short self.old.base self.old.inlets self.old.outlet }
+        ensures empty { row.new.items ≡ [] }
+        ensures fits { Fits (first self.old.outlet) (plain result) }
+        ensures ample { is_short (plain result) ≡ false → short ≡ false }
+        ensures taken { is_short (plain result) ≡ false → (self.new.base ≡ rest self.old.base) × (self.new.inlets ≡ map rest self.old.inlets) }
+        ensures outlet { self.new.outlet ≡ self.old.outlet }
+        ensures count { self.new.count ≡ self.old.count }
+    {
         if short || row.reserve(self.inlets.len()).is_err() {
-            self.outlet.give(rt, Message::Short);
-            return true;
+            return Message::Short;
         }
         self.inlets.accept_row(rt, packet, row);
-        let reply = join(rt, alloc, self.base.accept(rt), row);
-        let short = reply.is_short();
-        self.outlet.give(rt, reply);
-        short
+        join(rt, alloc, self.base.accept(rt), row)
     }
+}
+
+/// Gives what comes of a packet to the dealer behind; says whether that is the word that memory is short.
+fn give_on<R: Wait>(rt: &R, outlet: &mut Outlet<Apart>, reply: Message<Apart>) -> bool
+    requires due { Owing outlet.old }
+    requires fits { Fits (first outlet.old) (plain reply) }
+    ensures given { outlet.new ≡ rest outlet.old }
+    ensures short { result ≡ is_short (plain reply) }
+{
+    let short = reply.is_short();
+    outlet.give(rt, reply);
+    short
 }
 
 /// What comes of a packet from its base and what came from each branch, in branch order. The row is empty

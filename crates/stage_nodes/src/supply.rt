@@ -1,11 +1,11 @@
 //! Where a dealer takes packets from.
 ghost use Rattle.std.specs.Prelude.{◌<◌, ◌∷◌, List, length};
 ghost use Rattle.packet_version.specs.Splitting.{PlainApart};
-ghost use Rattle.message_links.specs.Messages.{Fits, PlainMessage, Owing, first, front, turned};
+ghost use Rattle.packet_messages.specs.Messages.{Fits, PlainMessage, Owing, first, front, turned};
 ghost use Rattle.stage_nodes.specs.Streams.{of_merged};
 
 use merge_ops::Merged;
-use message_links::{Inlets, Message};
+use packet_messages::{Inlets, Message};
 use packet_version::Apart;
 use std::alloc::Global;
 use std::sync::Wait;

@@ -1,9 +1,8 @@
 //! Where a branch gives what comes of its versions.
 ghost use Rattle.std.specs.Prelude.{◌≡◌, ◌<◌, ◌++◌, ◌∷◌, [], length, map, All, IfOk, OnOk, slice_index_or, slice_set};
-ghost use Rattle.message_links.specs.Messages.{Fits, Owing, first, front, plain, rest, turned};
+ghost use Rattle.packet_messages.specs.Messages.{Fits, Owing, first, front, plain, rest, turned};
 
-use message_boards::BoardOutlet;
-use message_links::{Message, Outlet};
+use packet_messages::{BoardOutlet, Message, Outlet};
 use packet_version::Version;
 use std::alloc::{AllocError, Global};
 use std::marker::Model;
@@ -26,7 +25,7 @@ pub struct ToMerger {
 impl Model for ToMerger {
     ghost use Rattle.std.specs.Prelude.{List};
     ghost use Rattle.packet_version.specs.Versions.{PlainVersion};
-    ghost use Rattle.message_links.specs.Messages.{PlainMessage};
+    ghost use Rattle.packet_messages.specs.Messages.{PlainMessage};
     ghost use Rattle.stage_nodes.specs.Meetings.{due_outward};
 
     ghost Value = { List (PlainMessage PlainVersion) };
@@ -76,7 +75,7 @@ pub struct ToMergers {
 impl Model for ToMergers {
     ghost use Rattle.std.specs.Prelude.{List};
     ghost use Rattle.packet_version.specs.Versions.{PlainVersion};
-    ghost use Rattle.message_links.specs.Messages.{PlainMessage};
+    ghost use Rattle.packet_messages.specs.Messages.{PlainMessage};
 
     ghost Value = { List (List (PlainMessage PlainVersion)) };
 

@@ -1,12 +1,12 @@
 //! What the functions of a branch do with what comes of a packet.
 ghost use Rattle.std.specs.Prelude.{◌≡◌, ℕ, false, IfOk, IfSome, IsSome};
 ghost use Rattle.packet_version.specs.Versions.{PlainVersion};
-ghost use Rattle.message_links.specs.Messages.{is_short, plain};
+ghost use Rattle.packet_messages.specs.Messages.{is_short, plain};
 ghost use Rattle.stage_nodes.specs.Flows.{MayTake};
 ghost use Rattle.stage_nodes.specs.Streams.{Kit, gave, moved};
 
-use message_links::Message;
 use nfp_outside::Gate;
+use packet_messages::Message;
 use packet_version::Version;
 use std::alloc::{AllocError, Global};
 use std::sync::Wait;

@@ -19,7 +19,7 @@ use Rattle.burst_law.specs.Bursts.{Message, Message.Here, ended, behind as behin
 use Rattle.burst_law.specs.Stations.{across}
 use Rattle.graph_run.specs.Carrying.{as_branch_end, as_end, values_in}
 use Rattle.graph_run.specs.Stages.{AllCarried, GoesFrom, LeavesStage}
-use Rattle.message_links.specs.Messages.{PlainMessage, PlainMessage.Live, PlainMessage.Nil, PlainMessage.Short, first, rest}
+use Rattle.packet_messages.specs.Messages.{PlainMessage, PlainMessage.Live, PlainMessage.Nil, PlainMessage.Short, first, rest}
 use Rattle.stage_nodes.specs.Streams.{base_of, as_arrival, of_merged, as_merged, joined, merged_rows}
 use Rattle.stage_nodes.specs.Flows.{Belongs, AllBelong}
 use Rattle.stream_law.specs.Messages.{as_message}

@@ -25,7 +25,7 @@ use Rattle.burst_law.specs.Copies.{due_in}
 use Rattle.burst_law.specs.Stations.{Turn, across, beside, then_both}
 use Rattle.graph_run.specs.Staging.{Holds}
 use Rattle.graph_run.specs.Stages.{AllCarried, GoesFrom, end_of}
-use Rattle.message_links.specs.Messages.{PlainMessage, PlainMessage.Live, first, rest}
+use Rattle.packet_messages.specs.Messages.{PlainMessage, PlainMessage.Live, first, rest}
 use Rattle.stage_nodes.specs.Streams.{PlainStage, parted, gave, moved, ran, left, as_arrival, of_merged, came_from, stayed, passed, due_of, dealer_copies}
 use Rattle.stage_nodes.specs.Flows.{AllMayTake, MayPass}
 use Rattle.stream_law.specs.Messages.{as_message, burst_copies}

@@ -19,7 +19,7 @@ use Rattle.burst_law.specs.Stations.{Turn, then_gives, one_by_one}
 use Rattle.graph_run.specs.Carrying.{as_branch_end, as_version, values_in}
 use Rattle.graph_run.specs.Staging.{Holds, IsCarried}
 use Rattle.graph_run.specs.Stages.{GoesFrom}
-use Rattle.message_links.specs.Messages.{PlainMessage, PlainMessage.Live, PlainMessage.Nil, PlainMessage.Short}
+use Rattle.packet_messages.specs.Messages.{PlainMessage, PlainMessage.Live, PlainMessage.Nil, PlainMessage.Short}
 use Rattle.stage_nodes.specs.Streams.{parted, gave, moved, ran, left, as_arrival, of_merged}
 use Rattle.stage_nodes.specs.Flows.{MayTake, MayTakeAll}
 use Rattle.stream_law.specs.Messages.{as_message}

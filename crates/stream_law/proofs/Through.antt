@@ -13,7 +13,7 @@ use Rattle.burst_law.specs.Stations.{along, weight_along}
 use Rattle.burst_law.specs.Bursts.{Message, stage_burst}
 use Rattle.burst_law.specs.Copies.{due_in}
 use Rattle.graph_run.specs.Stages.{end_of}
-use Rattle.message_links.specs.Messages.{PlainMessage}
+use Rattle.packet_messages.specs.Messages.{PlainMessage}
 use Rattle.stage_nodes.specs.Streams.{of_merged, as_merged, passed, through, ends_of, copies_along}
 use Rattle.stage_nodes.specs.Flows.{MayPassAll}
 use Rattle.stream_law.specs.Rests.{KeepsRest, KeepsRests}

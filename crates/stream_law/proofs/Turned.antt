@@ -15,7 +15,7 @@ use Rattle.burst_law.specs.Owned.{turned}
 use Rattle.burst_law.specs.Stations.{Turn, then_state}
 use Rattle.graph_run.specs.Carrying.{as_version, as_branch_end, wrote_at}
 use Rattle.graph_run.specs.Staging.{Holds, IsCarried, IsCarriedBy}
-use Rattle.message_links.specs.Messages.{PlainMessage, PlainMessage.Live, PlainMessage.Nil, PlainMessage.Short}
+use Rattle.packet_messages.specs.Messages.{PlainMessage, PlainMessage.Live, PlainMessage.Nil, PlainMessage.Short}
 use Rattle.stage_nodes.specs.Streams.{as_arrival}
 use Rattle.stream_law.specs.Owned.{moved_by, went_by, ran_by}
 use Rattle.stream_law.proofs.Writes.{wrote_as}

@@ -1,5 +1,5 @@
 use Rattle.std.proofs.Common.{◌≡◌}
-use Rattle.message_links.specs.Turns.{share, shares_from}
+use Rattle.packet_messages.specs.Turns.{share, shares_from}
 use Rattle.node_run.proofs.fans.fan.Given as goal
 
 abbrev pub ghosts-share_edge : goal.ghosts-share_edge

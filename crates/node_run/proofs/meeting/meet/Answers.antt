@@ -1,5 +1,5 @@
 use Rattle.std.proofs.Common.{◌≡◌, ◌∙◌, arith, ap, sym}
-use Rattle.message_links.specs.Turns.{columns_from}
+use Rattle.packet_messages.specs.Turns.{columns_from}
 use Rattle.stage_nodes.specs.Streams.{came_from}
 use Rattle.node_run.proofs.Shares.{no_columns, columns_more}
 use Rattle.node_run.proofs.meeting.meet.Goals as goal

@@ -1,5 +1,5 @@
 use Rattle.std.proofs.Common.{map}
-use Rattle.message_links.specs.Turns.{share}
+use Rattle.packet_messages.specs.Turns.{share}
 use Rattle.stage_nodes.specs.Streams.{came_from}
 use Rattle.node_run.proofs.meeting.meet_merger.Given as goal
 

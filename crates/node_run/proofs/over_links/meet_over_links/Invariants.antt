@@ -1,5 +1,5 @@
 use Rattle.std.proofs.Common.{map}
-use Rattle.message_links.specs.Turns.{share}
+use Rattle.packet_messages.specs.Turns.{share}
 use Rattle.stage_nodes.specs.Streams.{parted, ran}
 use Rattle.node_run.specs.Wired.{AreLinked}
 use Rattle.node_run.proofs.over_links.meet_over_links.Given as goal

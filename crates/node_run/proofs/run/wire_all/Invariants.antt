@@ -2,7 +2,7 @@ use Rattle.std.proofs.Common.{ℕ, List, map}
 use Rattle.std.specs.Vec.Iter.{into_iter_items}
 use Rattle.packet_fields.specs.declared.field.Field.{Field}
 use Rattle.packet_version.specs.Splitting.{PlainApart}
-use Rattle.message_links.specs.Messages.{PlainMessage}
+use Rattle.packet_messages.specs.Messages.{PlainMessage}
 use Rattle.node_run.specs.Nodes.{in_turn}
 use Rattle.node_run.specs.Runs.{AreLaid}
 use Rattle.node_run.specs.Stages.{plain_stage}

@@ -1,14 +1,36 @@
-use Rattle.std.proofs.Common.{◌∙◌, length, ap, sym, arith}
-use Rattle.piped_run.proofs.Starting.{branch_more, branches_over, nothing_left}
+use Rattle.std.proofs.Common.{◌≡◌, ◌∙◌, ◌+◌, ◌++◌, ℕ, List, drop, get_or, length, ap, sym, subst, arith}
+use Rattle.graph_compile.specs.Facts.{positions_of}
+use Rattle.graph_compile.specs.declared.graph.Branch.{Branch}
+use Rattle.piped_run.specs.Places.{AreThere}
+use Rattle.piped_run.proofs.Taking.{Gave, stage_none, branch_there, stage_more, stage_all}
 use Rattle.piped_run.proofs.works.begin_branches.Goals as goal
 
-pub branches-preserved : goal.branches-preserved
-branches-preserved g c = (
-  branch_more (λ v. v.items) c.branches.works.items c.push.new.self.items c.in_ok-work.work c.args.branches.now c.branches.index (length c.args.numbers.now) c.index-branches-index.result _ _ _ c.in-Some.functions c.branches.invariant.0 c.in-Some.ensures.steps.0 c.in_ok-push.ensures.items
-      (let all = c.branches.invariant.1 in let more = ap length c.in-Some.ensures.steps.0 in omega arith)
-      (c.in_ok-work.ensures ∙ (λ k. record { functions = c.in-Some.functions.items; positions = (c.index-branches-index.is k).positions; packets = length c.args.numbers.now })),
-  let all = c.branches.invariant.1 in let more = ap length c.in-Some.ensures.steps.0 in omega arith,
-)
+pub loop-branch-init : goal.loop-branch-init
+loop-branch-init g c = stage_none (length c.args.numbers.now) c.args.places.now c.args.branches.now c.in_ok-works.works.items c.in_ok-works.ensures.items
 
-pub returns : goal.returns
-returns g c = branches_over (λ v. v.items) c.branches.works.items _ (length c.args.numbers.now) _ _ c.branches.invariant.0 (nothing_left c.branches.functions-iterator.rest.items _ c.in-None.ensures.steps.0 (sym c.branches.functions-iterator.rest.ok.0))
+pub split_branch-requires : goal.split_branch-requires
+split_branch-requires g c =
+    let at : c.as_slice.result.now ≡ (get_or c.args.branches.now c.loop-branch.branch-index c.branch-item.result).positions = c.as_slice.ensures ∙ ap (λ (b : Branch). b.positions) c.branch-item.is in
+    let later : List ℕ = positions_of (drop (c.loop-branch.branch-index + 1) c.args.branches.now) ++ c.requires.there.1 in
+    record {
+      there = (
+        c.requires.there.0,
+        later,
+        subst (λ (l : List ℕ). AreThere c.requires.there.0 c.loop-branch.places (l ++ later)) (sym at)
+            (branch_there (length c.args.numbers.now) c.args.places.now c.loop-branch.places c.args.branches.now c.loop-branch.works.items c.loop-branch.branch-index c.branch-item.result c.requires.there.0 c.requires.there.1 c.loop-branch.invariant c.loop-branch-test.true c.requires.there.2),
+      );
+    }
+
+pub loop-branch-preserved : goal.loop-branch-preserved
+loop-branch-preserved g c =
+    let at : c.as_slice.result.now ≡ (get_or c.args.branches.now c.loop-branch.branch-index c.branch-item.result).positions = c.as_slice.ensures ∙ ap (λ (b : Branch). b.positions) c.branch-item.is in
+    stage_more (length c.args.numbers.now) c.args.places.now c.loop-branch.places c.split_branch.new.places c.args.branches.now c.loop-branch.works.items c.push.new.self.items c.in_ok-work.work c.in_ok-functions.functions.items c.loop-branch.branch-index c.branch-item.result c.loop-branch.invariant c.loop-branch-test.true
+    (subst (λ (l : List ℕ). Gave l c.loop-branch.places c.split_branch.new.places c.in_ok-functions.functions.items) at (record { own = c.in_ok-functions.ensures.own; left = c.in_ok-functions.ensures.left }))
+    (c.in_ok-work.ensures ∙ (λ k. record { functions = c.in_ok-functions.functions.items; positions = (c.branch-item.is k).positions; packets = length c.args.numbers.now }))
+    c.in_ok-push.ensures.items
+
+pub returns-clause-own : goal.returns-clause-own
+returns-clause-own g c = λ functions later there. (stage_all (length c.args.numbers.now) c.args.places.now c.loop-branch.places c.args.branches.now c.loop-branch.works.items c.loop-branch.branch-index functions later c.loop-branch.invariant (omega arith) there).0
+
+pub returns-clause-left : goal.returns-clause-left
+returns-clause-left g c = λ functions later there. (stage_all (length c.args.numbers.now) c.args.places.now c.loop-branch.places c.args.branches.now c.loop-branch.works.items c.loop-branch.branch-index functions later c.loop-branch.invariant (omega arith) there).1

@@ -1,8 +1,6 @@
-use Rattle.std.specs.Prelude.{◌≡◌, ◌++◌, ◌+◌, length, drop, map}
-use Rattle.stream_law.specs.Works.{works_in}
+use Rattle.std.specs.Prelude.{length}
+use Rattle.piped_run.proofs.Taking.{TookStage}
 use Rattle.piped_run.proofs.works.begin_branches.Given as goal
 
-abbrev pub invariant-branches : goal.invariant-branches
-invariant-branches g l =
-    (l.works.items ++ works_in (drop l.index l.branches) (map (λ v. v.items) l.functions-iterator.rest.items) (length l.numbers) ≡ works_in l.branches (map (λ v. v.items) l.fn.own.items) (length l.numbers)) ×
-    (l.index + length l.functions-iterator.rest.items ≡ length l.branches)
+abbrev pub invariant-loop-branch : goal.invariant-loop-branch
+invariant-loop-branch g l = TookStage (length l.numbers) l.fn.places l.places l.branches l.works.items l.branch-index

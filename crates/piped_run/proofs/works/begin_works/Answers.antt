@@ -1,34 +1,43 @@
-use Rattle.std.proofs.Common.{rules, ◌∙◌, List, length, map, ap, sym}
+use Rattle.std.proofs.Common.{◌≡◌, ◌∙◌, ◌+◌, ℕ, List, drop, get_or, length, ap, sym, subst, arith}
+use Rattle.std.specs.Prelude.{Option}
+use Rattle.graph_compile.specs.Facts.{all_positions}
 use Rattle.graph_compile.specs.declared.graph.Branch.{Branch}
+use Rattle.graph_compile.specs.declared.graph.Stage.{Stage}
+use Rattle.burst_law.specs.Owned.{owned_in}
 use Rattle.node_run.specs.Stages.{plain_stage}
 use Rattle.stream_law.specs.Works.{works_in}
-use Rattle.piped_run.proofs.Starting.{stage_more, stages_over, stage_inside, stage_fits, nothing_left}
+use Rattle.piped_run.specs.Places.{AreThere}
+use Rattle.piped_run.proofs.Taking.{all_none, stage_there, all_more, all_taken, there_in, wrote_back}
 use Rattle.piped_run.proofs.works.begin_works.Goals as goal
 
-pub bounds-stages-index : goal.bounds-stages-index
-bounds-stages-index g c = stage_inside (λ own. length own.items) c.args.stages.now _ _ c.in-Some.own c.stages.index c.stages.invariant.1 c.in-Some.ensures.steps.0
-
-pub offset_bounds-stages-index : goal.offset_bounds-stages-index
-offset_bounds-stages-index g c = let inside = stage_inside (λ own. length own.items) c.args.stages.now _ _ c.in-Some.own c.stages.index c.stages.invariant.1 c.in-Some.ensures.steps.0 in search rules
+pub loop-stage-init : goal.loop-stage-init
+loop-stage-init g c = all_none plain_stage (length c.args.numbers.now) c.args.functions.items c.in_ok-places.places.items c.args.stages.now c.in_ok-works.works.items c.in_ok-works.ensures.items c.in_ok-places.ensures c.requires
 
 pub begin_branches-requires : goal.begin_branches-requires
 begin_branches-requires g c =
-    (stage_fits (λ own. length own.items) c.args.stages.now _ _ c.in-Some.own c.stages.index c.index-stages-index.result c.stages.invariant.1 c.in-Some.ensures.steps.0).here
-    ∙ sym (ap length (c.as_slice.ensures ∙ ap (λ s. s.branches) c.index-stages-index.is))
+    let at : c.as_slice.result.now ≡ (get_or c.args.stages.now c.loop-stage.stage-index c.stage-item.result).branches = c.as_slice.ensures ∙ ap (λ (s : Stage). s.branches) c.stage-item.is in
+    record {
+      there = (
+        c.args.functions.items,
+        all_positions (drop (c.loop-stage.stage-index + 1) c.args.stages.now),
+        there_in c.args.functions.items c.loop-stage.places.items c.deref_mut.result.now c.as_slice.result.now (get_or c.args.stages.now c.loop-stage.stage-index c.stage-item.result).branches (all_positions (drop (c.loop-stage.stage-index + 1) c.args.stages.now)) c.deref_mut.ensures.value at
+            (stage_there plain_stage (length c.args.numbers.now) c.args.functions.items c.loop-stage.places.items c.args.stages.now c.loop-stage.works.items c.loop-stage.stage-index c.stage-item.result c.loop-stage.invariant c.loop-stage-test.true),
+      );
+    }
 
-pub overflow_add-index : goal.overflow_add-index
-overflow_add-index g c = let inside = stage_inside (λ own. length own.items) c.args.stages.now _ _ c.in-Some.own c.stages.index c.stages.invariant.1 c.in-Some.ensures.steps.0 in search rules
-
-pub stages-preserved : goal.stages-preserved
-stages-preserved g c = (
-  stage_more (λ own. map (λ v. v.items) own.items) plain_stage c.stages.works.items c.push.new.self.items (record { parts = c.in_ok-parts.parts; branches = c.in_ok-branches.branches }) c.args.stages.now c.stages.index (length c.args.numbers.now) c.index-stages-index.result _ _ _ c.in-Some.own c.stages.invariant.0 c.in-Some.ensures.steps.0 c.in_ok-push.ensures.items
-      (stage_inside (λ own. length own.items) c.args.stages.now _ _ c.in-Some.own c.stages.index c.stages.invariant.1 c.in-Some.ensures.steps.0)
-      (λ k. record {
-        parts = (c.in_ok-parts.ensures ∙ ap (λ s. s.parts) c.index-stages-index.is) k;
-        branches = (c.in_ok-branches.ensures ∙ ap (λ (l : List Branch). works_in l (map (λ v. v.items) c.in-Some.own.items) (length c.args.numbers.now)) (c.as_slice.ensures ∙ ap (λ s. s.branches) c.index-stages-index.is)) k;
-      }),
-  (stage_fits (λ own. length own.items) c.args.stages.now _ _ c.in-Some.own c.stages.index c.index-stages-index.result c.stages.invariant.1 c.in-Some.ensures.steps.0).others,
-)
+pub loop-stage-preserved : goal.loop-stage-preserved
+loop-stage-preserved g c =
+    let at : c.as_slice.result.now ≡ (get_or c.args.stages.now c.loop-stage.stage-index c.stage-item.result).branches = c.as_slice.ensures ∙ ap (λ (s : Stage). s.branches) c.stage-item.is in
+    let later : List ℕ = all_positions (drop (c.loop-stage.stage-index + 1) c.args.stages.now) in
+    let here = there_in c.args.functions.items c.loop-stage.places.items c.deref_mut.result.now c.as_slice.result.now (get_or c.args.stages.now c.loop-stage.stage-index c.stage-item.result).branches later c.deref_mut.ensures.value at
+    (stage_there plain_stage (length c.args.numbers.now) c.args.functions.items c.loop-stage.places.items c.args.stages.now c.loop-stage.works.items c.loop-stage.stage-index c.stage-item.result c.loop-stage.invariant c.loop-stage-test.true) in
+    all_more plain_stage (length c.args.numbers.now) c.args.functions.items c.loop-stage.places.items _ c.args.stages.now c.loop-stage.works.items c.push.new.self.items (record { parts = c.in_ok-parts.parts; branches = c.in_ok-branches.branches }) c.loop-stage.stage-index c.stage-item.result c.loop-stage.invariant c.loop-stage-test.true
+    (λ k. record {
+      parts = (c.in_ok-parts.ensures ∙ ap (λ (s : Stage). s.parts) c.stage-item.is) k;
+      branches = (c.in_ok-branches.ensures.own c.args.functions.items later here ∙ ap (λ (l : List Branch). works_in l (owned_in l c.args.functions.items) (length c.args.numbers.now)) at) k;
+    })
+    (subst (λ (p : List (Option g.row.F.Denot)). AreThere c.args.functions.items p later) (sym (wrote_back _ c.begin_branches.new.places c.loop-stage.places.items (c.begin_branches.auto.places ∙ c.deref_mut.ensures.len))) (c.in_ok-branches.ensures.left c.args.functions.items later here))
+    c.in_ok-push.ensures.items
 
 pub returns : goal.returns
-returns g c = stages_over (λ own. map (λ v. v.items) own.items) plain_stage c.stages.works.items _ (length c.args.numbers.now) _ _ c.stages.invariant.0 (nothing_left c.stages.own-iterator.rest.items _ c.in-None.ensures.steps.0 (sym c.stages.own-iterator.rest.ok.0))
+returns g c = all_taken plain_stage (length c.args.numbers.now) c.args.functions.items c.loop-stage.places.items c.args.stages.now c.loop-stage.works.items c.loop-stage.stage-index c.loop-stage.invariant (omega arith)

@@ -1,9 +1,7 @@
-use Rattle.std.specs.Prelude.{◌≡◌, ◌++◌, length, drop, map}
+use Rattle.std.specs.Prelude.{length}
 use Rattle.node_run.specs.Stages.{plain_stage}
-use Rattle.stream_law.specs.Works.{works_of}
+use Rattle.piped_run.proofs.Taking.{TookAll}
 use Rattle.piped_run.proofs.works.begin_works.Given as goal
 
-abbrev pub invariant-stages : goal.invariant-stages
-invariant-stages g l =
-    (map plain_stage l.works.items ++ works_of (drop l.index l.stages) (map (λ own. map (λ v. v.items) own.items) l.own-iterator.rest.items) (length l.numbers) ≡ works_of l.stages (map (λ own. map (λ v. v.items) own.items) l.fn.owned.items) (length l.numbers)) ×
-    (map (λ own. length own.items) l.own-iterator.rest.items ≡ map (λ s. length s.branches) (drop l.index l.stages))
+abbrev pub invariant-loop-stage : goal.invariant-loop-stage
+invariant-loop-stage g l = TookAll plain_stage (length l.numbers) l.fn.functions.items l.places.items l.stages l.works.items l.stage-index

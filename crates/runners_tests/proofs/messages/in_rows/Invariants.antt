@@ -1,5 +1,5 @@
 use Rattle.std.proofs.Common.{[], ◌∷◌}
-use Rattle.message_links.specs.Messages.{PlainMessage.Live, PlainMessage.Nil}
+use Rattle.packet_messages.specs.Messages.{PlainMessage.Live, PlainMessage.Nil}
 use Rattle.runners_tests.proofs.messages.in_rows.Given as goal
 
 -- what is due on a link is what it is made for

@@ -1,5 +1,5 @@
 use Rattle.std.proofs.Common.{[], ◌∷◌}
-use Rattle.message_links.specs.Messages.{PlainMessage.Live, PlainMessage.Nil, PlainMessage.Short}
+use Rattle.packet_messages.specs.Messages.{PlainMessage.Live, PlainMessage.Nil, PlainMessage.Short}
 use Rattle.runners_tests.proofs.messages.one_by_one.Given as goal
 
 -- what is due on a link is what it is made for

@@ -1,5 +1,5 @@
 use Rattle.std.proofs.Common.{◌<◌, ◌++◌, ◌∷◌, [], length, subst, arith}
-use Rattle.message_links.specs.Messages.{plain}
+use Rattle.packet_messages.specs.Messages.{plain}
 use Rattle.stage_nodes.specs.Gathering.{IsGathering}
 use Rattle.stage_nodes.proofs.Gathering.{gathering_begins, gathered_more, gathering_ends, next_may, next_there, next_owes}
 use Rattle.stage_nodes.proofs.link_rows.gather.Goals as goal

@@ -1,5 +1,5 @@
 use Rattle.std.proofs.Common.{sym, ◌∙◌, arith}
-use Rattle.message_links.specs.Messages.{Owing}
+use Rattle.packet_messages.specs.Messages.{Owing}
 use Rattle.stage_nodes.proofs.Sweeps.{swept_none, swept_more, swept_all, next_holds, fronts_none, fronts_all, fronts_more}
 use Rattle.stage_nodes.proofs.to_mergers.take_ends.Goals as goal
 

@@ -1,7 +1,7 @@
 use Rattle.std.proofs.Common.{List, length, map, ap, sym, subst, arith}
 use Rattle.std.proofs.lemmas.List.{length-map}
 use Rattle.packet_version.specs.Versions.{PlainVersion}
-use Rattle.message_links.specs.Messages.{PlainMessage, AllFit, first}
+use Rattle.packet_messages.specs.Messages.{PlainMessage, AllFit, first}
 use Rattle.stage_nodes.specs.Gathering.{RowFits}
 use Rattle.stage_nodes.proofs.Gathering.{row_of, row_of_length}
 use Rattle.stage_nodes.proofs.board_rows.BoardRows.accept_row.Goals as goal

@@ -1,5 +1,5 @@
 use Rattle.std.proofs.Common.{◌∙◌, refl, sym}
-use Rattle.message_links.specs.Messages.{plain}
+use Rattle.packet_messages.specs.Messages.{plain}
 use Rattle.stage_nodes.proofs.Branching.{version_due, branch_front, may_next, branch_fits, moved_by, branch_goes_on}
 use Rattle.stage_nodes.proofs.branch.Branch.turn_next.Goals as goal
 

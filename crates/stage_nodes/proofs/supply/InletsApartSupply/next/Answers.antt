@@ -1,5 +1,5 @@
 use Rattle.std.proofs.Common.{subst}
-use Rattle.message_links.specs.Messages.{Fits, plain}
+use Rattle.packet_messages.specs.Messages.{Fits, plain}
 use Rattle.stage_nodes.proofs.Supplying.{mergers_have, came_in_turn}
 use Rattle.stage_nodes.proofs.supply.InletsApartSupply.next.Goals as goal
 

@@ -1,3 +1,0 @@
-mod Dealt
-mod Giving
-mod Taking

@@ -1,4 +1,0 @@
-mod Rests
-mod Rows
-mod Sweeps
-pub mod Turning

@@ -1,6 +1,0 @@
-use Rattle.std.proofs.Common.{[]}
-use Rattle.message_links.proofs.Sweeps.{has_next}
-use Rattle.message_links.proofs.fans.give_into.Goals as goal
-
-pub give_next-requires-clause-some : goal.give_next-requires-clause-some
-give_next-requires-clause-some g c = has_next c.args.list.now c.args.place [] _ c.requires.inside c.requires.due

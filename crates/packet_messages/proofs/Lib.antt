@@ -1,0 +1,8 @@
+mod Rests
+mod Rows
+mod Sweeps
+pub mod Turning
+mod Dealt
+mod Giving
+mod Taking
+mod Boxing

@@ -1,0 +1,4 @@
+pub mod Messages
+pub mod Turns
+pub mod BoardRows
+pub mod BoardSeats
