@@ -1,0 +1,42 @@
+-- Believed: how the blocks of a pcapng capture are written.
+use Rattle.std.specs.Prelude.{◌+◌, ◌-◌, ◌/◌, ◌%◌, ℕ, List, ◌++◌, length, take, drop, replicate, min, if◌then◌else◌, ◌==◌}
+use Rattle.capture_bytes.specs.declared.order.Endian.{Endian}
+use Rattle.capture_bytes.specs.Numbers.{number_at, bytes_of}
+use Rattle.pcapng_io.specs.declared.item.NgItem.{NgItem}
+use Rattle.pcapng_io.specs.declared.item.NgItem.TheVariants.{Packet, Section, Interface, Carried}
+use Rattle.pcapng_io.specs.declared.item.NgPacket.{NgPacket}
+use Rattle.pcapng_io.specs.Options.{padded}
+
+-- a snaplen that grew by this; 0 stands for no limit and stays
+abbrev pub grown : ℕ → ℕ → ℕ
+grown growth snaplen = if snaplen == 0 then 0 else min (snaplen + growth) 4294967295
+
+-- a section header, whose section length is all ones: it isn't told
+abbrev pub section_bytes : List ℕ → List ℕ
+section_bytes block = take 16 block ++ replicate 8 255 ++ drop 24 block
+
+-- an interface, whose snaplen grew
+abbrev pub interface_bytes : ℕ → Endian → List ℕ → List ℕ
+interface_bytes growth order block = take 12 block ++ bytes_of order 4 (grown growth (number_at order 4 12 block)) ++ drop 16 block
+
+-- the length of a packet's block
+abbrev pub packet_length : NgPacket → ℕ
+packet_length p = 32 + padded (length p.packet.frame) + length p.options
+
+-- before the frame: type 6, the block's length, interface, ticks, captured length and original length
+unfoldable pub packet_head : NgPacket → List ℕ
+packet_head p =
+    bytes_of p.order 4 6 ++ bytes_of p.order 4 (packet_length p) ++ bytes_of p.order 4 p.interface ++ bytes_of p.order 4 (p.ticks / 4294967296)
+    ++ bytes_of p.order 4 (p.ticks % 4294967296) ++ bytes_of p.order 4 (length p.packet.frame) ++ bytes_of p.order 4 p.packet.wire
+
+-- a packet: this, the frame with zeros behind it up to a multiple of four, the options, and the length again
+abbrev pub packet_bytes : NgPacket → List ℕ
+packet_bytes p =
+    packet_head p ++ p.packet.frame ++ replicate (padded (length p.packet.frame) - length p.packet.frame) 0 ++ p.options ++ bytes_of p.order 4 (packet_length p)
+
+-- an item as it is written, where frames may have grown by so many bytes
+abbrev pub item_bytes : ℕ → NgItem → List ℕ
+item_bytes growth (Packet p) = packet_bytes p
+item_bytes growth (Section block) = section_bytes block
+item_bytes growth (Interface order block) = interface_bytes growth order block
+item_bytes growth (Carried block) = block
