@@ -61,7 +61,7 @@ pub record Begins (head bytes : List ℕ) : Type 0 where
   pub front : head ≡ take (length head) bytes
   pub long : length head ≤ length bytes
 
-same_at : (order : Endian) (n at : ℕ) (head bytes : List ℕ) → Begins head bytes → at + n ≤ length head → number_at order n at head ≡ number_at order n at bytes
+pub same_at : (order : Endian) (n at : ℕ) (head bytes : List ℕ) → Begins head bytes → at + n ≤ length head → number_at order n at head ≡ number_at order n at bytes
 same_at order n at head bytes begins h = ap (number_at order n at) begins.front ∙ number_within order n at (length head) bytes h
 
 pub same_kind : (order : Endian) (head bytes : List ℕ) → Begins head bytes → 8 ≤ length head → kind_in order head ≡ kind_in order bytes

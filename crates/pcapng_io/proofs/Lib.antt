@@ -8,3 +8,5 @@ pub mod Slots
 pub mod Giving
 pub mod Reading
 pub mod Pieces
+pub mod Again
+pub mod PacketAgain

@@ -1,11 +1,13 @@
 -- Believed: how the blocks of a pcapng capture are written.
-use Rattle.std.specs.Prelude.{◌+◌, ◌-◌, ◌/◌, ◌%◌, ℕ, List, ◌++◌, length, take, drop, replicate, min, if◌then◌else◌, ◌==◌}
+use Rattle.std.specs.Prelude.{◌≡◌, ◌≤◌, ◌<◌, ◌^◌, slice_index, ◌+◌, ◌-◌, ◌/◌, ◌%◌, ℕ, List, ◌++◌, length, take, drop, replicate, min, if◌then◌else◌, ◌==◌}
 use Rattle.capture_bytes.specs.declared.order.Endian.{Endian}
 use Rattle.capture_bytes.specs.Numbers.{number_at, bytes_of}
 use Rattle.pcapng_io.specs.declared.item.NgItem.{NgItem}
 use Rattle.pcapng_io.specs.declared.item.NgItem.TheVariants.{Packet, Section, Interface, Carried}
 use Rattle.pcapng_io.specs.declared.item.NgPacket.{NgPacket}
+use Rattle.pcapng_io.specs.declared.place.Place.{Place}
 use Rattle.pcapng_io.specs.Options.{padded}
+use Rattle.pcapng_io.specs.Times.{nanoseconds_of}
 
 -- a snaplen that grew by this; 0 stands for no limit and stays
 abbrev pub grown : ℕ → ℕ → ℕ
@@ -40,3 +42,19 @@ item_bytes growth (Packet p) = packet_bytes p
 item_bytes growth (Section block) = section_bytes block
 item_bytes growth (Interface order block) = interface_bytes growth order block
 item_bytes growth (Carried block) = block
+
+-- A packet that may stand behind a place: of an interface of its section, at the time that its ticks tell, with a frame and a block of
+-- lengths that are accepted, and not beyond the packets and blocks that are counted.
+pub record FitsPacket (place : Place) (p : NgPacket) : Type 0 where
+  pub order : p.order ≡ place.order
+  pub known : p.interface < length place.units
+  pub interface : p.interface < 2 ^ 32
+  pub ticks : p.ticks < 2 ^ 64
+  pub seconds : p.packet.seconds ≡ nanoseconds_of (slice_index place.units p.interface) p.ticks / 1000000000
+  pub fraction : p.packet.fraction ≡ nanoseconds_of (slice_index place.units p.interface) p.ticks % 1000000000
+  pub wire : p.packet.wire < 2 ^ 32
+  pub short : length p.packet.frame ≤ 262144
+  pub options : length p.options % 4 ≡ 0
+  pub size : packet_length p ≤ 16777216
+  pub few : place.packets < 4294967295
+  pub counted : place.blocks + 1 < 1099511627776
