@@ -10,3 +10,6 @@ pub mod Reading
 pub mod Pieces
 pub mod Again
 pub mod PacketAgain
+pub mod Same
+pub mod Changed
+pub mod Rewritten

@@ -1,11 +1,12 @@
 -- Believed: how the blocks of a pcapng capture are written.
-use Rattle.std.specs.Prelude.{◌≡◌, ◌≤◌, ◌<◌, ◌^◌, slice_index, ◌+◌, ◌-◌, ◌/◌, ◌%◌, ℕ, List, ◌++◌, length, take, drop, replicate, min, if◌then◌else◌, ◌==◌}
+use Rattle.std.specs.Prelude.{◌≡◌, ◌≤◌, ◌<◌, ◌^◌, slice_index, ◌+◌, ◌-◌, ◌/◌, ◌%◌, ℕ, List, ◌++◌, length, take, drop, replicate, min, if◌then◌else◌, ◌==◌, Ok, Some, [], ◌∷◌}
 use Rattle.capture_bytes.specs.declared.order.Endian.{Endian}
 use Rattle.capture_bytes.specs.Numbers.{number_at, bytes_of}
 use Rattle.pcapng_io.specs.declared.item.NgItem.{NgItem}
 use Rattle.pcapng_io.specs.declared.item.NgItem.TheVariants.{Packet, Section, Interface, Carried}
 use Rattle.pcapng_io.specs.declared.item.NgPacket.{NgPacket}
 use Rattle.pcapng_io.specs.declared.place.Place.{Place}
+use Rattle.pcapng_io.specs.Blocks.{Blocks, next_of}
 use Rattle.pcapng_io.specs.Options.{padded}
 use Rattle.pcapng_io.specs.Times.{nanoseconds_of}
 
@@ -58,3 +59,26 @@ pub record FitsPacket (place : Place) (p : NgPacket) : Type 0 where
   pub size : packet_length p ≤ 16777216
   pub few : place.packets < 4294967295
   pub counted : place.blocks + 1 < 1099511627776
+
+-- what an item is read as, once it was written
+abbrev pub as_written : ℕ → NgItem → NgItem
+as_written growth (Packet p) = Packet p
+as_written growth (Section block) = Section (section_bytes block)
+as_written growth (Interface order block) = Interface order (interface_bytes growth order block)
+as_written growth (Carried block) = Carried block
+
+-- An item may stand behind a place, and leads to another: a packet that fits, or a block that is read as the item.
+abbrev pub Stands : Place → NgItem → Place → Type 0
+Stands place (Packet p) now = FitsPacket place p × (now ≡ record { order = place.order; units = place.units; blocks = place.blocks + 1; packets = place.packets + 1 })
+Stands place (Section block) now = next_of place block ≡ Ok (Some (Section block, now, []))
+Stands place (Interface order block) now = next_of place block ≡ Ok (Some (Interface order block, now, []))
+Stands place (Carried block) now = next_of place block ≡ Ok (Some (Carried block, now, []))
+
+-- items may stand one behind another
+abbrev pub StandInARow : Place → List NgItem → Place → Type 0
+StandInARow place [] now = now ≡ place
+StandInARow place (i ∷ more) now = (mid : Place) × Stands place i mid × StandInARow mid more now
+
+-- items before others
+abbrev pub with_items : List NgItem → Blocks → Blocks
+with_items items rest = record { items = items ++ rest.items; fault = rest.fault }

@@ -1,14 +1,16 @@
 //! What ties the reading of captures to their writing.
-ghost use Rattle.std.specs.Prelude.{◌≡◌, ◌+◌, ◌++◌, ℕ, List, Ok, Some};
-ghost use Rattle.pcapng_io.specs.declared.item.NgItem.TheVariants.{Packet};
-ghost use Rattle.pcapng_io.specs.declared.item.NgPacket.{NgPacket};
+ghost use Rattle.std.specs.Prelude.{◌≡◌, ◌++◌, ℕ, List, Ok, Some, map};
+ghost use Rattle.std.specs.List.{flat_map};
+ghost use Rattle.pcapng_io.specs.declared.item.NgItem.{NgItem};
 ghost use Rattle.pcapng_io.specs.declared.place.Place.{Place};
-ghost use Rattle.pcapng_io.specs.Blocks.{next_of};
-ghost use Rattle.pcapng_io.specs.Written.{FitsPacket, packet_bytes};
+ghost use Rattle.pcapng_io.specs.Blocks.{blocks_of, next_of};
+ghost use Rattle.pcapng_io.specs.Written.{StandInARow, Stands, as_written, item_bytes, with_items};
 
-/// A packet that is written is read again as it is, with its frame, its options, its interface and its ticks, and what follows it is
-/// left.
-pub fn written_packet_is_read()
-    ensures { (place : Place) (p : NgPacket) (tail : List ℕ) → FitsPacket place p →
-        next_of place (packet_bytes p ++ tail) ≡ Ok (Some (Packet p, record { order = place.order; units = place.units; blocks = place.blocks + 1; packets = place.packets + 1 }, tail)) }
+/// What is written is read again, item by item, whatever follows it: packets as they are, with their frames, options, interfaces and
+/// ticks; interfaces and section headers as they are but for what is written anew in them; and every other block as it is.
+pub fn written_is_read()
+    ensures one { (growth : ℕ) (place now : Place) (item : NgItem) (tail : List ℕ) → Stands place item now →
+        next_of place (item_bytes growth item ++ tail) ≡ Ok (Some (as_written growth item, now, tail)) }
+    ensures all { (growth : ℕ) (place now : Place) (items : List NgItem) (tail : List ℕ) → StandInARow place items now →
+        blocks_of place (flat_map (item_bytes growth) items ++ tail) ≡ with_items (map (as_written growth) items) (blocks_of now tail) }
 {}

@@ -7,7 +7,7 @@
 //!
 //! [`NgReader`] takes a capture block by block off the slot Capture of a desk, in whatever pieces the desk gives it; what it gives,
 //! and where it ends, is what `blocks_of` of `pcapng_io.specs.Blocks` says of the whole text. [`put_item`] puts an item into the slot
-//! Out as a block, and [`written_packet_is_read`] says of a packet that it is read again as it was written.
+//! Out as a block, and [`written_is_read`] ties the two together.
 //!
 //! Left out: what stands in a section's length, in a snaplen and in the blocks that are carried; options other than a resolution,
 //! among them the time offset; and link types other than Ethernet.
@@ -29,6 +29,6 @@ mod writer;
 
 pub use fault::{NgFault, NgReadFault};
 pub use item::{NgItem, NgPacket};
-pub use laws::written_packet_is_read;
+pub use laws::written_is_read;
 pub use reader::NgReader;
 pub use writer::put_item;
