@@ -1,0 +1,15 @@
+pub mod Rows
+pub mod Choices
+pub mod OptionList
+pub mod Faults
+pub mod Heads
+pub mod Sequence
+pub mod Slots
+pub mod Giving
+pub mod Reading
+pub mod Pieces
+pub mod Again
+pub mod PacketAgain
+pub mod Same
+pub mod Changed
+pub mod Rewritten

@@ -1,0 +1,56 @@
+use Rattle.std.proofs.Common.{take, length, refl}
+use Rattle.nfp_outside.specs.declared.slot.Slot.TheVariants.{Capture as CaptureSlot}
+use Rattle.capture_bytes.specs.Filling.{unread}
+use Rattle.capture_bytes.specs.FillingLaws.{taken_twice}
+use Rattle.pcapng_io.specs.Reader.{Opens, head_length}
+use Rattle.pcapng_io.specs.declared.fault.NgReadFault.TheVariants.{Ng}
+use Rattle.pcapng_io.proofs.Slots.{refuses_further, retyped}
+use Rattle.pcapng_io.proofs.Reading.{reads_item, refuses_read}
+use Rattle.pcapng_io.proofs.reader.read.Goals as goal
+
+pub returns-in-Err-close-clause-refused : goal.returns-in-Err-close-clause-refused
+returns-in-Err-close-clause-refused g c =
+    let old = g.D.Desk.slots c.args.desk.now CaptureSlot in
+    let mid = g.D.Desk.slots c.open.new.desk CaptureSlot in
+    let place = c.args.place.now in
+    let x = unread c.args.first.now old in
+    let h = c.in-Ok-Some.head in
+    let head = take (head_length h.kind) h.bytes in
+    let opens : Opens place h.kind h.order h.length head x mid = rw c.in-Ok-Some.field-0-is at c.in-Ok-Some.ensures.opened in
+    λ fault is. refuses_further fault place (length head) head x mid refl opens.fills (c.in-Err-close.ensures.refused fault (retyped c.in-Err-close.fault (Ng fault) is))
+
+pub returns-in-Err-close-clause-taken : goal.returns-in-Err-close-clause-taken
+returns-in-Err-close-clause-taken g c =
+    taken_twice 20 16777216 (g.D.Desk.slots c.args.desk.now CaptureSlot) (g.D.Desk.slots c.open.new.desk CaptureSlot) (g.D.Desk.slots c.close.new.desk CaptureSlot) c.in-Ok-Some.ensures.taken c.in-Err-close.ensures.taken
+
+pub returns-in-Ok-give-clause-item : goal.returns-in-Ok-give-clause-item
+returns-in-Ok-give-clause-item g c =
+    let old = g.D.Desk.slots c.args.desk.now CaptureSlot in
+    let mid = g.D.Desk.slots c.open.new.desk CaptureSlot in
+    let new = g.D.Desk.slots c.close.new.desk CaptureSlot in
+    let place = c.args.place.now in
+    let x = unread c.args.first.now old in
+    let h = c.in-Ok-Some.head in
+    let head = take (head_length h.kind) h.bytes in
+    let opens : Opens place h.kind h.order h.length head x mid = rw c.in-Ok-Some.field-0-is at c.in-Ok-Some.ensures.opened in
+    reads_item place c.give.new.place h.kind h.order h.length head c.deref.result.now c.in-Ok.block.items c.in-Ok-give.item x mid new opens c.in-Ok.ensures.closed c.deref.ensures.value c.in-Ok-give.ensures.ok
+
+pub returns-in-Ok-give-clause-taken : goal.returns-in-Ok-give-clause-taken
+returns-in-Ok-give-clause-taken g c =
+    taken_twice 20 16777216 (g.D.Desk.slots c.args.desk.now CaptureSlot) (g.D.Desk.slots c.open.new.desk CaptureSlot) (g.D.Desk.slots c.close.new.desk CaptureSlot) c.in-Ok-Some.ensures.taken c.in-Ok.ensures.taken
+
+pub returns-clause-refused : goal.returns-clause-refused
+returns-clause-refused g c =
+    let old = g.D.Desk.slots c.args.desk.now CaptureSlot in
+    let mid = g.D.Desk.slots c.open.new.desk CaptureSlot in
+    let new = g.D.Desk.slots c.close.new.desk CaptureSlot in
+    let place = c.args.place.now in
+    let x = unread c.args.first.now old in
+    let h = c.in-Ok-Some.head in
+    let head = take (head_length h.kind) h.bytes in
+    let opens : Opens place h.kind h.order h.length head x mid = rw c.in-Ok-Some.field-0-is at c.in-Ok-Some.ensures.opened in
+    λ fault is. refuses_read place h.kind h.order h.length head c.deref.result.now c.in-Ok.block.items fault x mid new opens c.in-Ok.ensures.closed c.deref.ensures.value (c.in-Err-give.ensures.refused fault (retyped c.in-Err-give.fault (Ng fault) is))
+
+pub returns-clause-taken : goal.returns-clause-taken
+returns-clause-taken g c =
+    taken_twice 20 16777216 (g.D.Desk.slots c.args.desk.now CaptureSlot) (g.D.Desk.slots c.open.new.desk CaptureSlot) (g.D.Desk.slots c.close.new.desk CaptureSlot) c.in-Ok-Some.ensures.taken c.in-Ok.ensures.taken

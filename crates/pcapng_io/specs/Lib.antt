@@ -1,0 +1,5 @@
+pub mod Options
+pub mod Times
+pub mod Blocks
+pub mod Written
+pub mod Reader

@@ -1,0 +1,36 @@
+//! What a block of a capture gives.
+use capture_bytes::{Endian, PcapRecord};
+use packet_fields::Frame;
+
+/// A packet of a capture, with what its block says beside the record.
+#[derive(Drop)]
+pub struct NgPacket {
+    /// The order of the numbers in its block.
+    pub order: Endian,
+    /// The interface that captured it, counted from 0 in its section.
+    pub interface: u32,
+    /// When it was captured, in the ticks of its interface.
+    pub ticks: u64,
+    /// The options behind the frame, as they were read.
+    pub options: Frame,
+    /// The packet. Its time counts nanoseconds.
+    pub packet: PcapRecord,
+}
+
+/// What a block of a capture gives.
+#[derive(Drop)]
+pub enum NgItem {
+    /// A packet.
+    Packet(NgPacket),
+    /// A section header block, whole.
+    Section(Frame),
+    /// An interface description block, whole.
+    Interface {
+        /// The order of the numbers in it.
+        order: Endian,
+        /// The block.
+        block: Frame,
+    },
+    /// Any other block, whole.
+    Carried(Frame),
+}

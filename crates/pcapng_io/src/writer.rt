@@ -1,0 +1,138 @@
+//! Blocks, as they are written.
+ghost use Rattle.std.specs.Prelude.{◌≡◌, ◌≢◌, ◌≤◌, ◌<◌, ◌+◌, ◌-◌, ◌%◌, ◌^◌, ◌++◌, IsSome, OnErr, OnOk, length, replicate};
+ghost use Rattle.nfp_outside.specs.declared.slot.Slot.{Slot};
+ghost use Rattle.nfp_outside.specs.Outside.{Appends, AppendsPrefix, WriteCause};
+ghost use Rattle.capture_bytes.specs.Numbers.{bytes_of, number_at};
+ghost use Rattle.pcapng_io.specs.Options.{padded};
+ghost use Rattle.pcapng_io.specs.Reader.{IsWritable};
+ghost use Rattle.pcapng_io.specs.Written.{grown, interface_bytes, item_bytes, packet_bytes, packet_head, packet_length, section_bytes};
+
+use crate::item::{NgItem, NgPacket};
+use crate::options::padded;
+use capture_bytes::{Endian, put_u32, u32_at};
+use nfp_outside::{Desk, OutsideFault, Slot, write_whole};
+
+// The length of a section that isn't told.
+const NO_SECTION_LENGTH: [u8; 8] = [255, 255, 255, 255, 255, 255, 255, 255];
+
+// What stands behind a frame up to a multiple of four.
+const ZEROS: [u8; 4] = [0, 0, 0, 0];
+
+/// Writes an item into the slot Out as a block, in a capture whose frames may have grown by so many bytes: a section header without
+/// its section's length, an interface with its snaplen grown, a packet with its frame and lengths, and any other block as it is.
+///
+/// It takes no memory. `WriteFault` of Out only where its count of faults rose; after an `Err` Out holds a front part of the block.
+pub fn put_item<D: Desk>(desk: &mut D, item: &NgItem, growth: u32) -> Result<(), OutsideFault>
+    requires attached { IsSome (D.slots desk.old Slot.Out).name }
+    requires writable { IsWritable item.now }
+    ensures ok { OnOk result (Appends (item_bytes growth item.now) (D.slots desk.old Slot.Out) (D.slots desk.new Slot.Out)) }
+    ensures err { OnErr result (AppendsPrefix (item_bytes growth item.now) (D.slots desk.old Slot.Out) (D.slots desk.new Slot.Out)) }
+    ensures cause { WriteCause Slot.Out (D.slots desk.old Slot.Out) (D.slots desk.new Slot.Out) result }
+    ensures others { (s : Slot) → s ≢ Slot.Out → D.slots desk.new s ≡ D.slots desk.old s }
+{
+    match item {
+        NgItem::Packet(packet) => put_packet(desk, packet),
+        NgItem::Section(block) => {
+            let block = block.bytes();
+            put_three(desk, &block[..16], &NO_SECTION_LENGTH, &block[24..])
+        }
+        NgItem::Interface { order, block } => {
+            let block = block.bytes();
+            let snaplen = spelled(*order, grown(u32_at(*order, block, 12), growth));
+            put_three(desk, &block[..12], &snaplen, &block[16..])
+        }
+        NgItem::Carried(block) => write_whole(desk, Slot::Out, block.bytes()),
+    }
+}
+
+// A snaplen that grew by this.
+fn grown(snaplen: u32, growth: u32) -> u32
+    ensures { result ≡ grown growth snaplen }
+{
+    if snaplen == 0 {
+        0
+    } else {
+        snaplen.saturating_add(growth)
+    }
+}
+
+fn spelled(order: Endian, number: u32) -> [u8; 4]
+    ensures { result ≡ bytes_of order 4 number }
+{
+    let mut bytes = [0; 4];
+    put_u32(order, &mut bytes, 0, number);
+    bytes
+}
+
+fn put_packet<D: Desk>(desk: &mut D, packet: &NgPacket) -> Result<(), OutsideFault>
+    requires attached { IsSome (D.slots desk.old Slot.Out).name }
+    requires short { packet_length packet.now < 2 ^ 32 }
+    ensures ok { OnOk result (Appends (packet_bytes packet.now) (D.slots desk.old Slot.Out) (D.slots desk.new Slot.Out)) }
+    ensures err { OnErr result (AppendsPrefix (packet_bytes packet.now) (D.slots desk.old Slot.Out) (D.slots desk.new Slot.Out)) }
+    ensures cause { WriteCause Slot.Out (D.slots desk.old Slot.Out) (D.slots desk.new Slot.Out) result }
+    ensures others { (s : Slot) → s ≢ Slot.Out → D.slots desk.new s ≡ D.slots desk.old s }
+{
+    let frame = packet.packet.frame.bytes();
+    let options = packet.options.bytes();
+    let data = padded(frame.len());
+    let length = (32 + data + options.len()) as u32;
+    let head = head_of(packet, length);
+    let padding = &ZEROS[..data - frame.len()];
+    if let Err(fault) = put_three(desk, &head, frame, padding) {
+        return Err(fault);
+    }
+    put_two(desk, options, &spelled(packet.order, length))
+}
+
+// What stands before a frame.
+fn head_of(packet: &NgPacket, length: u32) -> [u8; 28]
+    requires { length ≡ packet_length packet.now }
+    ensures { result ≡ packet_head packet.now }
+{
+    let order = packet.order;
+    let ticks = packet.ticks;
+    let mut head = [0; 28];
+    put_u32(order, &mut head, 0, 6);
+    put_u32(order, &mut head, 4, length);
+    put_u32(order, &mut head, 8, packet.interface);
+    put_u32(order, &mut head, 12, (ticks / 4_294_967_296) as u32);
+    put_u32(order, &mut head, 16, (ticks % 4_294_967_296) as u32);
+    put_u32(
+        order,
+        &mut head,
+        20,
+        packet.packet.frame.bytes().len() as u32,
+    );
+    put_u32(order, &mut head, 24, packet.packet.wire);
+    head
+}
+
+// Puts three pieces into Out, one behind the other.
+#[tactic(auto, using(nfp_outside::specs::Adding::prefix_longer, nfp_outside::specs::Adding::prefix_more))]
+fn put_three<D: Desk>(desk: &mut D, a: &[u8], b: &[u8], c: &[u8]) -> Result<(), OutsideFault>
+    requires attached { IsSome (D.slots desk.old Slot.Out).name }
+    ensures ok { OnOk result (Appends (a.now ++ b.now ++ c.now) (D.slots desk.old Slot.Out) (D.slots desk.new Slot.Out)) }
+    ensures err { OnErr result (AppendsPrefix (a.now ++ b.now ++ c.now) (D.slots desk.old Slot.Out) (D.slots desk.new Slot.Out)) }
+    ensures cause { WriteCause Slot.Out (D.slots desk.old Slot.Out) (D.slots desk.new Slot.Out) result }
+    ensures others { (s : Slot) → s ≢ Slot.Out → D.slots desk.new s ≡ D.slots desk.old s }
+{
+    if let Err(fault) = put_two(desk, a, b) {
+        return Err(fault);
+    }
+    write_whole(desk, Slot::Out, c)
+}
+
+// Puts two pieces into Out, one behind the other.
+#[tactic(auto, using(nfp_outside::specs::Adding::prefix_longer, nfp_outside::specs::Adding::prefix_more))]
+fn put_two<D: Desk>(desk: &mut D, a: &[u8], b: &[u8]) -> Result<(), OutsideFault>
+    requires attached { IsSome (D.slots desk.old Slot.Out).name }
+    ensures ok { OnOk result (Appends (a.now ++ b.now) (D.slots desk.old Slot.Out) (D.slots desk.new Slot.Out)) }
+    ensures err { OnErr result (AppendsPrefix (a.now ++ b.now) (D.slots desk.old Slot.Out) (D.slots desk.new Slot.Out)) }
+    ensures cause { WriteCause Slot.Out (D.slots desk.old Slot.Out) (D.slots desk.new Slot.Out) result }
+    ensures others { (s : Slot) → s ≢ Slot.Out → D.slots desk.new s ≡ D.slots desk.old s }
+{
+    if let Err(fault) = write_whole(desk, Slot::Out, a) {
+        return Err(fault);
+    }
+    write_whole(desk, Slot::Out, b)
+}
