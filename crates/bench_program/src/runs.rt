@@ -2,7 +2,7 @@
 ghost use Rattle.std.specs.Prelude.{◌≡◌, ◌≤◌, length, map, IfOk, vec_len};
 
 use action_profile::{Profile, all_fields};
-use capture_bytes::{Unit, Unit};
+use capture_bytes::Unit;
 use chain_walk::Fate;
 use classifier::Burst;
 use frame_walk::walk_chain;
@@ -76,35 +76,11 @@ fn outs(fates: &[Fate]) -> u64 {
         .count() as u64
 }
 
-/// The burst through the graph on one thread, again and again.
-pub fn through_graph<R: Wait + Clock>(
-    rt: &R,
-    alloc: Global,
-    functions: Vec<NetFunction>,
-    burst: &Burst,
-    rounds: u32,
-) -> Result<Counts, AllocError>
-    requires few { vec_len functions ≤ 64 }
-    requires short { length burst.now.items ≤ 65536 }
-{
-    let mut run = make_running(alloc, functions)?;
-    let mut tally = Tally::new();
-    let mut out = 0u64;
-    let mut least = Least(None);
-    for _round in 0..rounds {
-        let start = Instant::now(rt).ok();
-        let (next, fates) = run_plain(rt, alloc, run, burst, Unit::Micro, 0, &mut tally)?;
-        least = least.with(rt, start);
-        run = next;
-        out = out.wrapping_add(outs(&fates));
-    }
-    let copies = copies_in(&tally);
-    Ok(Counts { out, copies, least })
-}
-
-/// How a burst goes through the graph on threads.
+/// How a burst goes through the graph.
 #[derive(Clone, Copy)]
 pub enum Way {
+    /// On one thread.
+    Plain,
     /// All packets through one stage, its branches on threads that are joined behind it, and then all through the next.
     Joined,
     /// As the program goes: the dealers, branches and mergers of the graph on threads of their own, where that is quicker; what branches
@@ -114,8 +90,8 @@ pub enum Way {
     Threads,
 }
 
-/// The burst through the graph on threads, again and again. A number of mergers that is out of range is 1.
-pub fn through_threads<R: Threads + Wait + Clock + Sync>(
+/// The burst through the graph, again and again. A number of mergers that is out of range is 1.
+pub fn through_graph<R: Threads + Wait + Clock + Sync>(
     rt: &R,
     alloc: Global,
     functions: Vec<NetFunction>,
@@ -146,6 +122,8 @@ pub fn through_threads<R: Threads + Wait + Clock + Sync>(
     Ok(Counts { out, copies, least })
 }
 
+// The runs promise much, and each function that calls them is shown all of that: so each is called by one function, which says nothing.
+
 fn one_round<R: Threads + Wait + Clock + Sync>(
     rt: &R,
     alloc: Global,
@@ -159,21 +137,63 @@ fn one_round<R: Threads + Wait + Clock + Sync>(
     requires some_mergers { 1 ≤ mergers }
     requires few_mergers { mergers ≤ 16 }
 {
-    let unit = Unit::Micro;
     match way {
-        Way::Joined => run_joined(rt, alloc, run, burst, unit, 0, tally, mergers, &OpenGate),
-        Way::Piped(merge) => run_piped(
-            rt, alloc, run, burst, unit, 0, tally, mergers, &OpenGate, merge,
-        ),
+        Way::Plain => plain_round(rt, alloc, run, burst, tally),
+        Way::Joined => joined_round(rt, alloc, run, burst, tally, mergers),
+        Way::Piped(merge) => piped_round(rt, alloc, run, burst, tally, mergers, merge),
         Way::Threads => {
             // The first burst of a pace goes on threads.
             let run = run.paced(Pace::new());
-            let merge = MergeWay::Inbox;
-            run_piped(
-                rt, alloc, run, burst, unit, 0, tally, mergers, &OpenGate, merge,
-            )
+            piped_round(rt, alloc, run, burst, tally, mergers, MergeWay::Inbox)
         }
     }
+}
+
+fn plain_round<R: Wait>(
+    rt: &R,
+    alloc: Global,
+    run: Running<NetFunction>,
+    burst: &Burst,
+    tally: &mut Tally,
+) -> Result<(Running<NetFunction>, Vec<Fate>), AllocError>
+    requires short { length burst.now.items ≤ 65536 }
+{
+    run_plain(rt, alloc, run, burst, Unit::Micro, 0, tally)
+}
+
+fn joined_round<R: Threads + Wait + Sync>(
+    rt: &R,
+    alloc: Global,
+    run: Running<NetFunction>,
+    burst: &Burst,
+    tally: &mut Tally,
+    mergers: u32,
+) -> Result<(Running<NetFunction>, Vec<Fate>), AllocError>
+    requires short { length burst.now.items ≤ 65536 }
+    requires some_mergers { 1 ≤ mergers }
+    requires few_mergers { mergers ≤ 16 }
+{
+    let unit = Unit::Micro;
+    run_joined(rt, alloc, run, burst, unit, 0, tally, mergers, &OpenGate)
+}
+
+fn piped_round<R: Threads + Wait + Clock + Sync>(
+    rt: &R,
+    alloc: Global,
+    run: Running<NetFunction>,
+    burst: &Burst,
+    tally: &mut Tally,
+    mergers: u32,
+    merge: MergeWay,
+) -> Result<(Running<NetFunction>, Vec<Fate>), AllocError>
+    requires short { length burst.now.items ≤ 65536 }
+    requires some_mergers { 1 ≤ mergers }
+    requires few_mergers { mergers ≤ 16 }
+{
+    let unit = Unit::Micro;
+    run_piped(
+        rt, alloc, run, burst, unit, 0, tally, mergers, &OpenGate, merge,
+    )
 }
 
 /// How many copies were made of parts.

@@ -9,7 +9,7 @@
 ghost use Rattle.std.specs.Prelude.{◌≤◌, length, vec_len};
 
 use crate::frames::{BURST, burst_of};
-use crate::runs::{Counts, Least, Way, by_walk, through_graph, through_threads};
+use crate::runs::{Counts, Least, Way, by_walk, through_graph};
 use crate::search::{pass, search};
 use crate::{number, short};
 use classifier::Burst;
@@ -69,25 +69,55 @@ fn lead(
     if functions.len() > 64 || burst.items.as_slice().len() > 65_536 {
         return println!(rt; "too many");
     }
-    let rounds = run.rounds;
+    match way_of(run.mode) {
+        Some(way) => tell_graph(rt, functions, &burst, run, way),
+        None => beside(rt, run, &mut functions, &burst),
+    }
+}
+
+// How a mode leads the burst through the graph, where it does.
+fn way_of(mode: &str) -> Option<Way> {
+    match mode {
+        "graph" => Some(Way::Plain),
+        "joined" => Some(Way::Joined),
+        "threads" => Some(Way::Threads),
+        "piped" => Some(Way::Piped(MergeWay::Inbox)),
+        "board" => Some(Way::Piped(MergeWay::Board)),
+        _ => None,
+    }
+}
+
+// What is measured beside the graph.
+fn beside(
+    rt: &(impl Alloc<A = Global> + Print + Eprint + Wait + Clock),
+    run: &Run,
+    functions: &mut [NetFunction],
+    burst: &Burst,
+) -> io::Result<()>
+    requires { length functions.old ≤ 64 }
+{
     match run.mode {
-        "graph" => tell(rt, through_graph(rt, alloc, functions, &burst, rounds)?),
-        "joined" => tell_threads(rt, functions, &burst, run, Way::Joined),
-        "threads" => tell_threads(rt, functions, &burst, run, Way::Threads),
-        "piped" => tell_threads(rt, functions, &burst, run, Way::Piped(MergeWay::Inbox)),
-        "board" => tell_threads(rt, functions, &burst, run, Way::Piped(MergeWay::Board)),
-        "walk" => {
-            let (out, least) = by_walk(rt, alloc, &mut functions, &burst, rounds)?;
-            tell_least(rt, least)?;
-            println!(rt; "out {out}")
-        }
-        "search" => println!(rt; "found {}", search(&functions, &burst, rounds)),
-        "pass" => println!(rt; "sum {}", pass(&burst, rounds)),
+        "walk" => tell_walk(rt, run, functions, burst),
+        "search" => println!(rt; "found {}", search(functions, burst, run.rounds)),
+        "pass" => println!(rt; "sum {}", pass(burst, run.rounds)),
         _ => println!(rt; "none"),
     }
 }
 
-fn tell_threads(
+fn tell_walk(
+    rt: &(impl Alloc<A = Global> + Print + Eprint + Wait + Clock),
+    run: &Run,
+    functions: &mut [NetFunction],
+    burst: &Burst,
+) -> io::Result<()>
+    requires { length functions.old ≤ 64 }
+{
+    let (out, least) = by_walk(rt, rt.alloc(), functions, burst, run.rounds)?;
+    tell_least(rt, least)?;
+    println!(rt; "out {out}")
+}
+
+fn tell_graph(
     rt: &(impl Alloc<A = Global> + Print + Eprint + Threads + Wait + Clock + Sync),
     functions: Vec<NetFunction>,
     burst: &Burst,
@@ -97,7 +127,7 @@ fn tell_threads(
     requires few { vec_len functions ≤ 64 }
     requires short { length burst.now.items ≤ 65536 }
 {
-    let counts = through_threads(
+    let counts = through_graph(
         rt,
         rt.alloc(),
         functions,

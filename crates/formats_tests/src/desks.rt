@@ -2,6 +2,7 @@
 use nfp_outside::{
     Desk, FileDesk, FixedDesk, MemDesk, OutsideFault, Scales, Slot, Weight, read_all, write_whole,
 };
+use std::alloc::Global;
 use std::fs;
 use std::test::Fail;
 
@@ -9,31 +10,45 @@ const TEXT: &[u8] = b"abcdefgh";
 
 const NAME: &str = "written_by_a_desk";
 
+// The text, read from a desk that may give so many bytes of it.
+fn read_up_to(alloc: Global, max: usize) -> Result<Result<Vec<u8>, OutsideFault>, Fail> {
+    let mut desk = FixedDesk::new(alloc, TEXT.to_vec(alloc)?, Vec::new(alloc), 3);
+    desk.attach(Slot::Policy, "policy")?;
+    Ok(read_all(alloc, &mut desk, Slot::Policy, max))
+}
+
+fn is_text(read: &Result<Vec<u8>, OutsideFault>) -> bool {
+    match read {
+        Ok(all) => all.as_slice() == TEXT,
+        Err(_) => false,
+    }
+}
+
 #[test]
 fn a_slot_is_read_whole_up_to_the_limit(rt: HostRuntime) -> Result<(), Fail> {
-    let alloc = rt.alloc();
-    for max in [7, 8, 9] {
-        let mut desk = FixedDesk::new(alloc, TEXT.to_vec(alloc)?, Vec::new(alloc), 3);
-        desk.attach(Slot::Policy, "policy")?;
-        match read_all(alloc, &mut desk, Slot::Policy, max) {
-            Ok(all) => assert!(rt; max > 7 && all.as_slice() == TEXT),
-            Err(fault) => assert_eq!(rt; (max, fault), (7, OutsideFault::TooLong)),
-        }
-    }
+    assert_eq!(rt;
+        read_up_to(rt.alloc(), 7)?.err(),
+        Some(OutsideFault::TooLong)
+    );
+    assert!(rt; is_text(&read_up_to(rt.alloc(), 8)?));
+    assert!(rt; is_text(&read_up_to(rt.alloc(), 9)?));
     Ok(())
+}
+
+// The text is written into Note once more: is this the answer, and what then stands there?
+fn is_written(desk: &mut MemDesk, answer: Result<(), OutsideFault>, put: &[u8]) -> bool {
+    let written = write_whole(desk, Slot::Note, TEXT);
+    written == answer && desk.put(Slot::Note) == put
 }
 
 #[test]
 fn a_write_ends_at_the_listed_call(rt: HostRuntime) -> Result<(), Fail> {
     let alloc = rt.alloc();
-    let mut fails = Vec::new(alloc);
-    fails.push((Slot::Note, 1))?;
+    let fails = [(Slot::Note, 1)].to_vec(alloc)?;
     let mut desk = MemDesk::new(alloc, Vec::new(alloc), Vec::new(alloc), 3, fails);
     let refused = Err(OutsideFault::WriteFault(Slot::Note));
-    assert_eq!(rt; write_whole(&mut desk, Slot::Note, TEXT), refused);
-    assert!(rt; desk.put(Slot::Note) == b"abc".as_slice());
-    assert_eq!(rt; write_whole(&mut desk, Slot::Note, TEXT), Ok(()));
-    assert!(rt; desk.put(Slot::Note) == b"abcabcdefgh".as_slice());
+    assert!(rt; is_written(&mut desk, refused, b"abc"));
+    assert!(rt; is_written(&mut desk, Ok(()), b"abcabcdefgh"));
     Ok(())
 }
 

@@ -1,5 +1,7 @@
 // A watched desk over memory: what a watcher is told, and what it makes of it.
 
+ghost use Rattle.std.specs.Prelude.{◌≤◌};
+
 use nfp_outside::{Desk, MemDesk, Slot};
 use std::alloc::{AllocError, Global};
 use std::test::Fail;
@@ -18,36 +20,49 @@ fn capture(alloc: Global, big: bool) -> Result<Vec<u8>, AllocError> {
     Ok(bytes)
 }
 
+// How many records there are in bytes that come in pieces of this length.
+fn counted(bytes: &[u8], step: usize) -> u64
+    requires { 1 ≤ step }
+{
+    let mut count = RecordCount::new();
+    for piece in bytes.chunks(step) {
+        count.follow(piece);
+    }
+    count.records()
+}
+
+// The same for pieces of one byte, of seven, and for one piece.
+fn counted_in_pieces(alloc: Global, big: bool) -> Result<[u64; 3], AllocError> {
+    let bytes = capture(alloc, big)?;
+    Ok([counted(&bytes, 1), counted(&bytes, 7), counted(&bytes, 100)])
+}
+
 #[test]
 fn counts_the_records_of_any_pieces(rt: HostRuntime) -> Result<(), Fail> {
-    for big in [true, false] {
-        let bytes = capture(rt.alloc(), big)?;
-        for step in [1usize, 7, 100] {
-            let mut count = RecordCount::new();
-            for piece in bytes.chunks(step) {
-                count.follow(piece);
-            }
-            assert_eq!(rt; count.records(), 2);
-        }
-    }
+    assert_eq!(rt; counted_in_pieces(rt.alloc(), true)?, [2, 2, 2]);
+    assert_eq!(rt; counted_in_pieces(rt.alloc(), false)?, [2, 2, 2]);
     Ok(())
+}
+
+// What is kept of the policy's name and text, where no capture is read.
+fn is_kept(seen: &Seen) -> bool {
+    seen.name(Slot::Policy) == Some("a.nfp")
+        && seen.name(Slot::Out).is_none()
+        && seen.policy() == Some(b"nfp 1\n".as_slice())
+        && seen.front().is_empty()
 }
 
 #[test]
 fn keeps_what_passed(rt: HostRuntime) -> Result<(), Fail> {
     let alloc = rt.alloc();
-    let policy = Vec::from_slice(alloc, b"nfp 1\n".as_slice())?;
-    let bytes = capture(alloc, true)?;
-    let desk = MemDesk::new(alloc, policy, bytes, 100, Vec::new(alloc));
+    let policy = b"nfp 1\n".to_vec(alloc)?;
+    let desk = MemDesk::new(alloc, policy, capture(alloc, true)?, 100, Vec::new(alloc));
     let mut watched = Watched::new(desk, Seen::new(alloc));
     let mut buffer = [0u8; 100];
-    assert!(rt; watched.attach(Slot::Policy, "a.nfp").is_ok());
-    assert!(rt; watched.read(Slot::Policy, &mut buffer).is_ok());
+    watched.attach(Slot::Policy, "a.nfp")?;
+    watched.read(Slot::Policy, &mut buffer)?;
     let (_, seen) = watched.into_parts();
-    assert!(rt; seen.name(Slot::Policy) == Some("a.nfp"));
-    assert!(rt; seen.name(Slot::Out).is_none());
-    assert!(rt; seen.policy() == Some(b"nfp 1\n".as_slice()));
-    assert!(rt; seen.front().is_empty());
+    assert!(rt; is_kept(&seen));
     Ok(())
 }
 

@@ -1,22 +1,29 @@
 //! Graphs of chains.
 
-use action_profile::{Kind, Mode, profile};
-use graph_compile::{Graph, compile, copies};
+use action_profile::{Kind, Mode, StageParts, profile};
+use graph_compile::{Graph, Stage, compile, copies};
 use packet_fields::Field;
 use std::alloc::AllocError;
-use std::process::Abort;
 
-// The graph has these branches, stage by stage.
-fn has_branches(rt: &impl Abort, graph: &Graph, stages: &[&[&[u32]]]) {
+// Has the graph these branches, stage by stage?
+fn has_stages(graph: &Graph, stages: &[&[&[u32]]]) -> bool {
     let made = graph.stages.as_slice();
-    assert!(rt; made.len() == stages.len());
     for (stage, branches) in made.iter().zip(stages) {
-        let made = stage.branches.as_slice();
-        assert!(rt; made.len() == branches.len());
-        for (branch, positions) in made.iter().zip(*branches) {
-            assert!(rt; branch.positions.as_slice() == *positions);
+        if !has_branches(stage, branches) {
+            return false;
         }
     }
+    made.len() == stages.len()
+}
+
+fn has_branches(stage: &Stage, branches: &[&[u32]]) -> bool {
+    let made = stage.branches.as_slice();
+    for (branch, positions) in made.iter().zip(branches) {
+        if branch.positions.as_slice() != *positions {
+            return false;
+        }
+    }
+    made.len() == branches.len()
 }
 
 #[test]
@@ -27,8 +34,15 @@ fn closes_a_stage_before_a_state_that_two_may_drop(rt: HostRuntime) -> Result<()
         profile(Kind::Nat),
     ];
     let graph = compile(rt.alloc(), &chain)?;
-    has_branches(&rt, &graph, &[&[&[1], &[2]], &[&[3]]]);
+    assert!(rt; has_stages(&graph, &[&[&[1], &[2]], &[&[3]]]));
     Ok(())
+}
+
+// The source's address is copied once, and the type of service moved to the third branch.
+fn are_dealt(parts: &StageParts) -> bool {
+    copies(parts, Field::SrcIp) == 1
+        && copies(parts, Field::Tos) == 0
+        && parts.modes[Field::Tos.number()] == Mode::Moved(2)
 }
 
 #[test]
@@ -40,10 +54,8 @@ fn copies_what_one_branch_reads_and_another_writes(rt: HostRuntime) -> Result<()
         profile(Kind::Nat),
     ];
     let graph = compile(rt.alloc(), &chain)?;
-    has_branches(&rt, &graph, &[&[&[1], &[2, 4], &[3]]]);
+    assert!(rt; has_stages(&graph, &[&[&[1], &[2, 4], &[3]]]));
     let stage = graph.stages.as_slice().first().expect(&rt, "a stage");
-    assert!(rt; copies(&stage.parts, Field::SrcIp) == 1);
-    assert!(rt; copies(&stage.parts, Field::Tos) == 0);
-    assert!(rt; stage.parts.modes[Field::Tos.number()] == Mode::Moved(2));
+    assert!(rt; are_dealt(&stage.parts));
     Ok(())
 }

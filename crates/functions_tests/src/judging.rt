@@ -1,5 +1,7 @@
 //! Policies that are judged, and the line that tells a fault.
-use policy_judge::{JudgeFault, judge, too_long};
+use item_list::Items;
+use net_functions::NetFunction;
+use policy_judge::{JudgeFault, Judged, judge, too_long};
 use std::alloc::Global;
 use std::process::Abort;
 
@@ -21,18 +23,39 @@ fn tells(rt: &impl Abort, alloc: Global, text: &str, line: &str) {
     }
 }
 
+// The second function stands before the first, and the other chain has none.
+fn are_due(judged: &Judged) -> bool {
+    match judged.orders.as_slice() {
+        [first, second] => {
+            first.positions.as_slice() == [1, 0].as_slice()
+                && second.positions.as_slice().is_empty()
+        }
+        _ => false,
+    }
+}
+
 #[test]
 fn a_policy_without_fault_has_its_orders(rt: HostRuntime) {
     let text =
         "nfp 1\nchain a\nfn sig signature\nfn fw firewall\npriority sig > fw\nchain b\n".as_bytes();
     match judge(rt.alloc(), text) {
-        Ok(judged) => {
-            let orders = judged.orders.as_slice();
-            assert_eq!(rt; orders.len(), 2);
-            assert_eq!(rt; orders[0].positions.as_slice(), [1, 0].as_slice());
-            assert!(rt; orders[1].positions.as_slice().is_empty());
-        }
+        Ok(judged) => assert!(rt; are_due(&judged)),
         Err(_) => rt.abort(),
+    }
+}
+
+// The first chain has two functions, and the other none.
+fn are_made(chains: &[Items<Option<NetFunction>>]) -> bool {
+    match chains {
+        [first, second] => are_two(first.as_slice()) && second.as_slice().is_empty(),
+        _ => false,
+    }
+}
+
+fn are_two(functions: &[Option<NetFunction>]) -> bool {
+    match functions {
+        [first, second] => first.is_some() && second.is_some(),
+        _ => false,
     }
 }
 
@@ -40,14 +63,7 @@ fn a_policy_without_fault_has_its_orders(rt: HostRuntime) {
 fn functions_stand_where_they_are_declared(rt: HostRuntime) {
     let text = "nfp 1\nchain a\nfn sig signature\nfn fw firewall\nchain b\n".as_bytes();
     match judge(rt.alloc(), text) {
-        Ok(judged) => {
-            let chains = judged.functions.as_slice();
-            assert_eq!(rt; chains.len(), 2);
-            let functions = chains[0].as_slice();
-            assert_eq!(rt; functions.len(), 2);
-            assert!(rt; functions.iter().all(Option::is_some));
-            assert!(rt; chains[1].as_slice().is_empty());
-        }
+        Ok(judged) => assert!(rt; are_made(judged.functions.as_slice())),
         Err(_) => rt.abort(),
     }
 }

@@ -61,25 +61,32 @@ fn size(rt: &impl Abort, alloc: Global, decl: &FunctionDecl) -> Result<u64, u32>
     }
 }
 
+// Declarations, and their sizes or the lines that are refused.
+const DECLARATIONS: &[(&str, Result<u64, u32>)] = &[
+    ("nfp 1\nchain c\nfn f hop\nset size 7\n", Ok(7)),
+    // None is there, and one that can't be read is none.
+    ("nfp 1\nchain c\nfn f hop\n", Err(3)),
+    ("nfp 1\nchain c\nfn f hop\nset size 10\n", Err(3)),
+    (
+        "nfp 1\nchain c\nfn f hop\nset width 1\nset size 7\n",
+        Err(4),
+    ),
+    // A second one is refused, but it is there.
+    ("nfp 1\nchain c\nfn f hop\nset size 7\nset size 8\n", Err(5)),
+    ("nfp 1\nchain c\nfn f hop\nset size x\nset size 8\n", Err(4)),
+    (
+        "nfp 1\nchain c\nfn f hop\nset size 7\nrule x\nset size 8\n",
+        Err(5),
+    ),
+];
+
 #[test]
 fn the_least_refused_line_is_named(rt: HostRuntime) {
-    for (text, answer) in [
-        ("nfp 1\nchain c\nfn f hop\nset size 7\n", Ok(7)),
-        // None is there, and one that can't be read is none.
-        ("nfp 1\nchain c\nfn f hop\n", Err(3)),
-        ("nfp 1\nchain c\nfn f hop\nset size 10\n", Err(3)),
-        (
-            "nfp 1\nchain c\nfn f hop\nset width 1\nset size 7\n",
-            Err(4),
-        ),
-        // A second one is refused, but it is there.
-        ("nfp 1\nchain c\nfn f hop\nset size 7\nset size 8\n", Err(5)),
-        ("nfp 1\nchain c\nfn f hop\nset size x\nset size 8\n", Err(4)),
-        (
-            "nfp 1\nchain c\nfn f hop\nset size 7\nrule x\nset size 8\n",
-            Err(5),
-        ),
-    ] {
-        assert!(rt; declared(&rt, rt.alloc(), text) == answer);
+    for (text, answer) in DECLARATIONS {
+        is_due(&rt, rt.alloc(), text, *answer);
     }
+}
+
+fn is_due(rt: &impl Abort, alloc: Global, text: &str, answer: Result<u64, u32>) {
+    assert_eq!(rt; declared(rt, alloc, text), answer);
 }

@@ -1,12 +1,15 @@
 //! Functions that keep flows and sources act on whole frames.
+ghost use Rattle.std.specs.Prelude.{◌≡◌, ◌≤◌, length};
 
 use crate::making::built;
+use crate::walking::{is_gone, is_out, lines_of, walked};
 use chain_walk::Fate;
 use fixtures::udp;
-use frame_walk::walk_chain;
-use net_functions::Function;
-use packet_fields::{Frame, seal};
+use net_functions::{Function, NetFunction};
+use packet_fields::seal;
+use std::alloc::{AllocError, Global};
 use std::process::Abort;
+use std::sync::Wait;
 use std::test::Fail;
 
 // A translation to one port.
@@ -42,88 +45,127 @@ fn translated(packet: [u8; 42]) -> [u8; 42] {
     frame
 }
 
+// The packet behind the translation, with its checksums.
+fn sealed<R: Wait>(
+    rt: &R,
+    alloc: Global,
+    nat: NetFunction,
+    before: &[u8],
+) -> Result<Vec<u8>, AllocError> {
+    match walked(rt, alloc, &mut [nat], 0, before)? {
+        Fate::Out(out) => {
+            let mut after = out.into_bytes();
+            seal(before, &mut after);
+            Ok(after)
+        }
+        Fate::Gone(_) => Ok(Vec::new(alloc)),
+    }
+}
+
+// Compares what follows a translation of a packet with this UDP checksum.
+fn compare_sealed(
+    rt: &(impl Abort + AllocGlobal + Wait),
+    sum: u16,
+    followed: u16,
+) -> Result<(), AllocError> {
+    let nat = built(rt, rt.alloc(), NAT).expect(rt, "a nat");
+    let before = with_sum(udp(1, 1000), sum);
+    let after = with_sum(translated(before), followed);
+    assert_eq!(rt;
+        sealed(rt, rt.alloc(), nat, &before)?.as_slice(),
+        after.as_slice()
+    );
+    Ok(())
+}
+
 // No UDP checksum, a right one, and one that is wrong by 1 and stays so.
 #[test]
 fn checksums_follow_a_translation(rt: HostRuntime) -> Result<(), Fail> {
-    let alloc = rt.alloc();
-    for (sum, followed) in [(0, 0), (0xe7be, 0x9765), (0xe7bf, 0x9766)] {
-        let mut chain = [built(&rt, alloc, NAT).expect(&rt, "a nat")];
-        let before = with_sum(udp(1, 1000), sum);
-        match walk_chain(&rt, alloc, &mut chain, 0, Frame::new(before.to_vec(alloc)?))? {
-            Fate::Out(out) => {
-                let mut after = out.into_bytes();
-                seal(&before, &mut after);
-                assert_eq!(rt;
-                    after.as_slice(),
-                    with_sum(translated(before), followed).as_slice()
-                );
-            }
-            Fate::Gone(_) => rt.abort(),
-        }
-    }
+    compare_sealed(&rt, 0, 0)?;
+    compare_sealed(&rt, 0xe7be, 0x9765)?;
+    compare_sealed(&rt, 0xe7bf, 0x9766)?;
     Ok(())
 }
+
+// No port is seen of any packet by a rule that is met by all ports.
+const DENIED: &str = "nfp 1\nchain c\nfn f firewall\nrule deny sport 0-65535\n";
 
 #[test]
 fn a_packet_without_ports_is_neither_translated_nor_matched_by_them(
     rt: HostRuntime,
 ) -> Result<(), Fail> {
-    let alloc = rt.alloc();
     let mut chain = [
-        built(&rt, alloc, NAT).expect(&rt, "a nat"),
-        built(
-            &rt,
-            alloc,
-            "nfp 1\nchain c\nfn f firewall\nrule deny sport 0-65535\n",
-        )
-        .expect(&rt, "a firewall"),
+        built(&rt, rt.alloc(), NAT).expect(&rt, "a nat"),
+        built(&rt, rt.alloc(), DENIED).expect(&rt, "a firewall"),
     ];
-    match walk_chain(&rt, alloc, &mut chain, 0, Frame::new(CUT.to_vec(alloc)?))? {
-        Fate::Out(out) => assert_eq!(rt; out.bytes(), CUT.as_slice()),
-        Fate::Gone(_) => rt.abort(),
+    assert!(rt; is_out(&walked(&rt, rt.alloc(), &mut chain, 0, &CUT)?, &CUT));
+    Ok(())
+}
+
+const LIMITER: &str = "nfp 1\nchain c\nfn lim limiter\nset rate 14\nset burst 28\n";
+
+const FIVE_PORTS: &str =
+    "nfp 1\nchain c\nfn n nat\nset inside 10.0.0.0/8\nset public 192.0.2.1\nset ports 40000-40004\n";
+
+const LEFT: &[u8] =
+    b"  source 10.0.0.1 tokens 14000000000 at 19000000000\n  map 17 10.0.0.1 1000 port 40000\n  map 17 10.0.0.1 1002 port 40001\n  map 17 10.0.0.1 1004 port 40002\n  map 17 10.0.0.1 1006 port 40003\n  map 17 10.0.0.1 1008 port 40004\n";
+
+// What is to come of the packet of this second, of twenty.
+fn is_due(fate: &Fate, second: u16) -> bool {
+    if second % 2 == 1 {
+        is_gone(fate, 1)
+    } else if second >= 10 {
+        is_gone(fate, 2)
+    } else {
+        has_port(fate, 40_000 + second / 2)
+    }
+}
+
+// Does the packet go out from this port?
+fn has_port(fate: &Fate, port: u16) -> bool {
+    match fate {
+        Fate::Out(out) => out.bytes().get(34..36) == Some(port.to_be_bytes().as_slice()),
+        Fate::Gone(_) => false,
+    }
+}
+
+// Leads the twenty packets through a chain.
+fn compare_twenty(
+    rt: &(impl Abort + AllocGlobal + Wait),
+    chain: &mut [NetFunction],
+) -> Result<(), AllocError>
+    requires { length chain.old ≤ 64 }
+    ensures { length chain.new ≡ length chain.old }
+{
+    for second in 0..20u16 {
+        let time = u64::from(second) * 1_000_000_000;
+        let fate = walked(rt, rt.alloc(), chain, time, &udp(1, 1000 + second))?;
+        assert!(rt; is_due(&fate, second), "{second}");
     }
     Ok(())
+}
+
+// The lines of a chain, one by one.
+fn single_lines(alloc: Global, chain: &[NetFunction]) -> Result<Vec<u8>, AllocError> {
+    let mut lines = Vec::new(alloc);
+    for function in chain {
+        for place in 0..function.state_count() {
+            function.state_line(place, &mut lines)?;
+        }
+    }
+    Ok(lines)
 }
 
 // A packet of 28 bytes each second from a source that may send 14, each from a port of its own: every second one is
 // dropped, and those that pass take the five ports of a translation behind it one after another.
 #[test]
 fn a_limiter_spares_the_ports_of_a_translation(rt: HostRuntime) -> Result<(), Fail> {
-    let alloc = rt.alloc();
-    let limiter = "nfp 1\nchain c\nfn lim limiter\nset rate 14\nset burst 28\n";
-    let nat =
-        "nfp 1\nchain c\nfn n nat\nset inside 10.0.0.0/8\nset public 192.0.2.1\nset ports 40000-40004\n";
     let mut chain = [
-        built(&rt, alloc, limiter).expect(&rt, "a limiter"),
-        built(&rt, alloc, nat).expect(&rt, "a nat"),
+        built(&rt, rt.alloc(), LIMITER).expect(&rt, "a limiter"),
+        built(&rt, rt.alloc(), FIVE_PORTS).expect(&rt, "a nat"),
     ];
-    for second in 0..20u16 {
-        let frame = Frame::new(udp(1, 1000 + second).to_vec(alloc)?);
-        let time = u64::from(second) * 1_000_000_000;
-        match walk_chain(&rt, alloc, &mut chain, time, frame)? {
-            Fate::Out(out) => {
-                let port = (40_000 + second / 2).to_be_bytes();
-                assert!(rt; second < 10 && second % 2 == 0);
-                assert!(rt; out.bytes().get(34..36) == Some(port.as_slice()));
-            }
-            Fate::Gone(1) => assert!(rt; second % 2 == 1),
-            Fate::Gone(_) => assert!(rt; second >= 10 && second % 2 == 0),
-        }
-    }
-    let mut lines = Vec::new(alloc);
-    for function in &chain {
-        function.state_lines(&mut lines)?;
-    }
-    let expected: &[u8] =
-        b"  source 10.0.0.1 tokens 14000000000 at 19000000000\n  map 17 10.0.0.1 1000 port 40000\n  map 17 10.0.0.1 1002 port 40001\n  map 17 10.0.0.1 1004 port 40002\n  map 17 10.0.0.1 1006 port 40003\n  map 17 10.0.0.1 1008 port 40004\n";
-    assert_eq!(rt; lines.as_slice(), expected);
-    // The same lines, one by one.
-    lines.clear();
-    for function in &chain {
-        for place in 0..function.state_count() {
-            function.state_line(place, &mut lines)?;
-        }
-    }
-    assert_eq!(rt; lines.as_slice(), expected);
+    compare_twenty(&rt, &mut chain)?;
+    assert_eq!(rt; lines_of(rt.alloc(), &chain)?.as_slice(), LEFT);
+    assert_eq!(rt; single_lines(rt.alloc(), &chain)?.as_slice(), LEFT);
     Ok(())
 }

@@ -4,6 +4,7 @@ use action_profile::{FieldSet, Mode, Profile, StageParts, Touch};
 use graph_compile::{Branch, Graph, Stage, lawful};
 use item_list::Items;
 use std::alloc::{AllocError, Global};
+use std::process::Abort;
 
 // A function that does nothing.
 const IDLE: Profile = Profile {
@@ -46,22 +47,40 @@ fn is_lawful(alloc: Global, stages: &[&[&[u32]]]) -> Result<bool, AllocError> {
     Ok(lawful(&graph, &[IDLE, IDLE]))
 }
 
-#[test]
-fn takes_each_position_once_in_any_branch(rt: HostRuntime) -> Result<(), AllocError> {
-    assert!(rt; is_lawful(rt.alloc(), &[&[&[1, 2], &[]]])?);
-    assert!(rt; is_lawful(rt.alloc(), &[&[&[2], &[1]]])?);
-    assert!(rt; !is_lawful(rt.alloc(), &[&[&[2, 1]]])?);
-    assert!(rt; !is_lawful(rt.alloc(), &[&[&[1], &[1]]])?);
-    assert!(rt; !is_lawful(rt.alloc(), &[&[&[0], &[1]]])?);
-    assert!(rt; !is_lawful(rt.alloc(), &[&[&[1], &[3]]])?);
+// Graphs, stage by stage, and whether each is lawful.
+const GRAPHS: &[(&[&[&[u32]]], bool)] = &[
+    // Each position stands once, in any branch, and rises in its own.
+    (&[&[&[1, 2], &[]]], true),
+    (&[&[&[2], &[1]]], true),
+    (&[&[&[2, 1]]], false),
+    (&[&[&[1], &[1]]], false),
+    (&[&[&[0], &[1]]], false),
+    (&[&[&[1], &[3]]], false),
+];
+
+// A stage without a branch comes between two that aren't held against each other.
+const STAGES: &[(&[&[&[u32]]], bool)] = &[
+    (&[&[&[1]], &[&[2]]], true),
+    (&[&[&[2]], &[&[1]]], false),
+    (&[&[&[2]], &[], &[&[1]]], true),
+];
+
+fn compare(
+    rt: &(impl Abort + AllocGlobal),
+    graphs: &[(&[&[&[u32]]], bool)],
+) -> Result<(), AllocError> {
+    for (stages, lawful) in graphs {
+        assert_eq!(rt; is_lawful(rt.alloc(), stages)?, *lawful);
+    }
     Ok(())
 }
 
-// A stage without a branch comes between two that aren't held against each other.
+#[test]
+fn takes_each_position_once_in_any_branch(rt: HostRuntime) -> Result<(), AllocError> {
+    compare(&rt, GRAPHS)
+}
+
 #[test]
 fn holds_a_stage_against_the_next_alone(rt: HostRuntime) -> Result<(), AllocError> {
-    assert!(rt; is_lawful(rt.alloc(), &[&[&[1]], &[&[2]]])?);
-    assert!(rt; !is_lawful(rt.alloc(), &[&[&[2]], &[&[1]]])?);
-    assert!(rt; is_lawful(rt.alloc(), &[&[&[2]], &[], &[&[1]]])?);
-    Ok(())
+    compare(&rt, STAGES)
 }

@@ -1,53 +1,110 @@
 //! Functions act on whole frames that walk through them.
+ghost use Rattle.std.specs.Prelude.{◌≤◌, length};
 
 use crate::making::built;
 use crate::painter::Painter;
 use chain_walk::Fate;
 use fixtures::udp;
 use frame_walk::walk_chain;
-use net_functions::Function;
+use net_functions::{Function, NetFunction};
 use packet_fields::Frame;
+use std::alloc::{AllocError, Global};
+use std::process::Abort;
+use std::sync::Wait;
 use std::test::Fail;
 
-#[test]
-fn the_second_firewall_drops_what_its_rules_deny(rt: HostRuntime) -> Result<(), Fail> {
-    let alloc = rt.alloc();
-    let first = "nfp 1\nchain c\nfn a firewall\nrule deny dport 80\n";
-    let second =
-        "nfp 1\nchain c\nfn b firewall\nset default deny\nrule deny src 10.0.0.9 sport 7\nrule allow src 10.0.0.0/29\nrule allow sport 7-9\n";
-    let mut chain = [
-        built(&rt, alloc, first).expect(&rt, "a firewall"),
-        built(&rt, alloc, second).expect(&rt, "a firewall"),
-    ];
-    for (host, port, passes) in [(9, 7, false), (9, 8, true), (7, 10, true), (8, 10, false)] {
-        let frame = udp(host, port);
-        match walk_chain(&rt, alloc, &mut chain, 0, Frame::new(frame.to_vec(alloc)?))? {
-            Fate::Out(out) => assert!(rt; passes && out.bytes() == frame.as_slice()),
-            Fate::Gone(position) => assert!(rt; !passes && position == 2),
-        }
+// The walk promises much, and each function that calls it is shown all of that: so the tests call this one, which says nothing.
+
+/// Where a frame of this time ends behind a chain.
+pub fn walked<F: Function, R: Wait>(
+    rt: &R,
+    alloc: Global,
+    chain: &mut [F],
+    time: u64,
+    frame: &[u8],
+) -> Result<Fate, AllocError>
+    requires { length chain.old ≤ 64 }
+{
+    walk_chain(rt, alloc, chain, time, Frame::new(frame.to_vec(alloc)?))
+}
+
+/// Does the frame go out with these bytes?
+pub fn is_out(fate: &Fate, bytes: &[u8]) -> bool {
+    match fate {
+        Fate::Out(frame) => frame.bytes() == bytes,
+        Fate::Gone(_) => false,
     }
+}
+
+/// Is the frame dropped by the function at this position?
+pub fn is_gone(fate: &Fate, at: u32) -> bool {
+    match fate {
+        Fate::Out(_) => false,
+        Fate::Gone(position) => *position == at,
+    }
+}
+
+/// The lines of the states of a chain.
+pub fn lines_of<F: Function>(alloc: Global, chain: &[F]) -> Result<Vec<u8>, AllocError> {
     let mut lines = Vec::new(alloc);
-    for function in &chain {
+    for function in chain {
         function.state_lines(&mut lines)?;
     }
-    assert!(rt; lines.is_empty());
+    Ok(lines)
+}
+
+const FIRST: &str = "nfp 1\nchain c\nfn a firewall\nrule deny dport 80\n";
+
+const SECOND: &str =
+    "nfp 1\nchain c\nfn b firewall\nset default deny\nrule deny src 10.0.0.9 sport 7\nrule allow src 10.0.0.0/29\nrule allow sport 7-9\n";
+
+// Compares what becomes of a packet from this host and port: it passes as it was, or the second firewall drops it.
+fn compare(
+    rt: &(impl Abort + AllocGlobal + Wait),
+    chain: &mut [NetFunction],
+    host: u8,
+    port: u16,
+    passes: bool,
+) -> Result<(), AllocError>
+    requires { length chain.old ≤ 64 }
+{
+    let frame = udp(host, port);
+    let fate = walked(rt, rt.alloc(), chain, 0, &frame)?;
+    assert!(rt; is_out(&fate, &frame) == passes && is_gone(&fate, 2) != passes);
     Ok(())
 }
 
 #[test]
-fn a_painter_writes_and_drops_every_third(rt: HostRuntime) -> Result<(), Fail> {
-    let alloc = rt.alloc();
-    let mut chain = [Painter { count: 0 }];
-    for tos in [Some(0), Some(1), None, Some(0)] {
-        let frame = Frame::new(udp(1, 1000).to_vec(alloc)?);
-        let painted = match walk_chain(&rt, alloc, &mut chain, 0, frame)? {
-            Fate::Out(out) => out.bytes().get(15).copied(),
-            Fate::Gone(_) => None,
-        };
-        assert!(rt; painted == tos);
+fn the_second_firewall_drops_what_its_rules_deny(rt: HostRuntime) -> Result<(), Fail> {
+    let mut chain = [
+        built(&rt, rt.alloc(), FIRST).expect(&rt, "a firewall"),
+        built(&rt, rt.alloc(), SECOND).expect(&rt, "a firewall"),
+    ];
+    compare(&rt, &mut chain, 9, 7, false)?;
+    compare(&rt, &mut chain, 9, 8, true)?;
+    compare(&rt, &mut chain, 7, 10, true)?;
+    compare(&rt, &mut chain, 8, 10, false)?;
+    assert!(rt; lines_of(rt.alloc(), &chain)?.is_empty());
+    Ok(())
+}
+
+// The type of service that a painter gives a frame, where it passes.
+fn painted(rt: &(impl AllocGlobal + Wait), chain: &mut [Painter]) -> Result<Option<u8>, AllocError>
+    requires { length chain.old ≤ 64 }
+{
+    match walked(rt, rt.alloc(), chain, 0, &udp(1, 1000))? {
+        Fate::Out(out) => Ok(out.bytes().get(15).copied()),
+        Fate::Gone(_) => Ok(None),
     }
-    let mut lines = Vec::new(alloc);
-    chain[0].state_lines(&mut lines)?;
-    assert!(rt; lines.as_slice() == [1].as_slice());
+}
+
+#[test]
+fn a_painter_writes_and_drops_every_third(rt: HostRuntime) -> Result<(), Fail> {
+    let mut chain = [Painter { count: 0 }];
+    assert_eq!(rt; painted(&rt, &mut chain)?, Some(0));
+    assert_eq!(rt; painted(&rt, &mut chain)?, Some(1));
+    assert_eq!(rt; painted(&rt, &mut chain)?, None);
+    assert_eq!(rt; painted(&rt, &mut chain)?, Some(0));
+    assert!(rt; lines_of(rt.alloc(), &chain)?.as_slice() == [1].as_slice());
     Ok(())
 }

@@ -1,10 +1,12 @@
 //! Gates that look at the steps of a run: no clause speaks of them, since a gate's call may wait.
 
-use crate::runs::{CHAINS, capture, capture_from, run_with, words};
+use crate::packets::{Capture, HEAD, Packet, THREE};
+use crate::rows::{Words, run_gated};
+use crate::runs::TWO_CHAINS;
 use crate::states::{BEHIND, BESIDE};
-use nfp_outside::{FixedDesk, Gate};
-use nfp_run::{Outcome, nfp};
-use std::alloc::Global;
+use nfp_outside::Gate;
+use nfp_run::Outcome;
+use std::process::Abort;
 use std::rt::Clock;
 use std::sync::Wait;
 use std::sync::atomic::Ordering::SeqCst;
@@ -19,6 +21,18 @@ const TURNS: u32 = 10_000_000;
 // A firewall beside a signature, and a translation in a stage of its own behind them.
 const STAGES: &[u8] =
     b"nfp 1\nchain main\nfn fw firewall\nfn sig signature\nfn n nat\nset inside 10.0.0.0/8\nset public 192.0.2.1\nset ports 40000-40000\n";
+
+// Two packets, the second from port 1001.
+const TWO_FLOWS: Capture<'static> = Capture {
+    head: &HEAD,
+    packets: &[Packet::From(1), Packet::At(0, 1001)],
+};
+
+// Over links, and on boards.
+const WAYS: [Words<'static>; 2] = [
+    &["run", "p", "c", "o", "r", "--merge", "inbox"],
+    &["run", "p", "c", "o", "r", "--merge", "board"],
+];
 
 /// A step: the position of the function in its chain, and the number of the record.
 type Step = (u32, u32);
@@ -67,6 +81,42 @@ impl Meeting {
     }
 }
 
+// Runs a policy over a capture, and compares the outcome: two steps are to meet, by each way of merging.
+fn meet(
+    rt: &(impl Abort + AllocGlobal + Threads + Wait + Clock + Sync),
+    policy: &[u8],
+    capture: Capture<'_>,
+    first: Step,
+    second: Step,
+) -> Result<(), Fail> {
+    for way in WAYS {
+        let meeting = Meeting::new(first, second);
+        let bytes = capture.bytes(rt.alloc())?;
+        let (outcome, _) = run_gated(rt, rt.alloc(), way, policy, bytes, &meeting)?;
+        assert!(rt; matches!(outcome, Outcome::Done));
+        assert!(rt; !meeting.missed.load(SeqCst));
+    }
+    Ok(())
+}
+
+// The monitor and the firewall of one stage, both on the first packet.
+#[test]
+fn gate_side_by_side(rt: HostRuntime) -> Result<(), Fail> {
+    meet(&rt, BESIDE, THREE, (1, 1), (2, 1))
+}
+
+// The firewall of the first stage on the second packet, while the translation of the second stage is at the first.
+#[test]
+fn gate_pipelined(rt: HostRuntime) -> Result<(), Fail> {
+    meet(&rt, STAGES, TWO_FLOWS, (1, 2), (3, 1))
+}
+
+// The firewall of the first stage on both packets: it keeps no state, so each of the two mergers has a node of it.
+#[test]
+fn gate_replicas(rt: HostRuntime) -> Result<(), Fail> {
+    meet(&rt, STAGES, TWO_FLOWS, (1, 1), (1, 2))
+}
+
 /// Counts the steps, and adds up what they are told.
 #[derive(Drop)]
 struct Steps {
@@ -105,103 +155,68 @@ impl Steps {
     }
 }
 
-// Runs a policy over a capture, by this way of merging, and says whether two steps met.
-fn meets<R: Threads + Wait + Clock + Sync>(
-    rt: &R,
-    alloc: Global,
+const COUNTED_CALLS: [Words<'static>; 3] = [
+    &[
+        "run",
+        "p",
+        "c",
+        "o",
+        "r",
+        "--mergers",
+        "1",
+        "--burst",
+        "1",
+        "--merge",
+        "board",
+    ],
+    &[
+        "run",
+        "p",
+        "c",
+        "o",
+        "r",
+        "--mergers",
+        "2",
+        "--burst",
+        "1024",
+        "--merge",
+        "inbox",
+    ],
+    &[
+        "run",
+        "p",
+        "c",
+        "o",
+        "r",
+        "--mergers",
+        "16",
+        "--burst",
+        "2",
+        "--merge",
+        "board",
+    ],
+];
+
+// Compares what the steps of runs with options add up to.
+fn count_steps(
+    rt: &(impl Abort + AllocGlobal + Threads + Wait + Clock + Sync),
     policy: &[u8],
-    capture: Vec<u8>,
-    way: &str,
-    meeting: &Meeting,
-) -> Result<bool, Fail> {
-    let run = words(alloc, &["run", "p", "c", "o", "r", "--merge", way])?;
-    let mut desk = FixedDesk::new(alloc, policy.to_vec(alloc)?, capture, 7);
-    let outcome = nfp(rt, alloc, &run, &mut desk, meeting);
-    Ok(matches!(outcome, Outcome::Done) && !meeting.missed.load(SeqCst))
-}
-
-// The monitor and the firewall of one stage, both on the first packet.
-#[test]
-fn gate_side_by_side(rt: HostRuntime) -> Result<(), Fail> {
-    let alloc = rt.alloc();
-    for way in ["inbox", "board"] {
-        let meeting = Meeting::new((1, 1), (2, 1));
-        assert!(rt; meets(&rt, alloc, BESIDE, capture(alloc)?, way, &meeting)?);
+    sums: [u64; 4],
+) -> Result<(), Fail> {
+    for call in COUNTED_CALLS {
+        let steps = Steps::new();
+        let bytes = THREE.bytes(rt.alloc())?;
+        let (outcome, _) = run_gated(rt, rt.alloc(), call, policy, bytes, &steps)?;
+        assert!(rt; matches!(outcome, Outcome::Done));
+        assert_eq!(rt; steps.sums(), sums);
     }
     Ok(())
-}
-
-// The firewall of the first stage on the second packet, while the translation of the second stage is at the first.
-#[test]
-fn gate_pipelined(rt: HostRuntime) -> Result<(), Fail> {
-    let alloc = rt.alloc();
-    for way in ["inbox", "board"] {
-        let meeting = Meeting::new((1, 2), (3, 1));
-        assert!(rt; meets(&rt, alloc, STAGES, two_flows(alloc)?, way, &meeting)?);
-    }
-    Ok(())
-}
-
-// The firewall of the first stage on both packets: it keeps no state, so each of the two mergers has a node of it.
-#[test]
-fn gate_replicas(rt: HostRuntime) -> Result<(), Fail> {
-    let alloc = rt.alloc();
-    for way in ["inbox", "board"] {
-        let meeting = Meeting::new((1, 1), (1, 2));
-        assert!(rt; meets(&rt, alloc, STAGES, two_flows(alloc)?, way, &meeting)?);
-    }
-    Ok(())
-}
-
-// Two packets, the second from port 1001.
-fn two_flows(alloc: Global) -> Result<Vec<u8>, Fail> {
-    let mut two = capture_from(alloc, &[1, 1])?;
-    if let Some(low) = two.get_mut(133) {
-        *low = 0xe9;
-    }
-    Ok(two)
-}
-
-// What the steps of a run with these options add up to, where it is done.
-fn sums_of<R: Threads + Wait + Clock + Sync>(
-    rt: &R,
-    alloc: Global,
-    policy: &[u8],
-    mergers: &str,
-    burst: &str,
-    way: &str,
-) -> Result<Option<[u64; 4]>, Fail> {
-    let options = ["--mergers", mergers, "--burst", burst, "--merge", way];
-    let run = run_with(alloc, &options)?;
-    let mut desk = FixedDesk::new(alloc, policy.to_vec(alloc)?, capture(alloc)?, 7);
-    let steps = Steps::new();
-    match nfp(rt, alloc, &run, &mut desk, &steps) {
-        Outcome::Done => Ok(Some(steps.sums())),
-        _ => Ok(None),
-    }
 }
 
 // A monitor beside a firewall sees all three packets, and behind it the two that pass. Of two chains each sees its own alone.
 #[test]
 fn each_step_of_the_walk_passes_the_gate_once(rt: HostRuntime) -> Result<(), Fail> {
-    let alloc = rt.alloc();
-    for (mergers, burst, way) in [
-        ("1", "1", "board"),
-        ("2", "1024", "inbox"),
-        ("16", "2", "board"),
-    ] {
-        assert_eq!(rt;
-            sums_of(&rt, alloc, BESIDE, mergers, burst, way)?,
-            Some([6, 0, 9, 12])
-        );
-        assert_eq!(rt;
-            sums_of(&rt, alloc, BEHIND, mergers, burst, way)?,
-            Some([5, 0, 7, 10])
-        );
-        assert_eq!(rt;
-            sums_of(&rt, alloc, CHAINS, mergers, burst, way)?,
-            Some([3, 1, 3, 6])
-        );
-    }
-    Ok(())
+    count_steps(&rt, BESIDE, [6, 0, 9, 12])?;
+    count_steps(&rt, BEHIND, [5, 0, 7, 10])?;
+    count_steps(&rt, TWO_CHAINS, [3, 1, 3, 6])
 }

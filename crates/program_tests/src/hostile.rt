@@ -1,10 +1,13 @@
 //! Cut and malformed input, and each call of the desk failing: the table of what is to come of each.
 
-use crate::runs::{POLICY, capture, run_failing, words};
+use crate::packets::THREE;
+use crate::rows::{RUN, run_failing};
+use crate::runs::POLICY;
 use nfp_outside::{MemDesk, Slot};
 use nfp_run::Outcome;
 use pcap_io::CaptureFault;
 use std::alloc::{AllocError, Global};
+use std::process::Abort;
 use std::rt::Clock;
 use std::sync::Wait;
 use std::test::Fail;
@@ -13,31 +16,24 @@ use std::thread::Threads;
 // The bytes of a policy may be so many.
 const LONGEST_POLICY: usize = 1_048_576;
 
-// A run over a desk in memory that fails at these calls, and what it left.
-fn run_over<R: Threads + Wait + Clock + Sync>(
-    rt: &R,
-    alloc: Global,
-    policy: &[u8],
-    capture: Vec<u8>,
-    fails: &[(Slot, u64)],
-) -> Result<(Outcome, MemDesk), AllocError> {
-    let run = words(alloc, &["run", "p", "c", "o", "r"])?;
-    run_failing(rt, alloc, &run, policy, capture, fails)
-}
-
 // What is to come of the first bytes of a capture whose head has 24 bytes and whose three records have 58, of which the second
 // is dropped.
 fn is_due_of_cut(length: u32, outcome: &Outcome) -> bool {
     match outcome {
         Outcome::Done => matches!(length, 24 | 82 | 140 | 198),
         Outcome::Capture(CaptureFault::CutHead) => length < 24,
-        Outcome::Capture(CaptureFault::CutRecord(number)) => match length {
-            25..=81 => *number == 1,
-            83..=139 => *number == 2,
-            141..=197 => *number == 3,
-            _ => false,
-        },
+        Outcome::Capture(CaptureFault::CutRecord(number)) => *number == record_of(length),
         _ => false,
+    }
+}
+
+// The record that is cut where a capture ends there, and 0 where none is.
+fn record_of(length: u32) -> u32 {
+    match length {
+        25..=81 => 1,
+        83..=139 => 2,
+        141..=197 => 3,
+        _ => 0,
     }
 }
 
@@ -50,17 +46,31 @@ fn bytes_due_of_cut(length: u32) -> usize {
     }
 }
 
+// Out and Report are attached once the head is whole, and Out has so many bytes.
+fn is_left_of_cut(length: u32, desk: &MemDesk) -> bool {
+    let is_refused = length < 24;
+    desk.put(Slot::Out).len() == bytes_due_of_cut(length)
+        && (desk.calls(Slot::Out) == 0) == is_refused
+        && (desk.calls(Slot::Report) == 0) == is_refused
+}
+
+// Compares what is left of a run over the first bytes of the capture.
+fn compare_cut(
+    rt: &(impl Abort + AllocGlobal + Threads + Wait + Clock + Sync),
+    length: u32,
+) -> Result<(), Fail> {
+    let mut cut = THREE.bytes(rt.alloc())?;
+    cut.truncate(length as usize);
+    let (outcome, desk) = run_failing(rt, rt.alloc(), RUN, POLICY, cut, &[])?;
+    assert!(rt; is_due_of_cut(length, &outcome), "{length}");
+    assert!(rt; is_left_of_cut(length, &desk), "{length}");
+    Ok(())
+}
+
 #[test]
 fn a_capture_is_cut_after_each_byte(rt: HostRuntime) -> Result<(), Fail> {
-    let alloc = rt.alloc();
     for length in 0..=198u32 {
-        let mut cut = capture(alloc)?;
-        cut.truncate(length as usize);
-        let (outcome, desk) = run_over(&rt, alloc, POLICY, cut, &[])?;
-        assert!(rt; is_due_of_cut(length, &outcome));
-        assert_eq!(rt; desk.put(Slot::Out).len(), bytes_due_of_cut(length));
-        assert_eq!(rt; desk.calls(Slot::Out) == 0, length < 24);
-        assert_eq!(rt; desk.calls(Slot::Report) == 0, length < 24);
+        compare_cut(&rt, length)?;
     }
     Ok(())
 }
@@ -81,46 +91,47 @@ fn filled(alloc: Global, length: usize) -> Result<Vec<u8>, AllocError> {
     Ok(policy)
 }
 
-#[test]
-fn a_policy_passes_a_limit(rt: HostRuntime) -> Result<(), Fail> {
-    let alloc = rt.alloc();
-    let rules = b"nfp 1\nchain main\nfn fw firewall\n";
-    let chains =
-        b"nfp 1\nchain a\nchain b\nchain c\nchain d\nchain e\nchain f\nchain g\nchain h\nchain i\nchain j\nchain k\nchain l\nchain m\nchain n\nchain o\nchain p\nchain q\n";
-    for (policy, status, note) in [
-        (
-            chains.to_vec(alloc)?,
-            2,
-            b"policy: line 18: too many chains\n".as_slice(),
-        ),
-        (
-            repeated(alloc, rules, b"rule deny src 10.0.0.9\n", 257)?,
-            2,
-            b"policy: line 260: too many rules\n",
-        ),
-        (
-            filled(alloc, LONGEST_POLICY)?,
-            0,
-            b"done records 3 emitted 3 dropped 0\n",
-        ),
-        (filled(alloc, LONGEST_POLICY + 1)?, 2, b"policy: too long\n"),
-    ] {
-        let (outcome, desk) = run_over(&rt, alloc, &policy, capture(alloc)?, &[])?;
-        assert_eq!(rt; outcome.status(), status);
-        assert_eq!(rt; desk.put(Slot::Note), note);
-    }
+const RULES: &[u8] = b"nfp 1\nchain main\nfn fw firewall\n";
+
+const SEVENTEEN: &[u8] =
+    b"nfp 1\nchain a\nchain b\nchain c\nchain d\nchain e\nchain f\nchain g\nchain h\nchain i\nchain j\nchain k\nchain l\nchain m\nchain n\nchain o\nchain p\nchain q\n";
+
+// Compares the status and the line of a run by this policy.
+fn compare_policy(
+    rt: &(impl Abort + AllocGlobal + Threads + Wait + Clock + Sync),
+    policy: &[u8],
+    status: u8,
+    note: &[u8],
+) -> Result<(), Fail> {
+    let capture = THREE.bytes(rt.alloc())?;
+    let (outcome, desk) = run_failing(rt, rt.alloc(), RUN, policy, capture, &[])?;
+    assert_eq!(rt; outcome.status(), status);
+    assert_eq!(rt; desk.put(Slot::Note), note);
     Ok(())
 }
 
-// The answer is the fault of this slot, and of no other.
-fn is_fault_of(outcome: &Outcome, slot: Slot) -> bool {
+#[test]
+fn a_policy_passes_a_limit(rt: HostRuntime) -> Result<(), Fail> {
+    let alloc = rt.alloc();
+    let many = repeated(alloc, RULES, b"rule deny src 10.0.0.9\n", 257)?;
+    let longest = filled(alloc, LONGEST_POLICY)?;
+    let too_long = filled(alloc, LONGEST_POLICY + 1)?;
+    compare_policy(&rt, SEVENTEEN, 2, b"policy: line 18: too many chains\n")?;
+    compare_policy(&rt, &many, 2, b"policy: line 260: too many rules\n")?;
+    compare_policy(&rt, &longest, 0, b"done records 3 emitted 3 dropped 0\n")?;
+    compare_policy(&rt, &too_long, 2, b"policy: too long\n")
+}
+
+// The answer is the fault of this slot, and of no other, where a call failed, and else that all is done.
+fn is_due_of_failed(outcome: &Outcome, slot: Slot, failed: bool) -> bool {
     match outcome {
-        Outcome::ReadFault(found) | Outcome::WriteFault(found) => *found == slot,
+        Outcome::ReadFault(found) | Outcome::WriteFault(found) => failed && *found == slot,
+        Outcome::Done => !failed,
         _ => false,
     }
 }
 
-// Which slots were attached or written before the first call of this one.
+// Was no slot touched that comes behind this one?
 fn is_untouched(desk: &MemDesk, slot: Slot) -> bool {
     match slot {
         Slot::Policy => desk.calls(Slot::Capture) == 0,
@@ -130,34 +141,75 @@ fn is_untouched(desk: &MemDesk, slot: Slot) -> bool {
     }
 }
 
-// For each slot and k from 0 on, the k-th call on it fails, until a run makes fewer: that one is done.
-#[test]
-fn each_call_of_the_desk_fails(rt: HostRuntime) -> Result<(), Fail> {
-    let alloc = rt.alloc();
-    let (outcome, whole) = run_over(&rt, alloc, POLICY, capture(alloc)?, &[])?;
-    assert!(rt; matches!(outcome, Outcome::Done));
-    for slot in [
-        Slot::Policy,
-        Slot::Capture,
-        Slot::Out,
-        Slot::Report,
-        Slot::Note,
-    ] {
-        let calls = whole.calls(slot);
-        assert!(rt; calls > 0);
-        for call in 0..=calls {
-            let fails = [(slot, call)];
-            let (outcome, desk) = run_over(&rt, alloc, POLICY, capture(alloc)?, &fails)?;
-            assert_eq!(rt; is_fault_of(&outcome, slot), call < calls);
-            assert_eq!(rt; matches!(outcome, Outcome::Done), call == calls);
-            assert!(rt; call > 0 || is_untouched(&desk, slot));
-            for written in [Slot::Out, Slot::Report] {
-                assert!(rt; whole.put(written).starts_with(desk.put(written)));
-            }
-            let is_whole = desk.put(Slot::Out) == whole.put(Slot::Out)
-                && desk.put(Slot::Report) == whole.put(Slot::Report);
-            assert!(rt; is_whole || (slot != Slot::Note && call < calls));
-        }
+// Out and Report hold front parts of what a whole run leaves there, or all of it where they may not be cut.
+fn is_left(desk: &MemDesk, whole: &MemDesk, may_be_cut: bool) -> bool {
+    is_part(desk.put(Slot::Out), whole.put(Slot::Out), may_be_cut)
+        && is_part(desk.put(Slot::Report), whole.put(Slot::Report), may_be_cut)
+}
+
+fn is_part(bytes: &[u8], whole: &[u8], may_be_cut: bool) -> bool {
+    whole.starts_with(bytes) && (may_be_cut || bytes == whole)
+}
+
+// Compares a run in which this call of a slot fails with a whole one, which makes so many.
+fn compare_failed(
+    rt: &(impl Abort + AllocGlobal + Threads + Wait + Clock + Sync),
+    whole: &MemDesk,
+    slot: Slot,
+    call: u64,
+    calls: u64,
+) -> Result<(), Fail> {
+    let capture = THREE.bytes(rt.alloc())?;
+    let fails = [(slot, call)];
+    let (outcome, desk) = run_failing(rt, rt.alloc(), RUN, POLICY, capture, &fails)?;
+    assert!(rt;
+        is_due_of_failed(&outcome, slot, call < calls),
+        "{slot:?} {call}"
+    );
+    assert!(rt; call > 0 || is_untouched(&desk, slot), "{slot:?}");
+    assert!(rt;
+        is_left(&desk, whole, slot != Slot::Note && call < calls),
+        "{slot:?} {call}"
+    );
+    Ok(())
+}
+
+const SLOTS: &[Slot] = &[
+    Slot::Policy,
+    Slot::Capture,
+    Slot::Out,
+    Slot::Report,
+    Slot::Note,
+];
+
+fn compare_slots(
+    rt: &(impl Abort + AllocGlobal + Threads + Wait + Clock + Sync),
+    whole: &MemDesk,
+) -> Result<(), Fail> {
+    for slot in SLOTS {
+        compare_slot(rt, whole, *slot)?;
     }
     Ok(())
+}
+
+// For this slot and k from 0 on, the k-th call on it fails, until a run makes fewer: that one is done.
+fn compare_slot(
+    rt: &(impl Abort + AllocGlobal + Threads + Wait + Clock + Sync),
+    whole: &MemDesk,
+    slot: Slot,
+) -> Result<(), Fail> {
+    let calls = whole.calls(slot);
+    assert!(rt; calls > 0);
+    for call in 0..=calls {
+        compare_failed(rt, whole, slot, call, calls)?;
+    }
+    Ok(())
+}
+
+#[test]
+fn each_call_of_the_desk_fails(rt: HostRuntime) -> Result<(), Fail> {
+    let capture = THREE.bytes(rt.alloc())?;
+    let (outcome, whole) = run_failing(&rt, rt.alloc(), RUN, POLICY, capture, &[])?;
+    assert!(rt; matches!(outcome, Outcome::Done));
+    compare_slots(&rt, &whole)
 }

@@ -1,4 +1,7 @@
 //! Tests of the top call, over desks in memory: what no clause says, above all that memory suffices where there is plenty.
+//!
+//! What a run is given and what it is to leave are rows of data, [`rows::Row`], which one function runs and compares whole. The captures of
+//! rows are data too: [`packets::Capture`].
 #![tactic(auto)]
 
 #[cfg(test)]
@@ -11,6 +14,10 @@ mod ipv6;
 mod marks;
 #[cfg(test)]
 mod options;
+#[cfg(test)]
+mod packets;
+#[cfg(test)]
+mod rows;
 #[cfg(test)]
 mod runs;
 #[cfg(test)]

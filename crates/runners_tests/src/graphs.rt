@@ -9,7 +9,7 @@ use capture_bytes::{PcapRecord, Unit};
 use chain_walk::Fate;
 use classifier::{Burst, Item};
 use fixtures::UDP;
-use function_lines::SharedItems;
+use function_lines::FitRules;
 use graph_compile::compile;
 use graph_run::{Running, run_plain};
 use item_list::Items;
@@ -18,6 +18,7 @@ use nf_filter::Firewall;
 use packet_fields::{Field, Frame};
 use packet_version::Tally;
 use std::alloc::{AllocError, Global};
+use std::sync::Wait;
 use std::test::Fail;
 
 /// Two firewalls: the first lets every packet pass, the second none.
@@ -35,7 +36,7 @@ pub(crate) fn open_and_shut(alloc: Global) -> Result<Vec<NetFunction>, AllocErro
 pub(crate) fn firewall(alloc: Global, default: bool) -> Result<NetFunction, AllocError>
     ensures { IfOk result (λ firewall. net_behaviour.profile firewall ≡ profile_of Kind.Firewall) }
 {
-    let rules = SharedItems::new(alloc, Items::new(Vec::new(alloc)))?;
+    let rules = FitRules::new(alloc, Items::new(Vec::new(alloc)))?;
     Ok(NetFunction::Firewall(Firewall { default, rules }))
 }
 
@@ -68,21 +69,50 @@ fn item(alloc: Global, number: u32, class: Option<u32>) -> Result<Item, AllocErr
     })
 }
 
-#[test]
-fn a_packet_of_the_chain_is_dropped_by_its_second_function(rt: HostRuntime) -> Result<(), Fail> {
-    let alloc = rt.alloc();
+/// What is left of a run: how many functions it has, where its packets end, and how many copies were made of a field.
+#[derive(Drop)]
+pub(crate) struct Ran {
+    pub(crate) functions: usize,
+    pub(crate) fates: Vec<Fate>,
+    pub(crate) copies: u64,
+}
+
+/// Was a packet dropped by the second function?
+fn is_shut_out(fate: &Fate) -> bool {
+    match fate {
+        Fate::Gone(position) => *position == 2,
+        Fate::Out(_) => false,
+    }
+}
+
+/// Are there so many packets, each dropped by the second function?
+pub(crate) fn are_shut_out(fates: &[Fate], count: usize) -> bool {
+    fates.len() == count && fates.iter().all(is_shut_out)
+}
+
+/// Two firewalls, of which the second drops every packet, in their graph.
+pub(crate) fn shut(alloc: Global) -> Result<Running<NetFunction>, AllocError> {
     let profiles = [profile(Kind::Firewall), profile(Kind::Firewall)];
     let graph = compile(alloc, &profiles)?;
-    let run = Running::new(open_and_shut(alloc)?, graph);
+    Ok(Running::new(open_and_shut(alloc)?, graph))
+}
+
+fn plain<R: Wait>(rt: &R, alloc: Global) -> Result<Ran, AllocError> {
     let burst = burst(alloc)?;
     let mut tally = Tally::new();
-    let (run, fates) = run_plain(&rt, alloc, run, &burst, Unit::Micro, 0, &mut tally)?;
-    assert_eq!(rt; run.functions().len(), 2);
-    assert_eq!(rt; fates.len(), 1);
-    match fates.first() {
-        Some(Fate::Gone(position)) => assert_eq!(rt; *position, 2),
-        _ => assert!(rt; false),
-    }
-    assert_eq!(rt; tally.of(Field::SrcIp), 0);
+    let run = shut(alloc)?;
+    let (run, fates) = run_plain(rt, alloc, run, &burst, Unit::Micro, 0, &mut tally)?;
+    Ok(Ran {
+        functions: run.functions().len(),
+        fates,
+        copies: tally.of(Field::SrcIp),
+    })
+}
+
+#[test]
+fn a_packet_of_the_chain_is_dropped_by_its_second_function(rt: HostRuntime) -> Result<(), Fail> {
+    let ran = plain(&rt, rt.alloc())?;
+    assert_eq!(rt; (ran.functions, ran.copies), (2, 0));
+    assert!(rt; are_shut_out(&ran.fates, 1));
     Ok(())
 }

@@ -4,9 +4,9 @@ ghost use Rattle.action_profile.specs.Profiles.{profile_of};
 ghost use Rattle.action_profile.specs.declared.kind.Kind.{Kind};
 ghost use Rattle.net_functions.specs.NetFunctions.{net_behaviour};
 
-use crate::graphs::{firewall, open_and_shut};
+use crate::graphs::{Ran, are_shut_out, firewall, shut};
 use action_profile::{Kind, profile};
-use capture_bytes::{PcapRecord, PcapRecord, Unit, Unit};
+use capture_bytes::{PcapRecord, Unit};
 use chain_walk::Fate;
 use classifier::{Burst, Item};
 use fixtures::udp;
@@ -23,11 +23,24 @@ use std::alloc::{AllocError, Global};
 use std::sync::Wait;
 use std::sync::atomic::{AtomicU64, Ordering};
 use std::test::Fail;
+use std::thread::Threads;
 
 /// A gate that is always open, and counts who passes.
 #[derive(Drop)]
 pub(crate) struct Passes {
-    pub(crate) count: AtomicU64,
+    count: AtomicU64,
+}
+
+impl Passes {
+    pub(crate) fn new() -> Passes {
+        Passes {
+            count: AtomicU64::new(0),
+        }
+    }
+
+    pub(crate) fn so_far(&self) -> u64 {
+        self.count.load(Ordering::SeqCst)
+    }
 }
 
 impl Gate for Passes {
@@ -76,76 +89,77 @@ fn item(alloc: Global, number: u8, class: Option<u32>) -> Result<Item, AllocErro
     })
 }
 
-#[test]
-fn each_packet_is_dropped_by_the_function_that_drops_it(rt: HostRuntime) -> Result<(), Fail> {
-    let alloc = rt.alloc();
-    let profiles = [profile(Kind::Firewall), profile(Kind::Firewall)];
+/// A firewall that lets every packet pass, and a hop, in their graph.
+pub(crate) fn open(alloc: Global) -> Result<Running<NetFunction>, AllocError> {
+    let profiles = [profile(Kind::Firewall), profile(Kind::Hop)];
     let graph = compile(alloc, &profiles)?;
-    let run = Running::new(open_and_shut(alloc)?, graph);
+    Ok(Running::new(open_and_hop(alloc)?, graph))
+}
+
+/// Did the packet from this host go out with a time to live that is one less? Checksums are not sealed yet.
+fn is_hopped(fate: &Fate, host: u8) -> bool {
+    let mut sent = udp(host, 1000);
+    sent[22] = 63;
+    match fate {
+        Fate::Out(frame) => frame.bytes() == sent.as_slice(),
+        Fate::Gone(_) => false,
+    }
+}
+
+/// Did the packets of the hosts 1, 3 and 5 go out, in this order?
+pub(crate) fn are_hopped(fates: &[Fate]) -> bool {
+    match fates {
+        [first, second, third] => {
+            is_hopped(first, 1) && is_hopped(second, 3) && is_hopped(third, 5)
+        }
+        _ => false,
+    }
+}
+
+fn joined<R: Threads + Wait + Sync>(
+    rt: &R,
+    alloc: Global,
+    run: Running<NetFunction>,
+    mergers: u32,
+    gate: &Passes,
+) -> Result<Ran, AllocError>
+    requires some { 1 ≤ mergers }
+    requires few { mergers ≤ 16 }
+{
     let burst = burst(alloc)?;
     let mut tally = Tally::new();
-    let gate = Passes {
-        count: AtomicU64::new(0),
-    };
     let (run, fates) = run_joined(
-        &rt,
+        rt,
         alloc,
         run,
         &burst,
         Unit::Micro,
         0,
         &mut tally,
-        2,
-        &gate,
+        mergers,
+        gate,
     )?;
-    assert_eq!(rt; run.functions().len(), 2);
-    assert_eq!(rt; fates.len(), 3);
-    for fate in &fates {
-        match fate {
-            Fate::Gone(position) => assert_eq!(rt; *position, 2),
-            Fate::Out(_) => assert!(rt; false),
-        }
-    }
-    assert_eq!(rt; gate.count.load(Ordering::SeqCst), 6);
+    Ok(Ran {
+        functions: run.functions().len(),
+        fates,
+        copies: tally.of(Field::Ttl),
+    })
+}
+
+#[test]
+fn each_packet_is_dropped_by_the_function_that_drops_it(rt: HostRuntime) -> Result<(), Fail> {
+    let gate = Passes::new();
+    let ran = joined(&rt, rt.alloc(), shut(rt.alloc())?, 2, &gate)?;
+    assert!(rt; are_shut_out(&ran.fates, 3));
+    assert_eq!(rt; (ran.functions, ran.copies, gate.so_far()), (2, 0, 6));
     Ok(())
 }
 
 #[test]
 fn packets_go_out_in_their_order(rt: HostRuntime) -> Result<(), Fail> {
-    let alloc = rt.alloc();
-    let profiles = [profile(Kind::Firewall), profile(Kind::Hop)];
-    let graph = compile(alloc, &profiles)?;
-    let run = Running::new(open_and_hop(alloc)?, graph);
-    let burst = burst(alloc)?;
-    let mut tally = Tally::new();
-    let gate = Passes {
-        count: AtomicU64::new(0),
-    };
-    let (_run, fates) = run_joined(
-        &rt,
-        alloc,
-        run,
-        &burst,
-        Unit::Micro,
-        0,
-        &mut tally,
-        16,
-        &gate,
-    )?;
-    let hosts = [1, 3, 5];
-    assert_eq!(rt; fates.len(), 3);
-    for (fate, host) in fates.iter().zip(&hosts) {
-        match fate {
-            Fate::Out(frame) => {
-                // The time to live is one less; checksums are not sealed yet.
-                let mut sent = udp(*host, 1000);
-                sent[22] = 63;
-                assert!(rt; frame.bytes() == sent.as_slice());
-            }
-            Fate::Gone(_) => assert!(rt; false),
-        }
-    }
-    assert_eq!(rt; tally.of(Field::Ttl), 0);
-    assert_eq!(rt; gate.count.load(Ordering::SeqCst), 6);
+    let gate = Passes::new();
+    let ran = joined(&rt, rt.alloc(), open(rt.alloc())?, 16, &gate)?;
+    assert!(rt; are_hopped(&ran.fates));
+    assert_eq!(rt; (ran.functions, ran.copies, gate.so_far()), (2, 0, 6));
     Ok(())
 }
