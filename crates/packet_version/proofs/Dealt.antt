@@ -1,7 +1,7 @@
 -- A part that is dealt by the mode of its field.
 use Rattle.std.proofs.Common.{rules, ◌≡◌, ◌∙◌, ◌-◌, ℕ, Bool, true, false, List, [], ◌∷◌, map, sym, ap, subst, refl, arith}
 use mathlib.Core.Path.{fun_ext}
-use Rattle.std.specs.Prelude.{if◌then◌else◌, count_by, position, Option, Some, None, option_map, OnOk, Result, Ok, Err, ◌||◌, ◌&&◌, not, ◌==◌}
+use Rattle.std.specs.Prelude.{if◌then◌else◌, count_by, position, Option, Some, None, option_map, ◌||◌, ◌&&◌, not, ◌==◌}
 use Rattle.std.specs.List.{All, list_any}
 use Rattle.std.specs.Int.{bit_at}
 use Rattle.std.proofs.lemmas.Bool.{false≢true}
@@ -25,11 +25,6 @@ use Rattle.packet_version.proofs.Firsts.{NoneOf, count-map, count-weaker, any-no
 use Rattle.packet_version.proofs.Maps.{as_map-listed}
 use Rattle.packet_version.proofs.Modal.{shared_unwritten, moved_given, copied_given, copied_lent}
 use Rattle.packet_version.proofs.Originals.{none_copied}
-
--- what follows on an Ok follows from what holds there
-pub on_ok : {T E : Type 0} (r : Result T E) (P Q : Type 0) → (P → Q) → OnOk r P → OnOk r Q
-on_ok (Ok x) P Q follows p = follows p
-on_ok (Err e) P Q follows p = tt
 
 due_by : (f : Field) (o : Option PlainPart) (vs : List PlainVersion) (m : Mode) (n : ℕ) → m ≡ mode_of (touches_in vs) f → n ≡ copies_by_mode m (touches_in vs) f → copies_of o n ≡ copies_due (touches_in vs) f o
 due_by f None vs m n mode is = refl

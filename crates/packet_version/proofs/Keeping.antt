@@ -1,7 +1,7 @@
 -- What is held of a packet, of which one place is changed.
-use Rattle.std.proofs.Common.{◌≡◌, ◌≢◌, ◌∙◌, ◌<◌, ◌+◌, ℕ, Bool, true, false, List, [], ◌∷◌, ◌++◌, sym, ap, refl, subst, get_or, length, map, set, arith}
+use Rattle.std.proofs.Common.{◌≡◌, ◌≢◌, ◌∙◌, ◌<◌, ◌+◌, ℕ, Bool, true, false, List, [], ◌∷◌, sym, ap, refl, subst, get_or, length, map, set, arith}
 use mathlib.Core.Path.{fun_ext}
-use Rattle.std.specs.Prelude.{Option, Some, None, IfSome, Result, Ok, is_ok, is_some, if◌then◌else◌, ◌==◌, option_map}
+use Rattle.std.specs.Prelude.{Option, Some, None, IfSome, is_some, if◌then◌else◌, ◌==◌, option_map}
 use Rattle.std.proofs.lemmas.Bool.Decides.{Decides-eqb}
 use Rattle.std.proofs.lemmas.List.{get_or_read_under, length-map}
 use Rattle.std.proofs.Math.ListN.{get_or-map}
@@ -223,9 +223,12 @@ closed_keeps taggers frame writers places n f old none is below all old_is =
     old_is
 
 -- a place for each field says the same
+pub opened_place : (places : List Place) (f : Field) → place_of (opened places) f ≡ place_of places f
+opened_place [] f = listed_at (λ g. Inside) Inside f ∙ sym (nowhere f)
+opened_place (p ∷ ps) f = refl
+
 opened_parts : (taggers : ℕ) (frame writers : List ℕ) (places : List Place) → parts_in taggers frame writers (opened places) ≡ parts_in taggers frame writers places
-opened_parts taggers frame writers [] = fun_ext (λ f. ap (λ (p : Place). part_in taggers frame writers f p) (listed_at (λ g. Inside) Inside f ∙ sym (nowhere f)))
-opened_parts taggers frame writers (p ∷ ps) = refl
+opened_parts taggers frame writers places = fun_ext (λ f. ap (λ (p : Place). part_in taggers frame writers f p) (opened_place places f))
 
 pub opened_held : (taggers : ℕ) (frame writers : List ℕ) (places next : List Place) (old : PlainHeld) → next ≡ opened places → held_of taggers frame writers places ≡ old → held_of taggers frame writers next ≡ old
 opened_held taggers frame writers places next old is old_is =
@@ -258,11 +261,11 @@ within_read taggers frame writers n r f read is =
     read ∙ (ap (λ (k : ℕ). if is_some (value f frame) then get_or writers k 0 else 0) is ∙ sym (within_writer taggers frame writers f))
 
 -- whether a place is listed
-pub is_closed : (len : ℕ) (places : List Place) (b : Bool) → b ≡ (len == 0) → b ≡ true → len ≡ length places → length places ≡ 0
-is_closed len places b is e same = let zero : len ≡ 0 = (Decides-eqb len 0).0 (sym is ∙ e) in omega arith
+pub is_closed : (places : List Place) (b : Bool) → b ≡ (length places == 0) → b ≡ true → length places ≡ 0
+is_closed places b is e = (Decides-eqb (length places) 0).0 (sym is ∙ e)
 
-pub is_listed : (len : ℕ) (places : List Place) (b : Bool) → b ≡ (len == 0) → b ≡ false → len ≡ length places → length places ≢ 0
-is_listed len places b is e same = λ none. (let zero : len ≡ 0 = same ∙ none in let t : (len == 0) ≡ true = (Decides-eqb len 0).1 zero in let f : (len == 0) ≡ false = sym is ∙ e in cc)
+pub is_listed : (places : List Place) (b : Bool) → b ≡ (length places == 0) → b ≡ false → length places ≢ 0
+is_listed places b is e = λ none. (let t : (length places == 0) ≡ true = (Decides-eqb (length places) 0).1 none in let f : (length places == 0) ≡ false = sym is ∙ e in cc)
 
 -- where some place is listed there is one for each field
 pub listed_ten : (places : List Place) → length places ≢ 0 → length (opened places) ≡ 10 → length places ≡ 10
@@ -272,7 +275,3 @@ listed_ten (p ∷ ps) some ten = ten
 pub ten_opened : (places : List Place) → length places ≡ 10 → length (opened places) ≡ 10
 ten_opened [] ten = absurd (omega arith)
 ten_opened (p ∷ ps) ten = ten
-
--- a place that was added
-pub pushed_on : {T E : Type 0} (r : Result T E) (x : T) (places next : List Place) (p : Place) → next ≡ (if is_ok r then places ++ p ∷ [] else places) → r ≡ Ok x → next ≡ places ++ p ∷ []
-pushed_on {T = T} {E = E} r x places next p is ok = is ∙ ap (λ (q : Result T E). if is_ok q then places ++ p ∷ [] else places) ok

@@ -1,5 +1,5 @@
 -- For proofs: bytes that are lent to be written.
-use Rattle.std.specs.Prelude.{ℕ, List, ◌++◌, take, drop, length, Option, option_map}
+use Rattle.std.specs.Prelude.{ℕ, List, ◌++◌, take, drop, length, Option, option_map, slice_set}
 use Rattle.std.specs.Borrow.{Lends, MutBor, Fml, Array, u8}
 use Rattle.packet_fields.specs.declared.field.Field.{Field}
 use Rattle.packet_version.specs.Parts.{PlainPart, PlainHeld, as_map, as_list, changed, rewritten}
@@ -8,6 +8,7 @@ use Rattle.packet_version.specs.contracts.part.Part.{the_row}
 use Rattle.packet_version.specs.declared.place.Place.{Place}
 use Rattle.packet_version.specs.declared.place.Place.TheVariants.{Outside}
 use Rattle.packet_version.specs.contracts.place.Place.{the_row as place_row}
+use Rattle.packet_version.specs.contracts.places.Places.{the_row as places_row}
 use Rattle.packet_version.specs.contracts.contents.Contents.{the_row as contents_row}
 use Rattle.packet_version.specs.contracts.held.Held.{the_row as held_row}
 
@@ -35,6 +36,10 @@ edited_place new writer place = place
 -- a place beside the frame ends with the bytes that were left
 abbrev pub LendsPlace : MutBor Place → ℕ → MutBor (List ℕ) → Fml
 LendsPlace place writer lent = Lends place_row (Array u8 0) place lent (λ w. edited_place w writer place.now)
+
+-- places of which one ends with what was left there
+abbrev pub LendsListed : MutBor (List Place) → ℕ → MutBor Place → Fml
+LendsListed places n lent = Lends places_row place_row places lent (λ p. slice_set places.now n p)
 
 -- what is held once these bytes were left in a field
 abbrev pub left_there : Field → List ℕ → ℕ → PlainHeld → PlainHeld

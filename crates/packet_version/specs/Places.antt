@@ -1,5 +1,5 @@
 -- For proofs: where the parts of a packet are.
-use Rattle.std.specs.Prelude.{◌≡◌, ◌≤◌, ℕ, List, [], ◌∷◌, length, Option, Some, None, Bool, true, false, map, slice_index_or, option_map}
+use Rattle.std.specs.Prelude.{◌≡◌, ℕ, List, [], ◌∷◌, length, Option, Some, None, Bool, true, false, map, slice_index_or, option_map}
 use Rattle.packet_fields.specs.Fields.{number_of, value}
 use Rattle.packet_fields.specs.Writing.{all_fields}
 use Rattle.packet_fields.specs.declared.field.Field.{Field}
@@ -70,7 +70,16 @@ abbrev pub opened : List Place → List Place
 opened [] = inside_all
 opened (p ∷ ps) = p ∷ ps
 
--- There is a place for each field, or none as long as every part is in the frame, and room for them.
-pub record ArePlaces (room : ℕ) (places : List Place) : Type 0 where
+-- the places that are listed, of the cells in which they lie
+abbrev pub listed_of : Bool → List Place → List Place
+listed_of true cells = cells
+listed_of false cells = []
+
+-- There is a cell for each field, and as long as no place is listed every part is in the frame.
+pub record AreCells (listed : Bool) (cells : List Place) : Type 0 where
+  pub ten : length cells ≡ 10
+  pub inside : listed ≡ false → cells ≡ inside_all
+
+-- There is a place for each field, or none as long as every part is in the frame.
+pub record ArePlaces (places : List Place) : Type 0 where
   pub ten : length (opened places) ≡ 10
-  pub wide : 10 ≤ room

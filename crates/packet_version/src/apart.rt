@@ -35,7 +35,7 @@ ghost use Rattle.packet_version.specs.Splitting.{packet_parts, split_parts as sp
 /// Takes a frame of any bytes apart. The parts are written by nobody, and the list of tags has room for
 /// `taggers` tags more. `time` is when the packet was captured, in nanoseconds.
 ///
-/// Memory is taken for a copy of the frame, for its outline, and for the places of its parts.
+/// Memory is taken for a copy of the frame, and for its outline with the places of its parts.
 #[inline(always)]
 pub fn split(alloc: Global, frame: &[u8], time: u64, taggers: u32) -> Result<Apart, AllocError>
     ensures apart { IfOk result (λ whole. whole ≡ taken_apart taggers time frame.now) }

@@ -2,6 +2,7 @@
 
 use crate::part::Part;
 use crate::place::Place;
+use crate::places::Places;
 use crate::rest::Rest;
 use action_profile::all_fields;
 use packet_fields::Field;
@@ -13,8 +14,7 @@ use std::mem;
 /// back.
 #[derive(Drop)]
 pub(crate) struct Contents {
-    // A place for each field, or room for them as long as every part is in the frame.
-    places: Vec<Place>,
+    places: Places,
     // Who wrote the part of each field that is in the frame, 0 for nobody.
     writers: [u32; 10],
     rest: Rest,
@@ -22,38 +22,35 @@ pub(crate) struct Contents {
 }
 
 impl Model for Contents {
-    ghost use Rattle.std.specs.Prelude.{vec_capacity};
     ghost use Rattle.packet_version.specs.Parts.{as_list, PlainHeld};
     ghost use Rattle.packet_version.specs.Places.{parts_in, ArePlaces};
 
     ghost Value = { PlainHeld };
 
-    ghost view = { λ c. record { parts = as_list (parts_in c.taggers c.rest c.writers c.places.items); frame = c.rest } };
+    ghost view = { λ c. record { parts = as_list (parts_in c.taggers c.rest c.writers c.places); frame = c.rest } };
 
-    ghost invariant = { λ c. ArePlaces (vec_capacity c.places) c.places.items };
+    ghost invariant = { λ c. ArePlaces c.places };
 }
 
-ghost use Rattle.std.specs.Prelude.{◌≡◌, ◌≢◌, ◌≤◌, ◌+◌, [], Some, None, IfOk, OnOk, IfSome, IsSome, IsSomeAnd, IsTrue, if◌then◌else◌, is_some, length, map, vec_capacity, option_map};
+ghost use Rattle.std.specs.Prelude.{◌≡◌, ◌≢◌, ◌+◌, Some, None, IfOk, OnOk, IfSome, IsSome, IsSomeAnd, IsTrue, if◌then◌else◌, is_some, length, option_map};
 ghost use Rattle.std.specs.Borrow.{sem};
 ghost use Rattle.std.specs.Option.{option_copied};
 ghost use Rattle.packet_fields.specs.Fields.{value};
 ghost use Rattle.packet_fields.specs.Writing.{rest_of, written, AllFit};
 ghost use Rattle.packet_version.specs.Parts.{PlainHeld, as_list, as_map, changed, unwritten, rewritten, by_writer, values_of, writers_of, IsPartOf};
-ghost use Rattle.packet_version.specs.Places.{brought, inside_all, is_outside, opened, parts_beside, place_made, place_of, unwritten_place};
+ghost use Rattle.packet_version.specs.Places.{brought, is_outside, parts_beside, place_made, place_of};
 ghost use Rattle.packet_version.specs.Lending.{LendsContents};
 ghost use Rattle.packet_fields.specs.declared.field.Field.{Field};
 ghost use Rattle.packet_version.specs.Splitting.{fresh, split_parts, spare_room as spare_room_of, IsWhole};
 
 impl Contents {
-    /// The frame with every part in it, of which the list of tags has room for `taggers` tags more, and no
-    /// place yet.
-    pub(crate) fn new(places: Vec<Place>, rest: Rest, taggers: u32) -> Contents
-        requires none { places.items ≡ [] }
-        requires room { 10 ≤ vec_capacity places }
+    /// The frame with every part in it, of which the list of tags has room for `taggers` tags more.
+    #[inline(always)]
+    pub(crate) fn new(rest: Rest, taggers: u32) -> Contents
         ensures { result ≡ record { parts = as_list (split_parts taggers rest); frame = rest } }
     {
         Contents {
-            places,
+            places: Places::new(),
             writers: [0; 10],
             rest,
             taggers,
@@ -75,7 +72,7 @@ impl Contents {
         if self.places.is_empty() {
             return self.rest.get(field);
         }
-        match &self.places[field.number()] {
+        match self.places.at(field.number()) {
             Place::Inside => self.rest.get(field),
             Place::Gone => None,
             Place::Outside(part) => Some(part.bytes()),
@@ -89,7 +86,7 @@ impl Contents {
         if self.places.is_empty() {
             return spare_room(field, self.taggers);
         }
-        match &self.places[field.number()] {
+        match self.places.at(field.number()) {
             Place::Inside => spare_room(field, self.taggers),
             Place::Gone => 0,
             Place::Outside(part) => part.spare(),
@@ -105,7 +102,7 @@ impl Contents {
         if self.places.is_empty() {
             return writer_inside(&self.rest, field, inside);
         }
-        match &self.places[number] {
+        match self.places.at(number) {
             Place::Inside => writer_inside(&self.rest, field, inside),
             Place::Gone => 0,
             Place::Outside(part) => part.writer(),
@@ -117,7 +114,7 @@ impl Contents {
         ensures { self.new ≡ record self.old { parts = as_list (λ f. option_map unwritten (as_map self.old.parts f)) } }
     {
         self.writers = [0; 10];
-        forget_all(&mut self.places);
+        self.places.forget_writers();
     }
 
     /// Leaves the part of a field here, written by nobody.
@@ -129,7 +126,7 @@ impl Contents {
         if self.places.is_empty() {
             return;
         }
-        self.places[number].forget_writer();
+        self.places.at_mut(number).forget_writer();
     }
 
     /// Writes the bytes of a field that is here, other than the tags, as many as there are: in the frame,
@@ -141,8 +138,8 @@ impl Contents {
         ensures rest { rest_of self.new.frame ≡ rest_of self.old.frame }
     {
         let number = field.number();
-        if stands_beside(&self.places, field) {
-            self.places[number].set(writer, bytes);
+        if stands_beside(self.places.all(), field) {
+            self.places.at_mut(number).set(writer, bytes);
         } else {
             self.rest.put_value(field, bytes);
             self.writers[number] = writer;
@@ -154,10 +151,10 @@ impl Contents {
         ensures part { IfOk result (λ part. part ≡ as_map self.old.parts field) }
         ensures left { self.new ≡ record self.old { parts = as_list (changed field None (as_map self.old.parts)) } }
     {
-        open(&mut self.places);
+        self.places.open();
         let number = field.number();
         let writer = self.writers[number];
-        let place = mem::replace(&mut self.places[number], Place::Gone);
+        let place = mem::replace(self.places.at_mut(number), Place::Gone);
         match place {
             Place::Inside => split_part(alloc, &self.rest, field, self.taggers, writer),
             Place::Gone => Ok(None),
@@ -173,11 +170,11 @@ impl Contents {
         ensures part { result ≡ as_map self.old.parts field }
         ensures left { self.new ≡ record self.old { parts = as_list (changed field None (as_map self.old.parts)) } }
     {
-        let alloc = *self.places.allocator();
-        open(&mut self.places);
+        let alloc = self.rest.allocator();
+        self.places.open();
         let number = field.number();
         let writer = self.writers[number];
-        let place = mem::replace(&mut self.places[number], Place::Gone);
+        let place = mem::replace(self.places.at_mut(number), Place::Gone);
         match place {
             Place::Inside => few_part(alloc, &self.rest, field, writer),
             Place::Gone => None,
@@ -195,12 +192,12 @@ impl Contents {
         ensures* writes_back { sem 𝓛 (LendsContents self.entry field writer result) }
         ensures bytes { option_map (λ p. p.bytes) (as_map self.old.parts field) ≡ Some result.now }
     {
-        let alloc = *self.places.allocator();
-        open(&mut self.places);
+        let alloc = self.rest.allocator();
+        self.places.open();
         let number = field.number();
         let inside = self.writers[number];
-        bring_out(&mut self.places[number], alloc, &self.rest, field, inside);
-        let place = &mut self.places[number];
+        bring_out(self.places.at_mut(number), alloc, &self.rest, field, inside);
+        let place = self.places.at_mut(number);
         place.edit(writer)
     }
 
@@ -208,11 +205,14 @@ impl Contents {
     pub(crate) fn put(&mut self, field: Field, part: Part)
         ensures { self.new ≡ record self.old { parts = as_list (changed field (Some part) (as_map self.old.parts)) } }
     {
-        open(&mut self.places);
-        self.places[field.number()] = Place::Outside(part);
+        self.places.open();
+        let place = self.places.at_mut(field.number());
+        *place = Place::Outside(part);
     }
 
-    /// Writes the parts that stand beside the frame into it. Memory is taken only where the tags were changed.
+    /// Writes the parts that stand beside the frame into it, and lets them go. Memory is taken only where the
+    /// tags were changed.
+    #[inline(always)]
     pub(crate) fn put_back(&mut self, alloc: Global) -> Result<(), AllocError>
         requires { IsWhole (as_map self.old.parts) self.old.frame }
         ensures { OnOk result (self.new.frame ≡ written (values_of (as_map self.old.parts)) (rest_of self.old.frame)) }
@@ -220,19 +220,32 @@ impl Contents {
         if self.places.is_empty() {
             return Ok(());
         }
-        put_all(alloc, &self.places, &mut self.rest)
+        self.put_places_back(alloc)
     }
 
-    /// The frame, without the parts that stand beside it.
+    /// The same where some part may stand beside the frame.
+    fn put_places_back(&mut self, alloc: Global) -> Result<(), AllocError>
+        requires { IsWhole (as_map self.old.parts) self.old.frame }
+        ensures { OnOk result (self.new.frame ≡ written (values_of (as_map self.old.parts)) (rest_of self.old.frame)) }
+    {
+        put_all(alloc, self.places.all(), &mut self.rest)?;
+        self.places = Places::new();
+        Ok(())
+    }
+
+    /// The frame, beside which no part stands any more.
+    #[inline(always)]
     pub(crate) fn into_frame(self) -> Vec<u8>
         ensures { result.items ≡ self.frame }
     {
         let Contents {
-            places: _,
+            places,
             writers: _,
             rest,
             taggers: _,
         } = self;
+        // No part stands in them, so there is nothing to give back, and none is looked at.
+        mem::forget(places);
         rest.into_bytes()
     }
 }
@@ -267,39 +280,6 @@ fn stands_beside(places: &[Place], field: Field) -> bool
     ensures { result ≡ is_outside (place_of places.now field) }
 {
     matches!(places.get(field.number()), Some(Place::Outside(_)))
-}
-
-/// Leaves every part that stands beside a frame, written by nobody.
-fn forget_all(places: &mut [Place])
-    ensures { places.new ≡ map unwritten_place places.old }
-{
-    for place in places.iter_mut() {
-        place.forget_writer();
-    }
-}
-
-/// Leaves a place for each field, for which there is room.
-fn open(places: &mut Vec<Place>)
-    requires room { 10 ≤ vec_capacity places.old }
-    ensures places { places.new.items ≡ opened places.old.items }
-    ensures room { 10 ≤ vec_capacity places.new }
-{
-    if places.is_empty() {
-        open_all(places);
-    }
-}
-
-/// Makes a place for each field, whose part is in the frame.
-fn open_all(places: &mut Vec<Place>)
-    requires none { places.old.items ≡ [] }
-    requires room { 10 ≤ vec_capacity places.old }
-    ensures places { places.new.items ≡ inside_all }
-    ensures room { 10 ≤ vec_capacity places.new }
-{
-    let fields = all_fields();
-    for _field in fields {
-        places.push(Place::Inside).unwrap();
-    }
 }
 
 /// The part of a field that is in the frame, by this writer.

@@ -4,7 +4,7 @@ use crate::contents::Contents;
 use crate::part::Part;
 use crate::rest::Rest;
 use packet_fields::Field;
-use std::alloc::{AllocError, Global};
+use std::alloc::{AllocError, AllocFailed, Global};
 use std::marker::Model;
 
 /// What is held of a packet: its frame, in which the parts are that no branch took out, and those of the
@@ -43,10 +43,14 @@ impl Held {
     pub(crate) fn new(alloc: Global, rest: Rest, taggers: u32) -> Result<Held, AllocError>
         ensures { IfOk result (λ held. held ≡ record { parts = as_list (split_parts taggers rest); frame = rest }) }
     {
-        let places = Vec::with_capacity(alloc, 10)?;
-        Ok(Held {
-            contents: Box::new(alloc, Contents::new(places, rest, taggers))?,
-        })
+        // Not by `?`: the places would be carried along for the error's sake.
+        match Box::new(alloc, Contents::new(rest, taggers)) {
+            Ok(contents) => Ok(Held { contents }),
+            Err(AllocFailed { value }) => {
+                drop(value.into_frame());
+                Err(AllocError)
+            }
+        }
     }
 
     /// There is a place for each field.

@@ -44,6 +44,7 @@ mod laws;
 mod loan;
 mod part;
 mod place;
+mod places;
 mod rejoining;
 mod rest;
 mod tally;

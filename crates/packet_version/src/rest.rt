@@ -113,6 +113,10 @@ impl Rest {
         self.outline.put(field, bytes, &mut self.bytes);
     }
 
+    pub(crate) fn allocator(&self) -> Global {
+        *self.bytes.allocator()
+    }
+
     pub(crate) fn into_bytes(self) -> Vec<u8>
         ensures { result.items ≡ self }
     {

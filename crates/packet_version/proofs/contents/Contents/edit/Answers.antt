@@ -10,16 +10,16 @@ returns c =
     let frame = c.self.inside.rest in
     let writers = c.self.inside.writers in
     let n = c.number-number.result in
-    let b : IsBrought taggers frame writers c.open.new.places.items n (get_or writers n 0) c.args.field c.index_mut.result.now c.bring_out.new.place c.index_mut-place.result.now c.args.self.now = record {
+    let b : IsBrought taggers frame writers c.open.new.self n (get_or writers n 0) c.args.field c.at_mut.result.now c.bring_out.new.place c.at_mut-place.result.now c.args.self.now = record {
       other = c.requires.not_tag;
       number = c.number-number.ensures.number;
       below = c.number-number.ensures.below;
-      ten = ap (λ (ps : List Place). length ps) c.open.ensures.places ∙ c.self.invariant.ten;
+      ten = ap (λ (ps : List Place). length ps) c.open.ensures ∙ c.self.invariant.ten;
       writer = ap (λ (k : ℕ). get_or writers k 0) c.number-number.ensures.number;
-      read = c.index_mut.ensures.value;
+      read = c.at_mut.ensures.value;
       out_is = c.bring_out.ensures;
-      again_is = c.index_mut-place.ensures.value;
-      old_is = opened_held taggers frame writers c.self.inside.places.items c.open.new.places.items c.args.self.now c.open.ensures.places c.self.view_is;
+      again_is = c.at_mut-place.ensures.value;
+      old_is = opened_held taggers frame writers c.self.inside.places c.open.new.self c.args.self.now c.open.ensures c.self.view_is;
       present = c.requires.present;
     } in (
       (refl, λ w. held_left w c.args.writer b),

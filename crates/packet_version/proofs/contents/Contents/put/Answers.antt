@@ -10,7 +10,7 @@ returns c =
     let taggers = c.self.inside.taggers in
     let frame = c.self.inside.rest in
     let writers = c.self.inside.writers in
-    let places = c.open.new.places.items in
+    let places = c.open.new.self in
     held_put taggers frame writers places c.number.result c.args.field (Outside c.args.part) (Some c.args.part) c.args.self.now c.number.ensures.number c.number.ensures.below
-    (ap (λ (ps : List Place). length ps) c.open.ensures.places ∙ c.self.invariant.ten) refl
-    (opened_held taggers frame writers c.self.inside.places.items places c.args.self.now c.open.ensures.places c.self.view_is)
+    (ap (λ (ps : List Place). length ps) c.open.ensures ∙ c.self.invariant.ten) refl
+    (opened_held taggers frame writers c.self.inside.places places c.args.self.now c.open.ensures c.self.view_is)

@@ -1,7 +1,7 @@
 use Rattle.std.proofs.Common.{arith}
 use Rattle.packet_version.specs.Places.{unwritten_place}
 use Rattle.packet_version.proofs.Mapping.{changed_next, changed_all}
-use Rattle.packet_version.proofs.contents.forget_all.Goals as goal
+use Rattle.packet_version.proofs.places.forget_all.Goals as goal
 
 pub loop-place-preserved : goal.loop-place-preserved
 loop-place-preserved c =
