@@ -123,8 +123,12 @@ impl Outline {
         requires { self.now ≡ outline_of frame.now }
         ensures { result ≡ protocol (packet_of frame.now) }
     {
-        let version = self.version?;
-        protocol(packet_in(self, frame), version)
+        let packet = packet_in(self, frame);
+        // By a version that is known where it is compiled, and so are the header's places.
+        match self.version? {
+            IpVersion::V4 => protocol(packet, IpVersion::V4),
+            IpVersion::V6 => protocol(packet, IpVersion::V6),
+        }
     }
 
     /// The length of the IP header and of what stands behind it, in bytes (RFC 791, 3.1; RFC 8200, 3), where it is
@@ -133,8 +137,11 @@ impl Outline {
         requires { self.now ≡ outline_of frame.now }
         ensures { result ≡ total_len (packet_of frame.now) }
     {
-        let version = self.version?;
-        total_len(packet_in(self, frame), version)
+        let packet = packet_in(self, frame);
+        match self.version? {
+            IpVersion::V4 => total_len(packet, IpVersion::V4),
+            IpVersion::V6 => total_len(packet, IpVersion::V6),
+        }
     }
 
     /// The TCP header's byte of control bits (RFC 793, 3.1).

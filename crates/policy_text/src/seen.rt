@@ -36,21 +36,21 @@ pub struct Seen {
 pub fn fits(fit: &Match, seen: &Seen) -> bool
     ensures { result ≡ is_fitting fit.now seen.now }
 {
-    fit.clauses.as_slice().iter().all(|c| is_met(seen, *c))
+    fit.clauses.as_slice().iter().all(|c| is_met(seen, c))
 }
 
-fn is_met(seen: &Seen, clause: Clause) -> bool
-    ensures { result ≡ is_met seen.now clause }
+fn is_met(seen: &Seen, clause: &Clause) -> bool
+    ensures { result ≡ is_met seen.now clause.now }
 {
     match clause {
-        Clause::Src(prefix, bits) => seen.src.map_or(false, |a| is_within(prefix, bits, a)),
-        Clause::Dst(prefix, bits) => seen.dst.map_or(false, |a| is_within(prefix, bits, a)),
-        Clause::Src6(prefix, bits) => seen.src6.map_or(false, |a| is_within6(prefix, bits, a)),
-        Clause::Dst6(prefix, bits) => seen.dst6.map_or(false, |a| is_within6(prefix, bits, a)),
-        Clause::Sport(low, high) => seen.sport.map_or(false, |p| is_between(low, high, p)),
-        Clause::Dport(low, high) => seen.dport.map_or(false, |p| is_between(low, high, p)),
-        Clause::Proto(protocol) => seen.proto.map_or(false, |p| p == protocol),
-        Clause::TagId(id) => has_id(id, seen.tag),
+        Clause::Src(prefix, bits) => seen.src.map_or(false, |a| is_within(*prefix, *bits, a)),
+        Clause::Dst(prefix, bits) => seen.dst.map_or(false, |a| is_within(*prefix, *bits, a)),
+        Clause::Src6(prefix, bits) => seen.src6.map_or(false, |a| is_within6(*prefix, *bits, a)),
+        Clause::Dst6(prefix, bits) => seen.dst6.map_or(false, |a| is_within6(*prefix, *bits, a)),
+        Clause::Sport(low, high) => seen.sport.map_or(false, |p| is_between(*low, *high, p)),
+        Clause::Dport(low, high) => seen.dport.map_or(false, |p| is_between(*low, *high, p)),
+        Clause::Proto(protocol) => seen.proto.map_or(false, |p| p == *protocol),
+        Clause::TagId(id) => has_id(*id, seen.tag),
         Clause::NoTag => is_bare(seen.tag),
     }
 }
