@@ -74,6 +74,13 @@ impl<R: Fitting + Drop> FitRules<R> {
         Ok(FitRules { rules, asked })
     }
 
+    /// The rules, in their order.
+    pub fn as_slice(&self) -> &[R]
+        ensures { result.now ≡ self.now }
+    {
+        self.rules.as_slice()
+    }
+
     /// Which values some rule asks for. Where a packet is seen with these alone, the same rule is met.
     #[tactic(auto, using(crate::proofs::EnoughSeen::same_first_met))]
     pub fn asked(&self) -> Asked

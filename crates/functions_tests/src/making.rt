@@ -23,11 +23,12 @@ fn a_firewall_is_made_of_its_lines(rt: HostRuntime) {
     assert!(rt; is_firewall(&made));
 }
 
-// Denies what its rules don't say anything of. The first of two rules has two clauses, and the second none.
+// Denies what its rules don't say anything of. It has two rules: the first has two clauses, and the second none.
 fn is_firewall(made: &NetFunction) -> bool {
     match made {
         NetFunction::Firewall(firewall) => {
             !firewall.default
+                && firewall.rules.as_slice().len() == 2
                 && is_met(&firewall.rules, &NAME_QUERY, true, 2)
                 && is_met(&firewall.rules, &FOREIGN, false, 0)
         }
