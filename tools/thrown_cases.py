@@ -420,7 +420,7 @@ def put_in(data, place, size, value, order):
 
 def head_field(rng, data):
     place, size = rng.choice([(0, 4), (4, 2), (6, 2), (8, 4), (12, 4), (16, 4), (20, 4)])
-    value = rng.choice([*ENDS, frames.MICRO, frames.NANO, 0xA1B2CD34, 0x0A0D0D0A, 113, 276]) % 256**size
+    value = rng.choice([*ENDS, frames.MICRO, frames.NANO, 0xA1B2CD34, 113, 276]) % 256**size
     return put_in(data, place, size, value, rng.choice([order_of(data), '<', '>']))
 
 

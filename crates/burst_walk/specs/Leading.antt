@@ -33,9 +33,9 @@ pub record IsClassed (fits : List Match) (item : Item) : Type 0 where
   pub class : item.class ≡ class_of fits item.packet.frame
   pub short : IsShort item.packet
 
--- a frame that can be written as a record
+-- a frame that can be written as a record of any format: it is far shorter than its numbers may tell
 abbrev pub IsWritable : Fate → Type 0
-IsWritable (Out frame) = length frame < 2 ^ 32
+IsWritable (Out frame) = length frame < 2 ^ 22
 IsWritable (Gone position) = Unit {0}
 
 -- The chain with this number led its packets among these, and stays the chain that it is.

@@ -7,7 +7,6 @@ use Rattle.std.specs.Fmt.{decimal}
 use Rattle.std.specs.Str.{bytes_eq}
 use Rattle.packet_fields.specs.Fields.{name_of}
 use Rattle.packet_fields.specs.declared.field.Field.{Field}
-use Rattle.pcap_io.specs.declared.capture.CaptureFault.{CaptureFault}
 use Rattle.capture_bytes.specs.declared.packet.PcapRecord.{PcapRecord}
 use Rattle.capture_bytes.specs.declared.packet.Unit.{Unit as TimeUnit}
 use Rattle.action_profile.specs.FieldSets.{all_fields}
@@ -24,7 +23,8 @@ use Rattle.chain_service.specs.NamedFunctions.{named_lines, names_of}
 use Rattle.chain_service.specs.Services.{Chains, stages_of}
 use Rattle.chain_service.specs.declared.named.NamedFunction.{NamedFunction}
 use Rattle.burst_walk.specs.Fates.{all_classed, chains_behind, fates_of}
-use Rattle.capture_report.specs.FaultLines.{capture_text}
+use Rattle.capture_report.specs.FaultLines.{fault_text}
+use Rattle.capture_report.specs.declared.fault.FormatFault.{FormatFault}
 
 abbrev pub title : List ℕ
 title = codes "nfp report 1\n"
@@ -99,12 +99,12 @@ unfoldable pub chain_lines : ChainPolicy → List NamedFunction → List ℕ
 chain_lines chain functions = flat_map (function_lines chain.name functions) chain.functions
 
 -- the last line: the end, or the fault that the capture ends with
-unfoldable pub last_line : Option CaptureFault → List ℕ
+unfoldable pub last_line : Option FormatFault → List ℕ
 last_line None = codes "end\n"
-last_line (Some fault) = codes "fault " ++ capture_text fault
+last_line (Some fault) = codes "fault " ++ fault_text fault
 
 -- what stands behind the lines of the dropped packets, with the functions as the last packet left them
-unfoldable pub summary : Chains → ℕ → ℕ → (ℕ → Field → ℕ) → Option CaptureFault → List ℕ
+unfoldable pub summary : Chains → ℕ → ℕ → (ℕ → Field → ℕ) → Option FormatFault → List ℕ
 summary chains records dropped copies fault =
     total_line records dropped
     ++ (flat_map (λ x. copies_lines x.1.name (copies x.0)) (enumerate_from 0 chains.declared)
@@ -112,10 +112,10 @@ summary chains records dropped copies fault =
     ++ last_line fault))
 
 -- the report of packets that end so, by the chains as they were before the first packet and behind the last
-unfoldable pub report_bytes : Chains → Chains → List Classed → List Fate → Option CaptureFault → List ℕ
+unfoldable pub report_bytes : Chains → Chains → List Classed → List Fate → Option FormatFault → List ℕ
 report_bytes chains last packets fates fault =
     title ++ drop_lines (names_among chains) 1 (map (λ x. x.class) packets) fates ++ summary last (length fates) (count_by is_gone fates) (copies_due chains.functions packets fates) fault
 
 -- the report of records that go through these chains
-abbrev pub report_of : Chains → TimeUnit → List PcapRecord → Option CaptureFault → List ℕ
+abbrev pub report_of : Chains → TimeUnit → List PcapRecord → Option FormatFault → List ℕ
 report_of chains unit records fault = report_bytes chains (chains_behind chains unit records) (all_classed chains.declared unit records) (fates_of chains unit records) fault

@@ -1,6 +1,6 @@
 //! How a run ended.
 
-use pcap_io::CaptureFault;
+use crate::fault::FormatFault;
 
 /// How many records were read, and how many of their packets were dropped.
 #[derive(Clone, Copy, Debug, PartialEq, Eq)]
@@ -13,5 +13,5 @@ pub struct Totals {
 #[derive(Clone, Copy, Debug, PartialEq, Eq)]
 pub struct Ended {
     pub totals: Totals,
-    pub fault: Option<CaptureFault>,
+    pub fault: Option<FormatFault>,
 }

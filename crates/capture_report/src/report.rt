@@ -8,14 +8,14 @@ ghost use Rattle.capture_report.specs.Report.{dropped_by, drop_text, drop_line, 
 ghost use Rattle.capture_report.specs.Telling.{names_in};
 
 use crate::ended::Totals;
-use crate::lines::{capture_line, totals_line};
+use crate::fault::FormatFault;
+use crate::lines::{fault_line, totals_line};
 use action_profile::all_fields;
 use chain_service::ServiceChain;
 use chain_walk::Fate;
 use classifier::Item;
 use packet_fields::Field;
 use packet_version::Tally;
-use pcap_io::CaptureFault;
 use policy_text::FunctionDecl;
 use std::alloc::{AllocError, Global};
 use text_lines::Piece::{Number, Text};
@@ -152,14 +152,14 @@ pub fn push_totals_line(alloc: Global, text: &mut Vec<u8>, totals: Totals) -> Re
 pub fn push_last_line(
     alloc: Global,
     text: &mut Vec<u8>,
-    fault: Option<CaptureFault>,
+    fault: Option<FormatFault>,
 ) -> Result<(), AllocError>
     ensures { OnOk result (text.new.items ≡ text.old.items ++ last_line fault) }
 {
     match fault {
         None => text.extend_from_slice(b"end\n".as_slice()),
         Some(fault) => {
-            let line = capture_line(alloc, fault)?;
+            let line = fault_line(alloc, fault)?;
             push_pieces(alloc, text, &[Text(b"fault "), Text(&line)])
         }
     }

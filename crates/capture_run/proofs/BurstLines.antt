@@ -1,25 +1,26 @@
 -- What is put of a burst is what comes next of its records.
-use Rattle.std.proofs.Common.{◌≡◌, ◌∙◌, ℕ, List, [], length, map, refl, ap}
+use Rattle.std.proofs.Common.{◌≡◌, ◌∙◌, ℕ, List, [], length, map, refl, ap, sym, subst}
 use Rattle.std.specs.Prelude.{Option}
 use Rattle.std.proofs.lemmas.List.{length-map}
 use Rattle.nfp_outside.specs.declared.slot.Slot.{Slot}
 use Rattle.nfp_outside.specs.Outside.{SlotView}
-use Rattle.capture_bytes.specs.declared.packet.PcapRecord.{PcapRecord}
 use Rattle.chain_walk.specs.declared.walk.Fate.{Fate}
 use Rattle.service_walk.specs.Service.{Classed}
 use Rattle.classifier.specs.declared.burst.Item.{Item}
 use Rattle.chain_service.specs.Opening.{chains_of}
 use Rattle.chain_service.specs.declared.service.ServiceChain.{ServiceChain}
-use Rattle.capture_run.specs.Emitted.{emitted_all}
 use Rattle.burst_walk.specs.Leading.{LeadsEach, all_ended, records_of}
-use Rattle.capture_run.specs.Passing.{PassBreaks, fates_next, lines_next, next_number, out_next, packets_next}
+use Rattle.capture_run.specs.Passing.{Advances, PassBreaks, fates_next, lines_next, next_number, out_next, packets_next}
 use Rattle.capture_report.specs.Report.{drop_lines, names_among}
 use Rattle.capture_run.specs.Slots.{Breaks, Puts}
+use Rattle.capture_run.specs.Streams.{emitted_among, held_in, records_in}
 use Rattle.capture_run.specs.declared.fault.RunFault.{RunFault}
+use Rattle.capture_run.specs.declared.given.Given.{Given}
 use Rattle.capture_run.specs.declared.passage.Passage.{Passage}
 use Rattle.capture_run.specs.Putting.{breaks_is, puts_is}
 use Rattle.capture_run.proofs.Following.{each_names}
 use Rattle.capture_run.proofs.Passing.{records_refused}
+use Rattle.capture_run.proofs.Streaming.{records_held}
 use Rattle.capture_run.proofs.Walking.{length-fates_of}
 
 -- the lines that are made are those that come next
@@ -38,14 +39,27 @@ pub ended_many : {W : Type 0} (p : Passage W) (items items' : List Item) (fates 
 ended_many p items items' fates fates' same same_fates end =
     ap length ((λ i. all_ended (same i) (same_fates i)) ∙ end) ∙ length-fates_of (chains_of p.service.chains) p.unit (records_of items) ∙ length-map items (λ i. i.packet)
 
--- the records that were put are those that come next
-pub puts_records : {W : Type 0} (spelled : W → PcapRecord → List ℕ) (p : Passage W) (items items' : List Item) (fates : List (Option Fate)) (old new : Slot → SlotView) → all_ended items fates ≡ fates_next p (records_of items) → items' ≡ items →
-    Puts (emitted_all (spelled p.writer) (records_of items') (all_ended items' fates)) [] old new → Puts (out_next spelled p (records_of items)) [] old new
-puts_records spelled p items items' fates old new end same puts =
-    puts_is _ _ [] [] old new (λ i. emitted_all (spelled p.writer) (records_of (same i)) ((ap (λ l. all_ended l fates) same ∙ end) i)) refl puts
+-- what was put of a burst is what comes next
+out_is : {W X B : Type 0} (spelled : W → Given X B → List ℕ) (p : Passage W) (items items' : List Item) (beside beside' : List X) (fates : List (Option Fate)) → length beside ≡ length items → all_ended items fates ≡ fates_next p (records_of items) → items' ≡ items → beside' ≡ beside →
+    emitted_among (spelled p.writer) (held_in items' beside') (all_ended items' fates) ≡ out_next spelled p (held_in items beside)
+out_is {B = B} spelled p items items' beside beside' fates many end same same_beside =
+    (λ i. emitted_among (spelled p.writer) (held_in (same i) (same_beside i)) (all_ended (same i) fates))
+    ∙ ap (emitted_among (spelled p.writer) (held_in items beside)) (end ∙ ap (fates_next p) (sym (records_held B items beside many)))
 
-pub breaks_records : {W : Type 0} (spelled : W → PcapRecord → List ℕ) (p : Passage W) (items items' : List Item) (fates : List (Option Fate)) (old new : Slot → SlotView) (e : RunFault) → all_ended items fates ≡ fates_next p (records_of items) → items' ≡ items →
-    Breaks (emitted_all (spelled p.writer) (records_of items') (all_ended items' fates)) [] old new e → PassBreaks spelled (records_of items) p old new e
-breaks_records spelled p items items' fates old new e end same broken =
-    records_refused (out_next spelled p (records_of items)) (lines_next p (records_of items)) old new e
-    (breaks_is _ _ [] [] old new e (λ i. emitted_all (spelled p.writer) (records_of (same i)) ((ap (λ l. all_ended l fates) same ∙ end) i)) refl broken)
+pub puts_records : {W X B : Type 0} (spelled : W → Given X B → List ℕ) (p : Passage W) (items items' : List Item) (beside beside' : List X) (fates : List (Option Fate)) (old new : Slot → SlotView) → length beside ≡ length items → all_ended items fates ≡ fates_next p (records_of items) → items' ≡ items → beside' ≡ beside →
+    Puts (emitted_among (spelled p.writer) (held_in items' beside') (all_ended items' fates)) [] old new → Puts (out_next spelled p (held_in items beside)) [] old new
+puts_records spelled p items items' beside beside' fates old new many end same same_beside puts = puts_is _ _ [] [] old new (out_is spelled p items items' beside beside' fates many end same same_beside) refl puts
+
+pub breaks_records : {W X B : Type 0} (spelled : W → Given X B → List ℕ) (p : Passage W) (items items' : List Item) (beside beside' : List X) (fates : List (Option Fate)) (old new : Slot → SlotView) (e : RunFault) → length beside ≡ length items → all_ended items fates ≡ fates_next p (records_of items) → items' ≡ items → beside' ≡ beside →
+    Breaks (emitted_among (spelled p.writer) (held_in items' beside') (all_ended items' fates)) [] old new e → PassBreaks spelled (held_in items beside) p old new e
+breaks_records {B = B} spelled p items items' beside beside' fates old new e many end same same_beside broken =
+    records_refused (out_next spelled p (held_in items beside)) (lines_next p (records_in {B = B} (held_in items beside))) old new e
+    (breaks_is _ _ [] [] old new e (out_is spelled p items items' beside beside' fates many end same same_beside) refl broken)
+
+-- the lines of a burst are those of what is held
+pub lines_held : {W X : Type 0} (B : Type 0) (p : Passage W) (items : List Item) (beside : List X) → length beside ≡ length items → lines_next p (records_of items) ≡ lines_next p (records_in {X = X} {B = B} (held_in items beside))
+lines_held B p items beside many = ap (lines_next p) (sym (records_held B items beside many))
+
+-- what went through the chains is what is held
+pub advances_held : {W X B : Type 0} (spelled : W → Given X B → List ℕ) (p after : Passage W) (items : List Item) (beside : List X) → length beside ≡ length items → Advances spelled (records_of items) p after → Advances spelled (records_in {B = B} (held_in items beside)) p after
+advances_held {B = B} spelled p after items beside many went = subst (λ l. Advances spelled l p after) (sym (records_held B items beside many)) went

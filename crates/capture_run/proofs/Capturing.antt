@@ -3,8 +3,6 @@ use Rattle.std.proofs.Common.{◌≡◌, ◌∙◌, ℕ, List, [], length, refl,
 use Rattle.std.specs.Prelude.{count_by, Option}
 use Rattle.nfp_outside.specs.declared.slot.Slot.{Slot}
 use Rattle.nfp_outside.specs.Outside.{SlotView}
-use Rattle.pcap_io.specs.Capture.{Body}
-use Rattle.pcap_io.specs.declared.capture.CaptureFault.{CaptureFault}
 use Rattle.capture_bytes.specs.declared.packet.PcapRecord.{PcapRecord}
 use Rattle.capture_bytes.specs.declared.packet.Unit.{Unit as TimeUnit}
 use Rattle.chain_walk.specs.Packets.{fates}
@@ -16,14 +14,16 @@ use Rattle.chain_service.specs.Opening.{IsOpening, chains_of}
 use Rattle.chain_service.specs.Services.{Chains}
 use Rattle.chain_service.specs.declared.service.Service.{Service}
 use Rattle.burst_walk.specs.Fates.{all_classed, fates_of}
-use Rattle.capture_run.specs.Emitted.{emitted_all}
 use Rattle.capture_run.specs.Passing.{IsFresh}
 use Rattle.capture_report.specs.Report.{copies_due, is_gone, summary, title}
-use Rattle.capture_run.specs.Running.{Goes, PassesBody, RunBreaks, RunsAll, WriteBreaks, WritesAll}
+use Rattle.capture_run.specs.Running.{Goes, PassesStream, RunBreaks, RunsAll, WriteBreaks, WritesAll, fates_given}
 use Rattle.capture_run.specs.Slots.{Breaks, Puts}
 use Rattle.capture_report.specs.Telling.{told_text}
 use Rattle.capture_report.specs.declared.ended.Ended.{Ended}
+use Rattle.capture_report.specs.declared.fault.FormatFault.{FormatFault}
+use Rattle.capture_run.specs.Streams.{Stream, emitted_among, records_in}
 use Rattle.capture_run.specs.declared.fault.RunFault.{RunFault}
+use Rattle.capture_run.specs.declared.given.Given.{Given}
 use Rattle.capture_run.specs.declared.passage.Passage.{Passage}
 use Rattle.capture_run.specs.Putting.{earlier_cause, later_more}
 use Rattle.capture_run.proofs.Running.{broken_goes, for_each, goes_by, if_some}
@@ -51,57 +51,57 @@ unfolding fates_of
 walks_apart service law = λ unit records chain. law named_behaviour (chains_of service.chains).functions (all_classed (chains_of service.chains).declared unit records) chain
 
 -- how a run ended
-abbrev pub ended_so : {W : Type 0} → Passage W × Option CaptureFault → Ended
+abbrev pub ended_so : {W : Type 0} → Passage W × Option FormatFault → Ended
 ended_so run = record { totals = run.0.totals; fault = run.1 }
 
 -- what is told behind the lines is what is due
-told_due : {W : Type 0} (spelled : W → PcapRecord → List ℕ) (service : Service) (unit : TimeUnit) (sink : W) (run : Passage W × Option CaptureFault) (old new : Slot → SlotView) (b : Body) → IsOpening service → WalksApart service →
-    PassesBody spelled (started service unit sink) run.0 run.1 old new b → told_text run.0.service.chains (ended_so run) ≡ summary_due (chains_of service.chains) unit b.records b.fault
+told_due : {W X B : Type 0} (spelled : W → Given X B → List ℕ) (service : Service) (unit : TimeUnit) (sink : W) (run : Passage W × Option FormatFault) (old new : Slot → SlotView) (b : Stream X B) → IsOpening service → WalksApart service →
+    PassesStream spelled (started service unit sink) run.0 run.1 old new b → told_text run.0.service.chains (ended_so run) ≡ summary_due (chains_of service.chains) unit (records_in b.given) b.fault
 told_due spelled service unit sink run old new b opening apart passed =
     let went = passed.passes.advances in
     let chains = chains_of service.chains in
-    let ended = fates_of chains unit b.records in
-    let packets = all_classed chains.declared unit b.records in
-    let read : run.0.totals.records ≡ length ended = let e = length-fates_of chains unit b.records in let r = went.read in omega arith in
+    let ended = fates_of chains unit (records_in b.given) in
+    let packets = all_classed chains.declared unit (records_in b.given) in
+    let read : run.0.totals.records ≡ length ended = let e = length-fates_of chains unit (records_in b.given) in let r = went.read in omega arith in
     let dropped : run.0.totals.dropped ≡ count_by is_gone ended = let r = went.dropped in omega arith in
-    summary_told packets ended service.chains run.0.service.chains (ended_so run) went.led opening.chains (apart unit b.records)
+    summary_told packets ended service.chains run.0.service.chains (ended_so run) went.led opening.chains (apart unit (records_in b.given))
     ∙ (λ i. summary (went.chains i) (read i) (dropped i) (copies_due chains.functions packets ended) (passed.fault_is i))
 
-pub breaks_at_title : (spelled : PcapRecord → List ℕ) (chains : Chains) (unit : TimeUnit) (body : Option Body) (old new : Slot → SlotView) (e : RunFault) → Breaks [] title old new e → WriteBreaks spelled chains unit body old new e
-breaks_at_title spelled chains unit body old new e refused = record {
+pub breaks_at_title : {X B : Type 0} (spelled : Given X B → List ℕ) (chains : Chains) (unit : TimeUnit) (stream : Option (Stream X B)) (old new : Slot → SlotView) (e : RunFault) → Breaks [] title old new e → WriteBreaks spelled chains unit stream old new e
+breaks_at_title spelled chains unit stream old new e refused = record {
   goes = broken_goes _ _ old new e refused;
   cause = refused.cause;
-  prefixes = for_each body _ (λ b. (title_refused (emitted_all spelled b.records (fates_of chains unit b.records)) chains unit b.records b.fault old new e refused).prefixes);
+  prefixes = for_each stream _ (λ b. (title_refused (emitted_among spelled b.given (fates_given chains unit b)) chains unit (records_in b.given) b.fault old new e refused).prefixes);
 }
 
-pub breaks_at_records : {W : Type 0} (spelled : W → PcapRecord → List ℕ) (service : Service) (unit : TimeUnit) (sink : W) (body : Option Body) (old mid new : Slot → SlotView) (e : RunFault) →
-    Puts [] title old mid → RunBreaks spelled (started service unit sink) body mid new e → WriteBreaks (spelled sink) (chains_of service.chains) unit body old new e
-breaks_at_records spelled service unit sink body old mid new e first broken = record {
+pub breaks_at_records : {W X B : Type 0} (spelled : W → Given X B → List ℕ) (service : Service) (unit : TimeUnit) (sink : W) (stream : Option (Stream X B)) (old mid new : Slot → SlotView) (e : RunFault) →
+    Puts [] title old mid → RunBreaks spelled (started service unit sink) stream mid new e → WriteBreaks (spelled sink) (chains_of service.chains) unit stream old new e
+breaks_at_records spelled service unit sink stream old mid new e first broken = record {
   goes = goes_more old mid new (goes_by _ _ old mid first) broken.goes;
   cause = earlier_cause old mid new e first.later broken.cause;
-  prefixes = if_some body _ _ (λ b x. (records_refused _ (chains_of service.chains) unit b.records b.fault old mid new e first (record { prefixes = x; cause = broken.cause })).prefixes) broken.prefixes;
+  prefixes = if_some stream _ _ (λ b x. (records_refused _ (chains_of service.chains) unit (records_in b.given) b.fault old mid new e first (record { prefixes = x; cause = broken.cause })).prefixes) broken.prefixes;
 }
 
-pub breaks_at_summary : {W : Type 0} (spelled : W → PcapRecord → List ℕ) (service : Service) (unit : TimeUnit) (sink : W) (run : Passage W × Option CaptureFault) (body : Option Body) (old mid now new : Slot → SlotView) (e : RunFault) → IsOpening service → WalksApart service →
-    Puts [] title old mid → RunsAll spelled (started service unit sink) body mid now run → Breaks [] (told_text run.0.service.chains (ended_so run)) now new e → WriteBreaks (spelled sink) (chains_of service.chains) unit body old new e
-breaks_at_summary spelled service unit sink run body old mid now new e opening apart first ran refused = record {
+pub breaks_at_summary : {W X B : Type 0} (spelled : W → Given X B → List ℕ) (service : Service) (unit : TimeUnit) (sink : W) (run : Passage W × Option FormatFault) (stream : Option (Stream X B)) (old mid now new : Slot → SlotView) (e : RunFault) → IsOpening service → WalksApart service →
+    Puts [] title old mid → RunsAll spelled (started service unit sink) stream mid now run → Breaks [] (told_text run.0.service.chains (ended_so run)) now new e → WriteBreaks (spelled sink) (chains_of service.chains) unit stream old new e
+breaks_at_summary spelled service unit sink run stream old mid now new e opening apart first ran refused = record {
   goes = goes_more old mid new (goes_by _ _ old mid first) (goes_more mid now new ran.goes (broken_goes _ _ now new e refused));
   cause = earlier_cause old now new e (later_more old mid now first.later ran.goes.later) refused.cause;
-  prefixes = if_some body _ _ (λ b passed. (text_refused _ (chains_of service.chains) unit b.records b.fault old mid now new e first passed.passes.puts
+  prefixes = if_some stream _ _ (λ b passed. (text_refused _ (chains_of service.chains) unit (records_in b.given) b.fault old mid now new e first passed.passes.puts
       (subst (λ t. Breaks [] t now new e) (told_due spelled service unit sink run mid now b opening apart passed) refused)).prefixes) ran.passed;
 }
 
-pub writes_all : {W : Type 0} (spelled : W → PcapRecord → List ℕ) (service : Service) (unit : TimeUnit) (sink : W) (run : Passage W × Option CaptureFault) (body : Option Body) (old mid now new : Slot → SlotView) → IsOpening service → WalksApart service →
-    Puts [] title old mid → RunsAll spelled (started service unit sink) body mid now run → Puts [] (told_text run.0.service.chains (ended_so run)) now new → WritesAll (spelled sink) (chains_of service.chains) unit body old new (ended_so run)
-writes_all spelled service unit sink run body old mid now new opening apart first ran last = record {
+pub writes_all : {W X B : Type 0} (spelled : W → Given X B → List ℕ) (service : Service) (unit : TimeUnit) (sink : W) (run : Passage W × Option FormatFault) (stream : Option (Stream X B)) (old mid now new : Slot → SlotView) → IsOpening service → WalksApart service →
+    Puts [] title old mid → RunsAll spelled (started service unit sink) stream mid now run → Puts [] (told_text run.0.service.chains (ended_so run)) now new → WritesAll (spelled sink) (chains_of service.chains) unit stream old new (ended_so run)
+writes_all spelled service unit sink run stream old mid now new opening apart first ran last = record {
   goes = goes_more old mid new (goes_by _ _ old mid first) (goes_more mid now new ran.goes (goes_by _ _ now new last));
   within = ran.within;
   kind = ran.kind;
-  counts = if_some body _ _ (λ b passed. record {
-    read = let e = length-fates_of (chains_of service.chains) unit b.records in let r = passed.passes.advances.read in omega arith;
+  counts = if_some stream _ _ (λ b passed. record {
+    read = let e = length-fates_of (chains_of service.chains) unit (records_in b.given) in let r = passed.passes.advances.read in omega arith;
     dropped = let r = passed.passes.advances.dropped in omega arith;
     fault = passed.fault_is;
   }) ran.passed;
-  puts = if_some body _ _ (λ b passed. all_put _ (chains_of service.chains) unit b.records b.fault old mid now new first passed.passes.puts
+  puts = if_some stream _ _ (λ b passed. all_put _ (chains_of service.chains) unit (records_in b.given) b.fault old mid now new first passed.passes.puts
       (subst (λ t. Puts [] t now new) (told_due spelled service unit sink run mid now b opening apart passed) last)) ran.passed;
 }

@@ -9,6 +9,7 @@ pub mod Passing
 pub mod Refusing
 pub mod Running
 pub mod Sealing
+pub mod Streaming
 pub mod Telling
 pub mod Turns
 pub mod Walking

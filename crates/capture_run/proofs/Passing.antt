@@ -1,5 +1,5 @@
 -- Bursts in a row pass as their packets in a row.
-use Rattle.std.proofs.Common.{◌≡◌, ◌+◌, ◌∙◌, ℕ, List, [], ◌++◌, length, map, refl, ap, sym, subst, length-append, arith}
+use Rattle.std.proofs.Common.{◌≡◌, ◌+◌, ◌∙◌, ℕ, List, [], ◌∷◌, ◌++◌, length, map, refl, ap, sym, subst, length-append, arith}
 use Rattle.std.specs.Prelude.{count_by, Option}
 use Rattle.std.proofs.lemmas.List.{append-nil, map-append, length-map}
 use Rattle.nfp_outside.specs.declared.slot.Slot.{Slot}
@@ -7,16 +7,19 @@ use Rattle.nfp_outside.specs.Outside.{SlotView}
 use Rattle.capture_bytes.specs.declared.packet.PcapRecord.{PcapRecord}
 use Rattle.service_walk.specs.Service.{Classed}
 use Rattle.burst_walk.specs.Fates.{all_classed, chains_behind, fates_of}
-use Rattle.capture_run.specs.Emitted.{emitted_all}
 use Rattle.burst_walk.specs.Leading.{LeadsEach}
 use Rattle.capture_run.specs.Passing.{Advances, IsTold, PassBreaks, Passes, chains_in, fates_next, lines_next, next_number, out_next, packets_next}
 use Rattle.capture_report.specs.Report.{drop_lines, is_gone, names_among}
 use Rattle.capture_run.specs.Slots.{Breaks, Puts}
+use Rattle.capture_run.specs.Streams.{emitted_among, records_in}
 use Rattle.capture_run.specs.declared.fault.RunFault.{RunFault}
+use Rattle.capture_run.specs.declared.given.Given.{Given}
+use Rattle.capture_run.specs.declared.given.Given.TheVariants.{Block}
 use Rattle.capture_run.specs.declared.passage.Passage.{Passage}
 use Rattle.capture_run.specs.Putting.{breaks_is, breaks_longer, breaks_more, puts_is, puts_more, puts_none}
 use Rattle.capture_run.proofs.Following.{each_fits, each_more, each_names, each_none}
-use Rattle.capture_run.proofs.Listing.{emitted-append, gone-append, lines-append, no_lines, none_emitted}
+use Rattle.capture_run.proofs.Listing.{gone-append, lines-append, no_lines}
+use Rattle.capture_run.proofs.Streaming.{among-append, none_among, records-append}
 use Rattle.capture_run.proofs.Walking.{chains_behind-append, classed-append, declared_behind, fates_of-append, length-fates_of, no_fates, none_behind}
 
 -- the chain of each packet
@@ -26,47 +29,67 @@ classes_of xs = map (λ x. x.class) xs
 none_next : {W : Type 0} (p : Passage W) → fates_next p [] ≡ []
 none_next p = no_fates (chains_in p) p.unit
 
-pub passes_none : {W : Type 0} (spelled : W → PcapRecord → List ℕ) (p : Passage W) (old : Slot → SlotView) → Passes spelled [] p p old old
-passes_none spelled p old = record {
-  advances = record {
-    same_classes = refl;
-    same_unit = refl;
-    same_spelling = refl;
-    led = each_none 0 p.service.chains;
-    chains = sym (none_behind (chains_in p) p.unit);
-    read = omega arith;
-    dropped = let e : count_by is_gone (fates_next p []) ≡ 0 = ap (count_by is_gone) (none_next p) in omega arith;
-  };
-  puts = puts_is [] _ [] _ old old
-      (sym (ap (emitted_all (spelled p.writer) []) (none_next p) ∙ none_emitted (spelled p.writer)))
-      (sym (ap (drop_lines (names_among (chains_in p)) (next_number p) []) (none_next p) ∙ no_lines (names_among (chains_in p)) (next_number p)))
-      (puts_none old);
+-- no packet went through the chains, and the writer may have written
+pub advances_none : {W X B : Type 0} (spelled : W → Given X B → List ℕ) (p : Passage W) (w : W) → spelled w ≡ spelled p.writer → Advances spelled [] p (record p { writer = w })
+advances_none spelled p w same = record {
+  same_classes = refl;
+  same_unit = refl;
+  same_spelling = same;
+  led = each_none 0 p.service.chains;
+  chains = sym (none_behind (chains_in p) p.unit);
+  read = omega arith;
+  dropped = let e : count_by is_gone (fates_next p []) ≡ 0 = ap (count_by is_gone) (none_next p) in omega arith;
 }
 
-same_declared : {W : Type 0} (spelled : W → PcapRecord → List ℕ) (xs : List PcapRecord) (a b : Passage W) → Advances spelled xs a b → (chains_in b).declared ≡ (chains_in a).declared
+-- no packet has no line
+no_lines_next : {W : Type 0} (p : Passage W) → lines_next p [] ≡ []
+no_lines_next p = ap (drop_lines (names_among (chains_in p)) (next_number p) []) (none_next p) ∙ no_lines (names_among (chains_in p)) (next_number p)
+
+pub passes_none : {W X B : Type 0} (spelled : W → Given X B → List ℕ) (p : Passage W) (old : Slot → SlotView) → Passes spelled [] p p old old
+passes_none spelled p old = record {
+  advances = advances_none spelled p p.writer refl;
+  puts = puts_is [] _ [] _ old old (sym (none_among (spelled p.writer) (fates_next p []))) (sym (no_lines_next p)) (puts_none old);
+}
+
+-- a block that is no packet was put
+pub passes_block : {W X B : Type 0} (spelled : W → Given X B → List ℕ) (p : Passage W) (w : W) (b : B) (old new : Slot → SlotView) → spelled w ≡ spelled p.writer → Puts (spelled p.writer (Block b)) [] old new →
+    Passes spelled (Block b ∷ []) p (record p { writer = w }) old new
+unfolding emitted_among
+passes_block spelled p w b old new same puts = record {
+  advances = advances_none spelled p w same;
+  puts = puts_is _ _ [] _ old new (sym (append-nil (spelled p.writer (Block b)))) (sym (no_lines_next p)) puts;
+}
+
+pub breaks_block : {W X B : Type 0} (spelled : W → Given X B → List ℕ) (p : Passage W) (b : B) (old new : Slot → SlotView) (e : RunFault) → Breaks (spelled p.writer (Block b)) [] old new e → PassBreaks spelled (Block b ∷ []) p old new e
+unfolding emitted_among
+breaks_block spelled p b old new e broken = breaks_is _ _ [] _ old new e (sym (append-nil (spelled p.writer (Block b)))) (sym (no_lines_next p)) broken
+
+same_declared : {W X B : Type 0} (spelled : W → Given X B → List ℕ) (xs : List PcapRecord) (a b : Passage W) → Advances spelled xs a b → (chains_in b).declared ≡ (chains_in a).declared
 same_declared spelled xs a b went = ap (λ c. c.declared) went.chains ∙ declared_behind (chains_in a) a.unit xs
 
 -- more packets are told apart as before
-packets_behind : {W : Type 0} (spelled : W → PcapRecord → List ℕ) (xs ys : List PcapRecord) (a b : Passage W) → Advances spelled xs a b → packets_next b ys ≡ packets_next a ys
+packets_behind : {W X B : Type 0} (spelled : W → Given X B → List ℕ) (xs ys : List PcapRecord) (a b : Passage W) → Advances spelled xs a b → packets_next b ys ≡ packets_next a ys
 packets_behind spelled xs ys a b went = λ i. all_classed (same_declared spelled xs a b went i) (went.same_unit i) ys
 
-packets_more : {W : Type 0} (spelled : W → PcapRecord → List ℕ) (xs ys : List PcapRecord) (a b : Passage W) → Advances spelled xs a b → packets_next a (xs ++ ys) ≡ packets_next a xs ++ packets_next b ys
+packets_more : {W X B : Type 0} (spelled : W → Given X B → List ℕ) (xs ys : List PcapRecord) (a b : Passage W) → Advances spelled xs a b → packets_next a (xs ++ ys) ≡ packets_next a xs ++ packets_next b ys
 packets_more spelled xs ys a b went = classed-append (chains_in a).declared a.unit xs ys ∙ ap (λ l. packets_next a xs ++ l) (sym (packets_behind spelled xs ys a b went))
 
 -- what comes behind these records is what comes next where they passed
-fates_more : {W : Type 0} (spelled : W → PcapRecord → List ℕ) (xs ys : List PcapRecord) (a b : Passage W) → Advances spelled xs a b → fates_next a (xs ++ ys) ≡ fates_next a xs ++ fates_next b ys
+fates_more : {W X B : Type 0} (spelled : W → Given X B → List ℕ) (xs ys : List PcapRecord) (a b : Passage W) → Advances spelled xs a b → fates_next a (xs ++ ys) ≡ fates_next a xs ++ fates_next b ys
 fates_more spelled xs ys a b went = fates_of-append (chains_in a) a.unit xs ys ∙ ap (λ l. fates_next a xs ++ l) (λ i. fates_of (sym went.chains i) (sym went.same_unit i) ys)
 
-out_more : {W : Type 0} (spelled : W → PcapRecord → List ℕ) (xs ys : List PcapRecord) (a b : Passage W) → Advances spelled xs a b → out_next spelled a (xs ++ ys) ≡ out_next spelled a xs ++ out_next spelled b ys
-out_more spelled xs ys a b went = ap (emitted_all (spelled a.writer) (xs ++ ys)) (fates_more spelled xs ys a b went)
-    ∙ emitted-append (spelled a.writer) xs ys (fates_next a xs) (fates_next b ys) (length-fates_of (chains_in a) a.unit xs)
-    ∙ ap (λ s. out_next spelled a xs ++ emitted_all s ys (fates_next b ys)) (sym went.same_spelling)
+out_more : {W X B : Type 0} (spelled : W → Given X B → List ℕ) (xs ys : List (Given X B)) (a b : Passage W) → Advances spelled (records_in xs) a b → out_next spelled a (xs ++ ys) ≡ out_next spelled a xs ++ out_next spelled b ys
+out_more spelled xs ys a b went =
+    ap (λ l. emitted_among (spelled a.writer) (xs ++ ys) (fates_next a l)) (records-append xs ys)
+    ∙ ap (emitted_among (spelled a.writer) (xs ++ ys)) (fates_more spelled (records_in xs) (records_in ys) a b went)
+    ∙ among-append (spelled a.writer) xs ys (fates_next a (records_in xs)) (fates_next b (records_in ys)) (length-fates_of (chains_in a) a.unit (records_in xs))
+    ∙ ap (λ s. out_next spelled a xs ++ emitted_among s ys (fates_next b (records_in ys))) (sym went.same_spelling)
 
 -- each packet has one fate
 pub as_many_next : {W : Type 0} (p : Passage W) (xs : List PcapRecord) → length (fates_next p xs) ≡ length (classes_of (packets_next p xs))
 as_many_next p xs = length-fates_of (chains_in p) p.unit xs ∙ sym (length-map (packets_next p xs) (λ x. x.class) ∙ length-map xs _)
 
-lines_more : {W : Type 0} (spelled : W → PcapRecord → List ℕ) (xs ys : List PcapRecord) (a b : Passage W) → Advances spelled xs a b → lines_next a (xs ++ ys) ≡ lines_next a xs ++ lines_next b ys
+lines_more : {W X B : Type 0} (spelled : W → Given X B → List ℕ) (xs ys : List PcapRecord) (a b : Passage W) → Advances spelled xs a b → lines_next a (xs ++ ys) ≡ lines_next a xs ++ lines_next b ys
 lines_more spelled xs ys a b went =
     let names : names_among (chains_in b) ≡ names_among (chains_in a) = each_names (packets_next a xs) 0 a.service.chains b.service.chains went.led in
     let number : next_number a + length (fates_next a xs) ≡ next_number b = let e = length-fates_of (chains_in a) a.unit xs in let h = went.read in omega arith in
@@ -76,7 +99,7 @@ lines_more spelled xs ys a b went =
     ∙ lines-append (names_among (chains_in a)) (next_number a) (classes_of (packets_next a xs)) (classes_of (packets_next b ys)) (fates_next a xs) (fates_next b ys) (as_many_next a xs)
     ∙ (λ i. lines_next a xs ++ drop_lines (sym names i) (number i) (classes_of (packets_next b ys)) (fates_next b ys))
 
-advances_more : {W : Type 0} (spelled : W → PcapRecord → List ℕ) (xs ys : List PcapRecord) (a b c : Passage W) → Advances spelled xs a b → Advances spelled ys b c → Advances spelled (xs ++ ys) a c
+advances_more : {W X B : Type 0} (spelled : W → Given X B → List ℕ) (xs ys : List PcapRecord) (a b c : Passage W) → Advances spelled xs a b → Advances spelled ys b c → Advances spelled (xs ++ ys) a c
 advances_more spelled xs ys a b c first second = record {
   same_classes = second.same_classes ∙ first.same_classes;
   same_unit = second.same_unit ∙ first.same_unit;
@@ -91,31 +114,42 @@ advances_more spelled xs ys a b c first second = record {
       omega arith;
 }
 
-pub passes_more : {W : Type 0} (spelled : W → PcapRecord → List ℕ) (xs ys : List PcapRecord) (a b c : Passage W) (old mid new : Slot → SlotView) → Passes spelled xs a b old mid → Passes spelled ys b c mid new → Passes spelled (xs ++ ys) a c old new
+-- the same for what was given
+advances_row : {W X B : Type 0} (spelled : W → Given X B → List ℕ) (xs ys : List (Given X B)) (a b c : Passage W) → Advances spelled (records_in xs) a b → Advances spelled (records_in ys) b c → Advances spelled (records_in (xs ++ ys)) a c
+advances_row spelled xs ys a b c first second = subst (λ l. Advances spelled l a c) (sym (records-append xs ys)) (advances_more spelled (records_in xs) (records_in ys) a b c first second)
+
+lines_row : {W X B : Type 0} (spelled : W → Given X B → List ℕ) (xs ys : List (Given X B)) (a b : Passage W) → Advances spelled (records_in xs) a b → lines_next a (records_in (xs ++ ys)) ≡ lines_next a (records_in xs) ++ lines_next b (records_in ys)
+lines_row spelled xs ys a b went = ap (lines_next a) (records-append xs ys) ∙ lines_more spelled (records_in xs) (records_in ys) a b went
+
+pub passes_more : {W X B : Type 0} (spelled : W → Given X B → List ℕ) (xs ys : List (Given X B)) (a b c : Passage W) (old mid new : Slot → SlotView) → Passes spelled xs a b old mid → Passes spelled ys b c mid new → Passes spelled (xs ++ ys) a c old new
 passes_more spelled xs ys a b c old mid new first second = record {
-  advances = advances_more spelled xs ys a b c first.advances second.advances;
-  puts = puts_is _ _ _ _ old new (sym (out_more spelled xs ys a b first.advances)) (sym (lines_more spelled xs ys a b first.advances)) (puts_more _ _ _ _ old mid new first.puts second.puts);
+  advances = advances_row spelled xs ys a b c first.advances second.advances;
+  puts = puts_is _ _ _ _ old new (sym (out_more spelled xs ys a b first.advances)) (sym (lines_row spelled xs ys a b first.advances)) (puts_more _ _ _ _ old mid new first.puts second.puts);
 }
 
 -- what comes next was broken off
-pub breaks_next : {W : Type 0} (spelled : W → PcapRecord → List ℕ) (xs ys : List PcapRecord) (a b : Passage W) (old mid new : Slot → SlotView) (e : RunFault) → Passes spelled xs a b old mid → PassBreaks spelled ys b mid new e → PassBreaks spelled (xs ++ ys) a old new e
+pub breaks_next : {W X B : Type 0} (spelled : W → Given X B → List ℕ) (xs ys : List (Given X B)) (a b : Passage W) (old mid new : Slot → SlotView) (e : RunFault) → Passes spelled xs a b old mid → PassBreaks spelled ys b mid new e → PassBreaks spelled (xs ++ ys) a old new e
 breaks_next spelled xs ys a b old mid new e first broken =
-    breaks_is _ _ _ _ old new e (sym (out_more spelled xs ys a b first.advances)) (sym (lines_more spelled xs ys a b first.advances)) (breaks_more _ _ _ _ old mid new e first.puts broken)
+    breaks_is _ _ _ _ old new e (sym (out_more spelled xs ys a b first.advances)) (sym (lines_row spelled xs ys a b first.advances)) (breaks_more _ _ _ _ old mid new e first.puts broken)
 
--- what is broken off among these records is so among more
-pub longer : {W : Type 0} (spelled : W → PcapRecord → List ℕ) (xs ys : List PcapRecord) (p : Passage W) (old new : Slot → SlotView) (e : RunFault) → PassBreaks spelled xs p old new e → PassBreaks spelled (xs ++ ys) p old new e
+-- what is broken off of this is so of more
+pub longer : {W X B : Type 0} (spelled : W → Given X B → List ℕ) (xs ys : List (Given X B)) (p : Passage W) (old new : Slot → SlotView) (e : RunFault) → PassBreaks spelled xs p old new e → PassBreaks spelled (xs ++ ys) p old new e
 longer spelled xs ys p old new e broken =
-    let behind = fates_of (chains_behind (chains_in p) p.unit xs) p.unit ys in
-    let classes : classes_of (packets_next p (xs ++ ys)) ≡ classes_of (packets_next p xs) ++ classes_of (packets_next p ys) =
-    ap classes_of (classed-append (chains_in p).declared p.unit xs ys) ∙ map-append (λ (x : Classed). x.class) (packets_next p xs) (packets_next p ys) in
+    let front = records_in xs in
+    let back = records_in ys in
+    let behind = fates_of (chains_behind (chains_in p) p.unit front) p.unit back in
+    let fates : fates_next p (records_in (xs ++ ys)) ≡ fates_next p front ++ behind = ap (fates_next p) (records-append xs ys) ∙ fates_of-append (chains_in p) p.unit front back in
+    let classes : classes_of (packets_next p (records_in (xs ++ ys))) ≡ classes_of (packets_next p front) ++ classes_of (packets_next p back) =
+    ap (λ l. classes_of (packets_next p l)) (records-append xs ys)
+    ∙ ap classes_of (classed-append (chains_in p).declared p.unit front back) ∙ map-append (λ (x : Classed). x.class) (packets_next p front) (packets_next p back) in
     breaks_is _ _ _ _ old new e
-    (sym (ap (emitted_all (spelled p.writer) (xs ++ ys)) (fates_of-append (chains_in p) p.unit xs ys) ∙ emitted-append (spelled p.writer) xs ys (fates_next p xs) behind (length-fates_of (chains_in p) p.unit xs)))
-    (sym ((λ i. drop_lines (names_among (chains_in p)) (next_number p) (classes i) (fates_of-append (chains_in p) p.unit xs ys i))
-    ∙ lines-append (names_among (chains_in p)) (next_number p) (classes_of (packets_next p xs)) (classes_of (packets_next p ys)) (fates_next p xs) behind (as_many_next p xs)))
-    (breaks_longer _ _ (emitted_all (spelled p.writer) ys behind) (drop_lines (names_among (chains_in p)) (next_number p + length (fates_next p xs)) (classes_of (packets_next p ys)) behind) old new e broken)
+    (sym (ap (emitted_among (spelled p.writer) (xs ++ ys)) fates ∙ among-append (spelled p.writer) xs ys (fates_next p front) behind (length-fates_of (chains_in p) p.unit front)))
+    (sym ((λ i. drop_lines (names_among (chains_in p)) (next_number p) (classes i) (fates i))
+    ∙ lines-append (names_among (chains_in p)) (next_number p) (classes_of (packets_next p front)) (classes_of (packets_next p back)) (fates_next p front) behind (as_many_next p front)))
+    (breaks_longer _ _ (emitted_among (spelled p.writer) ys behind) (drop_lines (names_among (chains_in p)) (next_number p + length (fates_next p front)) (classes_of (packets_next p back)) behind) old new e broken)
 
 -- the chains' own clauses stay
-pub still_told : {W : Type 0} (spelled : W → PcapRecord → List ℕ) (xs : List PcapRecord) (a b : Passage W) → IsTold a → Advances spelled xs a b → IsTold b
+pub still_told : {W X B : Type 0} (spelled : W → Given X B → List ℕ) (xs : List PcapRecord) (a b : Passage W) → IsTold a → Advances spelled xs a b → IsTold b
 still_told spelled xs a b told went = went.same_classes ∙ told ∙ sym (each_fits (packets_next a xs) 0 a.service.chains b.service.chains went.led)
 
 -- the records of a burst are put before its lines

@@ -1,11 +1,22 @@
--- A record that is refused has no fault of a head.
-use Rattle.std.specs.Prelude.{ℕ}
+-- What is refused of a capture's body has no fault that keeps a capture from being opened.
+use Rattle.std.proofs.Common.{◌≡◌, ℕ, List, [], ap, rules, subst, sym}
+use Rattle.std.specs.Prelude.{Option, Some, None, IfSome, IsErrOf, IsOk, Result, Ok, Err}
+use Rattle.std.specs.Option.{option_map}
 use Rattle.nfp_outside.specs.Outside.{SlotView}
 use Rattle.pcap_io.specs.Capture.{IsHeadFault}
 use Rattle.pcap_io.specs.Reader.{IsRecordFault, ReaderState, RefusesRecord, body_left}
 use Rattle.pcap_io.specs.declared.capture.CaptureFault.{CaptureFault}
 use Rattle.pcap_io.specs.declared.capture.CaptureFault.TheVariants.{BadMagic, BadVersion, BadLink, CutHead, CutRecord, FrameTooLong, TooManyRecords}
+use Rattle.pcapng_io.specs.Reader as ng
+use Rattle.pcapng_io.specs.declared.fault.NgFault.{NgFault}
+use Rattle.pcapng_io.specs.declared.item.NgItem.{NgItem}
+use Rattle.pcapng_io.specs.declared.place.Place.{Place}
+use Rattle.capture_report.specs.declared.fault.FormatFault.{FormatFault}
+use Rattle.capture_report.specs.declared.fault.FormatFault.TheVariants.{Pcap, Ng}
+use Rattle.capture_run.specs.Formats.{ng_behind, ng_stream, pcap_left, pcap_stream}
 use Rattle.capture_run.specs.Sources.{RefusesNext}
+use Rattle.capture_run.specs.declared.fault.SourceFault.{SourceFault}
+use Rattle.capture_run.specs.declared.fault.SourceFault.TheVariants as refusals
 
 none_of_a_head : (given : ℕ) (fault : CaptureFault) → IsRecordFault given fault → ¬ IsHeadFault fault
 none_of_a_head given BadMagic is = absurd is
@@ -16,5 +27,35 @@ none_of_a_head given (CutRecord n) is = λ head. head
 none_of_a_head given (FrameTooLong n length) is = λ head. head
 none_of_a_head given TooManyRecords is = λ head. head
 
-pub refuses_next : (fault : CaptureFault) (reader : ReaderState) (old : SlotView) → RefusesRecord fault reader old → RefusesNext body_left fault reader old
-refuses_next fault reader old refuses = record { kind = none_of_a_head reader.given fault refuses.kind; whole = refuses.whole }
+-- what is told of a value is told of what is made of it
+made : {T U : Type 0} (f : T → U) (o : Option T) (x : T) → IfSome o (λ b. b ≡ x) → IfSome (option_map f o) (λ s. s ≡ f x)
+made f None x is = tt
+made f (Some b) x is = ap f is
+
+pub refuses_next : (fault : CaptureFault) (reader : ReaderState) (old : SlotView) → RefusesRecord fault reader old → RefusesNext pcap_left (Pcap fault) reader old
+refuses_next fault reader old refuses = record { kind = none_of_a_head reader.given fault refuses.kind; whole = made pcap_stream (body_left reader old) _ refuses.whole }
+
+pub refuses_block : (fault : NgFault) (reader : ng.ReaderState) (old : SlotView) → ng.RefusesBlock fault reader.place old → RefusesNext ng_behind (Ng fault) reader old
+refuses_block fault reader old refuses = record { kind = λ opening. opening; whole = made ng_stream (ng.blocks_left reader.place old) _ refuses.whole }
+
+abbrev format_of : {T : Type 0} → FormatFault → Result T SourceFault → FormatFault
+format_of other (Ok x) = other
+format_of other (Err (refusals.Format f)) = f
+format_of other (Err refusals.ReadFault) = other
+format_of other (Err refusals.OutOfMemory) = other
+
+-- a refusal tells one fault
+pub format_is : {T : Type 0} (f g : FormatFault) → IsErrOf {T = T} (Err (refusals.Format f)) (refusals.Format g) → f ≡ g
+format_is f g is = ap (format_of g) is
+
+some_is : {T : Type 0} (a b : T) → Some a ≡ Some b → a ≡ b
+some_is a b e = cc
+
+-- what stands next was read, so it has no fault
+pub next_accepted : (item : NgItem) (before after : Place) (old new : SlotView) → ng.ReadsItem item before after old new → IfSome (ng.next_left before old) IsOk
+next_accepted item before after old new reads = go (ng.next_left before old) new.bytes reads.next
+  where
+    go : (o : Option (Result (Option (NgItem × Place × List ℕ)) NgFault)) (rest : Option (List ℕ)) → o ≡ option_map (λ bytes. Ok (Some (item, after, bytes))) rest → IfSome o IsOk
+    go None rest is = tt
+    go (Some next) None is = absurd cc
+    go (Some next) (Some bytes) is = subst IsOk (sym (some_is next _ is)) (search rules)

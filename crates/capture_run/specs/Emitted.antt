@@ -1,4 +1,4 @@
--- Believed: the capture that is written: the records whose packets passed, each with the frame that its chain left, sealed.
+-- Believed: the classic capture that is written: the records whose packets passed, each with the frame that its chain left, sealed.
 use Rattle.std.specs.Prelude.{ℕ, ◌+◌, ◌-◌, min, List, [], ◌++◌, length}
 use Rattle.std.specs.List.{flat_map, zip}
 use Rattle.packet_fields.specs.Checksums.{sealed}
@@ -12,9 +12,13 @@ use Rattle.chain_walk.specs.declared.walk.Fate.TheVariants.{Out, Gone}
 abbrev pub wire_after : ℕ → ℕ → ℕ → ℕ
 wire_after wire before after = min (wire + after - before) 4294967295
 
--- a record as it goes out, its checksums and its original length following what its chain changed, and nothing of one that was dropped
+-- a record as it goes out with this frame, its checksums and its original length following what its chain changed
+abbrev pub emitted_record : PcapRecord → List ℕ → PcapRecord
+emitted_record r frame = record r { wire = wire_after r.wire (length r.frame) (length frame); frame = sealed r.frame frame }
+
+-- its bytes, and nothing of one that was dropped
 abbrev pub emitted : (PcapRecord → List ℕ) → PcapRecord → Fate → List ℕ
-emitted spelled r (Out frame) = spelled (record r { wire = wire_after r.wire (length r.frame) (length frame); frame = sealed r.frame frame })
+emitted spelled r (Out frame) = spelled (emitted_record r frame)
 emitted spelled r (Gone position) = []
 
 -- the emitted records in the order read

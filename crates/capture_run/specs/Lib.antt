@@ -1,6 +1,9 @@
 pub mod Emitted
+pub mod EmittedNg
+pub mod Formats
 pub mod Passing
 pub mod Putting
 pub mod Running
 pub mod Slots
 pub mod Sources
+pub mod Streams

@@ -1,19 +1,28 @@
--- For proofs: what a source of records gives of what is left of a capture.
+-- For proofs: what a source gives of what is left of a capture.
 use Rattle.std.specs.Prelude.{◌≡◌, ◌<◌, ◌+◌, ℕ, [], Option, Some, IfSome}
 use Rattle.std.specs.Option.{option_map}
 use Rattle.nfp_outside.specs.Outside.{SlotView}
-use Rattle.pcap_io.specs.Capture.{Body, IsHeadFault, IsShort, with_record}
-use Rattle.pcap_io.specs.declared.capture.CaptureFault.{CaptureFault}
-use Rattle.capture_bytes.specs.declared.packet.PcapRecord.{PcapRecord}
+use Rattle.pcap_io.specs.Capture.{IsHeadFault}
+use Rattle.capture_report.specs.declared.fault.FormatFault.{FormatFault}
+use Rattle.capture_report.specs.declared.fault.FormatFault.TheVariants.{Pcap, Ng}
+use Rattle.capture_run.specs.Streams.{HasNumber, IsShortGiven, Stream, count_given, with_given}
+use Rattle.capture_run.specs.declared.given.Given.{Given}
 
--- A record was read, and what follows it is left.
-pub record GivesRecord {S : Type 0} (left : S → SlotView → Option Body) (given : S → ℕ) (r : PcapRecord) (before after : S) (old new : SlotView) : Type 0 where
-  pub counted : given after ≡ given before + 1
-  pub few : given before < 4294967295
-  pub short : IsShort r
-  pub whole : left before old ≡ option_map (with_record r) (left after new)
+-- a fault by which a capture isn't opened at all
+abbrev pub IsOpeningFault : FormatFault → Type 0
+IsOpeningFault (Pcap fault) = IsHeadFault fault
+IsOpeningFault (Ng fault) = ⊥
 
--- What is left is refused with this fault, which is none of a head.
-pub record RefusesNext {S : Type 0} (left : S → SlotView → Option Body) (fault : CaptureFault) (before : S) (old : SlotView) : Type 0 where
-  pub kind : ¬ IsHeadFault fault
-  pub whole : IfSome (left before old) (λ body. body ≡ record { records = []; fault = Some fault })
+-- This was read, and what follows it is left.
+pub record GivesNext {S X B : Type 0} (left : S → SlotView → Option (Stream X B)) (packets taken : S → ℕ) (x : Given X B) (before after : S) (old new : SlotView) : Type 0 where
+  pub counted : packets after ≡ packets before + count_given x
+  pub numbered : HasNumber x (packets before)
+  pub one_more : taken after ≡ taken before + 1
+  pub few : taken before < 1099511627776
+  pub short : IsShortGiven x
+  pub whole : left before old ≡ option_map (with_given x) (left after new)
+
+-- What is left is refused with this fault, which doesn't keep a capture from being opened.
+pub record RefusesNext {S X B : Type 0} (left : S → SlotView → Option (Stream X B)) (fault : FormatFault) (before : S) (old : SlotView) : Type 0 where
+  pub kind : ¬ IsOpeningFault fault
+  pub whole : IfSome (left before old) (λ s. s ≡ record { given = []; fault = Some fault })

@@ -3,39 +3,42 @@ ghost use Rattle.std.specs.Prelude.{◌≡◌, ◌≢◌, ◌<◌, ◌^◌, [], 
 ghost use Rattle.nfp_outside.specs.declared.slot.Slot.{Slot};
 ghost use Rattle.packet_fields.specs.Checksums.{sealed};
 ghost use Rattle.chain_walk.specs.declared.walk.Fate.TheVariants.{Out};
-ghost use Rattle.capture_run.specs.Emitted.{emitted, emitted_all, wire_after};
-ghost use Rattle.burst_walk.specs.Leading.{IsWritable, records_of, ended, all_ended};
+ghost use Rattle.capture_run.specs.Emitted.{emitted, emitted_record, wire_after};
+ghost use Rattle.burst_walk.specs.Leading.{IsWritable, ended, all_ended};
 ghost use Rattle.capture_run.specs.Slots.{Puts, Breaks};
+ghost use Rattle.capture_run.specs.Streams.{emitted_among, held_in, spelled_with};
 
 use crate::fault::RunFault;
 use crate::sink::Sink;
-use crate::write::put_record;
+use crate::write::put_packet;
 use capture_bytes::PcapRecord;
 use chain_walk::Fate;
 use classifier::Item;
 use nfp_outside::Desk;
 use packet_fields::{Frame, seal};
 
-/// Puts the records of the packets that passed into Out, in their order: with the frame that its chain left, sealed, or as it
-/// was read where no chain took it.
-pub fn put_emitted<W: Sink, D: Desk>(
+/// Puts the packets that passed into Out, in their order, each with what stands beside its record: with the frame that its chain
+/// left, sealed, or as it was read where no chain took it.
+pub fn put_emitted<X, B, W: Sink<X, B>, D: Desk>(
     desk: &mut D,
     writer: &mut W,
     items: &[Item],
+    beside: &[X],
     fates: Vec<Option<Fate>>,
 ) -> Result<(), RunFault>
     requires out { IsSome (D.slots desk.old Slot.Out).name }
     requires as_many { length fates.items ≡ length items.now }
+    requires beside { length beside.now ≡ length items.now }
     requires writable { All (λ o. IfSome o IsWritable) fates.items }
-    requires short { All (λ i. length i.packet.frame < 2 ^ 32) items.now }
-    ensures ok { OnOk result (Puts (emitted_all (W.spelled writer.old) (records_of items.now) (all_ended items.now fates.items)) [] (D.slots desk.old) (D.slots desk.new)) }
-    ensures err { IfErr result (Breaks (emitted_all (W.spelled writer.old) (records_of items.now) (all_ended items.now fates.items)) [] (D.slots desk.old) (D.slots desk.new)) }
+    requires short { All (λ i. length i.packet.frame < 2 ^ 22) items.now }
+    ensures ok { OnOk result (Puts (emitted_among (W.spelled writer.old) (held_in items.now beside.now) (all_ended items.now fates.items)) [] (D.slots desk.old) (D.slots desk.new)) }
+    ensures err { IfErr result (Breaks (emitted_among (W.spelled writer.old) (held_in items.now beside.now) (all_ended items.now fates.items)) [] (D.slots desk.old) (D.slots desk.new)) }
     ensures spelling { W.spelled writer.new ≡ W.spelled writer.old }
     ensures others { (s : Slot) → s ≢ Slot.Out → D.slots desk.new s ≡ D.slots desk.old s }
 {
     let mut index = 0;
     'fates: for fate in fates {
-        match put_fate(desk, writer, &items[index].packet, fate) {
+        match put_fate(desk, writer, &items[index].packet, &beside[index], fate) {
             Ok(()) => index += 1,
             Err(fault) => return Err(fault),
         }
@@ -44,74 +47,77 @@ pub fn put_emitted<W: Sink, D: Desk>(
 }
 
 // Puts the record of a packet that passed; one that was dropped has none.
-fn put_fate<W: Sink, D: Desk>(
+fn put_fate<X, B, W: Sink<X, B>, D: Desk>(
     desk: &mut D,
     writer: &mut W,
     packet: &PcapRecord,
+    beside: &X,
     fate: Option<Fate>,
 ) -> Result<(), RunFault>
     requires out { IsSome (D.slots desk.old Slot.Out).name }
     requires writable { IfSome fate IsWritable }
-    requires short { length packet.now.frame < 2 ^ 32 }
-    ensures ok { OnOk result (Puts (emitted (W.spelled writer.old) packet.now (ended packet.now fate)) [] (D.slots desk.old) (D.slots desk.new)) }
-    ensures err { IfErr result (Breaks (emitted (W.spelled writer.old) packet.now (ended packet.now fate)) [] (D.slots desk.old) (D.slots desk.new)) }
+    requires short { length packet.now.frame < 2 ^ 22 }
+    ensures ok { OnOk result (Puts (emitted (spelled_with (W.spelled writer.old) beside.now) packet.now (ended packet.now fate)) [] (D.slots desk.old) (D.slots desk.new)) }
+    ensures err { IfErr result (Breaks (emitted (spelled_with (W.spelled writer.old) beside.now) packet.now (ended packet.now fate)) [] (D.slots desk.old) (D.slots desk.new)) }
     ensures spelling { W.spelled writer.new ≡ W.spelled writer.old }
     ensures others { (s : Slot) → s ≢ Slot.Out → D.slots desk.new s ≡ D.slots desk.old s }
 {
     match fate {
-        None => put_unchanged(desk, writer, packet),
-        Some(Fate::Out(frame)) => put_left(desk, writer, packet, frame),
+        None => put_unchanged(desk, writer, packet, beside),
+        Some(Fate::Out(frame)) => put_left(desk, writer, packet, beside, frame),
         Some(Fate::Gone(_)) => Ok(()),
     }
 }
 
 // Puts the record of a packet that its chain left with this frame. Comparing frames is far cheaper than sealing one, so a record whose
 // frame didn't change is put as it was read.
-fn put_left<W: Sink, D: Desk>(
+fn put_left<X, B, W: Sink<X, B>, D: Desk>(
     desk: &mut D,
     writer: &mut W,
     packet: &PcapRecord,
+    beside: &X,
     frame: Frame,
 ) -> Result<(), RunFault>
     requires out { IsSome (D.slots desk.old Slot.Out).name }
-    requires writable { length frame < 2 ^ 32 }
-    requires short { length packet.now.frame < 2 ^ 32 }
-    ensures ok { OnOk result (Puts (emitted (W.spelled writer.old) packet.now (Out frame)) [] (D.slots desk.old) (D.slots desk.new)) }
-    ensures err { IfErr result (Breaks (emitted (W.spelled writer.old) packet.now (Out frame)) [] (D.slots desk.old) (D.slots desk.new)) }
+    requires writable { length frame < 2 ^ 22 }
+    requires short { length packet.now.frame < 2 ^ 22 }
+    ensures ok { OnOk result (Puts (emitted (spelled_with (W.spelled writer.old) beside.now) packet.now (Out frame)) [] (D.slots desk.old) (D.slots desk.new)) }
+    ensures err { IfErr result (Breaks (emitted (spelled_with (W.spelled writer.old) beside.now) packet.now (Out frame)) [] (D.slots desk.old) (D.slots desk.new)) }
     ensures spelling { W.spelled writer.new ≡ W.spelled writer.old }
     ensures others { (s : Slot) → s ≢ Slot.Out → D.slots desk.new s ≡ D.slots desk.old s }
 {
     if frame.bytes() == packet.frame.bytes() {
-        put_unchanged(desk, writer, packet)
+        put_unchanged(desk, writer, packet, beside)
     } else {
-        put_record(desk, writer, &emitted_record(packet, frame))
+        put_packet(desk, writer, &emitted_record(packet, frame), beside)
     }
 }
 
 // Puts the record of a packet whose frame is as it was read: its checksums and its original length are as they were.
-fn put_unchanged<W: Sink, D: Desk>(
+fn put_unchanged<X, B, W: Sink<X, B>, D: Desk>(
     desk: &mut D,
     writer: &mut W,
     packet: &PcapRecord,
+    beside: &X,
 ) -> Result<(), RunFault>
     requires out { IsSome (D.slots desk.old Slot.Out).name }
-    requires short { length packet.now.frame < 2 ^ 32 }
-    ensures ok { OnOk result (Puts (emitted (W.spelled writer.old) packet.now (Out packet.now.frame)) [] (D.slots desk.old) (D.slots desk.new)) }
-    ensures err { IfErr result (Breaks (emitted (W.spelled writer.old) packet.now (Out packet.now.frame)) [] (D.slots desk.old) (D.slots desk.new)) }
+    requires short { length packet.now.frame < 2 ^ 22 }
+    ensures ok { OnOk result (Puts (emitted (spelled_with (W.spelled writer.old) beside.now) packet.now (Out packet.now.frame)) [] (D.slots desk.old) (D.slots desk.new)) }
+    ensures err { IfErr result (Breaks (emitted (spelled_with (W.spelled writer.old) beside.now) packet.now (Out packet.now.frame)) [] (D.slots desk.old) (D.slots desk.new)) }
     ensures spelling { W.spelled writer.new ≡ W.spelled writer.old }
     ensures others { (s : Slot) → s ≢ Slot.Out → D.slots desk.new s ≡ D.slots desk.old s }
 {
     let frame = packet.frame.bytes();
     unchanged_is_sealed(frame);
     unchanged_is_as_long(packet.wire, frame.len());
-    put_record(desk, writer, packet)
+    put_packet(desk, writer, packet, beside)
 }
 
 // The record as it goes out, with this frame, whose checksums are adjusted to what changed, and with its original length.
 fn emitted_record(packet: &PcapRecord, frame: Frame) -> PcapRecord
-    requires short { length packet.now.frame < 2 ^ 32 }
-    requires writable { length frame < 2 ^ 32 }
-    ensures record { result ≡ record packet.now { wire = wire_after packet.now.wire (length packet.now.frame) (length frame); frame = sealed packet.now.frame frame } }
+    requires short { length packet.now.frame < 2 ^ 22 }
+    requires writable { length frame < 2 ^ 22 }
+    ensures record { result ≡ emitted_record packet.now frame }
     ensures length { length result.frame ≡ length frame }
 {
     let before = packet.frame.bytes();

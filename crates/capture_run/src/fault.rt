@@ -1,9 +1,21 @@
-//! What broke a run off.
+//! Why a capture isn't read further, and what broke a run off.
 ghost use Rattle.std.specs.Prelude.{◌≡◌};
 ghost use Rattle.capture_run.specs.declared.fault.RunFault.TheVariants.{OutOfMemory};
 
+use capture_report::FormatFault;
 use nfp_outside::Slot;
 use std::alloc::{AllocError, AllocFailed};
+
+/// Why a source gave nothing more.
+#[derive(Clone, Copy, Debug, PartialEq, Eq)]
+pub enum SourceFault {
+    /// The capture has this fault, and isn't read further.
+    Format(FormatFault),
+    /// The capture couldn't be read further.
+    ReadFault,
+    /// There was no memory.
+    OutOfMemory,
+}
 
 /// What broke a run off before the end of its capture, or before all was written.
 #[derive(Clone, Copy, Debug, PartialEq, Eq)]

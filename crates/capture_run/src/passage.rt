@@ -1,8 +1,9 @@
 //! The way of a capture through the chains of a service, burst by burst.
 ghost use Rattle.std.specs.Prelude.{◌≡◌, ◌≢◌, ◌≤◌, ◌<◌, ◌+◌, ◌^◌, All, IfErr, IfOk, IsSome, length};
 ghost use Rattle.nfp_outside.specs.declared.slot.Slot.{Slot};
-ghost use Rattle.burst_walk.specs.Leading.{IsClassed, records_of};
+ghost use Rattle.burst_walk.specs.Leading.{IsClassed};
 ghost use Rattle.capture_run.specs.Passing.{IsTold, PassBreaks, Passes};
+ghost use Rattle.capture_run.specs.Streams.{held_in};
 
 use crate::emit::put_emitted;
 use crate::fault::RunFault;
@@ -19,8 +20,8 @@ use std::rt::Clock;
 use std::sync::Wait;
 use std::thread::Threads;
 
-/// A capture on its way through a service: the chains as the last packet left them, where the packets that pass go, and
-/// what was counted so far.
+/// A capture on its way through a service: the chains as the last packet left them, where what passes goes, and what was counted
+/// so far.
 #[derive(Drop)]
 pub struct Passage<W> {
     pub service: Service,
@@ -29,50 +30,57 @@ pub struct Passage<W> {
     pub totals: Totals,
 }
 
-impl<W: Sink + Drop> Passage<W> {
-    /// Leads the packets of a burst through their chains, and puts the record of each that passes into Out, and then the line
-    /// of each that is dropped into Report. So many mergers put together in this way what the branches of a stage give,
-    /// and each step of a function passes the gate first.
-    pub fn run<R: Threads + Wait + Clock + Sync, D: Desk, G: Gate + Sync>(
-        self,
-        rt: &R,
-        alloc: Global,
-        desk: &mut D,
-        burst: Burst,
-        merging: Merging,
-        gate: &G,
-    ) -> Result<Passage<W>, RunFault>
-        requires out { IsSome (D.slots desk.old Slot.Out).name }
-        requires report { IsSome (D.slots desk.old Slot.Report).name }
-        requires few { length burst.items ≤ 65536 }
-        requires classed { All (IsClassed self.service.classes) burst.items }
-        requires told { IsTold self }
-        requires room { self.totals.records + length burst.items < 2 ^ 32 }
-        requires within { self.totals.dropped ≤ self.totals.records }
-        ensures ok { IfOk result (λ after. Passes W.spelled (records_of burst.items) self after (D.slots desk.old) (D.slots desk.new)) }
-        ensures told { IfOk result (λ after. IsTold after) }
-        ensures err { IfErr result (PassBreaks W.spelled (records_of burst.items) self (D.slots desk.old) (D.slots desk.new)) }
-        ensures others { (s : Slot) → s ≢ Slot.Out → s ≢ Slot.Report → D.slots desk.new s ≡ D.slots desk.old s }
-    {
-        let Passage {
-            service,
-            unit,
-            mut writer,
-            mut totals,
-        } = self;
-        let (service, fates) = walk_burst(rt, alloc, service, &burst, unit, merging, gate)?;
-        let items = burst.items.as_slice();
-        let chains = service.chains.as_slice();
-        let lines = burst_lines(alloc, chains, totals.records + 1, items, &fates)?;
-        totals.records += fates.len() as u64;
-        totals.dropped += count_gone(items, &fates);
-        put_emitted(desk, &mut writer, items, fates)?;
-        put_text(desk, &lines)?;
-        Ok(Passage {
-            service,
-            unit,
-            writer,
-            totals,
-        })
-    }
+/// Leads the packets of a burst through their chains, and puts each that passes into Out, with what stands beside its record, and then
+/// the line of each that is dropped into Report. So many mergers put together in this way what the branches of a stage give, and each
+/// step of a function passes the gate first.
+pub fn pass_burst<
+    R: Threads + Wait + Clock + Sync,
+    D: Desk,
+    X: Drop,
+    B: Drop,
+    W: Sink<X, B> + Drop,
+    G: Gate + Sync,
+>(
+    rt: &R,
+    alloc: Global,
+    desk: &mut D,
+    passage: Passage<W>,
+    burst: Burst,
+    beside: &Vec<X>,
+    merging: Merging,
+    gate: &G,
+) -> Result<Passage<W>, RunFault>
+    requires out { IsSome (D.slots desk.old Slot.Out).name }
+    requires report { IsSome (D.slots desk.old Slot.Report).name }
+    requires few { length burst.items ≤ 65536 }
+    requires as_many { length beside.now.items ≡ length burst.items }
+    requires classed { All (IsClassed passage.service.classes) burst.items }
+    requires told { IsTold passage }
+    requires room { passage.totals.records + length burst.items < 2 ^ 32 }
+    requires within { passage.totals.dropped ≤ passage.totals.records }
+    ensures ok { IfOk result (λ after. Passes W.spelled (held_in burst.items beside.now.items) passage after (D.slots desk.old) (D.slots desk.new)) }
+    ensures told { IfOk result (λ after. IsTold after) }
+    ensures err { IfErr result (PassBreaks W.spelled (held_in burst.items beside.now.items) passage (D.slots desk.old) (D.slots desk.new)) }
+    ensures others { (s : Slot) → s ≢ Slot.Out → s ≢ Slot.Report → D.slots desk.new s ≡ D.slots desk.old s }
+{
+    let Passage {
+        service,
+        unit,
+        mut writer,
+        mut totals,
+    } = passage;
+    let (service, fates) = walk_burst(rt, alloc, service, &burst, unit, merging, gate)?;
+    let items = burst.items.as_slice();
+    let chains = service.chains.as_slice();
+    let lines = burst_lines(alloc, chains, totals.records + 1, items, &fates)?;
+    totals.records += fates.len() as u64;
+    totals.dropped += count_gone(items, &fates);
+    put_emitted(desk, &mut writer, items, beside.as_slice(), fates)?;
+    put_text(desk, &lines)?;
+    Ok(Passage {
+        service,
+        unit,
+        writer,
+        totals,
+    })
 }

@@ -22,9 +22,10 @@ use std::rt::Clock;
 use std::sync::Wait;
 use std::thread::Threads;
 
-/// Leads each packet of a capture through the chain that takes it, and puts those that pass into Out and the report into Report.
+/// Leads each packet of a capture through the chain that takes it, and puts those that pass into Out, with the other blocks of the
+/// capture among them, and the report into Report.
 ///
-/// The heads were read and written, and the source stands behind the one, the sink behind the other. Packets are held until their
+/// A head was read and written where the format has one, and the source stands behind the one, the sink behind the other. Packets are held until their
 /// burst is full, which is of `burst` packets at most, or the capture ends. What is put of a whole capture doesn't depend on that;
 /// but a want of memory or a fault of a slot leaves those unwritten that were read since the last burst.
 ///
@@ -34,8 +35,10 @@ use std::thread::Threads;
 pub fn run_capture<
     R: Threads + Wait + Clock + Sync,
     D: Desk,
-    S: Source + Drop,
-    W: Sink + Drop,
+    X: Drop,
+    B: Drop,
+    S: Source<X, B> + Drop,
+    W: Sink<X, B> + Drop,
     G: Gate + Sync,
 >(
     rt: &R,
@@ -55,7 +58,7 @@ pub fn run_capture<
     requires out { IsSome (D.slots desk.old Slot.Out).name }
     requires report { IsSome (D.slots desk.old Slot.Report).name }
     requires opening { IsOpening service }
-    requires fresh { S.given source ≡ 0 }
+    requires fresh { S.packets source ≡ 0 }
     requires open { S.is_open source ≡ true }
     ensures ok { IfOk result (WritesAll (W.spelled sink) (chains_of service.chains) unit (S.left source (D.slots desk.old Slot.Capture)) (D.slots desk.old) (D.slots desk.new)) }
     ensures err { IfErr result (WriteBreaks (W.spelled sink) (chains_of service.chains) unit (S.left source (D.slots desk.old Slot.Capture)) (D.slots desk.old) (D.slots desk.new)) }

@@ -1,58 +1,45 @@
-//! Where records come from.
-ghost use Rattle.std.specs.Prelude.{◌≡◌, ◌≢◌, ℕ, [], Bool, true, None, Option, IfNone, IfOk, IfSome, IsErrOf, IsSome, OnOk};
+//! Where packets come from.
+ghost use Rattle.std.specs.Prelude.{◌≡◌, ◌≢◌, ◌≤◌, ℕ, [], Bool, true, None, Option, IfNone, IfOk, IfSome, IsErrOf, IsSome, OnOk};
 ghost use Rattle.nfp_outside.specs.declared.slot.Slot.{Slot};
-ghost use Rattle.nfp_outside.specs.Outside.{SlotView};
-ghost use Rattle.pcap_io.specs.Capture.{Body};
-ghost use Rattle.pcap_io.specs.Reader.{ReaderCause, body_left};
-ghost use Rattle.pcap_io.specs.declared.capture.CaptureFault.{CaptureFault};
-ghost use Rattle.capture_run.specs.Sources.{GivesRecord, RefusesNext};
+ghost use Rattle.nfp_outside.specs.Outside.{IsRisen, SlotView};
+ghost use Rattle.capture_report.specs.declared.fault.FormatFault.{FormatFault};
+ghost use Rattle.capture_run.specs.Sources.{GivesNext, RefusesNext};
+ghost use Rattle.capture_run.specs.Streams.{Stream};
 
+use crate::fault::SourceFault;
+use crate::given::Given;
 use nfp_outside::{Desk, Slot};
-use pcap_io::{PcapFault, PcapRecord, Reader};
 use std::alloc::Global;
 
-/// Gives the records of a capture, one after another, off the slot Capture of a desk. A format joins by its reader.
-pub trait Source {
-    /// The records that are still to come and their fault, where the desk tells what is left in the slot.
-    ghost left: { Self → SlotView → Option Body };
+/// Gives what a capture has, one after another, off the slot Capture of a desk: packets, of each of which a format says `X` beside its
+/// record, and other blocks `B`. A format joins by its reader.
+pub trait Source<X, B> {
+    /// What is still to come and its fault, where the desk tells what is left in the slot.
+    ghost left: { Self → SlotView → Option (Stream X B) };
 
-    /// How many records it gave.
-    ghost given: { Self → ℕ };
+    /// How many packets it gave.
+    ghost packets: { Self → ℕ };
+
+    /// How many packets and other blocks it gave.
+    ghost taken: { Self → ℕ };
 
     /// It may be asked: it wasn't refused before.
     ghost is_open: { Self → Bool };
 
-    /// The next record; `None` exactly where nothing is left. After an `Err` it isn't asked again.
+    /// What stands next; `None` exactly where nothing is left. After an `Err` it isn't asked again.
     fn next<D: Desk>(
         &mut self,
         alloc: Global,
         desk: &mut D,
-    ) -> Result<Option<PcapRecord>, PcapFault>
+    ) -> Result<Option<Given<X, B>>, SourceFault>
         requires attached { IsSome (D.slots desk.old Slot.Capture).name }
         requires open { is_open self.old ≡ true }
-        ensures record { IfOk result (λ o. IfSome o (λ r. GivesRecord left given r self.old self.new (D.slots desk.old Slot.Capture) (D.slots desk.new Slot.Capture))) }
-        ensures end { IfOk result (λ o. IfNone o (IfSome (left self.old (D.slots desk.old Slot.Capture)) (λ body. body ≡ record { records = []; fault = None }))) }
-        ensures refused { (fault : CaptureFault) → IsErrOf result (PcapFault.Capture fault) → RefusesNext left fault self.old (D.slots desk.old Slot.Capture) }
+        ensures given { IfOk result (λ o. IfSome o (λ x. GivesNext left packets taken x self.old self.new (D.slots desk.old Slot.Capture) (D.slots desk.new Slot.Capture))) }
+        ensures end { IfOk result (λ o. IfNone o (IfSome (left self.old (D.slots desk.old Slot.Capture)) (λ s. s ≡ record { given = []; fault = None }))) }
+        ensures refused { (fault : FormatFault) → IsErrOf result (SourceFault.Format fault) → RefusesNext left fault self.old (D.slots desk.old Slot.Capture) }
         ensures stays_open { OnOk result (is_open self.new ≡ true) }
-        ensures cause { ReaderCause (D.slots desk.old Slot.Capture) (D.slots desk.new Slot.Capture) result }
+        ensures later { (D.slots desk.old Slot.Capture).faults ≤ (D.slots desk.new Slot.Capture).faults }
+        ensures read_fault { IsErrOf result SourceFault.ReadFault → IsRisen (D.slots desk.old Slot.Capture).faults (D.slots desk.new Slot.Capture).faults }
         ensures name { (D.slots desk.new Slot.Capture).name ≡ (D.slots desk.old Slot.Capture).name }
         ensures others { (s : Slot) → s ≢ Slot.Capture → D.slots desk.new s ≡ D.slots desk.old s };
-}
-
-impl Source for Reader {
-    ghost use Rattle.std.specs.Prelude.{not};
-
-    ghost left = { body_left };
-
-    ghost given = { λ r. r.given };
-
-    ghost is_open = { λ r. not r.spent };
-
-    fn next<D: Desk>(
-        &mut self,
-        alloc: Global,
-        desk: &mut D,
-    ) -> Result<Option<PcapRecord>, PcapFault> {
-        self.next(alloc, desk)
-    }
 }

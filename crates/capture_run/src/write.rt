@@ -1,27 +1,48 @@
-//! Puts records and texts into Out and Report, and says why where that is refused.
+//! Puts packets, blocks and texts into Out and Report, and says why where that is refused.
 ghost use Rattle.std.specs.Prelude.{◌≡◌, ◌≢◌, ◌<◌, ◌^◌, [], IfErr, OnOk, IsSome, length};
 ghost use Rattle.nfp_outside.specs.declared.slot.Slot.{Slot};
 ghost use Rattle.capture_run.specs.Slots.{Puts, Breaks, fault_seen};
+ghost use Rattle.capture_run.specs.Streams.{spelled_with};
+ghost use Rattle.capture_run.specs.declared.given.Given.TheVariants.{Block};
 
 use crate::fault::RunFault;
 use crate::sink::Sink;
 use capture_bytes::PcapRecord;
 use nfp_outside::{Desk, OutsideFault, Slot, write_whole};
 
-/// Puts a record into Out.
-pub fn put_record<W: Sink, D: Desk>(
+/// Puts a packet into Out, with this beside its record.
+pub fn put_packet<X, B, W: Sink<X, B>, D: Desk>(
     desk: &mut D,
     writer: &mut W,
     packet: &PcapRecord,
+    beside: &X,
 ) -> Result<(), RunFault>
     requires attached { IsSome (D.slots desk.old Slot.Out).name }
-    requires short { length packet.now.frame < 2 ^ 32 }
-    ensures ok { OnOk result (Puts (W.spelled writer.old packet.now) [] (D.slots desk.old) (D.slots desk.new)) }
-    ensures err { IfErr result (Breaks (W.spelled writer.old packet.now) [] (D.slots desk.old) (D.slots desk.new)) }
+    requires short { length packet.now.frame < 2 ^ 22 }
+    ensures ok { OnOk result (Puts (spelled_with (W.spelled writer.old) beside.now packet.now) [] (D.slots desk.old) (D.slots desk.new)) }
+    ensures err { IfErr result (Breaks (spelled_with (W.spelled writer.old) beside.now packet.now) [] (D.slots desk.old) (D.slots desk.new)) }
     ensures spelling { W.spelled writer.new ≡ W.spelled writer.old }
     ensures others { (s : Slot) → s ≢ Slot.Out → D.slots desk.new s ≡ D.slots desk.old s }
 {
-    match writer.put(desk, packet) {
+    match writer.put(desk, packet, beside) {
+        Ok(()) => Ok(()),
+        Err(fault) => Err(fault_of(Slot::Out, fault)),
+    }
+}
+
+/// Puts a block into Out that is no packet.
+pub fn put_block<X, B, W: Sink<X, B>, D: Desk>(
+    desk: &mut D,
+    writer: &mut W,
+    block: &B,
+) -> Result<(), RunFault>
+    requires { IsSome (D.slots desk.old Slot.Out).name }
+    ensures ok { OnOk result (Puts (W.spelled writer.old (Block block.now)) [] (D.slots desk.old) (D.slots desk.new)) }
+    ensures err { IfErr result (Breaks (W.spelled writer.old (Block block.now)) [] (D.slots desk.old) (D.slots desk.new)) }
+    ensures spelling { W.spelled writer.new ≡ W.spelled writer.old }
+    ensures others { (s : Slot) → s ≢ Slot.Out → D.slots desk.new s ≡ D.slots desk.old s }
+{
+    match writer.put_block(desk, block) {
         Ok(()) => Ok(()),
         Err(fault) => Err(fault_of(Slot::Out, fault)),
     }

@@ -6,7 +6,7 @@ use nfp_outside::{Reason, Slot};
 use nfp_run::{Option4, Outcome, UsageFault};
 use operator_help::capture::Captured;
 use operator_help::policy::PolicyText;
-use operator_help::{Page, capture, files, policy, usage};
+use operator_help::{Page, capture, capture_ng, files, policy, usage};
 use policy_check::CheckFault;
 use policy_judge::PolicyFault;
 use std::alloc::AllocError;
@@ -52,6 +52,11 @@ fn fill<R: Env>(
             let name = seen.name(Slot::Capture).unwrap_or("");
             let front = seen.front();
             capture::fault(page, Captured { name, front }, *fault)
+        }
+        Outcome::CaptureNg(fault) => {
+            let name = seen.name(Slot::Capture).unwrap_or("");
+            let front = seen.front();
+            capture_ng::fault(page, Captured { name, front }, *fault)
         }
         Outcome::ReadFault(slot) => match seen.name(*slot) {
             Some(name) => files::unread(page, name, of_system(reason)),

@@ -5,7 +5,7 @@ use Rattle.nfp_outside.specs.declared.slot.Slot.{Slot}
 use Rattle.nfp_outside.specs.declared.slot.Slot.TheVariants as slots
 use Rattle.nfp_outside.specs.Outside.{SlotView, IsRisen, Appends, AppendsPrefix}
 use Rattle.nfp_run.specs.declared.outcome.Outcome.{Outcome}
-use Rattle.nfp_run.specs.declared.outcome.Outcome.TheVariants.{Done, Usage, Policy, Capture, ReadFault, WriteFault, OutOfMemory}
+use Rattle.nfp_run.specs.declared.outcome.Outcome.TheVariants.{Done, Usage, Policy, Capture, CaptureNg, ReadFault, WriteFault, OutOfMemory}
 use Rattle.nfp_run.specs.declared.ending.Ending.{Ending}
 use Rattle.nfp_run.specs.declared.ending.Ending.TheVariants.{Completed, Shown, Refused, Stopped}
 use Rattle.command_words.specs.declared.usage.UsageFault.{UsageFault}
@@ -101,6 +101,7 @@ untold_final Done final = search rules
 untold_final (Usage fault) final = refl
 untold_final (Policy fault) final = refl
 untold_final (Capture fault) final = refl
+untold_final (CaptureNg fault) final = refl
 untold_final (ReadFault s) final = refl
 untold_final (WriteFault s) final = refl
 untold_final OutOfMemory final = refl
@@ -162,6 +163,7 @@ no_fault command old mid new ended ran beside none = go (outcome_seen ended) ref
     go (Usage fault) e = inl (subst IsFinal (sym e) tt)
     go (Policy fault) e = inl (subst IsFinal (sym e) tt)
     go (Capture fault) e = inl (subst IsFinal (sym e) tt)
+    go (CaptureNg fault) e = inl (subst IsFinal (sym e) tt)
     go (ReadFault s) e = absurd (reading s (ran.read_faults s e))
     go (WriteFault s) e = absurd (writing s e (ran.write_faults s e))
     go OutOfMemory e = inr e
@@ -203,6 +205,7 @@ seen_text command old mid (Stopped Done) ran some = if_read command old _ _ (λ 
 seen_text command old mid (Stopped (Usage fault)) ran some = if_read command old _ _ (λ p c ends. ends.note) (ran.due tt)
 seen_text command old mid (Stopped (Policy fault)) ran some = if_read command old _ _ (λ p c ends. ends.note) (ran.due tt)
 seen_text command old mid (Stopped (Capture fault)) ran some = if_read command old _ _ (λ p c ends. ends.note) (ran.due tt)
+seen_text command old mid (Stopped (CaptureNg fault)) ran some = if_read command old _ _ (λ p c ends. ends.note) (ran.due tt)
 seen_text command old mid (Stopped (ReadFault s)) ran some = read_always command old _ (λ p c. refl)
 seen_text command old mid (Stopped (WriteFault slots.Out)) ran some = read_always command old _ (λ p c. refl)
 seen_text command old mid (Stopped (WriteFault slots.Report)) ran some = read_always command old _ (λ p c. refl)
@@ -227,6 +230,7 @@ unnoted_text command old mid ended ran some = go (outcome_seen ended) refl
     go (Usage fault) e = same (ap untold e ∙ sym e)
     go (Policy fault) e = same (ap untold e ∙ sym e)
     go (Capture fault) e = same (ap untold e ∙ sym e)
+    go (CaptureNg fault) e = same (ap untold e ∙ sym e)
     go (ReadFault s) e = same (ap untold e ∙ sym e)
     go (WriteFault s) e = same (ap untold e ∙ sym e)
     go OutOfMemory e = same (ap untold e ∙ sym e)

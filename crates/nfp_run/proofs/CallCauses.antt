@@ -7,7 +7,7 @@ use Rattle.nfp_outside.specs.Outside.{SlotView, IsRisen}
 use Rattle.pcap_io.specs.declared.capture.CaptureFault.{CaptureFault}
 use Rattle.pcap_io.specs.declared.capture.CaptureFault.TheVariants.{BadMagic, BadVersion, BadLink, CutHead, CutRecord, FrameTooLong, TooManyRecords}
 use Rattle.nfp_run.specs.declared.outcome.Outcome.{Outcome}
-use Rattle.nfp_run.specs.declared.outcome.Outcome.TheVariants.{Done, Usage, Policy, Capture, ReadFault, WriteFault, OutOfMemory}
+use Rattle.nfp_run.specs.declared.outcome.Outcome.TheVariants.{Done, Usage, Policy, Capture, CaptureNg, ReadFault, WriteFault, OutOfMemory}
 use Rattle.policy_judge.specs.declared.fault.PolicyFault.{PolicyFault}
 use Rattle.nfp_run.specs.declared.ending.Ending.{Ending}
 use Rattle.command_words.specs.declared.usage.UsageFault.{UsageFault}
@@ -41,6 +41,8 @@ run_to Done mid new p q h = both_to mid new p q h
 run_to (Usage fault) mid new p q h = none_to mid new p q h
 run_to (Policy fault) mid new p q h = none_to mid new p q h
 run_to (Capture fault) mid new p q h = fault_to fault mid new p q h
+run_to (CaptureNg fault) mid new p q (inl both) = inl (both_to mid new p q both)
+run_to (CaptureNg fault) mid new p q (inr none) = inr (none_to mid new p q none)
 run_to (ReadFault slots.Policy) mid new p q h = none_to mid new p q h
 run_to (ReadFault slots.Capture) mid new p q h = tt
 run_to (ReadFault slots.Out) mid new p q h = tt
@@ -71,6 +73,7 @@ run_untold Done new h = h
 run_untold (Usage fault) new h = h
 run_untold (Policy fault) new h = h
 run_untold (Capture fault) new h = h
+run_untold (CaptureNg fault) new h = h
 run_untold (ReadFault s) new h = h
 run_untold (WriteFault s) new h = h
 run_untold OutOfMemory new h = h
@@ -99,6 +102,7 @@ reaches_untold command Done old h = reaches_note command old
 reaches_untold command (Usage fault) old h = h
 reaches_untold command (Policy fault) old h = h
 reaches_untold command (Capture fault) old h = h
+reaches_untold command (CaptureNg fault) old h = h
 reaches_untold command (ReadFault s) old h = h
 reaches_untold command (WriteFault s) old h = h
 reaches_untold command OutOfMemory old h = h
@@ -132,6 +136,7 @@ untold_seen Done o e other = absurd (other (sym e))
 untold_seen (Usage fault) o e other = e
 untold_seen (Policy fault) o e other = e
 untold_seen (Capture fault) o e other = e
+untold_seen (CaptureNg fault) o e other = e
 untold_seen (ReadFault s) o e other = e
 untold_seen (WriteFault s) o e other = e
 untold_seen OutOfMemory o e other = e
@@ -180,6 +185,7 @@ untold_done Done e none = refl
 untold_done (Usage fault) e none = absurd (none e)
 untold_done (Policy fault) e none = absurd (none e)
 untold_done (Capture fault) e none = absurd (none e)
+untold_done (CaptureNg fault) e none = absurd (none e)
 untold_done (ReadFault s) e none = absurd (none e)
 untold_done (WriteFault s) e none = absurd (none e)
 untold_done OutOfMemory e none = absurd (none e)

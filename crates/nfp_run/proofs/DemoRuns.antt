@@ -7,8 +7,7 @@ use Rattle.nfp_outside.specs.declared.slot.Slot.TheVariants as slots
 use Rattle.nfp_outside.specs.declared.weight.Weight.{Weight}
 use Rattle.nfp_outside.specs.Outside.{SlotView}
 use Rattle.nfp_outside.specs.Weights.{weight_of, no_weight, heavier}
-use Rattle.pcap_io.specs.Capture.{Body}
-use Rattle.pcap_io.specs.Written.{head_bytes, record_bytes}
+use Rattle.pcap_io.specs.Written.{head_bytes}
 use Rattle.pcap_io.specs.declared.capture.CaptureHead.{CaptureHead}
 use Rattle.capture_bytes.specs.declared.order.Endian.{Endian}
 use Rattle.capture_bytes.specs.declared.packet.PcapRecord.{PcapRecord}
@@ -19,15 +18,15 @@ use Rattle.chain_service.specs.Services.{Chains, service_among, service_of}
 use Rattle.demo_capture.specs.declared.summary.Summary.{Summary}
 use Rattle.demo_capture.specs.DemoCapture.{policy_text, policy_lines, demo_head, demo_records, whole_body}
 use Rattle.burst_walk.specs.Fates.{fates_of}
-use Rattle.capture_report.specs.Report.{report_of}
 use Rattle.capture_report.specs.declared.ended.Ended.{Ended}
-use Rattle.capture_run.specs.Emitted.{emitted_all, out_bytes}
-use Rattle.capture_run.specs.Running.{Counts}
+use Rattle.capture_run.specs.Formats.{pcap_spelled, pcap_stream}
+use Rattle.capture_run.specs.Running.{Counts, WritesAll}
 use Rattle.capture_run.specs.Slots.{Puts}
 use Rattle.nfp_run.specs.DemoNote.{demo_summary}
 use Rattle.nfp_run.specs.Heads.{written_head}
-use Rattle.nfp_run.specs.Written.{written_of}
-use Rattle.nfp_run.proofs.PutInSteps.{puts_more}
+use Rattle.nfp_run.specs.Closing.{LedWhole}
+use Rattle.nfp_run.specs.Written.{led_pcap, written_of}
+use Rattle.nfp_run.proofs.Formats.{pcap_whole}
 
 pub served_demo : (policy : Judged) (chains : Chains) → judged policy_text ≡ Ok policy → chains ≡ service_among policy.policy.chains policy.orders → service_of (judged policy_text) ≡ Some chains
 served_demo policy chains good is = ap service_of good ∙ ap Some (sym is)
@@ -37,24 +36,14 @@ pub policy_short : length policy_text ≤ 1048576
 unfolding policy_text policy_lines
 policy_short = let is : length policy_text ≡ 480 = refl in omega (arith, is)
 
--- the head, and then the records and the report
-head_put : (chains : Chains) (head : CaptureHead) (order : Endian) (body : Body) (old mid new : Slot → SlotView) → order ≡ head.order →
-    Puts (head_bytes (written_head chains head)) [] old mid →
-    Puts (emitted_all (record_bytes order) body.records (fates_of chains head.unit body.records)) (report_of chains head.unit body.records body.fault) mid new →
-    Puts (written_of chains head body).out (written_of chains head body).report old new
-unfolding out_bytes
-head_put chains head order body old mid new is first rest =
-    puts_more (head_bytes (written_head chains head)) [] (emitted_all (record_bytes head.order) body.records (fates_of chains head.unit body.records)) (report_of chains head.unit body.records body.fault) old mid new first
-    (subst (λ o. Puts (emitted_all (record_bytes o) body.records (fates_of chains head.unit body.records)) (report_of chains head.unit body.records body.fault) mid new) is rest)
-
-pub demo_put : (chains : Chains) (head : CaptureHead) (order : Endian) (records : List PcapRecord) (input : DemoInput) (old mid new : Slot → SlotView) →
+pub demo_put : (chains : Chains) (head : CaptureHead) (order : Endian) (records : List PcapRecord) (input : DemoInput) (old mid new : Slot → SlotView) (ended : Ended) →
     head ≡ demo_head → records ≡ demo_records input.seed input.count → order ≡ head.order → Puts (head_bytes (written_head chains head)) [] old mid →
-    Puts (emitted_all (record_bytes order) records (fates_of chains head.unit records)) (report_of chains head.unit records None) mid new →
-    Puts (written_of chains demo_head (whole_body (demo_records input.seed input.count))).out (written_of chains demo_head (whole_body (demo_records input.seed input.count))).report old new
-demo_put chains head order records input old mid new head_is records_are is first rest =
-    subst (λ h. Puts (written_of chains h (whole_body (demo_records input.seed input.count))).out (written_of chains h (whole_body (demo_records input.seed input.count))).report old new) head_is
-    (subst (λ r. Puts (written_of chains head (whole_body r)).out (written_of chains head (whole_body r)).report old new) records_are
-    (head_put chains head order (whole_body records) old mid new is first rest))
+    WritesAll (pcap_spelled order) chains head.unit (Some (pcap_stream (whole_body records))) mid new ended →
+    LedWhole (Some (led_pcap chains demo_head (whole_body (demo_records input.seed input.count)))) old new ended
+demo_put chains head order records input old mid new ended head_is records_are is first rest =
+    subst (λ h. LedWhole (Some (led_pcap chains h (whole_body (demo_records input.seed input.count)))) old new ended) head_is
+    (subst (λ r. LedWhole (Some (led_pcap chains head (whole_body r))) old new ended) records_are
+    (pcap_whole chains head order (Some (whole_body records)) old mid new ended is first rest))
 
 -- what was put weighs what its bytes weigh
 put_weighs : (bytes : List ℕ) (old new : SlotView) (w : Weight) → ((b : List ℕ) → heavier b no_weight ≡ weight_of b) → new.weight ≡ option_map (heavier bytes) old.weight → old.weight ≡ Some no_weight → new.weight ≡ Some w → w ≡ weight_of bytes
@@ -65,7 +54,7 @@ put_weighs bytes old new w whole put none is = same (sym is ∙ put ∙ ap (opti
 
 pub summed_demo : (input : DemoInput) (chains : Chains) (ended : Ended) (out report : Weight) (old new : Slot → SlotView) (summary : Summary) →
     ((b : List ℕ) → heavier b no_weight ≡ weight_of b) →
-    Counts (whole_body (demo_records input.seed input.count)) (fates_of chains demo_head.unit (demo_records input.seed input.count)) ended →
+    Counts None (fates_of chains demo_head.unit (demo_records input.seed input.count)) ended →
     Puts (written_of chains demo_head (whole_body (demo_records input.seed input.count))).out (written_of chains demo_head (whole_body (demo_records input.seed input.count))).report old new →
     (old slots.Out).weight ≡ Some no_weight → (old slots.Report).weight ≡ Some no_weight →
     (new slots.Out).weight ≡ Some out → (new slots.Report).weight ≡ Some report →

@@ -1,13 +1,16 @@
+mod NgRows
 mod Rows
 pub mod CallAnswers
 pub mod CallCauses
 pub mod DemoRows
 pub mod DemoRuns
 pub mod EndedRuns
+pub mod Formats
 pub mod GoodCalls
 pub mod GrownHeads
 pub mod HeldBytes
 pub mod NotedLines
+pub mod Opening
 pub mod OtherSlots
 pub mod PolicyEnds
 pub mod PutInSteps

@@ -5,7 +5,7 @@ use Rattle.nfp_outside.specs.declared.slot.Slot.{Slot}
 use Rattle.nfp_outside.specs.declared.slot.Slot.TheVariants as slots
 use Rattle.nfp_outside.specs.Outside.{SlotView, IsRisen, Appends, AppendsPrefix}
 use Rattle.nfp_run.specs.declared.outcome.Outcome.{Outcome}
-use Rattle.nfp_run.specs.declared.outcome.Outcome.TheVariants.{Done, Usage, Policy, Capture, ReadFault, WriteFault, OutOfMemory}
+use Rattle.nfp_run.specs.declared.outcome.Outcome.TheVariants.{Done, Usage, Policy, Capture, CaptureNg, ReadFault, WriteFault, OutOfMemory}
 use Rattle.nfp_run.specs.declared.ending.Ending.{Ending}
 use Rattle.nfp_run.specs.declared.ending.Ending.TheVariants.{Completed, Shown, Refused, Stopped}
 use Rattle.command_words.specs.declared.usage.UsageFault.{UsageFault}
@@ -23,6 +23,7 @@ untold_is_not_done Done e = cc
 untold_is_not_done (Usage fault) e = cc
 untold_is_not_done (Policy fault) e = cc
 untold_is_not_done (Capture fault) e = cc
+untold_is_not_done (CaptureNg fault) e = cc
 untold_is_not_done (ReadFault s) e = cc
 untold_is_not_done (WriteFault s) e = cc
 untold_is_not_done OutOfMemory e = cc
@@ -72,6 +73,7 @@ told_text command old mid (Stopped Done) ran = due_told command old mid (Stopped
 told_text command old mid (Stopped (Usage fault)) ran = due_told command old mid (Stopped (Usage fault)) ran tt
 told_text command old mid (Stopped (Policy fault)) ran = due_told command old mid (Stopped (Policy fault)) ran tt
 told_text command old mid (Stopped (Capture fault)) ran = due_told command old mid (Stopped (Capture fault)) ran tt
+told_text command old mid (Stopped (CaptureNg fault)) ran = due_told command old mid (Stopped (CaptureNg fault)) ran tt
 told_text command old mid (Stopped (ReadFault s)) ran = read_always command old _ (λ p c. inr (inl (s, (risen_reading command old mid s (ran.read_faults s refl)).0, (risen_reading command old mid s (ran.read_faults s refl)).1, refl)))
 told_text command old mid (Stopped (WriteFault s)) ran = read_always command old _ (λ p c. inr (inr (inl (s, (risen_writing command old mid s (λ e. ran.no_note_fault (ap WriteFault e)) (ran.write_faults s refl)).0, (risen_writing command old mid s (λ e. ran.no_note_fault (ap WriteFault e)) (ran.write_faults s refl)).1, refl))))
 told_text command old mid (Stopped OutOfMemory) ran = read_always command old _ (λ p c. inr (inr (inr refl)))
@@ -123,6 +125,7 @@ no_text (Stopped Done) e = absurd cc
 no_text (Stopped (Usage fault)) e = absurd cc
 no_text (Stopped (Policy fault)) e = absurd cc
 no_text (Stopped (Capture fault)) e = absurd cc
+no_text (Stopped (CaptureNg fault)) e = absurd cc
 no_text (Stopped (ReadFault s)) e = absurd cc
 no_text (Stopped (WriteFault s)) e = absurd cc
 no_text (Stopped OutOfMemory) e = refl

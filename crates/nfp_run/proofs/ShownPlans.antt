@@ -1,6 +1,6 @@
 -- The plan of a policy, chain by chain, and what a call leaves that shows it, or shows a demo.
 use Rattle.std.proofs.Common.{◌≡◌, ◌≢◌, ◌<◌, ◌≤◌, ◌⊎◌, ◌∙◌, inl, ℕ, List, [], ◌∷◌, ◌++◌, length, drop, get_or, zero, suc, ◌+◌, append_assoc, refl, ap, sym, subst, arith}
-use Rattle.std.specs.Prelude.{Option, Some, None, IfSome, IsOk, Result, Ok, Err}
+use Rattle.std.specs.Prelude.{Some, None, IsOk, Result, Ok, Err}
 use Rattle.std.specs.List.{AllZip, range_with_len}
 use Rattle.std.proofs.lemmas.List.{drop_more, drop_all, append-nil}
 use Rattle.std.proofs.lemmas.List.FromFn.{length-range_with_len}
@@ -18,7 +18,7 @@ use Rattle.policy_judge.specs.declared.judged.Judged.{Judged}
 use Rattle.policy_judge.specs.Judging.{judged}
 use Rattle.nfp_run.specs.declared.ending.Ending.{Ending}
 use Rattle.nfp_run.specs.declared.ending.Ending.TheVariants.{Completed, Shown, Refused, Stopped}
-use Rattle.nfp_run.specs.declared.outcome.Outcome.TheVariants.{Done, Usage, Policy, Capture, ReadFault, WriteFault, OutOfMemory}
+use Rattle.nfp_run.specs.declared.outcome.Outcome.TheVariants.{Done, Usage, Policy, Capture, CaptureNg, ReadFault, WriteFault, OutOfMemory}
 use Rattle.command_words.specs.declared.usage.UsageFault.{UsageFault}
 use Rattle.command_words.specs.declared.requests.DemoInput.{DemoInput}
 use Rattle.command_words.specs.declared.requests.RunOptions.{RunOptions}
@@ -159,6 +159,7 @@ plan_ran name old new ending free named others ends = go ending ends
     go (Stopped (Usage fault)) h = absurd h
     go (Stopped (Policy fault)) h = absurd h
     go (Stopped (Capture fault)) h = absurd h
+    go (Stopped (CaptureNg fault)) h = absurd h
     go (Stopped (WriteFault s)) h = absurd h
     go (Completed totals) h = absurd h
 
@@ -191,6 +192,7 @@ demo_ran input options old ending free ends = go ending ends
     go (Stopped (Usage fault)) h = absurd h
     go (Stopped (Policy fault)) h = absurd h
     go (Stopped (Capture fault)) h = absurd h
+    go (Stopped (CaptureNg fault)) h = absurd h
     go (Stopped (WriteFault s)) h = absurd h
     go (Refused refusal) h = absurd h
     go (Completed totals) h = absurd h

@@ -1,27 +1,16 @@
 -- What Out and Report hold where a capture ran into them, or its run was broken off.
-use Rattle.std.proofs.Common.{◌≡◌, inr, ℕ, List, [], ◌++◌, refl, ap, sym, subst}
+use Rattle.std.proofs.Common.{◌≡◌, inl, inr, ℕ, List, refl, sym, subst}
 use Rattle.std.specs.Prelude.{Option, Some, None, IfOk, IfErr, IfSome, IsErrAnd, Result, Ok, Err}
 use Rattle.nfp_outside.specs.declared.slot.Slot.{Slot}
 use Rattle.nfp_outside.specs.declared.slot.Slot.TheVariants as slots
-use Rattle.nfp_outside.specs.Outside.{SlotView, Attaches}
-use Rattle.pcap_io.specs.Capture.{Body}
-use Rattle.pcap_io.specs.Written.{head_bytes, record_bytes}
-use Rattle.pcap_io.specs.declared.capture.CaptureHead.{CaptureHead}
-use Rattle.capture_bytes.specs.declared.packet.PcapRecord.{PcapRecord}
-use Rattle.chain_service.specs.Services.{Chains}
+use Rattle.nfp_outside.specs.Outside.{SlotView, Attaches, KeepsSlot}
 use Rattle.capture_report.specs.declared.ended.Ended.{Ended}
 use Rattle.capture_run.specs.declared.fault.RunFault.{RunFault}
-use Rattle.burst_walk.specs.Fates.{fates_of}
-use Rattle.capture_run.specs.Emitted.{emitted_all, out_bytes}
-use Rattle.capture_report.specs.Report.{report_of}
-use Rattle.capture_run.specs.Running.{PutsBody, PutsBodyPrefixes, WritesAll, WriteBreaks}
-use Rattle.capture_run.specs.Slots.{Puts, PutsPrefixes, Breaks}
+use Rattle.capture_run.specs.Slots.{Puts, PutsPrefixes}
 use Rattle.nfp_run.specs.Answers.{Leaves, LeavesPrefixes}
-use Rattle.nfp_run.specs.Closing.{Left}
-use Rattle.nfp_run.specs.Written.{Written, written_of}
-use Rattle.nfp_run.specs.Heads.{written_head}
-use Rattle.nfp_run.proofs.HeldBytes.{holds_all, holds_prefix}
-use Rattle.nfp_run.proofs.PutInSteps.{prefixes_longer, puts_more, puts_more_partly}
+use Rattle.nfp_run.specs.Closing.{Left, LedPartly, LedWhole}
+use Rattle.nfp_run.specs.Written.{Led, Written}
+use Rattle.nfp_run.proofs.HeldBytes.{holds_all, holds_none, holds_prefix, untouched, untouched_same}
 
 -- Out and Report were attached one after the other.
 pub record Attached (out_name report_name : List ℕ) (old first second : Slot → SlotView) : Type 0 where
@@ -48,57 +37,34 @@ leaves_prefixes out_name report_name due old first second new a puts = (
   inr (holds_prefix slots.Report report_name due.report (old slots.Report) (second slots.Report) (new slots.Report) refl (report_attaches out_name report_name old first second a) puts.in_report),
 )
 
--- the bytes of Out are the head that is written and what is emitted behind it
-head_first : (chains : Chains) (head : CaptureHead) (spelled : PcapRecord → List ℕ) (b : Body) → spelled ≡ record_bytes head.order →
-    head_bytes (written_head chains head) ++ emitted_all spelled b.records (fates_of chains head.unit b.records) ≡ (written_of chains head b).out
-unfolding out_bytes
-head_first chains head spelled b same = ap (λ spell. head_bytes (written_head chains head) ++ emitted_all spell b.records (fates_of chains head.unit b.records)) same
+ran_so : (out_name report_name : List ℕ) (left : Option Led) (old first second new : Slot → SlotView) (r : Result Ended RunFault) → Attached out_name report_name old first second → IfOk r (LedWhole left second new) → IfErr r (LedPartly left second new) →
+    IfSome left (λ led. Left led old new r)
+ran_so out_name report_name None old first second new r a whole broken = tt
+ran_so out_name report_name (Some led) old first second new (Ok ended) a whole broken = (leaves_all out_name report_name led.written old first second new a whole.puts, whole.counts)
+ran_so out_name report_name (Some led) old first second new (Err e) a whole broken = leaves_prefixes out_name report_name led.written old first second new a broken.prefixes
 
-prefixes_is : (due : Written) (out : List ℕ) (old new : Slot → SlotView) → out ≡ due.out → PutsPrefixes out due.report old new → PutsPrefixes due.out due.report old new
-prefixes_is due out old new same puts = subst (λ bytes. PutsPrefixes bytes due.report old new) same puts
+-- the capture ran, and what was left of it stayed as it was until then
+pub left_by_run : (out_name report_name : List ℕ) (start left : Option Led) (old first second new : Slot → SlotView) (r : Result Ended RunFault) → Attached out_name report_name old first second → left ≡ start → IfOk r (LedWhole left second new) → IfErr r (LedPartly left second new) →
+    IfSome start (λ led. Left led old new r)
+left_by_run out_name report_name start left old first second new r a same whole broken = subst (λ o. IfSome o (λ led. Left led old new r)) same (ran_so out_name report_name left old first second new r a whole broken)
 
--- the head couldn't be put
-pub left_at_head : (chains : Chains) (head : CaptureHead) (out_name report_name : List ℕ) (body : Option Body) (old first second new : Slot → SlotView) (r : Result Ended RunFault) (e : RunFault) →
-    Attached out_name report_name old first second → IsErrAnd r (λ f. f ≡ e) → Breaks (head_bytes (written_head chains head)) [] second new e → IfSome body (λ b. Left (written_of chains head b) b (fates_of chains head.unit b.records) old new r)
-left_at_head chains head out_name report_name None old first second new r e a is broken = tt
-left_at_head chains head out_name report_name (Some b) old first second new (Ok ended) e a is broken = absurd is
-left_at_head chains head out_name report_name (Some b) old first second new (Err f) e a is broken = leaves_prefixes out_name report_name (written_of chains head b) old first second new a
-    (prefixes_is (written_of chains head b) _ second new (head_first chains head (record_bytes head.order) b refl)
-    (prefixes_longer (head_bytes (written_head chains head)) [] (emitted_all (record_bytes head.order) b.records (fates_of chains head.unit b.records)) (report_of chains head.unit b.records b.fault) second new broken.prefixes))
+for_each : (o : Option Led) (P : Led → Type 0) → ((led : Led) → P led) → IfSome o P
+for_each None P f = tt
+for_each (Some led) P f = f led
 
--- A capture was to run: Out and Report were attached, its head was put, and the writer spells records in its order.
-pub record Opened (chains : Chains) (head : CaptureHead) (spelled : PcapRecord → List ℕ) (out_name report_name : List ℕ) (old first second ready : Slot → SlotView) : Type 0 where
-  pub attached : Attached out_name report_name old first second
-  pub head_put : Puts (head_bytes (written_head chains head)) [] second ready
-  pub spells : spelled ≡ record_bytes head.order
+-- Out couldn't be attached
+pub out_unattached : (left : Option Led) (old new : Slot → SlotView) (r : Result Ended RunFault) (e : RunFault) → IsErrAnd r (λ f. f ≡ e) → (old slots.Out).name ≡ None → (old slots.Report).name ≡ None → KeepsSlot (old slots.Out) (new slots.Out) →
+    new slots.Report ≡ old slots.Report → IfSome left (λ led. Left led old new r)
+out_unattached left old new (Ok ended) e is free free_report keeps same = absurd is
+out_unattached left old new (Err f) e is free free_report keeps same = for_each left (λ led. Left led old new (Err f))
+    (λ led. (inl (untouched (old slots.Out) (new slots.Out) free keeps), inl (untouched_same (old slots.Report) (new slots.Report) free_report same)))
 
-ran_whole : (chains : Chains) (head : CaptureHead) (spelled : PcapRecord → List ℕ) (out_name report_name : List ℕ) (old first second ready new : Slot → SlotView) (b : Body) →
-    Opened chains head spelled out_name report_name old first second ready → PutsBody spelled chains head.unit ready new b → Leaves (Some (written_of chains head b)) old new
-ran_whole chains head spelled out_name report_name old first second ready new b o puts =
-    leaves_all out_name report_name (written_of chains head b) old first second new o.attached
-    (subst (λ out. Puts out (report_of chains head.unit b.records b.fault) second new) (head_first chains head spelled b o.spells)
-    (puts_more (head_bytes (written_head chains head)) [] (emitted_all spelled b.records (fates_of chains head.unit b.records)) (report_of chains head.unit b.records b.fault) second ready new o.head_put puts))
-
-ran_partly : (chains : Chains) (head : CaptureHead) (spelled : PcapRecord → List ℕ) (out_name report_name : List ℕ) (old first second ready new : Slot → SlotView) (b : Body) →
-    Opened chains head spelled out_name report_name old first second ready → PutsBodyPrefixes spelled chains head.unit ready new b → LeavesPrefixes (Some (written_of chains head b)) old new
-ran_partly chains head spelled out_name report_name old first second ready new b o puts =
-    leaves_prefixes out_name report_name (written_of chains head b) old first second new o.attached
-    (prefixes_is (written_of chains head b) _ second new (head_first chains head spelled b o.spells)
-    (puts_more_partly (head_bytes (written_head chains head)) [] (emitted_all spelled b.records (fates_of chains head.unit b.records)) (report_of chains head.unit b.records b.fault) second ready new o.head_put puts))
-
-ran_so : (chains : Chains) (head : CaptureHead) (spelled : PcapRecord → List ℕ) (out_name report_name : List ℕ) (body : Option Body) (old first second ready new : Slot → SlotView) (r : Result Ended RunFault) →
-    Opened chains head spelled out_name report_name old first second ready → IfOk r (WritesAll spelled chains head.unit body ready new) → IfErr r (WriteBreaks spelled chains head.unit body ready new) →
-    IfSome body (λ b. Left (written_of chains head b) b (fates_of chains head.unit b.records) old new r)
-ran_so chains head spelled out_name report_name None old first second ready new r o whole broken = tt
-ran_so chains head spelled out_name report_name (Some b) old first second ready new (Ok ended) o whole broken =
-    (ran_whole chains head spelled out_name report_name old first second ready new b o whole.puts, whole.counts)
-ran_so chains head spelled out_name report_name (Some b) old first second ready new (Err e) o whole broken =
-    ran_partly chains head spelled out_name report_name old first second ready new b o broken.prefixes
-
--- the capture ran, and its body was left as it was until then
-pub left_by_run : (chains : Chains) (head : CaptureHead) (spelled : PcapRecord → List ℕ) (out_name report_name : List ℕ) (start body : Option Body) (old first second ready new : Slot → SlotView) (r : Result Ended RunFault) →
-    Opened chains head spelled out_name report_name old first second ready → body ≡ start → IfOk r (WritesAll spelled chains head.unit body ready new) → IfErr r (WriteBreaks spelled chains head.unit body ready new) →
-    IfSome start (λ b. Left (written_of chains head b) b (fates_of chains head.unit b.records) old new r)
-left_by_run chains head spelled out_name report_name start body old first second ready new r o same whole broken =
-    subst (λ left. IfSome left (λ b. Left (written_of chains head b) b (fates_of chains head.unit b.records) old new r)) same
-    (ran_so chains head spelled out_name report_name body old first second ready new r o whole broken)
+-- Report couldn't be attached, behind Out
+pub report_unattached : (out_name : List ℕ) (left : Option Led) (old first new : Slot → SlotView) (r : Result Ended RunFault) (e : RunFault) → IsErrAnd r (λ f. f ≡ e) → (old slots.Report).name ≡ None → Attaches slots.Out out_name (old slots.Out) (first slots.Out) →
+    first slots.Report ≡ old slots.Report → KeepsSlot (first slots.Report) (new slots.Report) → new slots.Out ≡ first slots.Out → IfSome left (λ led. Left led old new r)
+report_unattached out_name left old first new (Ok ended) e is free attached same keeps still = absurd is
+report_unattached out_name left old first new (Err f) e is free attached same keeps still = for_each left (λ led. Left led old new (Err f))
+    (λ led. (
+      inr (holds_none slots.Out out_name led.written.out (old slots.Out) (new slots.Out) refl (subst (Attaches slots.Out out_name (old slots.Out)) (sym still) attached)),
+      inl (untouched (old slots.Report) (new slots.Report) free (subst (λ v. KeepsSlot v (new slots.Report)) same keeps)),
+    ))

@@ -1,22 +1,23 @@
 -- Believed: what an outcome says of the slots.
-use Rattle.std.specs.Prelude.{◌≡◌, ◌⊎◌, ℕ, List, ◌++◌, Option, Some, None, IfSome, IsSome, IsOk, Result, Ok, Err}
+use Rattle.std.specs.Prelude.{◌≡◌, ◌⊎◌, ℕ, List, ◌++◌, Option, Some, None, IfSome, IsSome, IsOk, Bool, true, false, Result, Ok, Err}
 use Rattle.std.specs.Option.{option_map}
 use Rattle.nfp_outside.specs.declared.slot.Slot.{Slot}
 use Rattle.nfp_outside.specs.declared.slot.Slot.TheVariants as slots
-use Rattle.nfp_outside.specs.Outside.{SlotView, IsRisen, Appends, AppendsPrefix}
-use Rattle.pcap_io.specs.Capture.{capture_of, IsHeadFault}
+use Rattle.nfp_outside.specs.Outside.{SlotView, IsRisen, AppendsPrefix}
+use Rattle.pcap_io.specs.Capture.{capture_of}
 use Rattle.pcap_io.specs.declared.capture.CaptureFault.{CaptureFault}
 use Rattle.pcap_io.specs.declared.capture.CaptureFault.TheVariants.{BadMagic, BadVersion, BadLink, CutHead, CutRecord, FrameTooLong, TooManyRecords}
+use Rattle.pcapng_io.specs.Blocks.{next_of, start}
 use Rattle.policy_judge.specs.declared.fault.PolicyFault.{PolicyFault}
 use Rattle.policy_judge.specs.declared.fault.Refusal.{Refusal}
 use Rattle.policy_judge.specs.declared.judged.Judged.{Judged}
 use Rattle.policy_judge.specs.Judging.{judged}
 use Rattle.nfp_run.specs.declared.outcome.Outcome.{Outcome}
-use Rattle.nfp_run.specs.declared.outcome.Outcome.TheVariants.{Done, Usage, Policy, Capture, ReadFault, WriteFault, OutOfMemory}
+use Rattle.nfp_run.specs.declared.outcome.Outcome.TheVariants.{Done, Usage, Policy, Capture, CaptureNg, ReadFault, WriteFault, OutOfMemory}
 use Rattle.command_words.specs.declared.usage.UsageFault.{UsageFault}
 use Rattle.command_words.specs.Words.{Command, Run, Plan, Demo}
 use Rattle.nfp_run.specs.Notes.{read_fault_text, write_fault_text}
-use Rattle.nfp_run.specs.Due.{Due}
+use Rattle.nfp_run.specs.Due.{Due, is_ng}
 use Rattle.nfp_run.specs.Written.{Written}
 
 -- A slot that was never attached: it has no name, and its bytes are those before.
@@ -59,6 +60,7 @@ IsFinal Done = Unit {0}
 IsFinal (Usage fault) = Unit {0}
 IsFinal (Policy fault) = Unit {0}
 IsFinal (Capture fault) = Unit {0}
+IsFinal (CaptureNg fault) = Unit {0}
 IsFinal (ReadFault slot) = ⊥
 IsFinal (WriteFault slot) = ⊥
 IsFinal OutOfMemory = ⊥
@@ -114,9 +116,14 @@ HasNames (Ok command) new = (s : Slot) → ((new s).name ≡ None) ⊎ ((new s).
 abbrev pub HasPolicy : (Slot → SlotView) → Type 0
 HasPolicy old = IfSome (old slots.Policy).bytes (λ bytes. IsOk (judged bytes))
 
--- the head of the capture has no fault, where the desk tells it
+-- the head of a classic capture has no fault, or the first block of a pcapng capture
+abbrev pub HasNoOpeningFault : Bool → List ℕ → Type 0
+HasNoOpeningFault false bytes = IsOk (capture_of bytes)
+HasNoOpeningFault true bytes = IsOk (next_of start bytes)
+
+-- the same of the capture, where the desk tells it
 abbrev pub HasHead : (Slot → SlotView) → Type 0
-HasHead old = IfSome (old slots.Capture).bytes (λ bytes. IsOk (capture_of bytes))
+HasHead old = IfSome (old slots.Capture).bytes (λ bytes. HasNoOpeningFault (is_ng bytes) bytes)
 
 -- Out and Report are attached, or neither is
 abbrev pub BothAttached : (Slot → SlotView) → Type 0
@@ -124,10 +131,6 @@ BothAttached new = IsSome (new slots.Out).name × IsSome (new slots.Report).name
 
 abbrev pub NoneAttached : (Slot → SlotView) → Type 0
 NoneAttached new = ((new slots.Out).name ≡ None) × ((new slots.Report).name ≡ None)
-
--- a fault of a capture behind its head
-abbrev pub IsBodyFault : CaptureFault → Type 0
-IsBodyFault fault = ¬ IsHeadFault fault
 
 -- a refused head leaves both unattached; a fault behind it is told in the report
 abbrev pub FaultAttaches : CaptureFault → (Slot → SlotView) → Type 0
@@ -139,12 +142,14 @@ FaultAttaches (CutRecord number) new = BothAttached new
 FaultAttaches (FrameTooLong number length) new = BothAttached new
 FaultAttaches TooManyRecords new = BothAttached new
 
--- which of Out and Report are attached by `run`, whatever the desk tells; Out is attached before Report
+-- which of Out and Report are attached by `run`, whatever the desk tells; Out is attached before Report. A fault of a pcapng capture
+-- leaves both attached or neither: neither where its first block is refused, which is told by the bytes alone.
 abbrev pub RunAttaches : Outcome → (Slot → SlotView) → Type 0
 RunAttaches Done new = BothAttached new
 RunAttaches (Usage fault) new = NoneAttached new
 RunAttaches (Policy fault) new = NoneAttached new
 RunAttaches (Capture fault) new = FaultAttaches fault new
+RunAttaches (CaptureNg fault) new = BothAttached new ⊎ NoneAttached new
 RunAttaches (ReadFault slots.Policy) new = NoneAttached new
 RunAttaches (ReadFault slot) new = Unit {0}
 RunAttaches (WriteFault slots.Note) new = BothAttached new
@@ -168,6 +173,8 @@ ReachesCapture (Ok (Demo input options)) Done old = Unit {0}
 ReachesCapture (Err fault) Done old = ⊥
 ReachesCapture (Ok (Run names options)) (Capture fault) old = HasPolicy old
 ReachesCapture command (Capture fault) old = ⊥
+ReachesCapture (Ok (Run names options)) (CaptureNg fault) old = HasPolicy old
+ReachesCapture command (CaptureNg fault) old = ⊥
 ReachesCapture command outcome old = Unit {0}
 
 -- a refusal of a policy tells this fault

@@ -1,30 +1,32 @@
 -- For proofs: how a call ends, before its line is put into Note.
-use Rattle.std.specs.Prelude.{◌≡◌, ◌⊎◌, ◌≤◌, ℕ, List, [], Option, Some, None, Result, Ok, Err}
+use Rattle.std.specs.Prelude.{◌≡◌, ◌⊎◌, ◌≤◌, ℕ, List, [], Option, Some, None, IfSome, Result, Ok, Err}
 use Rattle.nfp_outside.specs.declared.slot.Slot.{Slot}
 use Rattle.nfp_outside.specs.declared.slot.Slot.TheVariants as slots
 use Rattle.nfp_outside.specs.Outside.{SlotView, IsRisen, Appends, AppendsPrefix}
-use Rattle.pcap_io.specs.Capture.{Body}
-use Rattle.pcap_io.specs.declared.capture.CaptureFault.{CaptureFault}
-use Rattle.chain_walk.specs.declared.walk.Fate.{Fate}
 use Rattle.nfp_run.specs.declared.outcome.Outcome.{Outcome}
-use Rattle.nfp_run.specs.declared.outcome.Outcome.TheVariants.{Done, Usage, Policy, Capture, ReadFault, WriteFault, OutOfMemory}
+use Rattle.nfp_run.specs.declared.outcome.Outcome.TheVariants.{Done, Usage, Policy, Capture, CaptureNg, ReadFault, WriteFault, OutOfMemory}
 use Rattle.nfp_run.specs.declared.ending.Ending.{Ending}
 use Rattle.nfp_run.specs.declared.ending.Ending.TheVariants.{Completed, Shown, Refused, Stopped}
 use Rattle.capture_report.specs.declared.ended.Totals.{Totals}
 use Rattle.capture_report.specs.declared.ended.Ended.{Ended}
 use Rattle.capture_run.specs.declared.fault.RunFault.{RunFault}
-use Rattle.capture_report.specs.FaultLines.{capture_text}
-use Rattle.capture_run.specs.Running.{Counts}
+use Rattle.capture_report.specs.FaultLines.{capture_text, ng_text}
+use Rattle.capture_report.specs.declared.fault.FormatFault.{FormatFault}
+use Rattle.capture_report.specs.declared.fault.FormatFault.TheVariants.{Pcap, Ng}
+use Rattle.capture_run.specs.Running.{Counts, Goes}
+use Rattle.capture_run.specs.Slots.{IsBroken, Puts, PutsPrefixes}
+use Rattle.capture_run.specs.Sources.{IsOpeningFault}
 use Rattle.nfp_run.specs.Notes.{usage_text, done_text, read_fault_text, write_fault_text}
 use Rattle.nfp_run.specs.Broken.{broken_by}
 use Rattle.nfp_run.specs.Due.{Due}
-use Rattle.nfp_run.specs.Written.{Written}
+use Rattle.nfp_run.specs.Written.{Led}
 use Rattle.nfp_run.specs.Answers.{Leaves, LeavesPrefixes}
 
 -- a capture that ended with a fault is answered by it
-abbrev pub closed : Totals → Option CaptureFault → Ending
+abbrev pub closed : Totals → Option FormatFault → Ending
 closed totals None = Completed totals
-closed totals (Some fault) = Stopped (Capture fault)
+closed totals (Some (Pcap fault)) = Stopped (Capture fault)
+closed totals (Some (Ng fault)) = Stopped (CaptureNg fault)
 
 -- how the work of a call ended that ran a capture
 abbrev pub ending_of : Result Ended RunFault → Ending
@@ -44,6 +46,7 @@ stop_text Done = []
 stop_text (Usage fault) = usage_text fault
 stop_text (Policy fault) = []
 stop_text (Capture fault) = capture_text fault
+stop_text (CaptureNg fault) = ng_text fault
 stop_text (ReadFault slot) = read_fault_text slot
 stop_text (WriteFault slot) = write_fault_text slot
 stop_text OutOfMemory = []
@@ -55,10 +58,24 @@ text_of (Shown text) = text
 text_of (Refused refusal) = refusal.line
 text_of (Stopped outcome) = stop_text outcome
 
--- what a body that is told leaves, by how the run over it ended
-abbrev pub Left : Written → Body → List Fate → (Slot → SlotView) → (Slot → SlotView) → Result Ended RunFault → Type 0
-Left due body fates old new (Ok ended) = Leaves (Some due) old new × Counts body fates ended
-Left due body fates old new (Err fault) = LeavesPrefixes (Some due) old new
+-- what a capture that is told leaves, by how the run over it ended
+abbrev pub Left : Led → (Slot → SlotView) → (Slot → SlotView) → Result Ended RunFault → Type 0
+Left led old new (Ok ended) = Leaves (Some led.written) old new × Counts led.fault led.fates ended
+Left led old new (Err fault) = LeavesPrefixes (Some led.written) old new
+
+-- A capture went through the chains behind Out and Report as they were: what is due was put.
+pub record LedWhole (left : Option Led) (old new : Slot → SlotView) (ended : Ended) : Type 0 where
+  pub goes : Goes old new
+  pub within : ended.totals.dropped ≤ ended.totals.records
+  pub kind : IfSome ended.fault (λ fault. ¬ IsOpeningFault fault)
+  pub counts : IfSome left (λ led. Counts led.fault led.fates ended)
+  pub puts : IfSome left (λ led. Puts led.written.out led.written.report old new)
+
+-- It was broken off, and a front part of each was put.
+pub record LedPartly (left : Option Led) (old new : Slot → SlotView) (fault : RunFault) : Type 0 where
+  pub goes : Goes old new
+  pub cause : IsBroken old new fault
+  pub prefixes : IfSome left (λ led. PutsPrefixes led.written.out led.written.report old new)
 
 -- An outcome that the words, the policy and the capture determine is the one that is due, and so is its line.
 pub record EndsDue (due : Due) (old new : Slot → SlotView) (ending : Ending) : Type 0 where

@@ -1,8 +1,13 @@
 -- Believed: the result: what words, a policy and a capture are to be answered with.
-use Rattle.std.specs.Prelude.{ℕ, List, length, count_by, Option, Some, None, Result, Ok, Err}
+use Rattle.std.specs.Prelude.{ℕ, List, [], ◌∷◌, length, take, count_by, Bool, true, false, Option, Some, None, Result, Ok, Err}
+use Rattle.std.specs.Str.{bytes_eq}
 use Rattle.pcap_io.specs.Capture.{Body, capture_of}
 use Rattle.pcap_io.specs.declared.capture.CaptureHead.{CaptureHead}
 use Rattle.pcap_io.specs.declared.capture.CaptureFault.{CaptureFault}
+use Rattle.pcapng_io.specs.Blocks.{blocks_of, next_of, start}
+use Rattle.pcapng_io.specs.declared.fault.NgFault.{NgFault}
+use Rattle.pcapng_io.specs.declared.item.NgItem.{NgItem}
+use Rattle.pcapng_io.specs.declared.place.Place.{Place}
 use Rattle.chain_walk.specs.declared.walk.Fate.{Fate}
 use Rattle.policy_judge.specs.declared.fault.Refusal.{Refusal}
 use Rattle.policy_judge.specs.declared.judged.Judged.{Judged}
@@ -12,10 +17,11 @@ use Rattle.nfp_run.specs.declared.outcome.Outcome.TheVariants as outcomes
 use Rattle.command_words.specs.declared.usage.UsageFault.{UsageFault}
 use Rattle.command_words.specs.Words.{Command, Run, Plan, Demo, command_of}
 use Rattle.chain_service.specs.Services.{Chains, service_among}
-use Rattle.burst_walk.specs.Fates.{fates_of}
-use Rattle.capture_report.specs.FaultLines.{capture_text}
+use Rattle.capture_report.specs.FaultLines.{capture_text, fault_text, ng_text}
 use Rattle.capture_report.specs.Report.{is_gone}
-use Rattle.nfp_run.specs.Written.{Written, written_of}
+use Rattle.capture_report.specs.declared.fault.FormatFault.{FormatFault}
+use Rattle.capture_report.specs.declared.fault.FormatFault.TheVariants.{Pcap, Ng}
+use Rattle.nfp_run.specs.Written.{Led, Written, led_ng, led_pcap}
 use Rattle.nfp_run.specs.DemoNote.{demo_text}
 use Rattle.nfp_run.specs.Notes.{usage_text, done_text}
 use Rattle.nfp_run.specs.Plan.{plan_text}
@@ -31,22 +37,43 @@ abbrev pub nothing_but : Outcome → List ℕ → Due
 nothing_but outcome note = record { outcome = outcome; written = None; note = note }
 
 -- a capture without a fault is done
-abbrev pub outcome_of : Option CaptureFault → Outcome
+abbrev pub outcome_of : Option FormatFault → Outcome
 outcome_of None = outcomes.Done
-outcome_of (Some fault) = outcomes.Capture fault
+outcome_of (Some (Pcap fault)) = outcomes.Capture fault
+outcome_of (Some (Ng fault)) = outcomes.CaptureNg fault
 
-abbrev pub note_of : Option CaptureFault → List Fate → List ℕ
+abbrev pub note_of : Option FormatFault → List Fate → List ℕ
 note_of None fates = done_text (length fates) (count_by is_gone fates)
-note_of (Some fault) fates = capture_text fault
+note_of (Some fault) fates = fault_text fault
 
--- a refused head leaves nothing to write; else the records before a fault go through the chains
-abbrev pub due_of_capture : Chains → Result (CaptureHead × Body) CaptureFault → Due
-due_of_capture chains (Err fault) = nothing_but (outcomes.Capture fault) (capture_text fault)
-due_of_capture chains (Ok capture) = record {
-  outcome = outcome_of capture.1.fault;
-  written = Some (written_of chains capture.0 capture.1);
-  note = note_of capture.1.fault (fates_of chains capture.0.unit capture.1.records);
-}
+-- a capture that goes through chains, up to its fault
+abbrev pub due_of_led : Led → Due
+due_of_led led = record { outcome = outcome_of led.fault; written = Some led.written; note = note_of led.fault led.fates }
+
+-- a classic capture: a refused head leaves nothing to write
+abbrev pub due_of_pcap : Chains → Result (CaptureHead × Body) CaptureFault → Due
+due_of_pcap chains (Err fault) = nothing_but (outcomes.Capture fault) (capture_text fault)
+due_of_pcap chains (Ok capture) = due_of_led (led_pcap chains capture.0 capture.1)
+
+-- a pcapng capture: a refused first block leaves nothing to write
+abbrev pub due_of_ng : Chains → List ℕ → Result (Option (NgItem × Place × List ℕ)) NgFault → Due
+due_of_ng chains capture (Err fault) = nothing_but (outcomes.CaptureNg fault) (ng_text fault)
+due_of_ng chains capture (Ok first) = due_of_led (led_ng chains (blocks_of start capture))
+
+-- these first four bytes are the type of a section header block, with which a pcapng capture begins
+abbrev pub is_ng_front : List ℕ → Bool
+is_ng_front first = bytes_eq first (0x0a ∷ 0x0d ∷ 0x0d ∷ 0x0a ∷ [])
+
+abbrev pub is_ng : List ℕ → Bool
+is_ng capture = is_ng_front (take 4 capture)
+
+-- a capture by its format
+abbrev pub due_by_format : Bool → Chains → List ℕ → Due
+due_by_format false chains capture = due_of_pcap chains (capture_of capture)
+due_by_format true chains capture = due_of_ng chains capture (next_of start capture)
+
+abbrev pub due_of_capture : Chains → List ℕ → Due
+due_of_capture chains capture = due_by_format (is_ng capture) chains capture
 
 -- a policy with a fault is told by it, whatever is asked for
 abbrev pub due_of_refusal : Refusal → Due
@@ -54,7 +81,7 @@ due_of_refusal refusal = nothing_but (outcomes.Policy refusal.fault) refusal.lin
 
 abbrev pub due_of_run : Result Judged Refusal → List ℕ → Due
 due_of_run (Err refusal) capture = due_of_refusal refusal
-due_of_run (Ok policy) capture = due_of_capture (service_among policy.policy.chains policy.orders) (capture_of capture)
+due_of_run (Ok policy) capture = due_of_capture (service_among policy.policy.chains policy.orders) capture
 
 -- a plan doesn't look at the capture
 abbrev pub due_of_plan : Result Judged Refusal → Due

@@ -19,6 +19,10 @@ adders_in chain = count_by (λ f. adds_tag f.kind) chain.functions
 abbrev pub adders_of : Chains → ℕ
 adders_of chains = sum_by adders_in chains.declared
 
+-- how many bytes longer they may make a frame, up to the largest number of 32 bits
+abbrev pub growth_of : Chains → ℕ
+growth_of chains = min (4 * adders_of chains) 4294967295
+
 -- the head that was read, its snaplen grown by four for each of them, up to the largest number that a head has place for
 abbrev pub written_head : Chains → CaptureHead → CaptureHead
 written_head chains head = record head { snaplen = min (head.snaplen + 4 * adders_of chains) 4294967295 }

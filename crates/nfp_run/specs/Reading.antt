@@ -1,11 +1,21 @@
 -- For proofs: how the reading of the policy ends, a demo, and the opening of the capture.
-use Rattle.std.specs.Prelude.{◌≡◌, ◌<◌, ◌⊎◌, ℕ, List, length, Some, IfSome, Result, Ok, Err}
+use Rattle.std.specs.Prelude.{◌≡◌, ◌<◌, ◌⊎◌, ℕ, List, length, Bool, true, false, Option, Some, IfSome, IsSomeAnd, IsOk, Result, Ok, Err}
 use Rattle.std.specs.Option.{option_map}
 use Rattle.nfp_outside.specs.declared.slot.Slot.TheVariants as slots
 use Rattle.nfp_outside.specs.Outside.{SlotView, IsRisen}
+use Rattle.nfp_outside.specs.declared.slot.DeskFault.{DeskFault}
+use Rattle.nfp_outside.specs.declared.slot.DeskFault.TheVariants as desk
+use Rattle.capture_bytes.specs.Filling.{unread}
+use Rattle.capture_bytes.specs.declared.packet.Unit.TheVariants.{Nano}
 use Rattle.pcap_io.specs.Capture.{capture_of, IsHeadFault}
-use Rattle.pcap_io.specs.Reader.{ReaderState, reader_at, body_left}
-use Rattle.pcap_io.specs.declared.capture.CaptureHead.{CaptureHead}
+use Rattle.pcap_io.specs.Reader.{reader_at, body_left}
+use Rattle.pcapng_io.specs.Blocks.{blocks_of, next_of, start}
+use Rattle.pcapng_io.specs.declared.item.NgItem.{NgItem}
+use Rattle.chain_service.specs.Services.{Chains}
+use Rattle.burst_walk.specs.Fates.{fates_of}
+use Rattle.capture_report.specs.Report.{report_of}
+use Rattle.capture_run.specs.Formats.{PacketBeside, is_asked, ng_left, ng_packets, ng_spelled, ng_stream}
+use Rattle.capture_run.specs.Streams.{Stream, emitted_among, records_in}
 use Rattle.policy_judge.specs.declared.fault.JudgeFault.{JudgeFault}
 use Rattle.policy_judge.specs.declared.fault.JudgeFault.TheVariants as faults
 use Rattle.policy_judge.specs.Judging.{judged, told}
@@ -15,11 +25,16 @@ use Rattle.nfp_run.specs.declared.ending.Ending.{Ending}
 use Rattle.nfp_run.specs.declared.ending.Ending.TheVariants.{Completed, Shown, Refused, Stopped}
 use Rattle.command_words.specs.declared.requests.DemoInput.{DemoInput}
 use Rattle.nfp_run.specs.DemoNote.{demo_text}
+use Rattle.nfp_run.specs.Due.{is_ng, is_ng_front}
+use Rattle.nfp_run.specs.Heads.{growth_of}
+use Rattle.nfp_run.specs.Written.{Led, led_pcap}
+use Rattle.nfp_run.specs.declared.read.Opened.{Opened}
+use Rattle.nfp_run.specs.declared.read.Opened.TheVariants.{Pcap, Ng}
 use Rattle.nfp_run.specs.Plan.{plan_text}
 use Rattle.policy_judge.specs.declared.fault.Refusal.{Refusal}
 use Rattle.policy_judge.specs.declared.judged.Judged.{Judged}
 use Rattle.nfp_run.specs.declared.outcome.Outcome.{Outcome}
-use Rattle.nfp_run.specs.declared.outcome.Outcome.TheVariants.{Done, Usage, Policy, Capture, ReadFault, WriteFault, OutOfMemory}
+use Rattle.nfp_run.specs.declared.outcome.Outcome.TheVariants.{Done, Usage, Policy, Capture, CaptureNg, ReadFault, WriteFault, OutOfMemory}
 use Rattle.nfp_run.specs.declared.read.Unread.{Unread}
 use Rattle.nfp_run.specs.declared.read.Unread.TheVariants.{TooLong, Failed, NoMemory}
 
@@ -49,6 +64,7 @@ EndsAtPolicy old new (Stopped Done) = ⊥
 EndsAtPolicy old new (Stopped (Usage fault)) = ⊥
 EndsAtPolicy old new (Stopped (Policy fault)) = ⊥
 EndsAtPolicy old new (Stopped (Capture fault)) = ⊥
+EndsAtPolicy old new (Stopped (CaptureNg fault)) = ⊥
 EndsAtPolicy old new (Stopped (WriteFault s)) = ⊥
 EndsAtPolicy old new (Completed totals) = ⊥
 EndsAtPolicy old new (Shown text) = ⊥
@@ -71,23 +87,79 @@ DemoEnds input (Stopped Done) = ⊥
 DemoEnds input (Stopped (Usage fault)) = ⊥
 DemoEnds input (Stopped (Policy fault)) = ⊥
 DemoEnds input (Stopped (Capture fault)) = ⊥
+DemoEnds input (Stopped (CaptureNg fault)) = ⊥
 DemoEnds input (Stopped (ReadFault s)) = ⊥
 DemoEnds input (Stopped (WriteFault s)) = ⊥
 DemoEnds input (Refused refusal) = ⊥
 DemoEnds input (Completed totals) = ⊥
 
--- The head of the capture was read, and the reader stands behind it.
-pub record Opens (name : List ℕ) (head : CaptureHead) (reader : ReaderState) (old new : SlotView) : Type 0 where
-  pub named : new.name ≡ Some name
-  pub fresh : reader ≡ reader_at head.order 0
-  pub whole : option_map capture_of old.bytes ≡ option_map (λ body. Ok (head, body)) (body_left reader new)
+-- what chains make of what a source gives of a pcapng capture
+abbrev pub led_stream : Chains → Stream PacketBeside NgItem → Led
+led_stream chains stream = record {
+  written = record {
+    out = emitted_among (ng_spelled (growth_of chains)) stream.given (fates_of chains Nano (records_in stream.given));
+    report = report_of chains Nano (records_in stream.given) stream.fault;
+  };
+  fates = fates_of chains Nano (records_in stream.given);
+  fault = stream.fault;
+}
 
--- Why the capture wasn't opened: its head is refused, its count rose, or memory ran out.
+-- what is due of what is left of a capture that was opened, behind its head or its first block
+abbrev pub opened_led : Chains → Opened → SlotView → Option Led
+opened_led chains (Pcap head reader) slot = option_map (led_pcap chains head) (body_left reader slot)
+opened_led chains (Ng source) slot = option_map (led_stream chains) (ng_left source slot)
+
+-- nothing was given yet
+abbrev pub IsBefore : Opened → Type 0
+IsBefore (Pcap head reader) = reader ≡ reader_at head.order 0
+IsBefore (Ng source) = (ng_packets source ≡ 0) × (is_asked source ≡ true)
+
+-- it is of this format
+abbrev pub IsOfFormat : Bool → Opened → Type 0
+IsOfFormat ng (Pcap head reader) = ng ≡ false
+IsOfFormat ng (Ng source) = ng ≡ true
+
+-- all of a capture with these bytes is left, but its head, which has no fault
+abbrev pub LeavesAll : Opened → SlotView → List ℕ → Type 0
+LeavesAll (Pcap head reader) new bytes = IsSomeAnd (body_left reader new) (λ body. capture_of bytes ≡ Ok (head, body))
+LeavesAll (Ng source) new bytes = (ng_left source new ≡ Some (ng_stream (blocks_of start bytes))) × IsOk (next_of start bytes)
+
+-- A capture was opened of which these first bytes were read before.
+pub record OpensBehind (first : List ℕ) (opened : Opened) (old new : SlotView) : Type 0 where
+  pub before : IsBefore opened
+  pub format : IsOfFormat (is_ng_front first) opened
+  pub whole : IfSome (unread first old).bytes (LeavesAll opened new)
+
+-- A capture was opened by its name.
+pub record Opens (name : List ℕ) (opened : Opened) (old new : SlotView) : Type 0 where
+  pub named : new.name ≡ Some name
+  pub before : IsBefore opened
+  pub whole : IfSome old.bytes (λ bytes. IsOfFormat (is_ng bytes) opened × LeavesAll opened new bytes)
+
+-- Why a capture wasn't opened of which these first bytes were read before: its head or its first block is refused, its count rose, or
+-- memory ran out.
+abbrev pub RefusesBehind : List ℕ → SlotView → SlotView → Outcome → Type 0
+RefusesBehind first old new (Capture fault) = IsHeadFault fault × (is_ng_front first ≡ false) × IfSome (unread first old).bytes (λ bytes. capture_of bytes ≡ Err fault)
+RefusesBehind first old new (CaptureNg fault) = (is_ng_front first ≡ true) × IfSome (unread first old).bytes (λ bytes. next_of start bytes ≡ Err fault)
+RefusesBehind first old new (ReadFault s) = (s ≡ slots.Capture) × IsRisen old.faults new.faults
+RefusesBehind first old new OutOfMemory = Unit {0}
+RefusesBehind first old new Done = ⊥
+RefusesBehind first old new (Usage fault) = ⊥
+RefusesBehind first old new (Policy fault) = ⊥
+RefusesBehind first old new (WriteFault s) = ⊥
+
+-- the same of a capture that was to be opened by its name
 abbrev pub RefusedOpening : SlotView → SlotView → Outcome → Type 0
-RefusedOpening old new (Capture fault) = IsHeadFault fault × IfSome old.bytes (λ bytes. capture_of bytes ≡ Err fault)
+RefusedOpening old new (Capture fault) = IsHeadFault fault × IfSome old.bytes (λ bytes. (is_ng bytes ≡ false) × (capture_of bytes ≡ Err fault))
+RefusedOpening old new (CaptureNg fault) = IfSome old.bytes (λ bytes. (is_ng bytes ≡ true) × (next_of start bytes ≡ Err fault))
 RefusedOpening old new (ReadFault s) = (s ≡ slots.Capture) × IsRisen old.faults new.faults
 RefusedOpening old new OutOfMemory = Unit {0}
 RefusedOpening old new Done = ⊥
 RefusedOpening old new (Usage fault) = ⊥
 RefusedOpening old new (Policy fault) = ⊥
 RefusedOpening old new (WriteFault s) = ⊥
+
+-- what a capture is answered with that a desk refused to attach or to read
+abbrev pub unread_capture : DeskFault → Outcome
+unread_capture desk.Failed = ReadFault slots.Capture
+unread_capture desk.NoMemory = OutOfMemory

@@ -1,13 +1,14 @@
 -- Believed: the exit status of each outcome.
 use Rattle.std.specs.Prelude.{ℕ}
 use Rattle.nfp_run.specs.declared.outcome.Outcome.{Outcome}
-use Rattle.nfp_run.specs.declared.outcome.Outcome.TheVariants.{Done, Usage, Policy, Capture, ReadFault, WriteFault, OutOfMemory}
+use Rattle.nfp_run.specs.declared.outcome.Outcome.TheVariants.{Done, Usage, Policy, Capture, CaptureNg, ReadFault, WriteFault, OutOfMemory}
 
 abbrev pub status_of : Outcome → ℕ
 status_of Done = 0
 status_of (Usage fault) = 1
 status_of (Policy fault) = 2
 status_of (Capture fault) = 3
+status_of (CaptureNg fault) = 3
 status_of (ReadFault slot) = 4
 status_of (WriteFault slot) = 5
 status_of OutOfMemory = 6

@@ -1,5 +1,5 @@
 //! Runs a demo: a capture that is made, through the chains of its own policy, told by what comes out.
-ghost use Rattle.std.specs.Prelude.{◌≡◌, ◌≤◌, ◌-◌, IfOk, IsSome, Some};
+ghost use Rattle.std.specs.Prelude.{◌≡◌, ◌≤◌, ◌-◌, IfOk, IsSome, Some, None};
 ghost use Rattle.nfp_outside.specs.declared.slot.Slot.{Slot};
 ghost use Rattle.policy_judge.specs.Judging.{judged};
 ghost use Rattle.chain_service.specs.Opening.{IsOpening, chains_of};
@@ -123,7 +123,7 @@ fn lead<R: Threads + Wait + Clock + Sync, D: Desk, G: Gate + Sync>(
     requires ranges { IsInRange options }
     ensures puts { IfOk result (λ ended. Puts (written_of (chains_of service.chains) demo_head (whole_body (demo_records input.seed input.count))).out
         (written_of (chains_of service.chains) demo_head (whole_body (demo_records input.seed input.count))).report (D.slots desk.old) (D.slots desk.new)) }
-    ensures counts { IfOk result (Counts (whole_body (demo_records input.seed input.count)) (fates_of (chains_of service.chains) demo_head.unit (demo_records input.seed input.count))) }
+    ensures counts { IfOk result (Counts None (fates_of (chains_of service.chains) demo_head.unit (demo_records input.seed input.count))) }
     ensures within { IfOk result (λ ended. ended.totals.dropped ≤ ended.totals.records) }
 {
     let head = head();

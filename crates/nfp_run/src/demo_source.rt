@@ -1,12 +1,12 @@
 //! The records of a demo, as those of a capture.
 ghost use Rattle.std.specs.Prelude.{◌≡◌, Some, true};
 ghost use Rattle.demo_capture.specs.DemoCapture.{demo_records, whole_body};
+ghost use Rattle.capture_run.specs.Formats.{pcap_stream};
 
-use capture_run::Source;
+use capture_run::{Given, NoBlock, Source, SourceFault};
 use command_words::DemoInput;
 use demo_capture::DemoRecords;
 use nfp_outside::Desk;
-use pcap_io::{PcapFault, PcapRecord};
 use std::alloc::Global;
 
 /// The records of a demo. They are made, whatever the slot Capture holds.
@@ -27,10 +27,12 @@ impl DemoSource {
     }
 }
 
-impl Source for DemoSource {
-    ghost left = { λ source slot. Some (whole_body source.records.records) };
+impl Source<(), NoBlock> for DemoSource {
+    ghost left = { λ source slot. Some (pcap_stream (whole_body source.records.records)) };
 
-    ghost given = { λ source. source.records.given };
+    ghost packets = { λ source. source.records.given };
+
+    ghost taken = { λ source. source.records.given };
 
     ghost is_open = { λ source. true };
 
@@ -38,10 +40,11 @@ impl Source for DemoSource {
         &mut self,
         alloc: Global,
         _desk: &mut D,
-    ) -> Result<Option<PcapRecord>, PcapFault> {
+    ) -> Result<Option<Given<(), NoBlock>>, SourceFault> {
         match self.records.next(alloc) {
-            Ok(record) => Ok(record),
-            Err(_) => Err(PcapFault::OutOfMemory),
+            Ok(Some(packet)) => Ok(Some(Given::Packet(packet, ()))),
+            Ok(None) => Ok(None),
+            Err(_) => Err(SourceFault::OutOfMemory),
         }
     }
 }

@@ -2,7 +2,7 @@
 ghost use Rattle.std.specs.Prelude.{◌≡◌, ◌+◌, ◌*◌, min, count_by};
 ghost use Rattle.std.specs.List.{sum_by};
 ghost use Rattle.chain_service.specs.Opening.{chains_of};
-ghost use Rattle.nfp_run.specs.Heads.{adds_tag, adders_in, written_head};
+ghost use Rattle.nfp_run.specs.Heads.{adds_tag, adders_in, growth_of, written_head};
 
 use action_profile::profile;
 use chain_service::{Service, ServiceChain};
@@ -21,6 +21,13 @@ pub fn written_head(head: &CaptureHead, service: &Service) -> CaptureHead
         snaplen: grown(head.snaplen, service.chains.as_slice()),
         ..*head
     }
+}
+
+/// How many bytes longer frames may get in these chains, up to the largest number.
+pub fn growth(service: &Service) -> u32
+    ensures { result ≡ growth_of (chains_of service.now.chains) }
+{
+    grown(0, service.chains.as_slice())
 }
 
 // A snaplen in bytes, grown by a tag for each function of the chains that adds one.

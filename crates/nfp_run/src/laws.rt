@@ -1,13 +1,15 @@
 //! What a call without any fault comes to.
-ghost use Rattle.std.specs.Prelude.{◌≡◌, ℕ, List, None, IsOk, Ok};
+ghost use Rattle.std.specs.Prelude.{◌≡◌, ℕ, List, true, None, IsOk, Ok};
 ghost use Rattle.pcap_io.specs.Capture.{capture_of};
 ghost use Rattle.pcap_io.specs.declared.capture.CaptureHead.{CaptureHead};
 ghost use Rattle.capture_bytes.specs.declared.packet.PcapRecord.{PcapRecord};
+ghost use Rattle.pcapng_io.specs.Blocks.{blocks_of, next_of, start};
+ghost use Rattle.pcapng_io.specs.declared.item.NgItem.{NgItem};
 ghost use Rattle.policy_judge.specs.declared.judged.Judged.{Judged};
 ghost use Rattle.policy_judge.specs.Judging.{judged};
 ghost use Rattle.nfp_run.specs.declared.outcome.Outcome.{Outcome};
 ghost use Rattle.demo_capture.specs.DemoCapture.{policy_text};
-ghost use Rattle.nfp_run.specs.Due.{due};
+ghost use Rattle.nfp_run.specs.Due.{due, is_ng};
 ghost use Rattle.command_words.specs.declared.requests.DemoInput.{DemoInput};
 ghost use Rattle.command_words.specs.declared.requests.RunOptions.{RunOptions};
 ghost use Rattle.command_words.specs.Words.{Names, command_of, Run, Plan, Demo};
@@ -15,10 +17,12 @@ ghost use Rattle.command_words.specs.Words.{Names, command_of, Run, Plan, Demo};
 /// A law: words that are a command, a policy without fault, and for `run` a capture without fault
 /// are done; a demo needs neither. With the clause `answers` of [`crate::nfp`], such a call answers Done or want of memory wherever no
 /// slot failed.
-#[tactic(auto, using(crate::proofs::GoodCalls::run_is_done, crate::proofs::GoodCalls::plan_is_done, crate::proofs::GoodCalls::demo_is_done))]
+#[tactic(auto, using(crate::proofs::GoodCalls::run_is_done, crate::proofs::GoodCalls::ng_run_is_done, crate::proofs::GoodCalls::plan_is_done, crate::proofs::GoodCalls::demo_is_done))]
 pub fn a_good_call_is_done()
     ensures run { (words : List (List ℕ)) → (names : Names) → (options : RunOptions) → (p c : List ℕ) → (policy : Judged) → (head : CaptureHead) → (records : List PcapRecord) →
         command_of words ≡ Ok (Run names options) → judged p ≡ Ok policy → capture_of c ≡ Ok (head, record { records = records; fault = None }) → (due words p c).outcome ≡ Outcome.Done }
+    ensures run_ng { (words : List (List ℕ)) → (names : Names) → (options : RunOptions) → (p c : List ℕ) → (policy : Judged) → (items : List NgItem) →
+        command_of words ≡ Ok (Run names options) → judged p ≡ Ok policy → is_ng c ≡ true → IsOk (next_of start c) → blocks_of start c ≡ record { items = items; fault = None } → (due words p c).outcome ≡ Outcome.Done }
     ensures plan { (words : List (List ℕ)) → (name p c : List ℕ) → (policy : Judged) → command_of words ≡ Ok (Plan name) → judged p ≡ Ok policy → (due words p c).outcome ≡ Outcome.Done }
     ensures demo { (words : List (List ℕ)) → (input : DemoInput) → (options : RunOptions) → (p c : List ℕ) → command_of words ≡ Ok (Demo input options) → (due words p c).outcome ≡ Outcome.Done }
 {}

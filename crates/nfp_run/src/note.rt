@@ -6,7 +6,7 @@ ghost use Rattle.nfp_run.specs.Closing.{outcome_seen, stop_text, text_of, untold
 
 use crate::ending::Ending;
 use crate::outcome::Outcome;
-use capture_report::{Totals, capture_line, totals_line};
+use capture_report::{Totals, capture_line, ng_line, totals_line};
 use command_words::{Option4, UsageFault};
 use item_list::Items;
 use nfp_outside::{Desk, OutsideFault, Slot, write_whole};
@@ -82,6 +82,7 @@ fn stop_text(alloc: Global, outcome: &Outcome) -> Result<Vec<u8>, AllocError>
     match outcome {
         Outcome::Usage(fault) => Vec::from_slice(alloc, usage_text(*fault)),
         Outcome::Capture(fault) => capture_line(alloc, *fault),
+        Outcome::CaptureNg(fault) => ng_line(alloc, *fault),
         Outcome::ReadFault(slot) => read_fault_text(alloc, *slot),
         Outcome::WriteFault(slot) => write_fault_text(alloc, *slot),
         Outcome::Done | Outcome::Policy(_) | Outcome::OutOfMemory => Ok(Vec::new(alloc)),

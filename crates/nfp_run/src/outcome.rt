@@ -7,6 +7,7 @@ use capture_run::RunFault;
 use command_words::UsageFault;
 use nfp_outside::Slot;
 use pcap_io::CaptureFault;
+use pcapng_io::NgFault;
 use policy_judge::PolicyFault;
 use std::alloc::{AllocError, AllocFailed};
 
@@ -20,8 +21,10 @@ pub enum Outcome {
     Usage(UsageFault),
     /// The policy has this first fault.
     Policy(PolicyFault),
-    /// The capture has this first fault. What stood before it went through the chains.
+    /// The capture, which is a classic one, has this first fault. What stood before it went through the chains.
     Capture(CaptureFault),
+    /// The same of a pcapng capture.
+    CaptureNg(NgFault),
     /// This slot couldn't be read.
     ReadFault(Slot),
     /// This slot couldn't be written.
@@ -40,6 +43,7 @@ impl Outcome {
             Outcome::Usage(_) => 1,
             Outcome::Policy(_) => 2,
             Outcome::Capture(_) => 3,
+            Outcome::CaptureNg(_) => 3,
             Outcome::ReadFault(_) => 4,
             Outcome::WriteFault(_) => 5,
             Outcome::OutOfMemory => 6,

@@ -1,22 +1,28 @@
 //! Reads the policy and the head of the capture, and says why where that is refused.
-ghost use Rattle.std.specs.Prelude.{◌≡◌, ◌≢◌, ◌≤◌, ◌⊎◌, length, All, IfOk, IfErr, IfSome, MatchResult, Ok, Some, None};
+ghost use Rattle.std.specs.Prelude.{◌≡◌, ◌≢◌, ◌≤◌, ◌⊎◌, length, All, IfOk, IfErr, IfSome, IsSome, MatchResult, Ok, Some, None};
 ghost use Rattle.std.specs.List.{AllZip};
 ghost use Rattle.nfp_outside.specs.declared.slot.Slot.{Slot};
 ghost use Rattle.policy_judge.specs.Judging.{judged};
 ghost use Rattle.policy_judge.specs.Making.{functions_made};
 ghost use Rattle.policy_judge.specs.Orders.{IsOrdered};
 ghost use Rattle.policy_judge.specs.Settings.{IsSettled};
-ghost use Rattle.nfp_run.specs.Reading.{IsUnread, UnreadEnds, refused_by, EndsAtPolicy, Opens, RefusedOpening};
+ghost use Rattle.nfp_run.specs.Reading.{IsUnread, UnreadEnds, refused_by, EndsAtPolicy, Opens, OpensBehind, RefusedOpening, RefusesBehind, unread_capture};
 ghost use Rattle.chain_service.specs.Opening.{IsOpening, chains_of};
 ghost use Rattle.chain_service.specs.Services.{service_of};
 
 use crate::ending::Ending;
 use crate::outcome::Outcome;
+use capture_bytes::fill;
+use capture_run::NgSource;
 use chain_service::{Service, make_service};
 use nfp_outside::{Desk, DeskFault, OutsideFault, Slot, read_all};
 use pcap_io::{CaptureHead, PcapFault, Reader};
+use pcapng_io::NgReadFault;
 use policy_judge::{JudgeFault, Judged, judge, too_long};
 use std::alloc::Global;
+
+// The first bytes of a pcapng capture: the type of a section header block.
+const NG_FRONT: [u8; 4] = [0x0a, 0x0d, 0x0d, 0x0a];
 
 // The most bytes that a policy has.
 const MAX_POLICY: usize = 1_048_576;
@@ -73,10 +79,19 @@ pub fn read_service<D: Desk>(alloc: Global, desk: &mut D, name: &str) -> Result<
     }
 }
 
-/// Attaches the capture, and reads its head.
-pub fn open_capture<D: Desk>(desk: &mut D, name: &str) -> Result<(CaptureHead, Reader), Outcome>
+/// A capture whose head was read, or whose first block.
+#[derive(Drop)]
+pub enum Opened {
+    /// A classic capture: its head, and what reads on behind it.
+    Pcap(CaptureHead, Reader),
+    /// A pcapng capture.
+    Ng(NgSource),
+}
+
+/// Attaches the capture, and reads its head, or its first block where it is a pcapng capture: the first four bytes tell.
+pub fn open_capture<D: Desk>(alloc: Global, desk: &mut D, name: &str) -> Result<Opened, Outcome>
     requires { (D.slots desk.old Slot.Capture).name ≡ None }
-    ensures ok { IfOk result (λ x. Opens name.now x.0 x.1 (D.slots desk.old Slot.Capture) (D.slots desk.new Slot.Capture)) }
+    ensures ok { IfOk result (λ opened. Opens name.now opened (D.slots desk.old Slot.Capture) (D.slots desk.new Slot.Capture)) }
     ensures err { IfErr result (RefusedOpening (D.slots desk.old Slot.Capture) (D.slots desk.new Slot.Capture)) }
     ensures name { ((D.slots desk.new Slot.Capture).name ≡ None) ⊎ ((D.slots desk.new Slot.Capture).name ≡ Some name.now) }
     ensures later { (D.slots desk.old Slot.Capture).faults ≤ (D.slots desk.new Slot.Capture).faults }
@@ -84,14 +99,49 @@ pub fn open_capture<D: Desk>(desk: &mut D, name: &str) -> Result<(CaptureHead, R
 {
     match desk.attach(Slot::Capture, name) {
         Ok(()) => {}
-        Err(DeskFault::Failed) => return Err(Outcome::ReadFault(Slot::Capture)),
-        Err(DeskFault::NoMemory) => return Err(Outcome::OutOfMemory),
+        Err(fault) => return Err(unread_capture(fault)),
     }
-    match Reader::begin(desk) {
-        Ok(opened) => Ok(opened),
-        Err(PcapFault::Capture(fault)) => Err(Outcome::Capture(fault)),
-        Err(PcapFault::ReadFault(_)) => Err(Outcome::ReadFault(Slot::Capture)),
-        Err(PcapFault::OutOfMemory) => Err(Outcome::OutOfMemory),
+    let mut first = [0; 4];
+    match fill(desk, &mut first) {
+        Ok(count) => open_by_format(alloc, desk, &first[..count]),
+        Err(fault) => Err(unread_capture(fault)),
+    }
+}
+
+// What a capture is answered with that a desk refused to attach or to read.
+fn unread_capture(fault: DeskFault) -> Outcome
+    ensures { result ≡ unread_capture fault }
+{
+    match fault {
+        DeskFault::Failed => Outcome::ReadFault(Slot::Capture),
+        DeskFault::NoMemory => Outcome::OutOfMemory,
+    }
+}
+
+// Reads the head of a capture, or its first block, by its first bytes, which were read before.
+fn open_by_format<D: Desk>(alloc: Global, desk: &mut D, first: &[u8]) -> Result<Opened, Outcome>
+    requires attached { IsSome (D.slots desk.old Slot.Capture).name }
+    requires few { length first.now ≤ 4 }
+    ensures ok { IfOk result (λ opened. OpensBehind first.now opened (D.slots desk.old Slot.Capture) (D.slots desk.new Slot.Capture)) }
+    ensures err { IfErr result (RefusesBehind first.now (D.slots desk.old Slot.Capture) (D.slots desk.new Slot.Capture)) }
+    ensures name { (D.slots desk.new Slot.Capture).name ≡ (D.slots desk.old Slot.Capture).name }
+    ensures later { (D.slots desk.old Slot.Capture).faults ≤ (D.slots desk.new Slot.Capture).faults }
+    ensures others { (s : Slot) → s ≢ Slot.Capture → D.slots desk.new s ≡ D.slots desk.old s }
+{
+    if first == NG_FRONT.as_slice() {
+        match NgSource::begin(alloc, desk, first) {
+            Ok(source) => Ok(Opened::Ng(source)),
+            Err(NgReadFault::Ng(fault)) => Err(Outcome::CaptureNg(fault)),
+            Err(NgReadFault::ReadFault(_)) => Err(Outcome::ReadFault(Slot::Capture)),
+            Err(NgReadFault::OutOfMemory) => Err(Outcome::OutOfMemory),
+        }
+    } else {
+        match Reader::begin_after(desk, first) {
+            Ok((head, reader)) => Ok(Opened::Pcap(head, reader)),
+            Err(PcapFault::Capture(fault)) => Err(Outcome::Capture(fault)),
+            Err(PcapFault::ReadFault(_)) => Err(Outcome::ReadFault(Slot::Capture)),
+            Err(PcapFault::OutOfMemory) => Err(Outcome::OutOfMemory),
+        }
     }
 }
 

@@ -1,27 +1,32 @@
 //! Runs the chains of a policy over a capture, up to the line in Note.
-ghost use Rattle.std.specs.Prelude.{◌≡◌, ◌≢◌, ◌≤◌, ◌⊎◌, IfErr, IfOk, IfSome, IsSome, Ok, Some, None};
+ghost use Rattle.std.specs.Prelude.{◌≡◌, ◌≢◌, ◌≤◌, ◌⊎◌, true, IfErr, IfOk, IfSome, IsSome, Ok, Some, None};
+ghost use Rattle.std.specs.Option.{option_map};
 ghost use Rattle.nfp_outside.specs.declared.slot.Slot.{Slot};
 ghost use Rattle.pcap_io.specs.Reader.{reader_at, body_left};
 ghost use Rattle.policy_judge.specs.declared.fault.PolicyFault.{PolicyFault};
 ghost use Rattle.command_words.specs.declared.usage.UsageFault.{UsageFault};
 ghost use Rattle.command_words.specs.Words.{Run};
-ghost use Rattle.nfp_run.specs.Answers.{IsFinal, WhereTold, LeavesPrefixes, HasNames, RunAttaches, ReachesCapture, PolicyCause, ReadFaultCause, WriteFaultCause, IsBodyFault};
+ghost use Rattle.nfp_run.specs.Answers.{IsFinal, WhereTold, LeavesPrefixes, HasNames, RunAttaches, ReachesCapture, PolicyCause, ReadFaultCause, WriteFaultCause};
 ghost use Rattle.nfp_run.specs.Attached.{RunLeavesAttached};
-ghost use Rattle.nfp_run.specs.Closing.{outcome_seen, closed, ending_of, Left, EndsDue, CountsWithin};
+ghost use Rattle.nfp_run.specs.Closing.{outcome_seen, closed, ending_of, Left, LedPartly, LedWhole, EndsDue, CountsWithin};
+ghost use Rattle.nfp_run.specs.Reading.{IsBefore, led_stream, opened_led};
 ghost use Rattle.nfp_run.specs.Due.{due_of_command};
-ghost use Rattle.nfp_run.specs.Written.{written_of};
-ghost use Rattle.burst_walk.specs.Fates.{fates_of};
+ghost use Rattle.nfp_run.specs.Written.{led_pcap};
+ghost use Rattle.capture_run.specs.Formats.{is_asked, ng_left, ng_packets};
 ghost use Rattle.capture_run.specs.Slots.{IsBroken};
+ghost use Rattle.capture_run.specs.Sources.{IsOpeningFault};
 ghost use Rattle.command_words.specs.Named.{IsInRange, names_seen};
 ghost use Rattle.chain_service.specs.Opening.{IsOpening, chains_of};
 
 use crate::attach::{attach_sink, put_head};
 use crate::ending::Ending;
+use crate::head::growth;
 use crate::outcome::Outcome;
-use crate::read::{open_capture, read_service};
+use crate::read::{Opened, open_capture, read_service};
 use crate::ways::merging_by;
-use capture_report::Ended;
-use capture_run::{RunFault, run_capture};
+use capture_bytes::Unit;
+use capture_report::{Ended, FormatFault};
+use capture_run::{NgSource, NgWriter, RunFault, run_capture};
 use chain_service::Service;
 use command_words::{FileNames, RunOptions};
 use nfp_outside::{Desk, Gate, Slot};
@@ -61,13 +66,11 @@ pub fn run<R: Threads + Wait + Clock + Sync, D: Desk, G: Gate + Sync>(
         Ok(service) => service,
         Err(ending) => return ending,
     };
-    let (head, reader) = match open_capture(desk, names.capture) {
+    let opened = match open_capture(alloc, desk, names.capture) {
         Ok(opened) => opened,
         Err(outcome) => return Ending::Stopped(outcome),
     };
-    ending_of(attach_and_run(
-        rt, alloc, desk, names, service, options, &head, reader, gate,
-    ))
+    ending_of(attach_and_run(rt, alloc, desk, names, service, options, opened, gate))
 }
 
 // How the work of a call ended that ran a capture.
@@ -86,11 +89,12 @@ fn closed(ended: Ended) -> Ending
 {
     match ended.fault {
         None => Ending::Completed(ended.totals),
-        Some(fault) => Ending::Stopped(Outcome::Capture(fault)),
+        Some(FormatFault::Pcap(fault)) => Ending::Stopped(Outcome::Capture(fault)),
+        Some(FormatFault::Ng(fault)) => Ending::Stopped(Outcome::CaptureNg(fault)),
     }
 }
 
-// Attaches Out and Report, puts the head that is written into Out, and runs the capture into both.
+// Attaches Out and Report, and runs the capture into both, by its format.
 fn attach_and_run<R: Threads + Wait + Clock + Sync, D: Desk, G: Gate + Sync>(
     rt: &R,
     alloc: Global,
@@ -98,8 +102,7 @@ fn attach_and_run<R: Threads + Wait + Clock + Sync, D: Desk, G: Gate + Sync>(
     names: &FileNames<'_>,
     service: Service,
     options: RunOptions,
-    head: &CaptureHead,
-    reader: Reader,
+    opened: Opened,
     gate: &G,
 ) -> Result<Ended, RunFault>
     requires capture { IsSome (D.slots desk.old Slot.Capture).name }
@@ -107,12 +110,11 @@ fn attach_and_run<R: Threads + Wait + Clock + Sync, D: Desk, G: Gate + Sync>(
     requires report_free { (D.slots desk.old Slot.Report).name ≡ None }
     requires opening { IsOpening service }
     requires ranges { IsInRange options }
-    requires fresh { reader ≡ reader_at head.now.order 0 }
-    ensures left { IfSome (body_left reader (D.slots desk.old Slot.Capture)) (λ body.
-        Left (written_of (chains_of service.chains) head.now body) body (fates_of (chains_of service.chains) head.now.unit body.records) (D.slots desk.old) (D.slots desk.new) result) }
+    requires fresh { IsBefore opened }
+    ensures left { IfSome (opened_led (chains_of service.chains) opened (D.slots desk.old Slot.Capture)) (λ led. Left led (D.slots desk.old) (D.slots desk.new) result) }
     ensures cause { IfErr result (IsBroken (D.slots desk.old) (D.slots desk.new)) }
     ensures within { IfOk result (λ ended. ended.totals.dropped ≤ ended.totals.records) }
-    ensures kind { IfOk result (λ ended. IfSome ended.fault IsBodyFault) }
+    ensures kind { IfOk result (λ ended. IfSome ended.fault (λ fault. ¬ IsOpeningFault fault)) }
     ensures attached { RunLeavesAttached result (D.slots desk.new) }
     ensures out_name { ((D.slots desk.new Slot.Out).name ≡ None) ⊎ ((D.slots desk.new Slot.Out).name ≡ Some names.now.out.now) }
     ensures report_name { ((D.slots desk.new Slot.Report).name ≡ None) ⊎ ((D.slots desk.new Slot.Report).name ≡ Some names.now.report.now) }
@@ -121,6 +123,36 @@ fn attach_and_run<R: Threads + Wait + Clock + Sync, D: Desk, G: Gate + Sync>(
 {
     attach_sink(desk, Slot::Out, names.out)?;
     attach_sink(desk, Slot::Report, names.report)?;
+    match opened {
+        Opened::Pcap(head, reader) => run_pcap(
+            rt, alloc, desk, service, options, &head, reader, gate,
+        ),
+        Opened::Ng(source) => run_ng(rt, alloc, desk, service, options, source, gate),
+    }
+}
+
+// Puts the head into Out that is written, and runs a classic capture behind it.
+fn run_pcap<R: Threads + Wait + Clock + Sync, D: Desk, G: Gate + Sync>(
+    rt: &R,
+    alloc: Global,
+    desk: &mut D,
+    service: Service,
+    options: RunOptions,
+    head: &CaptureHead,
+    reader: Reader,
+    gate: &G,
+) -> Result<Ended, RunFault>
+    requires capture { IsSome (D.slots desk.old Slot.Capture).name }
+    requires out { IsSome (D.slots desk.old Slot.Out).name }
+    requires report { IsSome (D.slots desk.old Slot.Report).name }
+    requires opening { IsOpening service }
+    requires ranges { IsInRange options }
+    requires fresh { reader ≡ reader_at head.now.order 0 }
+    ensures ok { IfOk result (LedWhole (option_map (led_pcap (chains_of service.chains) head.now) (body_left reader (D.slots desk.old Slot.Capture))) (D.slots desk.old) (D.slots desk.new)) }
+    ensures err { IfErr result (LedPartly (option_map (led_pcap (chains_of service.chains) head.now) (body_left reader (D.slots desk.old Slot.Capture))) (D.slots desk.old) (D.slots desk.new)) }
+    ensures capture_name { (D.slots desk.new Slot.Capture).name ≡ (D.slots desk.old Slot.Capture).name }
+    ensures others { (s : Slot) → s ≢ Slot.Out → s ≢ Slot.Report → s ≢ Slot.Capture → D.slots desk.new s ≡ D.slots desk.old s }
+{
     let writer = put_head(desk, head, &service)?;
     run_capture(
         rt,
@@ -130,6 +162,45 @@ fn attach_and_run<R: Threads + Wait + Clock + Sync, D: Desk, G: Gate + Sync>(
         head.unit,
         options.burst,
         reader,
+        writer,
+        merging_by(options),
+        gate,
+    )
+}
+
+// Runs a pcapng capture, whose blocks are all written as they come.
+fn run_ng<R: Threads + Wait + Clock + Sync, D: Desk, G: Gate + Sync>(
+    rt: &R,
+    alloc: Global,
+    desk: &mut D,
+    service: Service,
+    options: RunOptions,
+    source: NgSource,
+    gate: &G,
+) -> Result<Ended, RunFault>
+    requires capture { IsSome (D.slots desk.old Slot.Capture).name }
+    requires out { IsSome (D.slots desk.old Slot.Out).name }
+    requires report { IsSome (D.slots desk.old Slot.Report).name }
+    requires opening { IsOpening service }
+    requires ranges { IsInRange options }
+    requires fresh { ng_packets source ≡ 0 }
+    requires open { is_asked source ≡ true }
+    ensures ok { IfOk result (LedWhole (option_map (led_stream (chains_of service.chains)) (ng_left source (D.slots desk.old Slot.Capture))) (D.slots desk.old) (D.slots desk.new)) }
+    ensures err { IfErr result (LedPartly (option_map (led_stream (chains_of service.chains)) (ng_left source (D.slots desk.old Slot.Capture))) (D.slots desk.old) (D.slots desk.new)) }
+    ensures capture_name { (D.slots desk.new Slot.Capture).name ≡ (D.slots desk.old Slot.Capture).name }
+    ensures others { (s : Slot) → s ≢ Slot.Out → s ≢ Slot.Report → s ≢ Slot.Capture → D.slots desk.new s ≡ D.slots desk.old s }
+{
+    let writer = NgWriter {
+        growth: growth(&service),
+    };
+    run_capture(
+        rt,
+        alloc,
+        desk,
+        service,
+        Unit::Nano,
+        options.burst,
+        source,
         writer,
         merging_by(options),
         gate,

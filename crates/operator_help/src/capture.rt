@@ -1,4 +1,4 @@
-//! What is wrong with a capture, and how to get one that is read.
+//! What is wrong with a classic capture, and how to get one that is read.
 
 use crate::files::{Sign, sign_of};
 use crate::page::Page;
@@ -79,7 +79,7 @@ fn bad_magic(page: &mut Page, name: &[u8], sign: Sign) -> Result<(), AllocError>
     let name = Text(name);
     page.tell(what_it_is(&sign), &[name])?;
     match sign {
-        Sign::Pcapng | Sign::PatchedPcap | Sign::Snoop => page.tell(CONVERT, &[name, name]),
+        Sign::PatchedPcap | Sign::Snoop => page.tell(CONVERT, &[name, name]),
         Sign::Gzip => {
             page.tell(CONVERT, &[name, name])?;
             page.tell(UNPACK, &[name])
@@ -90,18 +90,18 @@ fn bad_magic(page: &mut Page, name: &[u8], sign: Sign) -> Result<(), AllocError>
 
 fn what_it_is(sign: &Sign) -> &'static str {
     match sign {
-        Sign::Pcapng => "{} is a capture in the format pcapng, and the classic format pcap is read",
         Sign::PatchedPcap => {
             "{} is a capture in a changed pcap format, and the classic one is read"
         }
-        Sign::Snoop => "{} is a capture of `snoop`, and the classic format pcap is read",
+        Sign::Snoop => "{} is a capture of `snoop`, and the formats pcap and pcapng are read",
         Sign::Gzip => "{} is packed by gzip",
         Sign::Bzip2 => "{} is packed by bzip2",
         Sign::Xz => "{} is packed by xz",
         Sign::Zstandard => "{} is packed by zstd",
         Sign::Policy => "{} is a policy, and no capture",
         Sign::Text | Sign::Utf8 | Sign::Utf16 => "{} is a text, and no capture",
-        Sign::Pcap | Sign::Unknown => "{} is no capture in the classic format pcap",
+        Sign::Pcap | Sign::Pcapng | Sign::Unknown =>
+            "{} is no capture in the format pcap or pcapng",
     }
 }
 
@@ -120,8 +120,8 @@ fn what_to_do(sign: &Sign) -> &'static str {
     }
 }
 
-// The frames have no Ethernet header.
-fn bad_link(page: &mut Page, name: &[u8], kind: u32) -> Result<(), AllocError> {
+/// The frames have no Ethernet header.
+pub fn bad_link(page: &mut Page, name: &[u8], kind: u32) -> Result<(), AllocError> {
     if kind & LINK_BITS == ETHERNET {
         return page.tell(CHECKSUMS, &[Text(name), Text(name)]);
     }

@@ -11,6 +11,7 @@
 #![tactic(auto)]
 
 pub mod capture;
+pub mod capture_ng;
 pub mod files;
 mod forms;
 mod lines;

@@ -46,7 +46,7 @@ item_facts place order EnhancedPacket block within sound =
     let whole : padded (length (take captured (drop 28 block))) ≡ padded captured = ap padded frame in
     record {
       writable = (omega (arith, options, facts.fits, sound.whole), omega (arith, whole, options, facts.fits, sound.most));
-      short = omega (arith, frame, facts.short);
+      short = (omega (arith, frame, facts.short), omega (arith, whole, options, facts.fits, sound.most));
       counted = (facts.few, refl);
       blocks = refl;
       few = few_after place order EnhancedPacket block sound;

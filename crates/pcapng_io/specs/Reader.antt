@@ -44,9 +44,9 @@ IsWritable (Section block) = 28 ≤ length block
 IsWritable (Interface order block) = 20 ≤ length block
 IsWritable (Carried block) = Unit {0}
 
--- a packet whose frame has a length that is accepted
+-- a packet whose frame and whose block have lengths that are accepted
 abbrev pub IsShortItem : NgItem → Type 0
-IsShortItem (Packet p) = length p.packet.frame ≤ 262144
+IsShortItem (Packet p) = (length p.packet.frame ≤ 262144) × (packet_length p ≤ 16777216)
 IsShortItem (Section block) = Unit {0}
 IsShortItem (Interface order block) = Unit {0}
 IsShortItem (Carried block) = Unit {0}

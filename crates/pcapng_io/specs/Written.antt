@@ -2,6 +2,7 @@
 use Rattle.std.specs.Prelude.{◌≡◌, ◌≤◌, ◌<◌, ◌^◌, slice_index, ◌+◌, ◌-◌, ◌/◌, ◌%◌, ℕ, List, ◌++◌, length, take, drop, replicate, min, if◌then◌else◌, ◌==◌, Ok, Some, [], ◌∷◌}
 use Rattle.capture_bytes.specs.declared.order.Endian.{Endian}
 use Rattle.capture_bytes.specs.Numbers.{number_at, bytes_of}
+use Rattle.capture_bytes.specs.declared.packet.PcapRecord.{PcapRecord}
 use Rattle.pcapng_io.specs.declared.item.NgItem.{NgItem}
 use Rattle.pcapng_io.specs.declared.item.NgItem.TheVariants.{Packet, Section, Interface, Carried}
 use Rattle.pcapng_io.specs.declared.item.NgPacket.{NgPacket}
@@ -26,11 +27,18 @@ interface_bytes growth order block = take 12 block ++ bytes_of order 4 (grown gr
 abbrev pub packet_length : NgPacket → ℕ
 packet_length p = 32 + padded (length p.packet.frame) + length p.options
 
+-- a packet of this record, whose block says this beside it
+abbrev pub packet_with : Endian → ℕ → ℕ → List ℕ → PcapRecord → NgPacket
+packet_with order interface ticks options packet = record { order = order; interface = interface; ticks = ticks; options = options; packet = packet }
+
 -- before the frame: type 6, the block's length, interface, ticks, captured length and original length
+abbrev pub head_spelled : Endian → ℕ → ℕ → ℕ → ℕ → ℕ → List ℕ
+head_spelled order length interface ticks captured wire =
+    bytes_of order 4 6 ++ bytes_of order 4 length ++ bytes_of order 4 interface ++ bytes_of order 4 (ticks / 4294967296)
+    ++ bytes_of order 4 (ticks % 4294967296) ++ bytes_of order 4 captured ++ bytes_of order 4 wire
+
 unfoldable pub packet_head : NgPacket → List ℕ
-packet_head p =
-    bytes_of p.order 4 6 ++ bytes_of p.order 4 (packet_length p) ++ bytes_of p.order 4 p.interface ++ bytes_of p.order 4 (p.ticks / 4294967296)
-    ++ bytes_of p.order 4 (p.ticks % 4294967296) ++ bytes_of p.order 4 (length p.packet.frame) ++ bytes_of p.order 4 p.packet.wire
+packet_head p = head_spelled p.order (packet_length p) p.interface p.ticks (length p.packet.frame) p.packet.wire
 
 -- a packet: this, the frame with zeros behind it up to a multiple of four, the options, and the length again
 abbrev pub packet_bytes : NgPacket → List ℕ

@@ -31,4 +31,4 @@ pub use fault::{NgFault, NgReadFault};
 pub use item::{NgItem, NgPacket};
 pub use laws::written_is_read;
 pub use reader::NgReader;
-pub use writer::put_item;
+pub use writer::{put_item, put_packet};

@@ -5,11 +5,11 @@ ghost use Rattle.nfp_outside.specs.Outside.{Appends, AppendsPrefix, WriteCause};
 ghost use Rattle.capture_bytes.specs.Numbers.{bytes_of, number_at};
 ghost use Rattle.pcapng_io.specs.Options.{padded};
 ghost use Rattle.pcapng_io.specs.Reader.{IsWritable};
-ghost use Rattle.pcapng_io.specs.Written.{grown, interface_bytes, item_bytes, packet_bytes, packet_head, packet_length, section_bytes};
+ghost use Rattle.pcapng_io.specs.Written.{grown, head_spelled, interface_bytes, item_bytes, packet_bytes, packet_head, packet_length, packet_with, section_bytes};
 
 use crate::item::{NgItem, NgPacket};
 use crate::options::padded;
-use capture_bytes::{Endian, put_u32, u32_at};
+use capture_bytes::{Endian, PcapRecord, put_u32, u32_at};
 use nfp_outside::{Desk, OutsideFault, Slot, write_whole};
 
 // The length of a section that isn't told.
@@ -31,7 +31,15 @@ pub fn put_item<D: Desk>(desk: &mut D, item: &NgItem, growth: u32) -> Result<(),
     ensures others { (s : Slot) → s ≢ Slot.Out → D.slots desk.new s ≡ D.slots desk.old s }
 {
     match item {
-        NgItem::Packet(packet) => put_packet(desk, packet),
+        NgItem::Packet(
+            NgPacket {
+                order,
+                interface,
+                ticks,
+                options,
+                packet,
+            },
+        ) => put_packet(desk, *order, *interface, *ticks, options.bytes(), packet),
         NgItem::Section(block) => {
             let block = block.bytes();
             put_three(desk, &block[..16], &NO_SECTION_LENGTH, &block[24..])
@@ -64,46 +72,53 @@ fn spelled(order: Endian, number: u32) -> [u8; 4]
     bytes
 }
 
-fn put_packet<D: Desk>(desk: &mut D, packet: &NgPacket) -> Result<(), OutsideFault>
+/// Writes a packet into the slot Out as [`put_item`] does, of what its block says beside the record and of the record.
+pub fn put_packet<D: Desk>(
+    desk: &mut D,
+    order: Endian,
+    interface: u32,
+    ticks: u64,
+    options: &[u8],
+    packet: &PcapRecord,
+) -> Result<(), OutsideFault>
     requires attached { IsSome (D.slots desk.old Slot.Out).name }
-    requires short { packet_length packet.now < 2 ^ 32 }
-    ensures ok { OnOk result (Appends (packet_bytes packet.now) (D.slots desk.old Slot.Out) (D.slots desk.new Slot.Out)) }
-    ensures err { OnErr result (AppendsPrefix (packet_bytes packet.now) (D.slots desk.old Slot.Out) (D.slots desk.new Slot.Out)) }
+    requires short { packet_length (packet_with order interface ticks options.now packet.now) < 2 ^ 32 }
+    ensures ok { OnOk result (Appends (packet_bytes (packet_with order interface ticks options.now packet.now)) (D.slots desk.old Slot.Out) (D.slots desk.new Slot.Out)) }
+    ensures err { OnErr result (AppendsPrefix (packet_bytes (packet_with order interface ticks options.now packet.now)) (D.slots desk.old Slot.Out) (D.slots desk.new Slot.Out)) }
     ensures cause { WriteCause Slot.Out (D.slots desk.old Slot.Out) (D.slots desk.new Slot.Out) result }
     ensures others { (s : Slot) → s ≢ Slot.Out → D.slots desk.new s ≡ D.slots desk.old s }
 {
-    let frame = packet.packet.frame.bytes();
-    let options = packet.options.bytes();
+    let frame = packet.frame.bytes();
     let data = padded(frame.len());
     let length = (32 + data + options.len()) as u32;
-    let head = head_of(packet, length);
+    let captured = frame.len() as u32;
+    let head = head_of(order, length, interface, ticks, captured, packet.wire);
     let padding = &ZEROS[..data - frame.len()];
     if let Err(fault) = put_three(desk, &head, frame, padding) {
         return Err(fault);
     }
-    put_two(desk, options, &spelled(packet.order, length))
+    put_two(desk, options, &spelled(order, length))
 }
 
 // What stands before a frame.
-fn head_of(packet: &NgPacket, length: u32) -> [u8; 28]
-    requires { length ≡ packet_length packet.now }
-    ensures { result ≡ packet_head packet.now }
+fn head_of(
+    order: Endian,
+    length: u32,
+    interface: u32,
+    ticks: u64,
+    captured: u32,
+    wire: u32,
+) -> [u8; 28]
+    ensures { result ≡ head_spelled order length interface ticks captured wire }
 {
-    let order = packet.order;
-    let ticks = packet.ticks;
     let mut head = [0; 28];
     put_u32(order, &mut head, 0, 6);
     put_u32(order, &mut head, 4, length);
-    put_u32(order, &mut head, 8, packet.interface);
+    put_u32(order, &mut head, 8, interface);
     put_u32(order, &mut head, 12, (ticks / 4_294_967_296) as u32);
     put_u32(order, &mut head, 16, (ticks % 4_294_967_296) as u32);
-    put_u32(
-        order,
-        &mut head,
-        20,
-        packet.packet.frame.bytes().len() as u32,
-    );
-    put_u32(order, &mut head, 24, packet.packet.wire);
+    put_u32(order, &mut head, 20, captured);
+    put_u32(order, &mut head, 24, wire);
     head
 }
 

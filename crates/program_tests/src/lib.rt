@@ -13,6 +13,8 @@ mod ipv6;
 #[cfg(test)]
 mod marks;
 #[cfg(test)]
+mod ng;
+#[cfg(test)]
 mod options;
 #[cfg(test)]
 mod packets;

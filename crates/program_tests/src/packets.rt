@@ -74,7 +74,7 @@ pub enum Packet<'a> {
     Udp6(Datagram6),
     /// These bytes, and so many zeros behind them; fewer than 200 in all.
     Frame(&'a [u8], u8),
-    /// The first bytes of a record, whose rest is missing.
+    /// The first bytes of a record, whose rest is missing, or a block of a pcapng capture.
     Cut(&'a [u8]),
 }
 

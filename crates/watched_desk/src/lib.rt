@@ -12,6 +12,7 @@
 #![tactic(auto)]
 
 mod amount;
+mod block_count;
 mod progress;
 mod record_count;
 mod seen;

@@ -1,6 +1,7 @@
-//! The records of a capture, counted as its bytes pass.
+//! The packets of a capture, counted as its bytes pass.
 ghost use Rattle.std.specs.Prelude.{◌≤◌, ◌<◌, length};
 
+use crate::block_count::BlockCount;
 use capture_bytes::{Endian, u32_at};
 
 /// The bytes of a capture's head.
@@ -15,6 +16,9 @@ const LENGTH_AT: usize = 8;
 /// The first byte of a magic number whose highest byte comes first.
 const MAGIC_HIGH: u8 = 0xa1;
 
+/// The first byte of a pcapng capture.
+const NG_FIRST: u8 = 0x0a;
+
 /// Where the next byte of a capture stands.
 #[derive(Clone, Copy)]
 enum Place {
@@ -26,9 +30,19 @@ enum Place {
     Frame(u32),
 }
 
-/// Counts the records of a capture (the classic pcap format) whose bytes it is given piece by piece, in any pieces.
+/// By which format a capture is counted: its first byte tells.
+#[derive(Clone, Copy, PartialEq, Eq)]
+enum Format {
+    Unknown,
+    Pcap,
+    Ng,
+}
+
+/// Counts the packets of a capture of either format whose bytes it is given piece by piece, in any pieces.
 #[derive(Drop)]
 pub struct RecordCount {
+    format: Format,
+    blocks: BlockCount,
     place: Place,
     order: Endian,
     length: u32,
@@ -39,6 +53,8 @@ impl RecordCount {
     /// Nothing has passed yet.
     pub fn new() -> Self {
         RecordCount {
+            format: Format::Unknown,
+            blocks: BlockCount::new(),
             place: Place::FileHead(0),
             order: Endian::Little,
             length: 0,
@@ -46,13 +62,27 @@ impl RecordCount {
         }
     }
 
-    /// The records of which all bytes have passed.
+    /// The packets of which all bytes have passed.
     pub fn records(&self) -> u64 {
-        self.records
+        match self.format {
+            Format::Ng => self.blocks.packets(),
+            Format::Pcap | Format::Unknown => self.records,
+        }
     }
 
     /// More bytes have passed.
     pub fn follow(&mut self, bytes: &[u8]) {
+        if let (Format::Unknown, Some(first)) = (self.format, bytes.first()) {
+            self.format = format_of(*first);
+        }
+        match self.format {
+            Format::Ng => self.blocks.follow(bytes),
+            Format::Pcap | Format::Unknown => self.follow_records(bytes),
+        }
+    }
+
+    // More bytes of a classic capture have passed.
+    fn follow_records(&mut self, bytes: &[u8]) {
         let mut rest = bytes;
         'pieces: while !rest.is_empty() {
             let taken = self.take(rest);
@@ -136,6 +166,15 @@ impl RecordCount {
         self.records = self.records.saturating_add(1);
         self.length = 0;
         self.place = Place::RecordHead(0);
+    }
+}
+
+// The format of a capture that begins with this byte.
+fn format_of(first: u8) -> Format {
+    if first == NG_FIRST {
+        Format::Ng
+    } else {
+        Format::Pcap
     }
 }
 

@@ -3,10 +3,11 @@ use Rattle.std.specs.Prelude.{Some}
 use Rattle.burst_walk.specs.Leading.{ended}
 use Rattle.capture_run.specs.Emitted.{emitted}
 use Rattle.capture_run.specs.Slots.{Puts}
+use Rattle.capture_run.specs.Streams.{spelled_with}
 use Rattle.capture_run.specs.Putting.{puts_none}
 use Rattle.capture_run.proofs.emit.put_fate.Goals as goal
 
 pub returns-in-Some-Gone-clause-ok : goal.returns-in-Some-Gone-clause-ok
 returns-in-Some-Gone-clause-ok g c =
-    subst (λ f. Puts (emitted (g.W.Sink.spelled c.args.writer.now) c.args.packet.now (ended c.args.packet.now f)) [] (g.D.Desk.slots c.args.desk.now) (g.D.Desk.slots c.args.desk.now))
+    subst (λ f. Puts (emitted (spelled_with (g.W.Sink.spelled c.args.writer.now) c.args.beside.now) c.args.packet.now (ended c.args.packet.now f)) [] (g.D.Desk.slots c.args.desk.now) (g.D.Desk.slots c.args.desk.now))
     (sym (c.in-Some-Gone.is ∙ ap Some c.in-Some-Gone.field-0-is)) (puts_none (g.D.Desk.slots c.args.desk.now))

@@ -1,41 +1,44 @@
-use Rattle.std.proofs.Common.{◌∙◌, ap, sym}
-use Rattle.std.specs.Option.{option_map}
+use Rattle.std.proofs.Common.{◌∙◌, subst}
+use Rattle.std.specs.Prelude.{IfSome}
 use Rattle.nfp_outside.specs.declared.slot.Slot.TheVariants.{Capture, Out, Report}
-use Rattle.pcap_io.specs.Capture.{capture_of}
 use Rattle.command_words.specs.Named.{names_seen}
 use Rattle.chain_service.specs.Opening.{chains_of}
-use Rattle.nfp_run.proofs.EndedRuns.{run_ends, run_prefixes, run_write_faults}
+use Rattle.nfp_run.specs.Reading.{opened_led}
+use Rattle.nfp_run.proofs.EndedRuns.{IsLed, opens_so, run_ends, run_prefixes, run_write_faults}
 use Rattle.nfp_run.proofs.OtherSlots.{capture_is_not_policy, out_is_not_policy, report_is_not_policy, out_is_not_capture, report_is_not_capture}
 use Rattle.nfp_run.proofs.run.run.Goals as goal
 
 pub returns-clause-prefixes : goal.returns-clause-prefixes
-returns-clause-prefixes g c = run_prefixes (names_seen c.args.names.now) c.args.options (chains_of c.in-Ok.service.chains) c.in-Ok-open_capture.opened.0 _ c.attach_and_run.result
+returns-clause-prefixes g c = run_prefixes (names_seen c.args.names.now) c.args.options (chains_of c.in-Ok.service.chains) _ c.attach_and_run.result
     (g.D.Desk.slots c.args.desk.now) (g.D.Desk.slots c.open_capture.new.desk) (g.D.Desk.slots c.attach_and_run.new.desk)
     (record {
       runs = c.in-Ok.ensures.read;
-      whole = ap (λ v. option_map capture_of v.bytes) (sym (c.read_service.ensures.others Capture capture_is_not_policy)) ∙ c.in-Ok-open_capture.ensures.ok.whole;
+      told = subst (λ v. IfSome v.bytes (IsLed (chains_of c.in-Ok.service.chains) (opened_led (chains_of c.in-Ok.service.chains) c.in-Ok-open_capture.opened (g.D.Desk.slots c.open_capture.new.desk Capture)))) (c.read_service.ensures.others Capture capture_is_not_policy)
+          (opens_so (chains_of c.in-Ok.service.chains) _ c.in-Ok-open_capture.opened _ _ c.in-Ok-open_capture.ensures.ok);
       same_out = c.open_capture.ensures.others Out out_is_not_capture ∙ c.read_service.ensures.others Out out_is_not_policy;
       same_report = c.open_capture.ensures.others Report report_is_not_capture ∙ c.read_service.ensures.others Report report_is_not_policy;
     })
     c.attach_and_run.ensures.left
 
 pub returns-clause-write_faults : goal.returns-clause-write_faults
-returns-clause-write_faults g c = run_write_faults (names_seen c.args.names.now) c.args.options (chains_of c.in-Ok.service.chains) c.in-Ok-open_capture.opened.0 _
+returns-clause-write_faults g c = run_write_faults (names_seen c.args.names.now) c.args.options (chains_of c.in-Ok.service.chains) _
     (g.D.Desk.slots c.args.desk.now) (g.D.Desk.slots c.open_capture.new.desk) (g.D.Desk.slots c.attach_and_run.new.desk) c.attach_and_run.result c.ending_of.result
     (record {
       runs = c.in-Ok.ensures.read;
-      whole = ap (λ v. option_map capture_of v.bytes) (sym (c.read_service.ensures.others Capture capture_is_not_policy)) ∙ c.in-Ok-open_capture.ensures.ok.whole;
+      told = subst (λ v. IfSome v.bytes (IsLed (chains_of c.in-Ok.service.chains) (opened_led (chains_of c.in-Ok.service.chains) c.in-Ok-open_capture.opened (g.D.Desk.slots c.open_capture.new.desk Capture)))) (c.read_service.ensures.others Capture capture_is_not_policy)
+          (opens_so (chains_of c.in-Ok.service.chains) _ c.in-Ok-open_capture.opened _ _ c.in-Ok-open_capture.ensures.ok);
       same_out = c.open_capture.ensures.others Out out_is_not_capture ∙ c.read_service.ensures.others Out out_is_not_policy;
       same_report = c.open_capture.ensures.others Report report_is_not_capture ∙ c.read_service.ensures.others Report report_is_not_policy;
     })
     c.attach_and_run.ensures.cause c.ending_of.ensures
 
 pub returns-clause-due : goal.returns-clause-due
-returns-clause-due g c = run_ends (names_seen c.args.names.now) c.args.options (chains_of c.in-Ok.service.chains) c.in-Ok-open_capture.opened.0 _ c.attach_and_run.result c.ending_of.result
+returns-clause-due g c = run_ends (names_seen c.args.names.now) c.args.options (chains_of c.in-Ok.service.chains) _ c.attach_and_run.result c.ending_of.result
     (g.D.Desk.slots c.args.desk.now) (g.D.Desk.slots c.open_capture.new.desk) (g.D.Desk.slots c.attach_and_run.new.desk)
     (record {
       runs = c.in-Ok.ensures.read;
-      whole = ap (λ v. option_map capture_of v.bytes) (sym (c.read_service.ensures.others Capture capture_is_not_policy)) ∙ c.in-Ok-open_capture.ensures.ok.whole;
+      told = subst (λ v. IfSome v.bytes (IsLed (chains_of c.in-Ok.service.chains) (opened_led (chains_of c.in-Ok.service.chains) c.in-Ok-open_capture.opened (g.D.Desk.slots c.open_capture.new.desk Capture)))) (c.read_service.ensures.others Capture capture_is_not_policy)
+          (opens_so (chains_of c.in-Ok.service.chains) _ c.in-Ok-open_capture.opened _ _ c.in-Ok-open_capture.ensures.ok);
       same_out = c.open_capture.ensures.others Out out_is_not_capture ∙ c.read_service.ensures.others Out out_is_not_policy;
       same_report = c.open_capture.ensures.others Report report_is_not_capture ∙ c.read_service.ensures.others Report report_is_not_policy;
     })

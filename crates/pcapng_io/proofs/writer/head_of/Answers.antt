@@ -1,13 +1,9 @@
-use Rattle.std.proofs.Common.{◌∙◌, ◌++◌, ap, length, take}
-use Rattle.pcapng_io.specs.Written.{packet_head}
-use Rattle.capture_bytes.specs.Numbers.{bytes_of}
+use Rattle.std.proofs.Common.{◌∙◌}
 use Rattle.pcapng_io.proofs.Pieces.{seven_fours}
 use Rattle.pcapng_io.proofs.writer.head_of.Goals as goal
 
 pub returns : goal.returns
-unfolding packet_head
 returns c =
     seven_fours c.put_u32.new.bytes c.put_u32-2.new.bytes c.put_u32-3.new.bytes c.put_u32-4.new.bytes c.put_u32-5.new.bytes c.put_u32-6.new.bytes c.put_u32-7.new.bytes _ _ _ _ _ _ _
     (c.put_u32-7.auto.bytes ∙ c.put_u32-6.auto.bytes ∙ c.put_u32-5.auto.bytes ∙ c.put_u32-4.auto.bytes ∙ c.put_u32-3.auto.bytes ∙ c.put_u32-2.auto.bytes ∙ c.put_u32.auto.bytes)
-    c.put_u32.ensures (c.put_u32-2.ensures ∙ ap (λ n. take 4 c.put_u32.new.bytes ++ bytes_of c.args.packet.now.order 4 n) c.requires) c.put_u32-3.ensures c.put_u32-4.ensures c.put_u32-5.ensures
-    (c.put_u32-6.ensures ∙ ap (λ frame. take 20 c.put_u32-5.new.bytes ++ bytes_of c.args.packet.now.order 4 (length frame)) c.bytes.ensures) c.put_u32-7.ensures
+    c.put_u32.ensures c.put_u32-2.ensures c.put_u32-3.ensures c.put_u32-4.ensures c.put_u32-5.ensures c.put_u32-6.ensures c.put_u32-7.ensures

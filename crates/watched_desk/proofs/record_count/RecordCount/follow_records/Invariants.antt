@@ -1,5 +1,5 @@
 use Rattle.std.proofs.Common.{length}
-use Rattle.watched_desk.proofs.record_count.RecordCount.follow.Given as goal
+use Rattle.watched_desk.proofs.record_count.RecordCount.follow_records.Given as goal
 
 abbrev pub decreases-pieces : goal.decreases-pieces
 decreases-pieces l = length l.rest
