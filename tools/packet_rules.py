@@ -2,21 +2,18 @@
 
 It is a second account of what the program is proved to do, and shares nothing with it. A packet walks through the
 functions of its chain one after another; no stage or branch plays a part, but for the copies that a plan costs.
-docs/POLICY.md says the same in words.
+docs/POLICY.md says the same in words. How captures are read and written stands in capture_rules.py.
 """
 
 import ipaddress
 import struct
 import typing
 
+import capture_rules
 import policy_rules
-
-MICRO, NANO = 0xA1B2C3D4, 0xA1B23C4D
-NANOSECONDS = {MICRO: 1_000, NANO: 1}  # of one unit of a fraction
 
 TCP, UDP = 6, 17
 VLAN_TAG, SERVICE_TAG = 0x8100, 0x88A8
-LONGEST_FRAME = 262_144
 
 
 # Frames and their fields.
@@ -494,53 +491,6 @@ def fate_of(chains, frame, time):
     return Fate(None, None, frame)
 
 
-class Record(typing.NamedTuple):
-    stamp: bytes  # seconds and fraction as they stand in the capture
-    time: int  # the same in nanoseconds
-    original: int  # the length of the frame as it was sent
-    frame: bytes
-
-
-class Capture(typing.NamedTuple):
-    order: str  # of the bytes in the capture's own numbers, as struct spells it
-    head: bytes
-    records: list
-    fault: typing.Optional[str]  # what is wrong behind the whole records
-
-
-def read_capture(data):
-    order = '<' if data[:4] in (MICRO.to_bytes(4, 'little'), NANO.to_bytes(4, 'little')) else '>'
-    unit = NANOSECONDS[struct.unpack(order + 'I', data[:4])[0]]
-    records, place = [], 24
-    while place < len(data):
-        head = data[place : place + 16]
-        seconds, fraction, captured, original = struct.unpack(order + 'IIII', head) if len(head) == 16 else (0, 0, 0, 0)
-        if captured > LONGEST_FRAME:
-            return Capture(order, data[:24], records, f'capture: frame too long {len(records) + 1} {captured}')
-        frame = data[place + 16 : place + 16 + captured]
-        if len(head) < 16 or len(frame) < captured:
-            return Capture(order, data[:24], records, f'capture: cut record {len(records) + 1}')
-        records.append(Record(head[:8], seconds * 1_000_000_000 + fraction * unit, original, frame))
-        place += 16 + captured
-    return Capture(order, data[:24], records, None)
-
-
-def in_32_bits(value):
-    return min(max(value, 0), 0xFFFFFFFF)
-
-
-def written_head(capture, taggers):
-    """The snaplen has room for a tag of each tagger in the policy, whether or not it pushes one."""
-    (snaplen,) = struct.unpack(capture.order + 'I', capture.head[16:20])
-    return capture.head[:16] + struct.pack(capture.order + 'I', in_32_bits(snaplen + 4 * taggers)) + capture.head[20:]
-
-
-def written_record(capture, record, frame):
-    """The original length changes by what tags change of the frame's, which nothing else does."""
-    original = in_32_bits(record.original + len(frame) - len(record.frame))
-    return record.stamp + struct.pack(capture.order + 'II', len(frame), original) + frame
-
-
 class Answer(typing.NamedTuple):
     frames: list  # as they were read
     fates: list  # of the records, in their order
@@ -564,18 +514,23 @@ def report_of(chains, fates, total, fault):
     yield f'fault {fault}' if fault else 'end'
 
 
-def answer(policy, capture):
-    """What `nfp run` must write for a policy and a capture with a good head."""
+def answer(policy, data):
+    """What `nfp run` must write for a policy and a capture, whatever their bytes."""
     try:
         checked = policy_rules.check(policy)
     except policy_rules.Refused as refused:
         return nothing_but(f'policy: {refused}', 2)
+    capture = capture_rules.read(data)
+    fault = capture.fault and f'capture: {capture.fault}'
+    if capture.is_refused:
+        return nothing_but(fault, 3)
     chains = [Chain(chain, order) for chain, order in checked]
     taggers = [function.kind for chain, _ in checked for function in chain.functions].count('tagger')
-    read = read_capture(capture)
-    fates = [fate_of(chains, record.frame, record.time) for record in read.records]
-    emitted = [written_record(read, record, fate.frame) for record, fate in zip(read.records, fates) if fate.drop is None]
-    total = f'records {len(fates)} emitted {len(emitted)} dropped {len(fates) - len(emitted)}'
-    report = ''.join(f'{line}\n' for line in report_of(chains, fates, total, read.fault))
-    out = written_head(read, taggers) + b''.join(emitted)
-    return Answer([record.frame for record in read.records], fates, out, report, read.fault or f'done {total}', 3 if read.fault else 0)
+    fates = [fate_of(chains, record.frame, record.time) for record in capture.records]
+    emitted = [fate.frame if fate.drop is None else None for fate in fates]
+    dropped = emitted.count(None)
+    total = f'records {len(fates)} emitted {len(fates) - dropped} dropped {dropped}'
+    report = ''.join(f'{line}\n' for line in report_of(chains, fates, total, fault))
+    # There has to be room for a tag of each tagger.
+    out = capture_rules.written(capture, emitted, 4 * taggers)
+    return Answer([record.frame for record in capture.records], fates, out, report, fault or f'done {total}', 3 if fault else 0)

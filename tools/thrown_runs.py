@@ -1,6 +1,6 @@
 """One run of the program under a limit of time, and what is due of it by the rules.
 
-The rules are those of policy_rules.py and packet_rules.py, which share nothing with the program. Used by tools/throw-mutations
+The rules are those of policy_rules.py, packet_rules.py and capture_rules.py, which share nothing with the program. Used by tools/throw-mutations
 and tools/refuse-allocations.
 """
 
@@ -9,11 +9,9 @@ import pathlib
 import re
 import select
 import signal
-import struct
 import time
 import typing
 
-import frames
 import packet_rules
 import policy_rules
 
@@ -29,7 +27,8 @@ NOTES = {
     0: r'done records (\d+) emitted (\d+) dropped (\d+)\n',
     1: r'usage: (no command|unknown command|words|number (mergers|burst|seed|count)|merge|same name)\n',
     2: rf'policy: ({FAULT})\n',
-    3: r'capture: (bad magic|bad version|bad link \d+|cut head|cut record \d+|frame too long \d+ \d+|too many records)\n',
+    3: r'capture: (bad (magic|version|link \d+|block \d+|resolution \d+)|cut (head|record \d+|block \d+)|(frame|block) too long \d+ \d+|'
+    r'no interface \d+|too many (records|blocks))\n',
     4: r'read fault: (policy|capture)\n',
     5: r'(write fault: (out|report)\n)?',
     6: r'',
@@ -136,28 +135,9 @@ def run(program, words, folder, env, limit, actions=()):
 # What is due.
 
 
-def head_fault(capture):
-    """What is wrong with the head of a capture, or None."""
-    if len(capture) < 24:
-        return 'cut head'
-    order = next((order for order in '<>' if struct.unpack(order + 'I', capture[:4])[0] in (frames.MICRO, frames.NANO)), None)
-    if order is None:
-        return 'bad magic'
-    if struct.unpack(order + 'HH', capture[4:8]) != (2, 4):
-        return 'bad version'
-    (link,) = struct.unpack(order + 'I', capture[20:24])
-    return None if link == frames.LINK_ETHERNET else f'bad link {link}'
-
-
-EMPTY = frames.written(frames.Capture('<', frames.MICRO, 65535, []))
-
-
 def due_of_run(policy, capture):
     """What `nfp run` has to leave, whatever the bytes."""
-    fault = head_fault(capture)
-    answer = packet_rules.answer(policy, EMPTY if fault else capture)
-    if fault and answer.status != 2:
-        answer = packet_rules.nothing_but(f'capture: {fault}', 3)
+    answer = packet_rules.answer(policy, capture)
     report = None if answer.report is None else answer.report.encode('ascii')
     return Due(answer.status, answer.note + '\n', answer.out, report)
 
