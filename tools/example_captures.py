@@ -1,5 +1,6 @@
 """What the captures of the examples hold, record by record: each is a story that an operator would tell."""
 
+import blocks
 from frames import (
     ACK,
     BROADCAST,
@@ -538,6 +539,45 @@ def provider_edge():
     ]
 
 
+def noted():
+    """What a help desk saved of a gateway's two sides with its notes, and behind it what a probe outside saw, each with a clock of its own."""
+    lan, wan = 0, 1
+    probe_unit, reading = blocks.twos(24), plain('10.1.0.30', udp(40000, 5000, b's' * 72), to='192.0.2.90')
+    scanned = plain(SCANNER, tcp(4444, 22, SYN))
+
+    def at_lan(moment, *packet, **more):
+        return blocks.Packet(lan, blocks.ticks_at(moment), *packet, **more)
+
+    def at_wan(moment, *packet, **more):
+        return blocks.Packet(wan, blocks.ticks_at(moment, blocks.NANOSECONDS), *packet, **more)
+
+    def at_probe(moment, *packet, **more):
+        return blocks.Packet(0, blocks.ticks_at(moment, probe_unit), *packet, **more)
+
+    return [
+        blocks.Section('<', [(blocks.APPLICATION, b'Wireshark'), (blocks.COMMENT, b'Taken while the sensor lost readings')]),
+        blocks.Interface('lan', 96),
+        blocks.Interface('wan', 262144, blocks.NANOSECONDS),
+        blocks.Names({'10.1.0.30': 'sensor.example', SCANNER: 'scanner.example'}),
+        at_lan(100_000_000, 'ARP request of an office machine', arp_request(OFFICE, '10.1.0.1')),
+        at_lan(100_200_000, 'DNS query of an office machine', plain(OFFICE, udp(40001, 53, QUERY), to=RESOLVER), comments=('Looks for the collector',)),
+        at_wan(112_345_678, 'its answer', plain(RESOLVER, udp(53, 40001, ANSWER), to=OFFICE), comments=('12 ms', 'No such name')),
+        at_lan(300_000_000, 'a web page of 1,500 bytes, cut by the snaplen of `lan`', plain('192.0.2.80', page(50123), to=OFFICE), 96),
+        at_wan(250_000_001, 'TCP SYN of the scanner, earlier by its time', scanned, comments=('First of the scan',)),
+        at_wan(400_000_000, 'a reading of the sensor', reading),
+        at_wan(400_499_999, 'the next one', reading, comments=('Never came to the collector',)),
+        at_wan(400_500_000, 'the next one, a nanosecond later', reading, comments=('Came',)),
+        blocks.Statistics(lan, blocks.ticks_at(500_000_000), 3, 0),
+        blocks.Statistics(wan, blocks.ticks_at(500_000_000, blocks.NANOSECONDS), 7, 2),
+        blocks.Section('>', [(blocks.HARDWARE, b'probe of the provider')]),
+        blocks.Interface('probe', 65535, probe_unit),
+        at_probe(401_500_060, 'a reading of the sensor', reading),
+        at_probe(402_000_000, 'TCP SYN of the scanner', scanned, comments=('It goes on',)),
+        at_probe(402_500_000, 'IPv6 ping', ping6()),
+        blocks.Statistics(0, blocks.ticks_at(500_000_000, probe_unit), 3, 0),
+    ]
+
+
 TWO_VERSIONS = Capture('<', MICRO, 96, [(n * 180_503, *record) for n, record in enumerate(both_versions())])
 UPGRADE = Capture('<', MICRO, 262144, [(n * 180_503, *record) for n, record in enumerate(handed_on())])
 
@@ -558,6 +598,7 @@ MADE = {
     'both-versions': TWO_VERSIONS,
     'both-versions/ipv4-alone': TWO_VERSIONS,
     'slowed-source': Capture('<', MICRO, 96, slow_line()),
+    'two-interfaces': blocks.Capture(noted()),
     'voice-marking': Capture('<', MICRO, 262144, [(n * 180_503, *record) for n, record in enumerate(calls())]),
     'redacted-secret': Capture('<', MICRO, 262144, [(n * 180_503, *record) for n, record in enumerate(logins())]),
     'tenant-tags': Capture('<', MICRO, 96, [(n * 180_503, *record) for n, record in enumerate(provider_edge())]),

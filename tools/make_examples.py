@@ -1,7 +1,7 @@
 #!/usr/bin/env python3
 """Makes the captures of the examples, and works out from the rules what must come out.
 
-    tools/make_examples.py                writes in.pcap, expected/ and plan.svg of each example
+    tools/make_examples.py                writes the capture, expected/ and plan.svg of each example
     tools/make_examples.py --check        writes nothing, and fails where a file is not what would be written, an example
                                           of docs/POLICY.md is not what the rules say, or README.md shows a policy or a
                                           report that is not in its example
@@ -10,13 +10,16 @@
                                           docs/POLICY.md
 
 The expected files are worked out here, with Python's standard library alone, and never taken from the program's own
-output: two accounts of the same rules that agree say more than one. policy_rules.py has those of the language, and
-packet_rules.py those of the functions.
+output: two accounts of the same rules that agree say more than one. policy_rules.py has those of the language,
+packet_rules.py those of the functions, and capture_rules.py those of captures. A capture is called in.pcap or in.pcapng by its format, and
+what is written of it out.pcap or out.pcapng.
 """
 
 import pathlib
 import sys
 
+import blocks
+import capture_rules
 import frames
 import packet_rules
 import page_examples
@@ -36,6 +39,22 @@ def place_of_capture(folder):
     return folder.parent if folder.parent.parent == EXAMPLES else folder
 
 
+def ending_of(data):
+    """Of the name of a capture, by its format."""
+    return 'pcapng' if data.startswith(capture_rules.SECTION_LEAD) else 'pcap'
+
+
+def capture_in(folder):
+    """The file with the capture of an example, or nothing where it is planned and not run."""
+    return next(place_of_capture(folder).glob('in.pcap*'), None)
+
+
+def bytes_of(capture):
+    """The file of a capture that is made, which may be none."""
+    made = {frames.Capture: frames.written, blocks.Capture: blocks.written}
+    return capture and made[type(capture)](capture)
+
+
 def files_of(folder, policy, capture):
     """The bytes of each file that is made in an example's folder."""
     expected = folder / 'expected'
@@ -43,11 +62,11 @@ def files_of(folder, policy, capture):
     if capture is None:
         return files
     due = packet_rules.answer(policy, capture)
-    files[place_of_capture(folder) / 'in.pcap'] = capture
+    files[place_of_capture(folder) / f'in.{ending_of(capture)}'] = capture
     files[expected / 'note'] = f'{due.note}\n'.encode('ascii')
     files[expected / 'status'] = f'{due.status}\n'.encode('ascii')
     if due.out is not None:
-        files[expected / 'out.pcap'] = due.out
+        files[expected / f'out.{ending_of(capture)}'] = due.out
         files[expected / 'report.txt'] = due.report.encode('ascii')
     return files
 
@@ -62,7 +81,7 @@ def all_files():
     files = {}
     for name, capture in MADE.items():
         policy = (EXAMPLES / name / 'policy').read_bytes()
-        files.update(files_of(EXAMPLES / name, policy, capture and frames.written(capture)))
+        files.update(files_of(EXAMPLES / name, policy, bytes_of(capture)))
         picture = picture_of(policy)
         if picture is not None:
             files[EXAMPLES / name / 'plan.svg'] = picture
@@ -91,9 +110,10 @@ def write(files):
 
 
 def show(name):
-    due = packet_rules.answer((EXAMPLES / name / 'policy').read_bytes(), frames.written(MADE[name]))
+    due = packet_rules.answer((EXAMPLES / name / 'policy').read_bytes(), bytes_of(MADE[name]))
     several = len({fate.chain for fate in due.fates}) > 1
-    for number, ((_, what, _, _), frame, fate) in enumerate(zip(MADE[name].records, due.frames, due.fates), 1):
+    for number, (record, frame, fate) in enumerate(zip(MADE[name].records, due.frames, due.fates), 1):
+        what = record.what if isinstance(record, blocks.Packet) else record[1]
         chain = [fate.chain or 'none'] if several else []
         end = f'**{fate.drop}**' if fate.drop else page_examples.fate_text(frame, fate)
         size = f'{len(frame)}' + (f' to {len(fate.frame)}' if len(frame) != len(fate.frame) and not fate.drop else '')
