@@ -1,7 +1,7 @@
 """What tools/throw-mutations throws: policies and captures as others have thrown them at parsers.
 
-A seed is a good policy and a good capture, from examples/ or made here, of every kind of function and of frame. A mutation
-changes bytes, lines, words, records or fields. All is drawn from a generator of random numbers, so that a number makes the
+A seed is a good policy and a good capture in either format, from examples/ or made here, of every kind of function and of frame. A mutation
+changes bytes, lines, words, records, blocks (thrown_blocks.py) or fields. All is drawn from a generator of random numbers, so that a number makes the
 same case again.
 """
 
@@ -10,8 +10,11 @@ import re
 import struct
 import typing
 
+import blocks
 import frames
+import make_examples
 import policy_rules
+import thrown_blocks
 
 EXAMPLES = pathlib.Path(__file__).resolve().parent.parent / 'examples'
 
@@ -197,13 +200,34 @@ def made_frame(rng):
 
 
 def made_capture(rng):
+    """In either format."""
+    return made_classic(rng) if rng.randrange(2) else thrown_blocks.made_capture(rng, made_frame)
+
+
+def made_classic(rng):
     records = [(moment * rng.choice([0, 1, 10**5]), '', made_frame(rng), rng.choice([None, None, None, 60, 35])) for moment in range(rng.randrange(9))]
     snaplen = rng.choice([0, 96, 65535, 262144, 2**32 - 1])
     return frames.written(frames.Capture(rng.choice('<>'), rng.choice([frames.MICRO, frames.NANO]), max(snaplen, 96), records))
 
 
+class Part(typing.NamedTuple):
+    """A whole part of a capture by its own lengths: of the classic format the head and records, of pcapng blocks."""
+
+    end: int
+    is_packet: bool
+
+
+def parts_of(capture):
+    if thrown_blocks.is_blocks(capture):
+        return [Part(unit.end, unit.kind == blocks.PACKET) for unit in thrown_blocks.units_of(capture)]
+    head, *records = ends_of(capture)
+    return [Part(head, False), *(Part(end, True) for end in records)]
+
+
 def ends_of(capture):
-    """The places where the records of a capture end, the head being the first, by its own lengths."""
+    """The places where the records of a capture end, the head being the first, or its blocks, by its own lengths."""
+    if thrown_blocks.is_blocks(capture):
+        return [unit.end for unit in thrown_blocks.units_of(capture)]
     order, ends = order_of(capture), [CAPTURE_HEAD]
     while ends[-1] + RECORD_HEAD <= len(capture):
         (captured,) = struct.unpack_from(order + 'I', capture, ends[-1] + 8)
@@ -213,14 +237,21 @@ def ends_of(capture):
     return ends
 
 
+def some_part(capture):
+    """A record of a thousand bytes, or a block of them, in the order of a capture."""
+    if thrown_blocks.is_blocks(capture):
+        return blocks.block(thrown_blocks.units_of(capture)[0].order, blocks.CUSTOM, bytes(1000))
+    return struct.pack(order_of(capture) + 'IIII', 0, 0, 1000, 1000) + bytes(1000)
+
+
 def order_of(capture):
     return '<' if capture[:1] in (b'\xd4', b'\x4d') else '>'
 
 
 def seeds(rng, count):
     """Those of the examples, with the front part of a long capture too, and as many that are made."""
-    examples = [path.parent for path in sorted(EXAMPLES.glob('*/policy')) if (path.parent / 'in.pcap').exists()]
-    found = [Seed((each / 'policy').read_bytes(), (each / 'in.pcap').read_bytes()) for each in examples]
+    examples = [path.parent for path in sorted(EXAMPLES.glob('*/policy')) if make_examples.capture_in(path.parent)]
+    found = [Seed((each / 'policy').read_bytes(), make_examples.capture_in(each).read_bytes()) for each in examples]
     policies = [path.read_bytes() for path in sorted(EXAMPLES.glob('**/policy'))]
     for seed in list(found):
         ends = ends_of(seed.capture)
@@ -420,7 +451,7 @@ def put_in(data, place, size, value, order):
 
 def head_field(rng, data):
     place, size = rng.choice([(0, 4), (4, 2), (6, 2), (8, 4), (12, 4), (16, 4), (20, 4)])
-    value = rng.choice([*ENDS, frames.MICRO, frames.NANO, 0xA1B2CD34, 113, 276]) % 256**size
+    value = rng.choice([*ENDS, frames.MICRO, frames.NANO, 0xA1B2CD34, blocks.SECTION, 113, 276]) % 256**size
     return put_in(data, place, size, value, rng.choice([order_of(data), '<', '>']))
 
 
@@ -471,10 +502,14 @@ def resize_frame(rng, data):
     return put_in(data, begin - 8, 4, len(frame), order_of(data))[:begin] + frame + data[end:]
 
 
+def some_tags(rng):
+    return b''.join(frames.tag(rng.choice([0x8100, 0x88A8, 0x9100]), rng.choice([0, 7, 4095])) for _ in range(rng.choice([1, 1, 2, 200])))
+
+
 def push_tag(rng, data):
     ends = ends_of(data)
     begin = rng.choice(ends) + RECORD_HEAD
-    tags = b''.join(frames.tag(rng.choice([0x8100, 0x88A8, 0x9100]), rng.choice([0, 7, 4095])) for _ in range(rng.choice([1, 1, 2, 200])))
+    tags = some_tags(rng)
     if begin + 12 > len(data):
         return data
     (captured,) = struct.unpack_from(order_of(data) + 'I', data, begin - 8)
@@ -498,12 +533,38 @@ OF_RECORDS = [with_records(swap), with_records(repeat), with_records(remove), re
 OF_FIELDS = [head_field, record_field, record_field, frame_field, frame_field, frame_field]
 
 
+def retag(rng, frame):
+    """A frame with tags in front of what it has."""
+    return frame[:12] + some_tags(rng) + frame[12:]
+
+
+def change_field(rng, frame):
+    place, size = rng.choice(FRAME_FIELDS)
+    place += rng.choice([0, 0, 4, 8])
+    return put_in(frame, place, size, rng.choice(FRAME_VALUES) % 256**size, '>') if place + size <= len(frame) else frame
+
+
+def resized(rng, frame):
+    return rng.choice([frame[: rng.randrange(len(frame) + 1)], frame + rng.randbytes(rng.choice([1, 2, 3, 500]))])
+
+
+OF_UNITS = [*thrown_blocks.OF_BLOCKS, *(thrown_blocks.with_units(change) for change in (swap, repeat, remove))]
+OF_NG_FRAMES = [thrown_blocks.with_frame(change) for change in (retag, change_field, resized)]
+
+
+def pools_of(data):
+    """What may be done with bytes that are these."""
+    if thrown_blocks.is_blocks(data):
+        has_blocks = bool(thrown_blocks.units_of(data))
+        return [OF_BYTES, OF_UNITS, OF_UNITS, thrown_blocks.OF_FIELDS, thrown_blocks.OF_FIELDS, OF_NG_FRAMES] if has_blocks else [OF_BYTES]
+    # What mutations of records take for granted is a head.
+    return [OF_BYTES, OF_BYTES, OF_RECORDS, OF_FIELDS, OF_FIELDS] if len(data) >= CAPTURE_HEAD else [[insert, double]]
+
+
 def mutated_capture(rng, data):
-    """The file after one to four mutations; of hundreds one has a frame as long as they may be."""
+    """The file after one to four mutations; of hundreds one has a frame or a block as long as they may be."""
     if rng.randrange(300) == 0:
-        data = long_frame(rng, data)
+        data = (thrown_blocks.long_block if thrown_blocks.is_blocks(data) else long_frame)(rng, data)
     for _ in range(rng.choice([1, 1, 1, 2, 4])):
-        pool = rng.choice([OF_BYTES, OF_BYTES, OF_RECORDS, OF_FIELDS, OF_FIELDS])
-        # What mutations of records take for granted is a head.
-        data = rng.choice(pool if len(data) >= CAPTURE_HEAD else [insert, double])(rng, data or b'\0')
+        data = rng.choice(rng.choice(pools_of(data)))(rng, data or b'\0')
     return data

@@ -4,6 +4,7 @@ Each trouble is a function of a bench, which has the program, a folder and a see
 take a seed whose policy and head of a capture are good, so that Out and Report are due.
 """
 
+import itertools
 import os
 import random
 import resource
@@ -64,10 +65,8 @@ def long_capture(bench, bytes_at_least=140_000):
     thousands of small bursts would take seconds, so it has no options."""
     capture = bench.seed.capture
     ends = thrown_cases.ends_of(capture)
-    records = capture[ends[0] : ends[-1]]
-    if not records:
-        records = bytes(8) + (1000).to_bytes(4, 'big' if thrown_cases.order_of(capture) == '>' else 'little') * 2 + bytes(1000)
-    return bench._replace(options=[]).with_capture(capture[:24] + records * (bytes_at_least // len(records) + 1))
+    records = capture[ends[0] : ends[-1]] or thrown_cases.some_part(capture)
+    return bench._replace(options=[]).with_capture(capture[: ends[0]] + records * (bytes_at_least // len(records) + 1))
 
 
 def faulty(bench, came, status, note):
@@ -347,8 +346,9 @@ def changed_while_read(bench):
     grows = bench.rng.randrange(2) == 0
     bench = long_capture(bench) if bench.rng.randrange(4) == 0 else bench
     before = bench.seed.capture
-    more = before[24:] + before[24 : 24 + bench.rng.randrange(60)]
-    after = before + more if grows else before[: bench.rng.randrange(24, len(before) + 1)]
+    head = thrown_cases.ends_of(before)[0]
+    more = before[head:] + before[head : head + bench.rng.randrange(60)]
+    after = before + more if grows else before[: bench.rng.randrange(head, len(before) + 1)]
     bench.folder.put(*bench.seed)
     bench.folder.clear()
     os.mkfifo(bench.folder.out)
@@ -395,7 +395,7 @@ def unblocked(fifo):
 def grows_freely(bench):
     """Capture grows all the time, by pieces of records, and is read as far as it went when its end was found."""
     ends = thrown_cases.ends_of(bench.seed.capture)
-    records = bench.seed.capture[24 : ends[-1]] or bytes(16)
+    records = bench.seed.capture[ends[0] : ends[-1]] or thrown_cases.some_part(bench.seed.capture)
     records *= 100_000 // len(records) + 1
     size = bench.rng.choice([1, 10, 58, 1000])
     stop = threading.Event()
@@ -418,12 +418,16 @@ def grows_freely(bench):
     grower.join()
     grown = thrown_runs.contents(bench.folder.capture)
     count = int((came.report or b'records 0').rsplit(b'\nrecords ', 1)[-1].split()[0]) if came.report else 0
-    ends = thrown_cases.ends_of(grown)
-    if count >= len(ends):
-        yield f'{count} records were read of {len(ends) - 1}'
+    parts = thrown_cases.parts_of(grown)
+    records = list(itertools.accumulate(part.is_packet for part in parts))
+    if count > records[-1]:
+        yield f'{count} records were read of {records[-1]}'
         return
-    seen = grown[: ends[count] + (1 if came.status == 3 else 0)]
-    yield from thrown_runs.unlike(came, thrown_runs.due_of_run(bench.seed.policy, seen))
+    # How far it went: behind so many records, and blocks of which the report doesn't tell how many were read.
+    ends = [part.end for part, so_far in zip(parts, records) if so_far == count]
+    seen = [grown[: end + (1 if came.status == 3 else 0)] for end in ends]
+    told = [list(thrown_runs.unlike(came, thrown_runs.due_of_run(bench.seed.policy, front))) for front in seen]
+    yield from min(told, key=len)
 
 
 def few_files(bench):
