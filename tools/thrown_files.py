@@ -393,7 +393,9 @@ def unblocked(fifo):
 
 
 def grows_freely(bench):
-    """Capture grows all the time, by pieces of records, and is read as far as it went when its end was found."""
+    """Capture grows all the time, by pieces of records, and is read as far as it went when its end was found. In pcapng there may be thousands of
+    small bursts, and memory that is filled anew for each, so it has no options."""
+    bench = bench._replace(options=[])
     ends = thrown_cases.ends_of(bench.seed.capture)
     records = bench.seed.capture[ends[0] : ends[-1]] or thrown_cases.some_part(bench.seed.capture)
     records *= 100_000 // len(records) + 1
@@ -423,9 +425,9 @@ def grows_freely(bench):
     if count > records[-1]:
         yield f'{count} records were read of {records[-1]}'
         return
-    # How far it went: behind so many records, and blocks of which the report doesn't tell how many were read.
+    # How far it went: behind so many records, and blocks of which the report doesn't tell how many were read, or up to a block that is faulty itself.
     ends = [part.end for part, so_far in zip(parts, records) if so_far == count]
-    seen = [grown[: end + (1 if came.status == 3 else 0)] for end in ends]
+    seen = [grown[: end + (1 if came.status == 3 else 0)] for end in ends] + [grown]
     told = [list(thrown_runs.unlike(came, thrown_runs.due_of_run(bench.seed.policy, front))) for front in seen]
     yield from min(told, key=len)
 
