@@ -15,7 +15,6 @@ import threading
 import time
 import typing
 
-import frames
 import thrown_cases
 import thrown_runs
 from thrown_runs import Due, Ended
