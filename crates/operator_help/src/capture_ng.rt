@@ -18,7 +18,7 @@ const BLOCK_LONG: &str =
     "{} says that block {} has {} bytes, and at most 16777216 are read: the file is damaged from there on";
 
 const RESOLUTION: &str =
-    "the interface in block {} of {} tells times in a unit that isn't read: 10 to the minus 18 and 2 to the minus 60 seconds are the finest\nthis writes them in nanoseconds:\n  editcap -F nsecpcap {} NEW.pcap";
+    "the interface in block {} of {} tells times in a unit that isn't read: 10 to the minus 18 and 2 to the minus 60 seconds are the finest; mostly this block is damaged\nthis writes the packets, with other times (editcap is one of Wireshark's tools):\n  editcap -F nsecpcap {} NEW.pcap";
 
 const NO_INTERFACE: &str =
     "the packet in block {} of {} names an interface that its section hasn't: the file is damaged, or was joined from others by hand; `mergecap` joins captures";
@@ -49,9 +49,13 @@ pub fn fault(page: &mut Page, capture: Captured<'_>, fault: NgFault) -> Result<(
         }
         NgFault::BadLink(kind) => {
             let name = shown_name(page.alloc, capture.name)?;
-            bad_link(page, &name, kind)
+            bad_link(page, &name, kind)?;
+            page.tell(DONE, &[])
         }
-        NgFault::BadResolution(block) => page.tell(RESOLUTION, &[Number(block), name, name]),
+        NgFault::BadResolution(block) => {
+            page.tell(RESOLUTION, &[Number(block), name, name])?;
+            page.tell(DONE, &[])
+        }
         NgFault::NoInterface(block) => {
             page.tell(NO_INTERFACE, &[Number(block), name])?;
             page.tell(DONE, &[])
