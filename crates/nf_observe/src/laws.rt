@@ -32,11 +32,15 @@ pub fn flows_count_their_packets()
 
 /// What a bucket pays for in a row of packets, with what is left in it, is no more than what it held and
 /// what the rate brought meanwhile. So a source that is new sends no more than a burst and what the rate
-/// brings up to its last packet.
+/// brings up to its last packet, and in any row of packets later on no more than a burst and what the rate brings from the
+/// first of them to the last.
 pub fn buckets_keep_the_rate()
     ensures all { (rate burst : ℕ) (b : TokenBucket) (packets : List Arrival) → IsWithinRate rate b (left_by rate burst b packets) (bytes_paid rate burst b packets) }
     ensures new { (rate burst time : ℕ) (packets : List Arrival) →
         tokens_of (bytes_paid rate burst (full burst time) packets) ≤ tokens_of burst + ((left_by rate burst (full burst time) packets).moment - time) * rate }
+    ensures any_row { (rate burst time : ℕ) (earlier : List Arrival) (first : Arrival) (later : List Arrival) →
+        tokens_of (bytes_paid rate burst (left_by rate burst (full burst time) earlier) (first ∷ later)) ≤
+        tokens_of burst + ((left_by rate burst (full burst time) (earlier ++ first ∷ later)).moment - first.0) * rate }
 {}
 
 /// A source that keeps to its rate loses nothing: where its packets, from each of them to each behind it, have no more bytes

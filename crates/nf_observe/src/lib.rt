@@ -9,8 +9,8 @@
 //! A [`Limiter`] drops what a source sends beyond a rate. Each source, an address of IPv4 or IPv6, has a [`TokenBucket`], which is full
 //! at first, holds the tokens of a burst and fills by the rate; a packet passes where its bucket pays for it.
 //! A token is what a rate of one byte a second brings in one nanosecond, so no fraction is ever lost. What
-//! comes in a span is computed in 128 bits, and nothing wraps. [`buckets_keep_the_rate`] says that no bucket
-//! pays for more than a burst and what the rate brings, [`conforming_sources_pass`] that a source which keeps to the
+//! comes in a span is computed in 128 bits, and nothing wraps. [`buckets_keep_the_rate`] says that in no row of
+//! packets a bucket pays for more than a burst and what the rate brings meanwhile, [`conforming_sources_pass`] that a source which keeps to the
 //! rate loses nothing, and [`sources_have_their_own_buckets`] that no source spends what another has. `set rate` and `set burst` set a limiter up,
 //! and both have to be there: [`Limiter::build`] names the least line that is refused.
 //!

@@ -91,6 +91,9 @@ module _ {K : Type 0} (eq : K → K → Bool) where
   pub grows_by_one : (known : List K) (e : K) → is_seen eq known e ≡ false → length (seen_with eq known e) ≡ length known + 1
   grows_by_one known e h = subst (λ (b : Bool). length (if b then known else known ++ e ∷ []) ≡ length known + 1) (sym h) (length-append known (e ∷ []))
 
+  pub seen_stays : (known : List K) (e : K) → is_seen eq known e ≡ true → seen_with eq known e ≡ known
+  seen_stays known e h = subst (λ (b : Bool). (if b then known else known ++ e ∷ []) ≡ known) (sym h) refl
+
   -- one that was seen is known, if each is the same as itself
   module _ (itself : (e : K) → eq e e ≡ true) where
     last_known : (known : List K) (e : K) → is_seen eq (known ++ e ∷ []) e ≡ true

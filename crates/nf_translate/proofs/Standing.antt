@@ -1,19 +1,21 @@
 -- Flows keep their backends, packets come back, and ports run out once all are taken.
-use Rattle.std.proofs.Common.{◌≡◌, ◌<◌, ◌≤◌, ◌+◌, ◌-◌, ◌∙◌, ℕ, zero, suc, List, [], ◌∷◌, ◌++◌, length, Bool, true, false, Option, Some, None, slice_get, refl, ap, arith}
+use Rattle.std.proofs.Common.{◌≡◌, ◌<◌, ◌≤◌, ◌+◌, ◌-◌, ◌*◌, ◌∙◌, ℕ, zero, suc, List, [], ◌∷◌, ◌++◌, length, Bool, true, false, Option, Some, None, slice_get, slice_index_or, refl, sym, ap, arith}
 use Rattle.std.specs.Prelude.{if◌then◌else◌, nat_le, ◌==◌}
 use Rattle.std.specs.Option.{option_and_then}
 use Rattle.std.proofs.lemmas.Bool.{eq-eqb}
+use Rattle.std.proofs.lemmas.Nat.{mod-mul-add}
 use Rattle.policy_text.specs.Meeting.{is_within}
 use Rattle.chain_walk.specs.Step.{Step}
 use Rattle.nf_translate.specs.declared.endpoint.Endpoint.{Endpoint}
 use Rattle.nf_translate.specs.declared.nat.NatSettings.{NatSettings}
 use Rattle.nf_translate.specs.declared.client.Client.{Client}
+use Rattle.nf_translate.specs.declared.balancer.BalancerSettings.{BalancerSettings}
 use Rattle.nf_translate.specs.Clients.{is_same as is_same_client, is_known as is_known_client, place_of as place_of_client, with_client}
 use Rattle.nf_translate.specs.Endpoints.{is_same, is_known, place_of, with_endpoint}
 use Rattle.nf_translate.specs.Balancers.{PlainBalancer, balanced, backend_at, to_address}
 use Rattle.nf_translate.specs.Nats.{PlainNat, public_port, port_at, place_at, of_protocol, mapped, leaving, coming, translated}
 use Rattle.nf_translate.specs.Standing.{KeepsBackend, HasPorts}
-use Rattle.nf_translate.proofs.Known.{same_is, at_place, one_place, keeps_place, stays_known, new_place, known_place, IsLater, same_later, seen_later, seen_length}
+use Rattle.nf_translate.proofs.Known.{same_is, at_place, one_place, keeps_place, stays_known, new_place, known_place, IsLater, same_later, seen_later, seen_length, seen_stays}
 
 keeps_by : (flow : Client) (b : PlainBalancer) (flows : List Client) → IsLater b.flows flows → is_known_client b.flows flow ≡ true → KeepsBackend flow b (record b { flows = flows })
 keeps_by flow b flows later known = record {
@@ -138,3 +140,26 @@ given_once n a b port ha hb pa pb =
 -- the backends take turns
 pub takes_turn : (b : PlainBalancer) (destination : Option (List ℕ)) (flow : Client) → is_known_client b.flows flow ≡ false → (balanced b destination (Some flow)).written ≡ to_address (backend_at b.settings (length b.flows)) destination
 takes_turn b destination flow new = ap (λ place. to_address (backend_at b.settings place) destination) (new_place is_same_client b.flows flow new)
+
+-- as they are listed
+item_at : {X : Type 0} (items : List X) (place : ℕ) (other : X) → place < length items → slice_get items place ≡ Some (slice_index_or items place other)
+item_at [] place other inside = absurd (omega (arith, inside))
+item_at (x ∷ items) zero other inside = refl
+item_at (x ∷ items) (suc place) other inside = item_at items place other (omega (arith, inside))
+
+pub as_listed : (s : BalancerSettings) (turn place : ℕ) → place < length s.backends → slice_get s.backends place ≡ Some (backend_at s (turn * length s.backends + place))
+as_listed s turn place inside =
+    item_at s.backends place s.virtual_address inside
+    ∙ ap (λ p. Some (slice_index_or s.backends p s.virtual_address)) (sym (mod-mul-add turn (length s.backends) place inside))
+
+-- what is known is not noted again
+pub known_flow_stays : (b : PlainBalancer) (destination : Option (List ℕ)) (flow : Client) → is_known_client b.flows flow ≡ true → (balanced b destination (Some flow)).after ≡ b
+known_flow_stays b destination flow known = ap (λ flows. record b { flows = flows }) (seen_stays is_same_client b.flows flow known)
+
+pub known_source_stays : (n : PlainNat) (source : Endpoint) (port : Option ℕ) → is_known n.mappings source ≡ true → (leaving n source port).after ≡ n
+known_source_stays n source None known = refl
+known_source_stays n source (Some port) known = ap (λ mappings. record n { mappings = mappings }) (seen_stays is_same n.mappings source known)
+
+pub back_stays : (n : PlainNat) (inside : Option Endpoint) → (coming n inside).after ≡ n
+back_stays n None = refl
+back_stays n (Some inside) = refl

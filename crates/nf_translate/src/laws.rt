@@ -1,11 +1,12 @@
 //! What flows and mappings are worth, in other words than the steps.
-ghost use Rattle.std.specs.Prelude.{◌≡◌, ◌+◌, ℕ, List, Option, true, false, length, Some, None};
+ghost use Rattle.std.specs.Prelude.{◌≡◌, ◌<◌, ◌+◌, ◌*◌, ℕ, List, Option, true, false, length, slice_get, Some, None};
 ghost use Rattle.packet_fields.specs.declared.field.Field.{Field};
 ghost use Rattle.policy_text.specs.declared.policy.FunctionDecl.{FunctionDecl};
 ghost use Rattle.chain_walk.specs.Shown.{Values};
 ghost use Rattle.chain_walk.specs.Step.{stepped};
 ghost use Rattle.chain_walk.specs.declared.fixed.Fixed.{Fixed};
 ghost use Rattle.function_lines.specs.KindLines.{refused_line};
+ghost use Rattle.nf_translate.specs.declared.balancer.BalancerSettings.{BalancerSettings};
 ghost use Rattle.nf_translate.specs.declared.client.Client.{Client};
 ghost use Rattle.nf_translate.specs.declared.endpoint.Endpoint.{Endpoint};
 ghost use Rattle.nf_translate.specs.Addresses.{ip_address_bytes};
@@ -13,16 +14,19 @@ ghost use Rattle.nf_translate.specs.BalancerLines.{balancer_lines};
 ghost use Rattle.nf_translate.specs.Balancers.{PlainBalancer, backend_at, balanced, balancer_behaviour, balancer_of, flow_of, to_address};
 ghost use Rattle.nf_translate.specs.Clients.{is_known as is_known_client};
 ghost use Rattle.nf_translate.specs.Endpoints.{is_known, place_of};
-ghost use Rattle.nf_translate.specs.Nats.{PlainNat, leaving, mapped, nat_behaviour, nat_of, port_at};
+ghost use Rattle.nf_translate.specs.Nats.{PlainNat, coming, leaving, mapped, nat_behaviour, nat_of, port_at};
 ghost use Rattle.nf_translate.specs.Standing.{KeepsBackend, HasOneVersion, HasPorts, backend_of};
 
 /// Once a packet of a flow came, the balancer knows the flow, and the flow keeps its backend, whatever packets
-/// come. The backends take turns as listed: a flow that is new gets the one whose turn it is by the number of flows before it.
+/// come. The backends take turns as listed: a flow that is new gets the one whose turn it is by the number of flows before it,
+/// which its first packet alone makes greater.
 pub fn flows_keep_their_backends()
     ensures known { (b : PlainBalancer) (destination : Option (List ℕ)) (flow : Client) → is_known_client (balanced b destination (Some flow)).after.flows flow ≡ true }
     ensures kept { (fixed : Fixed) (b : PlainBalancer) (v : Values) (flow : Client) → is_known_client b.flows flow ≡ true → KeepsBackend flow b (stepped balancer_behaviour fixed b v).after }
     ensures turns { (b : PlainBalancer) (destination : Option (List ℕ)) (flow : Client) → is_known_client b.flows flow ≡ false → (balanced b destination (Some flow)).written ≡ to_address (backend_at b.settings (length b.flows)) destination }
     ensures one_more { (b : PlainBalancer) (destination : Option (List ℕ)) (flow : Client) → is_known_client b.flows flow ≡ false → length (balanced b destination (Some flow)).after.flows ≡ length b.flows + 1 }
+    ensures no_more { (b : PlainBalancer) (destination : Option (List ℕ)) (flow : Client) → is_known_client b.flows flow ≡ true → (balanced b destination (Some flow)).after ≡ b }
+    ensures listed { (s : BalancerSettings) (turn place : ℕ) → place < length s.backends → slice_get s.backends place ≡ Some (backend_at s (turn * length s.backends + place)) }
 {}
 
 /// In a balancer that is declared without a refused line, every backend is of the version of the virtual address, and that stays so
@@ -46,10 +50,14 @@ pub fn packets_come_back()
 {}
 
 /// There are never more mappings than ports, so no port is left only for an endpoint that is new, and only where all
-/// ports are taken.
+/// ports are taken. The first packet that leaves from an endpoint takes one port; those that leave from it later, and those that
+/// come back, take none.
 pub fn ports_run_out_once_all_are_taken()
     ensures opens { (decl : FunctionDecl) → HasPorts (nat_of decl) }
     ensures within { (fixed : Fixed) (n : PlainNat) (v : Values) → HasPorts n → HasPorts (stepped nat_behaviour fixed n v).after }
     ensures new { (n : PlainNat) (source : Endpoint) → HasPorts n → port_at n.settings (place_of n.mappings source) ≡ None → is_known n.mappings source ≡ false }
     ensures all_taken { (n : PlainNat) (source : Endpoint) → HasPorts n → port_at n.settings (place_of n.mappings source) ≡ None → n.settings.low + length n.mappings ≡ n.settings.high + 1 }
+    ensures one_more { (n : PlainNat) (source : Endpoint) (port : ℕ) → is_known n.mappings source ≡ false → length (leaving n source (Some port)).after.mappings ≡ length n.mappings + 1 }
+    ensures no_more { (n : PlainNat) (source : Endpoint) (port : Option ℕ) → is_known n.mappings source ≡ true → (leaving n source port).after ≡ n }
+    ensures none_back { (n : PlainNat) (inside : Option Endpoint) → (coming n inside).after ≡ n }
 {}

@@ -1,7 +1,7 @@
 use Rattle.nf_translate.specs.ClientLaws.{same_client}
 use Rattle.nf_translate.specs.Clients.{is_same}
 use Rattle.nf_translate.proofs.Known.{seen_known, grows_by_one}
-use Rattle.nf_translate.proofs.Standing.{keeps_backend, takes_turn}
+use Rattle.nf_translate.proofs.Standing.{keeps_backend, takes_turn, known_flow_stays, as_listed}
 use Rattle.nf_translate.proofs.laws.flows_keep_their_backends.Goals as goal
 
 pub returns-clause-known : goal.returns-clause-known
@@ -15,3 +15,9 @@ returns-clause-turns c = λ b destination flow new. takes_turn b destination flo
 
 pub returns-clause-one_more : goal.returns-clause-one_more
 returns-clause-one_more c = λ b destination flow new. grows_by_one is_same b.flows flow new
+
+pub returns-clause-no_more : goal.returns-clause-no_more
+returns-clause-no_more c = λ b destination flow known. known_flow_stays b destination flow known
+
+pub returns-clause-listed : goal.returns-clause-listed
+returns-clause-listed c = λ s turn place inside. as_listed s turn place inside

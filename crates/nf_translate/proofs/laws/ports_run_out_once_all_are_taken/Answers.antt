@@ -1,5 +1,7 @@
+use Rattle.nf_translate.specs.Endpoints.{is_same}
+use Rattle.nf_translate.proofs.Known.{grows_by_one}
 use Rattle.nf_translate.proofs.OrderedPorts.{opens_within}
-use Rattle.nf_translate.proofs.Standing.{stays_within, is_new, all_taken}
+use Rattle.nf_translate.proofs.Standing.{stays_within, is_new, all_taken, known_source_stays, back_stays}
 use Rattle.nf_translate.proofs.laws.ports_run_out_once_all_are_taken.Goals as goal
 
 pub returns-clause-opens : goal.returns-clause-opens
@@ -13,3 +15,12 @@ returns-clause-new c = λ n source has none. is_new n source has none
 
 pub returns-clause-all_taken : goal.returns-clause-all_taken
 returns-clause-all_taken c = λ n source has none. all_taken n source has none
+
+pub returns-clause-one_more : goal.returns-clause-one_more
+returns-clause-one_more c = λ n source port new. grows_by_one is_same n.mappings source new
+
+pub returns-clause-no_more : goal.returns-clause-no_more
+returns-clause-no_more c = λ n source port known. known_source_stays n source port known
+
+pub returns-clause-none_back : goal.returns-clause-none_back
+returns-clause-none_back c = λ n inside. back_stays n inside
