@@ -5,6 +5,7 @@ pub mod Faults
 pub mod Heads
 pub mod Sequence
 pub mod Slots
+pub mod FirstBlock
 pub mod Giving
 pub mod Reading
 pub mod Pieces

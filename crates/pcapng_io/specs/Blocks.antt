@@ -116,6 +116,19 @@ length_faults n order kind bytes =
     ∷ (nat_lt (length bytes) (length_in order bytes), CutBlock n)
     ∷ []
 
+-- A fault tells that the block which has it is the first of its capture: that one is a section header, of which no fault comes that
+-- tells no block.
+abbrev pub is_of_first_block : NgFault → Bool
+is_of_first_block (CutBlock n) = n == 1
+is_of_first_block (BadBlock n) = n == 1
+is_of_first_block (BlockTooLong n size) = n == 1
+is_of_first_block (BadLink link) = false
+is_of_first_block (BadResolution n) = n == 1
+is_of_first_block (NoInterface n) = n == 1
+is_of_first_block (FrameTooLong number size) = false
+is_of_first_block TooManyRecords = false
+is_of_first_block TooManyBlocks = false
+
 -- The faults of the block's own bytes, behind these.
 abbrev pub content_faults : Place → Endian → BlockKind → List ℕ → List (Bool × NgFault)
 content_faults place order kind block =

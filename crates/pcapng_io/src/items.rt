@@ -104,6 +104,7 @@ pub fn pass(
     requires sound { IsSound place.old order kind block.now }
     ensures after { OnOk result (place.new ≡ after place.old order kind block.now) }
     ensures units { ArePositive place.new.units }
+    ensures onward { place.old.blocks ≤ place.new.blocks }
     ensures few { place.new.blocks < 1099511627776 }
     ensures counted { place.old.packets ≤ 4294967295 }
 {

@@ -1,11 +1,11 @@
 //! A block's bytes, off the slot Capture.
-ghost use Rattle.std.specs.Prelude.{◌≡◌, ◌≢◌, ◌≤◌, ◌<◌, ◌+◌, IfErr, IfNone, IfOk, IfSome, IsErrOf, IsSome, Some, length, take};
+ghost use Rattle.std.specs.Prelude.{◌≡◌, ◌≢◌, ◌≤◌, ◌<◌, ◌+◌, ◌==◌, [], ◌∷◌, IfErr, IfNone, IfOk, IfSome, IsErrOf, IsSome, Some, length, take};
 ghost use Rattle.nfp_outside.specs.declared.slot.Slot.{Slot};
 ghost use Rattle.nfp_outside.specs.Outside.{TakesFront};
 ghost use Rattle.capture_bytes.specs.Filling.{Fills, unread};
 ghost use Rattle.pcapng_io.specs.declared.fault.NgFault.{NgFault};
 ghost use Rattle.pcapng_io.specs.declared.block_kind.BlockKind.TheVariants.{SectionHeader};
-ghost use Rattle.pcapng_io.specs.Blocks.{first_fault, kind_in, order_in};
+ghost use Rattle.pcapng_io.specs.Blocks.{first_fault, is_of_first_block, kind_in, order_in};
 ghost use Rattle.pcapng_io.specs.Reader.{Closes, IsAtEnd, Opens, ReaderCause, RefusesBlock, Says, head_faults, head_length};
 
 use crate::block_kind::BlockKind;
@@ -44,7 +44,9 @@ pub fn open<D: Desk>(
     ensures opened { IfOk result (λ o. IfSome o (λ b. Opens place.now b.kind b.order b.length (take (head_length b.kind) b.bytes) (unread first.now (D.slots desk.old Slot.Capture)) (D.slots desk.new Slot.Capture))) }
     ensures end { IfOk result (λ o. IfNone o (IsAtEnd place.now (unread first.now (D.slots desk.old Slot.Capture)) (D.slots desk.new Slot.Capture))) }
     ensures nothing { IfOk result (λ o. IfNone o (length first.now ≡ 0)) }
+    ensures section { first.now ≡ 0x0a ∷ 0x0d ∷ 0x0d ∷ 0x0a ∷ [] → IfOk result (λ o. IfSome o (λ b. b.kind ≡ SectionHeader)) }
     ensures refused { (fault : NgFault) → IsErrOf result (NgReadFault.Ng fault) → RefusesBlock fault place.now (unread first.now (D.slots desk.old Slot.Capture)) }
+    ensures number { (fault : NgFault) → IsErrOf result (NgReadFault.Ng fault) → is_of_first_block fault ≡ (place.now.blocks == 0) }
     ensures taken { TakesFront 20 (D.slots desk.old Slot.Capture) (D.slots desk.new Slot.Capture) }
     ensures cause { ReaderCause (D.slots desk.old Slot.Capture) (D.slots desk.new Slot.Capture) result }
     ensures others { (s : Slot) → s ≢ Slot.Capture → D.slots desk.new s ≡ D.slots desk.old s }
@@ -77,7 +79,9 @@ fn open_section<D: Desk>(
     requires section { kind_in place.now.order front.now ≡ SectionHeader }
     ensures opened { IfOk result (λ o. IfSome o (λ b. Opens place.now b.kind b.order b.length (take (head_length b.kind) b.bytes) (unread front.now (D.slots desk.old Slot.Capture)) (D.slots desk.new Slot.Capture))) }
     ensures some { IfOk result (λ o. IsSome o) }
+    ensures kind { IfOk result (λ o. IfSome o (λ b. b.kind ≡ SectionHeader)) }
     ensures refused { (fault : NgFault) → IsErrOf result (NgReadFault.Ng fault) → RefusesBlock fault place.now (unread front.now (D.slots desk.old Slot.Capture)) }
+    ensures number { (fault : NgFault) → IsErrOf result (NgReadFault.Ng fault) → is_of_first_block fault ≡ (place.now.blocks == 0) }
     ensures taken { TakesFront 12 (D.slots desk.old Slot.Capture) (D.slots desk.new Slot.Capture) }
     ensures cause { ReaderCause (D.slots desk.old Slot.Capture) (D.slots desk.new Slot.Capture) result }
     ensures others { (s : Slot) → s ≢ Slot.Capture → D.slots desk.new s ≡ D.slots desk.old s }
@@ -112,6 +116,7 @@ fn open_other(
     ensures bytes { IfOk result (λ o. IfSome o (λ b. take (head_length b.kind) b.bytes ≡ front.now)) }
     ensures some { IfOk result (λ o. IsSome o) }
     ensures refused { (fault : NgFault) → IsErrOf result (NgReadFault.Ng fault) → first_fault (head_faults (place.now.blocks + 1) (order_in place.now.order kind front.now) kind front.now) ≡ Some fault }
+    ensures number { (fault : NgFault) → IsErrOf result (NgReadFault.Ng fault) → is_of_first_block fault ≡ (place.now.blocks == 0) }
     ensures only { (slot : Slot) → IsErrOf result (NgReadFault.ReadFault slot) → ⊥ }
 {
     match head_says(place, kind, front) {
@@ -152,6 +157,7 @@ pub fn close<D: Desk>(
     requires says { Says place.now head.now.kind head.now.order head.now.length (take (head_length head.now.kind) head.now.bytes) }
     ensures closed { IfOk result (λ block. Closes head.now.length block.items (unread (take (head_length head.now.kind) head.now.bytes) (D.slots desk.old Slot.Capture)) (D.slots desk.new Slot.Capture)) }
     ensures refused { (fault : NgFault) → IsErrOf result (NgReadFault.Ng fault) → RefusesBlock fault place.now (unread (take (head_length head.now.kind) head.now.bytes) (D.slots desk.old Slot.Capture)) }
+    ensures number { (fault : NgFault) → IsErrOf result (NgReadFault.Ng fault) → is_of_first_block fault ≡ (place.now.blocks == 0) }
     ensures taken { TakesFront 16777216 (D.slots desk.old Slot.Capture) (D.slots desk.new Slot.Capture) }
     ensures cause { ReaderCause (D.slots desk.old Slot.Capture) (D.slots desk.new Slot.Capture) result }
     ensures others { (s : Slot) → s ≢ Slot.Capture → D.slots desk.new s ≡ D.slots desk.old s }

@@ -1,10 +1,10 @@
 //! Captures, block by block.
-ghost use Rattle.std.specs.Prelude.{◌≡◌, ◌≢◌, ◌≤◌, ◌<◌, ◌%◌, IfNone, IfOk, IfSome, IsErrOf, IsSome, Some, length};
+ghost use Rattle.std.specs.Prelude.{◌≡◌, ◌≢◌, ◌≤◌, ◌<◌, ◌%◌, [], ◌∷◌, true, false, IfNone, IfOk, IfSome, IsErrOf, IsSome, Some, length};
 ghost use Rattle.nfp_outside.specs.declared.slot.Slot.{Slot};
 ghost use Rattle.nfp_outside.specs.Outside.{TakesFront};
 ghost use Rattle.capture_bytes.specs.Filling.{unread};
 ghost use Rattle.pcapng_io.specs.declared.fault.NgFault.{NgFault};
-ghost use Rattle.pcapng_io.specs.Blocks.{content_faults, first_fault};
+ghost use Rattle.pcapng_io.specs.Blocks.{content_faults, first_fault, is_of_first_block};
 ghost use Rattle.pcapng_io.specs.Reader.{ArePositive, Gives, IsAtEnd, ReaderCause, ReadsItem, RefusesBlock};
 
 use crate::contents::content_fault;
@@ -32,9 +32,12 @@ fn read<D: Desk>(
     ensures end { IfOk result (λ o. IfNone o (IsAtEnd place.old (unread first.now (D.slots desk.old Slot.Capture)) (D.slots desk.new Slot.Capture))) }
     ensures stays { IfOk result (λ o. IfNone o (place.new ≡ place.old)) }
     ensures nothing { IfOk result (λ o. IfNone o (length first.now ≡ 0)) }
+    ensures onward { place.old.blocks ≤ place.new.blocks }
     ensures few { place.new.blocks < 1099511627776 }
     ensures units { ArePositive place.new.units }
     ensures refused { (fault : NgFault) → IsErrOf result (NgReadFault.Ng fault) → RefusesBlock fault place.old (unread first.now (D.slots desk.old Slot.Capture)) }
+    ensures first_block { first.now ≡ 0x0a ∷ 0x0d ∷ 0x0d ∷ 0x0a ∷ [] → place.old.blocks ≡ 0 → (fault : NgFault) → IsErrOf result (NgReadFault.Ng fault) → is_of_first_block fault ≡ true }
+    ensures later_block { 0 < place.old.blocks → (fault : NgFault) → IsErrOf result (NgReadFault.Ng fault) → is_of_first_block fault ≡ false }
     ensures taken { TakesFront 16777236 (D.slots desk.old Slot.Capture) (D.slots desk.new Slot.Capture) }
     ensures cause { ReaderCause (D.slots desk.old Slot.Capture) (D.slots desk.new Slot.Capture) result }
     ensures others { (s : Slot) → s ≢ Slot.Capture → D.slots desk.new s ≡ D.slots desk.old s }
@@ -67,6 +70,7 @@ fn give(
     requires few { place.old.blocks < 1099511627776 }
     requires units { ArePositive place.old.units }
     ensures ok { IfOk result (λ item. Gives place.old head.now.order head.now.kind block.now item place.new) }
+    ensures onward { place.old.blocks ≤ place.new.blocks }
     ensures few { place.new.blocks < 1099511627776 }
     ensures units { ArePositive place.new.units }
     ensures refused { (fault : NgFault) → IsErrOf result (NgReadFault.Ng fault) → first_fault (content_faults place.old head.now.order head.now.kind block.now) ≡ Some fault }
@@ -98,7 +102,7 @@ impl Model for NgReader {
 
     ghost view = { λ r. record { place = r.place; spent = r.spent } };
 
-    ghost invariant = { λ r. (r.place.blocks < 1099511627776) × ArePositive r.place.units };
+    ghost invariant = { λ r. (0 < r.place.blocks) × (r.place.blocks < 1099511627776) × ArePositive r.place.units };
 }
 
 impl NgReader {
@@ -107,7 +111,7 @@ impl NgReader {
     ghost use Rattle.nfp_outside.specs.Outside.{TakesFront};
     ghost use Rattle.capture_bytes.specs.Filling.{unread};
     ghost use Rattle.pcapng_io.specs.declared.fault.NgFault.{NgFault};
-    ghost use Rattle.pcapng_io.specs.Blocks.{start};
+    ghost use Rattle.pcapng_io.specs.Blocks.{is_of_first_block, start};
     ghost use Rattle.pcapng_io.specs.Reader.{IsAtEnd, ReaderCause, ReadsItem, RefusesBlock};
 
     /// Reads the first block of a capture whose first four bytes were read before, and are those of a section header block.
@@ -123,6 +127,7 @@ impl NgReader {
         ensures block { IfOk result (λ x. ReadsItem x.0 start x.1.place (unread first.now (D.slots desk.old Slot.Capture)) (D.slots desk.new Slot.Capture)) }
         ensures unspent { IfOk result (λ x. x.1.spent ≡ false) }
         ensures refused { (fault : NgFault) → IsErrOf result (NgReadFault.Ng fault) → RefusesBlock fault start (unread first.now (D.slots desk.old Slot.Capture)) }
+        ensures number { (fault : NgFault) → IsErrOf result (NgReadFault.Ng fault) → is_of_first_block fault ≡ true }
         ensures taken { TakesFront 16777236 (D.slots desk.old Slot.Capture) (D.slots desk.new Slot.Capture) }
         ensures cause { ReaderCause (D.slots desk.old Slot.Capture) (D.slots desk.new Slot.Capture) result }
         ensures others { (s : Slot) → s ≢ Slot.Capture → D.slots desk.new s ≡ D.slots desk.old s }
@@ -157,6 +162,7 @@ impl NgReader {
         ensures unspent { OnOk result (self.new.spent ≡ false) }
         ensures spent { OnErr result (self.new.spent ≡ true) }
         ensures refused { (fault : NgFault) → IsErrOf result (NgReadFault.Ng fault) → RefusesBlock fault self.old.place (D.slots desk.old Slot.Capture) }
+        ensures number { (fault : NgFault) → IsErrOf result (NgReadFault.Ng fault) → is_of_first_block fault ≡ false }
         ensures taken { TakesFront 16777236 (D.slots desk.old Slot.Capture) (D.slots desk.new Slot.Capture) }
         ensures cause { ReaderCause (D.slots desk.old Slot.Capture) (D.slots desk.new Slot.Capture) result }
         ensures others { (s : Slot) → s ≢ Slot.Capture → D.slots desk.new s ≡ D.slots desk.old s }

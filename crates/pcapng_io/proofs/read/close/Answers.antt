@@ -2,6 +2,7 @@ use Rattle.std.proofs.Common.{◌≡◌, ◌∙◌, ap, sym, take, length}
 use Rattle.nfp_outside.specs.declared.slot.Slot.TheVariants.{Capture as CaptureSlot}
 use Rattle.capture_bytes.specs.Filling.{unread}
 use Rattle.pcapng_io.specs.Reader.{RefusesBlock, head_length}
+use Rattle.pcapng_io.proofs.FirstBlock.{IsNumbered, cut_numbered}
 use Rattle.pcapng_io.proofs.Slots.{only_fault, cut_of, rest_cut, known_first}
 use Rattle.pcapng_io.proofs.read.close.Goals as goal
 
@@ -21,3 +22,6 @@ returns-then-count-length-clause-refused g c =
     (rest_cut c.in_ok-count.count place c.args.head.now.kind c.args.head.now.order c.args.head.now.length first c.fill_behind.new.buffer old new c.requires.says
     (c.fill_behind.auto.buffer ∙ ap length c.deref_mut.ensures.value ∙ c.in-Ok.ensures.size) c.if-count-length.true
     (known_first c.in_ok-count.count c.fill_behind.new.buffer (take known c.deref_mut.result.now) first old new same c.in_ok-count.ensures.ok))
+
+pub returns-then-count-length-clause-number : goal.returns-then-count-length-clause-number
+returns-then-count-length-clause-number g c = let place = c.args.place.now in only_fault (IsNumbered place) (cut_of place) (cut_numbered place)

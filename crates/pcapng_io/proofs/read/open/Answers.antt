@@ -6,6 +6,8 @@ use Rattle.pcapng_io.specs.declared.read.BlockHead.{BlockHead}
 use Rattle.pcapng_io.specs.Blocks.{kind_in, kind_of, is_section}
 use Rattle.pcapng_io.proofs.Choices.{otherwise}
 use Rattle.pcapng_io.specs.Reader.{RefusesBlock, Opens, head_length}
+use Rattle.std.specs.Prelude.{false}
+use Rattle.pcapng_io.proofs.FirstBlock.{IsNumbered, cut_numbered, not_section, section_begins}
 use Rattle.pcapng_io.proofs.Slots.{only_fault, cut_of, at_end, head_cut, head_told, known_first, full, full_length, opens_further, refuses_further, ok_some}
 use Rattle.pcapng_io.proofs.read.open.Goals as goal
 
@@ -26,6 +28,9 @@ returns-then-count-lt-HEAD-clause-refused g c =
     only_fault (λ f. RefusesBlock f place (unread first old)) (cut_of place)
     (head_cut c.in_ok-count.count c.args.place.now c.fill_behind.new.buffer (unread first old) new (c.fill_behind.auto.buffer ∙ c.behind-front.ensures.size) (omega (arith, c.if-count-eq0.false)) c.if-count-lt-HEAD.true
     (known_first c.in_ok-count.count c.fill_behind.new.buffer (take (length first) c.behind-front.result) first old new c.behind-front.ensures.front c.in_ok-count.ensures.ok))
+
+pub returns-then-count-lt-HEAD-clause-number : goal.returns-then-count-lt-HEAD-clause-number
+returns-then-count-lt-HEAD-clause-number g c = let place = c.args.place.now in only_fault (IsNumbered place) (cut_of place) (cut_numbered place)
 
 pub returns-then-is_section-clause-opened : goal.returns-then-is_section-clause-opened
 returns-then-is_section-clause-opened g c =
@@ -71,3 +76,12 @@ returns-else-is_section-clause-refused g c =
     let fills = full_length c.in_ok-count.count 8 front (unread first old) mid size c.if-count-lt-HEAD.false
     (known_first c.in_ok-count.count front (take (length first) c.behind-front.result) first old mid c.behind-front.ensures.front c.in_ok-count.ensures.ok) in
     λ fault is. head_told place kind front fault (unread first old) mid (size ∙ sym eight) is_kind fills (c.open_other.ensures.refused fault is)
+
+pub returns-else-is_section-clause-section : goal.returns-else-is_section-clause-section
+returns-else-is_section-clause-section g c =
+    let place = c.args.place.now in
+    let front = c.fill_behind.new.buffer in
+    let kind = c.kind_of-kind.result in
+    let is_kind : kind ≡ kind_in place.order front = c.kind_of-kind.ensures ∙ ap kind_of c.u32_at.ensures in
+    let other : is_section kind ≡ false = sym c.is_section.ensures ∙ c.if-is_section.false in
+    λ is. absurd (not_section kind (is_kind ∙ section_begins place.order c.args.first.now front is (c.fill_behind.ensures.kept ∙ c.behind-front.ensures.front)) other)

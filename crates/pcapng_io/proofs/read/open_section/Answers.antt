@@ -2,8 +2,9 @@ use Rattle.std.proofs.Common.{◌≡◌, ◌∙◌, ap, sym, take, length, arith
 use Rattle.nfp_outside.specs.declared.slot.Slot.TheVariants.{Capture as CaptureSlot}
 use Rattle.capture_bytes.specs.Filling.{unread}
 use Rattle.pcapng_io.specs.declared.block_kind.BlockKind.TheVariants.{SectionHeader}
-use Rattle.pcapng_io.specs.Blocks.{kind_in}
+use Rattle.pcapng_io.specs.Blocks.{kind_in, order_in}
 use Rattle.pcapng_io.specs.Reader.{RefusesBlock}
+use Rattle.pcapng_io.proofs.FirstBlock.{IsNumbered, cut_numbered, head_numbered}
 use Rattle.pcapng_io.proofs.Heads.{Begins, same_kind}
 use Rattle.pcapng_io.proofs.Slots.{only_fault, cut_of, section_cut, head_told, known_first, full_length}
 use Rattle.pcapng_io.proofs.read.open_section.Goals as goal
@@ -31,3 +32,11 @@ returns-in-Err-clause-refused g c =
     let fills = known_first c.in_ok-count.count head (take 8 c.longer-head.result) front old new c.longer-head.ensures.front c.in_ok-count.ensures.ok in
     only_fault (λ f. RefusesBlock f c.args.place.now (unread front old)) c.in-Err.fault
     (head_told c.args.place.now SectionHeader head c.in-Err.fault (unread front old) new size section (full_length c.in_ok-count.count 12 head (unread front old) new size c.if-count-lt-SECTION_HEAD.false fills) c.in-Err.ensures.err)
+
+pub returns-then-count-lt-SECTION_HEAD-clause-number : goal.returns-then-count-lt-SECTION_HEAD-clause-number
+returns-then-count-lt-SECTION_HEAD-clause-number g c = let place = c.args.place.now in only_fault (IsNumbered place) (cut_of place) (cut_numbered place)
+
+pub returns-in-Err-clause-number : goal.returns-in-Err-clause-number
+returns-in-Err-clause-number g c =
+    let place = c.args.place.now in
+    only_fault (IsNumbered place) c.in-Err.fault (head_numbered place (order_in place.order SectionHeader c.fill_behind.new.buffer) SectionHeader c.fill_behind.new.buffer c.in-Err.fault c.in-Err.ensures.err)

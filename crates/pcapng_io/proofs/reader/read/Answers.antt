@@ -6,6 +6,7 @@ use Rattle.pcapng_io.specs.Reader.{Opens, head_length}
 use Rattle.pcapng_io.specs.declared.fault.NgReadFault.TheVariants.{Ng}
 use Rattle.pcapng_io.proofs.Slots.{refuses_further, retyped}
 use Rattle.pcapng_io.proofs.Reading.{reads_item, refuses_read}
+use Rattle.pcapng_io.proofs.FirstBlock.{first_content, later_content, number_first, number_later}
 use Rattle.pcapng_io.proofs.reader.read.Goals as goal
 
 pub returns-in-Err-close-clause-refused : goal.returns-in-Err-close-clause-refused
@@ -54,3 +55,19 @@ returns-clause-refused g c =
 pub returns-clause-taken : goal.returns-clause-taken
 returns-clause-taken g c =
     taken_twice 20 16777216 (g.D.Desk.slots c.args.desk.now CaptureSlot) (g.D.Desk.slots c.open.new.desk CaptureSlot) (g.D.Desk.slots c.close.new.desk CaptureSlot) c.in-Ok-Some.ensures.taken c.in-Ok.ensures.taken
+
+pub returns-in-Err-close-clause-first_block : goal.returns-in-Err-close-clause-first_block
+returns-in-Err-close-clause-first_block g c = λ is none fault told. number_first c.args.place.now fault none (c.in-Err-close.ensures.number fault (retyped c.in-Err-close.fault (Ng fault) told))
+
+pub returns-in-Err-close-clause-later_block : goal.returns-in-Err-close-clause-later_block
+returns-in-Err-close-clause-later_block g c = λ some fault told. number_later c.args.place.now fault some (c.in-Err-close.ensures.number fault (retyped c.in-Err-close.fault (Ng fault) told))
+
+pub returns-clause-first_block : goal.returns-clause-first_block
+returns-clause-first_block g c =
+    let h = c.in-Ok-Some.head in
+    λ is none fault told. first_content c.args.place.now h.order h.kind c.deref.result.now fault (rw c.in-Ok-Some.field-0-is at (c.in-Ok-Some.ensures.section is)) none (c.in-Err-give.ensures.refused fault (retyped c.in-Err-give.fault (Ng fault) told))
+
+pub returns-clause-later_block : goal.returns-clause-later_block
+returns-clause-later_block g c =
+    let h = c.in-Ok-Some.head in
+    λ some fault told. later_content c.args.place.now h.order h.kind c.deref.result.now fault some (c.in-Err-give.ensures.refused fault (retyped c.in-Err-give.fault (Ng fault) told))
