@@ -1,5 +1,5 @@
 //! What a block without a fault gives, and what stands behind it.
-ghost use Rattle.std.specs.Prelude.{◌≡◌, ◌≤◌, ◌<◌, ◌+◌, ◌%◌, IfOk, OnOk, is_some, true, length};
+ghost use Rattle.std.specs.Prelude.{◌≡◌, ◌≤◌, ◌<◌, ◌+◌, ◌%◌, IfOk, OnOk, is_some, true, length, take, drop};
 ghost use Rattle.pcapng_io.specs.Blocks.{after, captured_in, item_of, options_in, packet_of, resolution_in, ticks_in};
 ghost use Rattle.pcapng_io.specs.Times.{is_resolution, ticks_in_second};
 ghost use Rattle.pcapng_io.specs.Options.{padded};
@@ -21,88 +21,17 @@ const FRAME_AT: usize = 28;
 
 const SECOND: u64 = 1_000_000_000;
 
-/// What a block gives.
+/// What a block gives; the place goes behind it. On want of memory the place isn't used again.
 pub fn item_in(
-    alloc: Global,
-    place: &Place,
-    order: Endian,
-    kind: BlockKind,
-    block: &[u8],
-) -> Result<NgItem, AllocError>
-    requires sound { IsSound place.now order kind block.now }
-    ensures { IfOk result (λ item. item ≡ item_of place.now order kind block.now) }
-{
-    match kind {
-        BlockKind::SectionHeader => Ok(NgItem::Section(copy_of(alloc, block)?)),
-        BlockKind::InterfaceDescription => Ok(NgItem::Interface {
-            order,
-            block: copy_of(alloc, block)?,
-        }),
-        BlockKind::EnhancedPacket => {
-            let interface = u32_at(order, block, 8) as usize;
-            let in_second = place.units.as_slice()[interface];
-            Ok(NgItem::Packet(packet_in(alloc, order, in_second, block)?))
-        }
-        BlockKind::Unread => Ok(NgItem::Carried(copy_of(alloc, block)?)),
-        BlockKind::Other => Ok(NgItem::Carried(copy_of(alloc, block)?)),
-    }
-}
-
-fn copy_of(alloc: Global, bytes: &[u8]) -> Result<Frame, AllocError>
-    ensures { IfOk result (λ copy. copy ≡ bytes.now) }
-{
-    Ok(Frame::new(bytes.to_vec(alloc)?))
-}
-
-// The packet in a block, whose interface has so many ticks in a second.
-fn packet_in(
-    alloc: Global,
-    order: Endian,
-    in_second: u64,
-    block: &[u8],
-) -> Result<NgPacket, AllocError>
-    requires some { 0 < in_second }
-    requires most { length block.now ≤ 16777216 }
-    requires data { 32 + padded (captured_in order block.now) ≤ length block.now }
-    ensures { IfOk result (λ packet. packet ≡ packet_of order in_second block.now) }
-{
-    let ticks = ticks_at(order, block);
-    let time = nanoseconds(in_second, ticks);
-    let captured = u32_at(order, block, 20) as usize;
-    let data = padded(captured);
-    let frame = copy_of(alloc, &block[FRAME_AT..FRAME_AT + captured])?;
-    let options = copy_of(alloc, &block[FRAME_AT + data..block.len() - 4])?;
-    Ok(NgPacket {
-        order,
-        interface: u32_at(order, block, 8),
-        ticks,
-        options,
-        packet: PcapRecord {
-            seconds: (time / SECOND) as u32,
-            fraction: (time % SECOND) as u32,
-            wire: u32_at(order, block, 24),
-            frame,
-        },
-    })
-}
-
-fn ticks_at(order: Endian, block: &[u8]) -> u64
-    requires { 32 ≤ length block.now }
-    ensures { result ≡ ticks_in order block.now }
-{
-    u64::from(u32_at(order, block, 12)) * 4_294_967_296 + u64::from(u32_at(order, block, 16))
-}
-
-/// Goes behind a block. On want of memory the place isn't used again.
-pub fn pass(
     alloc: Global,
     place: &mut Place,
     order: Endian,
     kind: BlockKind,
-    block: &[u8],
-) -> Result<(), AllocError>
-    requires sound { IsSound place.old order kind block.now }
-    ensures after { OnOk result (place.new ≡ after place.old order kind block.now) }
+    block: Vec<u8>,
+) -> Result<NgItem, AllocError>
+    requires sound { IsSound place.old order kind block.items }
+    ensures item { IfOk result (λ item. item ≡ item_of place.old order kind block.items) }
+    ensures after { OnOk result (place.new ≡ after place.old order kind block.items) }
     ensures units { ArePositive place.new.units }
     ensures onward { place.old.blocks ≤ place.new.blocks }
     ensures few { place.new.blocks < 1099511627776 }
@@ -113,22 +42,78 @@ pub fn pass(
         BlockKind::SectionHeader => {
             place.order = order;
             place.units = Items::new(Vec::new(alloc));
-            Ok(())
+            Ok(NgItem::Section(Frame::new(block)))
         }
         BlockKind::InterfaceDescription => {
-            let in_second = in_second_of(order, block);
+            let in_second = in_second_of(order, &block);
             match place.units.push(in_second) {
-                Ok(()) => Ok(()),
+                Ok(()) => Ok(NgItem::Interface {
+                    order,
+                    block: Frame::new(block),
+                }),
                 Err(_) => Err(AllocError),
             }
         }
         BlockKind::EnhancedPacket => {
             place.packets += 1;
-            Ok(())
+            let interface = u32_at(order, &block, 8) as usize;
+            let in_second = place.units.as_slice()[interface];
+            Ok(NgItem::Packet(packet_in(alloc, order, in_second, block)?))
         }
-        BlockKind::Unread => Ok(()),
-        BlockKind::Other => Ok(()),
+        BlockKind::Unread => Ok(NgItem::Carried(Frame::new(block))),
+        BlockKind::Other => Ok(NgItem::Carried(Frame::new(block))),
     }
+}
+
+// The packet in a block, whose interface has so many ticks in a second.
+fn packet_in(
+    alloc: Global,
+    order: Endian,
+    in_second: u64,
+    block: Vec<u8>,
+) -> Result<NgPacket, AllocError>
+    requires some { 0 < in_second }
+    requires most { length block.items ≤ 16777216 }
+    requires data { 32 + padded (captured_in order block.items) ≤ length block.items }
+    ensures { IfOk result (λ packet. packet ≡ packet_of order in_second block.items) }
+{
+    let ticks = ticks_at(order, &block);
+    let time = nanoseconds(in_second, ticks);
+    let interface = u32_at(order, &block, 8);
+    let wire = u32_at(order, &block, 24);
+    let captured = u32_at(order, &block, 20) as usize;
+    let data = padded(captured);
+    let options = block[FRAME_AT + data..block.len() - 4].to_vec(alloc)?;
+    Ok(NgPacket {
+        order,
+        interface,
+        ticks,
+        options: Frame::new(options),
+        packet: PcapRecord {
+            seconds: (time / SECOND) as u32,
+            fraction: (time % SECOND) as u32,
+            wire,
+            frame: frame_in(block, captured),
+        },
+    })
+}
+
+// The frame in a packet's block: the block's memory becomes the frame's.
+fn frame_in(block: Vec<u8>, captured: usize) -> Frame
+    requires { 28 + captured ≤ length block.items }
+    ensures { result ≡ take captured (drop 28 block.items) }
+{
+    let mut bytes = block;
+    bytes.copy_within(FRAME_AT..FRAME_AT + captured, 0);
+    bytes.truncate(captured);
+    Frame::new(bytes)
+}
+
+fn ticks_at(order: Endian, block: &[u8]) -> u64
+    requires { 32 ≤ length block.now }
+    ensures { result ≡ ticks_in order block.now }
+{
+    u64::from(u32_at(order, block, 12)) * 4_294_967_296 + u64::from(u32_at(order, block, 16))
 }
 
 // How many ticks of an interface make a second.

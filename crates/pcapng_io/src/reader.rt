@@ -10,7 +10,7 @@ ghost use Rattle.pcapng_io.specs.Reader.{ArePositive, Gives, IsAtEnd, ReaderCaus
 use crate::contents::content_fault;
 use crate::fault::{NgFault, NgReadFault};
 use crate::item::NgItem;
-use crate::items::{item_in, pass};
+use crate::items::item_in;
 use crate::place::Place;
 use crate::read::{BlockHead, close, open};
 use nfp_outside::{Desk, Slot};
@@ -51,7 +51,7 @@ fn read<D: Desk>(
         Ok(block) => block,
         Err(fault) => return Err(fault),
     };
-    match give(alloc, place, &head, &block) {
+    match give(alloc, place, &head, block) {
         Ok(item) => Ok(Some(item)),
         Err(fault) => Err(fault),
     }
@@ -62,26 +62,24 @@ fn give(
     alloc: Global,
     place: &mut Place,
     head: &BlockHead,
-    block: &[u8],
+    block: Vec<u8>,
 ) -> Result<NgItem, NgReadFault>
-    requires least { 12 ≤ length block.now }
-    requires most { length block.now ≤ 16777216 }
-    requires whole { length block.now % 4 ≡ 0 }
+    requires least { 12 ≤ length block.items }
+    requires most { length block.items ≤ 16777216 }
+    requires whole { length block.items % 4 ≡ 0 }
     requires few { place.old.blocks < 1099511627776 }
     requires units { ArePositive place.old.units }
-    ensures ok { IfOk result (λ item. Gives place.old head.now.order head.now.kind block.now item place.new) }
+    ensures ok { IfOk result (λ item. Gives place.old head.now.order head.now.kind block.items item place.new) }
     ensures onward { place.old.blocks ≤ place.new.blocks }
     ensures few { place.new.blocks < 1099511627776 }
     ensures units { ArePositive place.new.units }
-    ensures refused { (fault : NgFault) → IsErrOf result (NgReadFault.Ng fault) → first_fault (content_faults place.old head.now.order head.now.kind block.now) ≡ Some fault }
+    ensures refused { (fault : NgFault) → IsErrOf result (NgReadFault.Ng fault) → first_fault (content_faults place.old head.now.order head.now.kind block.items) ≡ Some fault }
     ensures only { (slot : Slot) → IsErrOf result (NgReadFault.ReadFault slot) → ⊥ }
 {
-    if let Some(fault) = content_fault(place, head.order, head.kind, block) {
+    if let Some(fault) = content_fault(place, head.order, head.kind, &block) {
         return Err(NgReadFault::Ng(fault));
     }
-    let item = item_in(alloc, place, head.order, head.kind, block)?;
-    pass(alloc, place, head.order, head.kind, block)?;
-    Ok(item)
+    Ok(item_in(alloc, place, head.order, head.kind, block)?)
 }
 
 /// Reads a capture block by block off the slot Capture of a desk, in whatever pieces the desk gives it.

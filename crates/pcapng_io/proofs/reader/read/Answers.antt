@@ -34,14 +34,14 @@ returns-in-Ok-give-clause-item g c =
     let h = c.in-Ok-Some.head in
     let head = take (head_length h.kind) h.bytes in
     let opens : Opens place h.kind h.order h.length head x mid = rw c.in-Ok-Some.field-0-is at c.in-Ok-Some.ensures.opened in
-    reads_item place c.give.new.place h.kind h.order h.length head c.deref.result.now c.in-Ok.block.items c.in-Ok-give.item x mid new opens c.in-Ok.ensures.closed c.deref.ensures.value c.in-Ok-give.ensures.ok
+    reads_item place c.give.new.place h.kind h.order h.length head c.in-Ok.block.items c.in-Ok.block.items c.in-Ok-give.item x mid new opens c.in-Ok.ensures.closed refl c.in-Ok-give.ensures.ok
 
 pub returns-in-Ok-give-clause-taken : goal.returns-in-Ok-give-clause-taken
 returns-in-Ok-give-clause-taken g c =
     taken_twice 20 16777216 (g.D.Desk.slots c.args.desk.now CaptureSlot) (g.D.Desk.slots c.open.new.desk CaptureSlot) (g.D.Desk.slots c.close.new.desk CaptureSlot) c.in-Ok-Some.ensures.taken c.in-Ok.ensures.taken
 
-pub returns-clause-refused : goal.returns-clause-refused
-returns-clause-refused g c =
+pub returns-in-Err-give-clause-refused : goal.returns-in-Err-give-clause-refused
+returns-in-Err-give-clause-refused g c =
     let old = g.D.Desk.slots c.args.desk.now CaptureSlot in
     let mid = g.D.Desk.slots c.open.new.desk CaptureSlot in
     let new = g.D.Desk.slots c.close.new.desk CaptureSlot in
@@ -50,10 +50,10 @@ returns-clause-refused g c =
     let h = c.in-Ok-Some.head in
     let head = take (head_length h.kind) h.bytes in
     let opens : Opens place h.kind h.order h.length head x mid = rw c.in-Ok-Some.field-0-is at c.in-Ok-Some.ensures.opened in
-    λ fault is. refuses_read place h.kind h.order h.length head c.deref.result.now c.in-Ok.block.items fault x mid new opens c.in-Ok.ensures.closed c.deref.ensures.value (c.in-Err-give.ensures.refused fault (retyped c.in-Err-give.fault (Ng fault) is))
+    λ fault is. refuses_read place h.kind h.order h.length head c.in-Ok.block.items c.in-Ok.block.items fault x mid new opens c.in-Ok.ensures.closed refl (c.in-Err-give.ensures.refused fault (retyped c.in-Err-give.fault (Ng fault) is))
 
-pub returns-clause-taken : goal.returns-clause-taken
-returns-clause-taken g c =
+pub returns-in-Err-give-clause-taken : goal.returns-in-Err-give-clause-taken
+returns-in-Err-give-clause-taken g c =
     taken_twice 20 16777216 (g.D.Desk.slots c.args.desk.now CaptureSlot) (g.D.Desk.slots c.open.new.desk CaptureSlot) (g.D.Desk.slots c.close.new.desk CaptureSlot) c.in-Ok-Some.ensures.taken c.in-Ok.ensures.taken
 
 pub returns-in-Err-close-clause-first_block : goal.returns-in-Err-close-clause-first_block
@@ -62,12 +62,12 @@ returns-in-Err-close-clause-first_block g c = λ is none fault told. number_firs
 pub returns-in-Err-close-clause-later_block : goal.returns-in-Err-close-clause-later_block
 returns-in-Err-close-clause-later_block g c = λ some fault told. number_later c.args.place.now fault some (c.in-Err-close.ensures.number fault (retyped c.in-Err-close.fault (Ng fault) told))
 
-pub returns-clause-first_block : goal.returns-clause-first_block
-returns-clause-first_block g c =
+pub returns-in-Err-give-clause-first_block : goal.returns-in-Err-give-clause-first_block
+returns-in-Err-give-clause-first_block g c =
     let h = c.in-Ok-Some.head in
-    λ is none fault told. first_content c.args.place.now h.order h.kind c.deref.result.now fault (rw c.in-Ok-Some.field-0-is at (c.in-Ok-Some.ensures.section is)) none (c.in-Err-give.ensures.refused fault (retyped c.in-Err-give.fault (Ng fault) told))
+    λ is none fault told. first_content c.args.place.now h.order h.kind c.in-Ok.block.items fault (rw c.in-Ok-Some.field-0-is at (c.in-Ok-Some.ensures.section is)) none (c.in-Err-give.ensures.refused fault (retyped c.in-Err-give.fault (Ng fault) told))
 
-pub returns-clause-later_block : goal.returns-clause-later_block
-returns-clause-later_block g c =
+pub returns-in-Err-give-clause-later_block : goal.returns-in-Err-give-clause-later_block
+returns-in-Err-give-clause-later_block g c =
     let h = c.in-Ok-Some.head in
-    λ some fault told. later_content c.args.place.now h.order h.kind c.deref.result.now fault some (c.in-Err-give.ensures.refused fault (retyped c.in-Err-give.fault (Ng fault) told))
+    λ some fault told. later_content c.args.place.now h.order h.kind c.in-Ok.block.items fault some (c.in-Err-give.ensures.refused fault (retyped c.in-Err-give.fault (Ng fault) told))
