@@ -1,12 +1,13 @@
 -- What is refused of a capture's body has no fault that keeps a capture from being opened.
 use Rattle.std.proofs.Common.{◌≡◌, ℕ, List, [], ap, rules, subst, sym}
-use Rattle.std.specs.Prelude.{Option, Some, None, IfSome, IsErrOf, IsOk, Result, Ok, Err}
+use Rattle.std.specs.Prelude.{Bool, true, false, Option, Some, None, IfSome, IsErrOf, IsOk, Result, Ok, Err}
 use Rattle.std.specs.Option.{option_map}
 use Rattle.nfp_outside.specs.Outside.{SlotView}
 use Rattle.pcap_io.specs.Capture.{IsHeadFault}
 use Rattle.pcap_io.specs.Reader.{IsRecordFault, ReaderState, RefusesRecord, body_left}
 use Rattle.pcap_io.specs.declared.capture.CaptureFault.{CaptureFault}
 use Rattle.pcap_io.specs.declared.capture.CaptureFault.TheVariants.{BadMagic, BadVersion, BadLink, CutHead, CutRecord, FrameTooLong, TooManyRecords}
+use Rattle.pcapng_io.specs.Blocks.{is_of_first_block}
 use Rattle.pcapng_io.specs.Reader as ng
 use Rattle.pcapng_io.specs.declared.fault.NgFault.{NgFault}
 use Rattle.pcapng_io.specs.declared.item.NgItem.{NgItem}
@@ -35,8 +36,13 @@ made f (Some b) x is = ap f is
 pub refuses_next : (fault : CaptureFault) (reader : ReaderState) (old : SlotView) → RefusesRecord fault reader old → RefusesNext pcap_left (Pcap fault) reader old
 refuses_next fault reader old refuses = record { kind = none_of_a_head reader.given fault refuses.kind; whole = made pcap_stream (body_left reader old) _ refuses.whole }
 
-pub refuses_block : (fault : NgFault) (reader : ng.ReaderState) (old : SlotView) → ng.RefusesBlock fault reader.place old → RefusesNext ng_behind (Ng fault) reader old
-refuses_block fault reader old refuses = record { kind = λ opening. opening; whole = made ng_stream (ng.blocks_left reader.place old) _ refuses.whole }
+-- a test that fails doesn't hold
+fails : (b : Bool) → b ≡ false → ¬ (b ≡ true)
+fails true isnt = absurd cc
+fails false isnt = λ is. cc
+
+pub refuses_block : (fault : NgFault) (reader : ng.ReaderState) (old : SlotView) → ng.RefusesBlock fault reader.place old → is_of_first_block fault ≡ false → RefusesNext ng_behind (Ng fault) reader old
+refuses_block fault reader old refuses later = record { kind = fails (is_of_first_block fault) later; whole = made ng_stream (ng.blocks_left reader.place old) _ refuses.whole }
 
 abbrev format_of : {T : Type 0} → FormatFault → Result T SourceFault → FormatFault
 format_of other (Ok x) = other

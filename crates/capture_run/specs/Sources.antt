@@ -1,8 +1,9 @@
 -- For proofs: what a source gives of what is left of a capture.
-use Rattle.std.specs.Prelude.{◌≡◌, ◌<◌, ◌+◌, ℕ, [], Option, Some, IfSome}
+use Rattle.std.specs.Prelude.{◌≡◌, ◌<◌, ◌+◌, ℕ, [], true, Option, Some, IfSome}
 use Rattle.std.specs.Option.{option_map}
 use Rattle.nfp_outside.specs.Outside.{SlotView}
 use Rattle.pcap_io.specs.Capture.{IsHeadFault}
+use Rattle.pcapng_io.specs.Blocks.{is_of_first_block}
 use Rattle.capture_report.specs.declared.fault.FormatFault.{FormatFault}
 use Rattle.capture_report.specs.declared.fault.FormatFault.TheVariants.{Pcap, Ng}
 use Rattle.capture_run.specs.Streams.{HasNumber, IsShortGiven, Stream, count_given, with_given}
@@ -11,7 +12,7 @@ use Rattle.capture_run.specs.declared.given.Given.{Given}
 -- a fault by which a capture isn't opened at all
 abbrev pub IsOpeningFault : FormatFault → Type 0
 IsOpeningFault (Pcap fault) = IsHeadFault fault
-IsOpeningFault (Ng fault) = ⊥
+IsOpeningFault (Ng fault) = is_of_first_block fault ≡ true
 
 -- This was read, and what follows it is left.
 pub record GivesNext {S X B : Type 0} (left : S → SlotView → Option (Stream X B)) (packets taken : S → ℕ) (x : Given X B) (before after : S) (old new : SlotView) : Type 0 where

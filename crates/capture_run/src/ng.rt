@@ -4,7 +4,7 @@ ghost use Rattle.std.specs.Option.{option_map};
 ghost use Rattle.nfp_outside.specs.declared.slot.Slot.{Slot};
 ghost use Rattle.nfp_outside.specs.Outside.{IsRisen};
 ghost use Rattle.capture_bytes.specs.Filling.{unread};
-ghost use Rattle.pcapng_io.specs.Blocks.{start};
+ghost use Rattle.pcapng_io.specs.Blocks.{is_of_first_block, start};
 ghost use Rattle.pcapng_io.specs.Reader.{IsShortItem, IsWritable, ReaderCause, RefusesBlock, blocks_left, next_left};
 ghost use Rattle.pcapng_io.specs.declared.fault.NgFault.{NgFault};
 ghost use Rattle.capture_report.specs.declared.fault.FormatFault.{FormatFault};
@@ -131,6 +131,7 @@ impl NgSource {
         ensures fresh { IfOk result (λ s. ng_packets s ≡ 0) }
         ensures open { IfOk result (λ s. is_asked s ≡ true) }
         ensures refused { (fault : NgFault) → IsErrOf result (NgReadFault.Ng fault) → RefusesBlock fault start (unread first.now (D.slots desk.old Slot.Capture)) }
+        ensures number { (fault : NgFault) → IsErrOf result (NgReadFault.Ng fault) → is_of_first_block fault ≡ true }
         ensures name { (D.slots desk.new Slot.Capture).name ≡ (D.slots desk.old Slot.Capture).name }
         ensures cause { ReaderCause (D.slots desk.old Slot.Capture) (D.slots desk.new Slot.Capture) result }
         ensures others { (s : Slot) → s ≢ Slot.Capture → D.slots desk.new s ≡ D.slots desk.old s }

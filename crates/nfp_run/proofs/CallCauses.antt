@@ -1,11 +1,12 @@
 -- The names of the slots, what is attached, and the causes of an outcome, once the line of a call was put into Note.
 use Rattle.std.proofs.Common.{◌≡◌, ◌≢◌, ◌⊎◌, ◌∙◌, inl, inr, refl, ap, sym, subst}
-use Rattle.std.specs.Prelude.{None, IsSome, Result, Ok, Err}
+use Rattle.std.specs.Prelude.{Bool, true, false, None, IsSome, Result, Ok, Err}
 use Rattle.nfp_outside.specs.declared.slot.Slot.{Slot}
 use Rattle.nfp_outside.specs.declared.slot.Slot.TheVariants as slots
 use Rattle.nfp_outside.specs.Outside.{SlotView, IsRisen}
 use Rattle.pcap_io.specs.declared.capture.CaptureFault.{CaptureFault}
 use Rattle.pcap_io.specs.declared.capture.CaptureFault.TheVariants.{BadMagic, BadVersion, BadLink, CutHead, CutRecord, FrameTooLong, TooManyRecords}
+use Rattle.pcapng_io.specs.Blocks.{is_of_first_block}
 use Rattle.nfp_run.specs.declared.outcome.Outcome.{Outcome}
 use Rattle.nfp_run.specs.declared.outcome.Outcome.TheVariants.{Done, Usage, Policy, Capture, CaptureNg, ReadFault, WriteFault, OutOfMemory}
 use Rattle.policy_judge.specs.declared.fault.PolicyFault.{PolicyFault}
@@ -14,7 +15,7 @@ use Rattle.command_words.specs.declared.usage.UsageFault.{UsageFault}
 use Rattle.command_words.specs.Words.{Command, Run, Plan, Demo}
 use Rattle.nfp_run.specs.Closing.{outcome_seen, untold, Notes}
 use Rattle.nfp_run.specs.Due.{due_of_command}
-use Rattle.nfp_run.specs.Answers.{IsDue, WhereRead, HasNames, name_of, BothAttached, NoneAttached, FaultAttaches, RunAttaches, AttachesDue, ReachesCapture, PolicyCause, ReadFaultCause, WriteFaultCause}
+use Rattle.nfp_run.specs.Answers.{IsDue, WhereRead, HasNames, name_of, BothAttached, NoneAttached, FaultAttaches, AttachedUnless, RunAttaches, AttachesDue, ReachesCapture, PolicyCause, ReadFaultCause, WriteFaultCause}
 use Rattle.nfp_run.proofs.CallAnswers.{Called, called_done, policy_beside, capture_beside, out_beside, report_beside}
 
 -- the names of Out and Report stay while the line is put into Note
@@ -36,13 +37,16 @@ fault_to (CutRecord number) mid new p q h = both_to mid new p q h
 fault_to (FrameTooLong number length) mid new p q h = both_to mid new p q h
 fault_to TooManyRecords mid new p q h = both_to mid new p q h
 
+unless_to : (first : Bool) (mid new : Slot → SlotView) → new slots.Out ≡ mid slots.Out → new slots.Report ≡ mid slots.Report → AttachedUnless first mid → AttachedUnless first new
+unless_to true mid new p q h = none_to mid new p q h
+unless_to false mid new p q h = both_to mid new p q h
+
 run_to : (outcome : Outcome) (mid new : Slot → SlotView) → new slots.Out ≡ mid slots.Out → new slots.Report ≡ mid slots.Report → RunAttaches outcome mid → RunAttaches outcome new
 run_to Done mid new p q h = both_to mid new p q h
 run_to (Usage fault) mid new p q h = none_to mid new p q h
 run_to (Policy fault) mid new p q h = none_to mid new p q h
 run_to (Capture fault) mid new p q h = fault_to fault mid new p q h
-run_to (CaptureNg fault) mid new p q (inl both) = inl (both_to mid new p q both)
-run_to (CaptureNg fault) mid new p q (inr none) = inr (none_to mid new p q none)
+run_to (CaptureNg fault) mid new p q h = unless_to (is_of_first_block fault) mid new p q h
 run_to (ReadFault slots.Policy) mid new p q h = none_to mid new p q h
 run_to (ReadFault slots.Capture) mid new p q h = tt
 run_to (ReadFault slots.Out) mid new p q h = tt

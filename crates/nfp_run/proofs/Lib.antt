@@ -1,5 +1,6 @@
 mod NgRows
 mod Rows
+pub mod Attaching
 pub mod CallAnswers
 pub mod CallCauses
 pub mod DemoRows

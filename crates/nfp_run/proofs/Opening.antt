@@ -71,9 +71,11 @@ refused_by_front k buffer first (Capture fault) before old mid new same later fo
   subst (λ o. IfSome o (λ bytes. (is_ng bytes ≡ false) × (capture_of bytes ≡ Err fault))) same
       (behind k buffer first (λ b bytes. (b ≡ false) × (capture_of bytes ≡ Err fault)) old mid four is fills (beside (unread first mid).bytes (is_ng_front first ≡ false) (λ bytes. capture_of bytes ≡ Err fault) h.1 h.2)),
 )
-refused_by_front k buffer first (CaptureNg fault) before old mid new same later four is fills h =
-    subst (λ o. IfSome o (λ bytes. (is_ng bytes ≡ true) × (next_of start bytes ≡ Err fault))) same
-    (behind k buffer first (λ b bytes. (b ≡ true) × (next_of start bytes ≡ Err fault)) old mid four is fills (beside (unread first mid).bytes (is_ng_front first ≡ true) (λ bytes. next_of start bytes ≡ Err fault) h.0 h.1))
+refused_by_front k buffer first (CaptureNg fault) before old mid new same later four is fills h = (
+  h.0,
+  subst (λ o. IfSome o (λ bytes. (is_ng bytes ≡ true) × (next_of start bytes ≡ Err fault))) same
+      (behind k buffer first (λ b bytes. (b ≡ true) × (next_of start bytes ≡ Err fault)) old mid four is fills (beside (unread first mid).bytes (is_ng_front first ≡ true) (λ bytes. next_of start bytes ≡ Err fault) h.1 h.2)),
+)
 refused_by_front k buffer first (ReadFault s) before old mid new same later four is fills h = (h.0, risen_earlier before.faults mid.faults new.faults later h.1)
 refused_by_front k buffer first OutOfMemory before old mid new same later four is fills h = tt
 refused_by_front k buffer first Done before old mid new same later four is fills h = h

@@ -7,7 +7,7 @@ use Rattle.nfp_outside.specs.Outside.{SlotView, IsRisen, AppendsPrefix}
 use Rattle.pcap_io.specs.Capture.{capture_of}
 use Rattle.pcap_io.specs.declared.capture.CaptureFault.{CaptureFault}
 use Rattle.pcap_io.specs.declared.capture.CaptureFault.TheVariants.{BadMagic, BadVersion, BadLink, CutHead, CutRecord, FrameTooLong, TooManyRecords}
-use Rattle.pcapng_io.specs.Blocks.{next_of, start}
+use Rattle.pcapng_io.specs.Blocks.{is_of_first_block, next_of, start}
 use Rattle.policy_judge.specs.declared.fault.PolicyFault.{PolicyFault}
 use Rattle.policy_judge.specs.declared.fault.Refusal.{Refusal}
 use Rattle.policy_judge.specs.declared.judged.Judged.{Judged}
@@ -142,14 +142,18 @@ FaultAttaches (CutRecord number) new = BothAttached new
 FaultAttaches (FrameTooLong number length) new = BothAttached new
 FaultAttaches TooManyRecords new = BothAttached new
 
--- which of Out and Report are attached by `run`, whatever the desk tells; Out is attached before Report. A fault of a pcapng capture
--- leaves both attached or neither: neither where its first block is refused, which is told by the bytes alone.
+-- the same of a pcapng capture, whose fault tells whether the first block has it
+abbrev pub AttachedUnless : Bool → (Slot → SlotView) → Type 0
+AttachedUnless true new = NoneAttached new
+AttachedUnless false new = BothAttached new
+
+-- which of Out and Report are attached by `run`, whatever the desk tells; Out is attached before Report
 abbrev pub RunAttaches : Outcome → (Slot → SlotView) → Type 0
 RunAttaches Done new = BothAttached new
 RunAttaches (Usage fault) new = NoneAttached new
 RunAttaches (Policy fault) new = NoneAttached new
 RunAttaches (Capture fault) new = FaultAttaches fault new
-RunAttaches (CaptureNg fault) new = BothAttached new ⊎ NoneAttached new
+RunAttaches (CaptureNg fault) new = AttachedUnless (is_of_first_block fault) new
 RunAttaches (ReadFault slots.Policy) new = NoneAttached new
 RunAttaches (ReadFault slot) new = Unit {0}
 RunAttaches (WriteFault slots.Note) new = BothAttached new

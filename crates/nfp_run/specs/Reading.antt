@@ -9,7 +9,7 @@ use Rattle.capture_bytes.specs.Filling.{unread}
 use Rattle.capture_bytes.specs.declared.packet.Unit.TheVariants.{Nano}
 use Rattle.pcap_io.specs.Capture.{capture_of, IsHeadFault}
 use Rattle.pcap_io.specs.Reader.{reader_at, body_left}
-use Rattle.pcapng_io.specs.Blocks.{blocks_of, next_of, start}
+use Rattle.pcapng_io.specs.Blocks.{blocks_of, is_of_first_block, next_of, start}
 use Rattle.pcapng_io.specs.declared.item.NgItem.{NgItem}
 use Rattle.chain_service.specs.Services.{Chains}
 use Rattle.burst_walk.specs.Fates.{fates_of}
@@ -140,7 +140,7 @@ pub record Opens (name : List ℕ) (opened : Opened) (old new : SlotView) : Type
 -- memory ran out.
 abbrev pub RefusesBehind : List ℕ → SlotView → SlotView → Outcome → Type 0
 RefusesBehind first old new (Capture fault) = IsHeadFault fault × (is_ng_front first ≡ false) × IfSome (unread first old).bytes (λ bytes. capture_of bytes ≡ Err fault)
-RefusesBehind first old new (CaptureNg fault) = (is_ng_front first ≡ true) × IfSome (unread first old).bytes (λ bytes. next_of start bytes ≡ Err fault)
+RefusesBehind first old new (CaptureNg fault) = (is_of_first_block fault ≡ true) × (is_ng_front first ≡ true) × IfSome (unread first old).bytes (λ bytes. next_of start bytes ≡ Err fault)
 RefusesBehind first old new (ReadFault s) = (s ≡ slots.Capture) × IsRisen old.faults new.faults
 RefusesBehind first old new OutOfMemory = Unit {0}
 RefusesBehind first old new Done = ⊥
@@ -151,7 +151,7 @@ RefusesBehind first old new (WriteFault s) = ⊥
 -- the same of a capture that was to be opened by its name
 abbrev pub RefusedOpening : SlotView → SlotView → Outcome → Type 0
 RefusedOpening old new (Capture fault) = IsHeadFault fault × IfSome old.bytes (λ bytes. (is_ng bytes ≡ false) × (capture_of bytes ≡ Err fault))
-RefusedOpening old new (CaptureNg fault) = IfSome old.bytes (λ bytes. (is_ng bytes ≡ true) × (next_of start bytes ≡ Err fault))
+RefusedOpening old new (CaptureNg fault) = (is_of_first_block fault ≡ true) × IfSome old.bytes (λ bytes. (is_ng bytes ≡ true) × (next_of start bytes ≡ Err fault))
 RefusedOpening old new (ReadFault s) = (s ≡ slots.Capture) × IsRisen old.faults new.faults
 RefusedOpening old new OutOfMemory = Unit {0}
 RefusedOpening old new Done = ⊥

@@ -8,6 +8,7 @@ use Rattle.nfp_run.proofs.read.open_by_format.Goals as goal
 
 pub returns-in-Err-Ng-clause-err : goal.returns-in-Err-Ng-clause-err
 returns-in-Err-Ng-clause-err g c = (
+  c.in-Err-Ng.ensures.number c.in-Err-Ng.fault (ap Err c.in-Err-Ng.field-0-is),
   ap (bytes_eq c.args.first.now) (sym c.as_slice.ensures) ∙ sym c.eq.ensures ∙ c.if-eq.true,
   of_made (next_of start) (unread c.args.first.now (g.D.Desk.slots c.args.desk.now Capture)).bytes _ (c.in-Err-Ng.ensures.refused c.in-Err-Ng.fault (ap Err c.in-Err-Ng.field-0-is)).next,
 )

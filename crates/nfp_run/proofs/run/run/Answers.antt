@@ -1,9 +1,12 @@
-use Rattle.std.proofs.Common.{◌∙◌, subst}
+use Rattle.std.proofs.Common.{◌∙◌, ap, subst, sym}
 use Rattle.std.specs.Prelude.{IfSome}
 use Rattle.nfp_outside.specs.declared.slot.Slot.TheVariants.{Capture, Out, Report}
 use Rattle.command_words.specs.Named.{names_seen}
 use Rattle.chain_service.specs.Opening.{chains_of}
 use Rattle.nfp_run.specs.Reading.{opened_led}
+use Rattle.nfp_run.specs.Answers.{RunAttaches}
+use Rattle.nfp_run.specs.Closing.{outcome_seen}
+use Rattle.nfp_run.proofs.Attaching.{refused_attaches, run_attaches}
 use Rattle.nfp_run.proofs.EndedRuns.{IsLed, opens_so, run_ends, run_prefixes, run_write_faults}
 use Rattle.nfp_run.proofs.OtherSlots.{capture_is_not_policy, out_is_not_policy, report_is_not_policy, out_is_not_capture, report_is_not_capture}
 use Rattle.nfp_run.proofs.run.run.Goals as goal
@@ -43,3 +46,16 @@ returns-clause-due g c = run_ends (names_seen c.args.names.now) c.args.options (
       same_report = c.open_capture.ensures.others Report report_is_not_capture ∙ c.read_service.ensures.others Report report_is_not_policy;
     })
     c.attach_and_run.ensures.left c.ending_of.ensures
+
+pub returns-clause-attached : goal.returns-clause-attached
+returns-clause-attached g c =
+    let new = g.D.Desk.slots c.attach_and_run.new.desk in
+    subst (λ ending. RunAttaches (outcome_seen ending) new) (sym c.ending_of.ensures)
+    (run_attaches c.attach_and_run.result (g.D.Desk.slots c.open_capture.new.desk) new c.attach_and_run.ensures.kind c.attach_and_run.ensures.cause c.attach_and_run.ensures.attached)
+
+pub returns-in-Err-open_capture-clause-attached : goal.returns-in-Err-open_capture-clause-attached
+returns-in-Err-open_capture-clause-attached g c =
+    refused_attaches c.in-Err-open_capture.outcome (g.D.Desk.slots c.read_service.new.desk Capture) (g.D.Desk.slots c.open_capture.new.desk Capture) (g.D.Desk.slots c.open_capture.new.desk) c.in-Err-open_capture.ensures.err (
+      ap (λ v. v.name) (c.open_capture.ensures.others Out out_is_not_capture ∙ c.read_service.ensures.others Out out_is_not_policy) ∙ c.requires.free Out,
+      ap (λ v. v.name) (c.open_capture.ensures.others Report report_is_not_capture ∙ c.read_service.ensures.others Report report_is_not_policy) ∙ c.requires.free Report,
+    )
