@@ -85,13 +85,13 @@ inlets_some k may f m i c count versions inlets ends h = (omega (arith, ap lengt
 
 pub replica_ready : {F : Type 0} (k : Kit F) (may : F → ℕ → PlainVersion → Type 0) (m i c count : ℕ) (versions : List (PlainMessage PlainVersion)) (inlets inlets' ends ends' : List (List (PlainMessage PlainVersion))) (end : List (PlainMessage PlainVersion)) (b : Branch F)
     → ReplicasFit k may b.work m i (suc c) count versions inlets ends → 0 < m → m ≤ 16 → i < m → count < 65537
-    → inlets ≡ b.inlet ∷ inlets' → ends ≡ end ∷ ends' → b.outlets ≡ end ∷ [] → b.step ≡ m → b.first ≡ i → b.count ≡ share_len m i count → b.count ≤ count → b.short ≡ false
+    → inlets ≡ b.inlet ∷ inlets' → ends ≡ end ∷ ends' → b.to.ends ≡ end ∷ [] → b.step ≡ m → b.first ≡ i → b.count ≡ share_len m i count → b.count ≤ count → b.to.short ≡ false
     → branch_ready k may b
 replica_ready k may m i c count versions inlets inlets' ends ends' end b h some few lt small takes gives out s p n le w =
     let inlet : b.inlet ≡ share m i versions = (inlet_is k may b.work m i c count versions inlets inlets' ends b.inlet h takes).0 in
     let own : end ≡ share m i (ran k b.work versions) = (end_is k may b.work m i c count versions inlets ends ends' end h gives).0 in
     let zero : 0 + i ≡ i = omega arith in
-    let due : BranchDue k may m i b.count (left k b.work b.inlet) false b.work b.inlet b.outlets = record {
+    let due : BranchDue k may m i b.count (left k b.work b.inlet) false b.work b.inlet b.to.ends = record {
       mergers = 1;
       now = b.work;
       some = omega arith;
@@ -103,8 +103,8 @@ replica_ready k may m i c count versions inlets inlets' ends ends' end b h some 
       ends = refl;
     } in (
       w,
-      subst (λ y. BranchDue k may b.step y b.count (left k b.work b.inlet) false b.work b.inlet b.outlets) (sym p)
-          (subst (λ y. BranchDue k may y i b.count (left k b.work b.inlet) false b.work b.inlet b.outlets) (sym s) due),
+      subst (λ y. BranchDue k may b.step y b.count (left k b.work b.inlet) false b.work b.inlet b.to.ends) (sym p)
+          (subst (λ y. BranchDue k may y i b.count (left k b.work b.inlet) false b.work b.inlet b.to.ends) (sym s) due),
     )
 
 pub replicas_on : {F : Type 0} (k : Kit F) (may : F → ℕ → PlainVersion → Type 0) (f : F) (m i c count : ℕ) (versions : List (PlainMessage PlainVersion)) (inlets inlets' ends ends' : List (List (PlainMessage PlainVersion))) (inlet end : List (PlainMessage PlainVersion))

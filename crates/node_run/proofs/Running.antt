@@ -308,6 +308,6 @@ counted_with nodes given tally made short copies f dealt found same e =
     raised_both (copies f) (copies_by_all f nodes) (count_of tally f) (count_of made f) (dealt found f) (e ∙ ap (λ y. raised (count_of made f) (copies_by_all f y)) same)
 
 pub dealt_first : {S : Type 0} (comes : S → List (PlainMessage PlainApart) → Type 0) (copies : Field → ℕ) (d : Dealer S) (tally : List ℕ) (short : Bool) → IsDue comes copies d
-    → ((xs : List (PlainMessage PlainApart)) → DealerDue comes d.parts d.count xs d.source d.versions d.bases → short ≡ false → (f : Field) → count_of tally f ≡ raised (count_of d.tally f) (dealer_copies d.parts.touches xs f))
+    → ((xs : List (PlainMessage PlainApart)) → DealerDue comes d.parts d.count xs d.source d.to.ends.versions d.to.ends.bases → short ≡ false → (f : Field) → count_of tally f ≡ raised (count_of d.tally f) (dealer_copies d.parts.touches xs f))
     → short ≡ false → (f : Field) → count_of tally f ≡ raised 0 (copies f)
 dealt_first comes copies d tally short i ran found f = ran i.coming i.due found f ∙ ap (λ y. raised y (dealer_copies d.parts.touches i.coming f)) (i.none f) ∙ ap (raised 0) (i.makes f)

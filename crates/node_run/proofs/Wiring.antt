@@ -156,17 +156,17 @@ branch_due k may m count f xs inlet outlets lt few many take i o = record {
 
 pub branch_added : {F : Type 0} (k : Kit F) (may : F → ℕ → PlainVersion → Type 0) (m count : ℕ) (t : Touch) (xs : List (PlainMessage PlainApart)) (b : Branch F) (inlets inlets' : List (List (PlainMessage PlainVersion))) (old new : List (Node F)) (fs : List F) (c : Field → ℕ)
     → 0 < m → count < 65537 → length xs ≡ count → MayTakeAll k may b.work 0 (map (parted t) xs) → inlets ≡ shares 1 (map (parted t) xs) → inlets ≡ b.inlet ∷ inlets'
-    → b.outlets ≡ shares m (ran k b.work (map (parted t) xs)) → b.first ≡ 0 → b.step ≡ 1 → b.count ≡ count → b.short ≡ false
+    → b.to.ends ≡ shares m (ran k b.work (map (parted t) xs)) → b.first ≡ 0 → b.step ≡ 1 → b.count ≡ count → b.to.short ≡ false
     → new ≡ old ++ node.Branch b ∷ [] → AreNodes k may old fs c → AreNodes k may new (fs ++ left k b.work (map (parted t) xs) ∷ []) c
 branch_added k may m count t xs b inlets inlets' old new fs c lt few many take is first o p s e w n a =
     let i : b.inlet ≡ map (parted t) xs = (tail_is (sym first ∙ is ∙ one_share (map (parted t) xs))).0 in
-    let due : BranchDue k may 1 0 count (left k b.work b.inlet) false b.work b.inlet b.outlets =
-    branch_due k may m count b.work (map (parted t) xs) b.inlet b.outlets lt few (length-map xs (parted t) ∙ many) take i o in
+    let due : BranchDue k may 1 0 count (left k b.work b.inlet) false b.work b.inlet b.to.ends =
+    branch_due k may m count b.work (map (parted t) xs) b.inlet b.to.ends lt few (length-map xs (parted t) ∙ many) take i o in
     let r : is_ready k may (node.Branch b) = (
       w,
-      subst (λ y. BranchDue k may b.step b.first y (left k b.work b.inlet) false b.work b.inlet b.outlets) (sym e)
-          (subst (λ y. BranchDue k may b.step y count (left k b.work b.inlet) false b.work b.inlet b.outlets) (sym p)
-          (subst (λ y. BranchDue k may y 0 count (left k b.work b.inlet) false b.work b.inlet b.outlets) (sym s) due)),
+      subst (λ y. BranchDue k may b.step b.first y (left k b.work b.inlet) false b.work b.inlet b.to.ends) (sym e)
+          (subst (λ y. BranchDue k may b.step y count (left k b.work b.inlet) false b.work b.inlet b.to.ends) (sym p)
+          (subst (λ y. BranchDue k may y 0 count (left k b.work b.inlet) false b.work b.inlet b.to.ends) (sym s) due)),
     ) in
     nodes_are k may new new _ _ _ _ (nodes_push k may old new (node.Branch b) fs c n r a) refl (ap (λ y. fs ++ left k b.work y ∷ []) (sym i)) (λ f. omega arith)
 
@@ -403,7 +403,7 @@ mergers_fit k may m count s xs bases outlets inlets p many b o i =
 
 pub is_wired : {F S : Type 0} (k : Kit F) (may : F → ℕ → PlainVersion → Type 0) (comes : S → List (PlainMessage PlainApart) → Type 0) (m count : ℕ) (s : PlainStage F) (xs : List (PlainMessage PlainApart)) (source : S) (b : Branches F) (w : WiredStage F S)
     → MayPass k may s xs → 0 < m → length xs ≡ count → comes source xs → AreWired k may s.parts.touches s.branches xs b
-    → w.dealer.source ≡ source → w.dealer.count ≡ count → w.dealer.short ≡ false → ((f : Field) → count_of w.dealer.tally f ≡ 0) → w.dealer.parts ≡ s.parts → w.dealer.versions ≡ b.versions → w.dealer.bases ≡ shares m (map (base_of s.parts.touches) xs)
+    → w.dealer.source ≡ source → w.dealer.count ≡ count → w.dealer.to.short ≡ false → ((f : Field) → count_of w.dealer.tally f ≡ 0) → w.dealer.parts ≡ s.parts → w.dealer.to.ends.versions ≡ b.versions → w.dealer.to.ends.bases ≡ shares m (map (base_of s.parts.touches) xs)
     → w.next ≡ shares m (passed k s xs)
     → ((gs : List F) (e : Field → ℕ) → AreNodes k may b.nodes.items gs e → AreNodes k may w.nodes.items gs e)
     → IsWired k may comes m count s xs source w
@@ -421,7 +421,7 @@ is_wired {F} {S} k may comes m count s xs source b w p lt many takes h src n amp
     few = subst (λ (p : StageParts). length p.touches ≤ 64) (sym parts) p.few;
     many = many ∙ sym n;
     takes = subst (λ y. comes y xs) (sym src) takes;
-    gives = subst (λ (p : StageParts). AreFanned p.touches xs w.dealer.versions) (sym parts) (subst (AreFanned s.parts.touches xs) (sym v) h.versions);
+    gives = subst (λ (p : StageParts). AreFanned p.touches xs w.dealer.to.ends.versions) (sym parts) (subst (AreFanned s.parts.touches xs) (sym v) h.versions);
     gives_bases = bases ∙ ap (λ (p : StageParts). shares m (map (base_of p.touches) xs)) (sym parts);
   };
   nodes = mergers (stayed k s.parts.touches s.branches xs) no_copies h.nodes;
@@ -436,7 +436,7 @@ stage_pushed {F} k may m count s source w old new fs c i e nodes =
     let xs = in_turn count source in
     let gone = stayed k s.parts.touches s.branches xs in
     let come : xs ≡ in_turn d.count d.source = λ j. in_turn (sym i.many j) (sym i.source_is j) in
-    let ready : is_ready k may (node.Dealer d) = (i.ample, i.none, subst (λ y. DealerDue ComesFrom d.parts d.count y d.source d.versions d.bases) come i.due) in
+    let ready : is_ready k may (node.Dealer d) = (i.ample, i.none, subst (λ y. DealerDue ComesFrom d.parts d.count y d.source d.to.ends.versions d.to.ends.bases) come i.due) in
     let own = nodes_append k may (node.Dealer d ∷ []) w.nodes.items [] gone _ no_copies (one_node k may (node.Dealer d) ready) i.nodes in
     nodes_are k may (old ++ node.Dealer d ∷ w.nodes.items) new _ (fs ++ gone) _ (λ f. c f + dealer_copies s.parts.touches xs f) (nodes_append k may old (node.Dealer d ∷ w.nodes.items) fs gone c _ nodes own) e refl
     (λ f. let q : dealer_copies s.parts.touches xs f ≡ copies_by {F = F} f (node.Dealer d) = ap (λ y. dealer_copies y xs f) (sym i.touches) ∙ ap (λ y. dealer_copies d.parts.touches y f) come in omega (arith, q))

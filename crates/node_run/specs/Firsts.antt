@@ -14,7 +14,7 @@ use Rattle.node_run.specs.declared.first.First.TheVariants.{Due, Over}
 -- its links fit, it made no copies yet, and it is due to make so many of each field
 pub record IsDue {S : Type 0} (comes : S → List (PlainMessage PlainApart) → Type 0) (copies : Field → ℕ) (d : Dealer S) : Type 0 where
   pub coming : List (PlainMessage PlainApart)
-  pub due : DealerDue comes d.parts d.count coming d.source d.versions d.bases
+  pub due : DealerDue comes d.parts d.count coming d.source d.to.ends.versions d.to.ends.bases
   pub none : (f : Field) → count_of d.tally f ≡ 0
   pub makes : (f : Field) → dealer_copies d.parts.touches coming f ≡ copies f
 

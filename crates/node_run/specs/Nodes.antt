@@ -22,13 +22,13 @@ in_turn (suc n) inlets = first (front inlets) ∷ in_turn n (turned inlets)
 
 -- the links of a node fit each other, and none of its turns is over
 abbrev pub dealer_ready : dealers.Dealer (List (List (PlainMessage PlainApart))) → Type 0
-dealer_ready d = (d.short ≡ false) × ((f : Field) → count_of d.tally f ≡ 0) × DealerDue ComesFrom d.parts d.count (in_turn d.count d.source) d.source d.versions d.bases
+dealer_ready d = (d.to.short ≡ false) × ((f : Field) → count_of d.tally f ≡ 0) × DealerDue ComesFrom d.parts d.count (in_turn d.count d.source) d.source d.to.ends.versions d.to.ends.bases
 
 abbrev pub branch_ready : {F : Type 0} → Kit F → (F → ℕ → PlainVersion → Type 0) → branches.Branch F → Type 0
-branch_ready k may b = (b.short ≡ false) × BranchDue k may b.step b.first b.count (left k b.work b.inlet) false b.work b.inlet b.outlets
+branch_ready k may b = (b.to.short ≡ false) × BranchDue k may b.step b.first b.count (left k b.work b.inlet) false b.work b.inlet b.to.ends
 
 abbrev pub merger_ready : mergers.Merger → Type 0
-merger_ready m = (m.short ≡ false) × (m.row.items ≡ []) × MergerDue m.count m.base m.inlets m.outlet
+merger_ready m = (m.to.short ≡ false) × (m.row.items ≡ []) × MergerDue m.count m.base m.inlets m.to.ends
 
 abbrev pub is_ready : {F : Type 0} → Kit F → (F → ℕ → PlainVersion → Type 0) → Node F → Type 0
 is_ready k may (Dealer d) = dealer_ready d
@@ -38,16 +38,16 @@ is_ready k may (Merger m) = merger_ready m
 
 -- they fit, whether some of its turns are over or none
 abbrev pub is_going : {F : Type 0} → Kit F → (F → ℕ → PlainVersion → Type 0) → Node F → Type 0
-is_going k may (Dealer d) = DealerDue ComesFrom d.parts d.count (in_turn d.count d.source) d.source d.versions d.bases
+is_going k may (Dealer d) = DealerDue ComesFrom d.parts d.count (in_turn d.count d.source) d.source d.to.ends.versions d.to.ends.bases
 is_going {F} k may (Branch b) = (end : F) × BranchOwes k may end b
 is_going {F} k may (Replica b) = (end : F) × BranchOwes k may end b
 is_going k may (Merger m) = MergerOwes m
 
 -- a node whose turns tell what it found has had memory so far
 abbrev pub is_ample : {F : Type 0} → Node F → Type 0
-is_ample (Dealer d) = d.short ≡ false
-is_ample (Branch b) = b.short ≡ false
-is_ample (Replica b) = b.short ≡ false
+is_ample (Dealer d) = d.to.short ≡ false
+is_ample (Branch b) = b.to.short ≡ false
+is_ample (Replica b) = b.to.short ≡ false
 is_ample (Merger m) = Unit {0}
 
 -- the functions that a node gives back, and the copies of a field that it is still to make

@@ -8,7 +8,7 @@ use Rattle.packet_version.specs.Versions.{PlainVersion}
 use Rattle.packet_messages.specs.Messages.{PlainMessage}
 use Rattle.packet_messages.specs.Turns.{share, shares, shares_from, columns, columns_from}
 use Rattle.stage_nodes.specs.Dues.{AreFanned, AreShared, DealerDue}
-use Rattle.stage_nodes.specs.Streams.{Kit, PlainStage, came_from, left, parted, passed, ran, stayed, merged_rows}
+use Rattle.stage_nodes.specs.Streams.{Kit, PlainStage, Edge.Behind, Edge.FromBranch, Edge.ToBranch, came_from, left, merged_rows, parted, stayed, stream}
 use Rattle.stage_nodes.specs.Flows.{AllMayTake, AllBelong, MayTakeAll}
 use Rattle.node_run.specs.Nodes.{AreNodes, no_copies}
 use Rattle.node_run.specs.declared.branches.Branches.{Branches}
@@ -45,11 +45,11 @@ pub record MayWire {F : Type 0} (k : Kit F) (may : F → ℕ → PlainVersion �
   pub few : count < 65537
   pub many : length xs ≡ count
   pub take : MayTakeAll k may f 0 (map (parted touch) xs)
-  pub ends : given ≡ shares m (ran k f (map (parted touch) xs))
+  pub ends : given ≡ shares m (stream k xs (FromBranch touch f))
 
 -- one branch more is wired: it is given its part of these packets, and gives back the functions that are left after them
 pub record HasWired {F : Type 0} (k : Kit F) (may : F → ℕ → PlainVersion → Type 0) (touch : Touch) (f : F) (xs : List (PlainMessage PlainApart)) (old new : Branches F) : Type 0 where
-  pub versions : IsFanned (map (parted touch) xs) old.versions new.versions
+  pub versions : IsFanned (stream k xs (ToBranch touch)) old.versions new.versions
   pub nodes : (fs : List F) (c : Field → ℕ) → AreNodes k may old.nodes.items fs c → AreNodes k may new.nodes.items (fs ++ left k f (map (parted touch) xs) ∷ []) c
 
 -- the branches of a stage
@@ -71,12 +71,12 @@ pub record AreWiring {F : Type 0} (k : Kit F) (may : F → ℕ → PlainVersion 
 pub record IsWired {F S : Type 0} (k : Kit F) (may : F → ℕ → PlainVersion → Type 0) (comes : S → List (PlainMessage PlainApart) → Type 0) (m count : ℕ) (s : PlainStage F) (xs : List (PlainMessage PlainApart)) (source : S) (w : WiredStage F S) : Type 0 where
   pub source_is : w.dealer.source ≡ source
   pub many : w.dealer.count ≡ count
-  pub ample : w.dealer.short ≡ false
+  pub ample : w.dealer.to.short ≡ false
   pub none : (f : Field) → count_of w.dealer.tally f ≡ 0
   pub touches : w.dealer.parts.touches ≡ s.parts.touches
-  pub due : DealerDue comes w.dealer.parts w.dealer.count xs w.dealer.source w.dealer.versions w.dealer.bases
+  pub due : DealerDue comes w.dealer.parts w.dealer.count xs w.dealer.source w.dealer.to.ends.versions w.dealer.to.ends.bases
   pub nodes : AreNodes k may w.nodes.items (stayed k s.parts.touches s.branches xs) no_copies
-  pub next : w.next ≡ shares m (passed k s xs)
+  pub next : w.next ≡ shares m (stream k xs (Behind s))
 
 -- the ends of c mergers, of m, from merger i on
 pub record MergersFit (m i c count : ℕ) (bases : List (List (PlainMessage PlainApart))) (inlets : List (List (List (PlainMessage PlainVersion)))) (outlets : List (List (PlainMessage PlainApart))) : Type 0 where

@@ -2,7 +2,7 @@
 ghost use Rattle.std.specs.Prelude.{◌≡◌, ◌<◌, ◌≤◌, length, map, All, IfOk, OnOk};
 ghost use Rattle.packet_messages.specs.Messages.{Owing, front, rest};
 ghost use Rattle.packet_messages.specs.Turns.{columns, shares};
-ghost use Rattle.stage_nodes.specs.Streams.{came_from, parted};
+ghost use Rattle.stage_nodes.specs.Streams.{Edge.ToBranch, came_from, stream};
 ghost use Rattle.stage_nodes.specs.Flows.{AllMayTake};
 ghost use Rattle.node_run.specs.Wired.{AreWired, HasWired, MayWire};
 
@@ -13,7 +13,7 @@ use action_profile::Touch;
 use packet_messages::{Fans, Inlets, Outlets, Parcel};
 use packet_version::{Apart, Version};
 use ruled_links::LinkDue;
-use stage_nodes::{Branch, BranchWork, ToMergers, take_ends};
+use stage_nodes::{Branch, BranchWork, Giving, ToMergers, take_ends};
 use std::alloc::{AllocError, Global};
 use std::marker::Brand;
 
@@ -108,32 +108,32 @@ fn wire_alone<F: BranchWork + Drop, D: LinkDue<Parcel<Apart>>>(
     requires { MayWire F.kit F.may touch work mergers count D.due ends }
     ensures { OnOk result (HasWired F.kit F.may touch work D.due wired.old wired.new) }
 {
-    let (versions, mut inlets) = version_fan::<D, Brand>(alloc, touch, 1, count)?;
+    let (versions, mut inlets) = version_fan::<F, D, Brand>(alloc, touch, 1, count)?;
     wired.versions.push(versions)?;
+    let to = Giving::new(ends);
     wired.nodes.push(Node::Branch(Branch {
         inlet: inlets.take_first(),
-        outlets: ends,
+        to,
         work,
         first: 0,
         step: 1,
         count,
-        short: false,
     }))?;
     Ok(())
 }
 
 /// The links from the dealer to a branch that has so many nodes.
-pub(crate) fn version_fan<D: LinkDue<Parcel<Apart>>, E: LinkDue<Parcel<Version>>>(
+pub(crate) fn version_fan<F: BranchWork, D: LinkDue<Parcel<Apart>>, E: LinkDue<Parcel<Version>>>(
     alloc: Global,
     touch: Touch,
     nodes: u32,
     count: u32,
 ) -> Result<(Outlets<Version>, Inlets<Version>), AllocError>
-    requires due { E.due ≡ map (parted touch) D.due }
+    requires due { E.due ≡ stream F.kit D.due (ToBranch touch) }
     requires some { 0 < nodes }
     requires few { count < 65537 }
     requires many { length D.due ≡ count }
-    ensures { IfOk result (λ e. (e.0 ≡ shares nodes (map (parted touch) D.due)) × (e.1 ≡ shares nodes (map (parted touch) D.due))) }
+    ensures { IfOk result (λ e. (e.0 ≡ shares nodes (stream F.kit D.due (ToBranch touch))) × (e.1 ≡ shares nodes (stream F.kit D.due (ToBranch touch)))) }
 {
     fan::<Version, E>(alloc, nodes, count)
 }

@@ -35,7 +35,9 @@
 //! the least packet, and among those of the first node, waits for none of the others, and is the next of its crew. So
 //! nodes of one crew never keep each other waiting for good.
 //!
-//! What is promised, over all interleavings: what comes of the packets is what the stages make of them one
+//! What is promised, over all interleavings: each link and each board is made for its share of what is due on its edge
+//! (`stream` of `stage_nodes`' definitions), so what is put there is that or the word that memory is short, which no other word
+//! follows from the same node. What comes of the packets is what the stages make of them one
 //! after another (`through` of `stage_nodes`' definitions), each branch's functions are those after all its
 //! versions (`ends_of`), and the tally has the copies that the dealers made (`copies_along`). Neither the
 //! number of mergers, nor the way in which they meet the branches, nor the number of crews or threads shows in any of

@@ -9,7 +9,7 @@ use crate::meeting::take_first;
 use crate::node::Node;
 use packet_messages::{Inlets, Outlets};
 use packet_version::{Apart, Base};
-use stage_nodes::{BranchWork, FromBranches, Merger};
+use stage_nodes::{BranchWork, FromBranches, Giving, Merger};
 use std::alloc::{AllocError, Global};
 
 /// The mergers that take these bases and what comes from the branches, of so many packets.
@@ -33,15 +33,15 @@ pub(crate) fn wire_mergers<F: BranchWork + Drop>(
         let base = bases.take_first();
         let outlet = outlets.take_first();
         let from_branches = take_first(&mut inlets);
+        let to = Giving::new(outlet);
         let own = Merger {
             base,
             inlets: from_branches,
-            outlet,
+            to,
             row: Vec::new(alloc),
             first: merger,
             step: mergers,
             count: share_count(count, mergers, merger),
-            short: false,
         };
         push_merger(own, nodes)?;
     }

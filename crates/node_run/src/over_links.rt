@@ -1,7 +1,7 @@
 //! A stage's branches and a merger meet over links, one from each branch.
 ghost use Rattle.std.specs.Prelude.{◌≡◌, ◌<◌, length, map, IfOk};
 ghost use Rattle.packet_messages.specs.Turns.{share};
-ghost use Rattle.stage_nodes.specs.Streams.{came_from, parted, ran};
+ghost use Rattle.stage_nodes.specs.Streams.{Edge.FromBranch, came_from, stream};
 ghost use Rattle.node_run.specs.Wired.{MayMeet};
 
 use crate::fans::share_count;
@@ -54,11 +54,11 @@ fn branch_link<F: BranchWork, D: LinkDue<Parcel<Apart>>, E: LinkDue<Parcel<Versi
     merger: u32,
     count: u32,
 ) -> Result<(Outlet<Version>, Inlet<Version>), AllocError>
-    requires due { E.due ≡ share mergers merger (ran F.kit work.now (map (parted touch) D.due)) }
+    requires due { E.due ≡ share mergers merger (stream F.kit D.due (FromBranch touch work.now)) }
     requires some { 0 < mergers }
     requires few { count < 65537 }
     requires many { length D.due ≡ count }
-    ensures { IfOk result (λ e. (e.0 ≡ share mergers merger (ran F.kit work.now (map (parted touch) D.due))) × (e.1 ≡ share mergers merger (ran F.kit work.now (map (parted touch) D.due)))) }
+    ensures { IfOk result (λ e. (e.0 ≡ share mergers merger (stream F.kit D.due (FromBranch touch work.now))) × (e.1 ≡ share mergers merger (stream F.kit D.due (FromBranch touch work.now)))) }
 {
     edge::<Version, E>(alloc, share_count(count, mergers, merger))
 }

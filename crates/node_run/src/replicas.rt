@@ -15,7 +15,7 @@ use action_profile::Touch;
 use packet_messages::{Inlets, Parcel};
 use packet_version::{Apart, Version};
 use ruled_links::LinkDue;
-use stage_nodes::{Branch, BranchWork, ToMergers};
+use stage_nodes::{Branch, BranchWork, Giving, ToMergers};
 use std::alloc::{AllocError, Global};
 use std::marker::Brand;
 
@@ -54,7 +54,7 @@ pub(crate) fn wire_replicas<F: BranchWork + Drop, D: LinkDue<Parcel<Apart>>>(
     requires branch { MayWire F.kit F.may touch work mergers count D.due ends }
     ensures { OnOk result (HasWired F.kit F.may touch work D.due wired.old wired.new) }
 {
-    let (versions, inlets) = version_fan::<D, Brand>(alloc, touch, mergers, count)?;
+    let (versions, inlets) = version_fan::<F, D, Brand>(alloc, touch, mergers, count)?;
     wired.versions.push(versions)?;
     push_replicas(
         alloc,
@@ -131,13 +131,13 @@ fn replica_at<F: BranchWork + Drop>(
     let inlet = inlets.take_first();
     let mut outlets = ToMergers::new(alloc);
     outlets.push(ends.take_first())?;
+    let to = Giving::new(outlets);
     Ok(Branch {
         inlet,
-        outlets,
+        to,
         work,
         first: merger,
         step: mergers,
         count: share_count(count, mergers, merger),
-        short: false,
     })
 }

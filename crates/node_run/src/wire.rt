@@ -1,7 +1,7 @@
 //! The links of a stage, where its branches meet its mergers, and the nodes at their ends.
-ghost use Rattle.std.specs.Prelude.{◌≡◌, ◌<◌, ◌≤◌, length, map, IfOk};
+ghost use Rattle.std.specs.Prelude.{◌≡◌, ◌<◌, ◌≤◌, length, IfOk};
 ghost use Rattle.packet_messages.specs.Turns.{shares};
-ghost use Rattle.stage_nodes.specs.Streams.{base_of, passed};
+ghost use Rattle.stage_nodes.specs.Streams.{Edge.Behind, Edge.ToMergers, stream};
 ghost use Rattle.stage_nodes.specs.Flows.{MayPass};
 ghost use Rattle.node_run.specs.Stages.{plain_stage};
 ghost use Rattle.node_run.specs.Wired.{IsWired};
@@ -17,7 +17,7 @@ use action_profile::StageParts;
 use packet_messages::{Inlets, Outlets, Parcel};
 use packet_version::{Apart, Base, Tally};
 use ruled_links::LinkDue;
-use stage_nodes::{BranchWork, Dealer, Supply};
+use stage_nodes::{BranchWork, Dealer, Giving, Supply, ToStage};
 use std::alloc::{AllocError, Global};
 use std::marker::Brand;
 
@@ -48,7 +48,7 @@ pub(crate) fn wire_stage<F: BranchWork + Drop, S: Supply + Drop, D: LinkDue<Parc
 {
     let (from_mergers, next) = next_fan::<F, D, Brand>(alloc, &work, mergers, count)?;
     let StageWork { parts, branches } = work;
-    let (bases, to_mergers) = base_fan::<D, Brand>(alloc, &parts, mergers, count)?;
+    let (bases, to_mergers) = base_fan::<F, D, Brand>(alloc, &parts, mergers, count)?;
     let touches = parts.touches.as_slice();
     let Meeting { ends, inlets } = meet::<F, D>(
         alloc,
@@ -70,14 +70,13 @@ pub(crate) fn wire_stage<F: BranchWork + Drop, S: Supply + Drop, D: LinkDue<Parc
         count,
         &mut nodes,
     )?;
+    let to = Giving::new(ToStage { versions, bases });
     let dealer = Dealer {
         parts,
         source,
-        versions,
-        bases,
+        to,
         tally: Tally::new(),
         count,
-        short: false,
     };
     Ok(WiredStage {
         dealer,
@@ -87,17 +86,17 @@ pub(crate) fn wire_stage<F: BranchWork + Drop, S: Supply + Drop, D: LinkDue<Parc
 }
 
 /// The links from the dealer to the mergers.
-fn base_fan<D: LinkDue<Parcel<Apart>>, E: LinkDue<Parcel<Base>>>(
+fn base_fan<F: BranchWork, D: LinkDue<Parcel<Apart>>, E: LinkDue<Parcel<Base>>>(
     alloc: Global,
     parts: &StageParts,
     mergers: u32,
     count: u32,
 ) -> Result<(Outlets<Base>, Inlets<Base>), AllocError>
-    requires due { E.due ≡ map (base_of parts.now.touches) D.due }
+    requires due { E.due ≡ stream F.kit D.due (ToMergers parts.now.touches) }
     requires some { 0 < mergers }
     requires few { count < 65537 }
     requires many { length D.due ≡ count }
-    ensures { IfOk result (λ e. (e.0 ≡ shares mergers (map (base_of parts.now.touches) D.due)) × (e.1 ≡ shares mergers (map (base_of parts.now.touches) D.due))) }
+    ensures { IfOk result (λ e. (e.0 ≡ shares mergers (stream F.kit D.due (ToMergers parts.now.touches))) × (e.1 ≡ shares mergers (stream F.kit D.due (ToMergers parts.now.touches)))) }
 {
     fan::<Base, E>(alloc, mergers, count)
 }
@@ -109,11 +108,11 @@ fn next_fan<F: BranchWork, D: LinkDue<Parcel<Apart>>, E: LinkDue<Parcel<Apart>>>
     mergers: u32,
     count: u32,
 ) -> Result<(Outlets<Apart>, Inlets<Apart>), AllocError>
-    requires due { E.due ≡ passed F.kit (plain_stage work.now) D.due }
+    requires due { E.due ≡ stream F.kit D.due (Behind (plain_stage work.now)) }
     requires some { 0 < mergers }
     requires few { count < 65537 }
     requires many { length D.due ≡ count }
-    ensures { IfOk result (λ e. (e.0 ≡ shares mergers (passed F.kit (plain_stage work.now) D.due)) × (e.1 ≡ shares mergers (passed F.kit (plain_stage work.now) D.due))) }
+    ensures { IfOk result (λ e. (e.0 ≡ shares mergers (stream F.kit D.due (Behind (plain_stage work.now)))) × (e.1 ≡ shares mergers (stream F.kit D.due (Behind (plain_stage work.now))))) }
 {
     fan::<Apart, E>(alloc, mergers, count)
 }

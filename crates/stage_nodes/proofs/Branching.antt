@@ -1,5 +1,5 @@
 -- A branch before and after one version.
-use Rattle.std.proofs.Common.{◌≡◌, ◌≢◌, ◌<◌, ◌≤◌, ◌+◌, ◌-◌, ◌*◌, ◌∙◌, ℕ, suc, List, [], ◌∷◌, length, refl, arith, ap, sym, subst, Bool, false, inl, inr}
+use Rattle.std.proofs.Common.{◌≡◌, ◌≢◌, ◌≤◌, ◌+◌, ◌-◌, ◌*◌, ◌∙◌, ℕ, suc, List, [], ◌∷◌, length, refl, arith, ap, sym, subst, Bool, false, inl, inr}
 use Rattle.std.proofs.Math.Nat.{add-mul}
 use Rattle.packet_version.specs.Versions.{PlainVersion}
 use Rattle.packet_messages.specs.Messages.{PlainMessage, Fits, Owing, first, rest, front, turned, is_short}

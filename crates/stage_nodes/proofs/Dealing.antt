@@ -1,5 +1,5 @@
 -- A dealer before and after one packet.
-use Rattle.std.proofs.Common.{◌≡◌, ◌≢◌, ◌<◌, ◌≤◌, ◌+◌, ◌-◌, ◌∙◌, ℕ, suc, List, [], ◌∷◌, length, map, refl, arith, ap, sym, subst, Bool, false, All, inl, inr}
+use Rattle.std.proofs.Common.{◌≡◌, ◌≢◌, ◌≤◌, ◌+◌, ◌-◌, ◌∙◌, ℕ, suc, List, [], ◌∷◌, length, map, refl, arith, ap, sym, subst, Bool, false, All, inl, inr}
 use Rattle.std.specs.Prelude.{Some, None}
 use Rattle.std.proofs.lemmas.List.Elements.{All-cons, All-nil}
 use Rattle.std.proofs.lemmas.List.Sums.{sum_by-cons}
@@ -8,15 +8,15 @@ use Rattle.action_profile.specs.declared.parts.StageParts.{StageParts}
 use Rattle.action_profile.specs.declared.parts.Touch.{Touch}
 use Rattle.packet_version.specs.Splitting.{PlainApart}
 use Rattle.packet_version.specs.Versions.{PlainVersion}
-use Rattle.packet_version.specs.Dealing.{dealt, based}
+use Rattle.packet_version.specs.Dealing.{dealt}
 use Rattle.packet_version.specs.Tallies.{count_of, raised}
 use Rattle.packet_messages.specs.Messages.{PlainMessage, PlainMessage.Live, PlainMessage.Nil, PlainMessage.Short, Fits, Owing, first, front, turned, is_short}
 use Rattle.packet_messages.specs.Turns.{shares}
 use Rattle.stage_nodes.specs.Streams.{parted, base_of, due_of, dealer_copies}
 use Rattle.stage_nodes.specs.Dues.{AreFanned, DealerDue, NothingOwed}
-use Rattle.stage_nodes.specs.Turns.{HasMore, DealerReady, RaisesByMessage, Deals, DealerAt, GivenFits, IsBoxed, is_lost}
-use Rattle.stage_nodes.specs.declared.dealer.Given.{Given}
-use Rattle.stage_nodes.specs.declared.dealer.Given.TheVariants.{Row, Word}
+use Rattle.stage_nodes.specs.Turns.{HasMore, DealerReady, RaisesByMessage, Deals, DealerAt, GivenFits, is_lost}
+use Rattle.stage_nodes.specs.declared.given.Given.{Given}
+use Rattle.stage_nodes.specs.declared.given.Given.TheVariants.{Row, Word}
 use Rattle.stage_nodes.proofs.Shares.{turned_shares, no_shares}
 use Rattle.stage_nodes.proofs.Ends.{due_is, begins, Front, front_of, some_more, none_more}
 
@@ -112,24 +112,23 @@ given_fits {S} {comes} touches source versions bases message short old new (Word
     let is : t.next ≡ Nil q = sym (due_is t.next message (fits t.next t.later t.takes) (ap is_short st.1)) ∙ st.1 in
     (t.words q is, inl (sym (t.base.is ∙ ap (base_of touches) is)))
 
--- parts in boxes are what a dealer gives
-pub boxed_deals : (touches : List Touch) (x : PlainMessage PlainApart) (whole : PlainApart) (short : Bool) (old new : List ℕ) (base : PlainApart) (versions : List PlainVersion) (given : Given)
-    → short ≡ false → x ≡ Live whole → base ≡ based touches whole → versions ≡ map (dealt whole) touches → RaisesByMessage touches x old new → IsBoxed base versions given → Deals touches x short old new given
-boxed_deals touches x whole short old new base versions (Row b row) w live stays dealt counted boxed = (w, record { whole = whole; live = live; stays = boxed.0 ∙ stays; given = boxed.1 ∙ ap (map (λ v. Live v)) dealt; counted = counted })
-boxed_deals touches x whole short old new base versions (Word None) w live stays dealt counted boxed = tt
-boxed_deals touches x whole short old new base versions (Word (Some q)) w live stays dealt counted boxed = absurd boxed
-
 -- a packet that was dealt, or had been dropped before, was counted
 pub record WasCounted (touches : List Touch) (message : PlainMessage PlainApart) (short : Bool) (old new : List ℕ) : Type 0 where
   pub ample : short ≡ false
   pub there : is_short message ≡ false
   pub counted : RaisesByMessage touches message old new
 
-pub given_counted : (touches : List Touch) (message : PlainMessage PlainApart) (short after : Bool) (old new : List ℕ) (given : Given)
-    → Deals touches message short old new given → after ≡ is_lost given → after ≡ false → WasCounted touches message short old new
-given_counted touches message short after old new (Row base row) d e w = record { ample = d.0; there = ap is_short d.1.live; counted = d.1.counted }
-given_counted touches message short after old new (Word None) st e w = absurd (let x = sym w ∙ e in cc)
-given_counted touches message short after old new (Word (Some q)) st e w = record { ample = st.0; there = ap is_short st.1; counted = st.2 }
+-- nothing but the word that memory is short is given once that was
+pub given_ample : (touches : List Touch) (message : PlainMessage PlainApart) (short : Bool) (old new : List ℕ) (given : Given) → Deals touches message short old new given → is_lost given ≡ false → short ≡ false
+given_ample touches message short old new (Row base row) d w = d.0
+given_ample touches message short old new (Word None) st w = absurd cc
+given_ample touches message short old new (Word (Some q)) st w = st.0
+
+pub given_counted : (touches : List Touch) (message : PlainMessage PlainApart) (was short after : Bool) (old new : List ℕ) (given : Given)
+    → short ≡ was → Deals touches message short old new given → after ≡ is_lost given → after ≡ false → WasCounted touches message was old new
+given_counted touches message was short after old new (Row base row) s d e w = record { ample = sym s ∙ d.0; there = ap is_short d.1.live; counted = d.1.counted }
+given_counted touches message was short after old new (Word None) s st e w = absurd (let x = sym w ∙ e in cc)
+given_counted touches message was short after old new (Word (Some q)) s st e w = record { ample = sym s ∙ st.0; there = ap is_short st.1; counted = st.2 }
 
 raised_twice : (c d s : ℕ) → raised (raised c d) s ≡ raised c (d + s)
 raised_twice c d s = omega arith

@@ -1,5 +1,5 @@
 -- Messages that fit what is due, and the links at which the next is due.
-use Rattle.std.proofs.Common.{◌≡◌, ◌≢◌, ◌<◌, ◌≤◌, ◌+◌, ◌-◌, ◌∙◌, ℕ, suc, List, [], ◌∷◌, length, refl, arith, ap, sym, subst, Bool, true, false, inl, inr}
+use Rattle.std.proofs.Common.{◌≡◌, ◌≢◌, ◌<◌, ◌≤◌, ◌-◌, ◌∙◌, ℕ, suc, List, [], ◌∷◌, length, refl, arith, ap, sym, subst, Bool, true, false, inl, inr}
 use Rattle.std.specs.Prelude.{◌⊎◌}
 use Rattle.packet_messages.specs.Messages.{PlainMessage, PlainMessage.Live, PlainMessage.Nil, PlainMessage.Short, Fits, Owing, first, front, is_short}
 use Rattle.packet_messages.specs.Turns.{shares}

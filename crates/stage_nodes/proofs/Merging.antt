@@ -1,6 +1,6 @@
 -- A merger before and after one packet.
-use Rattle.std.proofs.Common.{◌≡◌, ◌≢◌, ◌<◌, ◌≤◌, ◌+◌, ◌-◌, ◌∙◌, ◌^◌, ℕ, zero, suc, List, [], ◌∷◌, length, map, get_or, refl, arith, ap, sym, subst, Bool, true, false, All, inl, inr}
-use Rattle.std.specs.Prelude.{◌⊎◌, slice_index_or}
+use Rattle.std.proofs.Common.{◌≡◌, ◌≢◌, ◌<◌, ◌≤◌, ◌-◌, ◌∙◌, ◌^◌, ℕ, zero, suc, List, [], ◌∷◌, length, map, get_or, refl, arith, ap, sym, subst, Bool, true, false, All, inl, inr}
+use Rattle.std.specs.Prelude.{◌⊎◌, if◌then◌else◌, slice_index_or}
 use Rattle.std.specs.List.{list_any}
 use Rattle.std.proofs.lemmas.List.{length-map, get_or-map}
 use Rattle.packet_version.specs.Splitting.{PlainApart}
@@ -95,9 +95,14 @@ belong_to n bases columns outlet (Live base) row d (inr e) fits = absurd (cc)
 belong_to n bases columns outlet (Live base) row d (inl e) fits =
     are_arrivals base (map first columns) row (subst (λ y. Belongs y (map first columns)) (sym e) (first_belongs n bases columns d.many d.belong)) fits
 
+-- a packet that was dropped before, and what a branch found of memory
+gone_or_short : (p : ℕ) (lost : Bool) → Fits {P = PlainApart} (Nil p) (if lost then Short else Nil p)
+gone_or_short p true = inr refl
+gone_or_short p false = inl refl
+
 joined_fits : (due base : PlainMessage PlainApart) (dues : List (PlainMessage PlainVersion)) (row : List Arrival) → Fits due base → RowFits dues row → Fits (joined due dues) (joined_row base row)
 joined_fits due Short dues row fit fits = inr refl
-joined_fits due (Nil p) dues row (inl e) fits = inl (ap (λ y. joined y dues) e)
+joined_fits due (Nil p) dues row (inl e) fits = subst (λ y. Fits (joined y dues) (joined_row (Nil p) row)) e (gone_or_short p (list_any is_lost row))
 joined_fits due (Nil p) dues row (inr e) fits = absurd cc
 joined_fits due (Live base) dues row (inr e) fits = absurd cc
 joined_fits due (Live base) dues row (inl e) fits = subst (λ y. Fits (joined y dues) (of_merged (merged base row))) e (by_row (row_or_short dues row fits))
@@ -150,22 +155,11 @@ due_goes_on n (x ∷ bases) bases' columns columns' outlet outlet' d b i o = rec
   gives = o ∙ ap rest (d.gives ∙ rows_more x bases columns) ∙ (λ j. merged_rows (sym b j) (sym i j));
 }
 
-rows_length : (bases : List (PlainMessage PlainApart)) (columns : List (List (PlainMessage PlainVersion))) → length (merged_rows bases columns) ≡ length bases
-unfolding merged_rows
-rows_length [] columns = refl
-rows_length (b ∷ bases) columns = ap suc (rows_length bases (map rest columns))
-
 rest_length : (n : ℕ) (outlet outlet' : List (PlainMessage PlainApart)) → length outlet ≡ suc n → outlet' ≡ rest outlet → length outlet' ≡ n
 rest_length n [] outlet' many o = absurd (omega arith)
 rest_length n (m ∷ outlet) outlet' many o = ap length o ∙ (omega arith)
 
 -- over a count of packets
-
-owed : (n : ℕ) (bases : List (PlainMessage PlainApart)) (columns : List (List (PlainMessage PlainVersion))) (outlet : List (PlainMessage PlainApart)) → MergerDue n bases columns outlet → length outlet ≡ n
-owed n bases columns outlet d = ap length d.gives ∙ rows_length bases columns ∙ d.many
-
-pub merger_begins : (n : ℕ) (bases : List (PlainMessage PlainApart)) (columns : List (List (PlainMessage PlainVersion))) (outlet : List (PlainMessage PlainApart)) → MergerDue n bases columns outlet → MergerAt n false bases columns outlet
-merger_begins n bases columns outlet d = record { many = owed n bases columns outlet d; due = λ w. d }
 
 -- one packet at least is to come
 pub merger_some : (count : ℕ) (short : Bool) (bases : List (PlainMessage PlainApart)) (columns : List (List (PlainMessage PlainVersion))) (outlet : List (PlainMessage PlainApart)) → count ≢ 0

@@ -1,6 +1,6 @@
--- For proofs: the messages that are due on each link of a run, as lists of plain data. A run is some stages, one after another; in each
--- a dealer deals every packet to the branches, each branch takes what it is dealt in the packets' order, and what comes from the
--- branches is put together packet by packet.
+-- For proofs: the messages that are due on each edge of a run (`stream`), as lists of plain data. A run is some stages, one after
+-- another; in each a dealer deals every packet to the branches, each branch takes what it is dealt in the packets' order, and what comes
+-- from the branches is put together packet by packet. To each stage come the packets behind the one before.
 use Rattle.std.specs.Prelude.{ℕ, ◌+◌, List, [], ◌∷◌, map}
 use Rattle.std.specs.List.{sum_by}
 use Rattle.packet_fields.specs.declared.field.Field.{Field}
@@ -96,9 +96,31 @@ unfoldable pub merged_rows : List (PlainMessage PlainApart) → List (List (Plai
 merged_rows [] columns = []
 merged_rows (b ∷ bases) columns = joined b (map first columns) ∷ merged_rows bases (map rest columns)
 
+-- An edge of a stage: from its dealer to a branch with this touch; from its dealer to its mergers; from a branch with this touch and
+-- these functions to its mergers; and from its mergers to the dealer behind, or to whoever collects what comes behind the last stage.
+pub data Edge (F : Type 0) : Type 0 where
+  ToBranch : (touch : Touch) → Edge F
+  ToMergers : (touches : List Touch) → Edge F
+  FromBranch : (touch : Touch) (functions : F) → Edge F
+  Behind : (stage : PlainStage F) → Edge F
+
+-- what its messages carry of a packet
+abbrev pub Carried : {F : Type 0} → Edge F → Type 0
+Carried (ToBranch touch) = PlainVersion
+Carried (ToMergers touches) = PlainApart
+Carried (FromBranch touch f) = PlainVersion
+Carried (Behind s) = PlainApart
+
+-- the messages that are due on it, of these packets, which come to the stage
+abbrev pub stream : {F : Type 0} → Kit F → List (PlainMessage PlainApart) → (e : Edge F) → List (PlainMessage (Carried e))
+stream k xs (ToBranch touch) = map (parted touch) xs
+stream k xs (ToMergers touches) = map (base_of touches) xs
+stream k xs (FromBranch touch f) = ran k f (map (parted touch) xs)
+stream k xs (Behind s) = merged_rows (map (base_of s.parts.touches) xs) (came_from k s.parts.touches s.branches xs)
+
 -- behind a stage
 abbrev pub passed : {F : Type 0} → Kit F → PlainStage F → List (PlainMessage PlainApart) → List (PlainMessage PlainApart)
-passed k s xs = merged_rows (map (base_of s.parts.touches) xs) (came_from k s.parts.touches s.branches xs)
+passed k s xs = stream k xs (Behind s)
 
 -- behind all stages, and the functions of each stage at the end
 unfoldable pub through : {F : Type 0} → Kit F → List (PlainStage F) → List (PlainMessage PlainApart) → List (PlainMessage PlainApart)

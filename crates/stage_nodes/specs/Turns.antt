@@ -1,5 +1,6 @@
 -- For proofs: a node before and after one packet.
-use Rattle.std.specs.Prelude.{◌≡◌, ℕ, suc, List, [], ◌∷◌, length, map, All, Bool, false, Option, Some, None, is_none}
+use Rattle.std.specs.Prelude.{◌≡◌, ℕ, suc, List, [], ◌∷◌, length, map, All, Bool, false, if◌then◌else◌, Option, Some, None, is_none}
+use Rattle.std.specs.List.{list_any}
 use Rattle.packet_fields.specs.declared.field.Field.{Field}
 use Rattle.action_profile.specs.declared.parts.StageParts.{StageParts}
 use Rattle.action_profile.specs.declared.parts.Touch.{Touch}
@@ -9,6 +10,7 @@ use Rattle.packet_version.specs.Dealing.{dealt, based}
 use Rattle.packet_version.specs.Tallies.{count_of, raised}
 use Rattle.merge_ops.specs.declared.arrival.Arrival.{Arrival}
 use Rattle.merge_ops.specs.Behind.{AreArrivals}
+use Rattle.merge_ops.specs.Merging.{is_short as is_lost_arrival}
 use Rattle.merge_ops.specs.Taking.{merged}
 use Rattle.packet_messages.specs.Messages.{PlainMessage, PlainMessage.Live, PlainMessage.Nil, PlainMessage.Short, Fits, first, front, plain, word}
 use Rattle.stage_nodes.specs.Streams.{Kit, of_merged, due_of, dealer_copies}
@@ -16,8 +18,8 @@ use Rattle.stage_nodes.specs.Dues.{DealerDue, BranchDue, MergerDue}
 use Rattle.stage_nodes.specs.declared.branch.Branch as branches
 use Rattle.stage_nodes.specs.declared.dealer.Dealer as dealers
 use Rattle.stage_nodes.specs.declared.merger.Merger as mergers
-use Rattle.stage_nodes.specs.declared.dealer.Given.{Given}
-use Rattle.stage_nodes.specs.declared.dealer.Given.TheVariants.{Row, Word}
+use Rattle.stage_nodes.specs.declared.given.Given.{Given}
+use Rattle.stage_nodes.specs.declared.given.Given.TheVariants.{Row, Word}
 
 -- something is still to come from what supplies a dealer
 abbrev pub HasMore : {S : Type 0} → (S → List (PlainMessage PlainApart) → Type 0) → S → Type 0
@@ -80,10 +82,10 @@ BelongTo (Live base) row = AreArrivals base row
 BelongTo (Nil p) row = Unit {0}
 BelongTo Short row = Unit {0}
 
--- what comes of a base and of what came from the branches
+-- what comes of a base and of what came from the branches, each of which may have found no memory
 abbrev pub joined_row : PlainMessage PlainApart → List Arrival → PlainMessage PlainApart
 joined_row (Live base) row = of_merged (merged base row)
-joined_row (Nil p) row = Nil p
+joined_row (Nil p) row = if list_any is_lost_arrival row then Short else Nil p
 joined_row Short row = Short
 
 -- So many packets of a merger are still to come, unless it is short: then so many messages are due.
@@ -94,10 +96,10 @@ pub record MergerAt (n : ℕ) (short : Bool) (bases : List (PlainMessage PlainAp
 -- what a node owes, whether some of its turns are over or none: a dealer's counts come to these in the end, and a branch's functions are
 -- these
 abbrev pub DealerOwes : {S : Type 0} → (S → List (PlainMessage PlainApart) → Type 0) → (Field → ℕ) → dealers.Dealer S → Type 0
-DealerOwes comes total d = DealerAt comes d.parts d.count total d.short d.tally d.source d.versions d.bases
+DealerOwes comes total d = DealerAt comes d.parts d.count total d.to.short d.tally d.source d.to.ends.versions d.to.ends.bases
 
 abbrev pub BranchOwes : {F : Type 0} → Kit F → (F → ℕ → PlainVersion → Type 0) → F → branches.Branch F → Type 0
-BranchOwes k may end b = BranchDue k may b.step b.first b.count end b.short b.work b.inlet b.outlets
+BranchOwes k may end b = BranchDue k may b.step b.first b.count end b.to.short b.work b.inlet b.to.ends
 
 abbrev pub MergerOwes : mergers.Merger → Type 0
-MergerOwes m = MergerAt m.count m.short m.base m.inlets m.outlet × (m.row.items ≡ [])
+MergerOwes m = MergerAt m.count m.to.short m.base m.inlets m.to.ends × (m.row.items ≡ [])

@@ -6,6 +6,7 @@ ghost use Rattle.stage_nodes.specs.Flows.{MayTake};
 ghost use Rattle.stage_nodes.specs.Dues.{BranchDue, NothingOwed};
 ghost use Rattle.stage_nodes.specs.Turns.{BranchOwes, BranchReady};
 
+use crate::giving::Giving;
 use crate::to_mergers::ToMergers;
 use crate::work::BranchWork;
 use nfp_outside::Gate;
@@ -17,16 +18,15 @@ use std::sync::Wait;
 /// A branch, or one of its nodes where it has several: so many versions are still to come from the dealer, in the
 /// packets' order, the first of the packet with this number in the burst, counted from 0, and each other of the packet
 /// so many behind it. It leads each through its functions, and gives what comes of it to its mergers in turn. It is
-/// short once it found that memory was.
+/// short once what it gave was.
 #[derive(Drop)]
 pub struct Branch<F> {
     pub inlet: Inlet<Version>,
-    pub outlets: ToMergers,
+    pub to: Giving<ToMergers>,
     pub work: F,
     pub first: u32,
     pub step: u32,
     pub count: u32,
-    pub short: bool,
 }
 
 /// Runs a branch until all its versions came, and says whether memory was short. From the first version on
@@ -39,14 +39,14 @@ pub fn run_branch<F: BranchWork, R: Wait, G: Gate>(
     branch: &mut Branch<F>,
 ) -> bool
     requires due { (end : F) × BranchOwes F.kit F.may end branch.old }
-    ensures ample { result ≡ false → branch.old.short ≡ false }
+    ensures ample { result ≡ false → branch.old.to.short ≡ false }
     ensures functions { result ≡ false → branch.new.work ≡ left F.kit branch.old.work branch.old.inlet }
-    ensures given { NothingOwed branch.new.outlets }
+    ensures given { NothingOwed branch.new.to.ends }
 {
     for _version in 0..branch.count {
         branch.turn(rt, alloc, gate);
     }
-    branch.short
+    branch.to.is_short()
 }
 
 impl<F: BranchWork> Branch<F> {
@@ -54,40 +54,32 @@ impl<F: BranchWork> Branch<F> {
     pub fn turn<R: Wait, G: Gate>(&mut self, rt: &R, alloc: Global, gate: &G)
         requires ready { (end : F) × BranchOwes F.kit F.may end self.old }
         ensures owes { (end : F) → BranchOwes F.kit F.may end self.old → BranchOwes F.kit F.may end self.new }
-        ensures ample { self.new.short ≡ false → self.old.short ≡ false }
+        ensures ample { self.new.to.short ≡ false → self.old.to.short ≡ false }
         ensures count { self.new.count ≡ self.old.count - 1 }
     {
         if self.count == 0 {
             return;
         }
-        self.short = self.turn_next(rt, alloc, gate, self.first, self.short);
+        self.turn_next(rt, alloc, gate, self.first);
         self.first += self.step;
         self.count -= 1;
     }
 
-    /// The next version, of the packet with this number; says whether the branch is short from now on.
-    fn turn_next<R: Wait, G: Gate>(
-        &mut self,
-        rt: &R,
-        alloc: Global,
-        gate: &G,
-        place: u32,
-        short: bool,
-    ) -> bool
-        requires ready { BranchReady F.kit F.may self.old.step place short self.old.work self.old.inlet self.old.outlets }
+    /// The next version, of the packet with this number.
+    fn turn_next<R: Wait, G: Gate>(&mut self, rt: &R, alloc: Global, gate: &G, place: u32)
+        requires ready { BranchReady F.kit F.may self.old.step place self.old.to.short self.old.work self.old.inlet self.old.to.ends }
         ensures due { (n : ℕ) (end : F) →
-            BranchDue F.kit F.may self.old.step place (suc n) end short self.old.work self.old.inlet self.old.outlets →
-            BranchDue F.kit F.may self.old.step (place + self.old.step) n end result self.new.work self.new.inlet self.new.outlets }
-        ensures ample { result ≡ false → short ≡ false }
+            BranchDue F.kit F.may self.old.step place (suc n) end self.old.to.short self.old.work self.old.inlet self.old.to.ends →
+            BranchDue F.kit F.may self.old.step (place + self.old.step) n end self.new.to.short self.new.work self.new.inlet self.new.to.ends }
+        ensures ample { self.new.to.short ≡ false → self.old.to.short ≡ false }
         ensures first { self.new.first ≡ self.old.first }
         ensures step { self.new.step ≡ self.old.step }
         ensures count { self.new.count ≡ self.old.count }
     {
         let message = self.inlet.accept(rt);
+        let short = self.to.is_short();
         let reply = answer(rt, alloc, gate, &mut self.work, place, message, short);
-        let short = reply.is_short();
-        self.outlets.give_next(rt, reply);
-        short
+        self.to.give_turn(rt, reply);
     }
 }
 

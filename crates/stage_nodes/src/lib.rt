@@ -14,13 +14,15 @@
 //! one until all its packets went through it.
 //!
 //! A packet that was dropped goes on as a word that says where, through every node behind. Where a node
-//! finds no memory it gives a word that says so, of that packet and of all behind it: each node gives one
-//! message for each that it owes, whatever comes, so no neighbour waits for a message that was left out.
+//! finds no memory, or takes the word that another found none, it gives that word, of that packet and of all behind
+//! it: each node gives one message for each that it owes, whatever comes, so no neighbour waits for a message that was
+//! left out. A node gives by its [`Giving`] alone, which knows whether that word went into it: nothing else may then.
 //!
 //! What is promised: on each link, and to each merger, a node gives what is due, or the word that memory is
-//! short, if what it takes is so too. What is due is a matter of lists, in `specs/Streams.antt`: what a dealer
-//! gives of a packet, what a branch's functions make of all versions one after another, what comes of what
-//! stayed of a packet and of what its branches made of it. Unless memory was short, a branch gives back the
+//! short, if what it takes is so too. What is due is a matter of lists, `stream` in `specs/Streams.antt`: on the edge
+//! from a dealer to a branch what it deals the branch of each packet, on that to the mergers what stays of each, on
+//! the edge from a branch to the mergers what its functions make of all versions one after another, and on that
+//! behind the mergers what comes of what stayed of a packet and of what its branches made of it. Unless memory was short, a branch gives back the
 //! functions that are left after all its versions, and a dealer the copies that are due of all its packets.
 //! `specs/Dues.antt` says which ends fit a node.
 //!
@@ -34,6 +36,8 @@ mod board_rows;
 mod branch;
 mod dealer;
 mod from_branches;
+mod given;
+mod giving;
 mod link_rows;
 mod merger;
 mod supply;
@@ -43,6 +47,7 @@ mod work;
 pub use branch::{Branch, run_branch};
 pub use dealer::{Dealer, run_dealer};
 pub use from_branches::FromBranches;
+pub use giving::{Giving, ToStage};
 pub use merger::{Merger, run_merger};
 pub use supply::Supply;
 pub use to_mergers::{ToMerger, ToMergers, take_ends};

@@ -1,10 +1,13 @@
 //! The node of a merger.
 ghost use Rattle.std.specs.Prelude.{◌≡◌, ◌<◌, ◌-◌, ◌^◌, [], ℕ, suc, false, length, map};
-ghost use Rattle.packet_messages.specs.Messages.{Fits, Owing, first, is_short, plain, rest};
+ghost use Rattle.std.specs.List.{list_any};
+ghost use Rattle.merge_ops.specs.Merging.{is_short as is_lost};
+ghost use Rattle.packet_messages.specs.Messages.{Fits, PlainMessage.Nil, first, is_short, plain, rest};
 ghost use Rattle.stage_nodes.specs.Streams.{of_merged};
 ghost use Rattle.stage_nodes.specs.Turns.{BelongTo, MergerAt, MergerOwes, joined_row};
 
 use crate::from_branches::FromBranches;
+use crate::giving::Giving;
 use merge_ops::{Arrival, Merged, merge};
 use packet_messages::{Inlet, Message, Outlet, boxed};
 use packet_version::{Apart, Base};
@@ -15,24 +18,24 @@ use std::sync::Wait;
 /// A merger: of so many packets the bases are still to come from the dealer, and from each branch what it made of
 /// them, the first of the packet with this number in the burst, counted from 0, and each other of the packet so many
 /// behind it. It puts each packet together, and gives what comes of it to the dealer behind. Its row has room for what
-/// comes of a packet, and is empty. It is short once it found that memory was.
+/// comes of a packet, and is empty. It is short once what it gave was.
 #[derive(Drop)]
 pub struct Merger {
     pub base: Inlet<Base>,
     pub inlets: FromBranches,
-    pub outlet: Outlet<Apart>,
+    pub to: Giving<Outlet<Apart>>,
     pub row: Vec<Arrival>,
     pub first: u32,
     pub step: u32,
     pub count: u32,
-    pub short: bool,
 }
 
 /// Runs a merger until all its packets went on. From the first packet on for which memory was short, it
 /// says so of all: whatever memory is refused, it gives one message for each that it owes.
 pub fn run_merger<R: Wait>(rt: &R, alloc: Global, merger: &mut Merger)
     requires due { MergerOwes merger.old }
-    ensures given { merger.new.outlet ≡ [] }
+    ensures ample { merger.new.to.short ≡ false → merger.old.to.short ≡ false }
+    ensures given { merger.new.to.ends ≡ [] }
 {
     for _packet in 0..merger.count {
         merger.turn(rt, alloc);
@@ -44,36 +47,31 @@ impl Merger {
     pub fn turn<R: Wait>(&mut self, rt: &R, alloc: Global)
         requires ready { MergerOwes self.old }
         ensures owes { MergerOwes self.new }
+        ensures ample { self.new.to.short ≡ false → self.old.to.short ≡ false }
         ensures count { self.new.count ≡ self.old.count - 1 }
     {
         if self.count == 0 {
             return;
         }
         let mut row = mem::replace(&mut self.row, Vec::new(alloc));
-        self.short = self.merge_next(rt, alloc, &mut row, self.first, self.short);
+        self.merge_next(rt, alloc, &mut row, self.first);
         self.row = row;
         self.first = self.first.saturating_add(self.step);
         self.count -= 1;
     }
 
-    /// The next packet, which has this number here; says whether the merger is short from now on.
-    fn merge_next<R: Wait>(
-        &mut self,
-        rt: &R,
-        alloc: Global,
-        row: &mut Vec<Arrival>,
-        packet: u32,
-        short: bool,
-    ) -> bool
+    /// The next packet, which has this number here.
+    fn merge_next<R: Wait>(&mut self, rt: &R, alloc: Global, row: &mut Vec<Arrival>, packet: u32)
         requires empty { row.old.items ≡ [] }
-        requires at { (n : ℕ) × MergerAt (suc n) short self.old.base self.old.inlets self.old.outlet }
+        requires at { (n : ℕ) × MergerAt (suc n) self.old.to.short self.old.base self.old.inlets self.old.to.ends }
         ensures empty { row.new.items ≡ [] }
-        ensures at { (n : ℕ) → MergerAt (suc n) short self.old.base self.old.inlets self.old.outlet →
-            MergerAt n result self.new.base self.new.inlets self.new.outlet }
+        ensures at { (n : ℕ) → MergerAt (suc n) self.old.to.short self.old.base self.old.inlets self.old.to.ends →
+            MergerAt n self.new.to.short self.new.base self.new.inlets self.new.to.ends }
+        ensures ample { self.new.to.short ≡ false → self.old.to.short ≡ false }
         ensures count { self.new.count ≡ self.old.count }
     {
-        let reply = self.reply(rt, alloc, row, packet, short);
-        give_on(rt, &mut self.outlet, reply)
+        let reply = self.reply(rt, alloc, row, packet);
+        self.to.give_on(rt, reply);
     }
 
     /// What comes of the next packet, which has this number here. Once the merger is short that is the word that
@@ -84,35 +82,24 @@ impl Merger {
         alloc: Global,
         row: &mut Vec<Arrival>,
         packet: u32,
-        short: bool,
     ) -> Message<Apart>
         requires empty { row.old.items ≡ [] }
-        requires at { (n : ℕ) × MergerAt (suc n) short self.old.base self.old.inlets self.old.outlet }
+        requires at { (n : ℕ) × MergerAt (suc n) self.old.to.short self.old.base self.old.inlets self.old.to.ends }
         ensures empty { row.new.items ≡ [] }
-        ensures fits { Fits (first self.old.outlet) (plain result) }
-        ensures ample { is_short (plain result) ≡ false → short ≡ false }
+        ensures fits { Fits (first self.old.to.ends) (plain result) }
+        ensures ample { is_short (plain result) ≡ false → self.old.to.short ≡ false }
         ensures taken { is_short (plain result) ≡ false → (self.new.base ≡ rest self.old.base) × (self.new.inlets ≡ map rest self.old.inlets) }
-        ensures outlet { self.new.outlet ≡ self.old.outlet }
+        ensures outlet { self.new.to.ends ≡ self.old.to.ends }
+        ensures stays { self.new.to.short ≡ self.old.to.short }
         ensures count { self.new.count ≡ self.old.count }
     {
+        let short = self.to.is_short();
         if short || row.reserve(self.inlets.len()).is_err() {
             return Message::Short;
         }
         self.inlets.accept_row(rt, packet, row);
         join(rt, alloc, self.base.accept(rt), row)
     }
-}
-
-/// Gives what comes of a packet to the dealer behind; says whether that is the word that memory is short.
-fn give_on<R: Wait>(rt: &R, outlet: &mut Outlet<Apart>, reply: Message<Apart>) -> bool
-    requires due { Owing outlet.old }
-    requires fits { Fits (first outlet.old) (plain reply) }
-    ensures given { outlet.new ≡ rest outlet.old }
-    ensures short { result ≡ is_short (plain reply) }
-{
-    let short = reply.is_short();
-    outlet.give(rt, reply);
-    short
 }
 
 /// What comes of a packet from its base and what came from each branch, in branch order. The row is empty
@@ -130,15 +117,33 @@ fn join<R: Wait>(
 {
     match base {
         Message::Live(base) => message_of(alloc, merge(rt, Box::into_inner(base), row)),
-        Message::Nil(position) => {
-            row.clear();
-            Message::Nil(position)
-        }
+        Message::Nil(position) => gone(position, row),
         Message::Short => {
             row.clear();
             Message::Short
         }
     }
+}
+
+/// What comes of a packet that was dropped before: the word that says where, unless a branch found no memory.
+fn gone(position: u32, row: &mut Vec<Arrival>) -> Message<Apart>
+    ensures word { plain result ≡ joined_row (Nil position) row.old.items }
+    ensures emptied { row.new.items ≡ [] }
+{
+    let lost = some_is_lost(row.as_slice());
+    row.clear();
+    if lost {
+        Message::Short
+    } else {
+        Message::Nil(position)
+    }
+}
+
+/// Did a branch find no memory?
+fn some_is_lost(row: &[Arrival]) -> bool
+    ensures { result ≡ list_any is_lost row.now }
+{
+    row.iter().any(|arrival| matches!(arrival, Arrival::Short))
 }
 
 /// What came of a packet as a message, or that memory is short.

@@ -1,4 +1,4 @@
-use Rattle.std.proofs.Common.{refl, arith}
+use Rattle.std.proofs.Common.{◌∙◌, refl, arith}
 use Rattle.node_run.proofs.Shares.{some_share}
 use Rattle.node_run.proofs.Wiring.{branch_added, fanned_one}
 use Rattle.node_run.proofs.branches.wire_alone.Goals as goal
@@ -17,5 +17,5 @@ returns g c = record {
   versions = fanned_one 1 _ _ _ _ (omega arith) c.in_ok-versions.ensures.0 c.in_ok-push.ensures;
   nodes = λ fs copies old.
       branch_added g.F.BranchWork.kit g.F.BranchWork.may c.args.mergers c.args.count c.args.touch g.D.LinkDue.due _ _ _ _ _ fs copies
-      c.requires.some c.requires.few c.requires.many c.requires.take c.in_ok-versions.ensures.1 c.take_first.ensures c.requires.ends refl refl refl refl c.in_ok-push-2.ensures.items old;
+      c.requires.some c.requires.few c.requires.many c.requires.take c.in_ok-versions.ensures.1 c.take_first.ensures (c.new-to.ensures.ends ∙ c.requires.ends) refl refl refl c.new-to.ensures.ample c.in_ok-push-2.ensures.items old;
 }

@@ -1,6 +1,10 @@
-use Rattle.std.proofs.Common.{refl}
+use Rattle.std.proofs.Common.{◌≡◌, ◌∙◌, List, ◌∷◌, ap, sym}
 use Rattle.node_run.proofs.Wiring.{merger_next}
 use Rattle.node_run.proofs.mergers.wire_mergers.Goals as goal
+
+-- the first end is what a merger has
+same_first : {A : Type 0} {ends rest : List A} {first own : A} → ends ≡ first ∷ rest → own ≡ first → ends ≡ own ∷ rest
+same_first {A} {ends} {rest} e is = e ∙ ap (λ y. y ∷ rest) (sym is)
 
 pub take_first-base-requires : goal.take_first-base-requires
 take_first-base-requires g c = (merger_next _ _ _ _ _ _ c.loop-merger-test.true c.loop-merger.invariant.0).base_some
@@ -13,7 +17,7 @@ take_first-from_branches-requires g c = (merger_next _ _ _ _ _ _ c.loop-merger-t
 
 pub push_merger-requires : goal.push_merger-requires
 push_merger-requires g c =
-    (refl, c.new.ensures.items, (merger_next _ _ _ _ _ _ c.loop-merger-test.true c.loop-merger.invariant.0).due _ _ _ _ _ _ _ c.take_first-base.ensures c.take_first-outlet.ensures c.take_first-from_branches.ensures c.share_count.ensures.share)
+    (c.new-to.ensures.ample, c.new.ensures.items, (merger_next _ _ _ _ _ _ c.loop-merger-test.true c.loop-merger.invariant.0).due _ _ _ _ _ _ _ c.take_first-base.ensures (same_first c.take_first-outlet.ensures c.new-to.ensures.ends) c.take_first-from_branches.ensures c.share_count.ensures.share)
 
 pub loop-merger-preserved : goal.loop-merger-preserved
 loop-merger-preserved g c =

@@ -12,7 +12,7 @@ pub returns-clause-ready : goal.returns-clause-ready
 returns-clause-ready g c =
     let f = c.requires.fits in
     replica_ready g.F.BranchWork.kit g.F.BranchWork.may c.args.mergers c.args.merger f.1 c.args.count f.0 _ _ _ _ _ _ f.2 c.requires.some c.requires.few_mergers c.requires.inside c.requires.few
-    c.take_first-inlet.ensures c.take_first.ensures (c.in_ok-push.ensures ∙ ap (λ y. y ++ c.take_first.result ∷ []) c.new-outlets.ensures) refl refl c.share_count.ensures.share c.share_count.ensures.few refl
+    c.take_first-inlet.ensures c.take_first.ensures (c.new-to.ensures.ends ∙ c.in_ok-push.ensures ∙ ap (λ y. y ++ c.take_first.result ∷ []) c.new-outlets.ensures) refl refl c.share_count.ensures.share c.share_count.ensures.few c.new-to.ensures.ample
 
 pub returns-clause-work : goal.returns-clause-work
 returns-clause-work g c = left_same g.F.BranchWork.kit c.args.work c.requires.fits.2.nothing _

@@ -1,4 +1,5 @@
-use Rattle.std.proofs.Common.{refl}
+use Rattle.std.proofs.Common.{◌∙◌, ap, refl}
+use Rattle.stage_nodes.specs.declared.giving.ToStage.{ToStage}
 use Rattle.node_run.specs.Stages.{plain_stage}
 use Rattle.node_run.proofs.Wiring.{is_wired, mergers_fit, wired_by}
 use Rattle.node_run.proofs.Meets.{may_meet, meets_by}
@@ -22,5 +23,6 @@ pub returns : goal.returns
 returns g c =
     let b = wired_by g.F.BranchWork.kit g.F.BranchWork.may _ _ _ _ c.in_ok-wired.wired c.in_ok-wired.ensures c.as_slice-touches.ensures in
     is_wired g.F.BranchWork.kit g.F.BranchWork.may g.S.Supply.comes c.args.mergers c.args.count (plain_stage c.args.work) g.D.LinkDue.due _ c.in_ok-wired.wired _
-    c.requires.pass c.requires.some c.requires.many c.requires.takes b refl refl refl c.new.ensures refl refl c.in_ok-bases.ensures.0
+    c.requires.pass c.requires.some c.requires.many c.requires.takes b refl refl c.new-to.ensures.ample c.new.ensures refl (ap (λ (e : ToStage). e.versions) c.new-to.ensures.ends)
+    (ap (λ (e : ToStage). e.bases) c.new-to.ensures.ends ∙ c.in_ok-bases.ensures.0)
     c.in_ok-from_mergers.ensures.1 (λ gs e a. c.in_ok-wire_mergers.ensures gs e (c.in_ok-nodes.ensures gs e a))

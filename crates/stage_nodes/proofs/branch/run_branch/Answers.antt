@@ -1,4 +1,4 @@
-use Rattle.std.proofs.Common.{◌∙◌, arith}
+use Rattle.std.proofs.Common.{◌∙◌, arith, sym}
 use Rattle.stage_nodes.proofs.Branching.{branch_done, branch_end, branch_gave}
 use Rattle.stage_nodes.proofs.branch.run_branch.Goals as goal
 
@@ -18,9 +18,10 @@ loop-version-preserved g c = record {
 pub returns : goal.returns
 returns g c =
     let i = c.loop-version.invariant in
+    let s = sym c.is_short.ensures in
     let owes = i.owes c.requires.due.0 c.requires.due.1 in record {
-      ample = λ w. i.ample w;
-      functions = λ w. branch_done g.F.BranchWork.kit g.F.BranchWork.may _ _ c.args.branch.now.count c.loop-version._version _ _ _ _ _ _ c.loop-version-test.false i.count owes w
-          ∙ branch_end g.F.BranchWork.kit g.F.BranchWork.may _ _ _ _ _ _ _ _ c.requires.due.1 (i.ample w);
+      ample = λ w. i.ample (s ∙ w);
+      functions = λ w. branch_done g.F.BranchWork.kit g.F.BranchWork.may _ _ c.args.branch.now.count c.loop-version._version _ _ _ _ _ _ c.loop-version-test.false i.count owes (s ∙ w)
+          ∙ branch_end g.F.BranchWork.kit g.F.BranchWork.may _ _ _ _ _ _ _ _ c.requires.due.1 (i.ample (s ∙ w));
       given = branch_gave g.F.BranchWork.kit g.F.BranchWork.may _ _ c.args.branch.now.count c.loop-version._version _ _ _ _ _ _ c.loop-version-test.false i.count owes;
     }

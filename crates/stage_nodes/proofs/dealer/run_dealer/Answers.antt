@@ -1,4 +1,4 @@
-use Rattle.std.proofs.Common.{◌∙◌, ap, arith, refl}
+use Rattle.std.proofs.Common.{◌∙◌, ap, arith, sym}
 use Rattle.packet_version.specs.Tallies.{count_of}
 use Rattle.stage_nodes.proofs.Dealing.{dealer_begins, dealer_done, dealer_gave}
 use Rattle.stage_nodes.proofs.dealer.run_dealer.Goals as goal
@@ -21,8 +21,8 @@ loop-packet-preserved g c = record {
 pub returns : goal.returns
 returns g c =
     let i = c.loop-packet.invariant in record {
-      ample = λ w. i.ample w;
-      counted = λ xs due w f. ap (λ t. count_of t f) c.replace-tally.ensures.value ∙ dealer_done _ c.args.dealer.now.count c.loop-packet._packet _ _ _ _ _ _ _ c.loop-packet-test.false i.count (i.owes _ (dealer_begins _ _ xs _ _ _ _ _ due)) w f;
+      ample = λ w. i.ample (sym c.is_short.ensures ∙ w);
+      counted = λ xs due w f. ap (λ t. count_of t f) c.replace-tally.ensures.value ∙ dealer_done _ c.args.dealer.now.count c.loop-packet._packet _ _ _ _ _ _ _ c.loop-packet-test.false i.count (i.owes _ (dealer_begins _ _ xs _ _ _ _ _ due)) (sym c.is_short.ensures ∙ w) f;
       versions_given = (dealer_gave _ c.args.dealer.now.count c.loop-packet._packet _ _ _ _ _ _ _ c.loop-packet-test.false i.count (i.owes _ (dealer_begins _ _ _ _ _ _ _ _ c.requires.due.1))).0;
       bases_given = (dealer_gave _ c.args.dealer.now.count c.loop-packet._packet _ _ _ _ _ _ _ c.loop-packet-test.false i.count (i.owes _ (dealer_begins _ _ _ _ _ _ _ _ c.requires.due.1))).1;
     }

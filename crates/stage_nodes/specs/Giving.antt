@@ -1,0 +1,7 @@
+-- For proofs: what a node gives into.
+use Rattle.std.specs.Prelude.{Bool}
+
+-- the ends, and whether the last item that went into them was short
+pub record PlainGiving (E : Type 0) : Type 0 where
+  pub ends : E
+  pub short : Bool

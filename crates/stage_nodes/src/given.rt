@@ -1,0 +1,13 @@
+//! What a dealer gives of a packet.
+
+use packet_messages::Message;
+use packet_version::{Base, Version};
+
+/// What a dealer gives of a packet.
+#[derive(Drop)]
+pub(crate) enum Given {
+    /// Its base, and a version for each branch.
+    Row(Box<Base>, Vec<Message<Version>>),
+    /// A word without a packet: where it was dropped, or that memory is short.
+    Word(Option<u32>),
+}
