@@ -1,10 +1,11 @@
 //! A network function that sees a packet through a view.
-ghost use Rattle.std.specs.Prelude.{◌≡◌, ◌<◌, ◌++◌, ℕ, List, [], length, slice_index_or, true, false, not, is_some, IsOk, IfOk, OnOk, OnErr, IsSome, IfSome};
+ghost use Rattle.std.specs.Prelude.{◌≡◌, ◌<◌, ◌++◌, ℕ, List, [], length, slice_index_or, true, false, is_some, IsOk, IfOk, OnOk, OnErr, IsSome, IfSome};
 ghost use Rattle.std.specs.List.{flat_map};
 ghost use Rattle.packet_fields.specs.declared.field.Field.{Field};
 ghost use Rattle.chain_walk.specs.Step.{Behaviour};
 ghost use Rattle.chain_walk.specs.Laws.{KeepsProfile};
 ghost use Rattle.packet_version.specs.Views.{seen_parts, viewed, wrote_all, HasTagRoom};
+ghost use Rattle.net_functions.specs.Replicas.{may_be_several};
 
 use action_profile::Profile;
 use packet_version::{Verdict, View};
@@ -58,11 +59,11 @@ pub trait Function: Sized {
         ensures line { OnOk result (out.new.items ≡ out.old.items ++ slice_index_or (rows self.now) place []) }
         ensures stays { OnErr result (out.new.items ≡ out.old.items) };
 
-    /// The same function once more, where it keeps no state: that of a function with a state can't be in two places.
+    /// The same function once more, exactly where its profile lets several of it be at work: a state can't be in two places.
     /// Its one refusal is want of memory.
     fn try_clone(&self, alloc: Global) -> Result<Option<Self>, AllocError>
         ensures same { IfOk result (λ found. IfSome found (λ function. function ≡ self.now)) }
-        ensures which { IfOk result (λ found. is_some found ≡ not (behaviour.profile self.now).state) };
+        ensures which { IfOk result (λ found. is_some found ≡ may_be_several (behaviour.profile self.now)) };
 
     /// It does what its profile says, and no more.
     ghost keeps: { KeepsProfile behaviour };
