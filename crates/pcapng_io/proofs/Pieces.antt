@@ -2,6 +2,7 @@
 use Rattle.std.proofs.Common.{◌≡◌, ◌≤◌, ◌-◌, ◌∙◌, ℕ, zero, suc, List, [], ◌∷◌, ◌++◌, length, take, drop, refl, ap, sym, append_assoc, length-drop, arith}
 use Rattle.std.specs.Prelude.{replicate}
 use Rattle.std.proofs.Math.Seq.{take-length}
+use Rattle.std.proofs.lemmas.List.{append-nil, take-replicate}
 use Rattle.capture_bytes.specs.Numbers.{bytes_of}
 use Rattle.pcapng_io.specs.declared.item.NgPacket.{NgPacket}
 use Rattle.pcapng_io.specs.Options.{padded}
@@ -23,15 +24,20 @@ zeros (suc (suc (suc (suc zero)))) h = refl
 zeros (suc (suc (suc (suc (suc k))))) h = absurd (omega arith)
 
 -- the pieces of a packet's block
-pub packet_whole : (p : NgPacket) (head frame padding options tail : List ℕ) → head ≡ packet_head p → frame ≡ p.packet.frame → padding ≡ replicate (padded (length p.packet.frame) - length p.packet.frame) 0 → options ≡ p.options →
-    tail ≡ bytes_of p.order 4 (packet_length p) → (head ++ frame ++ padding) ++ (options ++ tail) ≡ packet_bytes p
-packet_whole p head frame padding options tail a b c d e = sym (append_assoc (head ++ frame ++ padding) options tail) ∙ pieces head (packet_head p) frame p.packet.frame padding _ options p.options tail _ a b c d e
-  where
-    pieces : (a a' b b' c c' d d' e e' : List ℕ) → a ≡ a' → b ≡ b' → c ≡ c' → d ≡ d' → e ≡ e' → a ++ b ++ c ++ d ++ e ≡ a' ++ b' ++ c' ++ d' ++ e'
-    pieces a a' b b' c c' d d' e e' p q r s t = cc
+pub packet_whole : (p : NgPacket) (head frame : List ℕ) (room size : ℕ) → head ≡ packet_head p → frame ≡ p.packet.frame → room ≡ padded (length p.packet.frame) - length p.packet.frame → size ≡ packet_length p →
+    (head ++ frame) ++ (replicate room 0 ++ p.options ++ bytes_of p.order 4 size) ≡ packet_bytes p
+packet_whole p head frame room size a b c d =
+    sym (append_assoc (head ++ frame) (replicate room 0 ++ p.options) (bytes_of p.order 4 size))
+    ∙ ap (λ l. l ++ bytes_of p.order 4 size) (sym (append_assoc (head ++ frame) (replicate room 0) p.options))
+    ∙ (λ i. a i ++ b i ++ replicate (c i) 0 ++ p.options ++ bytes_of p.order 4 (d i))
 
-pub padding_is : (n room : ℕ) → room ≡ padded n → take {A = ℕ} (room - n) (0 ∷ 0 ∷ 0 ∷ 0 ∷ []) ≡ replicate (padded n - n) 0
-padding_is n room is = ap (λ d. take {A = ℕ} (d - n) (0 ∷ 0 ∷ 0 ∷ 0 ∷ [])) is ∙ zeros (padded n - n) (omega arith)
+-- zeros at the front of more of them
+pub zeros_of : (k : ℕ) → k ≤ 4 → take {A = ℕ} k (replicate 8 0) ≡ replicate k 0
+zeros_of k h = take-replicate k 8 0 (omega arith)
+
+-- what stands behind a frame, where there are no options
+pub tail_whole : (zeros options tail : List ℕ) → options ≡ [] → zeros ++ tail ≡ zeros ++ options ++ tail
+tail_whole zeros options tail none = sym (ap (λ l. l ++ tail) (ap (λ o. zeros ++ o) none ∙ append-nil zeros))
 
 -- what is left behind the first bytes
 pub rest_is : (n : ℕ) (block : List ℕ) → take (length block - n) (drop n block) ≡ drop n block

@@ -14,10 +14,9 @@ use Rattle.pcapng_io.specs.Reader.{Opens, Closes, Gives, ReadsItem, RefusesBlock
 use Rattle.pcapng_io.proofs.Giving.{item_facts}
 use Rattle.pcapng_io.proofs.Slots.{given, put_back, block_told, refuses_further}
 
-pub reads_item : (place now : Place) (kind : BlockKind) (order : Endian) (size : ℕ) (head block block' : List ℕ) (item : NgItem) (x mid new : SlotView) →
-    Opens place kind order size head x mid → Closes size block' (unread head mid) new → block ≡ block' → Gives place order kind block item now → ReadsItem item place now x new
-reads_item place now kind order size head block block' item x mid new opens closes' same gives =
-    let closes : Closes size block (unread head mid) new = subst (λ b. Closes size b (unread head mid) new) (sym same) closes' in
+pub reads_item : (place now : Place) (kind : BlockKind) (order : Endian) (size : ℕ) (head block : List ℕ) (item : NgItem) (x mid new : SlotView) →
+    Opens place kind order size head x mid → Closes size block (unread head mid) new → Gives place order kind block item now → ReadsItem item place now x new
+reads_item place now kind order size head block item x mid new opens closes gives =
     let got = given place kind order size head block mid new opens.says closes gives.sound.faultless in
     let facts = item_facts place order kind block gives.within gives.sound in
     let back : (unread head mid).bytes ≡ x.bytes = put_back (length head) head x mid refl opens.fills in
@@ -32,8 +31,7 @@ reads_item place now kind order size head block block' item x mid new opens clos
     } in
     subst (λ i. ReadsItem i place now x new) (sym gives.item_is) (subst (λ p. ReadsItem (item_of place order kind block) place p x new) (sym gives.place_is) reads)
 
-pub refuses_read : (place : Place) (kind : BlockKind) (order : Endian) (size : ℕ) (head block block' : List ℕ) (f : NgFault) (x mid new : SlotView) →
-    Opens place kind order size head x mid → Closes size block' (unread head mid) new → block ≡ block' → first_fault (content_faults place order kind block) ≡ Some f → RefusesBlock f place x
-refuses_read place kind order size head block block' f x mid new opens closes' same told =
-    let closes : Closes size block (unread head mid) new = subst (λ b. Closes size b (unread head mid) new) (sym same) closes' in
+pub refuses_read : (place : Place) (kind : BlockKind) (order : Endian) (size : ℕ) (head block : List ℕ) (f : NgFault) (x mid new : SlotView) →
+    Opens place kind order size head x mid → Closes size block (unread head mid) new → first_fault (content_faults place order kind block) ≡ Some f → RefusesBlock f place x
+refuses_read place kind order size head block f x mid new opens closes told =
     refuses_further f place (length head) head x mid refl opens.fills (block_told place kind order size head block f mid new opens.says closes told)

@@ -11,6 +11,14 @@ const MOST_TWOS: u8 = 188;
 
 const SECOND: u128 = 1_000_000_000;
 
+// How many of them make a second.
+const NANOSECONDS: u64 = 1_000_000_000;
+
+const MICROSECONDS: u64 = 1_000_000;
+
+// As many microseconds as have seconds of 32 bits.
+const MOST_MICROSECONDS: u64 = 4_294_967_296_000_000;
+
 // The last nanosecond whose seconds have 32 bits.
 const LAST: u64 = 4_294_967_295_999_999_999;
 
@@ -34,11 +42,17 @@ pub fn ticks_in_second(resolution: u8) -> u64
     }
 }
 
-// Whole nanoseconds of so many ticks.
+// Whole nanoseconds of so many ticks. Where the ticks are nanoseconds or microseconds nothing is divided.
 pub fn nanoseconds(in_second: u64, ticks: u64) -> u64
     requires { 0 < in_second }
     ensures { result ≡ nanoseconds_of in_second ticks }
 {
+    if in_second == NANOSECONDS {
+        return if ticks < LAST { ticks } else { LAST };
+    }
+    if in_second == MICROSECONDS && ticks < MOST_MICROSECONDS {
+        return ticks * 1_000;
+    }
     let whole = u128::from(ticks) * SECOND / u128::from(in_second);
     if whole < u128::from(LAST) {
         whole as u64

@@ -1,5 +1,5 @@
 //! Blocks, as they are written.
-ghost use Rattle.std.specs.Prelude.{◌≡◌, ◌≢◌, ◌≤◌, ◌<◌, ◌+◌, ◌-◌, ◌%◌, ◌^◌, ◌++◌, IsSome, OnErr, OnOk, length, replicate};
+ghost use Rattle.std.specs.Prelude.{◌≡◌, ◌≢◌, ◌≤◌, ◌<◌, ◌+◌, ◌-◌, ◌%◌, ◌^◌, ◌++◌, IsSome, OnErr, OnOk, length, replicate, take};
 ghost use Rattle.nfp_outside.specs.declared.slot.Slot.{Slot};
 ghost use Rattle.nfp_outside.specs.Outside.{Appends, AppendsPrefix, WriteCause};
 ghost use Rattle.capture_bytes.specs.Numbers.{bytes_of, number_at};
@@ -93,11 +93,45 @@ pub fn put_packet<D: Desk>(
     let length = (32 + data + options.len()) as u32;
     let captured = frame.len() as u32;
     let head = head_of(order, length, interface, ticks, captured, packet.wire);
-    let padding = &ZEROS[..data - frame.len()];
-    if let Err(fault) = put_three(desk, &head, frame, padding) {
+    if let Err(fault) = put_two(desk, &head, frame) {
         return Err(fault);
     }
-    put_two(desk, options, &spelled(order, length))
+    put_tail(desk, order, data - frame.len(), options, length)
+}
+
+// Puts what stands behind a frame: so many zeros, the options, and the block's length. Mostly there are no options: then it is one piece.
+#[tactic(auto, using(crate::proofs::Pieces::tail_whole))]
+fn put_tail<D: Desk>(
+    desk: &mut D,
+    order: Endian,
+    padding: usize,
+    options: &[u8],
+    length: u32,
+) -> Result<(), OutsideFault>
+    requires attached { IsSome (D.slots desk.old Slot.Out).name }
+    requires few { padding ≤ 4 }
+    ensures ok { OnOk result (Appends (replicate padding 0 ++ options.now ++ bytes_of order 4 length) (D.slots desk.old Slot.Out) (D.slots desk.new Slot.Out)) }
+    ensures err { OnErr result (AppendsPrefix (replicate padding 0 ++ options.now ++ bytes_of order 4 length) (D.slots desk.old Slot.Out) (D.slots desk.new Slot.Out)) }
+    ensures cause { WriteCause Slot.Out (D.slots desk.old Slot.Out) (D.slots desk.new Slot.Out) result }
+    ensures others { (s : Slot) → s ≢ Slot.Out → D.slots desk.new s ≡ D.slots desk.old s }
+{
+    if options.is_empty() {
+        let tail = tail_of(order, padding, length);
+        write_whole(desk, Slot::Out, &tail[..padding + 4])
+    } else {
+        put_three(desk, &ZEROS[..padding], options, &spelled(order, length))
+    }
+}
+
+// So many zeros, and the block's length behind them.
+#[tactic(auto, using(crate::proofs::Pieces::zeros_of))]
+fn tail_of(order: Endian, padding: usize, length: u32) -> [u8; 8]
+    requires { padding ≤ 4 }
+    ensures { take (padding + 4) result ≡ replicate padding 0 ++ bytes_of order 4 length }
+{
+    let mut tail = [0; 8];
+    put_u32(order, &mut tail, padding, length);
+    tail
 }
 
 // What stands before a frame.

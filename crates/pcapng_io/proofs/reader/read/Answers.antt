@@ -34,7 +34,7 @@ returns-in-Ok-give-clause-item g c =
     let h = c.in-Ok-Some.head in
     let head = take (head_length h.kind) h.bytes in
     let opens : Opens place h.kind h.order h.length head x mid = rw c.in-Ok-Some.field-0-is at c.in-Ok-Some.ensures.opened in
-    reads_item place c.give.new.place h.kind h.order h.length head c.in-Ok.block.items c.in-Ok.block.items c.in-Ok-give.item x mid new opens c.in-Ok.ensures.closed refl c.in-Ok-give.ensures.ok
+    reads_item place c.give.new.place h.kind h.order h.length head c.in-Ok.block.items c.in-Ok-give.item x mid new opens c.in-Ok.ensures.closed c.in-Ok-give.ensures.ok
 
 pub returns-in-Ok-give-clause-taken : goal.returns-in-Ok-give-clause-taken
 returns-in-Ok-give-clause-taken g c =
@@ -50,7 +50,7 @@ returns-in-Err-give-clause-refused g c =
     let h = c.in-Ok-Some.head in
     let head = take (head_length h.kind) h.bytes in
     let opens : Opens place h.kind h.order h.length head x mid = rw c.in-Ok-Some.field-0-is at c.in-Ok-Some.ensures.opened in
-    λ fault is. refuses_read place h.kind h.order h.length head c.in-Ok.block.items c.in-Ok.block.items fault x mid new opens c.in-Ok.ensures.closed refl (c.in-Err-give.ensures.refused fault (retyped c.in-Err-give.fault (Ng fault) is))
+    λ fault is. refuses_read place h.kind h.order h.length head c.in-Ok.block.items fault x mid new opens c.in-Ok.ensures.closed (c.in-Err-give.ensures.refused fault (retyped c.in-Err-give.fault (Ng fault) is))
 
 pub returns-in-Err-give-clause-taken : goal.returns-in-Err-give-clause-taken
 returns-in-Err-give-clause-taken g c =
