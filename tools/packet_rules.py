@@ -5,6 +5,7 @@ functions of its chain one after another; no stage or branch plays a part, but f
 docs/POLICY.md says the same in words. How captures are read and written stands in capture_rules.py.
 """
 
+import functools
 import ipaddress
 import struct
 import typing
@@ -14,6 +15,7 @@ import policy_rules
 
 TCP, UDP = 6, 17
 VLAN_TAG, SERVICE_TAG = 0x8100, 0x88A8
+TAG_TYPES = (b'\x81\x00', b'\x88\xa8')
 
 
 # Frames and their fields.
@@ -47,7 +49,7 @@ def type_place(frame):
     if len(frame) < 14:
         return None
     place = 12
-    while number(frame[place : place + 2]) in (VLAN_TAG, SERVICE_TAG) and place + 6 <= len(frame):
+    while frame[place : place + 2] in TAG_TYPES and place + 6 <= len(frame):
         place += 4
     return place
 
@@ -59,9 +61,8 @@ def version_of(kind, first):
     return 6 if kind == b'\x86\xdd' and b'\x60' <= first <= b'\x6f' else None
 
 
-def header_of(frame):
-    """The headers of a frame, or None where it has no IP header."""
-    place = type_place(frame)
+def header_of(frame, place):
+    """The headers of a frame, or None where it has no IP header. Its type of Ethernet stands at this place."""
     version = None if place is None else version_of(frame[place : place + 2], frame[place + 2 : place + 3])
     if version is None:
         return None
@@ -78,16 +79,15 @@ def header_of(frame):
     return Header(version, begin, proto, length, begin + size if has_transport else None, end)
 
 
-def fields_of(frame):
-    """The places of the fields that a frame has, by the words that name them."""
+def fields_of(frame, behind_tags, header):
+    """The places of the fields that a frame with these tags and headers has, by the words that name them."""
     places = {}
     if len(frame) >= 6:
         places['link-dst'] = 0, 6
     if len(frame) >= 12:
         places['link-src'] = 6, 12
-    if type_place(frame) is not None:
-        places['tag'] = 12, type_place(frame)
-    header = header_of(frame)
+    if behind_tags is not None:
+        places['tag'] = 12, behind_tags
     if header is None:
         return places
     for name, (begin, size) in PLACES[header.version].items():
@@ -114,90 +114,149 @@ def payload_place(frame, header):
 
 
 class Packet:
-    """A frame as functions see it, which they may write, and what none of them writes. Its tags are held beside the rest."""
+    """A frame as functions see it, which they may write, and what none of them writes. What they write is held beside it."""
 
     def __init__(self, frame, time):
-        self.frame, self.places, self.time = bytearray(frame), fields_of(frame), time
-        self.tags = frame[slice(*self.places['tag'])] if 'tag' in self.places else None
-        header = header_of(frame)
-        self.proto, self.length = (header.proto, header.length) if header else (None, None)
+        behind_tags = type_place(frame)
+        self.read, self.header, self.time = frame, header_of(frame, behind_tags), time
+        self.places = fields_of(frame, behind_tags, self.header)
+        self.proto, self.length = (self.header.proto, self.header.length) if self.header else (None, None)
+        self.values = {'proto': self.proto}  # of the fields that someone asked for, and of what is asked for like one
+        self.written = set()  # the fields that got another value
+        self.is_changed = False  # whether one did since someone took it back
 
     def has(self, *fields):
-        return set(fields) <= set(self.places)
+        for field in fields:
+            if field not in self.places:
+                return False
+        return True
 
     def get(self, field):
-        begin, end = self.places[field]
-        return self.tags if field == 'tag' else bytes(self.frame[begin:end])
+        if field not in self.values:
+            self.values[field] = self.read[slice(*self.places[field])]
+        return self.values[field]
 
     def put(self, field, value):
-        """Writes a field in its place, which for all but the tags has a fixed length."""
-        begin, end = self.places[field]
-        if field == 'tag':
-            self.tags = value
-        else:
-            assert len(value) == end - begin
-            self.frame[begin:end] = value
+        """Writes a field, which for all but the tags has a fixed length."""
+        before = self.get(field)
+        if value != before:
+            assert field == 'tag' or len(value) == len(before)
+            self.values[field] = value
+            self.is_changed = True
+            self.written.add(field)
 
-    def whole(self):
-        """The frame with its tags as they are now."""
-        if not self.has('tag'):
-            return bytes(self.frame)
-        begin, end = self.places['tag']
-        return bytes(self.frame[:begin] + self.tags + self.frame[end:])
+    def got(self, field):
+        """Its bytes, or None where it has no such field."""
+        if field in self.values:
+            return self.values[field]
+        return self.get(field) if field in self.places else None
+
+    def laid(self):
+        """The frame with all that was written but tags."""
+        frame = bytearray(self.read)
+        for field in self.written - {'tag'}:
+            frame[slice(*self.places[field])] = self.values[field]
+        return frame
 
     def address(self, field):
-        return ipaddress.ip_address(self.get(field)) if self.has(field) else None
+        return address_of(self.get(field)) if self.has(field) else None
 
     def port(self, field):
         return number(self.get(field)) if self.has(field) else None
 
-    def seen(self):
-        """What clauses see of it: those of src, dst, sport, dport, proto and tag that it has. A tag of None is no tag."""
-        ends = {'src': self.address('src'), 'dst': self.address('dst'), 'sport': self.port('sport'), 'dport': self.port('dport')}
-        found = {name: value for name, value in {**ends, 'proto': self.proto}.items() if value is not None}
-        if self.has('tag'):
-            found['tag'] = number(self.get('tag')[2:4]) & 0xFFF if self.get('tag') else None
-        return found
+
+# Of many packets few addresses differ, and making one takes long.
+address_of = functools.lru_cache(65536)(ipaddress.ip_address)
 
 
-def meets(lead, wanted, found):
-    if lead not in found:
-        return False
+def vlan_of(tags):
+    """Of the outermost tag. None is no tag."""
+    return number(tags[2:4]) & 0xFFF if tags else None
+
+
+# What a clause sees of its field, whose bytes these are, and whether it is met by that.
+SEEN = {'src': address_of, 'dst': address_of, 'sport': number, 'dport': number, 'proto': lambda value: value, 'tag': vlan_of}
+
+
+def meets(lead, wanted, value):
+    seen = SEEN[lead](value)
     if lead in ('src', 'dst'):
-        return found[lead] in wanted
+        return seen in wanted
     if lead in ('sport', 'dport'):
-        return wanted[0] <= found[lead] <= wanted[1]
-    return found[lead] == wanted
+        return wanted[0] <= seen <= wanted[1]
+    return seen == wanted
 
 
-def meets_all(clauses, found):
-    return all(meets(*clause, found) for clause in clauses.items())
+class FirstMet:
+    """Whose clauses a packet meets first. A packet that lacks a field meets no clause on it. Of each field the clauses that a value meets are worked
+    out once, as a number whose bit at a place is set where those at this place are met by it, or say nothing of the field."""
+
+    MOST = 65536
+
+    def __init__(self, clauses):
+        self.all = (1 << len(clauses)) - 1
+        self.wanted = {lead: [each.get(lead, ...) for each in clauses] for lead in SEEN if any(lead in each for each in clauses)}
+        self.known = {lead: {} for lead in self.wanted}
+
+    def met(self, lead, value):
+        known = self.known[lead]
+        if len(known) == self.MOST:
+            known.clear()
+        fits = (wanted is ... or value is not None and meets(lead, wanted, value) for wanted in self.wanted[lead])
+        known[value] = sum(1 << place for place, fit in enumerate(fits) if fit)
+        return known[value]
+
+    def place(self, packet):
+        """Its place, or None where it meets none."""
+        left = self.all
+        for lead, known in self.known.items():
+            value = packet.got(lead)
+            left &= known[value] if value in known else self.met(lead, value)
+        return (left & -left).bit_length() - 1 if left else None
 
 
 # Checksums, RFC 1624: what words changed by is what their sum changes by, so a wrong one stays wrong by the same difference.
 
 
 def adjusted(old, before, after):
-    """The checksum of words that were these and are those."""
-    changed = [(was, now) for was, now in zip(words_of(before), words_of(after), strict=True) if was != now]
-    if not changed:
+    """The checksum of words that were these and are those. A sum of words with end-around carry is that of the whole number modulo 65535, so it's
+    enough to go word by word where that is 0, which 0 and 65535 are alike."""
+    if before == after:
         return old
+    total = ((old ^ 0xFFFF) + number(even(after)) - number(even(before))) % 0xFFFF
+    return total ^ 0xFFFF if total else adjusted_by_words(old, before, after)
+
+
+def adjusted_by_words(old, before, after):
+    changed = [(was, now) for was, now in zip(words_of(before), words_of(after), strict=True) if was != now]
     total = (old ^ 0xFFFF) + sum((was ^ 0xFFFF) + now for was, now in changed)
     while total > 0xFFFF:
         total = total % 65536 + total // 65536
     return total ^ 0xFFFF
 
 
+def even(data):
+    """A last odd byte is the high one of a word whose low one is 0."""
+    return data + b'\0' if len(data) % 2 else data
+
+
 def words_of(data):
-    """Words of 16 bits. A last odd byte is the high one of a word whose low one is 0."""
-    return struct.unpack(f'>{(len(data) + 1) // 2}H', data + b'\0' * (len(data) % 2))
+    """Words of 16 bits."""
+    return struct.unpack(f'>{(len(data) + 1) // 2}H', even(data))
 
 
-def seal(before, packet):
-    """Adjusts the checksums of a packet that was this frame, but for its tags, of which no checksum knows."""
-    after, header = packet.frame, header_of(before)
-    if header is None:
-        return
+def sealed(packet):
+    """The frame with what was written into it, its checksums adjusted. Of tags, which are put in last, no checksum knows."""
+    frame = packet.laid()
+    if packet.header is not None:
+        adjust_sums(packet, frame)
+    begin, end = packet.places.get('tag', (0, 0))
+    return bytes(frame[:begin]) + packet.get('tag') + bytes(frame[end:]) if 'tag' in packet.written else bytes(frame)
+
+
+def adjust_sums(packet, after):
+    """Of a frame that was read as that of the packet, and is this one now."""
+    before, header = packet.read, packet.header
     if header.version == 4 and header.begin + 12 <= len(before):
         fixed = slice(header.begin, header.begin + 20)
         put_sum(after, header.begin + 10, adjusted(sum_at(before, header.begin + 10), before[fixed], bytes(after[fixed])))
@@ -207,8 +266,9 @@ def seal(before, packet):
     old = sum_at(before, at)
     if at + 2 > header.end or (packet.proto == UDP and old == 0):
         return
-    covered = [slice(*packet.places[field]) for field in ('src', 'dst', 'sport', 'dport', 'payload') if packet.has(field)]
-    was, now = (b''.join(frame[part] for part in covered) for frame in (before, bytes(after)))
+    # A field that nobody wrote changes no sum, and all but the last have whole words.
+    covered = [slice(*packet.places[field]) for field in ('src', 'dst', 'sport', 'dport', 'payload') if field in packet.written]
+    was, now = (b''.join(frame[part] for part in covered) for frame in (before, after))
     new = adjusted(old, was, now)
     put_sum(after, at, 0xFFFF if packet.proto == UDP and new == 0 and was != now else new)
 
@@ -221,17 +281,56 @@ def put_sum(frame, at, value):
     frame[at : at + 2] = value.to_bytes(2, 'big')
 
 
+@functools.lru_cache(65536)
 def told(address):
-    """An address as a report tells it: that of IPv6 as eight groups, none of them left out."""
-    return str(address) if address.version == 4 else ':'.join(f'{group:x}' for group in words_of(address.packed))
+    """The bytes of an address as a report tells it: that of IPv6 as eight groups, none of them left out."""
+    return '.'.join(map(str, address)) if len(address) == 4 else ':'.join(f'{group:x}' for group in words_of(address))
 
 
 # The kinds. Each is made of what its lines say. Its step is true where the packet passes, and its lines tell its state in
 # the order of first sight.
 
 
+class Cause(typing.NamedTuple):
+    """Why a function did what it did with a packet."""
+
+    reason: str
+    lines: tuple = ()  # of the policy, those that decided
+
+
+# The reasons. Behind the first three stand lines, but for a default that no line tells.
+RULE, DEFAULT, PATTERN = 'rule', 'default', 'pattern'
+NO_PORT, NOBODY, NO_TOKENS, NO_HOPS = 'no port left', 'a port that nobody has', 'no tokens', 'time to live'
+NOTHING = Cause('nothing')
+
+
+class Function:
+    """What all kinds have: the cause of the last step, where it is told."""
+
+    cause = NOTHING
+
+    def lines(self):
+        return []
+
+    def take(self, place):
+        """The value of the rule at this place, which decides, or None where there is none."""
+        self.cause = NOTHING if place is None else self.causes[place]
+        return None if place is None else self.rules[place]
+
+    def drop(self, reason):
+        """A packet is dropped, for a reason that isn't a line."""
+        self.cause = Cause(reason)
+        return False
+
+
 def all_of(said, *lead):
-    return [value for name, value in said if name == lead]
+    return [setting.value for setting in said if setting.lead == lead]
+
+
+def rules_of(said, reason=RULE):
+    """The rules, and beside them the cause that each is."""
+    rules = [setting for setting in said if setting.lead[0] == 'rule']
+    return rules, [Cause(reason, (setting.number,)) for setting in rules]
 
 
 def only(said, *lead):
@@ -239,83 +338,91 @@ def only(said, *lead):
     return value
 
 
-class Firewall:
+class Firewall(Function):
     def __init__(self, said):
         self.default = [*all_of(said, 'set', 'default'), True][0]
-        self.rules = [(lead[1] == 'allow', value) for lead, value in said if lead[0] == 'rule']
+        self.by_default = Cause(DEFAULT, tuple(setting.number for setting in said if setting.lead == ('set', 'default')))
+        rules, self.causes = rules_of(said)
+        self.rules = [setting.lead[1] == 'allow' for setting in rules]
+        self.first = FirstMet([setting.value for setting in rules])
 
     def step(self, packet):
-        found = packet.seen()
-        return next((allow for allow, clauses in self.rules if meets_all(clauses, found)), self.default)
+        place = self.first.place(packet)
+        if place is not None:
+            return self.take(place)
+        self.cause = self.by_default
+        return self.default
 
-    def lines(self):
-        return []
 
-
-class Nat:
+class Nat(Function):
     def __init__(self, said):
-        self.inside, self.public, self.ports = (only(said, 'set', key) for key in ('inside', 'public', 'ports'))
+        inside, public, self.ports = (only(said, 'set', key) for key in ('inside', 'public', 'ports'))
+        self.inside, self.public = FirstMet([{'src': inside}]), public.packed
         self.port_of = {}  # by protocol, address and port of an endpoint inside
         self.endpoint_of = {}  # by protocol and public port
 
     def step(self, packet):
-        if not packet.has('src', 'dst', 'sport', 'dport') or packet.address('src').version == 6:
+        self.cause = NOTHING
+        if not packet.has('src', 'dst', 'sport', 'dport') or packet.header.version == 6:
             return True
-        if packet.address('src') in self.inside:
+        if self.inside.place(packet) is not None:
             return self.leave(packet)
-        if packet.address('dst') == self.public:
+        if packet.get('dst') == self.public:
             return self.come(packet)
         return True
 
     def leave(self, packet):
-        endpoint = packet.proto, packet.address('src'), packet.port('sport')
+        endpoint = packet.proto, packet.get('src'), packet.get('sport')
         if endpoint not in self.port_of:
             low, high = self.ports
             if len(self.port_of) == high - low + 1:
-                return False
-            self.port_of[endpoint] = low + len(self.port_of)
+                return self.drop(NO_PORT)
+            self.port_of[endpoint] = (low + len(self.port_of)).to_bytes(2, 'big')
             self.endpoint_of[packet.proto, self.port_of[endpoint]] = endpoint
-        packet.put('src', self.public.packed)
-        packet.put('sport', self.port_of[endpoint].to_bytes(2, 'big'))
+        packet.put('src', self.public)
+        packet.put('sport', self.port_of[endpoint])
         return True
 
     def come(self, packet):
-        if (packet.proto, packet.port('dport')) not in self.endpoint_of:
-            return False
-        _, address, port = self.endpoint_of[packet.proto, packet.port('dport')]
-        packet.put('dst', address.packed)
-        packet.put('dport', port.to_bytes(2, 'big'))
+        if (packet.proto, packet.get('dport')) not in self.endpoint_of:
+            return self.drop(NOBODY)
+        _, address, port = self.endpoint_of[packet.proto, packet.get('dport')]
+        packet.put('dst', address)
+        packet.put('dport', port)
         return True
 
     def lines(self):
-        return [f'map {proto} {address} {port} port {public}' for (proto, address, port), public in self.port_of.items()]
+        told_all = ((proto, told(address), number(port), number(public)) for (proto, address, port), public in self.port_of.items())
+        return [f'map {proto} {address} {port} port {public}' for proto, address, port, public in told_all]
 
 
-class Balancer:
+class Balancer(Function):
     def __init__(self, said):
-        self.virtual = only(said, 'set', 'vip')
-        self.backends = all_of(said, 'rule', 'backend')
-        self.backend_of = {}  # by protocol, source and source port
+        self.virtual = only(said, 'set', 'vip').packed
+        backends, self.causes = rules_of(said)
+        self.rules = [setting.value.packed for setting in backends]
+        self.place_of = {}  # of the backend, by protocol, source and source port
 
     def step(self, packet):
-        if packet.has('src', 'sport', 'dst') and packet.address('dst') == self.virtual:
-            flow = packet.proto, packet.address('src'), packet.port('sport')
-            backend = self.backend_of.setdefault(flow, self.backends[len(self.backend_of) % len(self.backends)])
-            packet.put('dst', backend.packed)
+        self.cause = NOTHING
+        if packet.has('src', 'sport', 'dst') and packet.get('dst') == self.virtual:
+            flow = packet.proto, packet.get('src'), packet.get('sport')
+            place = self.place_of.setdefault(flow, len(self.place_of) % len(self.rules))
+            packet.put('dst', self.take(place))
         return True
 
     def lines(self):
-        flows = self.backend_of.items()
-        return [f'flow {proto} {told(source)} {port} backend {told(backend)}' for (proto, source, port), backend in flows]
+        flows = self.place_of.items()
+        return [f'flow {proto} {told(source)} {number(port)} backend {told(self.rules[place])}' for (proto, source, port), place in flows]
 
 
-class Monitor:
+class Monitor(Function):
     def __init__(self, said):
         self.counts = {}  # packets and bytes, by protocol, source and destination, an absent port as None
 
     def step(self, packet):
         if packet.proto is not None and packet.length is not None and packet.has('src', 'dst'):
-            flow = packet.proto, packet.address('src'), packet.port('sport'), packet.address('dst'), packet.port('dport')
+            flow = packet.proto, packet.get('src'), packet.got('sport'), packet.get('dst'), packet.got('dport')
             packets, total = self.counts.get(flow, (0, 0))
             self.counts[flow] = packets + 1, total + packet.length
         return True
@@ -325,11 +432,11 @@ class Monitor:
 
 
 def flow_words(proto, source, source_port, destination, destination_port):
-    ports = ['-' if port is None else port for port in (source_port, destination_port)]
+    ports = ['-' if port is None else number(port) for port in (source_port, destination_port)]
     return f'{proto} {told(source)} {ports[0]} {told(destination)} {ports[1]}'
 
 
-class Limiter:
+class Limiter(Function):
     """A token is what a rate of one byte a second brings in a nanosecond."""
 
     BYTE = 1_000_000_000
@@ -339,78 +446,85 @@ class Limiter:
         self.buckets = {}  # tokens and their moment, by source
 
     def step(self, packet):
+        self.cause = NOTHING
         if not packet.has('src') or packet.length is None:
             return True
-        source, cost = packet.address('src'), packet.length * self.BYTE
+        source, cost = packet.get('src'), packet.length * self.BYTE
         tokens, moment = self.buckets.get(source, (self.most, packet.time))
         if packet.time > moment:
             tokens, moment = min(self.most, tokens + (packet.time - moment) * self.rate), packet.time
         passes = tokens >= cost
         self.buckets[source] = tokens - cost if passes else tokens, moment
-        return passes
+        return passes or self.drop(NO_TOKENS)
 
     def lines(self):
         return [f'source {told(source)} tokens {tokens} at {moment}' for source, (tokens, moment) in self.buckets.items()]
 
 
-class Stateless:
+class Stateless(Function):
     """A kind that remembers nothing, made of its rules."""
 
     def __init__(self, said):
-        self.rules = [value for lead, value in said if lead[0] == 'rule']
-
-    def lines(self):
-        return []
+        rules, self.causes = rules_of(said, PATTERN if isinstance(self, Signature) else RULE)
+        self.rules = [setting.value for setting in rules]
+        if isinstance(self, (Marker, Tagger)):
+            self.first = FirstMet([value[-1] for value in self.rules])
+        if isinstance(self, Nexthop):
+            self.first = FirstMet([{'dst': value[0]} for value in self.rules])
 
 
 class Signature(Stateless):
     def step(self, packet):
-        return not packet.has('payload') or not any(pattern in packet.get('payload') for pattern in self.rules)
+        payload = packet.get('payload') if packet.has('payload') else b''
+        return self.take(next((place for place, pattern in enumerate(self.rules) if pattern in payload), None)) is None
 
 
 class Marker(Stateless):
     def step(self, packet):
-        value = next((value for value, clauses in self.rules if meets_all(clauses, packet.seen())), None)
-        if packet.has('tos') and value is not None:
-            packet.put('tos', bytes([value]))
+        rule = self.take(self.first.place(packet) if packet.has('tos') else None)
+        if rule is not None:
+            packet.put('tos', bytes([rule[0]]))
         return True
 
 
 class Nexthop(Stateless):
     def step(self, packet):
-        if packet.has('dst', 'link-dst', 'link-src'):
-            for prefix, to, sender in self.rules:
-                if packet.address('dst') in prefix:
-                    packet.put('link-dst', to)
-                    packet.put('link-src', sender)
-                    break
+        rule = self.take(self.first.place(packet) if packet.has('dst', 'link-dst', 'link-src') else None)
+        if rule is not None:
+            _, to, sender = rule
+            packet.put('link-dst', to)
+            packet.put('link-src', sender)
         return True
 
 
 class Hop(Stateless):
     def step(self, packet):
+        self.cause = NOTHING
         if not packet.has('ttl'):
             return True
         left = number(packet.get('ttl'))
         if left > 1:
             packet.put('ttl', bytes([left - 1]))
-        return left > 1
+        return left > 1 or self.drop(NO_HOPS)
 
 
 class Redactor(Stateless):
     def step(self, packet):
+        self.cause = NOTHING
         if packet.has('payload'):
-            payload = packet.get('payload')
-            for pattern in self.rules:
+            payload, found = packet.get('payload'), ()
+            for pattern, (_, lines) in zip(self.rules, self.causes):
+                found += lines if pattern in payload else ()
                 payload = payload.replace(pattern, b'x' * len(pattern))
             packet.put('payload', payload)
+            self.cause = Cause(RULE, found) if found else NOTHING
         return True
 
 
 class Tagger(Stateless):
     def step(self, packet):
-        rule = next((rule for rule in self.rules if meets_all(rule[2], packet.seen())), None)
-        if packet.has('tag') and rule is not None:
+        rule = self.take(self.first.place(packet) if packet.has('tag') else None)
+        if rule is not None:
             vlan, priority, _ = rule
             packet.put('tag', struct.pack('>HH', VLAN_TAG, priority * 8192 + vlan) + packet.get('tag'))
         return True
@@ -448,23 +562,28 @@ class Chain:
         self.kinds = {each.name: each.kind for each in policy.functions}
         self.functions = {each.name: KINDS[each.kind](policy_rules.read_settings(each)) for each in policy.functions}
         self.copies = dict.fromkeys(policy_rules.FIELDS, 0)
-        self.stages = policy_rules.stages_of([self.kinds[name] for name in order])
+        kinds = [self.kinds[name] for name in order]
+        stages = policy_rules.stages_of(kinds)
+        self.stages = [{order[place] for branch in stage for place in branch} for stage in stages]
+        self.copied = [copied_in([[kinds[place] for place in branch] for branch in stage]) for stage in stages]
 
-    def walk(self, packet):
-        """The name of the function that drops the packet, which is written, or None."""
+    def walk(self, packet, look=None):
+        """The name of the function that drops the packet, which is written, or None. Who looks is told what each function did."""
         for name in self.order:
-            if not self.functions[name].step(packet):
+            function = self.functions[name]
+            passes = function.step(packet)
+            if look:
+                look(name, function.cause, passes, packet)
+            if not passes:
                 return name
         return None
 
     def count_copies(self, packet, drop):
         """A copy is made when a packet enters a stage, which it does up to the one in which it is dropped."""
-        for stage in self.stages:
-            kinds = [[self.kinds[self.order[place]] for place in branch] for branch in stage]
-            for field in packet.places:
-                part = policy_rules.part_of(field, kinds) or ''
-                self.copies[field] += int(part.removeprefix('copied ')) if part.startswith('copied') else 0
-            if drop in [self.order[place] for branch in stage for place in branch]:
+        for stage, copied in zip(self.stages, self.copied):
+            for field, count in copied.items():
+                self.copies[field] += count if field in packet.places else 0
+            if drop in stage:
                 break
 
     def report(self):
@@ -473,22 +592,36 @@ class Chain:
             yield from (f'  {line}' for line in self.functions[name].lines())
 
 
+def copied_in(stage):
+    """How many copies a packet costs that enters this stage, by the fields of which there are any, if it has them."""
+    parts = {field: policy_rules.part_of(field, stage) or '' for field in policy_rules.FIELDS}
+    return {field: int(part.removeprefix('copied ')) for field, part in parts.items() if part.startswith('copied ')}
+
+
 class Fate(typing.NamedTuple):
     chain: typing.Optional[str]  # the chain that takes the packet, or None
     drop: typing.Optional[str]  # the function that drops it, or None
     frame: bytes  # as it goes out, or would but for the drop
 
 
-def fate_of(chains, frame, time):
-    """The first chain of the text whose clauses the frame meets, as it was read, takes it; else it passes as it is."""
-    packet = Packet(frame, time)
-    for chain in chains:
-        if meets_all(chain.clauses, packet.seen()):
-            drop = chain.walk(packet)
-            chain.count_copies(packet, drop)
-            seal(frame, packet)
-            return Fate(chain.name, drop, packet.whole())
-    return Fate(None, None, frame)
+class Chains:
+    """The chains of a policy, in the order of the text."""
+
+    def __init__(self, checked):
+        self.all = [Chain(chain, order) for chain, order in checked]
+        self.first = FirstMet([chain.clauses for chain in self.all])
+        self.taggers = [kind for chain in self.all for kind in chain.kinds.values()].count('tagger')
+
+    def fate(self, frame, time, look=None):
+        """The first chain whose clauses the frame meets, as it was read, takes it; else it passes as it is."""
+        packet = Packet(frame, time)
+        place = self.first.place(packet)
+        if place is None:
+            return Fate(None, None, frame)
+        chain = self.all[place]
+        drop = chain.walk(packet, look)
+        chain.count_copies(packet, drop)
+        return Fate(chain.name, drop, sealed(packet) if packet.written else frame)
 
 
 class Answer(typing.NamedTuple):
@@ -524,13 +657,17 @@ def answer(policy, data):
     fault = capture.fault and f'capture: {capture.fault}'
     if capture.is_refused:
         return nothing_but(fault, 3)
-    chains = [Chain(chain, order) for chain, order in checked]
-    taggers = [function.kind for chain, _ in checked for function in chain.functions].count('tagger')
-    fates = [fate_of(chains, record.frame, record.time) for record in capture.records]
+    chains = Chains(checked)
+    fates = [chains.fate(record.frame, record.time) for record in capture.records]
+    return answered(chains, capture, fates, fault)
+
+
+def answered(chains, capture, fates, fault):
+    """What is written where these are the fates of the packets that stand before the fault of a capture, where it has any."""
     emitted = [fate.frame if fate.drop is None else None for fate in fates]
     dropped = emitted.count(None)
     total = f'records {len(fates)} emitted {len(fates) - dropped} dropped {dropped}'
-    report = ''.join(f'{line}\n' for line in report_of(chains, fates, total, fault))
+    report = ''.join(f'{line}\n' for line in report_of(chains.all, fates, total, fault))
     # There has to be room for a tag of each tagger.
-    out = capture_rules.written(capture, emitted, 4 * taggers)
+    out = capture_rules.written(capture, emitted, 4 * chains.taggers)
     return Answer([record.frame for record in capture.records], fates, out, report, fault or f'done {total}', 3 if fault else 0)

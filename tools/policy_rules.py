@@ -377,30 +377,37 @@ COMPLETE = {'nat', 'balancer', 'limiter'}
 
 
 def backends_apart(said):
-    """The places of the backends that aren't of the version of the virtual address, which is that of its first line that can be read."""
-    virtual = next((value for lead, value in said if lead == ('set', 'vip')), None)
-    for place, (lead, value) in enumerate(said):
+    """The lines of the backends that aren't of the version of the virtual address, which is that of its first line that can be read."""
+    virtual = next((setting.value for setting in said if setting.lead == ('set', 'vip')), None)
+    for number, lead, value in said:
         if lead == ('rule', 'backend') and virtual is not None and value.version != virtual.version:
-            yield place
+            yield number
+
+
+class Setting(typing.NamedTuple):
+    """What a line of a function says."""
+
+    number: int  # of the line
+    lead: tuple  # the words with which it begins
+    value: typing.Any
 
 
 def read_settings(function):
-    """What the lines of a function say, each as the words with which it begins and its value, or the least line that it refuses."""
+    """What the lines of a function say, or the least line that it refuses."""
     forms = LINES[function.kind]
-    said, numbers, refused, keys = [], [], [], set()
+    said, refused, keys = [], [], set()
     for number, words in function.settings:
         lead = tuple(words[:2]) if tuple(words[:2]) in forms else tuple(words[:1])
         try:
-            said.append((lead, forms[lead](words[len(lead) :])))
-            numbers.append(number)
+            said.append(Setting(number, lead, forms[lead](words[len(lead) :])))
         except (KeyError, ValueError, Misfit):
             refused.append(number)
         if words[0] == 'set':
             refused += [number] if words[1] in keys else []
             keys.add(words[1])
     if function.kind == 'balancer':
-        refused += [numbers[place] for place in backends_apart(said)]
-    if function.kind in COMPLETE and {lead for lead, _ in said} != set(forms):
+        refused += backends_apart(said)
+    if function.kind in COMPLETE and {setting.lead for setting in said} != set(forms):
         refused.append(function.line)
     if refused:
         raise Refused(f'line {min(refused)}: bad setting')
