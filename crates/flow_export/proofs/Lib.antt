@@ -1,0 +1,4 @@
+pub mod Carrying
+pub mod Rows
+pub mod Sending
+pub mod Splitting

@@ -1,0 +1,11 @@
+use Rattle.std.proofs.Common.{◌≡◌, ◌≢◌, ◌≤◌, ◌*◌, All, drop}
+use Rattle.nfp_outside.specs.declared.slot.Slot.{Slot}
+use Rattle.nfp_outside.specs.declared.slot.Slot.TheVariants.{Out}
+use Rattle.nfp_outside.specs.Outside.{Appends}
+use Rattle.flow_export.specs.Exports.{FitsVersion, exported}
+use Rattle.flow_export.proofs.Sending.{AreSent}
+use Rattle.flow_export.proofs.packets.send.Given as goal
+
+-- the packets so far stand in Out
+abbrev pub invariant-packets : goal.invariant-packets
+invariant-packets g l = AreSent l.span l.lines (g.D.Desk.slots l.fn.desk) (g.D.Desk.slots l.desk) l.number l.rest

@@ -1,0 +1,20 @@
+//! What is counted of a flow.
+use crate::key::FlowKey;
+
+/// What is counted of a flow. Moments are nanoseconds since 1970.
+#[derive(Clone, Copy, PartialEq, Eq, Debug)]
+pub struct FlowLine {
+    pub key: FlowKey,
+    /// Its packets, up to the largest number of 64 bits.
+    pub packets: u64,
+    /// The sum of their IP lengths, up to the same.
+    pub bytes: u64,
+    /// The number of its first record in the capture, from 1.
+    pub first: u32,
+    /// The time of its first record.
+    pub begun: u64,
+    /// The time of its last record in the capture, which may be earlier.
+    pub last: u64,
+    /// The bitwise or of its TCP flags (RFC 793, 3.1).
+    pub flags: u8,
+}
