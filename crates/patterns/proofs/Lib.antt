@@ -3,4 +3,5 @@ pub mod OneByOne
 pub mod Overwriting
 pub mod Reading
 pub mod Rows
+pub mod Sieving
 pub mod Standing

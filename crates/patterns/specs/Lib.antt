@@ -3,4 +3,5 @@ pub mod Lengths
 pub mod Lines
 pub mod Occurrences
 pub mod Overwriting
+pub mod Sieving
 pub mod Steps

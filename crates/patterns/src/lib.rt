@@ -19,11 +19,14 @@
 mod laws;
 mod line;
 mod pattern;
+mod set;
 mod several;
+mod sieve;
 
 pub use laws::{
     a_pattern_occurs_where_it_stands, overwriting_goes_from_occurrence_to_occurrence,
     overwritten_patterns_are_gone,
 };
 pub use pattern::Pattern;
+pub use set::PatternSet;
 pub use several::{first_occurring, redact};
