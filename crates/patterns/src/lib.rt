@@ -11,9 +11,9 @@
 //! they give is pinned by `occurs` of `specs/Occurrences.antt` and `redacted` of `specs/Overwriting.antt`.
 //!
 //! A set is made once and shared by its owners. The patterns of a small one are looked for one after another. One of eight patterns or
-//! more has a sieve: a pass over the payload looks four bytes of it up at each so many places, and tells which few patterns may occur, so
-//! that the others aren't looked for. That it never leaves one out is `catches` of `proofs/Sieving.antt`. Patterns of less than four bytes
-//! are always looked for.
+//! more has a sieve: a pass over the payload looks four bytes of it up at each so many places, or three or two where most patterns are
+//! that short, and tells which few patterns may occur, so that the others aren't looked for. That it never leaves one out is `catches` of
+//! `proofs/Sieving.antt`.
 //!
 //! In other words than these: [`a_pattern_occurs_where_it_stands`], [`overwriting_goes_from_occurrence_to_occurrence`] and
 //! [`overwritten_patterns_are_gone`].
@@ -27,6 +27,7 @@ mod pattern;
 mod set;
 mod several;
 mod sieve;
+mod width;
 
 pub use laws::{
     a_pattern_occurs_where_it_stands, overwriting_goes_from_occurrence_to_occurrence,
