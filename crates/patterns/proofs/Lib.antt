@@ -5,3 +5,4 @@ pub mod Reading
 pub mod Rows
 pub mod Sieving
 pub mod Standing
+pub mod Windows

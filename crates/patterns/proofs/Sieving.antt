@@ -1,5 +1,5 @@
 -- What a table of windows tells of a payload.
-use Rattle.std.proofs.Common.{◌≡◌, ◌<◌, ◌≤◌, ◌+◌, ◌-◌, ◌*◌, ◌/◌, ◌%◌, ◌^◌, ◌∙◌, ◌⊎◌, ℕ, List, [], length, get_or, set, min, sym, ap, subst, true, false, inl, inr, arith, get_or-set_same, get_or-set_other, bit_and, bit_or}
+use Rattle.std.proofs.Common.{◌≡◌, ◌<◌, ◌≤◌, ◌+◌, ◌-◌, ◌*◌, ◌/◌, ◌%◌, ◌^◌, ◌∙◌, ◌⊎◌, ℕ, List, [], length, get_or, set, sym, ap, subst, true, false, inl, inr, arith, get_or-set_same, get_or-set_other, bit_and, bit_or}
 use Rattle.std.specs.Prelude.{slice_index}
 use Rattle.std.specs.Int.{bit_at, w64}
 use Rattle.std.specs.Int.Bits.{or_zero_l}
@@ -9,7 +9,10 @@ use Rattle.std.proofs.lemmas.List.{get_or_default}
 use Rattle.memchr.specs.Find.{OccursAt}
 use Rattle.patterns.specs.Occurrences.{occurs}
 use Rattle.patterns.specs.declared.sieve.Sieve.{Sieve}
-use Rattle.patterns.specs.Sieving.{window_at, near_slot, far_slot, groups_of, Grows, HasWindows, IsMarked, IsSieveOf, Tells, HasAll}
+use Rattle.patterns.specs.Sieving.{near_slot, far_slot, groups_of, Grows, IsMarked, IsSieveOf, Tells, HasAll}
+use Rattle.patterns.specs.Windows.{window_at}
+use Rattle.patterns.specs.declared.width.Width.{Width}
+use Rattle.patterns.proofs.Windows.{same_window, some_bytes}
 use Rattle.patterns.proofs.Standing.{stands, standing_at}
 
 -- bits of words
@@ -76,16 +79,16 @@ window_stays old new window group grows h =
     and_of (slice_index new (near_slot window)) (slice_index new (far_slot window)) group (grows.stays (near_slot window) group parts.0) (grows.stays (far_slot window) group parts.1)
 
 -- a pattern that is marked, where more is marked
-pub marked_stays : (stride short more : ℕ) (old new pattern : List ℕ) (group : ℕ) → Grows old new → IsMarked stride short old pattern group → IsMarked stride (bit_or short more) new pattern group
-marked_stays stride short more old new pattern group grows (inl h) = inl (or_keeps short more group h)
-marked_stays stride short more old new pattern group grows (inr marked) = inr (record {
+pub marked_stays : (width : Width) (stride short more : ℕ) (old new pattern : List ℕ) (group : ℕ) → Grows old new → IsMarked width stride short old pattern group → IsMarked width stride (bit_or short more) new pattern group
+marked_stays width stride short more old new pattern group grows (inl h) = inl (or_keeps short more group h)
+marked_stays width stride short more old new pattern group grows (inr marked) = inr (record {
   long = marked.long;
-  each = λ offset within. window_stays old new (window_at pattern offset) group grows (marked.each offset within);
+  each = λ offset within. window_stays old new (window_at width pattern offset) group grows (marked.each offset within);
 })
 
-pub marked_now : (stride short more : ℕ) (table pattern : List ℕ) (group : ℕ) → IsMarked stride more table pattern group → IsMarked stride (bit_or short more) table pattern group
-marked_now stride short more table pattern group (inl h) = inl (or_adds short more group h)
-marked_now stride short more table pattern group (inr marked) = inr marked
+pub marked_now : (width : Width) (stride short more : ℕ) (table pattern : List ℕ) (group : ℕ) → IsMarked width stride more table pattern group → IsMarked width stride (bit_or short more) table pattern group
+marked_now width stride short more table pattern group (inl h) = inl (or_adds short more group h)
+marked_now width stride short more table pattern group (inr marked) = inr marked
 
 pub grows_on : (old middle new : List ℕ) → Grows old middle → Grows middle new → Grows old new
 grows_on old middle new first second = record { stays = λ slot group h. second.stays slot group (first.stays slot group h) }
@@ -103,23 +106,12 @@ turn_near stride place some =
     let left : all % stride < stride = omega arith in
     record { turn = all / stride; behind = omega arith; near = omega arith }
 
--- an occurrence has the pattern's windows
-same_window : (pattern payload : List ℕ) (place offset : ℕ) → OccursAt payload pattern place → offset + 3 < length pattern → window_at payload (place + offset) ≡ window_at pattern offset
-unfolding window_at
-same_window pattern payload place offset at within =
-    let byte = λ (j : ℕ) (below : offset + j < length pattern) (same : place + offset + j ≡ place + (offset + j)). ap (slice_index payload) same ∙ at.reads (offset + j) below in
-    let first = at.reads offset (omega arith) in
-    let second = byte 1 (omega arith) (omega arith) in
-    let third = byte 2 (omega arith) (omega arith) in
-    let fourth = byte 3 (omega arith) (omega arith) in
-    cc
-
 -- the groups that a pass tells have each pattern that occurs
-pub catches : (stride short : ℕ) (table payload : List ℕ) (patterns : List (List ℕ)) (groups : ℕ) → 0 < stride → IsSieveOf stride short table patterns → Tells stride short table payload groups →
+pub catches : (width : Width) (stride short : ℕ) (table payload : List ℕ) (patterns : List (List ℕ)) (groups : ℕ) → 0 < stride → IsSieveOf width stride short table patterns → Tells width stride short table payload groups →
     HasAll patterns payload groups
-catches stride short table payload patterns groups some sieve told = record { each = λ place within there. caught (get_or patterns place []) (place % 64) there (sieve.each place within) }
+catches width stride short table payload patterns groups some sieve told = record { each = λ place within there. caught (get_or patterns place []) (place % 64) there (sieve.each place within) }
   where
-    caught : (pattern : List ℕ) (group : ℕ) → occurs pattern payload ≡ true → IsMarked stride short table pattern group → bit_at groups group ≡ 1
+    caught : (pattern : List ℕ) (group : ℕ) → occurs pattern payload ≡ true → IsMarked width stride short table pattern group → bit_at groups group ≡ 1
     caught pattern group there (inl h) = told.always group h
     caught pattern group there (inr marked) =
         let found = stands pattern payload there in
@@ -129,15 +121,16 @@ catches stride short table payload patterns groups some sieve told = record { ea
         let offset = t.turn * stride - place in
         let fits = at.fits in
         let long = marked.long in
+        let wide = some_bytes width in
         let behind = t.behind in
         let near = t.near in
         let same : place + offset ≡ t.turn * stride = omega arith in
-        let window : window_at payload (t.turn * stride) ≡ window_at pattern offset = ap (window_at payload) (sym same) ∙ same_window pattern payload place offset at (omega arith) in
+        let window : window_at width payload (t.turn * stride) ≡ window_at width pattern offset = ap (window_at width payload) (sym same) ∙ same_window pattern payload place offset at width (omega arith) in
         told.seen t.turn group (omega arith) (ap (λ w. bit_at (groups_of table w) group) window ∙ marked.each offset (omega arith))
 
-pub same_sieve : (one other : Sieve) (patterns same : List (List ℕ)) → one ≡ other → patterns ≡ same → IsSieveOf one.stride one.short one.table.items patterns → IsSieveOf other.stride other.short other.table.items same
+pub same_sieve : (one other : Sieve) (patterns same : List (List ℕ)) → one ≡ other → patterns ≡ same → IsSieveOf one.width one.stride one.short one.table.items patterns → IsSieveOf other.width other.stride other.short other.table.items same
 same_sieve one other patterns same is_other is_same sieve =
-    subst (λ l. IsSieveOf other.stride other.short other.table.items l) is_same (subst (λ s. IsSieveOf s.stride s.short s.table.items patterns) is_other sieve)
+    subst (λ l. IsSieveOf other.width other.stride other.short other.table.items l) is_same (subst (λ s. IsSieveOf s.width s.stride s.short s.table.items patterns) is_other sieve)
 
 -- an element by its place
 pub element_there : (patterns : List (List ℕ)) (place : ℕ) (pattern : List ℕ) → place < length patterns → pattern ≡ get_or patterns place pattern → pattern ≡ get_or patterns place []

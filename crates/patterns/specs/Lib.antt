@@ -5,3 +5,4 @@ pub mod Occurrences
 pub mod Overwriting
 pub mod Sieving
 pub mod Steps
+pub mod Windows

@@ -29,7 +29,7 @@ impl Model for PatternSet {
 
     ghost view = { λ s. s.patterns };
 
-    ghost invariant = { λ s. IfSome s.sieve (λ sieve. IsSieveOf (arc_value sieve).stride (arc_value sieve).short (arc_value sieve).table.items s.patterns) };
+    ghost invariant = { λ s. IfSome s.sieve (λ sieve. IsSieveOf (arc_value sieve).width (arc_value sieve).stride (arc_value sieve).short (arc_value sieve).table.items s.patterns) };
 }
 
 impl PatternSet {
@@ -85,7 +85,7 @@ ghost use Rattle.patterns.specs.Sieving.{IsSieveOf, HasAll};
 
 /// The sieve of many patterns.
 fn sieve_of(alloc: Global, patterns: &[Pattern]) -> Result<Option<Arc<Sieve>>, AllocError>
-    ensures { IfOk result (λ made. IfSome made (λ sieve. IsSieveOf (arc_value sieve).stride (arc_value sieve).short (arc_value sieve).table.items patterns.now)) }
+    ensures { IfOk result (λ made. IfSome made (λ sieve. IsSieveOf (arc_value sieve).width (arc_value sieve).stride (arc_value sieve).short (arc_value sieve).table.items patterns.now)) }
 {
     if patterns.len() < MANY {
         return Ok(None);

@@ -1,21 +1,23 @@
 //! Which of many patterns may occur in a payload, found in one pass over it.
 //!
-//! Patterns are in 64 groups, each of which is a bit of a word. Four bytes in a row are a window, and a table has in each of two words,
-//! which a window's two hashes name, the bits of the groups with that window in a pattern: a Bloom filter for each group. Of a pattern the
-//! windows at its first places are marked, as many as a stride. An occurrence has one of these at a place that the stride divides, so that
-//! a pass looks at those places alone.
-ghost use Rattle.std.specs.Prelude.{◌≡◌, ◌+◌, ◌*◌, ◌<◌, ◌≤◌, ℕ, length, slice_index};
+//! Patterns are in 64 groups, each of which is a bit of a word. Two to four bytes in a row are a window, and a table has in each of two
+//! words, which a window's two hashes name, the bits of the groups with that window in a pattern: a Bloom filter for each group. Of a
+//! pattern the windows at its first places are marked, as many as a stride. An occurrence has one of these at a place that the stride
+//! divides, so that a pass looks at those places alone.
+ghost use Rattle.std.specs.Prelude.{◌≡◌, ◌+◌, ◌*◌, ◌<◌, ◌≤◌, ℕ, length, slice_index, count_by, nat_lt};
 ghost use Rattle.std.specs.Int.{bit_at};
-ghost use Rattle.patterns.specs.Sieving.{window_at, near_slot, far_slot, groups_of, Grows, HasWindows, IsMarked, IsSieveOf};
+ghost use Rattle.patterns.specs.Sieving.{near_slot, far_slot, groups_of, Grows, HasWindows, IsMarked, IsSieveOf};
+ghost use Rattle.patterns.specs.Windows.{bytes_of, window_at};
 
 use crate::pattern::Pattern;
+use crate::width::Width;
 use std::alloc::{AllocError, Global};
 
 /// How many groups there are: the bits of a word.
 pub(crate) const GROUPS: usize = 64;
 
-/// How many bytes a window has.
-const WINDOW: usize = 4;
+/// How many patterns may be too short for a window, so that they are looked for in any case.
+const FEW: usize = 4;
 
 /// How many words a table has.
 const SLOTS: usize = 4_096;
@@ -29,6 +31,8 @@ const SPREAD: u64 = 2_654_435_761;
 /// The windows of patterns, by which a pass over a payload tells which of them may occur.
 #[derive(Debug, Drop)]
 pub(crate) struct Sieve {
+    /// How many bytes are looked up at each place.
+    width: Width,
     /// How far the places are apart at which a pass looks.
     stride: usize,
     /// The groups with a pattern that is too short for as many windows.
@@ -45,12 +49,14 @@ impl Sieve {
 
     /// The sieve of these patterns.
     pub(crate) fn of(alloc: Global, patterns: &[Pattern]) -> Result<Sieve, AllocError>
-        ensures { IfOk result (λ sieve. IsSieveOf sieve.stride sieve.short sieve.table.items patterns.now) }
+        ensures { IfOk result (λ sieve. IsSieveOf sieve.width sieve.stride sieve.short sieve.table.items patterns.now) }
     {
-        let stride = stride_of(patterns);
+        let width = width_of(patterns);
+        let stride = stride_of(patterns, width);
         let mut table = vec![in alloc; 0; SLOTS]?;
-        let short = mark_all(&mut table, patterns, stride);
+        let short = mark_all(&mut table, patterns, width, stride);
         Ok(Sieve {
+            width,
             stride,
             short,
             table,
@@ -59,83 +65,111 @@ impl Sieve {
 
     /// The groups of which a pattern may occur in the payload.
     pub(crate) fn groups_in(&self, payload: &[u8]) -> u64
-        ensures { Tells self.now.stride self.now.short self.now.table.items payload.now result }
+        ensures { Tells self.now.width self.now.stride self.now.short self.now.table.items payload.now result }
     {
         let table = self.table.as_slice();
-        let stride = self.stride;
+        let (width, stride) = (self.width, self.stride);
         let mut groups = self.short;
-        'turns: for turn in 0..turns(payload.len(), stride) {
-            groups |= groups_of(table, window_at(payload, turn * stride));
+        'turns: for turn in 0..turns(payload.len(), width.bytes(), stride) {
+            groups |= groups_of(table, width.window_at(payload, turn * stride));
         }
         groups
     }
 }
 
-/// At how many places a window lies within this many bytes, which the stride divides.
-fn turns(len: usize, stride: usize) -> usize
-    requires { 0 < stride }
-    ensures within { (turn : ℕ) → turn < result → turn * stride + 4 ≤ len }
-    ensures all { (turn : ℕ) → turn * stride + 4 ≤ len → turn < result }
+/// At how many places that the stride divides a window of this width lies within so many bytes.
+fn turns(len: usize, width: usize, stride: usize) -> usize
+    requires stride { 0 < stride }
+    requires width { 0 < width }
+    ensures within { (turn : ℕ) → turn < result → turn * stride + width ≤ len }
+    ensures all { (turn : ℕ) → turn * stride + width ≤ len → turn < result }
 {
-    if len < WINDOW {
+    if len < width {
         0
     } else {
-        (len - WINDOW) / stride + 1
+        (len - width) / stride + 1
     }
 }
 
-/// The stride at which all patterns with a window are known by it, unless it would be too long.
-fn stride_of(patterns: &[Pattern]) -> usize
+/// The greatest width for which few patterns are too short.
+fn width_of(patterns: &[Pattern]) -> Width {
+    if shorter_than(patterns, 4) <= FEW {
+        Width::Four
+    } else if shorter_than(patterns, 3) <= FEW {
+        Width::Three
+    } else {
+        Width::Two
+    }
+}
+
+fn shorter_than(patterns: &[Pattern], len: usize) -> usize
+    ensures { result ≡ count_by (λ pattern. nat_lt (length pattern) len) patterns.now }
+{
+    patterns
+        .iter()
+        .filter(|pattern| pattern.bytes().len() < len)
+        .count()
+}
+
+/// The stride at which all patterns with a window are known by their windows, unless it would be too long.
+fn stride_of(patterns: &[Pattern], width: Width) -> usize
     ensures some { 0 < result }
     ensures short { result ≤ 8 }
 {
+    let width = width.bytes();
     let mut stride = LONGEST_STRIDE;
     'patterns: for pattern in patterns {
         let len = pattern.bytes().len();
-        if len >= WINDOW {
-            stride = stride.min(len - WINDOW + 1);
+        if len >= width {
+            stride = stride.min(len - width + 1);
         }
     }
     stride
 }
 
 /// Marks the windows of patterns in a table, and tells the groups of those that are too short for as many.
-fn mark_all(table: &mut [u64], patterns: &[Pattern], stride: usize) -> u64
+fn mark_all(table: &mut [u64], patterns: &[Pattern], width: Width, stride: usize) -> u64
     requires full { length table.old ≡ 4096 }
     requires stride { stride ≤ 8 }
-    ensures { IsSieveOf stride result table.new patterns.now }
+    ensures { IsSieveOf width stride result table.new patterns.now }
 {
     let mut short = 0;
     'patterns: for place in 0..patterns.len() {
-        short |= mark_pattern(table, patterns[place].bytes(), stride, place % GROUPS);
+        short |= mark_pattern(
+            table,
+            patterns[place].bytes(),
+            width,
+            stride,
+            place % GROUPS,
+        );
     }
     short
 }
 
 /// Marks the windows of a pattern for its group, or tells the group where it is too short for as many.
-fn mark_pattern(table: &mut [u64], bytes: &[u8], stride: usize, group: usize) -> u64
+fn mark_pattern(table: &mut [u64], bytes: &[u8], width: Width, stride: usize, group: usize) -> u64
     requires full { length table.old ≡ 4096 }
     requires stride { stride ≤ 8 }
     requires group { group < 64 }
     ensures grows { Grows table.old table.new }
-    ensures marked { IsMarked stride result table.new bytes.now group }
+    ensures marked { IsMarked width stride result table.new bytes.now group }
 {
-    if bytes.len() < stride + WINDOW - 1 {
+    if bytes.len() + 1 < stride + width.bytes() {
         return 1 << group;
     }
-    mark_windows(table, bytes, stride, group);
+    mark_windows(table, bytes, width, stride, group);
     0
 }
 
-fn mark_windows(table: &mut [u64], bytes: &[u8], stride: usize, group: usize)
+fn mark_windows(table: &mut [u64], bytes: &[u8], width: Width, stride: usize, group: usize)
     requires full { length table.old ≡ 4096 }
-    requires long { stride + 3 ≤ length bytes.now }
+    requires long { stride + bytes_of width ≤ length bytes.now + 1 }
     requires group { group < 64 }
     ensures grows { Grows table.old table.new }
-    ensures windows { HasWindows stride table.new bytes.now group }
+    ensures windows { HasWindows width stride table.new bytes.now group }
 {
     'offsets: for offset in 0..stride {
-        mark(table, window_at(bytes, offset), group);
+        mark(table, width.window_at(bytes, offset), group);
     }
 }
 
@@ -166,21 +200,6 @@ fn groups_of(table: &[u64], window: u32) -> u64
     ensures { result ≡ groups_of table.now window }
 {
     table[near_slot(window)] & table[far_slot(window)]
-}
-
-/// The bytes from a place on, as many as a window has.
-#[inline(always)]
-#[tactic(auto, unfolding(crate::specs::Sieving::window_at))]
-fn window_at(bytes: &[u8], place: usize) -> u32
-    requires { place + 4 ≤ length bytes.now }
-    ensures { result ≡ window_at bytes.now place }
-{
-    u32::from_le_bytes([
-        bytes[place],
-        bytes[place + 1],
-        bytes[place + 2],
-        bytes[place + 3],
-    ])
 }
 
 #[inline(always)]

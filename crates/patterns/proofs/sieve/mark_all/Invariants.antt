@@ -3,4 +3,4 @@ use Rattle.patterns.specs.Sieving.{IsMarked}
 use Rattle.patterns.proofs.sieve.mark_all.Given as goal
 
 abbrev pub invariant-patterns : goal.invariant-patterns
-invariant-patterns l = (place : ℕ) → place < l.place → IsMarked l.stride l.short l.table (get_or l.patterns place []) (place % 64)
+invariant-patterns l = (place : ℕ) → place < l.place → IsMarked l.width l.stride l.short l.table (get_or l.patterns place []) (place % 64)
