@@ -23,9 +23,10 @@
 
 mod build;
 mod firewall;
+mod guard;
 mod lines;
 mod signature;
 mod verdict;
 
-pub use firewall::{Firewall, Rule};
+pub use firewall::{Firewall, GuardedRule, Rule};
 pub use signature::Signature;
