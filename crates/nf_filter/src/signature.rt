@@ -11,7 +11,7 @@ use std::alloc::{AllocError, Global};
 /// Patterns, of which none may occur in a packet's data.
 #[derive(Debug, Drop)]
 pub struct Signature {
-    /// Each with the search for it, which was made when the signature was.
+    /// With the searches for them, which were made when the signature was.
     pub patterns: PatternSet,
 }
 

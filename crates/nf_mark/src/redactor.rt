@@ -10,7 +10,7 @@ use std::alloc::{AllocError, Global};
 /// Patterns that are overwritten in a packet's data, in this order.
 #[derive(Debug, Drop)]
 pub struct Redactor {
-    /// Each with the search for it, which was made when the redactor was.
+    /// With the searches for them, which were made when the redactor was.
     pub patterns: PatternSet,
 }
 
