@@ -22,7 +22,7 @@ impl<K: Eq + Hash, V> Model for FirstSeen<K, V> {
 
 impl<K: Eq + Hash, V> FirstSeen<K, V> {
     ghost use Rattle.std.specs.Prelude.{◌≡◌, []};
-    ghost use Rattle.std.specs.Map.{keys_of};
+    ghost use Rattle.std.specs.Map.{keys_of, values_of};
     ghost use Rattle.first_sight.specs.FirstSight.{place_of};
 
     /// Has seen no key. Takes no memory.
@@ -39,6 +39,13 @@ impl<K: Eq + Hash, V> FirstSeen<K, V> {
         ensures { result.now ≡ keys_of self.now }
     {
         self.entries.keys().as_slice()
+    }
+
+    /// What belongs to each key, in the same order.
+    pub fn values(&self) -> &[V]
+        ensures { result.now ≡ values_of self.now }
+    {
+        self.entries.values().as_slice()
     }
 
     /// The place of a key, counted from 0. That of one that wasn't seen is behind the others.

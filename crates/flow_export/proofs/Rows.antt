@@ -1,10 +1,9 @@
 -- Worked rows: the packets of a few lines, byte for byte, worked out by hand from Cisco's layout.
 use Rattle.std.proofs.Common.{◌≡◌, ℕ, List, [], ◌∷◌, ◌++◌, true, false, refl}
-use Rattle.std.specs.Prelude.{Some, None}
-use Rattle.flow_line.specs.declared.key.FlowKey.{FlowKey}
+use Rattle.std.specs.Prelude.{Some}
 use Rattle.flow_line.specs.declared.line.FlowLine.{FlowLine}
 use Rattle.flow_export.specs.declared.span.Span5.{Span5}
-use Rattle.flow_export.specs.Exports.{export_bytes, packets_bytes, uptime, export_time, header_of, record_of, packet_count}
+use Rattle.flow_export.specs.Exports.{export_bytes, packets_bytes, header_of, record_of, packet_count}
 use Rattle.flow_export.specs.Layouts.{header_bytes, record_bytes}
 
 -- UDP from 10.0.0.1 and 10.0.0.9, port 1000, to 10.0.0.2, port 53: two packets of 28 bytes at 0 and 2 seconds, and one at 1 second

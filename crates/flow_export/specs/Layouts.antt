@@ -1,5 +1,5 @@
 -- Believed: the export packets of Cisco's NetFlow version 5: their fields, each with its width, in their order.
-use Rattle.std.specs.Prelude.{ℕ, List, [], ◌∷◌, ◌++◌}
+use Rattle.std.specs.Prelude.{ℕ, List, [], ◌∷◌}
 use Rattle.std.specs.List.{flat_map}
 use Rattle.byteorder.specs.Endian.{big_bytes}
 use Rattle.flow_export.specs.declared.field.Field.{Field}

@@ -1,5 +1,5 @@
 -- There is room for the next of the fields, since there is for all of them.
-use Rattle.std.proofs.Common.{◌≡◌, ◌≤◌, arith}
+use Rattle.std.proofs.Common.{arith}
 use Rattle.std.proofs.lemmas.List.Folds.{length-flat_map-take}
 use Rattle.flow_export.specs.Layouts.{field_bytes}
 use Rattle.flow_export.specs.declared.field.Field.TheVariants.{Byte}

@@ -1,5 +1,5 @@
 -- One packet after another is put, until all are.
-use Rattle.std.proofs.Common.{◌≡◌, ◌≤◌, ◌*◌, length, take, refl, ap, subst, arith}
+use Rattle.std.proofs.Common.{◌≡◌, ◌*◌, length, take, refl, ap, subst, arith}
 use Rattle.std.specs.Prelude.{Err}
 use Rattle.std.proofs.lemmas.Grind.{div_ceil_times}
 use Rattle.std.proofs.lemmas.List.{length-take}

@@ -1,8 +1,3 @@
-use Rattle.std.proofs.Common.{◌≡◌, ◌≢◌, ◌≤◌, ◌*◌, All, drop}
-use Rattle.nfp_outside.specs.declared.slot.Slot.{Slot}
-use Rattle.nfp_outside.specs.declared.slot.Slot.TheVariants.{Out}
-use Rattle.nfp_outside.specs.Outside.{Appends}
-use Rattle.flow_export.specs.Exports.{FitsVersion, exported}
 use Rattle.flow_export.proofs.Sending.{AreSent}
 use Rattle.flow_export.proofs.packets.send.Given as goal
 

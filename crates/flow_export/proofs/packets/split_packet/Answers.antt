@@ -1,5 +1,4 @@
-use Rattle.std.proofs.Common.{◌≡◌, ◌≤◌, [], length, take, arith}
-use Rattle.flow_export.specs.Exports.{exported}
+use Rattle.std.proofs.Common.{[], arith}
 use Rattle.flow_export.proofs.Splitting.{full_front, full_back, last_front, last_back}
 use Rattle.flow_export.proofs.packets.split_packet.Goals as goal
 

@@ -1,0 +1,9 @@
+pub mod Feeding
+pub mod Gathering
+pub mod Keeping
+pub mod Monitored
+pub mod Ordering
+pub mod OwnPackets
+pub mod Parting
+pub mod Rising
+pub mod SameKeys

@@ -1,0 +1,18 @@
+use Rattle.std.proofs.Common.{rules, ◌∙◌, ap, subst}
+use Rattle.std.specs.List.Sorted.{IsPermutation, IsNonDecreasingBy}
+use Rattle.std.specs.Map.{values_of}
+use Rattle.std.proofs.lemmas.List.Sorted.{IsNonDecreasingBy-from_sort_by_key}
+use Rattle.flow_line.specs.declared.line.FlowLine.{FlowLine}
+use Rattle.flow_shards.specs.Sharding.{ShardsView, flat}
+use Rattle.flow_shards.proofs.Gathering.{gathered}
+use Rattle.flow_shards.proofs.shards.Shards.gather.Goals as goal
+
+pub returns : goal.returns
+returns c =
+    let tables = c.self.inside.tables.items in
+    let sorted = c.sort_by_key.new.self.items in
+    let moved : IsPermutation (values_of (flat tables)) sorted =
+    subst (λ l. IsPermutation l sorted) (c.in_ok-lines.ensures ∙ ap (λ t. values_of (flat t)) c.deref.ensures.value) c.sort_by_key.ensures.permutation in
+    let up : IsNonDecreasingBy (λ (line : FlowLine). line.first) sorted = IsNonDecreasingBy-from_sort_by_key (λ (line : FlowLine). line.first) sorted c.in_ok-sort_by_key.ensures.sorted (λ a r f called. search rules) in
+    gathered (flat tables) sorted c.self.invariant.ordered.rising moved up
+    ∙ ap (λ (v : ShardsView). values_of v.lines) c.self.view_is

@@ -1,0 +1,4 @@
+pub mod Flows
+pub mod Monitoring
+pub mod Sharding
+pub mod Working

@@ -1,0 +1,129 @@
+//! The shards of all workers.
+
+use crate::beside::count_beside;
+use crate::counting::Table;
+use crate::sight::Sight;
+use capture_bytes::Unit;
+use classifier::Burst;
+use first_sight::FirstSeen;
+use flow_line::FlowLine;
+use std::alloc::{AllocError, Global};
+use std::marker::Model;
+use std::thread::Threads;
+
+/// What is counted of flows, in a shard for each worker.
+///
+/// Contracts see the number of workers, the number of the last packet that was fed, and one list of lines in the order of first
+/// sight, each with its flow.
+#[derive(Drop)]
+pub struct Shards {
+    tables: Vec<Table>,
+    last: u32,
+}
+
+impl Model for Shards {
+    ghost use Rattle.std.specs.Prelude.{length};
+    ghost use Rattle.flow_shards.specs.Sharding.{ShardsView, AreParted, in_order, flat};
+
+    ghost Value = { ShardsView };
+
+    ghost view = { λ s. record { workers = length s.tables.items; last = s.last; lines = in_order (flat s.tables.items) } };
+
+    ghost invariant = { λ s. AreParted s.last s.tables.items };
+}
+
+impl Shards {
+    ghost use Rattle.std.specs.Prelude.{◌≡◌, ◌≤◌, ◌<◌, [], IfOk, filter};
+    ghost use Rattle.std.specs.Map.{values_of};
+    ghost use Rattle.flow_shards.specs.Flows.{flows_from};
+    ghost use Rattle.flow_shards.specs.Sharding.{AreRising, in_shard, last_of, no_flows};
+
+    /// A shard for each of so many workers, with no lines.
+    pub fn new(alloc: Global, workers: u32) -> Result<Shards, AllocError>
+        requires some { 1 ≤ workers }
+        requires few { workers ≤ 16 }
+        ensures { IfOk result (λ shards. shards ≡ no_flows workers) }
+    {
+        let mut tables = Vec::new(alloc);
+        'workers: for _ in 0..workers {
+            tables.push(FirstSeen::new(alloc))?;
+        }
+        Ok(Shards { tables, last: 0 })
+    }
+
+    /// Counts the packets of a burst, each worker those of its own flows. The numbers of the packets rise, and lie above that of the
+    /// last one that was fed. Where memory runs out, the shards are gone.
+    pub fn feed<R: Threads + Sync>(
+        self,
+        rt: &R,
+        alloc: Global,
+        burst: &Burst,
+        unit: Unit,
+    ) -> Result<Shards, AllocError>
+        requires rising { AreRising self.last burst.now.items }
+        ensures workers { IfOk result (λ after. after.workers ≡ self.workers) }
+        ensures last { IfOk result (λ after. after.last ≡ last_of self.last burst.now.items) }
+        ensures lines { IfOk result (λ after. after.lines ≡ flows_from unit self.lines burst.now.items) }
+    {
+        let Shards { tables, last } = self;
+        let sights = see_all(alloc, burst, unit)?;
+        let tables = count_beside(rt, alloc, tables, &sights)?;
+        Ok(Shards {
+            tables,
+            last: last_number(last, burst),
+        })
+    }
+
+    /// The lines of a worker's shard, in the order of first sight.
+    pub fn of(&self, worker: u32) -> &[FlowLine]
+        requires { worker < self.now.workers }
+        ensures { result.now ≡ values_of (filter (in_shard self.now.workers worker) self.now.lines) }
+    {
+        self.tables[worker as usize].values()
+    }
+
+    /// The lines of all shards, in the order of first sight.
+    pub fn gather(self, alloc: Global) -> Result<Vec<FlowLine>, AllocError>
+        ensures { IfOk result (λ lines. lines.items ≡ values_of self.lines) }
+    {
+        let mut lines = all_lines(alloc, &self.tables)?;
+        lines.sort_by_key(|line| line.first)?;
+        Ok(lines)
+    }
+}
+
+ghost use Rattle.std.specs.Prelude.{◌≡◌, IfOk, filter_map};
+ghost use Rattle.std.specs.Map.{values_of};
+ghost use Rattle.flow_shards.specs.Flows.{sight_of};
+ghost use Rattle.flow_shards.specs.Sharding.{flat, last_of};
+
+/// What is seen of the packets of a burst, in their order.
+fn see_all(alloc: Global, burst: &Burst, unit: Unit) -> Result<Vec<Sight>, AllocError>
+    ensures { IfOk result (λ sights. sights.items ≡ filter_map (sight_of unit) burst.now.items) }
+{
+    let seen = burst
+        .items
+        .as_slice()
+        .iter()
+        .filter_map(|item| Sight::of(item, unit));
+    seen.collect(alloc)
+}
+
+/// The number of the last packet of a burst, if it has one.
+fn last_number(last: u32, burst: &Burst) -> u32
+    ensures { result ≡ last_of last burst.now.items }
+{
+    let items = burst.items.as_slice();
+    items.iter().fold(last, |_, item| item.number)
+}
+
+/// The lines of all shards, one shard behind the other.
+fn all_lines(alloc: Global, tables: &[Table]) -> Result<Vec<FlowLine>, AllocError>
+    ensures { IfOk result (λ lines. lines.items ≡ values_of (flat tables.now)) }
+{
+    let mut lines = Vec::new(alloc);
+    'tables: for table in tables {
+        lines.extend_from_slice(table.values())?;
+    }
+    Ok(lines)
+}

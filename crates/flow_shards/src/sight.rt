@@ -1,0 +1,63 @@
+//! What is seen of a packet.
+use capture_bytes::Unit;
+use classifier::Item;
+use frame_seen::{seen_ip_address, seen_port};
+use nf_observe::{Endpoint, FiveTuple};
+use packet_fields::{Field, Outline};
+
+/// A packet of a flow, and what it adds to the flow's line.
+#[derive(Clone, Copy, Debug)]
+pub struct Sight {
+    pub flow: FiveTuple,
+    /// Its IP length (RFC 791, 3.1; RFC 8200, 3).
+    pub bytes: u16,
+    /// The number of its record, from 1.
+    pub number: u32,
+    /// The time of its record in nanoseconds.
+    pub time: u64,
+    /// The control bits of its TCP header (RFC 793, 3.1), and 0 where it has none.
+    pub flags: u8,
+}
+
+impl Sight {
+    ghost use Rattle.std.specs.Prelude.{◌≡◌};
+    ghost use Rattle.flow_shards.specs.Flows.{sight_of};
+
+    /// What is seen of a packet, where it is of a flow.
+    pub fn of(item: &Item, unit: Unit) -> Option<Sight>
+        ensures { result ≡ sight_of unit item.now }
+    {
+        let frame = item.packet.frame.bytes();
+        let outline = Outline::of(frame);
+        let flow = flow_in(&outline, frame)?;
+        Some(Sight {
+            flow,
+            bytes: outline.total_len(frame)?,
+            number: item.number,
+            time: item.packet.time(unit),
+            flags: outline.control_bits(frame).unwrap_or(0),
+        })
+    }
+}
+
+ghost use Rattle.std.specs.Prelude.{◌≡◌};
+ghost use Rattle.packet_fields.specs.Outlines.{outline_of};
+ghost use Rattle.flow_shards.specs.Flows.{flow_in};
+
+/// The flow of a frame, by its outline.
+fn flow_in(outline: &Outline, frame: &[u8]) -> Option<FiveTuple>
+    requires { outline.now ≡ outline_of frame.now }
+    ensures { result ≡ flow_in frame.now }
+{
+    Some(FiveTuple {
+        proto: outline.protocol(frame)?,
+        source: Endpoint {
+            address: seen_ip_address(outline.get(Field::SrcIp, frame))?,
+            port: seen_port(outline.get(Field::SrcPort, frame)),
+        },
+        destination: Endpoint {
+            address: seen_ip_address(outline.get(Field::DstIp, frame))?,
+            port: seen_port(outline.get(Field::DstPort, frame)),
+        },
+    })
+}
