@@ -6,4 +6,5 @@ pub mod Ordering
 pub mod OwnPackets
 pub mod Parting
 pub mod Rising
+pub mod Rows
 pub mod SameKeys

@@ -1,4 +1,4 @@
--- Believed: the shards of workers, and the one list that they are.
+-- For proofs: the shards of workers, and the one list that they are.
 use Rattle.std.specs.Prelude.{◌≡◌, ℕ, ◌+◌, ◌%◌, ◌<◌, ◌≤◌, ◌==◌, nat_le, ⊤, List, [], ◌∷◌, map, filter, length, Bool, if◌then◌else◌, unwrap_or, fold}
 use Rattle.std.specs.List.{flat_map, range_with_len, AllByRecursion, IsDistinct}
 use Rattle.std.specs.Map.{keys_of}

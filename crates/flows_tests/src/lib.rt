@@ -1,0 +1,8 @@
+//! Tests of flows that are counted on several workers and exported, through public calls alone.
+//!
+//! No clause says that a call finds memory, so each call that takes some runs here once with ample memory. The expected bytes were
+//! worked out by hand from Cisco's layout.
+#![tactic(auto)]
+
+#[cfg(test)]
+mod exported;
