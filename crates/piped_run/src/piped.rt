@@ -147,7 +147,34 @@ fn run_piece<F: Function + Drop + Send, G: Gate + Sync, R: Threads + Wait + Cloc
     let mut pace = run.pace();
     let lead = pace.lead();
     let start = Instant::now(rt).ok();
-    let (run, fates) = match lead {
+    let (run, fates) = run_by(
+        rt, alloc, run, items, unit, chain, tally, mergers, gate, way, lead,
+    )?;
+    tell(rt, &mut pace, lead, fates.len(), start);
+    Ok((run.paced(pace), fates))
+}
+
+/// Leads these items by this way.
+fn run_by<F: Function + Drop + Send, G: Gate + Sync, R: Threads + Wait + Sync>(
+    rt: &R,
+    alloc: Global,
+    run: Running<F>,
+    items: &[Item],
+    unit: Unit,
+    chain: u32,
+    tally: &mut Tally,
+    mergers: u32,
+    gate: &G,
+    way: MergeWay,
+    lead: Lead,
+) -> Result<(Running<F>, Vec<Fate>), AllocError>
+    requires few { length items.now ≤ 65536 }
+    requires some_mergers { 1 ≤ mergers }
+    requires few_mergers { mergers ≤ 16 }
+    ensures leads { IfOk result (λ ran. Leads F.behaviour run (packets_taken unit chain items.now) tally.old tally.new ran.0 ran.1.items) }
+    ensures refused { OnErr result (RaisesUpTo (copies_made run.graph.stages (packets_taken unit chain items.now) (fates F.behaviour run.functions (packets_taken unit chain items.now))) tally.old tally.new) }
+{
+    match lead {
         Lead::Threads => run_stages(
             rt,
             alloc,
@@ -160,11 +187,9 @@ fn run_piece<F: Function + Drop + Send, G: Gate + Sync, R: Threads + Wait + Cloc
             gate,
             way,
             Schedule::AtOnce,
-        )?,
-        Lead::Alone => run_in_a_row(rt, alloc, run, items, unit, chain, tally, gate)?,
-    };
-    tell(rt, &mut pace, lead, fates.len(), start);
-    Ok((run.paced(pace), fates))
+        ),
+        Lead::Alone => run_in_a_row(rt, alloc, run, items, unit, chain, tally, gate),
+    }
 }
 
 /// Tells the pace what so many packets took by this way, where the clock says it.

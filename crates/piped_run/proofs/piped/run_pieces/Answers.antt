@@ -1,4 +1,4 @@
-use Rattle.std.proofs.Common.{rules, arith, subst, sym}
+use Rattle.std.proofs.Common.{rules, [], arith, subst, sym}
 use Rattle.graph_run.specs.Leading.{Leads}
 use Rattle.piped_run.proofs.InPieces.{piece_led, piece_refused, all_led}
 use Rattle.piped_run.proofs.piped.run_pieces.Goals as goal
