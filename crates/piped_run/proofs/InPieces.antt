@@ -1,5 +1,5 @@
 -- The pieces of a burst, one behind the other.
-use Rattle.std.proofs.Common.{◌≡◌, ◌∙◌, ◌<◌, ◌≤◌, ◌+◌, ◌-◌, ℕ, List, ◌++◌, length, take, drop, sym, ap, subst, arith, take-append-drop}
+use Rattle.std.proofs.Common.{◌≡◌, ◌∙◌, ◌≤◌, ◌+◌, ◌-◌, ℕ, List, [], ◌++◌, length, take, drop, sym, ap, subst, arith, take-append-drop}
 use Rattle.std.proofs.Math.Seq.{take-add}
 use Rattle.std.proofs.lemmas.List.{take_all}
 use Rattle.capture_bytes.specs.declared.packet.Unit.{Unit as TimeUnit}
@@ -17,6 +17,9 @@ use Rattle.graph_run.specs.Running.{PlainRunning}
 abbrev pub LedBehind : Type 0 → Type 0
 LedBehind F = (b : Behaviour F) (run between after : PlainRunning F) (first later : List Packet) (old new newer : List ℕ) (ended more : List Fate) → KeepsProfile b →
     Leads b run first old new between ended → Leads b between later new newer after more → Leads b run (first ++ later) old newer after (ended ++ more)
+
+abbrev pub LedNone : Type 0 → Type 0
+LedNone F = (b : Behaviour F) (run : PlainRunning F) (tally : List ℕ) → Leads b run [] tally tally run []
 
 abbrev pub RefusedBehind : Type 0 → Type 0
 RefusedBehind F = (b : Behaviour F) (run between : PlainRunning F) (first later last : List Packet) (old new newer : List ℕ) (ended : List Fate) →
@@ -54,6 +57,18 @@ piece_refused {F} b run between unit chain items piece start end old new newer e
     ∙ ap (λ (l : List Packet). first ++ l) (ap (packets_taken unit chain) (sym (take-append-drop (end - start) (drop start items)) ∙ ap (λ (l : List Item). l ++ drop (end - start) (drop start items)) (sym is)) ∙ taken unit chain piece (drop (end - start) (drop start items))) in
     subst (λ (l : List Packet). RaisesUpTo (copies_made run.graph.stages l (fates b run.functions l)) old newer) (sym row)
     (behind b run between first later last old new newer ended x within)
+
+-- a refusal when a piece was led: no more copies were made than all items make
+pub led_refused : {F : Type 0} (b : Behaviour F) (run after : PlainRunning F) (unit : TimeUnit) (chain : ℕ) (items : List Item) (end : ℕ) (old new : List ℕ) (ended : List Fate) → RefusedBehind F → TakenBehind → LedNone F →
+    Leads b run (packets_taken unit chain (take end items)) old new after ended →
+    RaisesUpTo (copies_made run.graph.stages (packets_taken unit chain items) (fates b run.functions (packets_taken unit chain items))) old new
+led_refused {F} b run after unit chain items end old new ended behind taken none x =
+    let first : List Packet = packets_taken unit chain (take end items) in
+    let last : List Packet = packets_taken unit chain (drop end items) in
+    let row : packets_taken unit chain items ≡ first ++ last = ap (packets_taken unit chain) (sym (take-append-drop end items)) ∙ taken unit chain (take end items) (drop end items) in
+    let nothing : RaisesUpTo (copies_made after.graph.stages [] (fates b after.functions [])) new new = λ f. let same = (none b after new).counted f in (omega arith, omega (arith, same)) in
+    subst (λ (l : List Packet). RaisesUpTo (copies_made run.graph.stages l (fates b run.functions l)) old new) (sym row)
+    (behind b run after first [] last old new new ended x nothing)
 
 pub all_led : {F : Type 0} (b : Behaviour F) (run after : PlainRunning F) (unit : TimeUnit) (chain : ℕ) (items : List Item) (start : ℕ) (old new : List ℕ) (ended : List Fate) → length items ≤ start →
     Leads b run (packets_taken unit chain (take start items)) old new after ended → Leads b run (packets_taken unit chain items) old new after ended
