@@ -7,3 +7,4 @@ mod Cloning
 mod Taking
 mod PutBack
 mod Staying
+mod InPieces

@@ -2,7 +2,7 @@
 use Rattle.std.proofs.Common.{◌≡◌, ◌≢◌, ◌∙◌, ◌<◌, ◌≤◌, ◌+◌, ℕ, zero, suc, List, length, get_or, set, ap, refl, sym, subst, arith, inl, inr, length-set}
 use Rattle.std.specs.Prelude.{◌⊎◌}
 use Rattle.std.proofs.lemmas.List.{get_or-set_other, get_or-set_same, get_or_default}
-use Rattle.chain_walk.specs.Step.{Behaviour, stepped}
+use Rattle.chain_walk.specs.Step.{Behaviour}
 use Rattle.graph_law.specs.Branches.{BranchEnd.Live, moved_function}
 use Rattle.graph_run.specs.Carrying.{as_version}
 use Rattle.packet_version.specs.Versions.{PlainVersion}

@@ -55,7 +55,7 @@ pub fn run_joined<F: Function + Drop + Send, G: Gate + Sync, R: Threads + Wait +
         rt,
         alloc,
         run,
-        burst,
+        burst.items.as_slice(),
         unit,
         chain,
         tally,

@@ -1,5 +1,5 @@
 //! A burst of packets through a graph, its dealers, branches and mergers side by side.
-ghost use Rattle.std.specs.Prelude.{◌≡◌, ◌≤◌, length, IfOk, OnErr};
+ghost use Rattle.std.specs.Prelude.{◌≤◌, ◌<◌, length, IfOk, OnErr};
 ghost use Rattle.chain_walk.specs.Packets.{fates};
 ghost use Rattle.graph_run.specs.Counting.{RaisesUpTo, copies_made};
 ghost use Rattle.graph_run.specs.Leading.{Leads};
@@ -8,9 +8,11 @@ ghost use Rattle.graph_run.specs.Packets.{packets_taken};
 use crate::stages::run_stages;
 use capture_bytes::Unit;
 use chain_walk::Fate;
-use classifier::Burst;
+use classifier::{Burst, Item};
 use graph_compile::Graph;
-use graph_run::{Running, run_gated};
+use graph_run::{
+    Running, functions_keep_to_profiles, pieces_are_led_in_a_row, run_gated, run_in_a_row,
+};
 use net_functions::Function;
 use nfp_outside::Gate;
 use node_run::{MergeWay, Schedule};
@@ -31,10 +33,11 @@ use std::time::Instant;
 /// come or more don't pay. Dealers, branches and mergers of all stages run side by side, the first dealer in the caller's
 /// thread and the others on as many more as fit the machine, where these can be started; the threads
 /// are joined before the call returns. Where the graph has no stage but one of one branch, nothing could run
-/// beside it, and all runs in the caller's thread. So does a burst that goes alone by the pace of the run
-/// (`pace`): where threads spared too little of the time of one for the bursts before, by the clock, or where
-/// one thread is tried. The first burst of a run goes on threads. Each step of a function passes the gate
-/// first. Frames that go out are not sealed yet.
+/// beside it, and all runs in the caller's thread. So does what goes alone by the pace of the run (`pace`):
+/// where packets are light or threads spared too little of the time of one for those before, by the clock, or where
+/// one thread is tried. The functions run in a row then, where no stage copies a field. A burst that is longer than the pace
+/// tries a way with goes in pieces, each by its own way. The first packets of a run go on threads. Each step of a function passes
+/// the gate first. Frames that go out are not sealed yet.
 ///
 /// Every packet ends as if it walked through the functions of the chain one after another, each as the
 /// packet before left it, and so do the functions' states. The tally rises by the copies that were made.
@@ -61,15 +64,122 @@ pub fn run_piped<F: Function + Drop + Send, G: Gate + Sync, R: Threads + Wait + 
     if is_one_branch(run.graph()) {
         return run_gated(rt, alloc, run, burst, unit, chain, tally, gate);
     }
+    run_pieces(
+        rt,
+        alloc,
+        run,
+        burst.items.as_slice(),
+        unit,
+        chain,
+        tally,
+        mergers,
+        gate,
+        way,
+    )
+}
+
+/// Leads these items in pieces, one after another: each goes by the way of the run's pace as the piece before left it, and has no
+/// more items than that way may have at once.
+fn run_pieces<F: Function + Drop + Send, G: Gate + Sync, R: Threads + Wait + Clock + Sync>(
+    rt: &R,
+    alloc: Global,
+    run: Running<F>,
+    items: &[Item],
+    unit: Unit,
+    chain: u32,
+    tally: &mut Tally,
+    mergers: u32,
+    gate: &G,
+    way: MergeWay,
+) -> Result<(Running<F>, Vec<Fate>), AllocError>
+    requires few { length items.now ≤ 65536 }
+    requires some_mergers { 1 ≤ mergers }
+    requires few_mergers { mergers ≤ 16 }
+    ensures leads { IfOk result (λ ran. Leads F.behaviour run (packets_taken unit chain items.now) tally.old tally.new ran.0 ran.1.items) }
+    ensures refused { OnErr result (RaisesUpTo (copies_made run.graph.stages (packets_taken unit chain items.now) (fates F.behaviour run.functions (packets_taken unit chain items.now))) tally.old tally.new) }
+{
+    functions_keep_to_profiles::<F>();
+    pieces_are_led_in_a_row::<F>();
+    let mut run = run;
+    let mut fates = Vec::with_capacity(alloc, items.len())?;
+    let mut start = 0;
+    'pieces: while start < items.len() {
+        let end = piece_end(run.pace(), start, items.len());
+        let piece = &items[start..end];
+        let (left, mut ended) = run_piece(
+            rt, alloc, run, piece, unit, chain, tally, mergers, gate, way,
+        )?;
+        run = left;
+        fates.append(&mut ended)?;
+        start = end;
+    }
+    Ok((run, fates))
+}
+
+/// Where the piece ends that begins here.
+fn piece_end(pace: Pace, start: usize, len: usize) -> usize
+    requires { start < len }
+    ensures further { start < result }
+    ensures inside { result ≤ len }
+{
+    len.min(start.saturating_add(pace.most() as usize))
+}
+
+/// Leads these items by the way of the run's pace, and tells the pace what they took.
+fn run_piece<F: Function + Drop + Send, G: Gate + Sync, R: Threads + Wait + Clock + Sync>(
+    rt: &R,
+    alloc: Global,
+    run: Running<F>,
+    items: &[Item],
+    unit: Unit,
+    chain: u32,
+    tally: &mut Tally,
+    mergers: u32,
+    gate: &G,
+    way: MergeWay,
+) -> Result<(Running<F>, Vec<Fate>), AllocError>
+    requires few { length items.now ≤ 65536 }
+    requires some_mergers { 1 ≤ mergers }
+    requires few_mergers { mergers ≤ 16 }
+    ensures leads { IfOk result (λ ran. Leads F.behaviour run (packets_taken unit chain items.now) tally.old tally.new ran.0 ran.1.items) }
+    ensures refused { OnErr result (RaisesUpTo (copies_made run.graph.stages (packets_taken unit chain items.now) (fates F.behaviour run.functions (packets_taken unit chain items.now))) tally.old tally.new) }
+{
     let mut pace = run.pace();
     let lead = pace.lead();
     let start = Instant::now(rt).ok();
-    let (run, fates) = match lead {
+    let (run, fates) = run_by(
+        rt, alloc, run, items, unit, chain, tally, mergers, gate, way, lead,
+    )?;
+    tell(rt, &mut pace, lead, fates.len(), start);
+    Ok((run.paced(pace), fates))
+}
+
+/// Leads these items by this way.
+fn run_by<F: Function + Drop + Send, G: Gate + Sync, R: Threads + Wait + Sync>(
+    rt: &R,
+    alloc: Global,
+    run: Running<F>,
+    items: &[Item],
+    unit: Unit,
+    chain: u32,
+    tally: &mut Tally,
+    mergers: u32,
+    gate: &G,
+    way: MergeWay,
+    lead: Lead,
+) -> Result<(Running<F>, Vec<Fate>), AllocError>
+    requires few { length items.now ≤ 65536 }
+    requires some_mergers { 1 ≤ mergers }
+    requires few_mergers { mergers ≤ 16 }
+    ensures leads { IfOk result (λ ran. Leads F.behaviour run (packets_taken unit chain items.now) tally.old tally.new ran.0 ran.1.items) }
+    ensures refused { OnErr result (RaisesUpTo (copies_made run.graph.stages (packets_taken unit chain items.now) (fates F.behaviour run.functions (packets_taken unit chain items.now))) tally.old tally.new) }
+{
+    match lead {
         Lead::Threads => run_stages(
             rt,
             alloc,
             run,
-            burst,
+            items,
             unit,
             chain,
             tally,
@@ -77,11 +187,9 @@ pub fn run_piped<F: Function + Drop + Send, G: Gate + Sync, R: Threads + Wait + 
             gate,
             way,
             Schedule::AtOnce,
-        )?,
-        Lead::Alone => run_gated(rt, alloc, run, burst, unit, chain, tally, gate)?,
-    };
-    tell(rt, &mut pace, lead, fates.len(), start);
-    Ok((run.paced(pace), fates))
+        ),
+        Lead::Alone => run_in_a_row(rt, alloc, run, items, unit, chain, tally, gate),
+    }
 }
 
 /// Tells the pace what so many packets took by this way, where the clock says it.

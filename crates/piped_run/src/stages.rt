@@ -1,4 +1,4 @@
-//! A burst of whole frames through the stages of a graph, whose dealers, branches and mergers are nodes.
+//! A burst of whole frames, or a piece of one, through the stages of a graph, whose dealers, branches and mergers are nodes.
 ghost use Rattle.std.specs.Prelude.{◌≡◌, ◌≤◌, length, IfOk, OnErr};
 ghost use Rattle.chain_walk.specs.Packets.{fates};
 ghost use Rattle.graph_run.specs.Counting.{RaisesUpTo, copies_made};
@@ -9,7 +9,7 @@ use crate::frames::{Frames, numbers_of};
 use crate::pipe::pipe_frames;
 use capture_bytes::Unit;
 use chain_walk::Fate;
-use classifier::Burst;
+use classifier::Item;
 use graph_run::{Running, count_adders};
 use net_functions::Function;
 use nfp_outside::Gate;
@@ -20,13 +20,13 @@ use std::sync::Wait;
 use std::thread::Threads;
 use stream_law::bursts_in_parts_lead;
 
-/// Leads the packets of a burst that are of the chain with this number through the stages of a graph, whose dealers,
+/// Leads the packets of these items that are of the chain with this number through the stages of a graph, whose dealers,
 /// branches and mergers are nodes, at work under this schedule, and gives the fate of each, in their order.
 pub(crate) fn run_stages<F: Function + Drop + Send, G: Gate + Sync, R: Threads + Wait + Sync>(
     rt: &R,
     alloc: Global,
     run: Running<F>,
-    burst: &Burst,
+    items: &[Item],
     unit: Unit,
     chain: u32,
     tally: &mut Tally,
@@ -35,16 +35,15 @@ pub(crate) fn run_stages<F: Function + Drop + Send, G: Gate + Sync, R: Threads +
     way: MergeWay,
     schedule: Schedule,
 ) -> Result<(Running<F>, Vec<Fate>), AllocError>
-    requires few { length burst.now.items ≤ 65536 }
+    requires few { length items.now ≤ 65536 }
     requires some_mergers { 1 ≤ mergers }
     requires few_mergers { mergers ≤ 16 }
-    ensures leads { IfOk result (λ ran. Leads F.behaviour run (packets_taken unit chain burst.now.items) tally.old tally.new ran.0 ran.1.items) }
-    ensures refused { OnErr result (RaisesUpTo (copies_made run.graph.stages (packets_taken unit chain burst.now.items) (fates F.behaviour run.functions (packets_taken unit chain burst.now.items))) tally.old tally.new) }
+    ensures leads { IfOk result (λ ran. Leads F.behaviour run (packets_taken unit chain items.now) tally.old tally.new ran.0 ran.1.items) }
+    ensures refused { OnErr result (RaisesUpTo (copies_made run.graph.stages (packets_taken unit chain items.now) (fates F.behaviour run.functions (packets_taken unit chain items.now))) tally.old tally.new) }
 {
     bursts_in_parts_lead::<F>();
     let (functions, graph) = run.into_parts();
     let taggers = count_adders(&functions);
-    let items = burst.items.as_slice();
     let numbers = numbers_of(alloc, items, chain)?;
     let frames = Frames::new(items, unit, chain, taggers);
     let (functions, fates) = pipe_frames(

@@ -4,8 +4,9 @@ use crate::packets::{Capture, HEAD, Packet, THREE};
 use crate::rows::{Words, run_gated};
 use crate::runs::TWO_CHAINS;
 use crate::states::{BEHIND, BESIDE};
-use nfp_outside::Gate;
+use nfp_outside::{Gate, Slot};
 use nfp_run::Outcome;
+use std::alloc::{AllocError, Global};
 use std::process::Abort;
 use std::rt::Clock;
 use std::sync::Wait;
@@ -219,4 +220,44 @@ fn each_step_of_the_walk_passes_the_gate_once(rt: HostRuntime) -> Result<(), Fai
     count_steps(&rt, BESIDE, [6, 0, 9, 12])?;
     count_steps(&rt, BEHIND, [5, 0, 7, 10])?;
     count_steps(&rt, TWO_CHAINS, [3, 1, 3, 6])
+}
+
+const COUNTED_IN_TURN: &[u8] =
+    b"records 2200 emitted 1100 dropped 1100\nfunction main mon monitor\n  flow 17 10.0.0.1 1000 10.0.0.2 53 packets 1100 bytes 30800\n  flow 17 10.0.0.9 1000 10.0.0.2 53 packets 1100 bytes 30800\nfunction main fw firewall\nend\n";
+
+const LONG_CALLS: [Words<'static>; 2] = [
+    &["run", "p", "c", "o", "r", "--burst", "65536"],
+    &["run", "p", "c", "o", "r", "--mergers", "16"],
+];
+
+// So many packets of the hosts 1 and 9 in turn.
+fn in_turn(alloc: Global, pairs: u32) -> Result<Vec<u8>, AllocError> {
+    let pair = Capture {
+        head: &[],
+        packets: &[Packet::From(1), Packet::From(9)],
+    };
+    let pair = pair.bytes(alloc)?;
+    let mut capture = HEAD.to_vec(alloc)?;
+    for _pair in 0..pairs {
+        capture.extend_from_slice(&pair)?;
+    }
+    Ok(capture)
+}
+
+// A burst of 2,200 packets goes in three pieces at least, and bursts of 1,024 in as many: both functions see each packet once, and every
+// second is dropped.
+#[test]
+fn a_long_burst_goes_in_pieces(rt: HostRuntime) -> Result<(), Fail> {
+    for call in LONG_CALLS {
+        let steps = Steps::new();
+        let bytes = in_turn(rt.alloc(), 1100)?;
+        let (outcome, desk) = run_gated(&rt, rt.alloc(), call, BESIDE, bytes, &steps)?;
+        assert!(&rt; matches!(outcome, Outcome::Done));
+        assert_eq!(&rt; steps.sums(), [4400, 0, 6600, 4842200]);
+        let note = desk.put(Slot::Note);
+        assert_eq!(&rt; note, b"done records 2200 emitted 1100 dropped 1100\n");
+        let report = desk.put(Slot::Report);
+        assert!(&rt; report.ends_with(COUNTED_IN_TURN));
+    }
+    Ok(())
 }

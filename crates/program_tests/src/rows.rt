@@ -17,6 +17,9 @@ pub type Words<'a> = &'a [&'a str];
 /// A run without options.
 pub const RUN: &[&str] = &["run", "p", "c", "o", "r"];
 
+/// A run whose bursts have one packet: the first goes on threads, and the second on one.
+pub const ONE_BY_ONE: &[&str] = &["run", "p", "c", "o", "r", "--burst", "1"];
+
 /// A run with one merger, two and many, over links and on boards.
 pub const WAYS: &[Words<'static>] = &[
     &[

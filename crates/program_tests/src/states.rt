@@ -1,7 +1,7 @@
 //! Runs through functions that keep flows, whose report tells what they hold in the end.
 
 use crate::packets::{Capture, Datagram, FIRST, HEAD, NONE, Packet, THREE};
-use crate::rows::{RUN, Row, Words, compare};
+use crate::rows::{ONE_BY_ONE, RUN, Row, Words, compare};
 use std::alloc::AllocError;
 
 const COUNTED_WAYS: &[Words<'static>] = &[
@@ -38,6 +38,7 @@ const COUNTED_WAYS: &[Words<'static>] = &[
         "--merge",
         "board",
     ],
+    ONE_BY_ONE,
 ];
 
 const FIRST_AND_THIRD: Capture<'static> = Capture {
@@ -98,7 +99,7 @@ const TO_BACKEND: Packet<'static> = Packet::Udp(Datagram {
 });
 
 const BALANCED: &[Row<'static>] = &[Row {
-    calls: &[RUN],
+    calls: &[RUN, ONE_BY_ONE],
     policy: b"nfp 1\nchain main\nfn m monitor\nfn f firewall\nrule deny src 10.0.0.9\nfn b balancer\nset vip 10.0.0.2\nrule backend 10.9.0.1\nrule backend 10.9.0.2\n",
     capture: THREE,
     outcome: "Done",
@@ -114,6 +115,50 @@ const BALANCED: &[Row<'static>] = &[Row {
 #[test]
 fn a_balancer_writes_its_own_copy(rt: HostRuntime) -> Result<(), AllocError> {
     compare(&rt, BALANCED)
+}
+
+// From the public address, instead of from 10.0.0.1.
+const LED_OUT: Packet<'static> = Packet::Udp(Datagram {
+    checksum: [0xae, 0xce],
+    source: [192, 0, 2, 1],
+    source_port: 40000,
+    ..FIRST
+});
+
+// A firewall beside a signature, and a translation in a stage of its own behind them.
+const IN_STAGES: Row<'static> = Row {
+    calls: &[RUN, ONE_BY_ONE],
+    policy: b"nfp 1\nchain main\nfn fw firewall\nrule deny src 10.0.0.9\nfn sig signature\nfn n nat\nset inside 10.0.0.0/8\nset public 192.0.2.1\nset ports 40000-40000\n",
+    capture: THREE,
+    outcome: "Done",
+    out: Capture {
+        head: &HEAD,
+        packets: &[LED_OUT, LED_OUT],
+    },
+    report: b"nfp report 1\ndrop 2 main fw\nrecords 3 emitted 2 dropped 1\nfunction main fw firewall\nfunction main sig signature\nfunction main n nat\n  map 17 10.0.0.1 1000 port 40000\nend\n",
+    note: b"done records 3 emitted 2 dropped 1\n",
+};
+
+const ONE_LED_OUT: Row<'static> = Row {
+    capture: Capture {
+        head: &HEAD,
+        packets: &[Packet::From(9), Packet::From(1), Packet::From(9)],
+    },
+    out: Capture {
+        head: &HEAD,
+        packets: &[LED_OUT],
+    },
+    report: b"nfp report 1\ndrop 1 main fw\ndrop 3 main fw\nrecords 3 emitted 1 dropped 2\nfunction main fw firewall\nfunction main sig signature\nfunction main n nat\n  map 17 10.0.0.1 1000 port 40000\nend\n",
+    note: b"done records 3 emitted 1 dropped 2\n",
+    ..IN_STAGES
+};
+
+const STAGES_IN_A_ROW: &[Row<'static>] = &[IN_STAGES, ONE_LED_OUT];
+
+// On one thread the functions of both stages run in a row: once the packet that is dropped goes so, and once the one that goes out.
+#[test]
+fn functions_in_a_row_do_what_their_stages_do(rt: HostRuntime) -> Result<(), AllocError> {
+    compare(&rt, STAGES_IN_A_ROW)
 }
 
 // From outside to the port that the first source has there.

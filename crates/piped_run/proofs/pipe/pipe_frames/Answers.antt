@@ -1,5 +1,4 @@
 use Rattle.std.proofs.Common.{◌∙◌, List, length, map, sym, ap, refl, subst, eqb-true}
-use Rattle.std.proofs.lemmas.List.{length-map}
 use Rattle.burst_law.specs.Copies.{chain_copies}
 use Rattle.graph_run.specs.Running.{IsRunning}
 use Rattle.stream_law.specs.Messages.{as_message}
