@@ -225,6 +225,8 @@ fn each_step_of_the_walk_passes_the_gate_once(rt: HostRuntime) -> Result<(), Fai
 const COUNTED_IN_TURN: &[u8] =
     b"records 2200 emitted 1100 dropped 1100\nfunction main mon monitor\n  flow 17 10.0.0.1 1000 10.0.0.2 53 packets 1100 bytes 30800\n  flow 17 10.0.0.9 1000 10.0.0.2 53 packets 1100 bytes 30800\nfunction main fw firewall\nend\n";
 
+const LONG_NOTE: &[u8] = b"done records 2200 emitted 1100 dropped 1100\n";
+
 const LONG_CALLS: [Words<'static>; 2] = [
     &["run", "p", "c", "o", "r", "--burst", "65536"],
     &["run", "p", "c", "o", "r", "--mergers", "16"],
@@ -255,7 +257,7 @@ fn a_long_burst_goes_in_pieces(rt: HostRuntime) -> Result<(), Fail> {
         assert!(&rt; matches!(outcome, Outcome::Done));
         assert_eq!(&rt; steps.sums(), [4400, 0, 6600, 4842200]);
         let note = desk.put(Slot::Note);
-        assert_eq!(&rt; note, b"done records 2200 emitted 1100 dropped 1100\n");
+        assert_eq!(&rt; note, LONG_NOTE);
         let report = desk.put(Slot::Report);
         assert!(&rt; report.ends_with(COUNTED_IN_TURN));
     }
