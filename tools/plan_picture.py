@@ -27,7 +27,7 @@ class Stage(typing.NamedTuple):
         return ', '.join(f'{field} {mode}' for field, mode in self.parts)
 
 
-def chains_of(plan):
+def chains_of(plan, label):
     """The chains of a plan: each a name and its stages."""
     chains = []
     for line in plan.splitlines():
@@ -37,7 +37,7 @@ def chains_of(plan):
         elif lead == 'stage':
             chains[-1][1].append(Stage([], []))
         elif lead == 'branch':
-            chains[-1][1][-1].branches.append(words[1:])
+            chains[-1][1][-1].branches.append([label(chains[-1][0], name) for name in words[1:]])
         elif lead == 'part':
             chains[-1][1][-1].parts.append((words[0], ' '.join(words[1:])))
     return chains
@@ -116,10 +116,10 @@ STYLE = (
 ARROW = '<marker id="head" viewBox="0 0 8 8" refX="8" refY="4" markerWidth="7" markerHeight="7" orient="auto"><path d="M0,0L8,4L0,8z"/></marker>'
 
 
-def svg_of(plan):
-    """The picture of a plan."""
+def svg_of(plan, label=lambda chain, name: name):
+    """The picture of a plan. A function is told by what the label says of its chain's name and its own."""
     parts, right, bottom = [], 0, 0
-    for name, stages in chains_of(plan):
+    for name, stages in chains_of(plan, label):
         more, far, bottom = drawn_chain(name, stages, bottom + PAD)
         parts, right = parts + more, max(right, far)
     width, height = round(right), round(bottom + PAD)

@@ -29,10 +29,10 @@ fn finds(functions: &[NetFunction], payload: &[u8]) -> u64 {
 fn finds_one(function: &NetFunction, payload: &[u8]) -> bool {
     match function {
         NetFunction::Signature(signature) => {
-            first_occurring(signature.patterns.as_slice(), payload).is_some()
+            first_occurring(&signature.patterns, payload).is_some()
         }
         NetFunction::Redactor(redactor) => {
-            first_occurring(redactor.patterns.as_slice(), payload).is_some()
+            first_occurring(&redactor.patterns, payload).is_some()
         }
         _ => false,
     }

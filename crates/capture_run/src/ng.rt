@@ -71,6 +71,7 @@ impl OtherBlock {
 }
 
 // What an item gives.
+#[inline(always)]
 fn given(item: NgItem) -> Given<Beside, OtherBlock>
     requires writable { IsWritable item }
     requires short { IsShortItem item }
@@ -155,6 +156,7 @@ impl Source<Beside, OtherBlock> for NgSource {
 
     ghost is_open = { is_asked };
 
+    #[inline(always)]
     fn next<D: Desk>(
         &mut self,
         alloc: Global,
@@ -169,6 +171,7 @@ impl Source<Beside, OtherBlock> for NgSource {
 
 // What stands behind the first block.
 #[tactic(auto, using(crate::proofs::Refusing::refuses_block))]
+#[inline(always)]
 fn read_on<D: Desk>(
     alloc: Global,
     desk: &mut D,

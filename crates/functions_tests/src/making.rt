@@ -2,7 +2,7 @@
 
 use function_lines::FitRules;
 use net_functions::{NetFunction, build};
-use nf_filter::Rule;
+use nf_filter::GuardedRule;
 use policy_text::{BuildFault, Policy, Seen, TagSeen, parse};
 use std::alloc::Global;
 use std::process::Abort;
@@ -55,9 +55,9 @@ const FOREIGN: Seen = Seen {
 };
 
 // Is a rule met, first of all, that says so and has so many clauses?
-fn is_met(rules: &FitRules<Rule>, seen: &Seen, allow: bool, clauses: usize) -> bool {
+fn is_met(rules: &FitRules<GuardedRule>, seen: &Seen, allow: bool, clauses: usize) -> bool {
     match rules.first_met(seen) {
-        Some(rule) => rule.allow == allow && rule.fit.clauses.as_slice().len() == clauses,
+        Some(met) => met.rule.allow == allow && met.rule.fit.clauses.as_slice().len() == clauses,
         None => false,
     }
 }

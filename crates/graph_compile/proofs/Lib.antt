@@ -4,6 +4,7 @@ pub mod Filling
 pub mod FiveFacts
 pub mod Following
 pub mod Handed
+pub mod InARow
 pub mod Judged
 pub mod Making
 pub mod Owning

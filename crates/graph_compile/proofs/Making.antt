@@ -48,7 +48,7 @@ IsMade-rest chain draft next (suc n) m =
     let same : next + 1 + n ≡ next + suc n = omega arith in
     subst P same (IsMade-rest chain (placed chain draft next) (next + 1) n (IsMade-placed chain draft next m))
 
-IsStaged-finished : (chain : List Profile) (stages : List Stage) (first next : ℕ) (bs : List Branch) → IsStaged chain 1 stages first → Stands chain first next bs → IsStaged chain 1 (all_stages chain stages bs) next
+pub IsStaged-finished : (chain : List Profile) (stages : List Stage) (first next : ℕ) (bs : List Branch) → IsStaged chain 1 stages first → Stands chain first next bs → IsStaged chain 1 (all_stages chain stages bs) next
 IsStaged-finished chain stages first next [] closed s =
     let P : ℕ → Type 0 = λ n. IsStaged chain 1 stages n in
     let end : first ≡ next = let n = s.count in omega (arith, n) in

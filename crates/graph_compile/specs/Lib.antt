@@ -1,6 +1,7 @@
 pub mod Causes
 pub mod Facts
 pub mod Handing
+pub mod InARow
 pub mod Judging
 pub mod Lawful
 pub mod Owners

@@ -2,9 +2,11 @@
 
 ghost use Rattle.std.specs.Prelude.{◌≡◌, ◌≤◌, length, count_by};
 ghost use Rattle.action_profile.specs.Modes.{has_write, copies};
+ghost use Rattle.graph_compile.specs.InARow.{copies_nothing, stage_copies_nothing};
 
+use crate::graph::{Graph, Stage};
 use crate::parts::some_only_reads;
-use action_profile::{Mode, StageParts, Touch};
+use action_profile::{Mode, StageParts, Touch, all_fields};
 use packet_fields::Field;
 
 /// How many copies of the field a stage makes of each packet that has it. Takes no memory.
@@ -28,4 +30,19 @@ fn writers(touches: &[Touch], field: Field) -> usize
     ensures { result ≡ count_by (has_write field) touches.now }
 {
     touches.iter().filter(|t| t.writes.has(field)).count()
+}
+
+/// Does no stage copy a field of a packet? Takes no memory.
+pub fn copies_nothing(graph: &Graph) -> bool
+    ensures { result ≡ copies_nothing graph.now.stages }
+{
+    graph.stages.as_slice().iter().all(stage_copies_nothing)
+}
+
+fn stage_copies_nothing(stage: &Stage) -> bool
+    ensures { result ≡ stage_copies_nothing stage.now }
+{
+    all_fields()
+        .iter()
+        .all(|field| copies(&stage.parts, *field) == 0)
 }

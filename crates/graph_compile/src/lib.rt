@@ -4,7 +4,9 @@
 //! A stage has branches that work on the packet side by side, and a branch is a run of functions,
 //! one after another. [`compile`] makes the stages by one greedy pass over the chain: a function
 //! joins the branch that must come before it, opens a branch where none must, and closes the stage
-//! where two must. [`lawful`] tells of any graph whether it may stand for the chain.
+//! where two must. [`lawful`] tells of any graph whether it may stand for the chain. [`in_a_row`] makes the graph of one
+//! branch in which all functions come one after another, for a burst that one thread leads: where a graph copies nothing
+//! ([`copies_nothing`]), a packet ends the same way and as few copies are made by either.
 //!
 //! Each field of a packet is shared by the branches that only read it, moved to the one branch that
 //! touches it, or copied for those that write it. [`copies`] counts the copies, and
@@ -27,9 +29,10 @@ mod lawfulness;
 mod laws;
 mod parts;
 mod placing;
+mod row;
 mod touching;
 
-pub use copying::copies;
+pub use copying::{copies, copies_nothing};
 pub use graph::{Branch, Graph, Stage};
 pub use lawfulness::lawful;
 pub use laws::{
@@ -37,3 +40,4 @@ pub use laws::{
     lawful_stage_has_owners, no_copy_is_spared, stages_rise, unwritten_is_not_copied,
 };
 pub use placing::compile;
+pub use row::in_a_row;

@@ -153,7 +153,11 @@ fn stage_of(
 }
 
 // The open stage is closed, where it has a branch.
-fn finished(alloc: Global, profiles: &[Profile], draft: Draft) -> Result<Graph, AllocError>
+pub(crate) fn finished(
+    alloc: Global,
+    profiles: &[Profile],
+    draft: Draft,
+) -> Result<Graph, AllocError>
     requires { length draft.branches < 2 ^ 32 }
     ensures { IfOk result (λ graph. graph ≡ finished profiles.now draft) }
 {

@@ -75,7 +75,7 @@ pub record HasRunItems {F : Type 0} (b : Behaviour F) (graph : Graph) (unit : Ti
   pub profiles : map b.profile now ≡ map b.profile first
   pub counted : RaisesAll (walked_copies b graph.stages first (packets_taken unit chain (take i items))) old new
 
-nothing_yet : {F : Type 0} (b : Behaviour F) (stages : List Stage) (functions : List F) (f : Field) → walked_copies b stages functions [] f ≡ 0
+pub nothing_yet : {F : Type 0} (b : Behaviour F) (stages : List Stage) (functions : List F) (f : Field) → walked_copies b stages functions [] f ≡ 0
 unfolding copies_made fates
 nothing_yet b stages functions f = refl
 
@@ -88,7 +88,7 @@ items_begin b graph unit chain items first done tally none = record {
   counted = λ f. let zero_made = nothing_yet b graph.stages first f in omega (arith, zero_made);
 }
 
-raised_more : (c a m all now new : ℕ) → now ≡ raised c a → new ≡ raised now m → all ≡ a + m → new ≡ raised c all
+pub raised_more : (c a m all now new : ℕ) → now ≡ raised c a → new ≡ raised now m → all ≡ a + m → new ≡ raised c all
 raised_more c a m all now new x y e = omega arith
 
 pub item_more : {F : Type 0} (b : Behaviour F) (graph : Graph) (unit : TimeUnit) (chain : ℕ) (items : List Item) (first now after : List F) (i : ℕ) (done more : List Fate) (old new newer : List ℕ) (d : Item) → FatesInARow F → FunctionsInARow F → AsManyFates F →
@@ -109,7 +109,7 @@ item_more {F} b graph unit chain items first now after i done more old new newer
     }
 
 -- all that a whole list makes is at least what its front and the item behind it make
-bounded : (c a m n all now new : ℕ) → now ≡ raised c a → now ≤ new → new ≤ raised now m → all ≡ a + (m + n) → (c ≤ new) × (new ≤ raised c all)
+pub bounded : (c a m n all now new : ℕ) → now ≡ raised c a → now ≤ new → new ≤ raised now m → all ≡ a + (m + n) → (c ≤ new) × (new ≤ raised c all)
 bounded c a m n all now new x low high e = (omega arith, omega arith)
 
 pub item_fails : {F : Type 0} (b : Behaviour F) (graph : Graph) (unit : TimeUnit) (chain : ℕ) (items : List Item) (first now : List F) (i : ℕ) (done : List Fate) (old new newer : List ℕ) (d : Item) → FatesInARow F → FunctionsInARow F → AsManyFates F →

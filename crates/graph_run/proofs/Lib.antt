@@ -17,3 +17,5 @@ pub mod Onward
 pub mod Passing
 pub mod Bursting
 pub mod Single
+pub mod InARow
+pub mod LedInPieces

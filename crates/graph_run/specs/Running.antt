@@ -1,8 +1,9 @@
 -- For proofs: the functions of a chain and their graph, ready to run.
-use Rattle.std.specs.Prelude.{◌≤◌, List, length, map}
+use Rattle.std.specs.Prelude.{◌≡◌, ◌≤◌, true, List, length, map}
 use Rattle.action_profile.specs.declared.rights.Profile.{Profile}
 use Rattle.chain_walk.specs.Step.{Behaviour}
 use Rattle.graph_compile.specs.Facts.{IsLawful, IsFull}
+use Rattle.graph_compile.specs.InARow.{copies_nothing}
 use Rattle.graph_compile.specs.declared.graph.Graph.{Graph}
 
 -- The functions in chain order, and the graph that they run in.
@@ -19,3 +20,9 @@ pub record IsRunning {F : Type 0} (b : Behaviour F) (functions : List F) (graph 
   pub few : length functions ≤ 64
   pub lawful : IsLawful graph (profiles_of b functions)
   pub full : IsFull graph
+
+-- The functions run as well in another graph, and neither copies a field.
+pub record IsRow {F : Type 0} (b : Behaviour F) (functions : List F) (graph row : Graph) : Type 0 where
+  pub runs : IsRunning b functions row
+  pub own_copies : copies_nothing graph.stages ≡ true
+  pub row_copies : copies_nothing row.stages ≡ true

@@ -17,7 +17,9 @@
 //! whole packet (`packet_version`); a stage of branches that are not forbidden beside each other gives what
 //! its functions give one after another (`graph_law`); and a whole frame walks as its fields do
 //! (`chain_walk`). Here the code is tied to these laws: a branch (`run_branch`), a stage, a packet, a
-//! burst. [`run_gated`] does the same past a gate.
+//! burst. [`run_gated`] does the same past a gate, and [`run_items`] for a piece of a burst: pieces that are led one after another
+//! are the burst (`pieces_are_led_in_a_row`). [`run_in_a_row`] does it through a graph of one branch, where the own graph copies
+//! nothing.
 //!
 //! Checksums are left out (frames that go out are not sealed), and so are threads.
 #![tactic(auto)]
@@ -25,7 +27,9 @@
 mod branch;
 mod laws;
 mod packet;
+mod pieces;
 mod plain;
+mod row;
 mod running;
 mod stage;
 
@@ -35,5 +39,7 @@ pub use laws::{
     branches_hold_what_is_named, dealt_versions_go_on, due_copies_are_counted,
     functions_keep_to_profiles, merged_packets_go_on, versions_go_on,
 };
-pub use plain::{count_adders, is_of, run_gated, run_plain};
+pub use pieces::pieces_are_led_in_a_row;
+pub use plain::{count_adders, is_of, run_gated, run_items, run_plain};
+pub use row::run_in_a_row;
 pub use running::Running;

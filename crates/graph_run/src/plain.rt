@@ -58,14 +58,33 @@ pub fn run_gated<F: Function + Drop, G: Gate, R: Wait>(
     ensures leads { IfOk result (λ ran. Leads F.behaviour run (packets_taken unit chain burst.now.items) tally.old tally.new ran.0 ran.1.items) }
     ensures refused { OnErr result (RaisesUpTo (copies_made run.graph.stages (packets_taken unit chain burst.now.items) (fates F.behaviour run.functions (packets_taken unit chain burst.now.items))) tally.old tally.new) }
 {
+    let items = burst.items.as_slice();
+    run_items(rt, alloc, run, items, unit, chain, tally, gate)
+}
+
+/// The same of items that stand one behind the other in a burst.
+pub fn run_items<F: Function + Drop, G: Gate, R: Wait>(
+    rt: &R,
+    alloc: Global,
+    run: Running<F>,
+    items: &[Item],
+    unit: Unit,
+    chain: u32,
+    tally: &mut Tally,
+    gate: &G,
+) -> Result<(Running<F>, Vec<Fate>), AllocError>
+    requires few { length items.now ≤ 65536 }
+    ensures leads { IfOk result (λ ran. Leads F.behaviour run (packets_taken unit chain items.now) tally.old tally.new ran.0 ran.1.items) }
+    ensures refused { OnErr result (RaisesUpTo (copies_made run.graph.stages (packets_taken unit chain items.now) (fates F.behaviour run.functions (packets_taken unit chain items.now))) tally.old tally.new) }
+{
     packets_walk_in_a_row::<F>();
     let Running {
         mut functions,
         graph,
+        row: beside,
         pace,
     } = run;
     let taggers = count_adders(&functions);
-    let items = burst.items.as_slice();
     let mut fates = Vec::with_capacity(alloc, items.len())?;
     for item in items {
         run_item(
@@ -85,6 +104,7 @@ pub fn run_gated<F: Function + Drop, G: Gate, R: Wait>(
     let run = Running {
         functions,
         graph,
+        row: beside,
         pace,
     };
     Ok((run, fates))

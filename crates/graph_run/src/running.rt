@@ -11,18 +11,22 @@ use std::marker::Model;
 pub struct Running<F: Function> {
     pub(crate) functions: Vec<F>,
     pub(crate) graph: Graph,
+    // The functions in a row, for bursts that go on one thread: none where a stage copies a field, or none went so yet.
+    // Contracts don't see it.
+    pub(crate) row: Option<Graph>,
     // By which way its bursts go. Contracts don't see it.
     pub(crate) pace: Pace,
 }
 
 impl<F: Function> Model for Running<F> {
-    ghost use Rattle.graph_run.specs.Running.{PlainRunning, IsRunning};
+    ghost use Rattle.std.specs.Prelude.{IfSome};
+    ghost use Rattle.graph_run.specs.Running.{PlainRunning, IsRunning, IsRow};
 
     ghost Value = { PlainRunning F };
 
     ghost view = { λ r. record { functions = r.functions.items; graph = r.graph } };
 
-    ghost invariant = { λ r. IsRunning F.behaviour r.functions.items r.graph };
+    ghost invariant = { λ r. IsRunning F.behaviour r.functions.items r.graph × IfSome r.row (IsRow F.behaviour r.functions.items r.graph) };
 }
 
 impl<F: Function> Running<F> {
@@ -38,6 +42,7 @@ impl<F: Function> Running<F> {
         Running {
             functions,
             graph,
+            row: None,
             pace: Pace::new(),
         }
     }
@@ -51,6 +56,7 @@ impl<F: Function> Running<F> {
         let Running {
             functions,
             graph,
+            row: _,
             pace: _,
         } = self;
         (functions, graph)

@@ -1,4 +1,5 @@
 pub mod Firewalls
+pub mod Guards
 pub mod FirewallLaws
 pub mod Lines
 pub mod Signatures

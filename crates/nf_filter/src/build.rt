@@ -1,6 +1,6 @@
 //! Makes a firewall of the lines that declare it.
 
-use crate::firewall::{Firewall, Rule};
+use crate::firewall::{Firewall, GuardedRule};
 use crate::lines::FirewallLine;
 use function_lines::{FitRules, read_lines};
 use item_list::Items;
@@ -41,7 +41,7 @@ impl Firewall {
 #[derive(Drop)]
 struct Draft {
     default: bool,
-    rules: Items<Rule>,
+    rules: Items<GuardedRule>,
 }
 
 impl Model for Draft {
@@ -72,7 +72,7 @@ impl Draft {
     {
         match line {
             FirewallLine::Default(allow) => self.default = allow,
-            FirewallLine::Rule(rule) => self.rules.push(rule)?,
+            FirewallLine::Rule(rule) => self.rules.push(GuardedRule::new(rule))?,
         }
         Ok(())
     }

@@ -1,12 +1,14 @@
 //! A firewall, and what it decides.
+use crate::guard::Guard;
 use crate::verdict::verdict;
 use chain_walk::Verdict;
 use frame_seen::{seen_address, seen_address6, seen_port, seen_tags};
 use function_lines::{Asked, FitRules, Fitting};
 use packet_fields::Field;
 use packet_version::{View, unwritten_stays};
-use policy_text::{Match, Seen};
+use policy_text::{Match, Seen, fits};
 use std::alloc::AllocError;
+use std::marker::Model;
 
 /// A rule: whether a packet that meets all its clauses passes.
 #[derive(Debug, Drop)]
@@ -15,11 +17,53 @@ pub struct Rule {
     pub fit: Match,
 }
 
-impl Fitting for Rule {
+/// A rule, with what it asks of addresses. A contract sees it as the rule.
+#[derive(Debug, Drop)]
+pub struct GuardedRule {
+    pub rule: Rule,
+    guard: Guard,
+}
+
+impl Model for GuardedRule {
+    ghost use Rattle.std.specs.Prelude.{◌≡◌};
+    ghost use Rattle.nf_filter.specs.declared.firewall.Rule.{Rule};
+    ghost use Rattle.nf_filter.specs.Guards.{guard_of};
+
+    ghost Value = { Rule };
+
+    ghost view = { λ g. g.rule };
+
+    ghost invariant = { λ g. g.guard ≡ guard_of g.rule.fit };
+}
+
+impl Fitting for GuardedRule {
     ghost fit = { λ rule. rule.fit };
 
     fn fit(&self) -> &Match {
-        &self.fit
+        &self.rule.fit
+    }
+}
+
+impl GuardedRule {
+    ghost use Rattle.std.specs.Prelude.{◌≡◌};
+    ghost use Rattle.policy_text.specs.Meeting.{is_fitting};
+
+    pub(crate) fn new(rule: Rule) -> GuardedRule
+        ensures { result ≡ rule }
+    {
+        let guard = Guard::of(&rule.fit);
+        GuardedRule { rule, guard }
+    }
+
+    /// Does a packet of which this is seen meet all clauses?
+    #[tactic(auto, using(crate::proofs::Guards::not_let))]
+    fn is_met_by(&self, seen: &Seen) -> bool
+        ensures { result ≡ is_fitting self.now.fit seen.now }
+    {
+        if !self.guard.lets(seen) {
+            return false;
+        }
+        fits(&self.rule.fit, seen)
     }
 }
 
@@ -28,7 +72,7 @@ impl Fitting for Rule {
 pub struct Firewall {
     /// Does a packet pass that meets no rule?
     pub default: bool,
-    pub rules: FitRules<Rule>,
+    pub rules: FitRules<GuardedRule>,
 }
 
 impl Firewall {
@@ -50,8 +94,8 @@ impl Firewall {
     pub(crate) fn judge(&self, seen: &Seen) -> bool
         ensures { result ≡ passes self.now seen.now }
     {
-        match self.rules.first_met(seen) {
-            Some(rule) => rule.allow,
+        match first_met(self.rules.as_slice(), seen) {
+            Some(met) => met.rule.allow,
             None => self.default,
         }
     }
@@ -103,7 +147,15 @@ ghost use Rattle.action_profile.specs.Profiles.{profile_of, reads_of};
 ghost use Rattle.action_profile.specs.declared.kind.Kind.{Kind};
 ghost use Rattle.frame_seen.specs.Seeing.{seen_by};
 ghost use Rattle.function_lines.specs.Asking.{Shows};
+ghost use Rattle.function_lines.specs.Rules.{first_met};
 ghost use Rattle.packet_version.specs.Views.{seen_values};
+
+/// The first rule whose clauses a packet meets, all of them.
+fn first_met<'a>(rules: &'a [GuardedRule], seen: &Seen) -> Option<&'a GuardedRule>
+    ensures { option_copied result ≡ first_met (λ rule. rule.fit) seen.now rules.now }
+{
+    rules.iter().find(|rule| rule.is_met_by(seen))
+}
 
 /// What clauses see of the packet behind a view that look at these values.
 fn seen_in(view: &View, asked: Asked) -> Seen

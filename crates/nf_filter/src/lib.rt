@@ -4,7 +4,8 @@
 //! outermost VLAN id (RFC 791, RFC 8200, RFC 793, RFC 768, IEEE 802.1Q). The first rule whose clauses are all
 //! met decides, and where none is the default does, which allows unless it is set otherwise.
 //! [`Firewall::build`] makes it of the lines that an operator wrote, or names the least line that is
-//! refused.
+//! refused. What a rule asks of IPv4 addresses is found then (`guard`), so that a step tells most of many rules that a packet doesn't meet
+//! by two comparisons each.
 //!
 //! As a function of a chain a firewall has one meaning, `firewall_behaviour` of
 //! `specs/Firewalls.antt`: it judges by what it is shown, writes nothing, and stays as it is. It sees a
@@ -12,8 +13,8 @@
 //! `firewall_keeps` of `specs/FirewallLaws.antt`.
 //!
 //! A [`Signature`] is a list of patterns, each of 1 to 256 bytes. It drops a packet exactly where one of them occurs in the packet's
-//! data, and writes nothing. The search for a pattern is made once, when the signature is built ([`Signature::build`]); a step
-//! searches the bytes that the view lends ([`Signature::step`]), and takes no memory. Its meaning is `signature_behaviour` of
+//! data, and writes nothing. The searches for patterns are made once, when the signature is built ([`Signature::build`]); a step
+//! searches the bytes that the view lends ([`Signature::step`]), in one pass where the patterns are many, and takes no memory. Its meaning is `signature_behaviour` of
 //! `specs/Signatures.antt`, and that it keeps to its profile is `signature_keeps` of `specs/SignatureLaws.antt`. A pattern that
 //! begins in one packet and ends in another is not found: no packet is remembered.
 //!
@@ -23,9 +24,10 @@
 
 mod build;
 mod firewall;
+mod guard;
 mod lines;
 mod signature;
 mod verdict;
 
-pub use firewall::{Firewall, Rule};
+pub use firewall::{Firewall, GuardedRule, Rule};
 pub use signature::Signature;

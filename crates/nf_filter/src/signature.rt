@@ -1,18 +1,18 @@
 //! A signature, and what it decides.
 use crate::verdict::verdict;
 use chain_walk::Verdict;
-use function_lines::{SharedItems, read_lines};
+use function_lines::read_lines;
 use packet_fields::Field;
 use packet_version::{View, unwritten_stays};
-use patterns::{Pattern, first_occurring};
+use patterns::{Pattern, PatternSet, first_occurring};
 use policy_text::{BuildFault, FunctionDecl};
 use std::alloc::{AllocError, Global};
 
 /// Patterns, of which none may occur in a packet's data.
 #[derive(Debug, Drop)]
 pub struct Signature {
-    /// Each with the search for it, which was made when the signature was.
-    pub patterns: SharedItems<Pattern>,
+    /// With the searches for them, which were made when the signature was.
+    pub patterns: PatternSet,
 }
 
 impl Signature {
@@ -31,7 +31,7 @@ impl Signature {
     {
         let patterns = read_lines::<Pattern>(alloc, decl)?;
         Ok(Signature {
-            patterns: SharedItems::new(alloc, patterns)?,
+            patterns: PatternSet::new(alloc, patterns)?,
         })
     }
 
@@ -54,7 +54,7 @@ impl Signature {
     {
         // Nothing is written, so the view is as it was.
         unwritten_stays(view);
-        let passes = !is_found(self.patterns.as_slice(), view.get(Field::Payload));
+        let passes = !is_found(&self.patterns, view.get(Field::Payload));
         Ok(verdict(passes))
     }
 
@@ -72,7 +72,7 @@ ghost use Rattle.std.specs.Option.{option_copied};
 ghost use Rattle.nf_filter.specs.Signatures.{is_found};
 
 /// Does one of the patterns occur in the payload, where there is one?
-fn is_found(patterns: &[Pattern], payload: Option<&[u8]>) -> bool
+fn is_found(patterns: &PatternSet, payload: Option<&[u8]>) -> bool
     ensures { result ≡ is_found patterns.now (option_copied payload.entry) }
 {
     match payload {

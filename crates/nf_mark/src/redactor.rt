@@ -1,17 +1,17 @@
 //! A redactor, and what it overwrites.
 use chain_walk::Verdict;
-use function_lines::{SharedItems, read_lines};
+use function_lines::read_lines;
 use packet_fields::Field;
 use packet_version::{View, unwritten_stays, written_is_one_value};
-use patterns::{Pattern, first_occurring, redact};
+use patterns::{Pattern, PatternSet, first_occurring, redact};
 use policy_text::{BuildFault, FunctionDecl};
 use std::alloc::{AllocError, Global};
 
 /// Patterns that are overwritten in a packet's data, in this order.
 #[derive(Debug, Drop)]
 pub struct Redactor {
-    /// Each with the search for it, which was made when the redactor was.
-    pub patterns: SharedItems<Pattern>,
+    /// With the searches for them, which were made when the redactor was.
+    pub patterns: PatternSet,
 }
 
 impl Redactor {
@@ -32,7 +32,7 @@ impl Redactor {
     {
         let patterns = read_lines::<Pattern>(alloc, decl)?;
         Ok(Redactor {
-            patterns: SharedItems::new(alloc, patterns)?,
+            patterns: PatternSet::new(alloc, patterns)?,
         })
     }
 
@@ -63,13 +63,12 @@ impl Redactor {
         requires profile { view.old.profile ≡ profile_of Kind.Redactor }
         ensures { view.new ≡ wrote_all (to_payload (redacted_payload self.now.patterns (seen_values view.old Field.Payload))) view.old }
     {
-        let patterns = self.patterns.as_slice();
-        let found = first_found(patterns, view.get(Field::Payload));
+        let found = first_found(&self.patterns, view.get(Field::Payload));
         let Some(place) = found else {
             unwritten_stays(view);
             return;
         };
-        let (_, patterns) = patterns.split_at(place);
+        let (_, patterns) = self.patterns.as_slice().split_at(place);
         overwrite_payload(patterns, view);
     }
 
@@ -94,7 +93,7 @@ ghost use Rattle.nf_mark.specs.FoundPatterns.{Finds};
 
 /// The place of the first pattern that occurs in the payload, where there is one.
 #[tactic(auto, using(crate::proofs::Redacting::finds))]
-fn first_found(patterns: &[Pattern], payload: Option<&[u8]>) -> Option<usize>
+fn first_found(patterns: &PatternSet, payload: Option<&[u8]>) -> Option<usize>
     ensures { Finds patterns.now (option_copied payload.entry) result }
 {
     match payload {

@@ -1,14 +1,22 @@
 -- For proofs: by which way a burst goes.
-use Rattle.std.specs.Prelude.{ℕ, ◌+◌, ◌-◌, ◌/◌, min, Bool, true, false, nat_le, nat_lt, if◌then◌else◌, Option, Some, None}
+use Rattle.std.specs.Prelude.{ℕ, ◌+◌, ◌-◌, ◌/◌, ◌&&◌, ◌||◌, min, Bool, true, false, not, nat_le, nat_lt, if◌then◌else◌, Option, Some, None}
 use Rattle.pace.specs.declared.pace.Lead.{Lead}
 use Rattle.pace.specs.declared.pace.Lead.TheVariants.{Threads, Alone}
 use Rattle.pace.specs.declared.pace.Pace.{Pace}
 use Rattle.pace.specs.declared.pace.Part.{Part}
 use Rattle.pace.specs.declared.pace.Part.TheVariants.{FirstOnThreads, FirstAlone, MoreOnThreads, MoreAlone, Chosen}
 
--- threads pay where they spare a tenth of the time of one
+-- a packet is light that takes less than four microseconds on one thread: to hand it from thread to thread costs more than threads spare
+abbrev pub is_light : ℕ → Bool
+is_light alone = nat_lt alone 4000
+
+abbrev pub are_light : Option ℕ → Bool
+are_light (Some alone) = is_light alone
+are_light None = false
+
+-- threads pay where packets aren't light and they spare a tenth of the time of one
 abbrev pub pays : ℕ → ℕ → Bool
-pays threads alone = nat_le threads (alone - alone / 10)
+pays threads alone = not (is_light alone) && nat_le threads (alone - alone / 10)
 
 -- by what a packet takes on threads and on one
 abbrev pub better : Option ℕ → Option ℕ → Lead
@@ -27,32 +35,38 @@ lead_by Chosen threads alone = better threads alone
 abbrev pub lead_of : Pace → Lead
 lead_of pace = lead_by pace.part pace.threads pace.alone
 
--- each part has one burst at least
+-- how many packets go by the way of a part before it is asked for again
+abbrev pub most : Part → ℕ
+most FirstOnThreads = 1024
+most FirstAlone = 1024
+most MoreOnThreads = 8192
+most MoreAlone = 2048
+most Chosen = 514048
+
+-- each part has one burst at least, and the first two have one
 abbrev pub is_over : Part → ℕ → Bool
 is_over FirstOnThreads packets = true
 is_over FirstAlone packets = true
-is_over MoreOnThreads packets = nat_le 8192 packets
-is_over MoreAlone packets = nat_le 2048 packets
-is_over Chosen packets = nat_le 514048 packets
+is_over part packets = nat_le (most part) packets
 
--- threads are hopeless where they take more than four times as long
+-- threads are hopeless where packets are light, or threads take more than four times as long
 abbrev pub are_hopeless : Option ℕ → Option ℕ → Bool
-are_hopeless (Some threads) (Some alone) = nat_lt alone (threads / 4)
+are_hopeless (Some threads) (Some alone) = is_light alone || nat_lt alone (threads / 4)
 are_hopeless threads alone = false
 
--- what is hopeless isn't tried with more bursts
-abbrev pub next_part : Bool → Part → Part
-next_part hopeless FirstOnThreads = FirstAlone
-next_part hopeless FirstAlone = if hopeless then Chosen else MoreOnThreads
-next_part hopeless MoreOnThreads = MoreAlone
-next_part hopeless MoreAlone = Chosen
-next_part hopeless Chosen = FirstOnThreads
+-- what is hopeless isn't tried with more bursts, and where packets are light no new round begins
+abbrev pub next_part : Option ℕ → Option ℕ → Part → Part
+next_part threads alone FirstOnThreads = FirstAlone
+next_part threads alone FirstAlone = if are_hopeless threads alone then Chosen else MoreOnThreads
+next_part threads alone MoreOnThreads = MoreAlone
+next_part threads alone MoreAlone = Chosen
+next_part threads alone Chosen = if are_light alone then Chosen else FirstOnThreads
 
 -- a burst of so many packets more went in this part
 abbrev pub after : ℕ → Pace → Pace
 after packets pace =
     if is_over pace.part (min (pace.packets + packets) 4294967295)
-    then record pace { part = next_part (are_hopeless pace.threads pace.alone) pace.part; packets = 0 }
+    then record pace { part = next_part pace.threads pace.alone pace.part; packets = 0 }
     else record pace { packets = min (pace.packets + packets) 4294967295 }
 
 -- what is kept of what a packet took by a way: the least that was seen, which rises by a sixteenth with each burst, since what disturbs a

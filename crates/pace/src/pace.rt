@@ -9,8 +9,14 @@ const ALONE: u32 = 2_048;
 /// By the better way go so many.
 const CHOSEN: u32 = 514_048;
 
+/// The burst that begins either way has no more of them.
+const FIRST: u32 = 1_024;
+
 /// Threads that take so many times as long as one are hopeless, and no more bursts try them.
 const HOPELESS: u64 = 4;
+
+/// A packet that takes fewer nanoseconds on one thread is light: to hand it from thread to thread costs more than threads spare.
+const LIGHT: u64 = 4_000;
 
 /// The ways of a burst.
 #[derive(Clone, Copy, PartialEq, Eq, Debug)]
@@ -51,7 +57,7 @@ pub struct Pace {
 }
 
 ghost use Rattle.std.specs.Prelude.{◌≡◌, ◌<◌, ◌/◌, Some, None};
-ghost use Rattle.pace.specs.Pacing.{after, are_hopeless, better, is_over, kept, lead_of, next_part, pays};
+ghost use Rattle.pace.specs.Pacing.{after, are_hopeless, are_light, better, is_light, is_over, kept, lead_of, most, next_part, pays};
 ghost use Rattle.pace.specs.declared.pace.Lead.{Lead};
 ghost use Rattle.pace.specs.declared.pace.Part.{Part};
 
@@ -76,6 +82,19 @@ impl Pace {
             Part::FirstOnThreads | Part::MoreOnThreads => Lead::Threads,
             Part::FirstAlone | Part::MoreAlone => Lead::Alone,
             Part::Chosen => self.better(),
+        }
+    }
+
+    /// How many packets at most go by that way before it is asked for again.
+    pub fn most(&self) -> u32
+        ensures most { result ≡ most self.now.part }
+        ensures some { 0 < result }
+    {
+        match self.part {
+            Part::FirstOnThreads | Part::FirstAlone => FIRST,
+            Part::MoreOnThreads => ON_THREADS,
+            Part::MoreAlone => ALONE,
+            Part::Chosen => CHOSEN,
         }
     }
 
@@ -113,15 +132,13 @@ impl Pace {
     {
         match self.part {
             Part::FirstOnThreads | Part::FirstAlone => true,
-            Part::MoreOnThreads => self.packets >= ON_THREADS,
-            Part::MoreAlone => self.packets >= ALONE,
-            Part::Chosen => self.packets >= CHOSEN,
+            _ => self.packets >= self.most(),
         }
     }
 
     /// The part behind this one.
     fn next_part(&self) -> Part
-        ensures { result ≡ next_part (are_hopeless self.now.threads self.now.alone) self.now.part }
+        ensures { result ≡ next_part self.now.threads self.now.alone self.now.part }
     {
         match self.part {
             Part::FirstOnThreads => Part::FirstAlone,
@@ -129,26 +146,41 @@ impl Pace {
             Part::FirstAlone => Part::MoreOnThreads,
             Part::MoreOnThreads => Part::MoreAlone,
             Part::MoreAlone => Part::Chosen,
+            Part::Chosen if self.are_packets_light() => Part::Chosen,
             Part::Chosen => Part::FirstOnThreads,
         }
     }
 
-    /// Did threads take so much longer that more of them needn't be tried?
+    /// Are packets light, or did threads take so much longer, that more threads needn't be tried?
     fn are_threads_hopeless(&self) -> bool
         ensures { result ≡ are_hopeless self.now.threads self.now.alone }
     {
         match (self.threads, self.alone) {
-            (Some(threads), Some(alone)) => threads / HOPELESS > alone,
+            (Some(threads), Some(alone)) => is_light(alone) || threads / HOPELESS > alone,
             _ => false,
         }
     }
+
+    /// Are packets light, as far as that is known?
+    fn are_packets_light(&self) -> bool
+        ensures { result ≡ are_light self.now.alone }
+    {
+        self.alone.is_some_and(is_light)
+    }
 }
 
-/// Do threads spare a tenth of the time of one?
+/// Is a packet light that takes so long on one thread?
+fn is_light(alone: u64) -> bool
+    ensures { result ≡ is_light alone }
+{
+    alone < LIGHT
+}
+
+/// Do threads spare a tenth of the time of one, where a packet isn't light?
 fn pays(threads: u64, alone: u64) -> bool
     ensures { result ≡ pays threads alone }
 {
-    threads <= alone - alone / 10
+    !is_light(alone) && threads <= alone - alone / 10
 }
 
 /// What is kept of what a packet took by a way, `before` and in this burst.

@@ -1,10 +1,11 @@
 -- Several patterns, one after another.
-use Rattle.std.proofs.Common.{◌≡◌, ◌<◌, ◌≤◌, ◌+◌, ◌∙◌, ℕ, zero, suc, List, [], ◌∷◌, length, drop, get_or, refl, sym, ap, subst, Bool, false, not, ⊎_elim, arith}
+use Rattle.std.proofs.Common.{◌≡◌, ◌<◌, ◌≤◌, ◌+◌, ◌∙◌, ℕ, zero, suc, List, [], ◌∷◌, length, drop, get_or, refl, sym, ap, subst, Bool, true, false, not, ⊎_elim, arith}
 use Rattle.std.specs.Prelude.{Option, Some, None, nat_lt}
 use Rattle.std.specs.List.{list_any, position, position_or_len}
-use Rattle.std.proofs.lemmas.Bool.{cases_Bool, or_from, cond-true, cond-false, ltb-false, not_from_true, not_from_false}
+use Rattle.std.proofs.lemmas.Bool.{cases_Bool, cases_lt, both_ways, or_from, cond-true, cond-false, ltb-true, ltb-false, lt-ltb, not-true, not-false, not_from_true, not_from_false, false_from_ne_true}
 use Rattle.std.proofs.lemmas.List.Quantifiers.{position-Some}
 use Rattle.std.proofs.lemmas.List.Folds.{list_any_at}
+use Rattle.std.proofs.lemmas.List.Sums.{prefix_len_passes, prefix_len_stops}
 use Rattle.patterns.specs.Occurrences.{occurs}
 use Rattle.patterns.specs.Overwriting.{redacted}
 use Rattle.patterns.specs.Steps.{BeginsAt}
@@ -32,6 +33,29 @@ module _ {X : Type 0} (test : X → Bool) where
     where
       some_none : Some (position_or_len test xs) ≡ None → ⊥
       some_none e = cc
+
+  -- the place of the first that passes, and none where none does
+  pub first_passes : (xs : List X) (i : ℕ) (d : X) → i < length xs → test (get_or xs i d) ≡ true → ((k : ℕ) → k < i → test (get_or xs k d) ≡ false) → position test xs ≡ Some i
+  first_passes xs i d within here before =
+      let n = position_or_len test xs in
+      let not_before : i ≤ n = ⊎_elim
+      (λ below. absurd (both_ways (test (get_or xs n d)) (before n below) (not-false (test (get_or xs n d)) (prefix_len_stops (λ x. not (test x)) xs d (below_len n below)))))
+      (λ above. above) (cases_lt n i) in
+      let not_behind : n ≤ i = ⊎_elim
+      (λ above. absurd (both_ways (test (get_or xs i d)) (not-true (test (get_or xs i d)) (prefix_len_passes (λ x. not (test x)) xs i d above)) here))
+      (λ below. below) (cases_lt i n) in
+      let same : n ≡ i = omega arith in
+      cond-true (nat_lt n (length xs)) (Some n) None (lt-ltb n (length xs) (omega arith)) ∙ ap Some same
+    where
+      below_len : (n : ℕ) → n < i → n < length xs
+      below_len n below = omega arith
+
+  pub none_passes_at : (xs : List X) (d : X) → ((k : ℕ) → k < length xs → test (get_or xs k d) ≡ false) → position test xs ≡ None
+  none_passes_at xs d none =
+      let n = position_or_len test xs in
+      cond-false (nat_lt n (length xs)) (Some n) None (false_from_ne_true (nat_lt n (length xs)) (λ h.
+      let below = ltb-true n (length xs) h in
+      both_ways (test (get_or xs n d)) (none n below) (not-false (test (get_or xs n d)) (prefix_len_stops (λ x. not (test x)) xs d below))))
 
 -- patterns that don't occur change nothing
 skipped : (patterns : List (List ℕ)) (payload : List ℕ) (place : ℕ) → ((k : ℕ) → k < place → occurs (get_or patterns k []) payload ≡ false) →

@@ -53,6 +53,13 @@ impl Pattern {
         }
     }
 
+    /// Its bytes.
+    pub(crate) fn bytes(&self) -> &[u8]
+        ensures { result.now ≡ self.now }
+    {
+        self.finder.needle()
+    }
+
     /// Does it occur in the payload?
     #[tactic(auto, using(crate::proofs::Standing::search_tells))]
     pub fn occurs(&self, payload: &[u8]) -> bool

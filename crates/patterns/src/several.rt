@@ -5,21 +5,16 @@ ghost use Rattle.patterns.specs.Overwriting.{redacted};
 ghost use Rattle.patterns.specs.Steps.{BeginsAt};
 
 use crate::pattern::Pattern;
+use crate::set::PatternSet;
 
 /// The place of the first pattern that occurs in the payload, or `None` where none occurs. To overwrite all of them, those from
 /// this place on are enough.
 #[tactic(auto, using(crate::proofs::OneByOne::first_place))]
-pub fn first_occurring(patterns: &[Pattern], payload: &[u8]) -> Option<usize>
+pub fn first_occurring(patterns: &PatternSet, payload: &[u8]) -> Option<usize>
     ensures first { result ≡ position (λ pattern. occurs pattern payload.now) patterns.now }
     ensures enough { BeginsAt patterns.now payload.now result }
 {
-    place_of(patterns, payload)
-}
-
-fn place_of(patterns: &[Pattern], payload: &[u8]) -> Option<usize>
-    ensures { result ≡ position (λ pattern. occurs pattern payload.now) patterns.now }
-{
-    patterns.iter().position(|pattern| pattern.occurs(payload))
+    patterns.place_of(payload)
 }
 
 /// Overwrites the patterns one after another, each in the payload as those before it left it. Its length stays.

@@ -30,6 +30,7 @@ const MOST_FRAME: u32 = 262_144;
 const BLOCKS: u64 = 1_099_511_627_776;
 
 // The first fault of a block behind a place.
+#[inline(always)]
 pub fn content_fault(place: &Place, order: Endian, kind: BlockKind, block: &[u8]) -> Option<NgFault>
     requires least { 12 ≤ length block.now }
     requires most { length block.now ≤ 16777216 }
@@ -84,6 +85,7 @@ fn interface_fault(place: &Place, order: Endian, block: &[u8]) -> Option<NgFault
     count_fault(number)
 }
 
+#[inline(always)]
 fn packet_fault(place: &Place, order: Endian, block: &[u8]) -> Option<NgFault>
     requires least { 12 ≤ length block.now }
     requires most { length block.now ≤ 16777216 }

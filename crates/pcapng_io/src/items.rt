@@ -22,6 +22,7 @@ const FRAME_AT: usize = 28;
 const SECOND: u64 = 1_000_000_000;
 
 /// What a block gives; the place goes behind it. On want of memory the place isn't used again.
+#[inline(always)]
 pub fn item_in(
     alloc: Global,
     place: &mut Place,
@@ -66,6 +67,7 @@ pub fn item_in(
 }
 
 // The packet in a block, whose interface has so many ticks in a second.
+#[inline(always)]
 fn packet_in(
     alloc: Global,
     order: Endian,
@@ -99,6 +101,7 @@ fn packet_in(
 }
 
 // The frame in a packet's block: the block's memory becomes the frame's.
+#[inline(always)]
 fn frame_in(block: Vec<u8>, captured: usize) -> Frame
     requires { 28 + captured ≤ length block.items }
     ensures { result ≡ take captured (drop 28 block.items) }

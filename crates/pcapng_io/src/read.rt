@@ -33,6 +33,7 @@ pub struct BlockHead {
 }
 
 /// Reads a block's first bytes behind those that were read before; `None` where nothing is left.
+#[inline(always)]
 pub fn open<D: Desk>(
     desk: &mut D,
     place: &Place,
@@ -103,6 +104,7 @@ fn open_section<D: Desk>(
 }
 
 // What the first eight bytes of another block say.
+#[inline(always)]
 fn open_other(
     place: &Place,
     kind: BlockKind,
@@ -131,6 +133,7 @@ fn open_other(
 }
 
 // The order and the length that a block's first bytes say, or their fault.
+#[inline(always)]
 fn head_says(place: &Place, kind: BlockKind, head: &[u8]) -> Result<(Endian, u32), NgFault>
     requires few { place.now.blocks < 1099511627776 }
     requires enough { length head.now ≡ head_length kind }
@@ -146,6 +149,7 @@ fn head_says(place: &Place, kind: BlockKind, head: &[u8]) -> Result<(Endian, u32
 }
 
 /// Reads the rest of a block of which the first bytes were read, and gives the whole of it.
+#[inline(always)]
 pub fn close<D: Desk>(
     alloc: Global,
     desk: &mut D,
@@ -223,6 +227,7 @@ fn longer(front: &[u8]) -> [u8; SECTION_HEAD]
 }
 
 // Fills a buffer whose first bytes were read before, and says how many are there.
+#[inline(always)]
 fn fill_behind<D: Desk>(desk: &mut D, buffer: &mut [u8], known: usize) -> Result<usize, NgReadFault>
     requires attached { IsSome (D.slots desk.old Slot.Capture).name }
     requires within { known ≤ length buffer.old }

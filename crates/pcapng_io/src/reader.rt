@@ -18,6 +18,7 @@ use std::alloc::Global;
 use std::marker::Model;
 
 // Reads the block behind a place, of which these bytes were read before, and goes behind it; `None` where nothing is left.
+#[inline(always)]
 fn read<D: Desk>(
     alloc: Global,
     desk: &mut D,
@@ -58,6 +59,7 @@ fn read<D: Desk>(
 }
 
 // What a block gives that was read, or its fault; the place goes behind it.
+#[inline(always)]
 fn give(
     alloc: Global,
     place: &mut Place,
@@ -147,6 +149,7 @@ impl NgReader {
     /// Reads the next block; `None` exactly where nothing is left.
     ///
     /// It is refused with the first fault of the block that stands next. After an `Err` the reader is spent.
+    #[inline(always)]
     pub fn next<D: Desk>(
         &mut self,
         alloc: Global,

@@ -51,7 +51,7 @@ const SECRET: Datagram<'static> = Datagram {
 
 const SEARCHED: &[Row<'static>] = &[Row {
     calls: WAYS,
-    policy: b"nfp 1\nchain main\nfn sig signature\nrule text evil\nfn red redactor\nrule text secret\n",
+    policy: b"nfp 1\nchain main\nfn sig signature\nrule text worm\nrule text trojan\nrule text botnet\nrule text spy\nrule text root\nrule hex cafebabe\nrule hex 90909090\nrule text evil\nrule text villain\nfn red redactor\nrule text secret\n",
     capture: Capture {
         head: &HEAD,
         packets: &[
@@ -75,7 +75,8 @@ const SEARCHED: &[Row<'static>] = &[Row {
     note: b"done records 2 emitted 1 dropped 1\n",
 }];
 
-// The signature sees the payload as it came, and the redactor beside it writes a copy of its own.
+// The signature, whose patterns are so many that one pass looks for them, sees the payload as it came, and the redactor beside it writes a
+// copy of its own.
 #[test]
 fn a_payload_is_searched_and_redacted_side_by_side(rt: HostRuntime) -> Result<(), AllocError> {
     compare(&rt, SEARCHED)

@@ -1,0 +1,91 @@
+//! Bursts that go on one thread, past the branches of a graph.
+ghost use Rattle.std.specs.Prelude.{◌≡◌, ◌≤◌, length, IfOk, IfSome, OnErr};
+ghost use Rattle.chain_walk.specs.Packets.{fates};
+ghost use Rattle.graph_run.specs.Counting.{RaisesUpTo, copies_made};
+ghost use Rattle.graph_run.specs.Leading.{Leads};
+ghost use Rattle.graph_run.specs.Packets.{packets_taken};
+ghost use Rattle.graph_run.specs.Running.{IsRow, IsRunning, profiles_of};
+
+use crate::plain::run_items;
+use crate::running::Running;
+use action_profile::Profile;
+use capture_bytes::Unit;
+use chain_walk::Fate;
+use classifier::Item;
+use graph_compile::{Graph, copies_nothing, in_a_row};
+use net_functions::Function;
+use nfp_outside::Gate;
+use packet_version::Tally;
+use std::alloc::{AllocError, Global};
+use std::sync::Wait;
+
+/// The same as [`run_items`] does. Where no stage of the graph copies a field, the functions run in a row, one after another on a
+/// packet that is dealt once and whole: on one thread that is all that a graph of branches gives, and takes half its time.
+pub fn run_in_a_row<F: Function + Drop, G: Gate, R: Wait>(
+    rt: &R,
+    alloc: Global,
+    run: Running<F>,
+    items: &[Item],
+    unit: Unit,
+    chain: u32,
+    tally: &mut Tally,
+    gate: &G,
+) -> Result<(Running<F>, Vec<Fate>), AllocError>
+    requires few { length items.now ≤ 65536 }
+    ensures leads { IfOk result (λ ran. Leads F.behaviour run (packets_taken unit chain items.now) tally.old tally.new ran.0 ran.1.items) }
+    ensures refused { OnErr result (RaisesUpTo (copies_made run.graph.stages (packets_taken unit chain items.now) (fates F.behaviour run.functions (packets_taken unit chain items.now))) tally.old tally.new) }
+{
+    let Running {
+        functions,
+        graph,
+        row,
+        pace,
+    } = run;
+    let Some(row) = row_beside(alloc, &functions, &graph, row)? else {
+        let run = Running {
+            functions,
+            graph,
+            row: None,
+            pace,
+        };
+        return run_items(rt, alloc, run, items, unit, chain, tally, gate);
+    };
+    let run = Running::new(functions, row);
+    let (run, fates) = run_items(rt, alloc, run, items, unit, chain, tally, gate)?;
+    let (functions, row) = run.into_parts();
+    let run = Running {
+        functions,
+        graph,
+        row: Some(row),
+        pace,
+    };
+    Ok((run, fates))
+}
+
+/// The graph of the functions in a row, beside one that copies nothing: the row that is there, or a new one.
+fn row_beside<F: Function>(
+    alloc: Global,
+    functions: &[F],
+    graph: &Graph,
+    row: Option<Graph>,
+) -> Result<Option<Graph>, AllocError>
+    requires running { IsRunning F.behaviour functions.now graph.now }
+    requires row { IfSome row (IsRow F.behaviour functions.now graph.now) }
+    ensures { IfOk result (λ row. IfSome row (IsRow F.behaviour functions.now graph.now)) }
+{
+    if row.is_some() || !copies_nothing(graph) {
+        return Ok(row);
+    }
+    let profiles = profiles_of(alloc, functions)?;
+    let row = in_a_row(alloc, &profiles)?;
+    Ok(Some(row))
+}
+
+fn profiles_of<F: Function>(alloc: Global, functions: &[F]) -> Result<Vec<Profile>, AllocError>
+    ensures { IfOk result (λ profiles. profiles.items ≡ profiles_of F.behaviour functions.now) }
+{
+    functions
+        .iter()
+        .map(|function| function.profile())
+        .collect(alloc)
+}

@@ -1,0 +1,221 @@
+//! Which of many patterns may occur in a payload, found in one pass over it.
+//!
+//! Patterns are in 64 groups, each of which is a bit of a word. Two to four bytes in a row are a window, and a table has in each of two
+//! words, which a window's two hashes name, the bits of the groups with that window in a pattern: a Bloom filter for each group. Of a
+//! pattern the windows at its first places are marked, as many as a stride. An occurrence has one of these at a place that the stride
+//! divides, so that a pass looks at those places alone.
+ghost use Rattle.std.specs.Prelude.{◌≡◌, ◌+◌, ◌*◌, ◌<◌, ◌≤◌, ℕ, length, slice_index, count_by, nat_lt};
+ghost use Rattle.std.specs.Int.{bit_at};
+ghost use Rattle.patterns.specs.Sieving.{near_slot, far_slot, groups_of, Grows, HasWindows, IsMarked, IsSieveOf};
+ghost use Rattle.patterns.specs.Windows.{bytes_of, window_at};
+
+use crate::pattern::Pattern;
+use crate::width::Width;
+use std::alloc::{AllocError, Global};
+
+/// How many groups there are: the bits of a word.
+pub(crate) const GROUPS: usize = 64;
+
+/// How many patterns may be too short for a window, so that they are looked for in any case.
+const FEW: usize = 4;
+
+/// How many words a table has.
+const SLOTS: usize = 4_096;
+
+/// The longest stride. Beyond it the start of a pass takes longer than what it spares.
+const LONGEST_STRIDE: usize = 8;
+
+/// The golden ratio by 2^32 (Knuth, The Art of Computer Programming, 6.4): the middle of a product with it depends on all bits of a window.
+const SPREAD: u64 = 2_654_435_761;
+
+/// The windows of patterns, by which a pass over a payload tells which of them may occur.
+#[derive(Debug, Drop)]
+pub(crate) struct Sieve {
+    /// How many bytes are looked up at each place.
+    width: Width,
+    /// How far the places are apart at which a pass looks.
+    stride: usize,
+    /// The groups with a pattern that is too short for as many windows.
+    short: u64,
+    /// The groups of the windows that have a slot.
+    table: Vec<u64>,
+    ghost steps: { 0 < stride },
+    ghost full: { length table.items ≡ 4096 },
+}
+
+impl Sieve {
+    ghost use Rattle.std.specs.Prelude.{◌≡◌, ◌+◌, ◌*◌, ◌<◌, ◌≤◌, ℕ, IfOk};
+    ghost use Rattle.patterns.specs.Sieving.{IsSieveOf, Tells};
+
+    /// The sieve of these patterns.
+    pub(crate) fn of(alloc: Global, patterns: &[Pattern]) -> Result<Sieve, AllocError>
+        ensures { IfOk result (λ sieve. IsSieveOf sieve.width sieve.stride sieve.short sieve.table.items patterns.now) }
+    {
+        let width = width_of(patterns);
+        let stride = stride_of(patterns, width);
+        let mut table = vec![in alloc; 0; SLOTS]?;
+        let short = mark_all(&mut table, patterns, width, stride);
+        Ok(Sieve {
+            width,
+            stride,
+            short,
+            table,
+        })
+    }
+
+    /// The groups of which a pattern may occur in the payload.
+    pub(crate) fn groups_in(&self, payload: &[u8]) -> u64
+        ensures { Tells self.now.width self.now.stride self.now.short self.now.table.items payload.now result }
+    {
+        let table = self.table.as_slice();
+        let (width, stride) = (self.width, self.stride);
+        let mut groups = self.short;
+        'turns: for turn in 0..turns(payload.len(), width.bytes(), stride) {
+            groups |= groups_of(table, width.window_at(payload, turn * stride));
+        }
+        groups
+    }
+}
+
+/// At how many places that the stride divides a window of this width lies within so many bytes.
+fn turns(len: usize, width: usize, stride: usize) -> usize
+    requires stride { 0 < stride }
+    requires width { 0 < width }
+    ensures within { (turn : ℕ) → turn < result → turn * stride + width ≤ len }
+    ensures all { (turn : ℕ) → turn * stride + width ≤ len → turn < result }
+{
+    if len < width {
+        0
+    } else {
+        (len - width) / stride + 1
+    }
+}
+
+/// The greatest width for which few patterns are too short.
+fn width_of(patterns: &[Pattern]) -> Width {
+    if shorter_than(patterns, 4) <= FEW {
+        Width::Four
+    } else if shorter_than(patterns, 3) <= FEW {
+        Width::Three
+    } else {
+        Width::Two
+    }
+}
+
+fn shorter_than(patterns: &[Pattern], len: usize) -> usize
+    ensures { result ≡ count_by (λ pattern. nat_lt (length pattern) len) patterns.now }
+{
+    patterns
+        .iter()
+        .filter(|pattern| pattern.bytes().len() < len)
+        .count()
+}
+
+/// The stride at which all patterns with a window are known by their windows, unless it would be too long.
+fn stride_of(patterns: &[Pattern], width: Width) -> usize
+    ensures some { 0 < result }
+    ensures short { result ≤ 8 }
+{
+    let width = width.bytes();
+    let mut stride = LONGEST_STRIDE;
+    'patterns: for pattern in patterns {
+        let len = pattern.bytes().len();
+        if len >= width {
+            stride = stride.min(len - width + 1);
+        }
+    }
+    stride
+}
+
+/// Marks the windows of patterns in a table, and tells the groups of those that are too short for as many.
+fn mark_all(table: &mut [u64], patterns: &[Pattern], width: Width, stride: usize) -> u64
+    requires full { length table.old ≡ 4096 }
+    requires stride { stride ≤ 8 }
+    ensures { IsSieveOf width stride result table.new patterns.now }
+{
+    let mut short = 0;
+    'patterns: for place in 0..patterns.len() {
+        short |= mark_pattern(
+            table,
+            patterns[place].bytes(),
+            width,
+            stride,
+            place % GROUPS,
+        );
+    }
+    short
+}
+
+/// Marks the windows of a pattern for its group, or tells the group where it is too short for as many.
+fn mark_pattern(table: &mut [u64], bytes: &[u8], width: Width, stride: usize, group: usize) -> u64
+    requires full { length table.old ≡ 4096 }
+    requires stride { stride ≤ 8 }
+    requires group { group < 64 }
+    ensures grows { Grows table.old table.new }
+    ensures marked { IsMarked width stride result table.new bytes.now group }
+{
+    if bytes.len() + 1 < stride + width.bytes() {
+        return 1 << group;
+    }
+    mark_windows(table, bytes, width, stride, group);
+    0
+}
+
+fn mark_windows(table: &mut [u64], bytes: &[u8], width: Width, stride: usize, group: usize)
+    requires full { length table.old ≡ 4096 }
+    requires long { stride + bytes_of width ≤ length bytes.now + 1 }
+    requires group { group < 64 }
+    ensures grows { Grows table.old table.new }
+    ensures windows { HasWindows width stride table.new bytes.now group }
+{
+    'offsets: for offset in 0..stride {
+        mark(table, width.window_at(bytes, offset), group);
+    }
+}
+
+fn mark(table: &mut [u64], window: u32, group: usize)
+    requires full { length table.old ≡ 4096 }
+    requires group { group < 64 }
+    ensures grows { Grows table.old table.new }
+    ensures marked { bit_at (groups_of table.new window) group ≡ 1 }
+{
+    mark_slot(table, near_slot(window), group);
+    mark_slot(table, far_slot(window), group);
+}
+
+fn mark_slot(table: &mut [u64], slot: usize, group: usize)
+    requires within { slot < length table.old }
+    requires group { group < 64 }
+    ensures grows { Grows table.old table.new }
+    ensures marked { bit_at (slice_index table.new slot) group ≡ 1 }
+{
+    table[slot] |= 1 << group;
+}
+
+/// The groups that have a window, maybe with a few more.
+#[inline(always)]
+#[tactic(auto, unfolding(crate::specs::Sieving::groups_of))]
+fn groups_of(table: &[u64], window: u32) -> u64
+    requires { length table.now ≡ 4096 }
+    ensures { result ≡ groups_of table.now window }
+{
+    table[near_slot(window)] & table[far_slot(window)]
+}
+
+#[inline(always)]
+#[tactic(auto, unfolding(crate::specs::Sieving::near_slot))]
+fn near_slot(window: u32) -> usize
+    ensures slot { result ≡ near_slot window }
+    ensures within { result < 4096 }
+{
+    (u64::from(window) * SPREAD / 1_048_576 % 4_096) as usize
+}
+
+#[inline(always)]
+#[tactic(auto, unfolding(crate::specs::Sieving::far_slot))]
+fn far_slot(window: u32) -> usize
+    ensures slot { result ≡ far_slot window }
+    ensures within { result < 4096 }
+{
+    (u64::from(window) * SPREAD / 4_294_967_296 % 4_096) as usize
+}
