@@ -12,9 +12,10 @@ use Rattle.nfp_outside.specs.declared.slot.OutsideFault.{OutsideFault}
 use Rattle.nfp_outside.specs.declared.slot.OutsideFault.TheVariants.{ReadFault, WriteFault, TooLong}
 use Rattle.nfp_outside.specs.Outside.{SlotView, Appends, AppendsPrefix, IsRisen, WriteCause}
 use Rattle.nfp_outside.specs.Adding.{appends_none, appends_more, prefix_more, prefix_longer}
+use Rattle.flow_line.specs.Versions.{HasFittingKey}
 use Rattle.flow_line.specs.declared.line.FlowLine.{FlowLine}
 use Rattle.flow_export.specs.declared.span.Span5.{Span5}
-use Rattle.flow_export.specs.Exports.{FitsVersion, exported, lines_of, packet_bytes, packet_count, export_bytes, packets_bytes}
+use Rattle.flow_export.specs.Exports.{exported, lines_of, packet_bytes, packet_count, export_bytes, packets_bytes}
 
 -- the packet with this number
 abbrev pub numbered : Span5 → List FlowLine → ℕ → List ℕ
@@ -27,7 +28,7 @@ packets_from span lines first count = flat_map (numbered span lines) (range_with
 -- So many packets are sent, and these lines are left. `old` are the slots as they were, and `new` as they are.
 pub record AreSent (span : Span5) (lines : List FlowLine) (old new : Slot → SlotView) (sent : ℕ) (rest : List FlowLine) : Type 0 where
   pub left : exported rest ≡ drop (30 * sent) (exported lines)
-  pub fits : All FitsVersion rest
+  pub fits : All HasFittingKey rest
   pub out : Appends (packets_from span lines 0 sent) (old Out) (new Out)
   pub later : (old Out).faults ≤ (new Out).faults
   pub others : (s : Slot) → s ≢ Out → new s ≡ old s
@@ -73,7 +74,7 @@ module _ (span : Span5) (lines : List FlowLine) where
       let e : count ≡ sent + 1 + (count - (sent + 1)) = omega arith in
       whole ∙ ap (packets_from span lines 0) e ∙ packets-append 0 (sent + 1) (count - (sent + 1)) ∙ ap (λ l. l ++ packets_from span lines (0 + (sent + 1)) (count - (sent + 1))) (one_more sent)
 
-  pub begins : (old : Slot → SlotView) → All FitsVersion lines → AreSent span lines old old 0 lines
+  pub begins : (old : Slot → SlotView) → All HasFittingKey lines → AreSent span lines old old 0 lines
   begins old fit = record {
     left = refl;
     fits = fit;
@@ -104,8 +105,8 @@ module _ (span : Span5) (lines : List FlowLine) where
         same : bytes ≡ numbered span lines sent
         same = put ∙ next_packet before sent rest now is are.left front
 
-        All-behind : All FitsVersion behind
-        All-behind = subst (All FitsVersion) (ap (drop (length now)) (sym parts) ∙ drop-append_seam now behind) (All-drop FitsVersion (length now) rest are.fits)
+        All-behind : All HasFittingKey behind
+        All-behind = subst (All HasFittingKey) (ap (drop (length now)) (sym parts) ∙ drop-append_seam now behind) (All-drop HasFittingKey (length now) rest are.fits)
 
     pub stops : AreSent span lines old mid sent rest → before ≡ sent * 30 → sent < packet_count (length (exported lines)) → exported now ≡ take 30 (exported rest) →
         bytes ≡ packet_bytes span before (exported now) → AppendsPrefix bytes (mid Out) (new Out) → AppendsPrefix (export_bytes span lines) (old Out) (new Out)
@@ -116,8 +117,8 @@ module _ (span : Span5) (lines : List FlowLine) where
         subst (λ b. AppendsPrefix b (old Out) (new Out)) (ap (λ b. (so_far ++ b) ++ others) same ∙ sym (parted sent more))
         (prefix_longer (so_far ++ bytes) others (old Out) (new Out) (prefix_more so_far bytes (old Out) (mid Out) (new Out) are.out appended))
 
-pub fits_front : (rest now behind : List FlowLine) → All FitsVersion rest → now ++ behind ≡ rest → All FitsVersion now
-fits_front rest now behind fit parts = subst (All FitsVersion) (ap (take (length now)) (sym parts) ∙ take-append_seam now behind) (All-take FitsVersion (length now) rest fit)
+pub fits_front : (rest now behind : List FlowLine) → All HasFittingKey rest → now ++ behind ≡ rest → All HasFittingKey now
+fits_front rest now behind fit parts = subst (All HasFittingKey) (ap (take (length now)) (sym parts) ∙ take-append_seam now behind) (All-take HasFittingKey (length now) rest fit)
 
 -- the cause of the last write is the cause of all
 pub cause_of_last : {T : Type 0} (old mid new : SlotView) (r : Result T OutsideFault) → old.faults ≤ mid.faults → WriteCause Out mid new r → WriteCause Out old new r

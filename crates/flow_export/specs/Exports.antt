@@ -1,5 +1,5 @@
 -- Believed: what is exported of lines of flows, as packets of NetFlow version 5.
-use Rattle.std.specs.Prelude.{◌≡◌, ◌<◌, ℕ, ◌+◌, ◌-◌, ◌*◌, ◌/◌, ◌%◌, ◌^◌, min, List, ◌++◌, filter, length, take, drop, Bool, not, false, unwrap_or}
+use Rattle.std.specs.Prelude.{ℕ, ◌+◌, ◌-◌, ◌*◌, ◌/◌, ◌%◌, ◌^◌, min, List, ◌++◌, filter, length, take, drop, Bool, not, unwrap_or}
 use Rattle.std.specs.Int.{div_ceil}
 use Rattle.std.specs.List.{flat_map, range_with_len}
 use Rattle.flow_line.specs.declared.line.FlowLine.{FlowLine}
@@ -88,8 +88,3 @@ packets_bytes span lines = flat_map (λ number. packet_bytes span (30 * number) 
 -- what is exported of all lines
 abbrev pub export_bytes : Span5 → List FlowLine → List ℕ
 export_bytes span lines = packets_bytes span (exported lines)
-
--- an address of IPv4 has 32 bits
-pub record FitsVersion (line : FlowLine) : Type 0 where
-  pub src : line.key.wide ≡ false → line.key.src < 2 ^ 32
-  pub dst : line.key.wide ≡ false → line.key.dst < 2 ^ 32

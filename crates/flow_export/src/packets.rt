@@ -3,8 +3,9 @@ ghost use Rattle.std.specs.Prelude.{◌≡◌, ◌≢◌, ◌≤◌, ◌<◌, �
 ghost use Rattle.std.specs.List.{flat_map};
 ghost use Rattle.nfp_outside.specs.declared.slot.Slot.{Slot};
 ghost use Rattle.nfp_outside.specs.Outside.{Appends, AppendsPrefix, WriteCause};
+ghost use Rattle.flow_line.specs.Versions.{HasFittingKey};
 ghost use Rattle.flow_export.specs.Layouts.{record_bytes};
-ghost use Rattle.flow_export.specs.Exports.{FitsVersion, export_bytes, exported, packet_bytes, packet_count, record_of};
+ghost use Rattle.flow_export.specs.Exports.{export_bytes, exported, packet_bytes, packet_count, record_of};
 
 use crate::field::put_fields;
 use crate::span::Span5;
@@ -32,7 +33,7 @@ pub fn export<D: Desk>(
     requires few { length lines.now < 2 ^ 32 }
     requires origin { span.now.origin < 2 ^ 63 }
     requires greatest { span.now.greatest < 2 ^ 63 }
-    requires fits { All FitsVersion lines.now }
+    requires fits { All HasFittingKey lines.now }
     ensures count { IfOk result (λ packets. packets ≡ packet_count (length (exported lines.now))) }
     ensures ok { OnOk result (Appends (export_bytes span.now lines.now) (D.slots desk.old Slot.Out) (D.slots desk.new Slot.Out)) }
     ensures err { OnErr result (AppendsPrefix (export_bytes span.now lines.now) (D.slots desk.old Slot.Out) (D.slots desk.new Slot.Out)) }
@@ -61,7 +62,7 @@ fn send<D: Desk>(
     requires room { length buffer.old ≡ 1464 }
     requires few { length lines.now < 2 ^ 32 }
     requires origin { span.now.origin < 2 ^ 63 }
-    requires fits { All FitsVersion lines.now }
+    requires fits { All HasFittingKey lines.now }
     requires count { packets ≡ packet_count (length (exported lines.now)) }
     ensures ok { OnOk result (Appends (export_bytes span.now lines.now) (D.slots desk.old Slot.Out) (D.slots desk.new Slot.Out)) }
     ensures err { OnErr result (AppendsPrefix (export_bytes span.now lines.now) (D.slots desk.old Slot.Out) (D.slots desk.new Slot.Out)) }
@@ -109,7 +110,7 @@ fn put_packet(buffer: &mut [u8], span: &Span5, before: u32, lines: &[FlowLine]) 
     requires room { length buffer.old ≡ 1464 }
     requires few { length (exported lines.now) ≤ 30 }
     requires origin { span.now.origin < 2 ^ 63 }
-    requires fits { All FitsVersion lines.now }
+    requires fits { All HasFittingKey lines.now }
     ensures inside { result ≤ length buffer.new }
     ensures written { take result buffer.new ≡ packet_bytes span.now before (exported lines.now) }
 {
@@ -124,7 +125,7 @@ fn put_packet(buffer: &mut [u8], span: &Span5, before: u32, lines: &[FlowLine]) 
 /// Writes the record of a line at a place, where the line is exported, and says where it ends.
 fn put_line(buffer: &mut [u8], at: usize, span: &Span5, line: &FlowLine) -> usize
     requires room { at + 48 * length (exported (line.now ∷ [])) ≤ length buffer.old }
-    requires fits { FitsVersion line.now }
+    requires fits { HasFittingKey line.now }
     ensures end { result ≡ at + 48 * length (exported (line.now ∷ [])) }
     ensures written { take result buffer.new ≡ take at buffer.old ++ flat_map (λ l. record_bytes (record_of span.now l)) (exported (line.now ∷ [])) }
 {

@@ -1,6 +1,7 @@
 //! The span of a capture, and what is told of lines by it.
 ghost use Rattle.std.specs.Prelude.{◌≡◌, ◌≤◌, ◌<◌, ◌^◌, false};
-ghost use Rattle.flow_export.specs.Exports.{FitsVersion, header_of, millis, record_of, up_to_32};
+ghost use Rattle.flow_line.specs.Versions.{HasFittingKey};
+ghost use Rattle.flow_export.specs.Exports.{header_of, millis, record_of, up_to_32};
 
 use crate::layout::{Header, Record};
 use flow_line::FlowLine;
@@ -42,7 +43,7 @@ impl Span5 {
     /// The record of a line of IPv4.
     pub(crate) fn record(&self, line: &FlowLine) -> Record
         requires narrow { line.now.key.wide ≡ false }
-        requires fits { FitsVersion line.now }
+        requires fits { HasFittingKey line.now }
         ensures { result ≡ record_of self.now line.now }
     {
         Record {

@@ -1,6 +1,6 @@
 -- What workers counted, each of its own packets, are the shards of what was counted of all.
 use Rattle.std.proofs.Common.{◌≡◌, ◌<◌, ◌∙◌, ℕ, List, [], map, filter, length, get_or, refl, sym, ap, subst, arith}
-use Rattle.std.specs.Prelude.{Result, Ok, filter_map}
+use Rattle.std.specs.Prelude.{All, Result, Ok, filter_map}
 use Rattle.std.specs.List.{range_with_len, zip}
 use Rattle.std.proofs.Math.ListN.{get_or-map}
 use Rattle.std.proofs.lemmas.List.{length-map, ext_get_or}
@@ -9,10 +9,11 @@ use Rattle.std.proofs.lemmas.Slice.Zip.{length-zip, get_or-zip}
 use Rattle.capture_bytes.specs.declared.packet.Unit.{Unit as TimeUnit}
 use Rattle.classifier.specs.declared.burst.Item.{Item}
 use Rattle.flow_shards.specs.Flows.{Lines, counted_all, sight_of, flows_from}
-use Rattle.flow_shards.specs.Sharding.{is_own, parts, flat, in_order, AreRising, AreOrdered, AreParted, last_of}
+use Rattle.flow_shards.specs.Sharding.{is_own, parts, flat, in_order, AreRising, AreOrdered, AreParted, HasFittingFlow, IsKeyed, last_of}
 use Rattle.flow_shards.specs.Working.{IsCounted, jobs_of}
 use Rattle.flow_shards.specs.declared.beside.Job.{Job}
 use Rattle.flow_shards.specs.declared.sight.Sight.{Sight}
+use Rattle.flow_shards.proofs.Keyed.{all_keyed}
 use Rattle.flow_shards.proofs.OwnPackets.{all_counted}
 use Rattle.flow_shards.proofs.Parting.{part_of, are_parted, lines_of, length-parts}
 use Rattle.flow_shards.proofs.Rising.{ordered_all}
@@ -78,8 +79,10 @@ module _ (unit : TimeUnit) (items : List Item) (last next : ℕ) (tables after :
   ordered_fed : AreOrdered next (flows_from unit lines items)
   ordered_fed = subst (λ n. AreOrdered n (flows_from unit lines items)) (sym end) (ordered_all unit items last lines parted.ordered rising)
 
-  pub parted_fed : AreParted next after
-  parted_fed = are_parted (length tables) next (flows_from unit lines items) after parted.some parted.few parts_fed ordered_fed
+  pub parted_fed : All HasFittingFlow sights → AreParted next after
+  parted_fed fits =
+      let keyed : All IsKeyed (flows_from unit lines items) = subst (λ s. All IsKeyed (counted_all lines s)) seen (all_keyed sights lines parted.keyed fits) in
+      are_parted (length tables) next (flows_from unit lines items) after parted.some parted.few parts_fed ordered_fed keyed
 
   pub lines_fed : in_order (flat after) ≡ flows_from unit lines items
   lines_fed = lines_of (length tables) next (flows_from unit lines items) after parted.some parted.few parts_fed ordered_fed

@@ -1,6 +1,7 @@
 pub mod Feeding
 pub mod Gathering
 pub mod Keeping
+pub mod Keyed
 pub mod Monitored
 pub mod Ordering
 pub mod OwnPackets
@@ -8,3 +9,4 @@ pub mod Parting
 pub mod Rising
 pub mod Rows
 pub mod SameKeys
+pub mod Seeing

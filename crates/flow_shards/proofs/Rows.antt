@@ -7,7 +7,6 @@ use Rattle.packet_fields.specs.Packets.{is_ipv4, is_ipv6, has_transport}
 use Rattle.capture_bytes.specs.declared.packet.Unit.TheVariants.{Micro}
 use Rattle.classifier.specs.declared.burst.Item.{Item}
 use Rattle.flow_line.specs.declared.key.FlowKey.{FlowKey}
-use Rattle.flow_line.specs.declared.line.FlowLine.{FlowLine}
 use Rattle.flow_shards.specs.Flows.{flows}
 use Rattle.flow_shards.specs.Sharding.{shard_of}
 

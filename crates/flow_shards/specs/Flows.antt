@@ -1,5 +1,5 @@
 -- Believed: what is counted of the flows of a capture, packet by packet.
-use Rattle.std.specs.Prelude.{ℕ, List, [], Bool, true, false, Option, Some, None, unwrap_or, fold, filter_map}
+use Rattle.std.specs.Prelude.{ℕ, List, [], Bool, ◌||◌, true, false, Option, Some, None, unwrap_or, fold, filter_map}
 use Rattle.std.specs.Int.RustNames.{bit_or}
 use Rattle.std.specs.Map.{values_of}
 use Rattle.std.specs.Net.Addr.{ipv4_bits, ipv6_bits}
@@ -30,10 +30,10 @@ abbrev pub is_wide : IpAddr → Bool
 is_wide (V4 a) = false
 is_wide (V6 a) = true
 
--- the key of a flow
+-- the key of a flow: it is wide where it has an address of IPv6
 abbrev pub key_of : FiveTuple → FlowKey
 key_of flow = record {
-  wide = is_wide flow.source.address;
+  wide = is_wide flow.source.address || is_wide flow.destination.address;
   proto = flow.proto;
   src = address_number flow.source.address;
   sport = flow.source.port;

@@ -1,8 +1,9 @@
 -- For proofs: the shards of workers, and the one list that they are.
-use Rattle.std.specs.Prelude.{◌≡◌, ℕ, ◌+◌, ◌%◌, ◌<◌, ◌≤◌, ◌==◌, nat_le, ⊤, List, [], ◌∷◌, map, filter, length, Bool, if◌then◌else◌, unwrap_or, fold}
+use Rattle.std.specs.Prelude.{◌≡◌, ℕ, ◌+◌, ◌%◌, ◌<◌, ◌≤◌, ◌==◌, nat_le, ⊤, All, List, [], ◌∷◌, map, filter, length, Bool, if◌then◌else◌, unwrap_or, fold}
 use Rattle.std.specs.List.{flat_map, range_with_len, AllByRecursion, IsDistinct}
 use Rattle.std.specs.Map.{keys_of}
 use Rattle.classifier.specs.declared.burst.Item.{Item}
+use Rattle.flow_line.specs.Versions.{FitsVersion}
 use Rattle.flow_line.specs.declared.key.FlowKey.{FlowKey}
 use Rattle.flow_line.specs.declared.line.FlowLine.{FlowLine}
 use Rattle.nf_observe.specs.SameFlow.{is_same_flow}
@@ -21,6 +22,19 @@ has_flow workers worker flow = shard_of workers (key_of flow) == worker
 -- a line is in the worker's shard
 abbrev pub in_shard : ℕ → ℕ → FiveTuple × FlowLine → Bool
 in_shard workers worker line = has_flow workers worker line.0
+
+-- a line is in the shard of its key's worker
+abbrev pub is_in_shard : ℕ → ℕ → FlowLine → Bool
+is_in_shard workers worker line = shard_of workers line.key == worker
+
+-- the addresses of a packet's flow are as large as their version of IP has them
+abbrev pub HasFittingFlow : Sight → Type 0
+HasFittingFlow s = FitsVersion (key_of s.flow)
+
+-- a line has the key of its flow, and that one's addresses are so
+pub record IsKeyed (line : FiveTuple × FlowLine) : Type 0 where
+  pub key : line.1.key ≡ key_of line.0
+  pub fits : FitsVersion (key_of line.0)
 
 -- a packet is of the worker's shard
 abbrev pub is_own : ℕ → ℕ → Sight → Bool
@@ -82,3 +96,4 @@ pub record AreParted (last : ℕ) (tables : List Lines) : Type 0 where
   pub few : length tables ≤ 16
   pub parted : tables ≡ parts (length tables) (in_order (flat tables))
   pub ordered : AreOrdered last (in_order (flat tables))
+  pub keyed : All IsKeyed (in_order (flat tables))

@@ -1,5 +1,6 @@
 //! The key of a flow, and the worker whose shard it is in.
-ghost use Rattle.std.specs.Prelude.{◌≡◌, ◌≤◌, ◌<◌};
+ghost use Rattle.std.specs.Prelude.{◌≡◌, ◌≤◌, ◌<◌, ◌^◌, false};
+ghost use Rattle.flow_line.specs.Versions.{FitsVersion};
 ghost use Rattle.flow_shards.specs.Flows.{is_wide, address_number, key_of};
 ghost use Rattle.flow_shards.specs.Sharding.{shard_of};
 
@@ -7,12 +8,13 @@ use flow_line::FlowKey;
 use nf_observe::FiveTuple;
 use std::net::IpAddr;
 
-/// The key of a flow.
+/// The key of a flow. It is wide where one of its addresses is of IPv6.
 pub fn key_of(flow: &FiveTuple) -> FlowKey
-    ensures { result ≡ key_of flow.now }
+    ensures key { result ≡ key_of flow.now }
+    ensures fits { FitsVersion (key_of flow.now) }
 {
     FlowKey {
-        wide: is_wide(&flow.source.address),
+        wide: is_wide(&flow.source.address) || is_wide(&flow.destination.address),
         proto: flow.proto,
         src: address_number(&flow.source.address),
         sport: flow.source.port,
@@ -43,7 +45,8 @@ fn is_wide(address: &IpAddr) -> bool
 }
 
 fn address_number(address: &IpAddr) -> u128
-    ensures { result ≡ address_number address.now }
+    ensures number { result ≡ address_number address.now }
+    ensures narrow { is_wide address.now ≡ false → address_number address.now < 2 ^ 32 }
 {
     match address {
         IpAddr::V4(address) => u128::from(address.to_bits()),

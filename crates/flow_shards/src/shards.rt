@@ -33,10 +33,11 @@ impl Model for Shards {
 }
 
 impl Shards {
-    ghost use Rattle.std.specs.Prelude.{◌≡◌, ◌≤◌, ◌<◌, [], IfOk, filter};
+    ghost use Rattle.std.specs.Prelude.{◌≡◌, ◌≤◌, ◌<◌, [], All, IfOk, filter};
     ghost use Rattle.std.specs.Map.{values_of};
+    ghost use Rattle.flow_line.specs.Versions.{HasFittingKey};
     ghost use Rattle.flow_shards.specs.Flows.{flows_from};
-    ghost use Rattle.flow_shards.specs.Sharding.{AreRising, in_shard, last_of, no_flows};
+    ghost use Rattle.flow_shards.specs.Sharding.{AreRising, is_in_shard, last_of, no_flows};
 
     /// A shard for each of so many workers, with no lines.
     pub fn new(alloc: Global, workers: u32) -> Result<Shards, AllocError>
@@ -77,14 +78,16 @@ impl Shards {
     /// The lines of a worker's shard, in the order of first sight.
     pub fn of(&self, worker: u32) -> &[FlowLine]
         requires { worker < self.now.workers }
-        ensures { result.now ≡ values_of (filter (in_shard self.now.workers worker) self.now.lines) }
+        ensures shard { result.now ≡ filter (is_in_shard self.now.workers worker) (values_of self.now.lines) }
+        ensures fits { All HasFittingKey result.now }
     {
         self.tables[worker as usize].values()
     }
 
     /// The lines of all shards, in the order of first sight.
     pub fn gather(self, alloc: Global) -> Result<Vec<FlowLine>, AllocError>
-        ensures { IfOk result (λ lines. lines.items ≡ values_of self.lines) }
+        ensures lines { IfOk result (λ lines. lines.items ≡ values_of self.lines) }
+        ensures fits { IfOk result (λ lines. All HasFittingKey lines.items) }
     {
         let mut lines = all_lines(alloc, &self.tables)?;
         lines.sort_by_key(|line| line.first)?;
@@ -92,21 +95,23 @@ impl Shards {
     }
 }
 
-ghost use Rattle.std.specs.Prelude.{◌≡◌, IfOk, filter_map};
+ghost use Rattle.std.specs.Prelude.{◌≡◌, All, IfOk, filter_map};
 ghost use Rattle.std.specs.Map.{values_of};
 ghost use Rattle.flow_shards.specs.Flows.{sight_of};
-ghost use Rattle.flow_shards.specs.Sharding.{flat, last_of};
+ghost use Rattle.flow_shards.specs.Sharding.{HasFittingFlow, flat, last_of};
 
 /// What is seen of the packets of a burst, in their order.
 fn see_all(alloc: Global, burst: &Burst, unit: Unit) -> Result<Vec<Sight>, AllocError>
-    ensures { IfOk result (λ sights. sights.items ≡ filter_map (sight_of unit) burst.now.items) }
+    ensures seen { IfOk result (λ sights. sights.items ≡ filter_map (sight_of unit) burst.now.items) }
+    ensures fits { IfOk result (λ sights. All HasFittingFlow sights.items) }
 {
-    let seen = burst
-        .items
-        .as_slice()
-        .iter()
-        .filter_map(|item| Sight::of(item, unit));
-    seen.collect(alloc)
+    let mut sights = Vec::new(alloc);
+    'items: for item in burst.items.as_slice() {
+        if let Some(sight) = Sight::of(item, unit) {
+            sights.push(sight)?;
+        }
+    }
+    Ok(sights)
 }
 
 /// The number of the last packet of a burst, if it has one.

@@ -1,4 +1,5 @@
 //! What is seen of a packet.
+use crate::key::key_of;
 use capture_bytes::Unit;
 use classifier::Item;
 use frame_seen::{seen_ip_address, seen_port};
@@ -20,16 +21,20 @@ pub struct Sight {
 }
 
 impl Sight {
-    ghost use Rattle.std.specs.Prelude.{◌≡◌};
+    ghost use Rattle.std.specs.Prelude.{◌≡◌, IfSome};
     ghost use Rattle.flow_shards.specs.Flows.{sight_of};
+    ghost use Rattle.flow_shards.specs.Sharding.{HasFittingFlow};
 
     /// What is seen of a packet, where it is of a flow.
     pub fn of(item: &Item, unit: Unit) -> Option<Sight>
-        ensures { result ≡ sight_of unit item.now }
+        ensures seen { result ≡ sight_of unit item.now }
+        ensures fits { IfSome result HasFittingFlow }
     {
         let frame = item.packet.frame.bytes();
         let outline = Outline::of(frame);
         let flow = flow_in(&outline, frame)?;
+        // Which shows that the addresses are as large as their version of IP has them.
+        let _key = key_of(&flow);
         Some(Sight {
             flow,
             bytes: outline.total_len(frame)?,

@@ -1,6 +1,6 @@
 //! Three packets of two flows, counted, gathered and exported.
 ghost use Rattle.std.specs.Prelude.{◌≡◌, ◌≤◌, IfOk};
-ghost use Rattle.flow_export.specs.Exports.{FitsVersion};
+ghost use Rattle.flow_line.specs.Versions.{HasFittingKey};
 
 use capture_bytes::{PcapRecord, Unit};
 use classifier::{Burst, Item};
@@ -74,7 +74,7 @@ fn is_line(line: &FlowLine, first: u32, packets: u64, last: u64) -> bool {
 }
 
 fn line(host: u128, packets: u64, bytes: u64, begun: u64, last: u64) -> FlowLine
-    ensures { FitsVersion result }
+    ensures { HasFittingKey result }
 {
     let key = FlowKey {
         wide: false,
