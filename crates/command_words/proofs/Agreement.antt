@@ -6,11 +6,11 @@ use Rattle.clap.specs.Faults.{built_fault, entered_fault, fault_of}
 use Rattle.clap.specs.Simple.{entered, is_simple, matches_of}
 use Rattle.clap.specs.Faults.{is_simple_and_free}
 use Rattle.clap.specs.Walk.{Row, Rule, Text, first_of, idle, nothing_held, rows_after, walk}
-use Rattle.command_words.specs.Apps.{run_app, plan_app, demo_app, run_names, plan_names, demo_names}
+use Rattle.command_words.specs.Apps.{run_app, plan_app, demo_app, flows_app, run_names, plan_names, demo_names, flows_names}
 use Rattle.command_words.specs.Given.{all_differ, contains, value_given}
-use Rattle.command_words.specs.Words.{run_options}
+use Rattle.command_words.specs.Words.{flows_options, run_options}
 use Rattle.command_words.specs.Roles.{Role, anything, is_fit, is_whole, names_in, option_names, options_in, roles}
-use Rattle.command_words.proofs.Table.{Indexed, HasIds, app_with, by_long, by_short, demo_ids, demo_indexed, id_found, no_default_fault, no_defaults, plan_indexed, required_names, run_ids, run_indexed, table}
+use Rattle.command_words.proofs.Table.{Indexed, HasIds, app_with, by_long, by_short, demo_ids, demo_indexed, flows_ids, flows_indexed, id_found, no_default_fault, no_defaults, plan_indexed, required_names, run_ids, run_indexed, table}
 use Rattle.command_words.proofs.Walking.{Agrees, AllUtf8, Rests, Serves, Use, agrees, fails, placed, rows_for}
 use Rattle.command_words.proofs.Placing.{AllDiffer, Before, Fits, NoneHas, NoneIsOption, fits, is_whole_from, roles_give, value_is}
 
@@ -99,6 +99,11 @@ pub demo_reads : (words : List Text) → AllUtf8 words
 demo_reads words u = reads_table demo_app.top.name demo_names run_options demo_ids demo_indexed
     ((refl, tt), (tt, tt)) (refl, (refl, tt)) words u
 
+pub flows_reads : (words : List Text) → AllUtf8 words
+    → Reads flows_names flows_options (fault_of flows_app words) (matches_of flows_app words) (roles flows_options anything words) (is_whole 2 (roles flows_options anything words))
+flows_reads words u = reads_table flows_app.top.name flows_names flows_options flows_ids flows_indexed
+    ((refl, tt), (tt, tt)) (refl, (refl, tt)) words u
+
 pub run_is_simple : (is_simple run_app ≡ true) × (is_simple_and_free run_app ≡ true)
 run_is_simple = (refl, refl)
 
@@ -107,3 +112,6 @@ plan_is_simple = (refl, refl)
 
 pub demo_is_simple : (is_simple demo_app ≡ true) × (is_simple_and_free demo_app ≡ true)
 demo_is_simple = (refl, refl)
+
+pub flows_is_simple : (is_simple flows_app ≡ true) × (is_simple_and_free flows_app ≡ true)
+flows_is_simple = (refl, refl)

@@ -8,12 +8,12 @@ use Rattle.clap.specs.declared.parser.matches.ArgMatches.{ArgMatches}
 use Rattle.command_words.specs.declared.usage.UsageFault.TheVariants as fault
 use Rattle.command_words.specs.declared.usage.WordsFault.{WordsFault}
 use Rattle.command_words.specs.declared.usage.WordsFault.TheVariants as error
-use Rattle.command_words.specs.Apps.{demo_names, plan_names, run_names}
-use Rattle.command_words.specs.Matched.{Matches, demo_read, four_names, given_has_text, options_have_text, plan_read, run_read}
+use Rattle.command_words.specs.Apps.{demo_names, flows_names, plan_names, run_names}
+use Rattle.command_words.specs.Matched.{Matches, demo_read, flow_options_have_text, flows_read, four_names, given_has_text, options_have_text, plan_read, run_read}
 use Rattle.command_words.specs.Named.{ReadsWords}
 use Rattle.command_words.specs.Roles.{Role, anything, gives, is_fit, is_whole, name, names_in, opens, option_names, options_in, roles, separator, unfit}
 use Rattle.command_words.specs.Given.{Given, Word, all_differ, contains, given_by, has_text, value_given}
-use Rattle.command_words.specs.Words.{Answer, Plan, answer_by, demo_by, demo_of, plan_by, plan_of, run_by, run_of, run_options}
+use Rattle.command_words.specs.Words.{Answer, Plan, answer_by, demo_by, demo_of, flows_by, flows_of, flows_options, plan_by, plan_of, run_by, run_of, run_options}
 use Rattle.command_words.proofs.Givens.{fit_given, given_of, same_given, sieved, texts}
 use Rattle.command_words.proofs.Placing.{GivesOnly, eq_sym, roles_give}
 use Rattle.command_words.proofs.Table.{same_text}
@@ -73,6 +73,12 @@ demo_wants [] options e = refl
 demo_wants (a ∷ []) options e = refl
 demo_wants (a ∷ b ∷ []) options e = absurd (true≢false e)
 demo_wants (a ∷ b ∷ c ∷ xs) options e = refl
+
+flows_wants : Wants 2 flows_by
+flows_wants [] options e = refl
+flows_wants (a ∷ []) options e = refl
+flows_wants (a ∷ b ∷ []) options e = absurd (true≢false e)
+flows_wants (a ∷ b ∷ c ∷ xs) options e = refl
 
 -- where they make up none
 unfit_answer : (n : ℕ) (known words : List Word) (answer : List Word → List (Word × Word) → Answer) → Wants n answer → is_whole n (roles known anything words) ≡ false
@@ -201,6 +207,22 @@ demo_is a b m n o (p ∷ q ∷ []) options e em en eo =
     let name_is : has_text q ≡ (has_text q && true) = sym (and_true (has_text q)) in
     rw (ea, eb, em, en, eo) (λ i. cond ((has_text p && name_is i) && options_are options i) (demo_by (p ∷ q ∷ []) options) (Err fault.Words))
 
+flow_options_are : (options : List (Word × Word))
+    → flow_options_have_text (value_given (codes "workers") options) (value_given (codes "burst") options) ≡ given_texts options flows_options
+flow_options_are options = ap (λ t. given_has_text (value_given (codes "workers") options) && t) (sym (and_true (given_has_text (value_given (codes "burst") options))))
+
+flows_is : (a b m n : Option Word) (names : List Word) (options : List (Word × Word)) → a ∷ b ∷ [] ≡ map Some names
+    → m ≡ value_given (codes "workers") options → n ≡ value_given (codes "burst") options
+    → flows_read a b m n ≡ cond (list_all has_text names && given_texts options flows_options) (flows_by names options) (Err fault.Words)
+flows_is a b m n [] options e em en = cc
+flows_is a b m n (p ∷ []) options e em en = cc
+flows_is a b m n (p ∷ q ∷ r ∷ rs) options e em en = cc
+flows_is a b m n (p ∷ q ∷ []) options e em en =
+    let ea : a ≡ Some p = cc in
+    let eb : b ≡ Some q = cc in
+    let name_is : has_text q ≡ (has_text q && true) = sym (and_true (has_text q)) in
+    rw (ea, eb, em, en) (λ i. cond ((has_text p && name_is i) && flow_options_are options i) (flows_by (p ∷ q ∷ []) options) (Err fault.Words))
+
 abbrev value : ArgMatches → Text → Option Word
 value m x = first_value (found_of m) x
 
@@ -235,6 +257,13 @@ demo_answered words m h =
     (h.gives_options (codes "mergers") refl) (h.gives_options (codes "burst") refl) (h.gives_options (codes "merge") refl)
     ∙ texts_are 2 run_options words _ h.whole ∙ sym (whole_answer 2 run_options words demo_by h.whole)
 
+pub flows_answered : (words : List Word) (m : ArgMatches) → Matches flows_names flows_options words m
+    → flows_read (value m (codes "capture")) (value m (codes "out")) (value m (codes "workers")) (value m (codes "burst")) ≡ flows_of words
+flows_answered words m h =
+    flows_is _ _ _ _ (names_in (roles flows_options anything words)) (options_in (roles flows_options anything words)) h.gives_names
+    (h.gives_options (codes "workers") refl) (h.gives_options (codes "burst") refl)
+    ∙ texts_are 2 flows_options words _ h.whole ∙ sym (whole_answer 2 flows_options words flows_by h.whole)
+
 -- where there are no matches
 refused : (n : ℕ) (known words : List Word) (answer : List Word → List (Word × Word) → Answer) (e : WordsFault) → Wants n answer
     → (e ≡ error.OutOfMemory) ⊎ ((e ≡ error.Usage fault.Words) × (is_whole n (roles known anything words) ≡ false))
@@ -251,3 +280,6 @@ plan_refused words e h = refused 1 [] words plan_by e plan_wants h
 
 pub demo_refused : (words : List Word) (e : WordsFault) → (e ≡ error.OutOfMemory) ⊎ ((e ≡ error.Usage fault.Words) × (is_whole 2 (roles run_options anything words) ≡ false)) → ReadsWords (Err e) (demo_of words)
 demo_refused words e h = refused 2 run_options words demo_by e demo_wants h
+
+pub flows_refused : (words : List Word) (e : WordsFault) → (e ≡ error.OutOfMemory) ⊎ ((e ≡ error.Usage fault.Words) × (is_whole 2 (roles flows_options anything words) ≡ false)) → ReadsWords (Err e) (flows_of words)
+flows_refused words e h = refused 2 flows_options words flows_by e flows_wants h

@@ -1,13 +1,14 @@
 -- Worked rows, computed by the definitions.
 use Rattle.std.specs.Prelude.{◌≡◌, ℕ, List, [], refl, ◌==◌, Ok, Err, codes}
 use Rattle.std.specs.List.{slice_split}
+use Rattle.command_words.specs.declared.requests.FlowOptions.{FlowOptions}
 use Rattle.command_words.specs.declared.requests.RunOptions.{RunOptions}
 use Rattle.command_words.specs.declared.requests.Way.{Way}
 use Rattle.command_words.specs.declared.requests.Way.TheVariants.{Inbox, Board}
-use Rattle.command_words.specs.declared.usage.Option4.TheVariants.{Mergers, Burst, Seed, Count}
+use Rattle.command_words.specs.declared.usage.Option4.TheVariants.{Mergers, Burst, Workers, Seed, Count}
 use Rattle.command_words.specs.declared.usage.UsageFault.TheVariants.{NoCommand, UnknownCommand, Words, Number, Merge, SameName}
 use Rattle.command_words.specs.Given.{given_by}
-use Rattle.command_words.specs.Words.{Answer, Demo, Plan, Run, command_of}
+use Rattle.command_words.specs.Words.{Answer, Demo, Flows, Plan, Run, command_of}
 
 -- the answer to a line whose words are parted by blanks
 abbrev read : List ℕ → Answer
@@ -30,6 +31,10 @@ runs = runs_by Inbox
 
 abbrev demo : ℕ → ℕ → RunOptions → Answer
 demo seed count given = Ok (Demo (record { seed = seed; count = count }) given)
+
+-- `flows c o` with these options
+abbrev flows : ℕ → ℕ → Answer
+flows workers burst = Ok (Flows (record { capture = codes "c"; out = codes "o" }) (record { workers = workers; burst = burst }))
 
 no_word : command_of [] ≡ Err NoCommand
 no_word = refl
@@ -367,3 +372,49 @@ equal_names = refl
 equal_ends : read (codes "run p c o p") ≡ Err SameName
 unfolding given_by
 equal_ends = refl
+
+-- ---- flows
+
+flows_as_is : read (codes "flows c o") ≡ flows 2 1024
+unfolding given_by
+flows_as_is = refl
+
+flows_with_options : read (codes "flows --workers 16 c --burst=7 o") ≡ flows 16 7
+unfolding given_by
+flows_with_options = refl
+
+flows_of_one_name : read (codes "flows c") ≡ Err Words
+unfolding given_by
+flows_of_one_name = refl
+
+flows_of_three_names : read (codes "flows c o x") ≡ Err Words
+unfolding given_by
+flows_of_three_names = refl
+
+mergers_of_flows : read (codes "flows c o --mergers 2") ≡ Err Words
+unfolding given_by
+mergers_of_flows = refl
+
+workers_of_run : read (codes "run p c o r --workers 2") ≡ Err Words
+unfolding given_by
+workers_of_run = refl
+
+no_workers : read (codes "flows c o --workers 0") ≡ Err (Number Workers)
+unfolding given_by
+no_workers = refl
+
+too_many_workers : read (codes "flows c o --workers 17") ≡ Err (Number Workers)
+unfolding given_by
+too_many_workers = refl
+
+burst_before_workers : read (codes "flows c o --workers 17 --burst 0") ≡ Err (Number Burst)
+unfolding given_by
+burst_before_workers = refl
+
+workers_before_names : read (codes "flows c c --workers 17") ≡ Err (Number Workers)
+unfolding given_by
+workers_before_names = refl
+
+equal_files : read (codes "flows c c") ≡ Err SameName
+unfolding given_by
+equal_files = refl

@@ -12,9 +12,9 @@ use Rattle.clap.specs.Takes.{is_given}
 use Rattle.clap.specs.declared.builder.action.ArgAction.TheVariants.{Set}
 use Rattle.clap.specs.declared.builder.range.ValueRange.{ValueRange}
 use Rattle.clap.specs.declared.builder.value_parser.ValueParser.TheVariants as vp
-use Rattle.command_words.specs.Apps.{run_app, plan_app, demo_app, run_names, plan_names, demo_names}
+use Rattle.command_words.specs.Apps.{run_app, plan_app, demo_app, flows_app, run_names, plan_names, demo_names, flows_names}
 use Rattle.command_words.specs.Given.{contains}
-use Rattle.command_words.specs.Words.{run_options}
+use Rattle.command_words.specs.Words.{flows_options, run_options}
 
 abbrev pub one_value : ValueRange
 one_value = record { start_inclusive = 1; end_inclusive = 1 }
@@ -57,6 +57,9 @@ plan_built = refl
 pub demo_built : built demo_app ≡ app_with demo_app.top.name (table demo_names run_options)
 demo_built = refl
 
+pub flows_built : built flows_app ≡ app_with flows_app.top.name (table flows_names flows_options)
+flows_built = refl
+
 -- ---- the searches
 
 -- each argument of these names is found by its place and by its id
@@ -79,11 +82,17 @@ plan_indexed = (refl, (refl, refl))
 pub demo_indexed : Indexed (table demo_names run_options) 1 demo_names
 demo_indexed = (refl, (refl, (refl, (refl, refl))))
 
+pub flows_indexed : Indexed (table flows_names flows_options) 1 flows_names
+flows_indexed = (refl, (refl, (refl, (refl, refl))))
+
 pub run_ids : HasIds (table run_names run_options) run_options
 run_ids = (refl, (refl, (refl, tt)))
 
 pub demo_ids : HasIds (table demo_names run_options) run_options
 demo_ids = (refl, (refl, (refl, tt)))
+
+pub flows_ids : HasIds (table flows_names flows_options) flows_options
+flows_ids = (refl, (refl, tt))
 
 pub same_text : (a b : Text) → bytes_eq a b ≡ true → a ≡ b
 same_text a b e = (bytes_eq-Decides a b).0 e

@@ -3,7 +3,7 @@ use Rattle.std.specs.Prelude.{List, [], ◌∷◌, ◌++◌, map, Some, true, co
 use Rattle.clap.specs.declared.builder.action.ArgAction.TheVariants.{Set}
 use Rattle.clap.specs.Simple.{App, new_rule, new_shape}
 use Rattle.clap.specs.Walk.{Rule, Text}
-use Rattle.command_words.specs.Words.{run_options}
+use Rattle.command_words.specs.Words.{flows_options, run_options}
 
 -- a name that has to be there
 abbrev pub name_rule : Text → Rule
@@ -34,6 +34,9 @@ plan_names = codes "policy" ∷ []
 abbrev pub demo_names : List Text
 demo_names = codes "seed" ∷ codes "count" ∷ []
 
+abbrev pub flows_names : List Text
+flows_names = codes "capture" ∷ codes "out" ∷ []
+
 abbrev pub run_app : App
 run_app = app (codes "run") run_names run_options
 
@@ -42,3 +45,6 @@ plan_app = app (codes "plan") plan_names []
 
 abbrev pub demo_app : App
 demo_app = app (codes "demo") demo_names run_options
+
+abbrev pub flows_app : App
+flows_app = app (codes "flows") flows_names flows_options

@@ -7,7 +7,7 @@ use Rattle.clap.specs.Words.{Text, first_value, found_of}
 use Rattle.command_words.specs.declared.usage.UsageFault.TheVariants as fault
 use Rattle.command_words.specs.Roles.{Role, anything, is_whole, names_in, options_in, roles}
 use Rattle.command_words.specs.Given.{Word, contains, has_text, value_given}
-use Rattle.command_words.specs.Words.{Answer, Names, Plan, demo_with, run_with}
+use Rattle.command_words.specs.Words.{Answer, Names, Plan, demo_with, flows_with, run_with}
 
 -- the names that the words give, in order
 abbrev pub GivesNames : List Text → List Role → ArgMatches → Type 0
@@ -62,3 +62,12 @@ demo_read (Some seed) (Some count) mergers burst way =
     if (has_text seed && has_text count) && options_have_text mergers burst way
     then demo_with seed count mergers burst way else Err fault.Words
 demo_read seed count mergers burst way = Err fault.Words
+
+abbrev pub flow_options_have_text : Option Word → Option Word → Bool
+flow_options_have_text workers burst = given_has_text workers && given_has_text burst
+
+abbrev pub flows_read : Option Word → Option Word → Option Word → Option Word → Answer
+flows_read (Some capture) (Some out) workers burst =
+    if (has_text capture && has_text out) && flow_options_have_text workers burst
+    then flows_with (record { capture = capture; out = out }) burst workers else Err fault.Words
+flows_read capture out workers burst = Err fault.Words

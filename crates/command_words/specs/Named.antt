@@ -4,12 +4,14 @@ use Rattle.std.specs.Borrow.{Bor}
 use Rattle.command_words.specs.declared.requests.Command.{Command as Asked}
 use Rattle.command_words.specs.declared.requests.Command.TheVariants as asked
 use Rattle.command_words.specs.declared.requests.FileNames.{FileNames}
+use Rattle.command_words.specs.declared.requests.FlowNames.{FlowNames}
+use Rattle.command_words.specs.declared.requests.FlowOptions.{FlowOptions}
 use Rattle.command_words.specs.declared.requests.RunOptions.{RunOptions}
 use Rattle.command_words.specs.declared.usage.UsageFault.{UsageFault}
 use Rattle.command_words.specs.declared.usage.WordsFault.{WordsFault}
 use Rattle.command_words.specs.declared.usage.WordsFault.TheVariants.{Usage, OutOfMemory}
 use Rattle.command_words.specs.Given.{Word}
-use Rattle.command_words.specs.Words.{Answer, Command, Demo, Names, Plan, Run}
+use Rattle.command_words.specs.Words.{Answer, Command, Demo, FlowFiles, Flows, Names, Plan, Run}
 
 abbrev pub word_in : Option (Bor Word) → Option Word
 word_in = option_map (λ word. word.now)
@@ -17,10 +19,14 @@ word_in = option_map (λ word. word.now)
 abbrev pub names_seen : FileNames → Names
 names_seen n = record { policy = n.policy.now; capture = n.capture.now; out = n.out.now; report = n.report.now }
 
+abbrev pub files_seen : FlowNames → FlowFiles
+files_seen n = record { capture = n.capture.now; out = n.out.now }
+
 abbrev pub command_seen : Asked → Command
 command_seen (asked.Run names options) = Run (names_seen names) options
 command_seen (asked.Plan name) = Plan name.now
 command_seen (asked.Demo input options) = Demo input options
+command_seen (asked.Flows names options) = Flows (files_seen names) options
 
 abbrev pub answer_seen : Result Asked UsageFault → Answer
 answer_seen (Ok command) = Ok (command_seen command)
@@ -29,6 +35,10 @@ answer_seen (Err fault) = Err fault
 abbrev pub distinct_seen : Result FileNames UsageFault → Result Names UsageFault
 distinct_seen (Ok names) = Ok (names_seen names)
 distinct_seen (Err fault) = Err fault
+
+abbrev pub distinct_files_seen : Result FlowNames UsageFault → Result FlowFiles UsageFault
+distinct_files_seen (Ok names) = Ok (files_seen names)
+distinct_files_seen (Err fault) = Err fault
 
 -- the words were read to this, or memory ran out
 abbrev pub ReadsWords : Result Asked WordsFault → Answer → Type 0
@@ -43,7 +53,15 @@ pub record IsInRange (options : RunOptions) : Type 0 where
   pub some_packets : 1 ≤ options.burst
   pub few_packets : options.burst ≤ 65536
 
+-- the same of the numbers of `flows`
+pub record IsFlowRange (options : FlowOptions) : Type 0 where
+  pub some_workers : 1 ≤ options.workers
+  pub few_workers : options.workers ≤ 16
+  pub some_packets : 1 ≤ options.burst
+  pub few_packets : options.burst ≤ 65536
+
 abbrev pub HasRanges : Asked → Type 0
 HasRanges (asked.Run names options) = IsInRange options
 HasRanges (asked.Plan name) = ⊤
 HasRanges (asked.Demo input options) = (1 ≤ input.count) × (input.count ≤ 1000000) × IsInRange options
+HasRanges (asked.Flows names options) = IsFlowRange options

@@ -5,11 +5,12 @@ use Rattle.std.specs.List.{list_all}
 use Rattle.std.specs.Str.{bytes_eq}
 use Rattle.std.specs.Str.Parse.{digits_value}
 use Rattle.command_words.specs.declared.requests.DemoInput.{DemoInput}
+use Rattle.command_words.specs.declared.requests.FlowOptions.{FlowOptions}
 use Rattle.command_words.specs.declared.requests.RunOptions.{RunOptions}
 use Rattle.command_words.specs.declared.requests.Way.{Way}
 use Rattle.command_words.specs.declared.requests.Way.TheVariants.{Inbox, Board}
 use Rattle.command_words.specs.declared.usage.Option4.{Option4}
-use Rattle.command_words.specs.declared.usage.Option4.TheVariants.{Mergers, Burst, Seed, Count}
+use Rattle.command_words.specs.declared.usage.Option4.TheVariants.{Mergers, Burst, Workers, Seed, Count}
 use Rattle.command_words.specs.declared.usage.UsageFault.{UsageFault}
 use Rattle.command_words.specs.declared.usage.UsageFault.TheVariants.{NoCommand, UnknownCommand, Words, Number, Merge, SameName}
 use Rattle.command_words.specs.Given.{Given, Word, all_differ, given_by, is_sound, value_given}
@@ -39,6 +40,10 @@ abbrev pub burst_of : Option Word → Result ℕ UsageFault
 burst_of None = Ok 1024
 burst_of (Some word) = number_of Burst 1 65536 word
 
+abbrev pub workers_of : Option Word → Result ℕ UsageFault
+workers_of None = Ok 2
+workers_of (Some word) = number_of Workers 1 16 word
+
 abbrev pub seed_of : Word → Result ℕ UsageFault
 seed_of word = number_of Seed 0 18446744073709551615 word
 
@@ -60,17 +65,27 @@ pub record Names : Type 0 where
   pub out : Word
   pub report : Word
 
--- What is asked for: to run a policy over a capture, to show the plan of a policy with this name, or to run the demonstration.
+-- The names of the two files of `flows`.
+pub record FlowFiles : Type 0 where
+  pub capture : Word
+  pub out : Word
+
+-- What is asked for: to run a policy over a capture, to show the plan of a policy with this name, to run the demonstration, or to count
+-- the flows of a capture.
 pub data Command : Type 0 where
   Run : Names → RunOptions → Command
   Plan : Word → Command
   Demo : DemoInput → RunOptions → Command
+  Flows : FlowFiles → FlowOptions → Command
 
 abbrev pub Answer : Type 0
 Answer = Result Command UsageFault
 
 abbrev pub distinct : Names → Result Names UsageFault
 distinct n = if all_differ (n.policy ∷ n.capture ∷ n.out ∷ n.report ∷ []) then Ok n else Err SameName
+
+abbrev pub distinct_files : FlowFiles → Result FlowFiles UsageFault
+distinct_files n = if all_differ (n.capture ∷ n.out ∷ []) then Ok n else Err SameName
 
 -- the numbers in their order, the way, and then the names
 abbrev pub run_with : Names → Option Word → Option Word → Option Word → Answer
@@ -80,6 +95,10 @@ run_with names mergers burst way = after (mergers_of mergers) (λ m. after (burs
 abbrev pub demo_with : Word → Word → Option Word → Option Word → Option Word → Answer
 demo_with seed count mergers burst way = after (mergers_of mergers) (λ m. after (burst_of burst) (λ b. after (seed_of seed) (λ s. after (count_of count) (λ c.
     after (way_of way) (λ w. Ok (Demo (record { seed = s; count = c }) (record { mergers = m; burst = b; way = w })))))))
+
+abbrev pub flows_with : FlowFiles → Option Word → Option Word → Answer
+flows_with files burst workers = after (burst_of burst) (λ b. after (workers_of workers) (λ w. after (distinct_files files) (λ n.
+    Ok (Flows n (record { workers = w; burst = b })))))
 
 abbrev pub run_by : List Word → List (Word × Word) → Answer
 run_by (policy ∷ capture ∷ out ∷ report ∷ []) options = run_with (record { policy = policy; capture = capture; out = out; report = report })
@@ -95,6 +114,11 @@ demo_by (seed ∷ count ∷ []) options = demo_with seed count
     (value_given (codes "mergers") options) (value_given (codes "burst") options) (value_given (codes "merge") options)
 demo_by names options = Err Words
 
+abbrev pub flows_by : List Word → List (Word × Word) → Answer
+flows_by (capture ∷ out ∷ []) options =
+    flows_with (record { capture = capture; out = out }) (value_given (codes "burst") options) (value_given (codes "workers") options)
+flows_by names options = Err Words
+
 -- the answer to what the words behind a command come to
 abbrev pub answer_by : (List Word → List (Word × Word) → Answer) → Option Given → Answer
 answer_by answer None = Err Words
@@ -103,6 +127,10 @@ answer_by answer (Some given) = if is_sound given then answer given.names given.
 -- the options of `run` and of `demo`
 abbrev pub run_options : List Word
 run_options = codes "mergers" ∷ codes "burst" ∷ codes "merge" ∷ []
+
+-- those of `flows`
+abbrev pub flows_options : List Word
+flows_options = codes "workers" ∷ codes "burst" ∷ []
 
 abbrev pub run_of : List Word → Answer
 run_of words = answer_by run_by (given_by run_options None words)
@@ -113,10 +141,14 @@ plan_of words = answer_by plan_by (given_by [] None words)
 abbrev pub demo_of : List Word → Answer
 demo_of words = answer_by demo_by (given_by run_options None words)
 
+abbrev pub flows_of : List Word → Answer
+flows_of words = answer_by flows_by (given_by flows_options None words)
+
 -- the command, or the first fault of the words
 abbrev pub command_of : List Word → Answer
 command_of [] = Err NoCommand
 command_of (word ∷ words) =
     if bytes_eq word (codes "run") then run_of words else
     if bytes_eq word (codes "plan") then plan_of words else
-    if bytes_eq word (codes "demo") then demo_of words else Err UnknownCommand
+    if bytes_eq word (codes "demo") then demo_of words else
+    if bytes_eq word (codes "flows") then flows_of words else Err UnknownCommand

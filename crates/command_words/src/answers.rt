@@ -2,13 +2,13 @@
 ghost use Rattle.std.specs.Prelude.{◌≡◌, IfOk, codes, option_map};
 ghost use Rattle.std.specs.List.{list_all};
 ghost use Rattle.clap.specs.Words.{first_value, found_of};
-ghost use Rattle.command_words.specs.Matched.{demo_read, four_names, given_has_text as given_spells, names_of, options_have_text as options_spell, plan_read, run_read};
-ghost use Rattle.command_words.specs.Named.{HasRanges, answer_seen, distinct_seen, names_seen, word_in};
+ghost use Rattle.command_words.specs.Matched.{demo_read, flow_options_have_text as flow_options_spell, flows_read, four_names, given_has_text as given_spells, names_of, options_have_text as options_spell, plan_read, run_read};
+ghost use Rattle.command_words.specs.Named.{HasRanges, answer_seen, distinct_files_seen, distinct_seen, files_seen, names_seen, word_in};
 ghost use Rattle.command_words.specs.Given.{all_differ, has_text as spells};
-ghost use Rattle.command_words.specs.Words.{demo_with, distinct as distinct_names, run_with};
+ghost use Rattle.command_words.specs.Words.{demo_with, distinct as distinct_names, distinct_files, flows_with, run_with};
 
-use crate::numbers::{burst, count, mergers, seed};
-use crate::requests::{Command, DemoInput, FileNames, RunOptions};
+use crate::numbers::{burst, count, mergers, seed, workers};
+use crate::requests::{Command, DemoInput, FileNames, FlowNames, FlowOptions, RunOptions};
 use crate::usage::UsageFault;
 use crate::ways::merge_way;
 use clap::ArgMatches;
@@ -191,6 +191,58 @@ pub fn demo_answer<'a>(matches: &ArgMatches<'a>) -> Result<Command<'a>, UsageFau
     };
     if has_text(seed) && has_text(count) && options_have_text(&options) {
         demo_from(seed, count, &options)
+    } else {
+        Err(UsageFault::Words)
+    }
+}
+
+fn flow_options_have_text(workers: Option<&str>, burst: Option<&str>) -> bool
+    ensures { result ≡ flow_options_spell (word_in workers.entry) (word_in burst.entry) }
+{
+    given_has_text(workers) && given_has_text(burst)
+}
+
+fn distinct_flow_names<'a>(names: FlowNames<'a>) -> Result<FlowNames<'a>, UsageFault>
+    ensures { distinct_files_seen result ≡ distinct_files (files_seen names.entry) }
+{
+    if names.out == names.capture {
+        Err(UsageFault::SameName)
+    } else {
+        Ok(names)
+    }
+}
+
+fn flows_from<'a>(
+    names: FlowNames<'a>,
+    workers_word: Option<&str>,
+    burst_word: Option<&str>,
+) -> Result<Command<'a>, UsageFault>
+    ensures answer { answer_seen result ≡ flows_with (files_seen names.entry) (word_in burst_word.entry) (word_in workers_word.entry) }
+    ensures ranges { IfOk result HasRanges }
+{
+    let burst = burst(burst_word)?;
+    let workers = workers(workers_word)?;
+    let names = distinct_flow_names(names)?;
+    Ok(Command::Flows(names, FlowOptions { workers, burst }))
+}
+
+/// The command `flows` of words that `clap` matched.
+pub fn flows_answer<'a>(matches: &ArgMatches<'a>) -> Result<Command<'a>, UsageFault>
+    ensures answer { answer_seen result ≡ flows_read (first_value (found_of matches.now) (codes "capture"))
+        (first_value (found_of matches.now) (codes "out")) (first_value (found_of matches.now) (codes "workers"))
+        (first_value (found_of matches.now) (codes "burst")) }
+    ensures ranges { IfOk result HasRanges }
+{
+    let Some(capture) = matches.get_str("capture") else {
+        return Err(UsageFault::Words);
+    };
+    let Some(out) = matches.get_str("out") else {
+        return Err(UsageFault::Words);
+    };
+    let workers = matches.get_str("workers");
+    let burst = matches.get_str("burst");
+    if has_text(capture) && has_text(out) && flow_options_have_text(workers, burst) {
+        flows_from(FlowNames { capture, out }, workers, burst)
     } else {
         Err(UsageFault::Words)
     }

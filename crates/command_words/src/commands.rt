@@ -1,7 +1,7 @@
 //! The commands as `clap` is told of them: names that have to be there, and options with a value.
 ghost use Rattle.std.specs.Prelude.{◌≡◌, IfOk, false, [], codes};
 ghost use Rattle.clap.specs.Words.{app_of, rule_of, with_rule};
-ghost use Rattle.command_words.specs.Apps.{app, demo_app, name_rule, option_rule, plan_app, run_app};
+ghost use Rattle.command_words.specs.Apps.{app, demo_app, flows_app, name_rule, option_rule, plan_app, run_app};
 
 use clap::{Arg, ArgAction, Command};
 use std::alloc::{AllocError, Global};
@@ -87,4 +87,15 @@ pub fn demo_command<'a>(alloc: Global) -> Result<Command<'a>, AllocError>
     let command = with_name(alloc, command, "seed")?;
     let command = with_name(alloc, command, "count")?;
     with_run_options(alloc, command)
+}
+
+/// `flows CAPTURE OUT` with its options.
+pub fn flows_command<'a>(alloc: Global) -> Result<Command<'a>, AllocError>
+    ensures { IfOk result (λ c. app_of c ≡ flows_app) }
+{
+    let command = without_arguments(alloc, "flows");
+    let command = with_name(alloc, command, "capture")?;
+    let command = with_name(alloc, command, "out")?;
+    let command = with_option(alloc, command, "workers")?;
+    with_option(alloc, command, "burst")
 }

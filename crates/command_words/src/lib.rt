@@ -5,10 +5,11 @@
 //! - `run POLICY CAPTURE OUT REPORT [--mergers N] [--burst N] [--merge WAY]`
 //! - `plan POLICY`
 //! - `demo SEED COUNT [--mergers N] [--burst N] [--merge WAY]`
+//! - `flows CAPTURE OUT [--workers N] [--burst N]`
 //!
 //! An option stands before, between or behind the names, as `--burst 7` or `--burst=7`, and at most once. Behind the word
 //! `--` each word is a name, so a name that begins with a dash can be given there. WAY is `inbox` or `board`. The words are
-//! told apart first, then the numbers are read, then the way, and the names of `run` are compared last, so the fault that is
+//! told apart first, then the numbers are read, then the way, and the names of `run` and of `flows` are compared last, so the fault that is
 //! told is the first in this order.
 //!
 //! The words behind the command's own are read by `clap`, and it is proved that what it makes of them is what the definition says, which
@@ -27,6 +28,6 @@ mod usage;
 mod ways;
 mod words;
 
-pub use requests::{Command, DemoInput, FileNames, RunOptions, Way};
+pub use requests::{Command, DemoInput, FileNames, FlowNames, FlowOptions, RunOptions, Way};
 pub use usage::{Option4, UsageFault, WordsFault};
 pub use words::read_command;

@@ -1,11 +1,11 @@
 //! The words behind each command, matched by `clap`.
 ghost use Rattle.std.specs.Prelude.{◌≡◌, ◌≢◌, ◌⊎◌, MatchResult, map, string_bytes, []};
 ghost use Rattle.clap.specs.Words.{kind_of};
-ghost use Rattle.command_words.specs.Apps.{demo_names, plan_names, run_names};
+ghost use Rattle.command_words.specs.Apps.{demo_names, flows_names, plan_names, run_names};
 ghost use Rattle.command_words.specs.Matched.{IsUnfit, Matches};
-ghost use Rattle.command_words.specs.Words.{run_options};
+ghost use Rattle.command_words.specs.Words.{flows_options, run_options};
 
-use crate::commands::{demo_command, plan_command, run_command};
+use crate::commands::{demo_command, flows_command, plan_command, run_command};
 use crate::usage::{UsageFault, WordsFault};
 use clap::error::ErrorKind;
 use clap::{ArgMatches, Error};
@@ -53,6 +53,18 @@ pub fn demo_matches<'a>(alloc: Global, words: &'a [String]) -> Result<ArgMatches
         × IsUnfit demo_names run_options (map string_bytes words.entry.now))) }
 {
     let command = demo_command(alloc)?;
+    match command.try_get_matches_from(words) {
+        Ok(matches) => Ok(matches),
+        Err(error) => Err(refusal(error)),
+    }
+}
+
+pub fn flows_matches<'a>(alloc: Global, words: &'a [String]) -> Result<ArgMatches<'a>, WordsFault>
+    ensures { MatchResult result (Matches flows_names flows_options (map string_bytes words.entry.now))
+        (λ e. (e ≡ WordsFault.OutOfMemory) ⊎ ((e ≡ WordsFault.Usage UsageFault.Words)
+        × IsUnfit flows_names flows_options (map string_bytes words.entry.now))) }
+{
+    let command = flows_command(alloc)?;
     match command.try_get_matches_from(words) {
         Ok(matches) => Ok(matches),
         Err(error) => Err(refusal(error)),

@@ -3,7 +3,7 @@ ghost use Rattle.std.specs.Prelude.{◌≡◌, ◌≤◌, IfOk};
 ghost use Rattle.std.specs.Char.{is_ascii_digit};
 ghost use Rattle.std.specs.List.{list_all};
 ghost use Rattle.command_words.specs.Named.{word_in};
-ghost use Rattle.command_words.specs.Words.{burst_of, count_of, is_numeral as spells, mergers_of, number_of, seed_of};
+ghost use Rattle.command_words.specs.Words.{burst_of, count_of, is_numeral as spells, mergers_of, number_of, seed_of, workers_of};
 
 use crate::usage::{Option4, UsageFault};
 
@@ -57,6 +57,17 @@ pub fn burst(word: Option<&str>) -> Result<u32, UsageFault>
     match word {
         Some(word) => Ok(number(Option4::Burst, word, 1, 65_536)? as u32),
         None => Ok(1024),
+    }
+}
+
+/// How many workers count flows, 2 where no word says so.
+pub fn workers(word: Option<&str>) -> Result<u32, UsageFault>
+    ensures value { result ≡ workers_of (word_in word.entry) }
+    ensures range { IfOk result (λ n. (1 ≤ n) × (n ≤ 16)) }
+{
+    match word {
+        Some(word) => Ok(number(Option4::Workers, word, 1, 16)? as u32),
+        None => Ok(2),
     }
 }
 

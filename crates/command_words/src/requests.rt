@@ -9,6 +9,13 @@ pub struct FileNames<'a> {
     pub report: &'a str,
 }
 
+/// The names of the two files of `flows`.
+#[derive(Clone, Copy, Debug)]
+pub struct FlowNames<'a> {
+    pub capture: &'a str,
+    pub out: &'a str,
+}
+
 /// How what the branches of a stage give comes together. What comes out is the same either way.
 #[derive(Clone, Copy, Debug, PartialEq, Eq)]
 pub enum Way {
@@ -38,6 +45,15 @@ pub struct DemoInput {
     pub count: u32,
 }
 
+/// How the flows of a capture are to be counted. Where an option isn't given, its field has the value that stands for it.
+#[derive(Clone, Copy, Debug, PartialEq, Eq)]
+pub struct FlowOptions {
+    /// `--workers`: how many workers count, each its own flows, 1 to 16, else 2.
+    pub workers: u32,
+    /// `--burst`: the most packets of a burst, 1 to 65,536, else 1,024.
+    pub burst: u32,
+}
+
 /// What is asked for.
 #[derive(Clone, Copy, Debug)]
 pub enum Command<'a> {
@@ -47,4 +63,6 @@ pub enum Command<'a> {
     Plan(&'a str),
     /// `demo SEED COUNT [--mergers N] [--burst N] [--merge WAY]`
     Demo(DemoInput, RunOptions),
+    /// `flows CAPTURE OUT [--workers N] [--burst N]`
+    Flows(FlowNames<'a>, FlowOptions),
 }

@@ -11,6 +11,8 @@ pub enum Option4 {
     Mergers,
     /// The value of `--burst`.
     Burst,
+    /// The value of `--workers`.
+    Workers,
     /// The first name of `demo`.
     Seed,
     /// The second name of `demo`.
@@ -31,7 +33,7 @@ pub enum UsageFault {
     Number(Option4),
     /// The value of `--merge` is neither `inbox` nor `board`.
     Merge,
-    /// Two of the names of `run` are equal.
+    /// Two of the names of `run` or of `flows` are equal.
     SameName,
 }
 

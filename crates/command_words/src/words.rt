@@ -1,10 +1,10 @@
 //! The words of the command line.
 ghost use Rattle.std.specs.Prelude.{IfOk, map, string_bytes};
 ghost use Rattle.command_words.specs.Named.{HasRanges, ReadsWords};
-ghost use Rattle.command_words.specs.Words.{command_of, demo_of, plan_of, run_of};
+ghost use Rattle.command_words.specs.Words.{command_of, demo_of, flows_of, plan_of, run_of};
 
-use crate::answers::{demo_answer, plan_answer, run_answer};
-use crate::matches::{demo_matches, plan_matches, run_matches};
+use crate::answers::{demo_answer, flows_answer, plan_answer, run_answer};
+use crate::matches::{demo_matches, flows_matches, plan_matches, run_matches};
 use crate::requests::Command;
 use crate::usage::{UsageFault, WordsFault};
 use std::alloc::Global;
@@ -23,6 +23,7 @@ pub fn read_command<'a>(alloc: Global, words: &'a [String]) -> Result<Command<'a
         "run" => read_run(alloc, rest),
         "plan" => read_plan(alloc, rest),
         "demo" => read_demo(alloc, rest),
+        "flows" => read_flows(alloc, rest),
         _ => Err(WordsFault::Usage(UsageFault::UnknownCommand)),
     }
 }
@@ -55,6 +56,17 @@ fn read_demo<'a>(alloc: Global, words: &'a [String]) -> Result<Command<'a>, Word
 {
     let matches = demo_matches(alloc, words)?;
     match demo_answer(&matches) {
+        Ok(command) => Ok(command),
+        Err(fault) => Err(WordsFault::Usage(fault)),
+    }
+}
+
+fn read_flows<'a>(alloc: Global, words: &'a [String]) -> Result<Command<'a>, WordsFault>
+    ensures reads { ReadsWords result (flows_of (map string_bytes words.entry.now)) }
+    ensures ranges { IfOk result HasRanges }
+{
+    let matches = flows_matches(alloc, words)?;
+    match flows_answer(&matches) {
         Ok(command) => Ok(command),
         Err(fault) => Err(WordsFault::Usage(fault)),
     }

@@ -1,4 +1,4 @@
--- Believed: how large the addresses of a flow are.
+-- For proofs: how large the addresses of a flow are.
 use Rattle.std.specs.Prelude.{◌≡◌, ◌<◌, ◌^◌, false}
 use Rattle.flow_line.specs.declared.key.FlowKey.{FlowKey}
 use Rattle.flow_line.specs.declared.line.FlowLine.{FlowLine}

@@ -35,4 +35,4 @@ module _ (workers last : ℕ) (lines : Lines) (tables : List Lines) (some : 1 �
 
 pub no_lines : (last : ℕ) → AreOrdered last []
 unfolding IsDistinct
-no_lines last = record { rising = tt; distinct = tt; within = tt }
+no_lines last = record { rising = tt; distinct = tt; within = tt; few = omega arith }

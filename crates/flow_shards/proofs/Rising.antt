@@ -1,9 +1,10 @@
 -- Lines stay in the order of first sight, each flow once, while packets whose numbers rise are counted.
-use Rattle.std.proofs.Common.{◌≡◌, ◌≤◌, ◌<◌, ◌∙◌, ℕ, List, [], ◌∷◌, ◌++◌, map, Bool, true, false, refl, sym, ap, subst, arith}
+use Rattle.std.proofs.Common.{◌≡◌, ◌≤◌, ◌<◌, ◌∙◌, ℕ, List, [], ◌∷◌, ◌++◌, map, length, Bool, true, false, refl, sym, ap, subst, arith}
 use Rattle.std.specs.Prelude.{◌||◌, ⊤, if◌then◌else◌, Option, Some, None, unwrap_or, filter_map}
 use Rattle.std.specs.List.{AllByRecursion, IsDistinct, cons_option}
 use Rattle.std.specs.Map.{keys_of}
 use Rattle.std.proofs.lemmas.Bool.{true≢false}
+use Rattle.std.proofs.lemmas.List.{length-append, length-map}
 use Rattle.capture_bytes.specs.declared.packet.Unit.{Unit as TimeUnit}
 use Rattle.capture_bytes.specs.Packets.{time_of}
 use Rattle.packet_fields.specs.Frames.{packet}
@@ -165,6 +166,20 @@ numbers_counted last s lines ordered above = subst (Numbers s.number) (sym (firs
     by true = record { increasing = rising; up_to = more }
     by false = record { increasing = increasing_last last s.number (firsts lines) above within rising; up_to = up_to_last s.number (firsts lines) more }
 
+-- a packet makes at most one line more
+few_counted : (last : ℕ) (s : Sight) (lines : Lines) → AreOrdered last lines → last < s.number → length (counted lines s) ≤ s.number
+few_counted last s lines ordered above =
+    let size : length (firsts (counted lines s)) ≡ length (counted lines s) = length-map (counted lines s) (λ line. line.1.first) in
+    let grown = by (is_seen is_same_flow (keys_of lines) s.flow) in
+    omega (arith, size, ap length (firsts_counted s lines ordered.distinct), grown)
+  where
+    before : length (firsts lines) ≡ length lines
+    before = length-map lines (λ line. line.1.first)
+
+    by : (b : Bool) → length (if b then firsts lines else firsts lines ++ s.number ∷ []) ≤ s.number
+    by true = omega (arith, before, ordered.few, above)
+    by false = omega (arith, length-append (firsts lines) (s.number ∷ []), before, ordered.few, above)
+
 ordered_counted : (last : ℕ) (s : Sight) (lines : Lines) → AreOrdered last lines → last < s.number → AreOrdered s.number (counted lines s)
 ordered_counted last s lines ordered above =
     let numbers = numbers_counted last s lines ordered above in
@@ -172,6 +187,7 @@ ordered_counted last s lines ordered above =
       rising = rising_of (counted lines s) numbers.increasing;
       distinct = distinct_counted s lines ordered.distinct;
       within = within_of s.number (counted lines s) numbers.up_to;
+      few = few_counted last s lines ordered above;
     }
 
 ordered_later : (last later : ℕ) (lines : Lines) → last ≤ later → AreOrdered last lines → AreOrdered later lines
@@ -179,6 +195,7 @@ ordered_later last later lines h ordered = record {
   rising = ordered.rising;
   distinct = ordered.distinct;
   within = within_of later lines (up_to_more last later (firsts lines) h (within_to last lines ordered.within));
+  few = omega (arith, h, ordered.few);
 }
 
 -- a packet is seen under its own number

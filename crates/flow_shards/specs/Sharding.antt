@@ -84,11 +84,13 @@ abbrev pub IsRising : Lines → Type 0
 IsRising [] = ⊤
 IsRising (line ∷ lines) = AllByRecursion (λ next. line.1.first < next.1.first) lines × IsRising lines
 
--- For the proofs alone: lines in the order of first sight, each flow once, none of them first seen behind this packet.
+-- For the proofs alone: lines in the order of first sight, each flow once, none of them first seen behind this packet, and no more
+-- than there were packets.
 pub record AreOrdered (last : ℕ) (lines : Lines) : Type 0 where
   pub rising : IsRising lines
   pub distinct : IsDistinct is_same_flow (keys_of lines)
   pub within : AllByRecursion (λ line. line.1.first ≤ last) lines
+  pub few : length lines ≤ last
 
 -- And these are their shards.
 pub record AreParted (last : ℕ) (tables : List Lines) : Type 0 where

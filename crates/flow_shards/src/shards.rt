@@ -33,7 +33,7 @@ impl Model for Shards {
 }
 
 impl Shards {
-    ghost use Rattle.std.specs.Prelude.{◌≡◌, ◌≤◌, ◌<◌, [], All, IfOk, filter};
+    ghost use Rattle.std.specs.Prelude.{◌≡◌, ◌≤◌, ◌<◌, [], All, IfOk, filter, length};
     ghost use Rattle.std.specs.Map.{values_of};
     ghost use Rattle.flow_line.specs.Versions.{HasFittingKey};
     ghost use Rattle.flow_shards.specs.Flows.{flows_from};
@@ -88,6 +88,7 @@ impl Shards {
     pub fn gather(self, alloc: Global) -> Result<Vec<FlowLine>, AllocError>
         ensures lines { IfOk result (λ lines. lines.items ≡ values_of self.lines) }
         ensures fits { IfOk result (λ lines. All HasFittingKey lines.items) }
+        ensures few { IfOk result (λ lines. length lines.items ≤ self.last) }
     {
         let mut lines = all_lines(alloc, &self.tables)?;
         lines.sort_by_key(|line| line.first)?;

@@ -124,6 +124,7 @@ fn number_help(page: &mut Page, which: Option4) -> Result<(), AllocError> {
     match which {
         Option4::Mergers => usage::out_of_range(page, "the value of --mergers", 1, 16),
         Option4::Burst => usage::out_of_range(page, "the value of --burst", 1, 65536),
+        Option4::Workers => usage::out_of_range(page, "the value of --workers", 1, 16),
         Option4::Seed => usage::out_of_range(page, "SEED", 0, u64::MAX),
         Option4::Count => usage::out_of_range(page, "COUNT", 1, 1_000_000),
     }

@@ -9,12 +9,12 @@ use Rattle.nfp_run.specs.declared.outcome.Outcome.TheVariants.{Done, Usage, Poli
 use Rattle.nfp_run.specs.declared.ending.Ending.{Ending}
 use Rattle.nfp_run.specs.declared.ending.Ending.TheVariants.{Completed, Shown, Refused, Stopped}
 use Rattle.command_words.specs.declared.usage.UsageFault.{UsageFault}
-use Rattle.command_words.specs.Words.{Command, Run, Plan, Demo}
+use Rattle.command_words.specs.Words.{Command, Run, Plan, Demo, Flows}
 use Rattle.nfp_run.specs.Due.{Due, due_of_command}
-use Rattle.nfp_run.specs.Written.{Written}
+use Rattle.nfp_run.specs.Written.{Files}
 use Rattle.nfp_run.specs.Closing.{outcome_seen, untold, text_of, EndsDue, Notes}
 use Rattle.nfp_run.specs.Ran.{Ran}
-use Rattle.nfp_run.specs.Answers.{IsDue, IsFinal, NoneRose, WhereRead, Leaves, LeavesPrefixes, IsUntouched, Holds, HoldsPrefix, ReadFaultCause, WriteFaultCause, note_due}
+use Rattle.nfp_run.specs.Answers.{IsDue, IsFinal, NoneRose, WhereRead, Leaves, LeavesPrefix, LeavesPrefixes, LeavesSlot, ReadFaultCause, WriteFaultCause, note_due}
 use Rattle.nfp_outside.specs.Adding.{prefix_whole}
 
 -- a call: what ran, and then the line in Note
@@ -32,11 +32,16 @@ if_policy : (a : Option (List ℕ)) (P Q : List ℕ → List ℕ → Type 0) →
 if_policy None P Q f h = tt
 if_policy (Some p) P Q f h = λ c. f p c (h c)
 
+if_capture : (b : Option (List ℕ)) (P Q : List ℕ → List ℕ → Type 0) → ((p c : List ℕ) → P p c → Q p c) → IfSome b (λ c. (p : List ℕ) → P p c) → IfSome b (λ c. (p : List ℕ) → Q p c)
+if_capture None P Q f h = tt
+if_capture (Some c) P Q f h = λ p. f p c (h p)
+
 -- what one fact gives another for all bytes, it gives it for those that are read
 pub if_read : (command : Result Command UsageFault) (old : Slot → SlotView) (P Q : List ℕ → List ℕ → Type 0) → ((p c : List ℕ) → P p c → Q p c) → WhereRead command old P → WhereRead command old Q
 if_read (Ok (Run names options)) old P Q f h = if_told (old slots.Policy).bytes (old slots.Capture).bytes P Q f h
 if_read (Ok (Plan name)) old P Q f h = if_policy (old slots.Policy).bytes P Q f h
 if_read (Ok (Demo input options)) old P Q f h = λ p c. f p c (h p c)
+if_read (Ok (Flows names options)) old P Q f h = if_capture (old slots.Capture).bytes P Q f h
 if_read (Err fault) old P Q f h = λ p c. f p c (h p c)
 
 told_always : (a b : Option (List ℕ)) (P : List ℕ → List ℕ → Type 0) → ((p c : List ℕ) → P p c) → IfSome a (λ p. IfSome b (P p))
@@ -48,10 +53,15 @@ policy_always : (a : Option (List ℕ)) (P : List ℕ → List ℕ → Type 0) �
 policy_always None P f = tt
 policy_always (Some p) P f = f p
 
+capture_always : (b : Option (List ℕ)) (P : List ℕ → List ℕ → Type 0) → ((p c : List ℕ) → P p c) → IfSome b (λ c. (p : List ℕ) → P p c)
+capture_always None P f = tt
+capture_always (Some c) P f = λ p. f p c
+
 pub read_always : (command : Result Command UsageFault) (old : Slot → SlotView) (P : List ℕ → List ℕ → Type 0) → ((p c : List ℕ) → P p c) → WhereRead command old P
 read_always (Ok (Run names options)) old P f = told_always (old slots.Policy).bytes (old slots.Capture).bytes P f
 read_always (Ok (Plan name)) old P f = policy_always (old slots.Policy).bytes P f
 read_always (Ok (Demo input options)) old P f = f
+read_always (Ok (Flows names options)) old P f = capture_always (old slots.Capture).bytes P f
 read_always (Err fault) old P f = f
 
 -- what is due of the bytes that are read under a premise
@@ -64,10 +74,15 @@ policy_under : (a : Option (List ℕ)) (F : Type 0) (P : List ℕ → List ℕ �
 policy_under None F P h = tt
 policy_under (Some p) F P h = λ c x. h x c
 
+capture_under : (b : Option (List ℕ)) (F : Type 0) (P : List ℕ → List ℕ → Type 0) → (F → IfSome b (λ c. (p : List ℕ) → P p c)) → IfSome b (λ c. (p : List ℕ) → F → P p c)
+capture_under None F P h = tt
+capture_under (Some c) F P h = λ p x. h x p
+
 read_under : (command : Result Command UsageFault) (old : Slot → SlotView) (F : Type 0) (P : List ℕ → List ℕ → Type 0) → (F → WhereRead command old P) → WhereRead command old (λ p c. F → P p c)
 read_under (Ok (Run names options)) old F P h = told_under (old slots.Policy).bytes (old slots.Capture).bytes F P h
 read_under (Ok (Plan name)) old F P h = policy_under (old slots.Policy).bytes F P h
 read_under (Ok (Demo input options)) old F P h = λ p c x. h x p c
+read_under (Ok (Flows names options)) old F P h = capture_under (old slots.Capture).bytes F P h
 read_under (Err fault) old F P h = λ p c x. h x p c
 
 pub policy_beside : slots.Policy ≢ slots.Note
@@ -82,16 +97,11 @@ out_beside h = cc
 pub report_beside : slots.Report ≢ slots.Note
 report_beside h = cc
 
-pub leaves_to : (due : Option Written) (old mid new : Slot → SlotView) → new slots.Out ≡ mid slots.Out → new slots.Report ≡ mid slots.Report → Leaves due old mid → Leaves due old new
-leaves_to None old mid new p q (a, b) = (subst (IsUntouched (old slots.Out)) (sym p) a, subst (IsUntouched (old slots.Report)) (sym q) b)
-leaves_to (Some due) old mid new p q (a, b) = (subst (Holds due.out (old slots.Out)) (sym p) a, subst (Holds due.report (old slots.Report)) (sym q) b)
+pub leaves_to : (due : Files) (old mid new : Slot → SlotView) → new slots.Out ≡ mid slots.Out → new slots.Report ≡ mid slots.Report → Leaves due old mid → Leaves due old new
+leaves_to due old mid new p q (a, b) = (subst (LeavesSlot due.out (old slots.Out)) (sym p) a, subst (LeavesSlot due.report (old slots.Report)) (sym q) b)
 
-prefixes_to : (due : Option Written) (old mid new : Slot → SlotView) → new slots.Out ≡ mid slots.Out → new slots.Report ≡ mid slots.Report → LeavesPrefixes due old mid → LeavesPrefixes due old new
-prefixes_to None old mid new p q (a, b) = (subst (IsUntouched (old slots.Out)) (sym p) a, subst (IsUntouched (old slots.Report)) (sym q) b)
-prefixes_to (Some due) old mid new p q (a, b) = (
-  subst (λ v. IsUntouched (old slots.Out) v ⊎ HoldsPrefix due.out (old slots.Out) v) (sym p) a,
-  subst (λ v. IsUntouched (old slots.Report) v ⊎ HoldsPrefix due.report (old slots.Report) v) (sym q) b,
-)
+prefixes_to : (due : Files) (old mid new : Slot → SlotView) → new slots.Out ≡ mid slots.Out → new slots.Report ≡ mid slots.Report → LeavesPrefixes due old mid → LeavesPrefixes due old new
+prefixes_to due old mid new p q (a, b) = (subst (LeavesPrefix due.out (old slots.Out)) (sym p) a, subst (LeavesPrefix due.report (old slots.Report)) (sym q) b)
 
 due_here : (due : Due) (old mid new : Slot → SlotView) (ended : Ending) (result : Outcome) → new slots.Out ≡ mid slots.Out → new slots.Report ≡ mid slots.Report → result ≡ outcome_seen ended → EndsDue due old mid ended → IsDue due old new result
 due_here due old mid new ended result p q is ends = record { answer = is ∙ ends.answer; left = leaves_to due.written old mid new p q ends.left }

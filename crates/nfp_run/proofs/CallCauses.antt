@@ -12,10 +12,10 @@ use Rattle.nfp_run.specs.declared.outcome.Outcome.TheVariants.{Done, Usage, Poli
 use Rattle.policy_judge.specs.declared.fault.PolicyFault.{PolicyFault}
 use Rattle.nfp_run.specs.declared.ending.Ending.{Ending}
 use Rattle.command_words.specs.declared.usage.UsageFault.{UsageFault}
-use Rattle.command_words.specs.Words.{Command, Run, Plan, Demo}
+use Rattle.command_words.specs.Words.{Command, Run, Plan, Demo, Flows}
 use Rattle.nfp_run.specs.Closing.{outcome_seen, untold, Notes}
 use Rattle.nfp_run.specs.Due.{due_of_command}
-use Rattle.nfp_run.specs.Answers.{IsDue, WhereRead, HasNames, name_of, BothAttached, NoneAttached, FaultAttaches, AttachedUnless, RunAttaches, AttachesDue, ReachesCapture, PolicyCause, ReadFaultCause, WriteFaultCause}
+use Rattle.nfp_run.specs.Answers.{IsDue, WhereRead, HasNames, name_of, BothAttached, NoneAttached, OutAttached, FaultAttaches, FaultAttachesOut, FlowsAttach, AttachedUnless, RunAttaches, AttachesDue, ReachesCapture, PolicyCause, ReadFaultCause, WriteFaultCause}
 use Rattle.nfp_run.proofs.CallAnswers.{Called, called_done, policy_beside, capture_beside, out_beside, report_beside}
 
 -- the names of Out and Report stay while the line is put into Note
@@ -59,17 +59,66 @@ run_to (WriteFault slots.Policy) mid new p q h = tt
 run_to (WriteFault slots.Capture) mid new p q h = tt
 run_to OutOfMemory mid new p q h = tt
 
+alone_to : (mid new : Slot → SlotView) → new slots.Out ≡ mid slots.Out → new slots.Report ≡ mid slots.Report → OutAttached mid → OutAttached new
+alone_to mid new p q alone = (out_to mid new p alone.0, ap (λ v. v.name) q ∙ alone.1)
+
+fault_to_out : (fault : CaptureFault) (mid new : Slot → SlotView) → new slots.Out ≡ mid slots.Out → new slots.Report ≡ mid slots.Report → FaultAttachesOut fault mid → FaultAttachesOut fault new
+fault_to_out BadMagic mid new p q h = none_to mid new p q h
+fault_to_out BadVersion mid new p q h = none_to mid new p q h
+fault_to_out (BadLink link) mid new p q h = none_to mid new p q h
+fault_to_out CutHead mid new p q h = none_to mid new p q h
+fault_to_out (CutRecord number) mid new p q h = alone_to mid new p q h
+fault_to_out (FrameTooLong number length) mid new p q h = alone_to mid new p q h
+fault_to_out TooManyRecords mid new p q h = alone_to mid new p q h
+
+flows_to : (outcome : Outcome) (mid new : Slot → SlotView) → new slots.Out ≡ mid slots.Out → new slots.Report ≡ mid slots.Report → FlowsAttach outcome mid → FlowsAttach outcome new
+flows_to Done mid new p q h = alone_to mid new p q h
+flows_to (Usage fault) mid new p q h = none_to mid new p q h
+flows_to (Policy fault) mid new p q h = none_to mid new p q h
+flows_to (Capture fault) mid new p q h = fault_to_out fault mid new p q h
+flows_to (CaptureNg fault) mid new p q h = none_to mid new p q h
+flows_to (ReadFault s) mid new p q h = ap (λ v. v.name) q ∙ h
+flows_to (WriteFault slots.Note) mid new p q h = alone_to mid new p q h
+flows_to (WriteFault slots.Report) mid new p q h = ap (λ v. v.name) q ∙ h
+flows_to (WriteFault slots.Out) mid new p q h = ap (λ v. v.name) q ∙ h
+flows_to (WriteFault slots.Policy) mid new p q h = ap (λ v. v.name) q ∙ h
+flows_to (WriteFault slots.Capture) mid new p q h = ap (λ v. v.name) q ∙ h
+flows_to OutOfMemory mid new p q h = ap (λ v. v.name) q ∙ h
+
 attaches_to : (command : Result Command UsageFault) (outcome : Outcome) (mid new : Slot → SlotView) → new slots.Out ≡ mid slots.Out → new slots.Report ≡ mid slots.Report → AttachesDue command outcome mid → AttachesDue command outcome new
 attaches_to (Ok (Run names options)) outcome mid new p q h = run_to outcome mid new p q h
 attaches_to (Ok (Plan name)) outcome mid new p q h = none_to mid new p q h
 attaches_to (Ok (Demo input options)) outcome mid new p q h = none_to mid new p q h
+attaches_to (Ok (Flows names options)) outcome mid new p q h = flows_to outcome mid new p q h
 attaches_to (Err fault) outcome mid new p q h = none_to mid new p q h
+
+-- flows never attach Report, except that a head's fault says so of both
+no_report : (outcome : Outcome) (new : Slot → SlotView) → FlowsAttach outcome new → (new slots.Report).name ≡ None
+no_report Done new h = h.1
+no_report (Usage fault) new h = h.1
+no_report (Policy fault) new h = h.1
+no_report (Capture BadMagic) new h = h.1
+no_report (Capture BadVersion) new h = h.1
+no_report (Capture (BadLink link)) new h = h.1
+no_report (Capture CutHead) new h = h.1
+no_report (Capture (CutRecord number)) new h = h.1
+no_report (Capture (FrameTooLong number length)) new h = h.1
+no_report (Capture TooManyRecords) new h = h.1
+no_report (CaptureNg fault) new h = h.1
+no_report (ReadFault s) new h = h
+no_report (WriteFault slots.Note) new h = h.1
+no_report (WriteFault slots.Report) new h = h
+no_report (WriteFault slots.Out) new h = h
+no_report (WriteFault slots.Policy) new h = h
+no_report (WriteFault slots.Capture) new h = h
+no_report OutOfMemory new h = h
 
 -- the same where memory ran out, or the line couldn't be put
 attaches_unmade : (command : Result Command UsageFault) (outcome : Outcome) (new : Slot → SlotView) → AttachesDue command outcome new → AttachesDue command OutOfMemory new
 attaches_unmade (Ok (Run names options)) outcome new h = tt
 attaches_unmade (Ok (Plan name)) outcome new h = h
 attaches_unmade (Ok (Demo input options)) outcome new h = h
+attaches_unmade (Ok (Flows names options)) outcome new h = no_report outcome new h
 attaches_unmade (Err fault) outcome new h = h
 
 run_untold : (outcome : Outcome) (new : Slot → SlotView) → RunAttaches outcome new → RunAttaches (untold outcome) new
@@ -82,10 +131,21 @@ run_untold (ReadFault s) new h = h
 run_untold (WriteFault s) new h = h
 run_untold OutOfMemory new h = h
 
+flows_untold : (outcome : Outcome) (new : Slot → SlotView) → FlowsAttach outcome new → FlowsAttach (untold outcome) new
+flows_untold Done new h = h
+flows_untold (Usage fault) new h = h
+flows_untold (Policy fault) new h = h
+flows_untold (Capture fault) new h = h
+flows_untold (CaptureNg fault) new h = h
+flows_untold (ReadFault s) new h = h
+flows_untold (WriteFault s) new h = h
+flows_untold OutOfMemory new h = h
+
 attaches_untold : (command : Result Command UsageFault) (outcome : Outcome) (new : Slot → SlotView) → AttachesDue command outcome new → AttachesDue command (untold outcome) new
 attaches_untold (Ok (Run names options)) outcome new h = run_untold outcome new h
 attaches_untold (Ok (Plan name)) outcome new h = h
 attaches_untold (Ok (Demo input options)) outcome new h = h
+attaches_untold (Ok (Flows names options)) outcome new h = flows_untold outcome new h
 attaches_untold (Err fault) outcome new h = h
 
 -- what is known of the policy where memory ran out, or the line couldn't be put
@@ -93,12 +153,14 @@ pub reaches_unmade : (command : Result Command UsageFault) (old : Slot → SlotV
 reaches_unmade (Ok (Run names options)) old = tt
 reaches_unmade (Ok (Plan name)) old = tt
 reaches_unmade (Ok (Demo input options)) old = tt
+reaches_unmade (Ok (Flows names options)) old = tt
 reaches_unmade (Err fault) old = tt
 
 reaches_note : (command : Result Command UsageFault) (old : Slot → SlotView) → ReachesCapture command (WriteFault slots.Note) old
 reaches_note (Ok (Run names options)) old = tt
 reaches_note (Ok (Plan name)) old = tt
 reaches_note (Ok (Demo input options)) old = tt
+reaches_note (Ok (Flows names options)) old = tt
 reaches_note (Err fault) old = tt
 
 reaches_untold : (command : Result Command UsageFault) (outcome : Outcome) (old : Slot → SlotView) → ReachesCapture command outcome old → ReachesCapture command (untold outcome) old
@@ -173,7 +235,7 @@ called_refused command old mid new ended result called fault e =
 
 read_to : (command : Result Command UsageFault) (old mid new : Slot → SlotView) (s : Slot) → ((x : Slot) → x ≢ slots.Note → new x ≡ mid x) → ReadFaultCause command old mid s → ReadFaultCause command old new s
 read_to command old mid new slots.Policy beside h = (h.0, subst (λ v. IsRisen (old slots.Policy).faults v.faults) (sym (beside slots.Policy policy_beside)) h.1, capture_name mid new (beside slots.Capture capture_beside) h.2)
-read_to command old mid new slots.Capture beside h = (h.0, subst (λ v. IsRisen (old slots.Capture).faults v.faults) (sym (beside slots.Capture capture_beside)) h.1, h.2)
+read_to command old mid new slots.Capture beside h = (h.0, subst (λ v. IsRisen (old slots.Capture).faults v.faults) (sym (beside slots.Capture capture_beside)) h.1)
 read_to command old mid new slots.Out beside h = h
 read_to command old mid new slots.Report beside h = h
 read_to command old mid new slots.Note beside h = h
@@ -198,7 +260,7 @@ pub called_write_faults : (command : Result Command UsageFault) (old mid new : S
     (s : Slot) → result ≡ WriteFault s → WriteFaultCause command old new s
 called_write_faults command old mid new ended result called slots.Out e =
     let cause = called.ran.write_faults slots.Out (seen_before ended result (WriteFault slots.Out) (mid slots.Note) (new slots.Note) called.notes e (λ h. cc) (λ h. cc)) in
-    (cause.0, subst (λ v. IsRisen (old slots.Out).faults v.faults) (sym (called.beside slots.Out out_beside)) cause.1, cause.2, cause.3)
+    (cause.0, subst (λ v. IsRisen (old slots.Out).faults v.faults) (sym (called.beside slots.Out out_beside)) cause.1)
 called_write_faults command old mid new ended result called slots.Report e =
     let cause = called.ran.write_faults slots.Report (seen_before ended result (WriteFault slots.Report) (mid slots.Note) (new slots.Note) called.notes e (λ h. cc) (λ h. cc)) in
     (cause.0, subst (λ v. IsRisen (old slots.Report).faults v.faults) (sym (called.beside slots.Report report_beside)) cause.1, cause.2, cause.3)

@@ -38,7 +38,7 @@ use Rattle.nfp_run.specs.Due.{Due, due_by_format, due_of_capture, due_of_command
 use Rattle.nfp_run.specs.Reading.{IsOfFormat, LeavesAll, Opens, led_stream, opened_led}
 use Rattle.nfp_run.specs.Notes.{done_text}
 use Rattle.capture_report.specs.Report.{is_gone}
-use Rattle.nfp_run.specs.Written.{Led, Written, led_ng, led_pcap}
+use Rattle.nfp_run.specs.Written.{both, Led, led_ng, led_pcap, Written}
 use Rattle.nfp_run.specs.declared.read.Opened.{Opened}
 use Rattle.nfp_run.specs.declared.read.Opened.TheVariants.{Pcap, Ng}
 use Rattle.nfp_run.proofs.Formats.{led_streams}
@@ -119,13 +119,13 @@ if_some : (o : Option Led) (P Q : Led → Type 0) → ((b : Led) → P b → Q b
 if_some None P Q f h = tt
 if_some (Some b) P Q f h = f b h
 
-prefixes_from : (due : Written) (old mid new : Slot → SlotView) → mid slots.Out ≡ old slots.Out → mid slots.Report ≡ old slots.Report → LeavesPrefixes (Some due) mid new → LeavesPrefixes (Some due) old new
+prefixes_from : (due : Written) (old mid new : Slot → SlotView) → mid slots.Out ≡ old slots.Out → mid slots.Report ≡ old slots.Report → LeavesPrefixes (both due) mid new → LeavesPrefixes (both due) old new
 prefixes_from due old mid new out report (a, b) = (
   subst (λ v. IsUntouched v (new slots.Out) ⊎ HoldsPrefix due.out v (new slots.Out)) out a,
   subst (λ v. IsUntouched v (new slots.Report) ⊎ HoldsPrefix due.report v (new slots.Report)) report b,
 )
 
-left_prefixes : (led : Led) (old new : Slot → SlotView) (r : Result Ended RunFault) → Left led old new r → LeavesPrefixes (Some led.written) old new
+left_prefixes : (led : Led) (old new : Slot → SlotView) (r : Result Ended RunFault) → Left led old new r → LeavesPrefixes (both led.written) old new
 left_prefixes led old new (Ok ended) ((a, b), counts) =
     (inr (whole_prefix led.written.out (old slots.Out) (new slots.Out) a), inr (whole_prefix led.written.report (old slots.Report) (new slots.Report) b))
 left_prefixes led old new (Err e) left = left
@@ -148,7 +148,7 @@ has_head : (c : Option (List ℕ)) (chains : Chains) (left : Option Led) → IfS
 has_head None chains left told = tt
 has_head (Some y) chains left told = told.good
 
-leaves_from : (due : Written) (old mid new : Slot → SlotView) → mid slots.Out ≡ old slots.Out → mid slots.Report ≡ old slots.Report → Leaves (Some due) mid new → Leaves (Some due) old new
+leaves_from : (due : Written) (old mid new : Slot → SlotView) → mid slots.Out ≡ old slots.Out → mid slots.Report ≡ old slots.Report → Leaves (both due) mid new → Leaves (both due) old new
 leaves_from due old mid new out report (a, b) = (subst (λ v. Holds due.out v (new slots.Out)) out a, subst (λ v. Holds due.report v (new slots.Report)) report b)
 
 -- a capture that went through whole, or up to its fault, is answered as it is due
@@ -162,7 +162,7 @@ noted totals None fates read dropped = ap (λ n. done_text n totals.dropped) rea
 noted totals (Some (formats.Pcap fault)) fates read dropped = refl
 noted totals (Some (formats.Ng fault)) fates read dropped = refl
 
-closed_due : (led : Led) (ended : Ended) (old new : Slot → SlotView) → Counts led.fault led.fates ended → Leaves (Some led.written) old new → EndsDue (due_of_led led) old new (closed ended.totals ended.fault)
+closed_due : (led : Led) (ended : Ended) (old new : Slot → SlotView) → Counts led.fault led.fates ended → Leaves (both led.written) old new → EndsDue (due_of_led led) old new (closed ended.totals ended.fault)
 closed_due led ended old new counts left = record {
   answer = answered ended.totals ended.fault ∙ ap outcome_of counts.fault;
   left = left;
@@ -185,7 +185,7 @@ run_ends names options chains left (Err faults.OutOfMemory) ending old mid new s
 broken_write : (names : Names) (options : RunOptions) (chains : Chains) (left : Option Led) (old mid new : Slot → SlotView) (slot : Slot) →
     Stands chains left old mid → IsBroken mid new (faults.WriteFault slot) → WriteFaultCause (Ok (Run names options)) old new slot
 broken_write names options chains left old mid new slots.Out s cause =
-    (tt, subst (λ v. IsRisen v.faults (new slots.Out).faults) s.same_out cause, has_policy (old slots.Policy).bytes chains s.runs, has_head (old slots.Capture).bytes chains left s.told)
+    ((has_policy (old slots.Policy).bytes chains s.runs, has_head (old slots.Capture).bytes chains left s.told), subst (λ v. IsRisen v.faults (new slots.Out).faults) s.same_out cause)
 broken_write names options chains left old mid new slots.Report s cause =
     (tt, subst (λ v. IsRisen v.faults (new slots.Report).faults) s.same_report cause, has_policy (old slots.Policy).bytes chains s.runs, has_head (old slots.Capture).bytes chains left s.told)
 broken_write names options chains left old mid new slots.Note s cause = absurd cause

@@ -1,25 +1,27 @@
 -- What stands where there was no memory to read the words.
 use Rattle.std.proofs.Common.{◌≡◌, inl, inr, refl}
-use Rattle.std.specs.Prelude.{Option, Some, None, Result, Ok, Err}
+use Rattle.std.specs.Prelude.{ℕ, List, Option, Some, None, Result, Ok, Err}
 use Rattle.nfp_outside.specs.declared.slot.Slot.{Slot}
 use Rattle.nfp_outside.specs.declared.slot.Slot.TheVariants as slots
 use Rattle.nfp_outside.specs.Outside.{SlotView}
 use Rattle.command_words.specs.declared.usage.UsageFault.{UsageFault}
-use Rattle.command_words.specs.Words.{Command, Run, Plan, Demo}
+use Rattle.command_words.specs.Words.{Command, Run, Plan, Demo, Flows}
 use Rattle.nfp_run.specs.declared.ending.Ending.TheVariants.{Stopped}
 use Rattle.nfp_run.specs.declared.outcome.Outcome.TheVariants.{OutOfMemory}
-use Rattle.nfp_run.specs.Answers.{AttachesDue, HasNames, LeavesPrefixes}
+use Rattle.nfp_run.specs.Answers.{AttachesDue, HasNames, LeavesPrefix, LeavesPrefixes}
 use Rattle.nfp_run.specs.Due.{due_of_command}
 use Rattle.nfp_run.specs.Ran.{Ran}
-use Rattle.nfp_run.specs.Written.{Written}
+use Rattle.nfp_run.specs.Written.{Files}
 use Rattle.nfp_run.proofs.CallAnswers.{read_always}
 use Rattle.nfp_run.proofs.CallCauses.{reaches_unmade}
 use Rattle.nfp_run.proofs.HeldBytes.{untouched_same}
 
-no_prefix : (w : Option Written) (old : Slot → SlotView) → ((s : Slot) → (old s).name ≡ None) → LeavesPrefixes w old old
-no_prefix None old free = (untouched_same (old slots.Out) (old slots.Out) (free slots.Out) refl, untouched_same (old slots.Report) (old slots.Report) (free slots.Report) refl)
-no_prefix (Some written) old free =
-    (inl (untouched_same (old slots.Out) (old slots.Out) (free slots.Out) refl), inl (untouched_same (old slots.Report) (old slots.Report) (free slots.Report) refl))
+slot_prefix : (due : Option (List ℕ)) (slot : SlotView) → slot.name ≡ None → LeavesPrefix due slot slot
+slot_prefix None slot free = untouched_same slot slot free refl
+slot_prefix (Some bytes) slot free = inl (untouched_same slot slot free refl)
+
+no_prefix : (due : Files) (old : Slot → SlotView) → ((s : Slot) → (old s).name ≡ None) → LeavesPrefixes due old old
+no_prefix due old free = (slot_prefix due.out (old slots.Out) (free slots.Out), slot_prefix due.report (old slots.Report) (free slots.Report))
 
 no_names : (command : Result Command UsageFault) (old : Slot → SlotView) → ((s : Slot) → (old s).name ≡ None) → HasNames command old
 no_names (Err fault) old free = free
@@ -29,6 +31,7 @@ none_attached : (command : Result Command UsageFault) (old : Slot → SlotView) 
 none_attached (Ok (Run names options)) old free = tt
 none_attached (Ok (Plan name)) old free = (free slots.Out, free slots.Report)
 none_attached (Ok (Demo input options)) old free = (free slots.Out, free slots.Report)
+none_attached (Ok (Flows names options)) old free = free slots.Report
 none_attached (Err fault) old free = (free slots.Out, free slots.Report)
 
 pub unread_ran : (command : Result Command UsageFault) (old : Slot → SlotView) → ((s : Slot) → (old s).name ≡ None) → Ran command old old (Stopped OutOfMemory)

@@ -9,7 +9,7 @@ use Rattle.capture_run.specs.declared.fault.RunFault.{RunFault}
 use Rattle.capture_run.specs.Slots.{Puts, PutsPrefixes}
 use Rattle.nfp_run.specs.Answers.{Leaves, LeavesPrefixes}
 use Rattle.nfp_run.specs.Closing.{Left, LedPartly, LedWhole}
-use Rattle.nfp_run.specs.Written.{Led, Written}
+use Rattle.nfp_run.specs.Written.{Led, Written, both}
 use Rattle.nfp_run.proofs.HeldBytes.{holds_all, holds_none, holds_prefix, untouched, untouched_same}
 
 -- Out and Report were attached one after the other.
@@ -25,13 +25,13 @@ out_attaches out_name report_name old first second a = subst (Attaches slots.Out
 report_attaches : (out_name report_name : List ℕ) (old first second : Slot → SlotView) → Attached out_name report_name old first second → Attaches slots.Report report_name (old slots.Report) (second slots.Report)
 report_attaches out_name report_name old first second a = subst (λ v. Attaches slots.Report report_name v (second slots.Report)) a.still_report a.at_report
 
-leaves_all : (out_name report_name : List ℕ) (due : Written) (old first second new : Slot → SlotView) → Attached out_name report_name old first second → Puts due.out due.report second new → Leaves (Some due) old new
+leaves_all : (out_name report_name : List ℕ) (due : Written) (old first second new : Slot → SlotView) → Attached out_name report_name old first second → Puts due.out due.report second new → Leaves (both due) old new
 leaves_all out_name report_name due old first second new a puts = (
   holds_all slots.Out out_name due.out (old slots.Out) (second slots.Out) (new slots.Out) refl (out_attaches out_name report_name old first second a) puts.in_out,
   holds_all slots.Report report_name due.report (old slots.Report) (second slots.Report) (new slots.Report) refl (report_attaches out_name report_name old first second a) puts.in_report,
 )
 
-leaves_prefixes : (out_name report_name : List ℕ) (due : Written) (old first second new : Slot → SlotView) → Attached out_name report_name old first second → PutsPrefixes due.out due.report second new → LeavesPrefixes (Some due) old new
+leaves_prefixes : (out_name report_name : List ℕ) (due : Written) (old first second new : Slot → SlotView) → Attached out_name report_name old first second → PutsPrefixes due.out due.report second new → LeavesPrefixes (both due) old new
 leaves_prefixes out_name report_name due old first second new a puts = (
   inr (holds_prefix slots.Out out_name due.out (old slots.Out) (second slots.Out) (new slots.Out) refl (out_attaches out_name report_name old first second a) puts.in_out),
   inr (holds_prefix slots.Report report_name due.report (old slots.Report) (second slots.Report) (new slots.Report) refl (report_attaches out_name report_name old first second a) puts.in_report),

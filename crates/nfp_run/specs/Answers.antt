@@ -15,10 +15,10 @@ use Rattle.policy_judge.specs.Judging.{judged}
 use Rattle.nfp_run.specs.declared.outcome.Outcome.{Outcome}
 use Rattle.nfp_run.specs.declared.outcome.Outcome.TheVariants.{Done, Usage, Policy, Capture, CaptureNg, ReadFault, WriteFault, OutOfMemory}
 use Rattle.command_words.specs.declared.usage.UsageFault.{UsageFault}
-use Rattle.command_words.specs.Words.{Command, Run, Plan, Demo}
+use Rattle.command_words.specs.Words.{Command, Run, Plan, Demo, Flows}
 use Rattle.nfp_run.specs.Notes.{read_fault_text, write_fault_text}
 use Rattle.nfp_run.specs.Due.{Due, is_ng}
-use Rattle.nfp_run.specs.Written.{Written}
+use Rattle.nfp_run.specs.Written.{Files}
 
 -- A slot that was never attached: it has no name, and its bytes are those before.
 pub record IsUntouched (old new : SlotView) : Type 0 where
@@ -37,17 +37,21 @@ pub record HoldsPrefix (bytes : List ℕ) (old new : SlotView) : Type 0 where
   pub parts : bytes ≡ done ++ rest
   pub holds : Holds done old new
 
--- Out and Report hold what is due whole, or were never attached where nothing is due.
-abbrev pub Leaves : Option Written → (Slot → SlotView) → (Slot → SlotView) → Type 0
-Leaves None old new = IsUntouched (old slots.Out) (new slots.Out) × IsUntouched (old slots.Report) (new slots.Report)
-Leaves (Some due) old new = Holds due.out (old slots.Out) (new slots.Out) × Holds due.report (old slots.Report) (new slots.Report)
+-- A slot holds what is due whole, or was never attached where nothing is due.
+abbrev pub LeavesSlot : Option (List ℕ) → SlotView → SlotView → Type 0
+LeavesSlot None old new = IsUntouched old new
+LeavesSlot (Some bytes) old new = Holds bytes old new
 
--- Out and Report hold a front part of what is due, or were never attached.
-abbrev pub LeavesPrefixes : Option Written → (Slot → SlotView) → (Slot → SlotView) → Type 0
-LeavesPrefixes None old new = IsUntouched (old slots.Out) (new slots.Out) × IsUntouched (old slots.Report) (new slots.Report)
-LeavesPrefixes (Some due) old new =
-    (IsUntouched (old slots.Out) (new slots.Out) ⊎ HoldsPrefix due.out (old slots.Out) (new slots.Out))
-    × (IsUntouched (old slots.Report) (new slots.Report) ⊎ HoldsPrefix due.report (old slots.Report) (new slots.Report))
+abbrev pub Leaves : Files → (Slot → SlotView) → (Slot → SlotView) → Type 0
+Leaves due old new = LeavesSlot due.out (old slots.Out) (new slots.Out) × LeavesSlot due.report (old slots.Report) (new slots.Report)
+
+-- A slot holds a front part of what is due, or was never attached.
+abbrev pub LeavesPrefix : Option (List ℕ) → SlotView → SlotView → Type 0
+LeavesPrefix None old new = IsUntouched old new
+LeavesPrefix (Some bytes) old new = IsUntouched old new ⊎ HoldsPrefix bytes old new
+
+abbrev pub LeavesPrefixes : Files → (Slot → SlotView) → (Slot → SlotView) → Type 0
+LeavesPrefixes due old new = LeavesPrefix due.out (old slots.Out) (new slots.Out) × LeavesPrefix due.report (old slots.Report) (new slots.Report)
 
 -- The outcome is the one that is due, and Out and Report hold what is due.
 pub record IsDue (due : Due) (old new : Slot → SlotView) (outcome : Outcome) : Type 0 where
@@ -73,12 +77,13 @@ NoneRose old new = (s : Slot) → ¬ IsRisen (old s).faults (new s).faults
 abbrev pub WhereTold : (Slot → SlotView) → (List ℕ → List ℕ → Type 0) → Type 0
 WhereTold old P = IfSome (old slots.Policy).bytes (λ policy. IfSome (old slots.Capture).bytes (λ capture. P policy capture))
 
--- The same where the desk tells what the words read: `run` reads Policy and Capture, and `plan` Policy. A demo and words that are
--- refused read neither. Of a slot that isn't read the fact stands whatever it holds, also where the desk doesn't tell it.
+-- The same where the desk tells what the words read: `run` reads Policy and Capture, `plan` Policy, and `flows` Capture. A demo and
+-- words that are refused read neither. Of a slot that isn't read the fact stands whatever it holds, also where the desk doesn't tell it.
 abbrev pub WhereRead : Result Command UsageFault → (Slot → SlotView) → (List ℕ → List ℕ → Type 0) → Type 0
 WhereRead (Ok (Run names options)) old P = WhereTold old P
 WhereRead (Ok (Plan name)) old P = IfSome (old slots.Policy).bytes (λ policy. (capture : List ℕ) → P policy capture)
 WhereRead (Ok (Demo input options)) old P = (policy capture : List ℕ) → P policy capture
+WhereRead (Ok (Flows names options)) old P = IfSome (old slots.Capture).bytes (λ capture. (policy : List ℕ) → P policy capture)
 WhereRead (Err fault) old P = (policy capture : List ℕ) → P policy capture
 
 -- the line that is put into Note: that of a fault of reading or writing, or the one that is due
@@ -106,6 +111,9 @@ name_of (Run names options) slots.Note = None
 name_of (Plan name) slots.Policy = Some name
 name_of (Plan name) slot = None
 name_of (Demo input options) slot = None
+name_of (Flows names options) slots.Capture = Some names.capture
+name_of (Flows names options) slots.Out = Some names.out
+name_of (Flows names options) slot = None
 
 -- each slot has no name or the one that the words give it, and none where the words are refused
 abbrev pub HasNames : Result Command UsageFault → (Slot → SlotView) → Type 0
@@ -125,12 +133,19 @@ HasNoOpeningFault true bytes = IsOk (next_of start bytes)
 abbrev pub HasHead : (Slot → SlotView) → Type 0
 HasHead old = IfSome (old slots.Capture).bytes (λ bytes. HasNoOpeningFault (is_ng bytes) bytes)
 
--- Out and Report are attached, or neither is
+-- the head has no fault of a capture whose flows are counted, where the desk tells it: it has to be a classic one
+abbrev pub HasClassicHead : (Slot → SlotView) → Type 0
+HasClassicHead old = IfSome (old slots.Capture).bytes (λ bytes. IsOk (capture_of bytes))
+
+-- Out and Report are attached, or neither is, or Out alone
 abbrev pub BothAttached : (Slot → SlotView) → Type 0
 BothAttached new = IsSome (new slots.Out).name × IsSome (new slots.Report).name
 
 abbrev pub NoneAttached : (Slot → SlotView) → Type 0
 NoneAttached new = ((new slots.Out).name ≡ None) × ((new slots.Report).name ≡ None)
+
+abbrev pub OutAttached : (Slot → SlotView) → Type 0
+OutAttached new = IsSome (new slots.Out).name × ((new slots.Report).name ≡ None)
 
 -- a refused head leaves both unattached; a fault behind it is told in the report
 abbrev pub FaultAttaches : CaptureFault → (Slot → SlotView) → Type 0
@@ -161,21 +176,46 @@ RunAttaches (WriteFault slots.Report) new = IsSome (new slots.Out).name
 RunAttaches (WriteFault slot) new = Unit {0}
 RunAttaches OutOfMemory new = Unit {0}
 
+-- the same of flows: a fault behind the head leaves Out attached
+abbrev pub FaultAttachesOut : CaptureFault → (Slot → SlotView) → Type 0
+FaultAttachesOut BadMagic new = NoneAttached new
+FaultAttachesOut BadVersion new = NoneAttached new
+FaultAttachesOut (BadLink link) new = NoneAttached new
+FaultAttachesOut CutHead new = NoneAttached new
+FaultAttachesOut (CutRecord number) new = OutAttached new
+FaultAttachesOut (FrameTooLong number length) new = OutAttached new
+FaultAttachesOut TooManyRecords new = OutAttached new
+
+-- which are attached by `flows`: Report never
+abbrev pub FlowsAttach : Outcome → (Slot → SlotView) → Type 0
+FlowsAttach Done new = OutAttached new
+FlowsAttach (Usage fault) new = NoneAttached new
+FlowsAttach (Policy fault) new = NoneAttached new
+FlowsAttach (Capture fault) new = FaultAttachesOut fault new
+FlowsAttach (CaptureNg fault) new = NoneAttached new
+FlowsAttach (WriteFault slots.Note) new = OutAttached new
+FlowsAttach (WriteFault slot) new = (new slots.Report).name ≡ None
+FlowsAttach (ReadFault slot) new = (new slots.Report).name ≡ None
+FlowsAttach OutOfMemory new = (new slots.Report).name ≡ None
+
 -- a plan attaches neither, nor does a demo, nor do words that are refused
 abbrev pub AttachesDue : Result Command UsageFault → Outcome → (Slot → SlotView) → Type 0
 AttachesDue (Ok (Run names options)) outcome new = RunAttaches outcome new
 AttachesDue (Ok (Plan name)) outcome new = NoneAttached new
 AttachesDue (Ok (Demo input options)) outcome new = NoneAttached new
+AttachesDue (Ok (Flows names options)) outcome new = FlowsAttach outcome new
 AttachesDue (Err fault) outcome new = NoneAttached new
 
 -- what is known of the words and the policy where work was done, or a slot was written: `run` and `plan` need a policy without fault,
--- and `run` alone tells a fault of a capture
+-- and `run` and `flows` alone tell a fault of a capture
 abbrev pub ReachesCapture : Result Command UsageFault → Outcome → (Slot → SlotView) → Type 0
 ReachesCapture (Ok (Run names options)) Done old = HasPolicy old
 ReachesCapture (Ok (Plan name)) Done old = HasPolicy old
 ReachesCapture (Ok (Demo input options)) Done old = Unit {0}
+ReachesCapture (Ok (Flows names options)) Done old = Unit {0}
 ReachesCapture (Err fault) Done old = ⊥
 ReachesCapture (Ok (Run names options)) (Capture fault) old = HasPolicy old
+ReachesCapture (Ok (Flows names options)) (Capture fault) old = Unit {0}
 ReachesCapture command (Capture fault) old = ⊥
 ReachesCapture (Ok (Run names options)) (CaptureNg fault) old = HasPolicy old
 ReachesCapture command (CaptureNg fault) old = ⊥
@@ -191,6 +231,7 @@ abbrev pub ReadsPolicy : Result Command UsageFault → Type 0
 ReadsPolicy (Ok (Run names options)) = Unit {0}
 ReadsPolicy (Ok (Plan name)) = Unit {0}
 ReadsPolicy (Ok (Demo input options)) = ⊥
+ReadsPolicy (Ok (Flows names options)) = ⊥
 ReadsPolicy (Err fault) = ⊥
 
 -- why a policy was refused: the words are a command that reads one, its first fault is this, and the capture wasn't attached
@@ -202,13 +243,26 @@ abbrev pub IsRun : Result Command UsageFault → Type 0
 IsRun (Ok (Run names options)) = Unit {0}
 IsRun (Ok (Plan name)) = ⊥
 IsRun (Ok (Demo input options)) = ⊥
+IsRun (Ok (Flows names options)) = ⊥
 IsRun (Err fault) = ⊥
+
+-- the words are a command that reads a capture, and nothing is wrong that it looks at before
+abbrev pub ReadsCapture : Result Command UsageFault → (Slot → SlotView) → Type 0
+ReadsCapture (Ok (Run names options)) old = HasPolicy old
+ReadsCapture (Ok (Flows names options)) old = Unit {0}
+ReadsCapture command old = ⊥
+
+-- the words are a command that writes Out, and nothing is wrong that it looks at before
+abbrev pub WritesOut : Result Command UsageFault → (Slot → SlotView) → Type 0
+WritesOut (Ok (Run names options)) old = HasPolicy old × HasHead old
+WritesOut (Ok (Flows names options)) old = HasClassicHead old
+WritesOut command old = ⊥
 
 -- why a slot that is read gave a fault: its count rose; for the policy, before the capture was attached, and for the
 -- capture, behind a policy without fault
 abbrev pub ReadFaultCause : Result Command UsageFault → (Slot → SlotView) → (Slot → SlotView) → Slot → Type 0
 ReadFaultCause command old new slots.Policy = ReadsPolicy command × IsRisen (old slots.Policy).faults (new slots.Policy).faults × ((new slots.Capture).name ≡ None)
-ReadFaultCause command old new slots.Capture = IsRun command × IsRisen (old slots.Capture).faults (new slots.Capture).faults × HasPolicy old
+ReadFaultCause command old new slots.Capture = ReadsCapture command old × IsRisen (old slots.Capture).faults (new slots.Capture).faults
 ReadFaultCause command old new slots.Out = ⊥
 ReadFaultCause command old new slots.Report = ⊥
 ReadFaultCause command old new slots.Note = ⊥
@@ -216,7 +270,7 @@ ReadFaultCause command old new slots.Note = ⊥
 -- why a slot that is written gave a fault: its count rose, for Out and Report behind a policy without fault and a good head,
 -- and for Note where the work was done
 abbrev pub WriteFaultCause : Result Command UsageFault → (Slot → SlotView) → (Slot → SlotView) → Slot → Type 0
-WriteFaultCause command old new slots.Out = IsRun command × IsRisen (old slots.Out).faults (new slots.Out).faults × HasPolicy old × HasHead old
+WriteFaultCause command old new slots.Out = WritesOut command old × IsRisen (old slots.Out).faults (new slots.Out).faults
 WriteFaultCause command old new slots.Report = IsRun command × IsRisen (old slots.Report).faults (new slots.Report).faults × HasPolicy old × HasHead old
 WriteFaultCause command old new slots.Note = IsRisen (old slots.Note).faults (new slots.Note).faults × ReachesCapture command Done old
 WriteFaultCause command old new slots.Policy = ⊥

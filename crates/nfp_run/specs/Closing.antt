@@ -19,7 +19,7 @@ use Rattle.capture_run.specs.Sources.{IsOpeningFault}
 use Rattle.nfp_run.specs.Notes.{usage_text, done_text, read_fault_text, write_fault_text}
 use Rattle.nfp_run.specs.Broken.{broken_by}
 use Rattle.nfp_run.specs.Due.{Due}
-use Rattle.nfp_run.specs.Written.{Led}
+use Rattle.nfp_run.specs.Written.{Led, both}
 use Rattle.nfp_run.specs.Answers.{Leaves, LeavesPrefixes}
 
 -- a capture that ended with a fault is answered by it
@@ -60,8 +60,8 @@ text_of (Stopped outcome) = stop_text outcome
 
 -- what a capture that is told leaves, by how the run over it ended
 abbrev pub Left : Led → (Slot → SlotView) → (Slot → SlotView) → Result Ended RunFault → Type 0
-Left led old new (Ok ended) = Leaves (Some led.written) old new × Counts led.fault led.fates ended
-Left led old new (Err fault) = LeavesPrefixes (Some led.written) old new
+Left led old new (Ok ended) = Leaves (both led.written) old new × Counts led.fault led.fates ended
+Left led old new (Err fault) = LeavesPrefixes (both led.written) old new
 
 -- A capture went through the chains behind Out and Report as they were: what is due was put.
 pub record LedWhole (left : Option Led) (old new : Slot → SlotView) (ended : Ended) : Type 0 where

@@ -1,6 +1,9 @@
 -- Believed: the result: what words, a policy and a capture are to be answered with.
 use Rattle.std.specs.Prelude.{ℕ, List, [], ◌∷◌, length, take, count_by, Bool, true, false, Option, Some, None, Result, Ok, Err}
+use Rattle.std.specs.Option.{option_map}
 use Rattle.std.specs.Str.{bytes_eq}
+use Rattle.capture_bytes.specs.declared.packet.Unit.{Unit as TimeUnit}
+use Rattle.flow_run.specs.FlowsOut.{flow_lines, flows_out}
 use Rattle.pcap_io.specs.Capture.{Body, capture_of}
 use Rattle.pcap_io.specs.declared.capture.CaptureHead.{CaptureHead}
 use Rattle.pcap_io.specs.declared.capture.CaptureFault.{CaptureFault}
@@ -15,26 +18,26 @@ use Rattle.policy_judge.specs.Judging.{judged}
 use Rattle.nfp_run.specs.declared.outcome.Outcome.{Outcome}
 use Rattle.nfp_run.specs.declared.outcome.Outcome.TheVariants as outcomes
 use Rattle.command_words.specs.declared.usage.UsageFault.{UsageFault}
-use Rattle.command_words.specs.Words.{Command, Run, Plan, Demo, command_of}
+use Rattle.command_words.specs.Words.{Command, Run, Plan, Demo, Flows, command_of}
 use Rattle.chain_service.specs.Services.{Chains, service_among}
 use Rattle.capture_report.specs.FaultLines.{capture_text, fault_text, ng_text}
 use Rattle.capture_report.specs.Report.{is_gone}
 use Rattle.capture_report.specs.declared.fault.FormatFault.{FormatFault}
 use Rattle.capture_report.specs.declared.fault.FormatFault.TheVariants.{Pcap, Ng}
-use Rattle.nfp_run.specs.Written.{Led, Written, led_ng, led_pcap}
+use Rattle.nfp_run.specs.Written.{Files, Led, both, led_ng, led_pcap, neither, out_alone}
 use Rattle.nfp_run.specs.DemoNote.{demo_text}
-use Rattle.nfp_run.specs.Notes.{usage_text, done_text}
+use Rattle.nfp_run.specs.Notes.{usage_text, done_text, flows_text}
 use Rattle.nfp_run.specs.Plan.{plan_text}
 
--- The outcome, what is written, none where Out and Report aren't attached, and the line in Note.
+-- The outcome, what is written, and the line in Note.
 pub record Due : Type 0 where
   pub outcome : Outcome
-  pub written : Option Written
+  pub written : Files
   pub note : List ℕ
 
 -- an outcome that writes nothing but its line
 abbrev pub nothing_but : Outcome → List ℕ → Due
-nothing_but outcome note = record { outcome = outcome; written = None; note = note }
+nothing_but outcome note = record { outcome = outcome; written = neither; note = note }
 
 -- a capture without a fault is done
 abbrev pub outcome_of : Option FormatFault → Outcome
@@ -48,7 +51,7 @@ note_of (Some fault) fates = fault_text fault
 
 -- a capture that goes through chains, up to its fault
 abbrev pub due_of_led : Led → Due
-due_of_led led = record { outcome = outcome_of led.fault; written = Some led.written; note = note_of led.fault led.fates }
+due_of_led led = record { outcome = outcome_of led.fault; written = both led.written; note = note_of led.fault led.fates }
 
 -- a classic capture: a refused head leaves nothing to write
 abbrev pub due_of_pcap : Chains → Result (CaptureHead × Body) CaptureFault → Due
@@ -75,6 +78,23 @@ due_by_format true chains capture = due_of_ng chains capture (next_of start capt
 abbrev pub due_of_capture : Chains → List ℕ → Due
 due_of_capture chains capture = due_by_format (is_ng capture) chains capture
 
+-- the flows of a capture's records, up to its fault: their export is in Out, and their numbers are told
+abbrev pub flows_note : TimeUnit → Body → Option CaptureFault → List ℕ
+flows_note unit body None = flows_text (length body.records) (flow_lines unit body.records)
+flows_note unit body (Some fault) = capture_text fault
+
+abbrev pub due_of_body : TimeUnit → Body → Due
+due_of_body unit body = record {
+  outcome = outcome_of (option_map Pcap body.fault);
+  written = out_alone (flows_out unit body.records);
+  note = flows_note unit body body.fault;
+}
+
+-- the flows of a classic capture, whatever the number of workers and the size of a burst: a refused head leaves nothing to write
+abbrev pub due_of_flows : Result (CaptureHead × Body) CaptureFault → Due
+due_of_flows (Err fault) = nothing_but (outcomes.Capture fault) (capture_text fault)
+due_of_flows (Ok capture) = due_of_body capture.0.unit capture.1
+
 -- a policy with a fault is told by it, whatever is asked for
 abbrev pub due_of_refusal : Refusal → Due
 due_of_refusal refusal = nothing_but (outcomes.Policy refusal.fault) refusal.line
@@ -88,12 +108,13 @@ abbrev pub due_of_plan : Result Judged Refusal → Due
 due_of_plan (Err refusal) = due_of_refusal refusal
 due_of_plan (Ok policy) = nothing_but outcomes.Done (plan_text policy)
 
--- a demo looks at neither, and no option changes what is due
+-- a demo looks at neither, flows are those of the capture, and no option changes what is due
 abbrev pub due_of_command : Result Command UsageFault → List ℕ → List ℕ → Due
 due_of_command (Err fault) policy capture = nothing_but (outcomes.Usage fault) (usage_text fault)
 due_of_command (Ok (Run names options)) policy capture = due_of_run (judged policy) capture
 due_of_command (Ok (Plan name)) policy capture = due_of_plan (judged policy)
 due_of_command (Ok (Demo input options)) policy capture = nothing_but outcomes.Done (demo_text input)
+due_of_command (Ok (Flows names options)) policy capture = due_of_flows (capture_of capture)
 
 -- the result of a call with these words, where the policy and the capture have these bytes
 abbrev pub due : List (List ℕ) → List ℕ → List ℕ → Due

@@ -4,6 +4,7 @@ pub mod Broken
 pub mod Closing
 pub mod DemoNote
 pub mod Due
+pub mod FlowsRan
 pub mod Heads
 pub mod Notes
 pub mod Plan

@@ -1,5 +1,5 @@
--- Believed: what chains write of a capture, by its format.
-use Rattle.std.specs.Prelude.{ℕ, List, Option}
+-- Believed: what is written: what chains write of a capture, by its format, and what is exported of its flows.
+use Rattle.std.specs.Prelude.{ℕ, List, Option, Some, None}
 use Rattle.std.specs.Option.{option_map}
 use Rattle.capture_bytes.specs.declared.packet.Unit.TheVariants.{Nano}
 use Rattle.pcap_io.specs.Capture.{Body}
@@ -15,10 +15,24 @@ use Rattle.capture_report.specs.declared.fault.FormatFault.{FormatFault}
 use Rattle.capture_report.specs.declared.fault.FormatFault.TheVariants.{Pcap, Ng}
 use Rattle.nfp_run.specs.Heads.{growth_of, written_head}
 
--- What is written: the bytes of Out and of Report.
+-- What chains write: the bytes of Out and of Report.
 pub record Written : Type 0 where
   pub out : List ℕ
   pub report : List ℕ
+
+-- What Out and Report are to hold: none of a slot that isn't attached.
+pub record Files : Type 0 where
+  pub out : Option (List ℕ)
+  pub report : Option (List ℕ)
+
+abbrev pub neither : Files
+neither = record { out = None; report = None }
+
+abbrev pub both : Written → Files
+both written = record { out = Some written.out; report = Some written.report }
+
+abbrev pub out_alone : List ℕ → Files
+out_alone bytes = record { out = Some bytes; report = None }
 
 -- what these chains write of a classic capture: each packet walks through the chain that takes it, after those before it
 abbrev pub written_of : Chains → CaptureHead → Body → Written

@@ -49,8 +49,8 @@ pub fn put_head<D: Desk>(
     }
 }
 
-// What a refused writing of Out is answered with.
-fn fault_of(fault: OutsideFault) -> RunFault
+/// What a refused writing of Out is answered with.
+pub fn fault_of(fault: OutsideFault) -> RunFault
     ensures { result ≡ fault_seen Slot.Out fault }
 {
     match fault {

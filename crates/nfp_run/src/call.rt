@@ -18,14 +18,17 @@ use std::sync::Wait;
 use std::thread::Threads;
 
 /// Runs the chains of a policy over a capture, as the words `run POLICY CAPTURE OUT REPORT` say, shows the plan of a policy, as
-/// the words `plan POLICY` say, or runs a demo, as the words `demo SEED COUNT` say.
+/// the words `plan POLICY` say, runs a demo, as the words `demo SEED COUNT` say, or counts the flows of a capture, as the words
+/// `flows CAPTURE OUT` say.
 ///
 /// The policy is checked whole before anything else is touched. `run` leads each packet through the first chain whose clauses
 /// it meets, and lets one that no chain takes pass as it was read. It puts the capture of the packets that passed into Out, and
 /// into Report the line of each that was dropped, the totals, the copies that the graph of each chain made of each field, the
 /// functions of each chain, and the capture's fault where it has one. The capture is read record by record, and written burst
 /// by burst, each of at most as many packets as `--burst` says. `demo` makes its own capture, runs it through its own policy, and touches
-/// no slot but Note. Last, one line goes into Note, or the plan, or the demo's summary.
+/// no slot but Note. `flows` looks at no policy: it reads a classic capture record by record, counts its flows on as many workers as
+/// `--workers` says, and puts their packets of NetFlow version 5 into Out. Last, one line goes into Note, or the plan, or the demo's
+/// summary.
 ///
 /// Where a burst goes on threads, the branches of a stage run side by side, each on a thread of its own where one can be started (one
 /// whose functions keep no state on one for each merger), and behind them as many mergers as `--mergers` says, or as there are
@@ -42,7 +45,7 @@ pub fn nfp<R: Threads + Wait + Clock + Sync, D: Desk, G: Gate + Sync>(
     requires none_attached { (s : Slot) → (D.slots desk.old s).name ≡ None }
     requires note_empty { IfSome (D.slots desk.old Slot.Note).bytes (λ bytes. bytes ≡ []) }
 
-    // All that follows of what is due stands where the desk tells what the words read: the policy and the capture, the policy alone,
+    // All that follows of what is due stands where the desk tells what the words read: the policy and the capture, one of them alone,
     // or neither. Where no count of the desk rose, the outcome is the one that is due and the slots hold what is due, or memory ran
     // out.
     ensures answers { NoneRose (D.slots desk.old) (D.slots desk.new) → WhereRead (command_of (map string_bytes words.now)) (D.slots desk.old) (λ p c.

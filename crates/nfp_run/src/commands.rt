@@ -6,6 +6,7 @@ ghost use Rattle.command_words.specs.Words.{command_of};
 
 use crate::demo::demo;
 use crate::ending::Ending;
+use crate::flows::flows;
 use crate::outcome::Outcome;
 use crate::plan::plan;
 use crate::run::run;
@@ -32,6 +33,7 @@ pub fn run_words<R: Threads + Wait + Clock + Sync, D: Desk, G: Gate + Sync>(
         Ok(Command::Run(names, options)) => run(rt, alloc, &names, options, desk, gate),
         Ok(Command::Plan(name)) => plan(alloc, name, desk),
         Ok(Command::Demo(input, options)) => demo(rt, alloc, input, options, gate),
+        Ok(Command::Flows(names, options)) => flows(rt, alloc, &names, options, desk),
         Err(WordsFault::Usage(fault)) => Ending::Stopped(Outcome::Usage(fault)),
         Err(WordsFault::OutOfMemory) => Ending::Stopped(Outcome::OutOfMemory),
     }

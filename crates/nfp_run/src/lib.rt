@@ -1,4 +1,5 @@
-//! The top call of `nfp`, which runs the chains of a policy over a capture, shows the plan of a policy, and runs a demo of its own.
+//! The top call of `nfp`, which runs the chains of a policy over a capture, shows the plan of a policy, runs a demo of its own, and
+//! exports the flows of a capture.
 //!
 //! What [`nfp()`] promises is the program's theorem: its contract says it, and `specs/Due.antt` has the result that it is
 //! measured against. [`a_good_call_is_done`] says of that result that words, policy and capture without fault are Done, and
@@ -13,6 +14,7 @@ mod commands;
 mod demo;
 mod demo_source;
 mod ending;
+mod flows;
 mod head;
 mod laws;
 mod note;

@@ -7,6 +7,7 @@ ghost use Rattle.policy_judge.specs.Making.{functions_made};
 ghost use Rattle.policy_judge.specs.Orders.{IsOrdered};
 ghost use Rattle.policy_judge.specs.Settings.{IsSettled};
 ghost use Rattle.nfp_run.specs.Reading.{IsUnread, UnreadEnds, refused_by, EndsAtPolicy, Opens, OpensBehind, RefusedOpening, RefusesBehind, unread_capture};
+ghost use Rattle.nfp_run.specs.FlowsRan.{OpensClassic, RefusedClassic};
 ghost use Rattle.chain_service.specs.Opening.{IsOpening, chains_of};
 ghost use Rattle.chain_service.specs.Services.{service_of};
 
@@ -105,6 +106,27 @@ pub fn open_capture<D: Desk>(alloc: Global, desk: &mut D, name: &str) -> Result<
     match fill(desk, &mut first) {
         Ok(count) => open_by_format(alloc, desk, &first[..count]),
         Err(fault) => Err(unread_capture(fault)),
+    }
+}
+
+/// Attaches the capture, and reads its head, which has to be that of a classic one.
+pub fn open_classic<D: Desk>(desk: &mut D, name: &str) -> Result<(CaptureHead, Reader), Outcome>
+    requires { (D.slots desk.old Slot.Capture).name ≡ None }
+    ensures ok { IfOk result (λ x. OpensClassic name.now x.0 x.1 (D.slots desk.old Slot.Capture) (D.slots desk.new Slot.Capture)) }
+    ensures err { IfErr result (RefusedClassic (D.slots desk.old Slot.Capture) (D.slots desk.new Slot.Capture)) }
+    ensures name { ((D.slots desk.new Slot.Capture).name ≡ None) ⊎ ((D.slots desk.new Slot.Capture).name ≡ Some name.now) }
+    ensures later { (D.slots desk.old Slot.Capture).faults ≤ (D.slots desk.new Slot.Capture).faults }
+    ensures others { (s : Slot) → s ≢ Slot.Capture → D.slots desk.new s ≡ D.slots desk.old s }
+{
+    match desk.attach(Slot::Capture, name) {
+        Ok(()) => {}
+        Err(fault) => return Err(unread_capture(fault)),
+    }
+    match Reader::begin(desk) {
+        Ok(opened) => Ok(opened),
+        Err(PcapFault::Capture(fault)) => Err(Outcome::Capture(fault)),
+        Err(PcapFault::ReadFault(_)) => Err(Outcome::ReadFault(Slot::Capture)),
+        Err(PcapFault::OutOfMemory) => Err(Outcome::OutOfMemory),
     }
 }
 

@@ -7,10 +7,10 @@ use std::alloc::AllocError;
 use text_lines::Piece::{Number, Text};
 
 const FORMS: &str =
-    "the words are one of:\n  nfp run POLICY CAPTURE OUT REPORT [--mergers N] [--burst N] [--merge WAY]\n  nfp plan POLICY\n  nfp demo SEED COUNT [--mergers N] [--burst N] [--merge WAY]\nPOLICY and CAPTURE are read, OUT and REPORT are written anew; behind `--` each word is a name\nmergers are 1 to 16 (2 where it isn't said), a burst has 1 to 65536 packets (1024), WAY is inbox or board (inbox)";
+    "the words are one of:\n  nfp run POLICY CAPTURE OUT REPORT [--mergers N] [--burst N] [--merge WAY]\n  nfp plan POLICY\n  nfp demo SEED COUNT [--mergers N] [--burst N] [--merge WAY]\n  nfp flows CAPTURE OUT [--workers N] [--burst N]\nPOLICY and CAPTURE are read, OUT and REPORT are written anew; behind `--` each word is a name\nmergers and workers are 1 to 16 (2 where it isn't said), a burst has 1 to 65536 packets (1024), WAY is inbox or board (inbox)";
 
 const SAME_NAME: &str =
-    "two of POLICY, CAPTURE, OUT and REPORT have the same name, and one would be written over the other";
+    "two of the files have the same name, and one would be written over the other";
 
 /// The forms of the commands.
 pub fn forms(page: &mut Page) -> Result<(), AllocError> {

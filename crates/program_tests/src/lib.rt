@@ -5,6 +5,8 @@
 #![tactic(auto)]
 
 #[cfg(test)]
+mod flows;
+#[cfg(test)]
 mod gates;
 #[cfg(test)]
 mod hostile;

@@ -1,7 +1,8 @@
-use Rattle.std.proofs.Common.{rules, ◌∙◌, sym, ap, subst}
+use Rattle.std.proofs.Common.{rules, ◌≤◌, ◌∙◌, length, sym, ap, subst}
 use Rattle.std.specs.Prelude.{All}
 use Rattle.std.specs.List.Sorted.{IsPermutation, IsNonDecreasingBy}
 use Rattle.std.specs.Map.{values_of}
+use Rattle.std.proofs.lemmas.List.{length-map}
 use Rattle.std.proofs.lemmas.List.Sorted.{IsNonDecreasingBy-from_sort_by_key}
 use Rattle.flow_line.specs.Versions.{HasFittingKey}
 use Rattle.flow_line.specs.declared.line.FlowLine.{FlowLine}
@@ -24,3 +25,9 @@ pub returns-clause-fits : goal.returns-clause-fits
 returns-clause-fits c =
     let all : All HasFittingKey (values_of c.args.self.lines) = subst (λ (v : ShardsView). All HasFittingKey (values_of v.lines)) c.self.view_is (all_fit (in_order (flat c.self.inside.tables.items)) c.self.invariant.keyed) in
     subst (All HasFittingKey) (sym (returns-clause-lines c)) all
+
+pub returns-clause-few : goal.returns-clause-few
+returns-clause-few c =
+    let lines = in_order (flat c.self.inside.tables.items) in
+    let few : length (values_of lines) ≤ c.self.inside.last = subst (λ n. n ≤ c.self.inside.last) (sym (length-map lines (λ line. line.1))) c.self.invariant.ordered.few in
+    subst (λ l. length l ≤ c.args.self.last) (sym (returns-clause-lines c)) (subst (λ (v : ShardsView). length (values_of v.lines) ≤ v.last) c.self.view_is few)

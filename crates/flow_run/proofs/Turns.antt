@@ -1,0 +1,45 @@
+-- A capture read record by record: what is counted so far and what is left come to what all of it comes to.
+use Rattle.std.proofs.Common.{◌≡◌, ◌≢◌, ◌≤◌, ◌∙◌, ℕ, List, [], false, refl, sym, ap, subst}
+use Rattle.std.specs.Prelude.{Option, Some, None, IfSome, unwrap_or}
+use Rattle.std.specs.Option.{option_map}
+use Rattle.nfp_outside.specs.declared.slot.Slot.{Slot}
+use Rattle.nfp_outside.specs.declared.slot.Slot.TheVariants as slots
+use Rattle.nfp_outside.specs.Outside.{SlotView}
+use Rattle.capture_bytes.specs.declared.packet.PcapRecord.{PcapRecord}
+use Rattle.capture_bytes.specs.declared.packet.Unit.{Unit as TimeUnit}
+use Rattle.pcap_io.specs.Capture.{Body, with_record as before_others}
+use Rattle.pcap_io.specs.Reader.{ReaderState, body_left}
+use Rattle.pcap_io.specs.declared.capture.CaptureFault.{CaptureFault}
+use Rattle.flow_run.specs.Counting.{CountingView, IsCountOf, IsCountedWith, nothing_counted, with_body, with_record}
+use Rattle.flow_run.specs.declared.count.Counted.{Counted}
+use Rattle.flow_run.proofs.Folding.{counted_whole}
+
+-- what is counted once this is read as well, and the fault that ends it
+abbrev pub ends : CountingView → Body → CountingView × Option CaptureFault
+ends c body = (with_body c body, body.fault)
+
+-- how far a capture is read and counted
+pub record IsAt (unit : TimeUnit) (c : CountingView) (first reader : ReaderState) (old new : Slot → SlotView) : Type 0 where
+  pub unspent : reader.spent ≡ false
+  pub as_many : reader.given ≡ c.records
+  pub whole : option_map (ends (nothing_counted unit)) (body_left first (old slots.Capture)) ≡ option_map (ends c) (body_left reader (new slots.Capture))
+  pub later : (old slots.Capture).faults ≤ (new slots.Capture).faults
+  pub same_name : (new slots.Capture).name ≡ (old slots.Capture).name
+  pub others : (s : Slot) → s ≢ slots.Capture → new s ≡ old s
+
+-- a record that is counted instead of left
+pub one_counted : (c : CountingView) (r : PcapRecord) (before after : Option Body) → before ≡ option_map (before_others r) after → option_map (ends c) before ≡ option_map (ends (with_record c r)) after
+one_counted c r before after same = ap (option_map (ends c)) same ∙ by after
+  where
+    by : (o : Option Body) → option_map (ends c) (option_map (before_others r) o) ≡ option_map (ends (with_record c r)) o
+    by None = refl
+    by (Some body) = refl
+
+-- nothing is left but this fault, or none
+pub ended : (unit : TimeUnit) (c : CountingView) (fault : Option CaptureFault) (counted : Counted) (all left : Option Body) → option_map (ends (nothing_counted unit)) all ≡ option_map (ends c) left →
+    IfSome left (λ body. body ≡ record { records = []; fault = fault }) → IsCountedWith c fault counted → IfSome all (λ body. IsCountOf unit body counted)
+ended unit c fault counted None left same end is = tt
+ended unit c fault counted (Some b) None same end is = absurd cc
+ended unit c fault counted (Some b) (Some e) same end is =
+    let pair : ends (nothing_counted unit) b ≡ (c, fault) = ap (λ o. unwrap_or o (c, fault)) same ∙ ap (ends c) end in
+    counted_whole unit b counted (subst (λ (p : CountingView × Option CaptureFault). IsCountedWith p.0 p.1 counted) (sym pair) is)

@@ -1,0 +1,85 @@
+//! A capture whose flows are counted.
+ghost use Rattle.std.specs.Prelude.{◌≡◌, ◌≢◌, ◌≤◌, ◌<◌, ◌^◌, All, IfOk, IfSome, IsErrOf, IsSome, length};
+ghost use Rattle.nfp_outside.specs.declared.slot.Slot.{Slot};
+ghost use Rattle.nfp_outside.specs.Outside.{IsRisen};
+ghost use Rattle.pcap_io.specs.Capture.{IsHeadFault};
+ghost use Rattle.pcap_io.specs.Reader.{body_left, reader_at};
+ghost use Rattle.flow_line.specs.Versions.{HasFittingKey};
+ghost use Rattle.flow_run.specs.Counting.{FitsSpan, IsCountOf};
+
+use crate::counting::Counting;
+use capture_bytes::Unit;
+use flow_export::Span5;
+use flow_line::FlowLine;
+use item_list::Items;
+use nfp_outside::{Desk, DeskFault, Slot};
+use pcap_io::{CaptureFault, CaptureHead, PcapFault, Reader};
+use std::alloc::Global;
+use std::thread::Threads;
+
+/// What was counted of a capture.
+#[derive(Drop)]
+pub struct Counted {
+    /// How many records it has before its fault, if it has one.
+    pub records: u32,
+    /// The lines of their flows, in the order of first sight.
+    pub lines: Items<FlowLine>,
+    /// From the time of its first record to the greatest; 0 to 0 where there is none.
+    pub span: Span5,
+    /// What ended it.
+    pub fault: Option<CaptureFault>,
+}
+
+/// Counts the flows of what is left of a capture behind its head, on so many workers, in bursts of at most so many packets.
+///
+/// `Failed` only where the count of faults of the slot Capture rose.
+pub fn count_flows<R: Threads + Sync, D: Desk>(
+    rt: &R,
+    alloc: Global,
+    desk: &mut D,
+    head: &CaptureHead,
+    reader: Reader,
+    workers: u32,
+    burst: u32,
+) -> Result<Counted, DeskFault>
+    requires some_workers { 1 ≤ workers }
+    requires few_workers { workers ≤ 16 }
+    requires some_packets { 1 ≤ burst }
+    requires few_packets { burst ≤ 65536 }
+    requires attached { IsSome (D.slots desk.old Slot.Capture).name }
+    requires fresh { reader ≡ reader_at head.now.order 0 }
+    ensures counted { IfOk result (λ counted. IfSome (body_left reader (D.slots desk.old Slot.Capture)) (λ body. IsCountOf head.now.unit body counted)) }
+    ensures kind { IfOk result (λ counted. IfSome counted.fault (λ fault. ¬ IsHeadFault fault)) }
+    ensures span { IfOk result (λ counted. FitsSpan counted.span) }
+    ensures fits { IfOk result (λ counted. All HasFittingKey counted.lines) }
+    ensures few { IfOk result (λ counted. length counted.lines < 2 ^ 32) }
+    ensures cause { IsErrOf result DeskFault.Failed → IsRisen (D.slots desk.old Slot.Capture).faults (D.slots desk.new Slot.Capture).faults }
+    ensures later { (D.slots desk.old Slot.Capture).faults ≤ (D.slots desk.new Slot.Capture).faults }
+    ensures name { (D.slots desk.new Slot.Capture).name ≡ (D.slots desk.old Slot.Capture).name }
+    ensures others { (s : Slot) → s ≢ Slot.Capture → D.slots desk.new s ≡ D.slots desk.old s }
+{
+    let mut reader = reader;
+    let mut counting = match Counting::new(alloc, head.unit, workers, burst) {
+        Ok(counting) => counting,
+        Err(_) => return Err(DeskFault::NoMemory),
+    };
+    'records: loop {
+        let ended = match reader.next(alloc, desk) {
+            Ok(Some(record)) => {
+                counting = match counting.take(rt, alloc, record) {
+                    Ok(counting) => counting,
+                    Err(_) => return Err(DeskFault::NoMemory),
+                };
+                continue 'records;
+            }
+            Ok(None) => None,
+            Err(PcapFault::Capture(fault)) => Some(fault),
+            Err(PcapFault::ReadFault(_)) => return Err(DeskFault::Failed),
+            Err(PcapFault::OutOfMemory) => return Err(DeskFault::NoMemory),
+        };
+        return match counting.end(rt, alloc, ended) {
+            Ok(counted) => Ok(counted),
+            Err(_) => Err(DeskFault::NoMemory),
+        };
+    }
+}

@@ -1,0 +1,55 @@
+-- For proofs: how a call ends that exports the flows of a capture.
+use Rattle.std.specs.Prelude.{◌≡◌, ℕ, List, length, IfSome, IsSomeAnd, Option, Some, None, Result, Ok, Err}
+use Rattle.nfp_outside.specs.declared.slot.Slot.{Slot}
+use Rattle.nfp_outside.specs.declared.slot.Slot.TheVariants as slots
+use Rattle.nfp_outside.specs.Outside.{SlotView, IsRisen}
+use Rattle.capture_bytes.specs.declared.packet.Unit.{Unit as TimeUnit}
+use Rattle.pcap_io.specs.Capture.{Body, IsHeadFault, capture_of}
+use Rattle.pcap_io.specs.Reader.{ReaderState, body_left, reader_at}
+use Rattle.pcap_io.specs.declared.capture.CaptureFault.{CaptureFault}
+use Rattle.pcap_io.specs.declared.capture.CaptureHead.{CaptureHead}
+use Rattle.capture_run.specs.declared.fault.RunFault.{RunFault}
+use Rattle.flow_line.specs.declared.line.FlowLine.{FlowLine}
+use Rattle.flow_run.specs.FlowsOut.{flow_lines}
+use Rattle.nfp_run.specs.Answers.{Leaves, LeavesPrefixes}
+use Rattle.nfp_run.specs.Due.{due_of_body}
+use Rattle.nfp_run.specs.Notes.{flows_text}
+use Rattle.nfp_run.specs.declared.ending.Ending.{Ending}
+use Rattle.nfp_run.specs.declared.ending.Ending.TheVariants.{Completed, Shown, Refused, Stopped}
+use Rattle.nfp_run.specs.declared.outcome.Outcome.{Outcome}
+use Rattle.nfp_run.specs.declared.outcome.Outcome.TheVariants.{Done, Usage, Policy, Capture, CaptureNg, ReadFault, WriteFault, OutOfMemory}
+
+-- how a call ends that has exported these lines of so many records, by the fault of the capture
+abbrev pub flows_ending : ℕ → List FlowLine → Option CaptureFault → Ending
+flows_ending records lines None = Shown (flows_text records lines)
+flows_ending records lines (Some fault) = Stopped (Capture fault)
+
+-- the work was done as it is due, or broken off with a front part of the export in Out
+abbrev pub FlowsEnd : TimeUnit → Body → (Slot → SlotView) → (Slot → SlotView) → Result Ending RunFault → Type 0
+FlowsEnd unit body old new (Ok ending) = Leaves (due_of_body unit body).written old new × (ending ≡ flows_ending (length body.records) (flow_lines unit body.records) body.fault)
+FlowsEnd unit body old new (Err fault) = LeavesPrefixes (due_of_body unit body).written old new
+
+-- it ends with its line or with a fault behind the head, also where the desk doesn't tell the capture
+abbrev pub FlowsEndTold : Ending → Type 0
+FlowsEndTold (Shown text) = Unit {0}
+FlowsEndTold (Stopped (Capture fault)) = ¬ IsHeadFault fault
+FlowsEndTold (Stopped outcome) = ⊥
+FlowsEndTold (Completed totals) = ⊥
+FlowsEndTold (Refused refusal) = ⊥
+
+-- A classic capture was opened by its name: all of it is left but its head, which has no fault.
+pub record OpensClassic (name : List ℕ) (head : CaptureHead) (reader : ReaderState) (old new : SlotView) : Type 0 where
+  pub named : new.name ≡ Some name
+  pub fresh : reader ≡ reader_at head.order 0
+  pub whole : IfSome old.bytes (λ bytes. IsSomeAnd (body_left reader new) (λ body. capture_of bytes ≡ Ok (head, body)))
+
+-- Why none was: its head is refused, its count rose, or memory ran out.
+abbrev pub RefusedClassic : SlotView → SlotView → Outcome → Type 0
+RefusedClassic old new (Capture fault) = IsHeadFault fault × IfSome old.bytes (λ bytes. capture_of bytes ≡ Err fault)
+RefusedClassic old new (ReadFault s) = (s ≡ slots.Capture) × IsRisen old.faults new.faults
+RefusedClassic old new OutOfMemory = Unit {0}
+RefusedClassic old new Done = ⊥
+RefusedClassic old new (Usage fault) = ⊥
+RefusedClassic old new (Policy fault) = ⊥
+RefusedClassic old new (CaptureNg fault) = ⊥
+RefusedClassic old new (WriteFault s) = ⊥

@@ -1,0 +1,137 @@
+//! Counts the flows of a capture and exports them, up to the line in Note.
+ghost use Rattle.std.specs.Prelude.{◌≡◌, ◌≢◌, ◌≤◌, ◌<◌, ◌^◌, ◌⊎◌, All, IfErr, IfOk, IfSome, IsSome, Ok, Some, None, length};
+ghost use Rattle.nfp_outside.specs.declared.slot.Slot.{Slot};
+ghost use Rattle.pcap_io.specs.Reader.{body_left, reader_at};
+ghost use Rattle.command_words.specs.Named.{IsFlowRange, files_seen};
+ghost use Rattle.command_words.specs.Words.{Flows};
+ghost use Rattle.capture_run.specs.Slots.{IsBroken, fault_seen};
+ghost use Rattle.flow_export.specs.Exports.{exported, packet_count};
+ghost use Rattle.nfp_run.specs.FlowsRan.{FlowsEnd, FlowsEndTold};
+ghost use Rattle.nfp_run.specs.Notes.{flows_text};
+ghost use Rattle.nfp_run.specs.Ran.{Ran};
+
+use crate::attach::{attach_sink, fault_of};
+use crate::ending::Ending;
+use crate::outcome::Outcome;
+use crate::read::open_classic;
+use capture_run::RunFault;
+use command_words::{FlowNames, FlowOptions};
+use flow_export::export;
+use flow_line::FlowLine;
+use flow_run::{Counted, count_flows};
+use item_list::Items;
+use nfp_outside::{Desk, DeskFault, Slot};
+use pcap_io::{CaptureHead, Reader};
+use std::alloc::{AllocError, Global};
+use std::thread::Threads;
+use text_lines::Piece::{Number, Text};
+use text_lines::join;
+
+/// Counts the flows of the capture and puts their export into Out. The words are accepted, and nothing is put into Note.
+pub fn flows<R: Threads + Sync, D: Desk>(
+    rt: &R,
+    alloc: Global,
+    names: &FlowNames<'_>,
+    options: FlowOptions,
+    desk: &mut D,
+) -> Ending
+    requires ranges { IsFlowRange options }
+    requires free { (s : Slot) → (D.slots desk.old s).name ≡ None }
+    ensures ran { Ran (Ok (Flows (files_seen names.now) options)) (D.slots desk.old) (D.slots desk.new) result }
+{
+    let (head, reader) = match open_classic(desk, names.capture) {
+        Ok(opened) => opened,
+        Err(outcome) => return Ending::Stopped(outcome),
+    };
+    match count_and_export(rt, alloc, desk, names.out, options, &head, reader) {
+        Ok(ending) => ending,
+        Err(fault) => Ending::Stopped(fault.into()),
+    }
+}
+
+// Attaches Out, counts the flows of what is left of the capture, and exports them.
+fn count_and_export<R: Threads + Sync, D: Desk>(
+    rt: &R,
+    alloc: Global,
+    desk: &mut D,
+    out: &str,
+    options: FlowOptions,
+    head: &CaptureHead,
+    reader: Reader,
+) -> Result<Ending, RunFault>
+    requires ranges { IsFlowRange options }
+    requires capture { IsSome (D.slots desk.old Slot.Capture).name }
+    requires out_free { (D.slots desk.old Slot.Out).name ≡ None }
+    requires fresh { reader ≡ reader_at head.now.order 0 }
+    ensures left { IfSome (body_left reader (D.slots desk.old Slot.Capture)) (λ body. FlowsEnd head.now.unit body (D.slots desk.old) (D.slots desk.new) result) }
+    ensures told { IfOk result FlowsEndTold }
+    ensures attached { IfOk result (λ ending. IsSome (D.slots desk.new Slot.Out).name) }
+    ensures cause { IfErr result (IsBroken (D.slots desk.old) (D.slots desk.new)) }
+    ensures out_name { ((D.slots desk.new Slot.Out).name ≡ None) ⊎ ((D.slots desk.new Slot.Out).name ≡ Some out.now) }
+    ensures capture_name { (D.slots desk.new Slot.Capture).name ≡ (D.slots desk.old Slot.Capture).name }
+    ensures others { (s : Slot) → s ≢ Slot.Out → s ≢ Slot.Capture → D.slots desk.new s ≡ D.slots desk.old s }
+{
+    attach_sink(desk, Slot::Out, out)?;
+    let counted = match count_flows(
+        rt,
+        alloc,
+        desk,
+        head,
+        reader,
+        options.workers,
+        options.burst,
+    ) {
+        Ok(counted) => counted,
+        Err(DeskFault::Failed) => return Err(RunFault::ReadFault),
+        Err(DeskFault::NoMemory) => return Err(RunFault::OutOfMemory),
+    };
+    let packets = match export(alloc, desk, counted.lines.as_slice(), &counted.span) {
+        Ok(packets) => packets,
+        Err(fault) => return Err(fault_of(fault)),
+    };
+    Ok(ending_of(alloc, &counted, packets)?)
+}
+
+// How a call ends whose flows were exported: a fault of the capture is its answer.
+fn ending_of(alloc: Global, counted: &Counted, packets: u32) -> Result<Ending, AllocError>
+    requires { packets ≡ packet_count (length (exported counted.now.lines)) }
+    ensures { IfOk result (λ ending. ending ≡ flows_ending counted.now.records counted.now.lines counted.now.fault) }
+{
+    match counted.fault {
+        Some(fault) => Ok(Ending::Stopped(Outcome::Capture(fault))),
+        None => {
+            let line = flows_text(alloc, counted.records, counted.lines.as_slice(), packets)?;
+            Ok(Ending::Shown(Items::new(line)))
+        }
+    }
+}
+
+ghost use Rattle.nfp_run.specs.FlowsRan.{flows_ending};
+
+// The line of a capture whose flows were exported in so many packets.
+#[tactic(auto, unfolding(crate::specs::Notes::flows_text))]
+fn flows_text(
+    alloc: Global,
+    records: u32,
+    lines: &[FlowLine],
+    packets: u32,
+) -> Result<Vec<u8>, AllocError>
+    requires { packets ≡ packet_count (length (exported lines.now)) }
+    ensures { IfOk result (λ v. v.items ≡ flows_text records lines.now) }
+{
+    let exported = lines.iter().filter(|line| !line.key.wide).count();
+    join(
+        alloc,
+        &[
+            Text(b"flows records "),
+            Number(u64::from(records)),
+            Text(b" flows "),
+            Number(lines.len() as u64),
+            Text(b" exported "),
+            Number(exported as u64),
+            Text(b" packets "),
+            Number(u64::from(packets)),
+            Text(b"\n"),
+        ],
+    )
+}
