@@ -5,7 +5,7 @@ _nfp() {
     local word=$2 options=' --burst --merge --mergers ' due files=yes
     COMPREPLY=()
     if [[ $COMP_CWORD -eq 1 ]]; then
-        local first='plan run demo'
+        local first='plan run flows demo'
         [[ $word != -* ]] || first='--help --version'
         COMPREPLY=($(compgen -W "$first" -- "$word"))
         return
@@ -13,6 +13,7 @@ _nfp() {
     case ${COMP_WORDS[1]} in
         plan) due=1 options= ;;
         run) due=4 ;;
+        flows) due=2 options=' --burst --workers ' ;;
         demo) due=2 files= ;;
         *) return ;;
     esac

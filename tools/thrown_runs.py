@@ -1,6 +1,6 @@
 """One run of the program under a limit of time, and what is due of it by the rules.
 
-The rules are those of policy_rules.py, packet_rules.py and capture_rules.py, which share nothing with the program. Used by tools/throw-mutations
+The rules are those of policy_rules.py, packet_rules.py, capture_rules.py and flow_rules.py, which share nothing with the program. Used by tools/throw-mutations
 and tools/refuse-allocations.
 """
 
@@ -12,6 +12,7 @@ import signal
 import time
 import typing
 
+import flow_rules
 import packet_rules
 import policy_rules
 
@@ -24,8 +25,8 @@ FAULT = (
     r'duplicate name|unknown name|too many functions|too many chains|too many rules|bad setting|priority \S+ over \S+ forbidden: .+)'
 )
 NOTES = {
-    0: r'done records (\d+) emitted (\d+) dropped (\d+)\n',
-    1: r'usage: (no command|unknown command|words|number (mergers|burst|seed|count)|merge|same name)\n',
+    0: r'(done records \d+ emitted \d+ dropped \d+|flows records \d+ flows \d+ exported \d+ packets \d+)\n',
+    1: r'usage: (no command|unknown command|words|number (mergers|burst|workers|seed|count)|merge|same name)\n',
     2: rf'policy: ({FAULT})\n',
     3: r'capture: (bad (magic|version|link \d+|block \d+|resolution \d+)|cut (head|record \d+|block \d+)|(frame|block) too long \d+ \d+|'
     r'no interface \d+|too many (records|blocks))\n',
@@ -145,6 +146,11 @@ def due_of_run(policy, capture):
 def due_of_plan(policy):
     note, status = policy_rules.plan(policy)
     return Due(status, note, None, None)
+
+
+def due_of_flows(capture):
+    answer = flow_rules.answer(capture)
+    return Due(answer.status, answer.note + '\n', None if answer.packets is None else b''.join(answer.packets), None)
 
 
 # What may be wrong with what came.

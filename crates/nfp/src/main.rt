@@ -1,4 +1,5 @@
-//! `nfp` runs the service chains of a policy over a capture file, shows the plan of a policy, and runs a demo.
+//! `nfp` runs the service chains of a policy over a capture file, shows the plan of a policy, exports the flows of a capture file,
+//! and runs a demo.
 //!
 //! The program hands its words to [`nfp_run::nfp`], over files and an open gate, and ends with the status of the outcome.
 //! What that call promises is the program's theorem. Where bytes that the desk had gathered for a file were lost, no line
@@ -22,7 +23,7 @@ use std::{env, fs, io, str};
 use watched_desk::{Progress, Seen, Watch, Watched};
 
 /// The length of the longest word that is a command.
-const LONGEST_COMMAND: usize = 4;
+const LONGEST_COMMAND: usize = 5;
 
 fn main(rt: HostRuntime) -> ExitCode {
     let _places = (
