@@ -77,17 +77,26 @@ impl Counting {
             span,
         } = self;
         let span = Some(with_time(span, time_of(&packet, unit)));
-        let shards = match cutter.add(packet, None)? {
-            Some(burst) => shards.feed(rt, alloc, &burst, unit)?,
-            None => shards,
-        };
-        Ok(Counting {
-            unit,
-            records: records + 1,
-            cutter,
-            shards,
-            span,
-        })
+        let records = records + 1;
+        match cutter.add(packet, None)? {
+            None => Ok(Counting {
+                unit,
+                records,
+                cutter,
+                shards,
+                span,
+            }),
+            Some(burst) => {
+                let shards = shards.feed(rt, alloc, &burst, unit)?;
+                Ok(Counting {
+                    unit,
+                    records,
+                    cutter,
+                    shards,
+                    span,
+                })
+            }
+        }
     }
 
     /// Counts the packets of the open burst, and puts the lines of all workers together.
