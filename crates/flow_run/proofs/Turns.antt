@@ -1,16 +1,20 @@
 -- A capture read record by record: what is counted so far and what is left come to what all of it comes to.
-use Rattle.std.proofs.Common.{◌≡◌, ◌≢◌, ◌≤◌, ◌∙◌, ℕ, List, [], false, refl, sym, ap, subst}
-use Rattle.std.specs.Prelude.{Option, Some, None, IfSome, unwrap_or}
+use Rattle.std.proofs.Common.{◌≡◌, ◌≢◌, ◌≤◌, ◌∙◌, ℕ, [], false, refl, sym, ap, subst}
+use Rattle.std.specs.Prelude.{Option, Some, None, IfOk, IfSome, Result, Ok, Err, unwrap_or}
 use Rattle.std.specs.Option.{option_map}
 use Rattle.nfp_outside.specs.declared.slot.Slot.{Slot}
 use Rattle.nfp_outside.specs.declared.slot.Slot.TheVariants as slots
 use Rattle.nfp_outside.specs.Outside.{SlotView}
+use Rattle.nfp_outside.specs.declared.slot.DeskFault.{DeskFault}
 use Rattle.capture_bytes.specs.declared.packet.PcapRecord.{PcapRecord}
 use Rattle.capture_bytes.specs.declared.packet.Unit.{Unit as TimeUnit}
 use Rattle.pcap_io.specs.Capture.{Body, with_record as before_others}
-use Rattle.pcap_io.specs.Reader.{ReaderState, body_left}
+use Rattle.pcap_io.specs.Reader.{IsHeadFault, IsRecordFault, ReaderState, body_left}
 use Rattle.pcap_io.specs.declared.capture.CaptureFault.{CaptureFault}
-use Rattle.flow_run.specs.Counting.{CountingView, IsCountOf, IsCountedWith, nothing_counted, with_body, with_record}
+use Rattle.pcap_io.specs.declared.capture.CaptureFault.TheVariants.{BadMagic, BadVersion, BadLink, CutHead, CutRecord, FrameTooLong, TooManyRecords}
+use Rattle.pcap_io.specs.declared.fault.PcapFault.{PcapFault}
+use Rattle.pcap_io.specs.declared.fault.PcapFault.TheVariants as refusals
+use Rattle.flow_run.specs.Counting.{CountingView, IsCountOf, IsCountedWith, StopsAt, nothing_counted, with_body, with_record}
 use Rattle.flow_run.specs.declared.count.Counted.{Counted}
 use Rattle.flow_run.proofs.Folding.{counted_whole}
 
@@ -43,3 +47,24 @@ ended unit c fault counted (Some b) None same end is = absurd cc
 ended unit c fault counted (Some b) (Some e) same end is =
     let pair : ends (nothing_counted unit) b ≡ (c, fault) = ap (λ o. unwrap_or o (c, fault)) same ∙ ap (ends c) end in
     counted_whole unit b counted (subst (λ (p : CountingView × Option CaptureFault). IsCountedWith p.0 p.1 counted) (sym pair) is)
+
+-- what holds of all that was counted, if memory sufficed
+pub when_counted : (r : Result Counted DeskFault) (P Q : Counted → Type 0) → ((x : Counted) → P x → Q x) → IfOk r P → IfOk r Q
+when_counted (Ok x) P Q f p = f x p
+when_counted (Err e) P Q f p = tt
+
+-- what holds of all that was counted up to a fault of the capture
+pub when_stopped : (c : CountingView) (refusal : PcapFault) (r : Result Counted DeskFault) (Q : Counted → Type 0) → StopsAt c refusal r → ((fault : CaptureFault) (x : Counted) → refusal ≡ refusals.Capture fault → IsCountedWith c (Some fault) x → Q x) → IfOk r Q
+when_stopped c (refusals.Capture fault) r Q stops f = when_counted r (IsCountedWith c (Some fault)) Q (λ x is. f fault x refl is) stops.0
+when_stopped c (refusals.ReadFault slot) r Q stops f = subst (λ r. IfOk r Q) (sym stops) tt
+when_stopped c refusals.OutOfMemory r Q stops f = subst (λ r. IfOk r Q) (sym stops) tt
+
+-- the fault of a record is none of the head
+pub behind_head : (given : ℕ) (fault : CaptureFault) → IsRecordFault given fault → ¬ IsHeadFault fault
+behind_head given BadMagic is head = is
+behind_head given BadVersion is head = is
+behind_head given (BadLink link) is head = is
+behind_head given CutHead is head = is
+behind_head given (CutRecord n) is head = head
+behind_head given (FrameTooLong n l) is head = head
+behind_head given TooManyRecords is head = head

@@ -1,11 +1,15 @@
 -- For proofs: what is counted so far, record by record, and what it comes to.
-use Rattle.std.specs.Prelude.{◌≡◌, ◌<◌, ℕ, ◌+◌, ◌^◌, max, List, [], ◌∷◌, length, fold, Option, Some, None, IfSome, unwrap_or}
+use Rattle.std.specs.Prelude.{◌≡◌, ◌<◌, ℕ, ◌+◌, ◌^◌, max, [], ◌∷◌, length, fold, Option, Some, None, IfOk, IfSome, IsErrOf, Result, Err, unwrap_or}
 use Rattle.std.specs.Map.{values_of}
 use Rattle.capture_bytes.specs.Packets.{time_of}
 use Rattle.capture_bytes.specs.declared.packet.PcapRecord.{PcapRecord}
 use Rattle.capture_bytes.specs.declared.packet.Unit.{Unit as TimeUnit}
+use Rattle.nfp_outside.specs.declared.slot.DeskFault.{DeskFault}
+use Rattle.nfp_outside.specs.declared.slot.DeskFault.TheVariants.{Failed, NoMemory}
 use Rattle.pcap_io.specs.Capture.{Body}
 use Rattle.pcap_io.specs.declared.capture.CaptureFault.{CaptureFault}
+use Rattle.pcap_io.specs.declared.fault.PcapFault.{PcapFault}
+use Rattle.pcap_io.specs.declared.fault.PcapFault.TheVariants as refusals
 use Rattle.classifier.specs.Cutting.{Cutting}
 use Rattle.flow_export.specs.declared.span.Span5.{Span5}
 use Rattle.flow_shards.specs.Flows.{Lines, flows_from}
@@ -62,6 +66,12 @@ pub record IsCountedWith (c : CountingView) (fault : Option CaptureFault) (count
   pub lines : counted.lines ≡ values_of c.lines
   pub span : counted.span ≡ unwrap_or c.span no_span
   pub same_fault : counted.fault ≡ fault
+
+-- a call that stops where the next record is refused: a fault of the capture ends what is counted
+abbrev pub StopsAt : CountingView → PcapFault → Result Counted DeskFault → Type 0
+StopsAt c (refusals.Capture fault) result = IfOk result (IsCountedWith c (Some fault)) × (¬ IsErrOf result Failed)
+StopsAt c (refusals.ReadFault slot) result = result ≡ Err Failed
+StopsAt c refusals.OutOfMemory result = result ≡ Err NoMemory
 
 -- this is what is counted of a body
 pub record IsCountOf (unit : TimeUnit) (body : Body) (counted : Counted) : Type 0 where

@@ -64,22 +64,53 @@ pub fn count_flows<R: Threads + Sync, D: Desk>(
         Err(_) => return Err(DeskFault::NoMemory),
     };
     'records: loop {
-        let ended = match reader.next(alloc, desk) {
-            Ok(Some(record)) => {
-                counting = match counting.take(rt, alloc, record) {
-                    Ok(counting) => counting,
-                    Err(_) => return Err(DeskFault::NoMemory),
-                };
-                continue 'records;
-            }
-            Ok(None) => None,
-            Err(PcapFault::Capture(fault)) => Some(fault),
-            Err(PcapFault::ReadFault(_)) => return Err(DeskFault::Failed),
-            Err(PcapFault::OutOfMemory) => return Err(DeskFault::NoMemory),
-        };
-        return match counting.end(rt, alloc, ended) {
-            Ok(counted) => Ok(counted),
-            Err(_) => Err(DeskFault::NoMemory),
-        };
+        match reader.next(alloc, desk) {
+            Ok(Some(record)) => match counting.take(rt, alloc, record) {
+                Ok(counted) => counting = counted,
+                Err(_) => return Err(DeskFault::NoMemory),
+            },
+            Ok(None) => return ended(rt, alloc, counting, None),
+            Err(refusal) => return stopped(rt, alloc, counting, refusal),
+        }
+    }
+}
+
+ghost use Rattle.flow_run.specs.Counting.{IsCountedWith, StopsAt};
+
+// What was counted of a capture whose next record is refused, if the capture has a fault there.
+fn stopped<R: Threads + Sync>(
+    rt: &R,
+    alloc: Global,
+    counting: Counting,
+    refusal: PcapFault,
+) -> Result<Counted, DeskFault>
+    ensures stops { StopsAt counting refusal result }
+    ensures span { IfOk result (λ counted. FitsSpan counted.span) }
+    ensures fits { IfOk result (λ counted. All HasFittingKey counted.lines) }
+    ensures few { IfOk result (λ counted. length counted.lines < 2 ^ 32) }
+{
+    match refusal {
+        PcapFault::Capture(fault) => ended(rt, alloc, counting, Some(fault)),
+        PcapFault::ReadFault(_) => Err(DeskFault::Failed),
+        PcapFault::OutOfMemory => Err(DeskFault::NoMemory),
+    }
+}
+
+// What was counted of a capture that ends here, with a fault if it has one.
+fn ended<R: Threads + Sync>(
+    rt: &R,
+    alloc: Global,
+    counting: Counting,
+    fault: Option<CaptureFault>,
+) -> Result<Counted, DeskFault>
+    ensures counted { IfOk result (IsCountedWith counting fault) }
+    ensures span { IfOk result (λ counted. FitsSpan counted.span) }
+    ensures fits { IfOk result (λ counted. All HasFittingKey counted.lines) }
+    ensures few { IfOk result (λ counted. length counted.lines < 2 ^ 32) }
+    ensures memory { ¬ IsErrOf result DeskFault.Failed }
+{
+    match counting.end(rt, alloc, fault) {
+        Ok(counted) => Ok(counted),
+        Err(_) => Err(DeskFault::NoMemory),
     }
 }
