@@ -4,12 +4,11 @@
 
 use nfp_outside::{Reason, Slot};
 use nfp_run::{Option4, Outcome, UsageFault};
-use operator_help::capture::Captured;
+use operator_help::capture::{Captured, Purpose};
 use operator_help::policy::PolicyText;
 use operator_help::{Page, capture, capture_ng, files, policy, usage};
 use policy_check::CheckFault;
 use policy_judge::PolicyFault;
-use std::alloc::AllocError;
 use std::env::FillError;
 use std::io::Error;
 use std::rt::Env;
@@ -31,7 +30,8 @@ pub fn tell_more<R: Env + Eprint + AllocGlobal>(
     reason: Option<Reason>,
 ) {
     let mut page = Page::new(rt.alloc());
-    if fill(&mut page, rt, words, seen, outcome, reason).is_ok() && !page.text().is_empty() {
+    fill(&mut page, rt, words, seen, outcome, reason);
+    if !page.text().is_empty() {
         let _ = rt.eprint(page.text());
     }
 }
@@ -43,42 +43,48 @@ fn fill<R: Env>(
     seen: &Seen,
     outcome: &Outcome,
     reason: Option<Reason>,
-) -> Result<(), AllocError> {
+) {
     match outcome {
-        Outcome::Done | Outcome::OutOfMemory => Ok(()),
+        Outcome::Done | Outcome::OutOfMemory => {}
         Outcome::Usage(fault) => usage_help(page, rt, words, *fault),
         Outcome::Policy(fault) => policy_help(page, seen, fault),
-        Outcome::Capture(fault) => {
-            let name = seen.name(Slot::Capture).unwrap_or("");
-            let front = seen.front();
-            capture::fault(page, Captured { name, front }, *fault)
-        }
-        Outcome::CaptureNg(fault) => {
-            let name = seen.name(Slot::Capture).unwrap_or("");
-            let front = seen.front();
-            capture_ng::fault(page, Captured { name, front }, *fault)
-        }
-        Outcome::ReadFault(slot) => match seen.name(*slot) {
-            Some(name) => files::unread(page, name, of_system(reason)),
-            None => Ok(()),
-        },
+        Outcome::Capture(fault) => capture::fault(page, captured(seen), *fault),
+        Outcome::CaptureNg(fault) => capture_ng::fault(page, captured(seen), *fault),
+        Outcome::ReadFault(slot) => unread_help(page, seen, *slot, reason),
         Outcome::WriteFault(slot) => unwritten_help(page, seen, *slot, reason),
     }
 }
 
+// The capture that was read, through chains where there is a policy.
+fn captured(seen: &Seen) -> Captured<'_> {
+    Captured {
+        name: seen.name(Slot::Capture).unwrap_or(""),
+        front: seen.front(),
+        purpose: match seen.name(Slot::Policy) {
+            Some(_) => Purpose::Chains,
+            None => Purpose::Flows,
+        },
+    }
+}
+
+fn unread_help(page: &mut Page, seen: &Seen, slot: Slot, reason: Option<Reason>) {
+    if let Some(name) = seen.name(slot) {
+        files::unread(page, name, of_system(reason));
+    }
+}
+
 // A slot that can't be written. Where standard output can't, the files of a run were written before.
-fn unwritten_help(
-    page: &mut Page,
-    seen: &Seen,
-    slot: Slot,
-    reason: Option<Reason>,
-) -> Result<(), AllocError> {
-    let Some(name) = seen.name(slot) else {
-        return files::unprinted(page, seen.name(Slot::Out).is_some());
-    };
+fn unwritten_help(page: &mut Page, seen: &Seen, slot: Slot, reason: Option<Reason>) {
+    match seen.name(slot) {
+        Some(name) => unwritten_file(page, seen, name, reason),
+        None => files::unprinted(page, seen.name(Slot::Out).is_some()),
+    }
+}
+
+fn unwritten_file(page: &mut Page, seen: &Seen, name: &str, reason: Option<Reason>) {
     match reason {
         Some(Reason::AttachedAt(other)) => {
-            files::one_file(page, name, seen.name(other).unwrap_or(""))
+            files::one_file(page, name, seen.name(other).unwrap_or(""));
         }
         Some(Reason::StandardOutput) => files::printed_file(page, name),
         Some(Reason::StandardError) => files::told_file(page, name),
@@ -95,32 +101,28 @@ fn of_system(reason: Option<Reason>) -> Option<Error> {
 }
 
 // Words that are refused.
-fn usage_help<R: Env>(
-    page: &mut Page,
-    rt: &R,
-    words: &[String],
-    fault: UsageFault,
-) -> Result<(), AllocError> {
-    if !foreign_word(page, rt)? {
-        usage_reason(page, words, fault)?;
+fn usage_help<R: Env>(page: &mut Page, rt: &R, words: &[String], fault: UsageFault) {
+    if !foreign_word(page, rt) {
+        usage_reason(page, words, fault);
     }
-    usage::forms(page)
+    usage::forms(page);
 }
 
-fn usage_reason(page: &mut Page, words: &[String], fault: UsageFault) -> Result<(), AllocError> {
+fn usage_reason(page: &mut Page, words: &[String], fault: UsageFault) {
     match fault {
-        UsageFault::UnknownCommand => match words.first() {
-            Some(word) => usage::no_command(page, word.as_str()),
-            None => Ok(()),
-        },
+        UsageFault::UnknownCommand => {
+            if let Some(word) = words.first() {
+                usage::no_command(page, word.as_str());
+            }
+        }
         UsageFault::Number(which) => number_help(page, which),
         UsageFault::Merge => usage::no_way(page),
         UsageFault::SameName => usage::same_name(page),
-        _ => Ok(()),
+        _ => {}
     }
 }
 
-fn number_help(page: &mut Page, which: Option4) -> Result<(), AllocError> {
+fn number_help(page: &mut Page, which: Option4) {
     match which {
         Option4::Mergers => usage::out_of_range(page, "the value of --mergers", 1, 16),
         Option4::Burst => usage::out_of_range(page, "the value of --burst", 1, 65536),
@@ -131,30 +133,32 @@ fn number_help(page: &mut Page, which: Option4) -> Result<(), AllocError> {
 }
 
 // Tells the first word of the command line that isn't UTF-8, where there is one.
-fn foreign_word<R: Env>(page: &mut Page, rt: &R) -> Result<bool, AllocError> {
+fn foreign_word<R: Env>(page: &mut Page, rt: &R) -> bool {
     let mut buffer = [0u8; LONGEST_WORD];
     for place in 1..MOST_WORDS {
         match rt.arg(place, &mut buffer) {
             Ok(length) => {
                 let word = &buffer[..length];
                 if from_utf8(word).is_err() {
-                    usage::not_utf8(page, place as u64, word)?;
-                    return Ok(true);
+                    usage::not_utf8(page, place as u64, word);
+                    return true;
                 }
             }
             Err(FillError::TooLong) => {}
-            Err(FillError::NotPresent) => return Ok(false),
+            Err(FillError::NotPresent) => return false,
         }
     }
-    Ok(false)
+    false
 }
 
 // A policy that is refused. Its text is what was read of it, unless there was no memory to keep it.
-fn policy_help(page: &mut Page, seen: &Seen, fault: &PolicyFault) -> Result<(), AllocError> {
-    let (Some(name), Some(text)) = (seen.name(Slot::Policy), seen.policy()) else {
-        return Ok(());
-    };
-    let text = PolicyText { name, text };
+fn policy_help(page: &mut Page, seen: &Seen, fault: &PolicyFault) {
+    if let (Some(name), Some(text)) = (seen.name(Slot::Policy), seen.policy()) {
+        policy_fault(page, PolicyText { name, text }, fault);
+    }
+}
+
+fn policy_fault(page: &mut Page, text: PolicyText<'_>, fault: &PolicyFault) {
     match fault {
         PolicyFault::TooLong => policy::too_long(page, text),
         PolicyFault::Text(fault) => policy::text_fault(page, text, *fault),
@@ -163,15 +167,10 @@ fn policy_help(page: &mut Page, seen: &Seen, fault: &PolicyFault) -> Result<(), 
     }
 }
 
-fn check_help(
-    page: &mut Page,
-    text: PolicyText<'_>,
-    chain: u32,
-    fault: &CheckFault,
-) -> Result<(), AllocError> {
+fn check_help(page: &mut Page, text: PolicyText<'_>, chain: u32, fault: &CheckFault) {
     match fault {
         CheckFault::Cycle(_) => policy::cycle(page, text, chain),
         CheckFault::PriorityForbidden { line, .. } => policy::forbidden(page, text, *line),
-        CheckFault::OutOfMemory => Ok(()),
+        CheckFault::OutOfMemory => {}
     }
 }

@@ -2,16 +2,15 @@
 
 use crate::files::{Sign, sign_of};
 use crate::page::Page;
-use crate::shown::shown_name;
 use pcap_io::CaptureFault;
-use std::alloc::AllocError;
-use text_lines::Piece::{Number, Text};
 
 /// The number of Ethernet among the kinds of links.
 const ETHERNET: u32 = 1;
 
 /// The bits of the field of the link's kind that number it; the others tell of checksums.
 const LINK_BITS: u32 = 0xffff;
+
+const VERSION: &str = "{} has another version than 2.4";
 
 const CONVERT: &str =
     "this writes it in the format that is read (editcap is one of Wireshark's tools):\n  editcap -F pcap {} NEW.pcap\n  editcap -F nsecpcap {} NEW.pcap    keeps nanoseconds";
@@ -27,11 +26,19 @@ const CHECKSUMS: &str =
 const NO_ETHERNET: &str =
     "the packets of {} have no Ethernet header: link type {} is {}\nit is {}\ncapture at one Ethernet interface instead, as by `tcpdump -i eth0 -w FILE`";
 
+const EMPTY: &str = "{} is empty";
+
+const SHORT: &str = "{} has {} bytes, and the head of a capture alone has 24";
+
 const CUT_RECORD: &str =
-    "{} ends inside record {}: it was copied in part, or is still being written\nthe records before it went through the chains; OUT and REPORT have them";
+    "{} ends inside record {}: it was copied in part, or is still being written";
 
 const TOO_LONG: &str =
-    "{} says that record {} has {} bytes, and at most 262144 are read: the file is damaged from there on\nthe records before it went through the chains; OUT and REPORT have them";
+    "{} says that record {} has {} bytes, and at most 262144 are read: the file is damaged from there on";
+
+const LED: &str = "the records before it went through the chains; OUT and REPORT have them";
+
+const COUNTED: &str = "the records before it are counted; OUT has their flows";
 
 const ANY: &str = "what was captured at all interfaces at once, as by `tcpdump -i any`";
 
@@ -41,76 +48,125 @@ const SERIAL: &str = "what was captured at a serial line";
 
 const NO_HEADER: &str = "what has no link header";
 
-/// A capture that was refused: the name of its file, and its first bytes.
+/// A capture that was refused: the name of its file, its first bytes, and what it was read for.
 #[derive(Clone, Copy)]
 pub struct Captured<'a> {
     pub name: &'a str,
     pub front: &'a [u8],
+    pub purpose: Purpose,
+}
+
+/// What a capture is read for.
+#[derive(Clone, Copy)]
+pub enum Purpose {
+    /// Its packets go through chains.
+    Chains,
+    /// Its flows are counted.
+    Flows,
 }
 
 /// What is to be done about a fault of a capture.
-pub fn fault(
-    page: &mut Page,
-    capture: Captured<'_>,
-    fault: CaptureFault,
-) -> Result<(), AllocError> {
-    let name = shown_name(page.alloc, capture.name)?;
+pub fn fault(page: &mut Page, capture: Captured<'_>, fault: CaptureFault) {
+    let name = capture.name;
     match fault {
-        CaptureFault::BadMagic => bad_magic(page, &name, sign_of(capture.front)),
+        CaptureFault::BadMagic => bad_magic(page, capture),
         CaptureFault::BadVersion => {
-            page.tell("{} has another version than 2.4", &[Text(&name)])?;
-            page.tell(CONVERT, &[Text(&name), Text(&name)])
+            tell_of(page, VERSION, name);
+            convert(page, name);
         }
-        CaptureFault::BadLink(kind) => bad_link(page, &name, kind),
-        CaptureFault::CutHead => cut_head(page, &name, capture.front),
+        CaptureFault::BadLink(kind) => bad_link(page, name, kind),
+        CaptureFault::CutHead => cut_head(page, name, capture.front),
         CaptureFault::CutRecord(record) => {
-            page.tell(CUT_RECORD, &[Text(&name), Number(u64::from(record))])
+            tell_of(page, CUT_RECORD, name);
+            page.number(u64::from(record));
+            page.tell(done_of(capture.purpose));
         }
         CaptureFault::FrameTooLong(record, length) => {
-            let numbers = [Number(u64::from(record)), Number(u64::from(length))];
-            page.tell(TOO_LONG, &[Text(&name), numbers[0], numbers[1]])
+            tell_of(page, TOO_LONG, name);
+            page.number(u64::from(record));
+            page.number(u64::from(length));
+            page.tell(done_of(capture.purpose));
         }
-        CaptureFault::TooManyRecords => page.tell(MANY, &[Text(&name), Text(&name)]),
+        CaptureFault::TooManyRecords => tell_twice(page, MANY, name),
+    }
+}
+
+// Tells of a file whose name goes into the first place.
+fn tell_of(page: &mut Page, text: &'static str, name: &str) {
+    page.tell(text);
+    page.name(name);
+}
+
+// The same where its name goes into the second place too.
+fn tell_twice(page: &mut Page, text: &'static str, name: &str) {
+    tell_of(page, text, name);
+    page.name(name);
+}
+
+fn convert(page: &mut Page, name: &str) {
+    tell_twice(page, CONVERT, name);
+}
+
+// What became of the records before a fault.
+fn done_of(purpose: Purpose) -> &'static str {
+    match purpose {
+        Purpose::Chains => LED,
+        Purpose::Flows => COUNTED,
     }
 }
 
 // No magic number: what the file is instead.
-fn bad_magic(page: &mut Page, name: &[u8], sign: Sign) -> Result<(), AllocError> {
-    let name = Text(name);
-    page.tell(what_it_is(&sign), &[name])?;
+fn bad_magic(page: &mut Page, capture: Captured<'_>) {
+    let name = capture.name;
+    let sign = sign_of(capture.front);
+    tell_of(page, what_it_is(sign), name);
     match sign {
-        Sign::PatchedPcap | Sign::Snoop => page.tell(CONVERT, &[name, name]),
+        Sign::Pcapng | Sign::PatchedPcap | Sign::Snoop => convert(page, name),
         Sign::Gzip => {
-            page.tell(CONVERT, &[name, name])?;
-            page.tell(UNPACK, &[name])
+            convert(page, name);
+            tell_of(page, UNPACK, name);
         }
-        sign => page.tell(what_to_do(&sign), &[name]),
+        Sign::Policy => page.tell(place_of_policy(capture.purpose)),
+        Sign::Bzip2 | Sign::Xz | Sign::Zstandard => tell_of(page, unpacked_by(sign), name),
+        sign => page.tell(what_to_do(sign)),
     }
 }
 
-fn what_it_is(sign: &Sign) -> &'static str {
+fn what_it_is(sign: Sign) -> &'static str {
     match sign {
         Sign::PatchedPcap => {
             "{} is a capture in a changed pcap format, and the classic one is read"
         }
-        Sign::Snoop => "{} is a capture of `snoop`, and the formats pcap and pcapng are read",
+        Sign::Pcapng =>
+            "{} is a capture in the format pcapng, and flows are read of the classic one",
+        Sign::Snoop => "{} is a capture of `snoop`, whose format isn't read",
         Sign::Gzip => "{} is packed by gzip",
         Sign::Bzip2 => "{} is packed by bzip2",
         Sign::Xz => "{} is packed by xz",
         Sign::Zstandard => "{} is packed by zstd",
         Sign::Policy => "{} is a policy, and no capture",
         Sign::Text | Sign::Utf8 | Sign::Utf16 => "{} is a text, and no capture",
-        Sign::Pcap | Sign::Pcapng | Sign::Unknown =>
-            "{} is no capture in the format pcap or pcapng",
+        Sign::Pcap | Sign::Unknown => "{} is no capture in the format pcap or pcapng",
     }
 }
 
-fn what_to_do(sign: &Sign) -> &'static str {
+fn unpacked_by(sign: Sign) -> &'static str {
     match sign {
         Sign::Bzip2 => "unpack it by: bzip2 -dc {} >NEW.pcap",
         Sign::Xz => "unpack it by: xz -dc {} >NEW.pcap",
-        Sign::Zstandard => "unpack it by: zstd -dc {} >NEW.pcap",
-        Sign::Policy => "the policy stands first, as in `nfp run POLICY CAPTURE OUT REPORT`",
+        _ => "unpack it by: zstd -dc {} >NEW.pcap",
+    }
+}
+
+fn place_of_policy(purpose: Purpose) -> &'static str {
+    match purpose {
+        Purpose::Chains => "the policy stands first, as in `nfp run POLICY CAPTURE OUT REPORT`",
+        Purpose::Flows => "flows are counted without a policy, as by `nfp flows CAPTURE OUT`",
+    }
+}
+
+fn what_to_do(sign: Sign) -> &'static str {
+    match sign {
         Sign::Text | Sign::Utf8 | Sign::Utf16 => {
             "a text of packets is made a capture by `text2pcap`; `tcpdump -w FILE` writes a capture"
         }
@@ -121,30 +177,25 @@ fn what_to_do(sign: &Sign) -> &'static str {
 }
 
 /// The frames have no Ethernet header.
-pub fn bad_link(page: &mut Page, name: &[u8], kind: u32) -> Result<(), AllocError> {
+pub fn bad_link(page: &mut Page, name: &str, kind: u32) {
     if kind & LINK_BITS == ETHERNET {
-        return page.tell(CHECKSUMS, &[Text(name), Text(name)]);
+        tell_twice(page, CHECKSUMS, name);
+    } else {
+        let (link, source) = link_of(kind & LINK_BITS);
+        tell_of(page, NO_ETHERNET, name);
+        page.number(u64::from(kind));
+        page.say(link);
+        page.say(source);
     }
-    let (link, source) = link_of(kind & LINK_BITS);
-    let number = Number(u64::from(kind));
-    let pieces = [
-        Text(name),
-        number,
-        Text(link.as_bytes()),
-        Text(source.as_bytes()),
-    ];
-    page.tell(NO_ETHERNET, &pieces)
 }
 
-fn cut_head(page: &mut Page, name: &[u8], front: &[u8]) -> Result<(), AllocError> {
+fn cut_head(page: &mut Page, name: &str, front: &[u8]) {
     if front.is_empty() {
-        return page.tell("{} is empty", &[Text(name)]);
+        tell_of(page, EMPTY, name);
+    } else {
+        tell_of(page, SHORT, name);
+        page.number(front.len() as u64);
     }
-    let pieces = [Text(name), Number(front.len() as u64)];
-    page.tell(
-        "{} has {} bytes, and the head of a capture alone has 24",
-        &pieces,
-    )
 }
 
 // What a kind of link is called, and what is captured so, by its number (the registry of link-layer header types).

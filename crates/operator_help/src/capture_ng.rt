@@ -2,10 +2,7 @@
 
 use crate::capture::{Captured, bad_link};
 use crate::page::Page;
-use crate::shown::shown_name;
 use pcapng_io::NgFault;
-use std::alloc::AllocError;
-use text_lines::Piece::{Number, Text};
 
 const DONE: &str = "what stood before it went through the chains; OUT and REPORT have it";
 
@@ -30,49 +27,59 @@ const MANY: &str =
     "{} has more packets or blocks than are read; cut it into pieces by:\n  editcap -c 1000000000 {} PIECE.pcapng";
 
 /// What is to be done about a fault of a pcapng capture.
-pub fn fault(page: &mut Page, capture: Captured<'_>, fault: NgFault) -> Result<(), AllocError> {
-    let name = shown_name(page.alloc, capture.name)?;
-    let name = Text(&name);
+pub fn fault(page: &mut Page, capture: Captured<'_>, fault: NgFault) {
+    let name = capture.name;
     match fault {
-        NgFault::CutBlock(block) => {
-            page.tell(CUT, &[name, Number(block)])?;
-            behind_the_first(page, block)
-        }
-        NgFault::BadBlock(block) => {
-            page.tell(BAD, &[Number(block), name, name])?;
-            behind_the_first(page, block)
-        }
+        NgFault::CutBlock(block) => tell_of(page, CUT, name, block),
+        NgFault::BadBlock(block) => tell_block(page, BAD, name, block),
         NgFault::BlockTooLong(block, length) => {
-            let pieces = [name, Number(block), Number(u64::from(length))];
-            page.tell(BLOCK_LONG, &pieces)?;
-            behind_the_first(page, block)
+            tell_of(page, BLOCK_LONG, name, block);
+            page.number(u64::from(length));
         }
-        NgFault::BadLink(kind) => {
-            let name = shown_name(page.alloc, capture.name)?;
-            bad_link(page, &name, kind)?;
-            page.tell(DONE, &[])
-        }
-        NgFault::BadResolution(block) => {
-            page.tell(RESOLUTION, &[Number(block), name, name])?;
-            page.tell(DONE, &[])
-        }
+        NgFault::BadLink(kind) => bad_link(page, name, kind),
+        NgFault::BadResolution(block) => tell_block(page, RESOLUTION, name, block),
         NgFault::NoInterface(block) => {
-            page.tell(NO_INTERFACE, &[Number(block), name])?;
-            page.tell(DONE, &[])
+            page.tell(NO_INTERFACE);
+            page.number(block);
+            page.name(name);
         }
         NgFault::FrameTooLong(packet, length) => {
-            let pieces = [name, Number(u64::from(packet)), Number(u64::from(length))];
-            page.tell(FRAME_LONG, &pieces)?;
-            page.tell(DONE, &[])
+            tell_of(page, FRAME_LONG, name, u64::from(packet));
+            page.number(u64::from(length));
         }
-        NgFault::TooManyRecords | NgFault::TooManyBlocks => page.tell(MANY, &[name, name]),
+        NgFault::TooManyRecords | NgFault::TooManyBlocks => {
+            page.tell(MANY);
+            page.name(name);
+            page.name(name);
+        }
+    }
+    if has_done(&fault) {
+        page.tell(DONE);
     }
 }
 
-// A fault of the first block leaves nothing written.
-fn behind_the_first(page: &mut Page, block: u64) -> Result<(), AllocError> {
-    if block == 1 {
-        return Ok(());
+// Tells of a file, whose name goes into the first place, and of its block or packet with this number.
+fn tell_of(page: &mut Page, text: &'static str, name: &str, number: u64) {
+    page.tell(text);
+    page.name(name);
+    page.number(number);
+}
+
+// Tells of a block of a file, whose name goes into the second and the third place.
+fn tell_block(page: &mut Page, text: &'static str, name: &str, block: u64) {
+    page.tell(text);
+    page.number(block);
+    page.name(name);
+    page.name(name);
+}
+
+// Was something written before the fault? One of the first block leaves nothing, and of too many packets there is no telling.
+fn has_done(fault: &NgFault) -> bool {
+    match fault {
+        NgFault::CutBlock(block) | NgFault::BadBlock(block) | NgFault::BlockTooLong(block, _) => {
+            *block != 1
+        }
+        NgFault::TooManyRecords | NgFault::TooManyBlocks => false,
+        _ => true,
     }
-    page.tell(DONE, &[])
 }

@@ -1,17 +1,16 @@
 //! Files: what they are by their first bytes, and why the system refuses them.
 
 use crate::page::Page;
-use crate::shown::{is_printable, shown_name};
-use std::alloc::AllocError;
+use crate::shown::is_printable;
 use std::io::Error;
-use text_lines::Piece::Text;
 
-const UNREAD: (&str, &str) = ("{} can't be read: {}", "it gives no reason");
+const UNREAD: &str = "{} can't be read: {}";
 
-const UNWRITTEN: (&str, &str) = (
-    "{} can't be written: {}",
-    "it takes no more bytes; is the disk full, or was a pipe closed?",
-);
+const UNWRITTEN: &str = "{} can't be written: {}";
+
+const NO_REASON: &str = "it gives no reason";
+
+const FULL: &str = "it takes no more bytes; is the disk full, or was a pipe closed?";
 
 const UNPRINTED: &str = "the last line can't be put to standard output; the files are whole";
 
@@ -95,52 +94,47 @@ fn letters_sign(front: &[u8]) -> Sign {
 }
 
 /// A file that couldn't be read, and the system's reason, where it gave one.
-pub fn unread(page: &mut Page, name: &str, reason: Option<Error>) -> Result<(), AllocError> {
-    say_reason(page, name, UNREAD, reason)
+pub fn unread(page: &mut Page, name: &str, reason: Option<Error>) {
+    page.tell(UNREAD);
+    page.name(name);
+    say_reason(page, reason, NO_REASON);
 }
 
 /// A file that couldn't be written, and the system's reason, where it gave one.
-pub fn unwritten(page: &mut Page, name: &str, reason: Option<Error>) -> Result<(), AllocError> {
-    say_reason(page, name, UNWRITTEN, reason)
+pub fn unwritten(page: &mut Page, name: &str, reason: Option<Error>) {
+    page.tell(UNWRITTEN);
+    page.name(name);
+    say_reason(page, reason, FULL);
+}
+
+// The system's reason, or else this one.
+fn say_reason(page: &mut Page, reason: Option<Error>, otherwise: &str) {
+    match reason {
+        Some(reason) => page.reason(reason),
+        None => page.say(otherwise),
+    }
 }
 
 /// A file that is to be written, and the other name of the run that leads to it.
-pub fn one_file(page: &mut Page, name: &str, other: &str) -> Result<(), AllocError> {
-    let name = shown_name(page.alloc, name)?;
-    let other = shown_name(page.alloc, other)?;
-    page.tell(ONE_FILE, &[Text(&name), Text(&other)])
+pub fn one_file(page: &mut Page, name: &str, other: &str) {
+    page.tell(ONE_FILE);
+    page.name(name);
+    page.name(other);
 }
 
 /// A file that is to be written, to which standard output leads.
-pub fn printed_file(page: &mut Page, name: &str) -> Result<(), AllocError> {
-    let name = shown_name(page.alloc, name)?;
-    page.tell(PRINTED_FILE, &[Text(&name)])
+pub fn printed_file(page: &mut Page, name: &str) {
+    page.tell(PRINTED_FILE);
+    page.name(name);
 }
 
 /// A file that is to be written, to which standard error leads.
-pub fn told_file(page: &mut Page, name: &str) -> Result<(), AllocError> {
-    let name = shown_name(page.alloc, name)?;
-    page.tell(TOLD_FILE, &[Text(&name)])
+pub fn told_file(page: &mut Page, name: &str) {
+    page.tell(TOLD_FILE);
+    page.name(name);
 }
 
-/// What is printed couldn't be; a run had written its files.
-pub fn unprinted(page: &mut Page, is_run: bool) -> Result<(), AllocError> {
-    page.tell(if is_run { UNPRINTED } else { UNSHOWN }, &[])
-}
-
-// What happened, and the reason: the system's, or the one that stands beside it.
-fn say_reason(
-    page: &mut Page,
-    name: &str,
-    (what, otherwise): (&str, &str),
-    reason: Option<Error>,
-) -> Result<(), AllocError> {
-    let name = shown_name(page.alloc, name)?;
-    match reason {
-        Some(error) => {
-            let reason = format!(in page.alloc; "{error}")?;
-            page.tell(what, &[Text(&name), Text(reason.as_bytes())])
-        }
-        None => page.tell(what, &[Text(&name), Text(otherwise.as_bytes())]),
-    }
+/// What is printed couldn't be; where files were to be written, they were.
+pub fn unprinted(page: &mut Page, has_files: bool) {
+    page.tell(if has_files { UNPRINTED } else { UNSHOWN });
 }

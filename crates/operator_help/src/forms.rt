@@ -1,10 +1,10 @@
 //! The kinds of functions, the forms of their lines, and which word of a line doesn't fit them. The forms and the clauses that words
 //! are compared with are those that are shown.
 
-use crate::lines::{Row, part, rows_of, until};
-use action_profile::{KINDS, Kind};
+use crate::lines::{Row, part, until};
+use crate::page::Page;
+use action_profile::Kind;
 use policy_text::{address, address6, mac, number, prefix, prefix6, range};
-use std::alloc::{AllocError, Global};
 
 /// The most bytes of a pattern.
 const MAX_PATTERN: usize = 256;
@@ -17,16 +17,6 @@ const GREATEST: u64 = 4_294_967_295;
 
 /// How many words may be wanted at one place.
 const ALTERNATIVES: usize = 3;
-
-/// The names of the kinds, each after a blank.
-pub fn kind_names(alloc: Global) -> Result<Vec<u8>, AllocError> {
-    let mut text = Vec::new(alloc);
-    for kind in KINDS.iter() {
-        text.push(b' ')?;
-        text.extend_from_slice(kind.name().as_bytes())?;
-    }
-    Ok(text)
-}
 
 /// The forms of the lines of a function of this kind, one a line.
 pub fn forms_of(kind: Kind) -> &'static str {
@@ -88,21 +78,16 @@ pub fn forms_of_line(first: &[u8]) -> &'static str {
 }
 
 /// The place up to which a line fits the best of these forms. Nothing where it fits one of them whole.
-pub fn best_misfit(
-    alloc: Global,
-    forms: &str,
-    clauses: &str,
-    row: Row<'_>,
-) -> Result<Option<usize>, AllocError> {
+pub fn best_misfit(page: &mut Page, forms: &str, clauses: &str, row: Row<'_>) -> Option<usize> {
     let clauses = Row::new(0, clauses.as_bytes());
     let mut best = 0;
-    for form in &rows_of(alloc, forms.as_bytes())? {
+    for form in &page.rows(forms.as_bytes()) {
         match misfit(*form, clauses, row) {
-            None => return Ok(None),
+            None => return None,
             Some(place) => best = place.max(best),
         }
     }
-    Ok(Some(best))
+    Some(best)
 }
 
 // The place of the first word that doesn't fit a form, is missing or is one too many.

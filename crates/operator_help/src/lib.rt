@@ -6,8 +6,8 @@
 //! and why the system refuses a file ([`files`]). The forms stand there as texts, which are both
 //! shown and compared with.
 //!
-//! Bytes of files are shown escaped, and long lines cut. A page is nothing but help: where there is no memory for it, it is left
-//! out, and nothing of it is proved but that each call ends and is safe.
+//! Bytes of files are shown escaped, and long lines cut. A page is nothing but help: where there is no memory for all of it, it is empty,
+//! so no call that adds to it has an answer, and nothing of it is proved but that each call ends and is safe.
 #![tactic(auto)]
 
 pub mod capture;

@@ -1,7 +1,5 @@
 //! The lines of a text and their words.
-ghost use Rattle.std.specs.Prelude.{◌<◌, ◌≤◌, length, IfSome};
-
-use std::alloc::{AllocError, Global};
+ghost use Rattle.std.specs.Prelude.{◌≤◌, length};
 
 /// A line with its number, counted from 1, and what of it stands before a comment.
 #[derive(Clone, Copy)]
@@ -76,20 +74,6 @@ impl<'a> Row<'a> {
     }
 }
 
-/// The lines of a text that aren't blank.
-pub fn rows_of(alloc: Global, text: &[u8]) -> Result<Vec<Row<'_>>, AllocError> {
-    let mut rows = Vec::new(alloc);
-    let mut number = 0u32;
-    for line in text.split(|byte| *byte == b'\n') {
-        number = number.saturating_add(1);
-        let row = Row::new(number, line);
-        if !row.word(0).is_empty() {
-            rows.push(row)?;
-        }
-    }
-    Ok(rows)
-}
-
 /// How many bytes stand before the first one like this.
 pub fn until(text: &[u8], byte: u8) -> usize
     ensures { result ≤ length text.now }
@@ -130,16 +114,34 @@ fn is_blank(byte: u8) -> bool {
     byte == b' ' || byte == b'\t'
 }
 
-/// The place of the line with a number among the lines.
-pub fn place_of(rows: &[Row<'_>], number: u32) -> Option<usize>
-    ensures { IfSome result (λ place. place < length rows.now) }
+/// The place of the line with a number among the lines, or the one behind them.
+pub fn place_of(rows: &[Row<'_>], number: u32) -> usize
+    ensures { result ≤ length rows.now }
 {
     for (place, row) in rows.iter().enumerate() {
         if row.number == number {
-            return Some(place);
+            return place.min(rows.len());
         }
     }
-    None
+    rows.len()
+}
+
+/// The line at a place, or an empty one.
+pub fn row_at<'a>(rows: &[Row<'a>], place: usize) -> Row<'a> {
+    match rows.get(place) {
+        Some(row) => *row,
+        None => Row::new(0, b""),
+    }
+}
+
+/// The line with a number, or an empty one.
+pub fn row_of<'a>(rows: &[Row<'a>], number: u32) -> Row<'a> {
+    row_at(rows, place_of(rows, number))
+}
+
+/// The lines behind a place.
+pub fn rows_behind<'r, 'a>(rows: &'r [Row<'a>], place: usize) -> &'r [Row<'a>] {
+    &rows[place.saturating_add(1).min(rows.len())..]
 }
 
 /// The last line before this place that begins with a word.

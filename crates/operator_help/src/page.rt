@@ -1,7 +1,9 @@
 //! A text for standard error.
 
-use crate::shown::push_shown;
-use std::alloc::{AllocError, Global};
+use crate::lines::{Row, part, until};
+use crate::shown::{put_name, put_shown};
+use std::alloc::Global;
+use std::io::Error;
 use std::str::from_utf8;
 use text_lines::{Piece, push_pieces};
 
@@ -12,10 +14,17 @@ const PREFIX: &[u8] = b"nfp: ";
 const INDENTED: &[u8] = b"nfp:   ";
 
 /// Lines for the operator, each behind the name of the program.
+///
+/// A text is told with places for what it speaks of, each written `{}`: [`Page::tell`] adds it up to the first of them, and each piece that is
+/// added goes into its place and takes the text with it up to the next.
 #[derive(Drop)]
 pub struct Page {
-    pub(crate) alloc: Global,
+    alloc: Global,
     text: Vec<u8>,
+    /// What is left of a text behind the place where the next piece goes.
+    rest: &'static [u8],
+    /// There was no memory for some of it.
+    short: bool,
 }
 
 impl Page {
@@ -24,66 +33,122 @@ impl Page {
         Page {
             alloc,
             text: Vec::new(alloc),
+            rest: b"",
+            short: false,
         }
     }
 
-    /// The lines so far.
+    /// The lines so far, or nothing where there was no memory for all of them.
     pub fn text(&self) -> &str {
+        if self.short {
+            return "";
+        }
         from_utf8(&self.text).unwrap_or("")
     }
 
-    /// Adds lines, in which each `{}` stands for the next of the pieces. One that belongs to the line before it begins with two
-    /// blanks.
-    pub(crate) fn tell(&mut self, lines: &str, pieces: &[Piece]) -> Result<(), AllocError> {
-        let mut next = 0;
-        self.text.extend_from_slice(PREFIX)?;
-        for byte in lines.as_bytes() {
-            if *byte == b'{' {
-                self.put(pieces, next)?;
-                next = 1usize.saturating_add(next);
-            } else if *byte != b'}' {
-                self.push(*byte)?;
+    /// Adds lines up to the first place in them. One that belongs to the line before it begins with two blanks.
+    pub(crate) fn tell(&mut self, lines: &'static str) {
+        self.put(PREFIX);
+        self.rest = lines.as_bytes();
+        self.go_on();
+    }
+
+    /// Goes on up to the next place of the text, or to the end of its last line.
+    pub(crate) fn go_on(&mut self) {
+        let rest = self.rest;
+        let place = until(rest, b'{');
+        self.put_lines(&rest[..place]);
+        self.rest = part(rest, place.saturating_add(2), rest.len());
+        if place == rest.len() {
+            self.push(b'\n');
+        }
+    }
+
+    // Adds a text, with the prefix behind the end of each line.
+    fn put_lines(&mut self, text: &[u8]) {
+        for byte in text {
+            self.push(*byte);
+            if *byte == b'\n' {
+                self.put(PREFIX);
             }
         }
-        self.text.push(b'\n')?;
-        Ok(())
     }
 
-    // Adds the piece at a place.
-    fn put(&mut self, pieces: &[Piece], place: usize) -> Result<(), AllocError> {
-        if place < pieces.len() {
-            push_pieces(self.alloc, &mut self.text, &pieces[place..=place])
-        } else {
-            Ok(())
-        }
+    /// Puts a text into its place.
+    pub(crate) fn say(&mut self, text: &str) {
+        self.put(text.as_bytes());
+        self.go_on();
     }
 
-    // Adds a byte of a text, and the prefix behind the end of a line.
-    fn push(&mut self, byte: u8) -> Result<(), AllocError> {
-        self.text.push(byte)?;
-        if byte == b'\n' {
-            self.text.extend_from_slice(PREFIX)?;
+    /// Puts the name of a file into its place, with what steers a terminal escaped.
+    pub(crate) fn name(&mut self, name: &str) {
+        put_name(self, name);
+        self.go_on();
+    }
+
+    /// Puts a word of a file into its place, escaped and cut.
+    pub(crate) fn word(&mut self, word: &[u8]) {
+        put_shown(self, word, 0);
+        self.go_on();
+    }
+
+    /// Puts a number into its place.
+    pub(crate) fn number(&mut self, number: u64) {
+        let put = push_pieces(self.alloc, &mut self.text, &[Piece::Number(number)]);
+        self.short = self.short || put.is_err();
+        self.go_on();
+    }
+
+    /// Puts the system's reason into its place.
+    pub(crate) fn reason(&mut self, reason: Error) {
+        match format!(in self.alloc; "{reason}") {
+            Ok(text) => self.say(text.as_str()),
+            Err(_) => self.short = true,
         }
-        Ok(())
     }
 
     /// Adds a line of a file, with a mark under this column where there is one, counted from 0.
-    pub(crate) fn quote(&mut self, line: &[u8], mark: Option<usize>) -> Result<(), AllocError> {
-        self.text.extend_from_slice(INDENTED)?;
-        let place = push_shown(&mut self.text, line, mark.unwrap_or(0))?;
-        self.text.push(b'\n')?;
+    pub(crate) fn quote(&mut self, line: &[u8], mark: Option<usize>) {
+        self.put(INDENTED);
+        let place = put_shown(self, line, mark.unwrap_or(0));
+        self.push(b'\n');
         if mark.is_some() {
-            self.mark(place)?;
+            self.mark(place);
         }
-        Ok(())
     }
 
     // Adds a mark with so many blanks before it.
-    fn mark(&mut self, place: usize) -> Result<(), AllocError> {
-        self.text.extend_from_slice(INDENTED)?;
+    fn mark(&mut self, place: usize) {
+        self.put(INDENTED);
         for _ in 0..place {
-            self.text.push(b' ')?;
+            self.push(b' ');
         }
-        self.text.extend_from_slice(b"^\n")
+        self.put(b"^\n");
+    }
+
+    /// The lines of a text that aren't blank.
+    pub(crate) fn rows<'a>(&mut self, text: &'a [u8]) -> Vec<Row<'a>> {
+        let mut rows = Vec::new(self.alloc);
+        let mut number = 0u32;
+        for line in text.split(|byte| *byte == b'\n') {
+            number = number.saturating_add(1);
+            let row = Row::new(number, line);
+            if !row.word(0).is_empty() && rows.push(row).is_err() {
+                self.short = true;
+            }
+        }
+        rows
+    }
+
+    /// Adds bytes.
+    pub(crate) fn put(&mut self, bytes: &[u8]) {
+        let put = self.text.extend_from_slice(bytes);
+        self.short = self.short || put.is_err();
+    }
+
+    /// Adds a byte.
+    pub(crate) fn push(&mut self, byte: u8) {
+        let put = self.text.push(byte);
+        self.short = self.short || put.is_err();
     }
 }

@@ -1,15 +1,13 @@
 //! What is wrong with a policy, and what its lines may be.
 
 use crate::files::{Sign, sign_of};
-use crate::forms::{ALL_CLAUSES, forms_of_line, kind_names};
-use crate::lines::{Row, place_of, rows_of, until};
+use crate::forms::{ALL_CLAUSES, forms_of_line};
+use crate::lines::{Row, place_of, row_at, row_of, until};
 use crate::page::Page;
 pub use crate::settings::bad_setting;
 use crate::settings::{kind_at, say_kind_forms, say_word};
-use crate::shown::{shown, shown_name};
+use action_profile::KINDS;
 use policy_text::TextFault;
-use std::alloc::AllocError;
-use text_lines::Piece::{Number, Text};
 
 /// How many statements of a cycle's chain are shown.
 const MAX_STATEMENTS: usize = 20;
@@ -43,6 +41,28 @@ const NO_LINE: &str =
 const CLAUSES: &str =
     "a CLAUSE, each at most once, is: {}\na PREFIX is as 10.1.0.0/16, 10.1.2.3 or 2001:db8::/32, PORTS are as 80 or 1000-1999";
 
+const LONG: &str = "{}: a policy has at most 1048576 bytes";
+
+const REVERSED: &str = "in `priority A > B` the function A stands behind B";
+
+const FUNCTIONS: &str = "a policy has at most 64 functions, in all its chains";
+
+const CHAINS: &str = "a policy has at most 16 chains";
+
+const RULES: &str = "a function has at most 256 rules";
+
+const VERSION_LINE: &str = "the first line has to be `nfp 1`";
+
+const NAMES: &str = "a NAME has 1 to 32 characters of a to z, 0 to 9, _ and -, a letter first";
+
+const UNKNOWN_KIND: &str = "`{}` is no kind";
+
+const TAKEN: &str = "the name `{}` is taken already; rename one of the two:";
+
+const UNDECLARED: &str = "no line `fn` before it in this chain declares `{}`";
+
+const ELSEWHERE: &str = "it is declared here, further down or in another chain:";
+
 /// A policy that was refused: the name of its file, and its text as it was read.
 #[derive(Clone, Copy)]
 pub struct PolicyText<'a> {
@@ -51,11 +71,7 @@ pub struct PolicyText<'a> {
 }
 
 /// A text that isn't a policy.
-pub fn text_fault(
-    page: &mut Page,
-    policy: PolicyText<'_>,
-    fault: TextFault,
-) -> Result<(), AllocError> {
+pub fn text_fault(page: &mut Page, policy: PolicyText<'_>, fault: TextFault) {
     match fault {
         TextFault::NotUtf8(place) => not_utf8(page, policy, place),
         TextFault::BadVersionLine => bad_version_line(page, policy),
@@ -63,58 +79,48 @@ pub fn text_fault(
         TextFault::UnknownKind(line) => unknown_kind(page, policy, line),
         TextFault::DuplicateName(line) => duplicate_name(page, policy, line),
         TextFault::UnknownName(line) => unknown_name(page, policy, line),
-        TextFault::TooManyFunctions(line) => limit(
-            page,
-            policy,
-            line,
-            "a policy has at most 64 functions, in all its chains",
-        ),
-        TextFault::TooManyChains(line) => {
-            limit(page, policy, line, "a policy has at most 16 chains")
-        }
-        TextFault::TooManyRules(line) => {
-            limit(page, policy, line, "a function has at most 256 rules")
-        }
-        TextFault::OutOfMemory => Ok(()),
+        TextFault::TooManyFunctions(line) => limit(page, policy, line, FUNCTIONS),
+        TextFault::TooManyChains(line) => limit(page, policy, line, CHAINS),
+        TextFault::TooManyRules(line) => limit(page, policy, line, RULES),
+        TextFault::OutOfMemory => {}
     }
 }
 
 /// A text of more than 1,048,576 bytes.
-pub fn too_long(page: &mut Page, policy: PolicyText<'_>) -> Result<(), AllocError> {
-    let name = shown_name(page.alloc, policy.name)?;
-    page.tell("{}: a policy has at most 1048576 bytes", &[Text(&name)])?;
-    say_sign(page, policy)
+pub fn too_long(page: &mut Page, policy: PolicyText<'_>) {
+    page.tell(LONG);
+    page.name(policy.name);
+    say_sign(page, policy);
 }
 
 /// A chain, counted from 0, whose statements go round in a circle.
-pub fn cycle(page: &mut Page, policy: PolicyText<'_>, chain: u32) -> Result<(), AllocError> {
-    let rows = rows_of(page.alloc, policy.text)?;
+pub fn cycle(page: &mut Page, policy: PolicyText<'_>, chain: u32) {
+    let rows = page.rows(policy.text);
     let mut chains = 0u32;
     let mut left = MAX_STATEMENTS;
-    page.tell(CYCLE, &[])?;
+    page.tell(CYCLE);
     for row in &rows {
         if row.begins_with(b"chain") {
             chains = chains.saturating_add(1);
         } else if chains == chain.saturating_add(1) && is_statement(*row) && left > 0 {
             left -= 1;
-            quote_row(page, policy, *row, None)?;
+            quote_row(page, policy, *row, None);
         }
     }
-    page.tell("in `priority A > B` the function A stands behind B", &[])
+    page.tell(REVERSED);
 }
 
 /// A priority that is forbidden.
-pub fn forbidden(page: &mut Page, policy: PolicyText<'_>, line: u32) -> Result<(), AllocError> {
-    let rows = rows_of(page.alloc, policy.text)?;
-    let Some(place) = place_of(&rows, line) else {
-        return Ok(());
-    };
-    let row = rows[place];
-    quote_row(page, policy, row, None)?;
-    let high = shown(page.alloc, row.word(1))?;
-    let low = shown(page.alloc, row.word(3))?;
-    let (high, low) = (Text(&high), Text(&low));
-    page.tell(FORBIDDEN, &[high, low, low, high, high, low])
+pub fn forbidden(page: &mut Page, policy: PolicyText<'_>, line: u32) {
+    let row = quote_line(page, policy, line, None);
+    let (high, low) = (row.word(1), row.word(3));
+    page.tell(FORBIDDEN);
+    page.word(high);
+    page.word(low);
+    page.word(low);
+    page.word(high);
+    page.word(high);
+    page.word(low);
 }
 
 fn is_statement(row: Row<'_>) -> bool {
@@ -122,38 +128,37 @@ fn is_statement(row: Row<'_>) -> bool {
 }
 
 /// Adds a line of the policy, with its number.
-pub fn quote_row(
-    page: &mut Page,
-    policy: PolicyText<'_>,
-    row: Row<'_>,
-    mark: Option<usize>,
-) -> Result<(), AllocError> {
-    quote(page, policy, row.number, row.text, mark)
+pub fn quote_row(page: &mut Page, policy: PolicyText<'_>, row: Row<'_>, mark: Option<usize>) {
+    page.tell("{}, line {}:");
+    page.name(policy.name);
+    page.number(u64::from(row.number));
+    page.quote(row.text, mark);
 }
 
-fn quote(
+// Adds the line with this number, with a mark under the word at a place where there is one, and gives it.
+fn quote_line<'a>(
     page: &mut Page,
-    policy: PolicyText<'_>,
-    number: u32,
-    line: &[u8],
-    mark: Option<usize>,
-) -> Result<(), AllocError> {
-    let name = shown_name(page.alloc, policy.name)?;
-    page.tell("{}, line {}:", &[Text(&name), Number(u64::from(number))])?;
-    page.quote(line, mark)
+    policy: PolicyText<'a>,
+    line: u32,
+    marked: Option<usize>,
+) -> Row<'a> {
+    let rows = page.rows(policy.text);
+    let row = row_of(&rows, line);
+    match marked {
+        Some(place) => quote_row(page, policy, row, Some(row.column(place))),
+        None => quote_row(page, policy, row, None),
+    }
+    row
 }
 
 // A line that is one too many of its kind.
-fn limit(page: &mut Page, policy: PolicyText<'_>, line: u32, text: &str) -> Result<(), AllocError> {
-    let rows = rows_of(page.alloc, policy.text)?;
-    if let Some(place) = place_of(&rows, line) {
-        quote_row(page, policy, rows[place], None)?;
-    }
-    page.tell(text, &[])
+fn limit(page: &mut Page, policy: PolicyText<'_>, line: u32, text: &'static str) {
+    quote_line(page, policy, line, None);
+    page.tell(text);
 }
 
 // The byte at a place is no UTF-8.
-fn not_utf8(page: &mut Page, policy: PolicyText<'_>, place: usize) -> Result<(), AllocError> {
+fn not_utf8(page: &mut Page, policy: PolicyText<'_>, place: usize) {
     let mut start = 0;
     let mut number = 1u32;
     for (at, byte) in policy.text.iter().enumerate() {
@@ -163,191 +168,175 @@ fn not_utf8(page: &mut Page, policy: PolicyText<'_>, place: usize) -> Result<(),
         }
     }
     let rest = &policy.text[start.min(policy.text.len())..];
-    let line = &rest[..until(rest, b'\n')];
-    quote(
-        page,
-        policy,
-        number,
-        line,
-        Some(place.saturating_sub(start)),
-    )?;
-    page.tell(NOT_UTF8, &[])?;
-    say_sign(page, policy)
+    let row = Row::new(number, &rest[..until(rest, b'\n')]);
+    quote_row(page, policy, row, Some(place.saturating_sub(start)));
+    page.tell(NOT_UTF8);
+    say_sign(page, policy);
 }
 
 // What else the file is, where that can be told.
-fn say_sign(page: &mut Page, policy: PolicyText<'_>) -> Result<(), AllocError> {
+fn say_sign(page: &mut Page, policy: PolicyText<'_>) {
     match sign_of(policy.text) {
-        Sign::Pcap | Sign::Pcapng => page.tell(CAPTURE, &[]),
-        Sign::Utf16 => page.tell(UTF16, &[]),
-        _ => Ok(()),
+        Sign::Pcap | Sign::Pcapng => page.tell(CAPTURE),
+        Sign::Utf16 => page.tell(UTF16),
+        _ => {}
     }
 }
 
 // The first line isn't `nfp 1`.
-fn bad_version_line(page: &mut Page, policy: PolicyText<'_>) -> Result<(), AllocError> {
-    let name = shown_name(page.alloc, policy.name)?;
+fn bad_version_line(page: &mut Page, policy: PolicyText<'_>) {
     if matches!(sign_of(policy.text), Sign::Utf8) {
-        return page.tell(BYTE_ORDER_MARK, &[Text(&name), Text(&name)]);
+        page.tell(BYTE_ORDER_MARK);
+        page.name(policy.name);
+        page.name(policy.name);
+    } else {
+        no_version_line(page, policy);
     }
-    let rows = rows_of(page.alloc, policy.text)?;
+}
+
+fn no_version_line(page: &mut Page, policy: PolicyText<'_>) {
+    let rows = page.rows(policy.text);
     match rows.first() {
-        Some(row) => quote_row(page, policy, *row, Some(row.column(0)))?,
-        None => page.tell("{} has no line", &[Text(&name)])?,
+        Some(row) => quote_row(page, policy, *row, Some(row.column(0))),
+        None => {
+            page.tell("{} has no line");
+            page.name(policy.name);
+        }
     }
-    page.tell("the first line has to be `nfp 1`", &[])?;
-    say_sign(page, policy)
+    page.tell(VERSION_LINE);
+    say_sign(page, policy);
 }
 
 // A word doesn't fit, or is missing.
-fn syntax(
-    page: &mut Page,
-    policy: PolicyText<'_>,
-    line: u32,
-    column: usize,
-) -> Result<(), AllocError> {
-    let rows = rows_of(page.alloc, policy.text)?;
-    let Some(place) = place_of(&rows, line) else {
-        return Ok(());
-    };
-    let row = rows[place];
+fn syntax(page: &mut Page, policy: PolicyText<'_>, line: u32, column: usize) {
+    let rows = page.rows(policy.text);
+    let place = place_of(&rows, line);
+    let row = row_at(&rows, place);
     let mark = column.saturating_sub(1);
-    quote_row(page, policy, row, Some(mark))?;
+    quote_row(page, policy, row, Some(mark));
     match row.place_at(mark) {
-        Some(0) => return say_first(page, row),
-        Some(word) => say_word(page, row, word)?,
-        None => say_word(page, row, usize::MAX)?,
+        Some(0) => say_first(page, row),
+        Some(word) => {
+            say_word(page, row, word);
+            say_line_forms(page, &rows, place);
+        }
+        None => {
+            say_word(page, row, usize::MAX);
+            say_line_forms(page, &rows, place);
+        }
     }
-    say_line_forms(page, &rows, place)
 }
 
 // The first word of a line doesn't fit.
-fn say_first(page: &mut Page, row: Row<'_>) -> Result<(), AllocError> {
-    let word = shown(page.alloc, row.word(0))?;
-    let text = if row.is_setting() {
+fn say_first(page: &mut Page, row: Row<'_>) {
+    page.tell(place_of_line(row));
+    page.word(row.word(0));
+}
+
+// Where such a line stands, if there is such a line.
+fn place_of_line(row: Row<'_>) -> &'static str {
+    if row.is_setting() {
         IN_FUNCTION
     } else if forms_of_line(row.word(0)).is_empty() {
         NO_LINE
     } else {
         IN_CHAIN
-    };
-    page.tell(text, &[Text(&word)])
+    }
 }
 
 // The forms that the line at a place may have.
-fn say_line_forms(page: &mut Page, rows: &[Row<'_>], place: usize) -> Result<(), AllocError> {
-    let Some(row) = rows.get(place) else {
-        return Ok(());
-    };
-    if row.is_setting()
-        && let Some(kind) = kind_at(rows, place)
-    {
-        return say_kind_forms(page, kind);
+fn say_line_forms(page: &mut Page, rows: &[Row<'_>], place: usize) {
+    let row = row_at(rows, place);
+    match kind_at(rows, place) {
+        Some(kind) if row.is_setting() => say_kind_forms(page, kind),
+        _ => {
+            page.tell("such a line is:");
+            say_forms(page, forms_of_line(row.word(0)), ALL_CLAUSES);
+        }
     }
-    page.tell("such a line is:", &[])?;
-    say_forms(page, forms_of_line(row.word(0)), ALL_CLAUSES)
 }
 
 /// Adds forms, and what the words in capitals stand for.
-pub fn say_forms(page: &mut Page, forms: &str, clauses: &str) -> Result<(), AllocError> {
+pub fn say_forms(page: &mut Page, forms: &'static str, clauses: &str) {
     if !forms.is_empty() {
-        page.tell(forms, &[])?;
+        page.tell(forms);
     }
     if forms.contains("NAME") {
-        page.tell(
-            "a NAME has 1 to 32 characters of a to z, 0 to 9, _ and -, a letter first",
-            &[],
-        )?;
+        page.tell(NAMES);
     }
     if forms.contains("KIND") {
-        say_kinds(page)?;
+        say_kinds(page);
     }
     if forms.contains("CLAUSE") {
-        page.tell(CLAUSES, &[Text(clauses.as_bytes())])?;
+        page.tell(CLAUSES);
+        page.say(clauses);
     }
-    Ok(())
 }
 
 // There is no such kind.
-fn unknown_kind(page: &mut Page, policy: PolicyText<'_>, line: u32) -> Result<(), AllocError> {
-    let rows = rows_of(page.alloc, policy.text)?;
-    let Some(place) = place_of(&rows, line) else {
-        return Ok(());
-    };
-    let row = rows[place];
-    quote_row(page, policy, row, Some(row.column(2)))?;
-    let word = shown(page.alloc, row.word(2))?;
-    page.tell("`{}` is no kind", &[Text(&word)])?;
-    say_kinds(page)
+fn unknown_kind(page: &mut Page, policy: PolicyText<'_>, line: u32) {
+    let row = quote_line(page, policy, line, Some(2));
+    page.tell(UNKNOWN_KIND);
+    page.word(row.word(2));
+    say_kinds(page);
 }
 
-fn say_kinds(page: &mut Page) -> Result<(), AllocError> {
-    let names = kind_names(page.alloc)?;
-    page.tell("the kinds are:{}", &[Text(&names)])
+fn say_kinds(page: &mut Page) {
+    page.tell("the kinds are:{}");
+    for kind in KINDS.iter() {
+        page.push(b' ');
+        page.put(kind.name().as_bytes());
+    }
+    page.go_on();
 }
 
 // A chain or a function before has the same name.
-fn duplicate_name(page: &mut Page, policy: PolicyText<'_>, line: u32) -> Result<(), AllocError> {
-    let rows = rows_of(page.alloc, policy.text)?;
-    let Some(place) = place_of(&rows, line) else {
-        return Ok(());
-    };
-    let row = rows[place];
-    quote_row(page, policy, row, Some(row.column(1)))?;
-    let name = shown(page.alloc, row.word(1))?;
-    page.tell(
-        "the name `{}` is taken already; rename one of the two:",
-        &[Text(&name)],
-    )?;
+fn duplicate_name(page: &mut Page, policy: PolicyText<'_>, line: u32) {
+    let rows = page.rows(policy.text);
+    let place = place_of(&rows, line);
+    let row = row_at(&rows, place);
+    quote_row(page, policy, row, Some(row.column(1)));
+    page.tell(TAKEN);
+    page.word(row.word(1));
     for other in &rows[..place] {
         if other.word(0) == row.word(0) && other.word(1) == row.word(1) {
-            return quote_row(page, policy, *other, Some(other.column(1)));
+            quote_row(page, policy, *other, Some(other.column(1)));
+            return;
         }
     }
-    Ok(())
 }
 
 // A statement names what isn't declared before it in its chain.
-fn unknown_name(page: &mut Page, policy: PolicyText<'_>, line: u32) -> Result<(), AllocError> {
-    let rows = rows_of(page.alloc, policy.text)?;
-    let Some(place) = place_of(&rows, line) else {
-        return Ok(());
+fn unknown_name(page: &mut Page, policy: PolicyText<'_>, line: u32) {
+    let rows = page.rows(policy.text);
+    let place = place_of(&rows, line);
+    let row = row_at(&rows, place);
+    let here = since_chain(&rows[..place]);
+    let at = match declaring(here, row.word(1)) {
+        Some(_) => 3,
+        None => 1,
     };
-    let row = rows[place];
-    let here = since_chain(&rows, place);
-    let at = if declaring(here, row.word(1)).is_some() {
-        3
-    } else {
-        1
-    };
-    quote_row(page, policy, row, Some(row.column(at)))?;
-    let name = shown(page.alloc, row.word(at))?;
-    page.tell(
-        "no line `fn` before it in this chain declares `{}`",
-        &[Text(&name)],
-    )?;
+    quote_row(page, policy, row, Some(row.column(at)));
+    page.tell(UNDECLARED);
+    page.word(row.word(at));
     match declaring(&rows, row.word(at)) {
         Some(other) => {
-            page.tell(
-                "it is declared here, further down or in another chain:",
-                &[],
-            )?;
-            quote_row(page, policy, other, None)
+            page.tell(ELSEWHERE);
+            quote_row(page, policy, other, None);
         }
         None => say_declared(page, here),
     }
 }
 
-// The lines before a place, from the last `chain` on.
-fn since_chain<'r, 'a>(rows: &'r [Row<'a>], place: usize) -> &'r [Row<'a>] {
-    let place = place.min(rows.len());
+// Of these lines those from the last `chain` on.
+fn since_chain<'r, 'a>(rows: &'r [Row<'a>]) -> &'r [Row<'a>] {
     let mut start = 0;
     for (at, row) in rows.iter().enumerate() {
-        if at < place && row.begins_with(b"chain") {
+        if row.begins_with(b"chain") {
             start = at;
         }
     }
-    &rows[start.min(place)..place]
+    &rows[start.min(rows.len())..]
 }
 
 // The first of these lines that declares a function of this name.
@@ -361,13 +350,13 @@ fn declaring<'a>(rows: &[Row<'a>], name: &[u8]) -> Option<Row<'a>> {
 }
 
 // The functions that these lines declare.
-fn say_declared(page: &mut Page, rows: &[Row<'_>]) -> Result<(), AllocError> {
-    let mut names = Vec::new(page.alloc);
+fn say_declared(page: &mut Page, rows: &[Row<'_>]) {
+    page.tell("declared are:{}");
     for row in rows {
         if row.begins_with(b"fn") {
-            names.push(b' ')?;
-            names.extend_from_slice(row.word(1))?;
+            page.push(b' ');
+            page.put(row.word(1));
         }
     }
-    page.tell("declared are:{}", &[Text(&names)])
+    page.go_on();
 }

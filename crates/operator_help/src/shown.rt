@@ -1,7 +1,7 @@
 //! Bytes of a file as a terminal may show them.
 ghost use Rattle.std.specs.Prelude.{◌≤◌, length};
 
-use std::alloc::{AllocError, Global};
+use crate::page::Page;
 
 /// The most bytes of a line that are shown.
 const WIDTH: usize = 100;
@@ -15,85 +15,76 @@ const CUT: &[u8] = b"...";
 /// The digits of hexadecimal numbers.
 const DIGITS: &[u8; 16] = b"0123456789abcdef";
 
-// Adds a line, cut around a place where it is long, and says how many characters stand before that place.
-pub fn push_shown(text: &mut Vec<u8>, line: &[u8], place: usize) -> Result<usize, AllocError> {
+/// Adds a line, cut around a place where it is long, and says how many characters stand before that place.
+pub fn put_shown(page: &mut Page, line: &[u8], place: usize) -> usize {
     let place = place.min(line.len());
     let start = place.saturating_sub(BEFORE);
     let end = line.len().min(start.saturating_add(WIDTH));
-    let mut before = 0;
-    if start > 0 {
-        text.extend_from_slice(CUT)?;
-        before = CUT.len();
-    }
-    for byte in &line[start..place] {
-        before = width(*byte).saturating_add(before);
-    }
-    push_escaped(text, &line[start..end])?;
-    if end < line.len() {
-        text.extend_from_slice(CUT)?;
-    }
-    Ok(before)
+    let cut = cut_where(start > 0);
+    page.put(cut);
+    put_escaped(page, &line[start..end]);
+    page.put(cut_where(end < line.len()));
+    cut.len().saturating_add(width_of(&line[start..place]))
 }
 
-// A short text of bytes, as a name or a word, escaped and cut.
-pub fn shown(alloc: Global, bytes: &[u8]) -> Result<Vec<u8>, AllocError> {
-    let mut text = Vec::new(alloc);
-    push_shown(&mut text, bytes, 0)?;
-    Ok(text)
+fn cut_where(is_cut: bool) -> &'static [u8] {
+    if is_cut { CUT } else { b"" }
 }
 
-// A name of a file, whose letters may be of any alphabet: only what steers a terminal is escaped, the controls of ASCII and those
-// from U+0080 to U+009F, which UTF-8 writes as the byte 0xc2 and one from 0x80 to 0x9f.
-pub fn shown_name(alloc: Global, name: &str) -> Result<Vec<u8>, AllocError> {
-    let mut text = Vec::new(alloc);
+/// Adds the name of a file, whose letters may be of any alphabet: only what steers a terminal is escaped, the controls of ASCII and
+/// those from U+0080 to U+009F, which UTF-8 writes as the byte 0xc2 and one from 0x80 to 0x9f.
+pub fn put_name(page: &mut Page, name: &str) {
     let bytes = name.as_bytes();
     let mut before = 0;
     for (place, byte) in bytes.iter().enumerate() {
-        let steers = *byte < b' '
-            || *byte == 0x7f
-            || (before == 0xc2 && *byte < 0xa0)
-            || (*byte == 0xc2 && is_control_behind(bytes, place));
-        if steers {
-            push_byte(&mut text, *byte)?;
+        let begins_control = *byte == 0xc2 && behind(bytes, place) < 0xa0;
+        let ends_control = before == 0xc2 && *byte < 0xa0;
+        if begins_control || ends_control || *byte < b' ' || *byte == 0x7f {
+            put_byte(page, *byte);
         } else {
-            text.push(*byte)?;
+            page.push(*byte);
         }
         before = *byte;
     }
-    Ok(text)
 }
 
-// Is the byte behind this place the second of a control?
-fn is_control_behind(bytes: &[u8], place: usize) -> bool {
+// The byte behind this place, or the greatest one.
+fn behind(bytes: &[u8], place: usize) -> u8 {
     match bytes.get(place.saturating_add(1)) {
-        Some(next) => *next < 0xa0,
-        None => false,
+        Some(byte) => *byte,
+        None => u8::MAX,
     }
 }
 
-fn push_escaped(text: &mut Vec<u8>, bytes: &[u8]) -> Result<(), AllocError> {
+fn put_escaped(page: &mut Page, bytes: &[u8]) {
     for byte in bytes {
-        push_byte(text, *byte)?;
+        put_byte(page, *byte);
     }
-    Ok(())
 }
 
 // A printable character as it is, a tab as a blank, and any other byte by its number.
-fn push_byte(text: &mut Vec<u8>, byte: u8) -> Result<(), AllocError> {
+fn put_byte(page: &mut Page, byte: u8) {
     if is_printable(byte) {
-        text.push(byte)?;
+        page.push(byte);
     } else if byte == b'\t' {
-        text.push(b' ')?;
+        page.push(b' ');
     } else {
-        text.extend_from_slice(b"\\x")?;
-        text.push(DIGITS[usize::from(byte / 16)])?;
-        text.push(DIGITS[usize::from(byte % 16)])?;
+        page.put(b"\\x");
+        page.push(DIGITS[usize::from(byte / 16)]);
+        page.push(DIGITS[usize::from(byte % 16)]);
     }
-    Ok(())
 }
 
-// How many characters a byte is shown by.
-fn width(byte: u8) -> usize {
+// How many characters bytes are shown by.
+fn width_of(bytes: &[u8]) -> usize {
+    let mut width = 0usize;
+    for byte in bytes {
+        width = width.saturating_add(width_of_byte(*byte));
+    }
+    width
+}
+
+fn width_of_byte(byte: u8) -> usize {
     if is_printable(byte) || byte == b'\t' {
         1
     } else {

@@ -2,54 +2,54 @@
 
 use crate::page::Page;
 use crate::release::VERSION;
-use crate::shown::shown;
-use std::alloc::AllocError;
-use text_lines::Piece::{Number, Text};
 
 const FORMS: &str =
-    "the words are one of:\n  nfp run POLICY CAPTURE OUT REPORT [--mergers N] [--burst N] [--merge WAY]\n  nfp plan POLICY\n  nfp demo SEED COUNT [--mergers N] [--burst N] [--merge WAY]\n  nfp flows CAPTURE OUT [--workers N] [--burst N]\nPOLICY and CAPTURE are read, OUT and REPORT are written anew; behind `--` each word is a name\nmergers and workers are 1 to 16 (2 where it isn't said), a burst has 1 to 65536 packets (1024), WAY is inbox or board (inbox)";
+    "the words are one of:\n  nfp run POLICY CAPTURE OUT REPORT [--mergers N] [--burst N] [--merge WAY]\n  nfp plan POLICY\n  nfp demo SEED COUNT [--mergers N] [--burst N] [--merge WAY]\n  nfp flows CAPTURE OUT [--workers N] [--burst N]\nPOLICY and CAPTURE are read, OUT and REPORT are written anew; behind `--` each word is a name\nOUT of flows has packets of NetFlow version 5, and its CAPTURE is in the classic format pcap\nmergers and workers are 1 to 16 (2 where it isn't said), a burst has 1 to 65536 packets (1024), WAY is inbox or board (inbox)";
 
 const SAME_NAME: &str =
     "two of the files have the same name, and one would be written over the other";
 
 /// The forms of the commands.
-pub fn forms(page: &mut Page) -> Result<(), AllocError> {
-    page.tell(FORMS, &[])
+pub fn forms(page: &mut Page) {
+    page.tell(FORMS);
 }
 
 /// The first word is no command. It may ask for the version, or for the forms.
-pub fn no_command(page: &mut Page, word: &str) -> Result<(), AllocError> {
+pub fn no_command(page: &mut Page, word: &str) {
     match word {
-        "--version" | "-V" | "version" => page.tell("version {}", &[Text(VERSION.as_bytes())]),
-        "--help" | "-h" | "help" => Ok(()),
-        _ => unknown(page, word),
+        "--version" | "-V" | "version" => {
+            page.tell("version {}");
+            page.say(VERSION);
+        }
+        "--help" | "-h" | "help" => {}
+        _ => {
+            page.tell("`{}` is no command");
+            page.word(word.as_bytes());
+        }
     }
 }
 
-fn unknown(page: &mut Page, word: &str) -> Result<(), AllocError> {
-    let word = shown(page.alloc, word.as_bytes())?;
-    page.tell("`{}` is no command", &[Text(&word)])
-}
-
 /// A number has to lie in this range.
-pub fn out_of_range(page: &mut Page, what: &str, least: u64, most: u64) -> Result<(), AllocError> {
-    let pieces = [Text(what.as_bytes()), Number(least), Number(most)];
-    page.tell("{} is a number from {} to {}", &pieces)
+pub fn out_of_range(page: &mut Page, what: &str, least: u64, most: u64) {
+    page.tell("{} is a number from {} to {}");
+    page.say(what);
+    page.number(least);
+    page.number(most);
 }
 
 /// The way of merging is none.
-pub fn no_way(page: &mut Page) -> Result<(), AllocError> {
-    page.tell("the value of --merge is one of inbox and board", &[])
+pub fn no_way(page: &mut Page) {
+    page.tell("the value of --merge is one of inbox and board");
 }
 
 /// Two of the names are equal.
-pub fn same_name(page: &mut Page) -> Result<(), AllocError> {
-    page.tell(SAME_NAME, &[])
+pub fn same_name(page: &mut Page) {
+    page.tell(SAME_NAME);
 }
 
 /// The word at a place, counted from 1, isn't UTF-8.
-pub fn not_utf8(page: &mut Page, place: u64, word: &[u8]) -> Result<(), AllocError> {
-    let word = shown(page.alloc, word)?;
-    let pieces = [Number(place), Text(&word)];
-    page.tell("word {} isn't UTF-8: `{}`; rename the file", &pieces)
+pub fn not_utf8(page: &mut Page, place: u64, word: &[u8]) {
+    page.tell("word {} isn't UTF-8: `{}`; rename the file");
+    page.number(place);
+    page.word(word);
 }
