@@ -74,7 +74,7 @@ def files_of(folder, policy, capture):
 def picture_of(policy):
     """The picture of a policy's plan, or nothing where it is refused."""
     plan, status = policy_rules.plan(policy)
-    return None if status else plan_picture.svg_of(plan).encode('utf-8')
+    return None if status else plan_picture.svg_of(plan, policy=policy).encode('utf-8')
 
 
 def all_files():
