@@ -5,32 +5,25 @@ use Rattle.std.proofs.lemmas.Bool.{and_from, cases_eq, cond-true, cond-false, le
 use Rattle.std.proofs.lemmas.List.{take_rest}
 use Rattle.capture_bytes.specs.declared.packet.PcapRecord.{PcapRecord}
 use Rattle.packet_fields.specs.Checksums.{HasRightSums, IsRight, folded, header_of, pseudo_header as pseudo_header_in, segment_of, words}
+use Rattle.packet_fields.proofs.Rightness.{sum-append}
 use Rattle.packet_fields.specs.Frames.{packet, tags_len, word}
 use Rattle.packet_fields.specs.Packets.{by_version, checksum_at, datagram_end, datagram_len, has_transport, header_byte, header_sum_at, header_word, in_header, is_ipv4, is_ipv6, is_udp, segment_at, segment_sum_at}
+use Rattle.internet_checksum.specs.Checksums.{checksum_of}
+use Rattle.internet_checksum.proofs.Complements.{complement_right, folded_some}
 use Rattle.demo_capture.specs.declared.draws.Draws.{Draws}
 use Rattle.demo_capture.specs.Draws.{destination_port_of, draws_after, is_tcp, number_after, payload_len, payload_of, protocol_of, source_port_of}
-use Rattle.demo_capture.specs.DemoFrames.{checksum_of, frame_of, frame_with, ip_header, ip_header_with, pseudo_header, segment_checksum, segment_len, segment_with, tcp_header, udp_header}
+use Rattle.demo_capture.specs.DemoFrames.{frame_of, frame_with, ip_header, ip_header_with, pseudo_header, segment_checksum, segment_len, segment_with, tcp_header, udp_header}
 use Rattle.demo_capture.specs.DemoCapture.{demo_records, record_of, records_from}
 use Rattle.demo_capture.specs.Written.{WritesSums}
 use Rattle.demo_capture.proofs.Ipv4Packets.{alone_false, transport_there}
 use Rattle.demo_capture.proofs.Lengths.{length_frame, length_segment, length_segment_with}
-use Rattle.demo_capture.proofs.Sums.{sum-append, sum_pseudo}
+use Rattle.demo_capture.proofs.Sums.{sum_pseudo}
 
--- a sum and its complement
-
-folded_some : (n : ℕ) → 0 < n → folded n ≡ (n - 1) % 0xffff + 1
-folded_some n some = cond-false (n == 0) 0 ((n - 1) % 0xffff + 1) (ne_eqb n 0 (λ e. omega arith))
-
-complement_core : (s f c total : ℕ) → 0 < s → f ≡ (s - 1) % 0xffff + 1 → c ≡ 0xffff - f → total ≡ s + c → (total - 1) % 0xffff + 1 ≡ 0xffff
-complement_core s f c total some is_f is_c is_total = omega arith
+-- a sum and its complement, of which 0 is written as ones
 
 ones_core : (s f total : ℕ) → 0 < s → f ≡ (s - 1) % 0xffff + 1 → 0xffff - f ≡ 0 → total ≡ s + 0xffff → (total - 1) % 0xffff + 1 ≡ 0xffff
 ones_core s f total some is_f none is_total = omega arith
 
-complement_right : (s c total : ℕ) → 0 < s → c ≡ 0xffff - folded s → total ≡ s + c → folded total ≡ 0xffff
-complement_right s c total some is_c is_total = folded_some total (omega arith) ∙ complement_core s (folded s) c total some (folded_some s some) is_c is_total
-
--- the same where a checksum of 0 is written as ones
 written_right : (b : Bool) (s c total : ℕ) → 0 < s → c ≡ 0xffff - folded s → total ≡ s + (if b then c else (if c == 0 then 0xffff else c)) → folded total ≡ 0xffff
 written_right true s c total some is_c is_total = complement_right s c total some is_c is_total
 written_right false s c total some is_c is_total =

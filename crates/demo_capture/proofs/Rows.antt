@@ -5,9 +5,10 @@ use Rattle.std.specs.Fmt.{digits}
 use Rattle.pcap_io.specs.Written.{head_bytes}
 use Rattle.capture_bytes.specs.declared.packet.PcapRecord.{PcapRecord}
 use Rattle.packet_fields.specs.Checksums.{words}
+use Rattle.internet_checksum.specs.Checksums.{checksum_of}
 use Rattle.demo_capture.specs.declared.draws.Draws.{Draws}
 use Rattle.demo_capture.specs.Draws.{draws_after, letters, next_number}
-use Rattle.demo_capture.specs.DemoFrames.{checksum_of, frame_of, frame_with, ip_header, segment_checksum, segment_with}
+use Rattle.demo_capture.specs.DemoFrames.{frame_of, frame_with, ip_header, segment_checksum, segment_with}
 use Rattle.demo_capture.specs.DemoCapture.{demo_head, demo_records, policy_lines, policy_text, record_of, records_from}
 use Rattle.demo_capture.specs.Summary.{demo_line, records_line, summary_text, weighed_line}
 

@@ -1,13 +1,10 @@
 -- Believed: the frame of a record of the demo: Ethernet (IEEE 802.3, 3.1.1), IPv4 (RFC 791, 3.1), and TCP (RFC 793, 3.1) or UDP (RFC 768),
 -- with right checksums (RFC 1071).
-use Rattle.std.specs.Prelude.{ℕ, ◌+◌, ◌-◌, List, [], ◌∷◌, ◌++◌, length, sum, if◌then◌else◌, ◌==◌}
-use Rattle.packet_fields.specs.Checksums.{words, word_bytes, folded}
+use Rattle.std.specs.Prelude.{ℕ, ◌+◌, List, [], ◌∷◌, ◌++◌, length, if◌then◌else◌, ◌==◌}
+use Rattle.packet_fields.specs.Checksums.{word_bytes}
+use Rattle.internet_checksum.specs.Checksums.{checksum_of}
 use Rattle.demo_capture.specs.declared.draws.Draws.{Draws}
 use Rattle.demo_capture.specs.Draws.{source_of, destination_of, source_port_of, destination_port_of, is_tcp, protocol_of, payload_of}
-
--- the checksum of bytes in which its own are 0: the complement of their sum in one's complement (RFC 1071, 1)
-unfoldable pub checksum_of : List ℕ → ℕ
-checksum_of bytes = 0xffff - folded (sum (words bytes))
 
 -- from 02:00:00:00:00:01 to 02:00:00:00:00:02, with EtherType 0x0800
 abbrev pub link_header : List ℕ

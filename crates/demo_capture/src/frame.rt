@@ -3,8 +3,8 @@ ghost use Rattle.std.specs.Prelude.{◌≡◌, ◌≤◌, ◌+◌, ◌-◌, ◌/
 ghost use Rattle.demo_capture.specs.Draws.{is_tcp, letters, payload_len, payload_of};
 ghost use Rattle.demo_capture.specs.DemoFrames.{ip_header_with as ip_header_with_of, ip_header as ip_header_of, tcp_header as tcp_header_of, udp_header as udp_header_of, pseudo_header as pseudo_header_of, segment_with, segment_len as segment_len_of, segment_checksum as segment_checksum_of, written_checksum as written_checksum_of, frame_with, frame_of};
 
-use crate::checksum::{complement, sum_words};
 use crate::draws::Draws;
+use internet_checksum::{checksum, complement, sum_words};
 use packet_fields::Frame;
 use std::alloc::{AllocError, Global};
 
@@ -39,12 +39,11 @@ fn blank_frame(alloc: Global, draws: Draws) -> Result<Vec<u8>, AllocError>
 }
 
 // The IPv4 header.
-#[tactic(auto, unfolding(crate::specs::DemoFrames::ip_header, crate::specs::DemoFrames::checksum_of))]
+#[tactic(auto, unfolding(crate::specs::DemoFrames::ip_header))]
 fn ip_header(draws: Draws) -> [u8; 20]
     ensures { result ≡ ip_header_of draws }
 {
-    let checksum = complement(sum_words(&ip_header_with(draws, 0)));
-    ip_header_with(draws, checksum)
+    ip_header_with(draws, checksum(&ip_header_with(draws, 0)))
 }
 
 // The IPv4 header with this checksum.

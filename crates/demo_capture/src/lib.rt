@@ -12,7 +12,6 @@
 //! Left out: what the policy makes of the capture, and the weight of a text, whose number the summary takes.
 #![tactic(auto)]
 
-mod checksum;
 mod draws;
 mod frame;
 mod laws;

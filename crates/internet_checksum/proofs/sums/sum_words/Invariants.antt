@@ -1,6 +1,6 @@
 use Rattle.std.proofs.Common.{length}
-use Rattle.demo_capture.proofs.Sums.{IsAtSum}
-use Rattle.demo_capture.proofs.checksum.sum_words.Given as goal
+use Rattle.internet_checksum.proofs.Summing.{IsAtSum}
+use Rattle.internet_checksum.proofs.sums.sum_words.Given as goal
 
 abbrev pub invariant-words : goal.invariant-words
 invariant-words l = IsAtSum l.sum l.bytes l.rest

@@ -1,13 +1,13 @@
 use Rattle.std.proofs.Common.{◌+◌, ◌*◌, ℕ, ap, arith}
 use Rattle.std.proofs.lemmas.List.{take_rest}
-use Rattle.demo_capture.proofs.Sums.{at_sum_more, at_sum_none, at_sum_one}
-use Rattle.demo_capture.proofs.checksum.sum_words.Goals as goal
+use Rattle.internet_checksum.proofs.Summing.{at_sum_more, at_sum_none, at_sum_one}
+use Rattle.internet_checksum.proofs.sums.sum_words.Goals as goal
 
 pub words-preserved : goal.words-preserved
 words-preserved c =
     rw (take_rest c.words.rest.now 2)
-    (at_sum_more c.words.sum (c.words.sum + c.from-sum.result) c.first_word.result c.args.bytes.now c.words.rest.now c.words.invariant c.words-test.true (ap (λ (n : ℕ). c.words.sum + n) c.from-sum.ensures)
-    c.first_word.ensures.value c.first_word.ensures.bound)
+    (at_sum_more c.words.sum (c.words.sum + c.from-sum.result) c.word.result c.args.bytes.now c.words.rest.now c.words.invariant c.words-test.true (ap (λ (n : ℕ). c.words.sum + n) c.from-sum.ensures)
+    c.word.ensures (omega arith))
 
 pub returns-then-rest-eq1-clause-value : goal.returns-then-rest-eq1-clause-value
 returns-then-rest-eq1-clause-value c =

@@ -1,6 +1,18 @@
 //! The checksum of bytes (RFC 1071).
-ghost use Rattle.std.specs.Prelude.{◌≡◌, ◌≤◌, ◌<◌, ◌+◌, ◌-◌, ◌*◌, ◌^◌, length, slice_index, sum};
+ghost use Rattle.std.specs.Prelude.{◌≡◌, ◌<◌, ◌-◌, ◌^◌, length, sum};
 ghost use Rattle.packet_fields.specs.Checksums.{words, folded};
+ghost use Rattle.internet_checksum.specs.Checksums.{checksum_of};
+
+use crate::words::word;
+
+/// The checksum of bytes in which their own is 0.
+#[tactic(auto, unfolding(crate::specs::Checksums::checksum_of))]
+pub fn checksum(bytes: &[u8]) -> u16
+    requires { length bytes.now < 2 ^ 32 }
+    ensures { result ≡ checksum_of bytes.now }
+{
+    complement(sum_words(bytes))
+}
 
 /// The sum of bytes as words of 16 bits, the high byte first; a last odd byte is the high byte of a word.
 pub fn sum_words(bytes: &[u8]) -> u64
@@ -11,22 +23,13 @@ pub fn sum_words(bytes: &[u8]) -> u64
     let mut sum = 0;
     let mut rest = bytes;
     'words: while rest.len() >= 2 {
-        sum += u64::from(first_word(rest));
+        sum += u64::from(word(rest, 0));
         rest = &rest[2..];
     }
     if rest.len() == 1 {
         return sum + u64::from(rest[0]) * 256;
     }
     sum
-}
-
-// The word at the front.
-fn first_word(bytes: &[u8]) -> u16
-    requires { 2 ≤ length bytes.now }
-    ensures value { result ≡ slice_index bytes.now 0 * 256 + slice_index bytes.now 1 }
-    ensures bound { result < 65536 }
-{
-    u16::from(bytes[0]) * 256 + u16::from(bytes[1])
 }
 
 /// The complement of a sum in one's complement.

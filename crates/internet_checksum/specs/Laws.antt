@@ -1,0 +1,14 @@
+-- For proofs: what a checksum is worth.
+use Rattle.std.specs.Prelude.{◌≡◌, ◌<◌, ℕ, ◌%◌, List, ◌++◌, length, sum}
+use Rattle.packet_fields.specs.Checksums.{words, word_bytes, IsRight}
+use Rattle.internet_checksum.specs.Checksums.{checksum_of}
+
+-- bytes whose checksum stands between others, of which there is an even number before it
+abbrev pub with_checksum : List ℕ → ℕ → List ℕ → List ℕ
+with_checksum before checksum behind = before ++ (word_bytes checksum ++ behind)
+
+-- with their own checksum they are right, unless all of them are 0
+abbrev pub ChecksumsAreRight : Type 0
+ChecksumsAreRight =
+    (before behind : List ℕ) → length before % 2 ≡ 0 → 0 < sum (words (with_checksum before 0 behind))
+    → IsRight (words (with_checksum before (checksum_of (with_checksum before 0 behind)) behind))

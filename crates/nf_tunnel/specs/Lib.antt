@@ -1,0 +1,3 @@
+pub mod OuterHeaders
+pub mod Tunnels
+pub mod Headers
