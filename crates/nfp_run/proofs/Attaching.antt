@@ -7,7 +7,6 @@ use Rattle.nfp_outside.specs.Outside.{SlotView}
 use Rattle.pcap_io.specs.declared.capture.CaptureFault.{CaptureFault}
 use Rattle.pcap_io.specs.declared.capture.CaptureFault.TheVariants.{BadMagic, BadVersion, BadLink, CutHead, CutRecord, FrameTooLong, TooManyRecords}
 use Rattle.pcapng_io.specs.Blocks.{is_of_first_block}
-use Rattle.pcapng_io.specs.declared.fault.NgFault.{NgFault}
 use Rattle.capture_report.specs.declared.ended.Ended.{Ended}
 use Rattle.capture_report.specs.declared.ended.Totals.{Totals}
 use Rattle.capture_report.specs.declared.fault.FormatFault.{FormatFault}

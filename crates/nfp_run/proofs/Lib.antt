@@ -1,20 +1,21 @@
-mod NgRows
-mod Rows
 pub mod Attaching
 pub mod CallAnswers
 pub mod CallCauses
 pub mod DemoRows
 pub mod DemoRuns
 pub mod EndedRuns
+pub mod FlowRuns
 pub mod Formats
 pub mod GoodCalls
 pub mod GrownHeads
 pub mod HeldBytes
+mod NgRows
 pub mod NotedLines
 pub mod Opening
 pub mod OtherSlots
 pub mod PolicyEnds
 pub mod PutInSteps
+mod Rows
 pub mod ShownPlans
 pub mod UnreadWords
 pub mod WrittenSlots

@@ -1,5 +1,5 @@
 -- Rows of the result that are computed: pcapng captures.
-use Rattle.std.specs.Prelude.{◌≡◌, ℕ, List, [], ◌∷◌, ◌++◌, refl, take, Some, Result, codes}
+use Rattle.std.specs.Prelude.{◌≡◌, ℕ, List, [], ◌∷◌, ◌++◌, refl, take, Result, codes}
 use Rattle.std.specs.Fmt.{digits}
 use Rattle.pcapng_io.specs.declared.fault.NgFault.TheVariants.{CutBlock}
 use Rattle.pcapng_io.specs.Blocks.{blocks_of}
@@ -25,6 +25,7 @@ use Rattle.nf_filter.specs.Firewalls.{passes}
 use Rattle.nf_filter.specs.Lines.{line_of}
 use Rattle.chain_walk.specs.Walk.{walk}
 use Rattle.nfp_run.specs.declared.outcome.Outcome.TheVariants.{Done, CaptureNg}
+use Rattle.nfp_run.specs.Written.{both}
 use Rattle.nfp_run.specs.Due.{due_of_run, nothing_but}
 use Rattle.service_walk.specs.Service.{fates_among, chains_after}
 use Rattle.burst_walk.specs.Fates.{fates_of, chains_behind}
@@ -60,7 +61,7 @@ deny = codes "nfp 1\nchain main\nfn fw firewall\nrule deny src 10.0.0.9\n"
 -- what passes goes out as it came
 passed : due_of_run (worth deny) (section ++ (interface 255 ++ block 207 1)) ≡ record {
   outcome = Done;
-  written = Some (record {
+  written = both (record {
     out = section ++ (interface 255 ++ block 207 1);
     report = codes "nfp report 1\nrecords 1 emitted 1 dropped 0\nfunction main fw firewall\nend\n";
   });
@@ -72,7 +73,7 @@ passed = refl
 -- of a packet that is dropped nothing goes out
 dropped : due_of_run (worth deny) (section ++ (interface 255 ++ block 199 9)) ≡ record {
   outcome = Done;
-  written = Some (record {
+  written = both (record {
     out = section ++ interface 255;
     report = codes "nfp report 1\ndrop 1 main fw\nrecords 1 emitted 0 dropped 1\nfunction main fw firewall\nend\n";
   });
@@ -84,7 +85,7 @@ dropped = refl
 -- cut inside the packet's block: the two blocks before it stand
 cut : due_of_run (worth deny) (take 100 (section ++ (interface 255 ++ block 207 1))) ≡ record {
   outcome = CaptureNg (CutBlock 3);
-  written = Some (record {
+  written = both (record {
     out = section ++ interface 255;
     report = codes "nfp report 1\nrecords 0 emitted 0 dropped 0\nfunction main fw firewall\nfault capture: cut block 3\n";
   });

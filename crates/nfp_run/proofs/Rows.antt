@@ -1,5 +1,5 @@
 -- Worked rows, computed by the definitions.
-use Rattle.std.specs.Prelude.{◌≡◌, ◌==◌, ℕ, List, [], ◌∷◌, ◌++◌, refl, take, slice_index, Some, Result, Ok, Err, codes}
+use Rattle.std.specs.Prelude.{◌≡◌, ◌==◌, ℕ, List, [], ◌∷◌, ◌++◌, refl, take, slice_index, Result, Ok, Err, codes}
 use Rattle.std.specs.List.{slice_split}
 use Rattle.std.specs.Fmt.{digits}
 use Rattle.std.specs.Net.Addr.{ipv4_bits}
@@ -41,6 +41,7 @@ use Rattle.chain_walk.specs.Walk.{walk}
 use Rattle.command_words.specs.declared.usage.UsageFault.TheVariants.{Merge}
 use Rattle.command_words.specs.Given.{given_by}
 use Rattle.nfp_run.specs.declared.outcome.Outcome.TheVariants.{Done, Usage, Policy, Capture}
+use Rattle.nfp_run.specs.Written.{both}
 use Rattle.nfp_run.specs.Due.{Due, due, due_of_plan, due_of_run, nothing_but}
 use Rattle.service_walk.specs.Service.{fates_among, chains_after}
 use Rattle.burst_walk.specs.Fates.{fates_of, chains_behind}
@@ -82,7 +83,7 @@ deny = codes "nfp 1\nchain main\nfn fw firewall\nrule deny src 10.0.0.9\n"
 -- the second packet is dropped
 deny_written : due_of_run (worth deny) capture ≡ record {
   outcome = Done;
-  written = Some (record {
+  written = both (record {
     out = head ++ (first ++ first);
     report = codes "nfp report 1\ndrop 2 main fw\nrecords 3 emitted 2 dropped 1\nfunction main fw firewall\nend\n";
   });
@@ -97,7 +98,7 @@ two = codes "nfp 1\nchain main\nfn a firewall\nrule deny src 10.0.0.9\nfn b fire
 
 two_written : due_of_run (worth two) capture ≡ record {
   outcome = Done;
-  written = Some (record {
+  written = both (record {
     out = head;
     report = codes "nfp report 1\ndrop 1 main b\ndrop 2 main a\ndrop 3 main b\nrecords 3 emitted 0 dropped 3\nfunction main a firewall\nfunction main b firewall\nend\n";
   });
@@ -109,7 +110,7 @@ two_written = refl
 -- cut inside the third record: the two before it are done, and the report ends with the fault
 cut_written : due_of_run (worth deny) (head ++ (first ++ (ninth ++ take 30 first))) ≡ record {
   outcome = Capture (CutRecord 3);
-  written = Some (record {
+  written = both (record {
     out = head ++ first;
     report = codes "nfp report 1\ndrop 2 main fw\nrecords 2 emitted 1 dropped 1\nfunction main fw firewall\nfault capture: cut record 3\n";
   });
@@ -124,7 +125,7 @@ beside = codes "nfp 1\nchain main\nfn f1 firewall\nrule deny src 10.0.0.9\nfn f2
 
 beside_written : due_of_run (worth beside) capture ≡ record {
   outcome = Done;
-  written = Some (record {
+  written = both (record {
     out = head;
     report = codes "nfp report 1\ndrop 1 main f2\ndrop 2 main f1\ndrop 3 main f2\nrecords 3 emitted 0 dropped 3\nfunction main f1 firewall\nfunction main f2 firewall\nend\n";
   });
@@ -139,7 +140,7 @@ counting = codes "nfp 1\nchain main\nfn mon monitor\nfn fw firewall\nrule deny s
 
 counting_written : due_of_run (worth counting) capture ≡ record {
   outcome = Done;
-  written = Some (record {
+  written = both (record {
     out = head ++ (first ++ first);
     report = codes "nfp report 1\ndrop 2 main fw\nrecords 3 emitted 2 dropped 1\nfunction main mon monitor\n  flow 17 10.0.0.1 1000 10.0.0.2 53 packets 2 bytes 56\n  flow 17 10.0.0.9 1000 10.0.0.2 53 packets 1 bytes 28\nfunction main fw firewall\nend\n";
   });
@@ -154,7 +155,7 @@ overlapping = codes "nfp 1\nchain ninth match src 10.0.0.9\nfn n firewall\nset d
 
 overlapping_written : due_of_run (worth overlapping) capture ≡ record {
   outcome = Done;
-  written = Some (record {
+  written = both (record {
     out = head;
     report = codes "nfp report 1\ndrop 1 all a\ndrop 2 ninth n\ndrop 3 all a\nrecords 3 emitted 0 dropped 3\nfunction ninth n firewall\nfunction all a firewall\nend\n";
   });
@@ -173,7 +174,7 @@ untaken = codes "nfp 1\nchain one match src 10.0.0.1\nfn fw firewall\nset defaul
 
 untaken_written : due_of_run (worth untaken) (head ++ (first ++ (other ++ ninth))) ≡ record {
   outcome = Done;
-  written = Some (record {
+  written = both (record {
     out = head ++ (other ++ ninth);
     report = codes "nfp report 1\ndrop 1 one fw\nrecords 3 emitted 2 dropped 1\nfunction one fw firewall\nend\n";
   });
@@ -185,7 +186,7 @@ untaken_written = refl
 -- a chain without functions lets its packets pass
 idle_written : due_of_run (worth (codes "nfp 1\nchain idle match src 10.0.0.9\n")) capture ≡ record {
   outcome = Done;
-  written = Some (record { out = capture; report = codes "nfp report 1\nrecords 3 emitted 3 dropped 0\nend\n" });
+  written = both (record { out = capture; report = codes "nfp report 1\nrecords 3 emitted 3 dropped 0\nend\n" });
   note = codes "done records 3 emitted 3 dropped 0\n";
 }
 unfolding worth policy_of_utf8 after_line orders_from answer_of edges_of taken stuck named_cycle from_earliest cycle_back first_refusal head first ninth capture body_of head_bytes record_head tags_len is_ipv4 is_ipv6 walk fates_among chains_after fates_of chains_behind emitted_all out_bytes report_bytes drop_text drop_lines total_line last_line summary done_text digits words is_changed change_sum has_same_places has_transport passes line_of function_text chain_lines copies_due copies_lines copies_made written_in graph_of placed holds_back is_forbidden branch_reads branch_writes touch_of stage_parts mode_of copies pair_of first_forbidden pairs actions all_actions is_copied copied
@@ -194,7 +195,7 @@ idle_written = refl
 -- without chains every packet passes, and the report has the totals and the end alone
 no_chains_written : due_of_run (worth (codes "nfp 1\n")) capture ≡ record {
   outcome = Done;
-  written = Some (record { out = capture; report = codes "nfp report 1\nrecords 3 emitted 3 dropped 0\nend\n" });
+  written = both (record { out = capture; report = codes "nfp report 1\nrecords 3 emitted 3 dropped 0\nend\n" });
   note = codes "done records 3 emitted 3 dropped 0\n";
 }
 unfolding worth policy_of_utf8 after_line orders_from answer_of edges_of taken stuck named_cycle from_earliest cycle_back first_refusal head first ninth capture body_of head_bytes record_head tags_len is_ipv4 is_ipv6 walk fates_among chains_after fates_of chains_behind emitted_all out_bytes report_bytes drop_text drop_lines total_line last_line summary done_text digits words is_changed change_sum has_same_places has_transport passes line_of function_text chain_lines copies_due copies_lines copies_made written_in graph_of placed holds_back is_forbidden branch_reads branch_writes touch_of stage_parts mode_of copies pair_of first_forbidden pairs actions all_actions is_copied copied

@@ -9,6 +9,7 @@ use Rattle.pcap_io.specs.Reader.{ReaderState, body_left, reader_at}
 use Rattle.pcap_io.specs.declared.capture.CaptureFault.{CaptureFault}
 use Rattle.pcap_io.specs.declared.capture.CaptureHead.{CaptureHead}
 use Rattle.capture_run.specs.declared.fault.RunFault.{RunFault}
+use Rattle.capture_run.specs.declared.fault.RunFault.TheVariants as faults
 use Rattle.flow_line.specs.declared.line.FlowLine.{FlowLine}
 use Rattle.flow_run.specs.FlowsOut.{flow_lines}
 use Rattle.nfp_run.specs.Answers.{Leaves, LeavesPrefixes}
@@ -28,6 +29,13 @@ flows_ending records lines (Some fault) = Stopped (Capture fault)
 abbrev pub FlowsEnd : TimeUnit → Body → (Slot → SlotView) → (Slot → SlotView) → Result Ending RunFault → Type 0
 FlowsEnd unit body old new (Ok ending) = Leaves (due_of_body unit body).written old new × (ending ≡ flows_ending (length body.records) (flow_lines unit body.records) body.fault)
 FlowsEnd unit body old new (Err fault) = LeavesPrefixes (due_of_body unit body).written old new
+
+-- why it was broken off: a count rose of the slots that it has to do with, or memory ran out
+abbrev pub FlowsBroken : (Slot → SlotView) → (Slot → SlotView) → RunFault → Type 0
+FlowsBroken old new faults.ReadFault = IsRisen (old slots.Capture).faults (new slots.Capture).faults
+FlowsBroken old new (faults.WriteFault slots.Out) = IsRisen (old slots.Out).faults (new slots.Out).faults
+FlowsBroken old new (faults.WriteFault slot) = ⊥
+FlowsBroken old new faults.OutOfMemory = Unit {0}
 
 -- it ends with its line or with a fault behind the head, also where the desk doesn't tell the capture
 abbrev pub FlowsEndTold : Ending → Type 0

@@ -4,9 +4,8 @@ ghost use Rattle.nfp_outside.specs.declared.slot.Slot.{Slot};
 ghost use Rattle.pcap_io.specs.Reader.{body_left, reader_at};
 ghost use Rattle.command_words.specs.Named.{IsFlowRange, files_seen};
 ghost use Rattle.command_words.specs.Words.{Flows};
-ghost use Rattle.capture_run.specs.Slots.{IsBroken, fault_seen};
 ghost use Rattle.flow_export.specs.Exports.{exported, packet_count};
-ghost use Rattle.nfp_run.specs.FlowsRan.{FlowsEnd, FlowsEndTold};
+ghost use Rattle.nfp_run.specs.FlowsRan.{FlowsBroken, FlowsEnd, FlowsEndTold};
 ghost use Rattle.nfp_run.specs.Notes.{flows_text};
 ghost use Rattle.nfp_run.specs.Ran.{Ran};
 
@@ -62,34 +61,81 @@ fn count_and_export<R: Threads + Sync, D: Desk>(
     requires ranges { IsFlowRange options }
     requires capture { IsSome (D.slots desk.old Slot.Capture).name }
     requires out_free { (D.slots desk.old Slot.Out).name ≡ None }
+    requires report_free { (D.slots desk.old Slot.Report).name ≡ None }
     requires fresh { reader ≡ reader_at head.now.order 0 }
     ensures left { IfSome (body_left reader (D.slots desk.old Slot.Capture)) (λ body. FlowsEnd head.now.unit body (D.slots desk.old) (D.slots desk.new) result) }
     ensures told { IfOk result FlowsEndTold }
     ensures attached { IfOk result (λ ending. IsSome (D.slots desk.new Slot.Out).name) }
-    ensures cause { IfErr result (IsBroken (D.slots desk.old) (D.slots desk.new)) }
+    ensures cause { IfErr result (FlowsBroken (D.slots desk.old) (D.slots desk.new)) }
     ensures out_name { ((D.slots desk.new Slot.Out).name ≡ None) ⊎ ((D.slots desk.new Slot.Out).name ≡ Some out.now) }
     ensures capture_name { (D.slots desk.new Slot.Capture).name ≡ (D.slots desk.old Slot.Capture).name }
     ensures others { (s : Slot) → s ≢ Slot.Out → s ≢ Slot.Capture → D.slots desk.new s ≡ D.slots desk.old s }
 {
     attach_sink(desk, Slot::Out, out)?;
-    let counted = match count_flows(
-        rt,
-        alloc,
-        desk,
-        head,
-        reader,
-        options.workers,
-        options.burst,
-    ) {
-        Ok(counted) => counted,
-        Err(DeskFault::Failed) => return Err(RunFault::ReadFault),
-        Err(DeskFault::NoMemory) => return Err(RunFault::OutOfMemory),
-    };
+    let counted = count(rt, alloc, desk, options, head, reader)?;
+    export_counted(alloc, desk, &counted)
+}
+
+ghost use Rattle.std.specs.Prelude.{OnErr, OnOk};
+ghost use Rattle.nfp_outside.specs.Outside.{Appends, AppendsPrefix};
+ghost use Rattle.pcap_io.specs.Capture.{IsHeadFault};
+ghost use Rattle.flow_line.specs.Versions.{HasFittingKey};
+ghost use Rattle.flow_export.specs.Exports.{export_bytes};
+ghost use Rattle.flow_run.specs.Counting.{FitsSpan, IsCountOf};
+ghost use Rattle.nfp_run.specs.FlowsRan.{flows_ending};
+
+// Counts the flows of what is left of the capture.
+fn count<R: Threads + Sync, D: Desk>(
+    rt: &R,
+    alloc: Global,
+    desk: &mut D,
+    options: FlowOptions,
+    head: &CaptureHead,
+    reader: Reader,
+) -> Result<Counted, RunFault>
+    requires ranges { IsFlowRange options }
+    requires capture { IsSome (D.slots desk.old Slot.Capture).name }
+    requires fresh { reader ≡ reader_at head.now.order 0 }
+    ensures counted { IfOk result (λ counted. IfSome (body_left reader (D.slots desk.old Slot.Capture)) (λ body. IsCountOf head.now.unit body counted)) }
+    ensures kind { IfOk result (λ counted. IfSome counted.fault (λ fault. ¬ IsHeadFault fault)) }
+    ensures span { IfOk result (λ counted. FitsSpan counted.span) }
+    ensures fits { IfOk result (λ counted. All HasFittingKey counted.lines) }
+    ensures few { IfOk result (λ counted. length counted.lines < 2 ^ 32) }
+    ensures cause { IfErr result (FlowsBroken (D.slots desk.old) (D.slots desk.new)) }
+    ensures later { (D.slots desk.old Slot.Capture).faults ≤ (D.slots desk.new Slot.Capture).faults }
+    ensures name { (D.slots desk.new Slot.Capture).name ≡ (D.slots desk.old Slot.Capture).name }
+    ensures others { (s : Slot) → s ≢ Slot.Capture → D.slots desk.new s ≡ D.slots desk.old s }
+{
+    let FlowOptions { workers, burst } = options;
+    match count_flows(rt, alloc, desk, head, reader, workers, burst) {
+        Ok(counted) => Ok(counted),
+        Err(DeskFault::Failed) => Err(RunFault::ReadFault),
+        Err(DeskFault::NoMemory) => Err(RunFault::OutOfMemory),
+    }
+}
+
+// Puts the export of what was counted into Out.
+fn export_counted<D: Desk>(
+    alloc: Global,
+    desk: &mut D,
+    counted: &Counted,
+) -> Result<Ending, RunFault>
+    requires attached { IsSome (D.slots desk.old Slot.Out).name }
+    requires few { length counted.now.lines < 2 ^ 32 }
+    requires span { FitsSpan counted.now.span }
+    requires fits { All HasFittingKey counted.now.lines }
+    ensures ending { IfOk result (λ ending. ending ≡ flows_ending counted.now.records counted.now.lines counted.now.fault) }
+    ensures ok { OnOk result (Appends (export_bytes counted.now.span counted.now.lines) (D.slots desk.old Slot.Out) (D.slots desk.new Slot.Out)) }
+    ensures err { OnErr result (AppendsPrefix (export_bytes counted.now.span counted.now.lines) (D.slots desk.old Slot.Out) (D.slots desk.new Slot.Out)) }
+    ensures cause { IfErr result (FlowsBroken (D.slots desk.old) (D.slots desk.new)) }
+    ensures name { (D.slots desk.new Slot.Out).name ≡ (D.slots desk.old Slot.Out).name }
+    ensures others { (s : Slot) → s ≢ Slot.Out → D.slots desk.new s ≡ D.slots desk.old s }
+{
     let packets = match export(alloc, desk, counted.lines.as_slice(), &counted.span) {
         Ok(packets) => packets,
         Err(fault) => return Err(fault_of(fault)),
     };
-    Ok(ending_of(alloc, &counted, packets)?)
+    Ok(ending_of(alloc, counted, packets)?)
 }
 
 // How a call ends whose flows were exported: a fault of the capture is its answer.
@@ -106,8 +152,6 @@ fn ending_of(alloc: Global, counted: &Counted, packets: u32) -> Result<Ending, A
     }
 }
 
-ghost use Rattle.nfp_run.specs.FlowsRan.{flows_ending};
-
 // The line of a capture whose flows were exported in so many packets.
 #[tactic(auto, unfolding(crate::specs::Notes::flows_text))]
 fn flows_text(
@@ -119,7 +163,7 @@ fn flows_text(
     requires { packets ≡ packet_count (length (exported lines.now)) }
     ensures { IfOk result (λ v. v.items ≡ flows_text records lines.now) }
 {
-    let exported = lines.iter().filter(|line| !line.key.wide).count();
+    let exported = exported_count(lines);
     join(
         alloc,
         &[
@@ -128,10 +172,17 @@ fn flows_text(
             Text(b" flows "),
             Number(lines.len() as u64),
             Text(b" exported "),
-            Number(exported as u64),
+            Number(exported),
             Text(b" packets "),
             Number(u64::from(packets)),
             Text(b"\n"),
         ],
     )
+}
+
+// How many lines are exported.
+fn exported_count(lines: &[FlowLine]) -> u64
+    ensures { result ≡ length (exported lines.now) }
+{
+    lines.iter().filter(|line| !line.key.wide).count() as u64
 }
