@@ -1,20 +1,17 @@
-//! Tests of the layers from actions to the judgement of policies, over their public calls alone: what no contract says, with values
-//! that were worked out by hand. No clause says that a call finds memory, so each call that takes some runs here once with ample memory.
+//! Tests of versions and functions and of the language, over their public calls alone: what no contract says, with values that were worked
+//! out by hand. No clause says that a call finds memory, so each call that takes some runs here once with ample memory, unless the program's
+//! own run takes it, as it does what judges policies, compiles and plans chains and merges versions: their rows stand in
+//! `program_tests`.
 //!
-//! Of actions: `pairs` asks which functions may run side by side, `graphs` compiles chains, and `unlawful` judges graphs that no chain
-//! makes. Of versions: `leases` hands a value to threads and back, `parts` takes frames apart and together, `merges` puts together what
-//! branches made, and `walks` leads frames through chains. Of functions: `lines` reads declarations of a kind of its own, which has a
-//! line that has to be there; `making` makes functions of declarations; `walking` leads frames through firewalls, and through a
-//! `painter`, which writes, drops and has a state; `states` leads them through functions that keep flows and sources. Of the language:
-//! `reading` reads policies, `judging` judges them, `plans` prints plans, and `frames` asks what clauses see of a frame.
+//! Of actions: `unlawful` judges graphs that no chain makes. Of versions: `leases` hands a value to threads and back, and `parts` takes
+//! frames apart and together. Of functions: `lines` reads declarations of a kind of its own, which has a line that has to be there;
+//! `making` makes a function of a declaration; `walking` leads frames through firewalls, and through a `painter`, which writes, drops and
+//! has a state; `states` tells the lines of functions that keep flows and sources. Of the language: `reading` reads values and clauses,
+//! and `frames` asks what clauses see of a frame.
 #![tactic(auto)]
 
 #[cfg(test)]
 mod frames;
-#[cfg(test)]
-mod graphs;
-#[cfg(test)]
-mod judging;
 #[cfg(test)]
 mod leases;
 #[cfg(test)]
@@ -22,15 +19,11 @@ mod lines;
 #[cfg(test)]
 mod making;
 #[cfg(test)]
-mod merges;
-#[cfg(test)]
 mod painter;
-#[cfg(test)]
-mod pairs;
 #[cfg(test)]
 mod parts;
 #[cfg(test)]
-mod plans;
+mod plenty;
 #[cfg(test)]
 mod reading;
 #[cfg(test)]
@@ -39,5 +32,3 @@ mod states;
 mod unlawful;
 #[cfg(test)]
 mod walking;
-#[cfg(test)]
-mod walks;

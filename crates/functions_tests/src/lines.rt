@@ -2,8 +2,9 @@
 ghost use Rattle.std.specs.Prelude.{◌≡◌, true};
 ghost use Rattle.std.specs.List.{list_any};
 
+use crate::making::{first_declared, parsed};
 use function_lines::{FunctionLine, read_lines};
-use policy_text::{BuildFault, FunctionDecl, Policy, Word, number, parse};
+use policy_text::{BuildFault, FunctionDecl, Word, number};
 use std::alloc::{AllocError, Global};
 use std::process::Abort;
 
@@ -45,14 +46,6 @@ fn is_there(lines: &[SizeLine]) -> bool
     lines.iter().any(|_| true)
 }
 
-fn declared(rt: &impl Abort, alloc: Global, text: &str) -> Result<u64, u32> {
-    assert!(rt; text.len() < 1000);
-    let policy: Policy = parse(alloc, text.as_bytes()).expect(rt, "a policy");
-    let chain = policy.chains.as_slice().first().expect(rt, "a chain");
-    let decl = chain.functions.as_slice().first().expect(rt, "a function");
-    size(rt, alloc, decl)
-}
-
 fn size(rt: &impl Abort, alloc: Global, decl: &FunctionDecl) -> Result<u64, u32> {
     match read_lines::<SizeLine>(alloc, decl) {
         Ok(lines) => Ok(lines.as_slice().first().expect(rt, "a size").size),
@@ -88,5 +81,7 @@ fn the_least_refused_line_is_named(rt: HostRuntime) {
 }
 
 fn is_due(rt: &impl Abort, alloc: Global, text: &str, answer: Result<u64, u32>) {
-    assert_eq!(rt; declared(rt, alloc, text), answer);
+    let policy = parsed(rt, alloc, text.as_bytes());
+    let size = size(rt, alloc, first_declared(rt, &policy));
+    assert_eq!(rt; size, answer);
 }

@@ -1,18 +1,41 @@
-//! Functions are made of what a policy declares.
+//! A function is made of what a policy declares.
 
+use crate::plenty::had;
 use function_lines::FitRules;
 use net_functions::{NetFunction, build};
 use nf_filter::GuardedRule;
-use policy_text::{BuildFault, Policy, Seen, TagSeen, parse};
+use policy_text::{BuildFault, FunctionDecl, Policy, Seen, TagSeen, parse};
 use std::alloc::Global;
 use std::process::Abort;
 
-pub fn built(rt: &impl Abort, alloc: Global, text: &str) -> Result<NetFunction, BuildFault> {
-    assert!(rt; text.len() < 1000);
-    let policy: Policy = parse(alloc, text.as_bytes()).expect(rt, "a policy");
-    let chain = policy.chains.as_slice().first().expect(rt, "a chain");
-    let decl = chain.functions.as_slice().first().expect(rt, "a function");
+// Reading and making promise much, and each function that calls them is shown all of that: so each is called by one function, which says
+// nothing.
+
+/// The policy of a text.
+pub fn parsed(rt: &impl Abort, alloc: Global, text: &[u8]) -> Policy {
+    assert!(rt; text.len() <= 1_048_576);
+    had(rt, parse(alloc, text))
+}
+
+/// The first function that a policy declares.
+pub fn first_declared<'a>(rt: &impl Abort, policy: &'a Policy) -> &'a FunctionDecl {
+    match policy.chains.as_slice() {
+        [chain, ..] => match chain.functions.as_slice() {
+            [function, ..] => function,
+            [] => rt.panic("no function"),
+        },
+        [] => rt.panic("no chain"),
+    }
+}
+
+fn made(alloc: Global, decl: &FunctionDecl) -> Result<NetFunction, BuildFault> {
     build(alloc, decl)
+}
+
+/// The first function that a text declares.
+pub fn built(rt: &impl Abort, alloc: Global, text: &str) -> Result<NetFunction, BuildFault> {
+    let policy = parsed(rt, alloc, text.as_bytes());
+    made(alloc, first_declared(rt, &policy))
 }
 
 #[test]
@@ -60,70 +83,4 @@ fn is_met(rules: &FitRules<GuardedRule>, seen: &Seen, allow: bool, clauses: usiz
         Some(met) => met.rule.allow == allow && met.rule.fit.clauses.as_slice().len() == clauses,
         None => false,
     }
-}
-
-// Declarations, and the line of each that is refused.
-const REFUSED: &[(&str, u32)] = &[
-    ("nfp 1\nchain c\nfn f firewall\nrule pass\n", 4),
-    (
-        "nfp 1\nchain c\nfn f firewall\nset default deny\nset default deny\n",
-        5,
-    ),
-    (
-        "nfp 1\nchain c\nfn f firewall\nset size 1\nrule allow src\n",
-        4,
-    ),
-];
-
-// A line that is missing, or stands and can't be read, is told by the line of its function.
-const REFUSED_OF_STATES: &[(&str, u32)] = &[
-    (
-        "nfp 1\nchain c\nfn n nat\nset inside 10.0.0.0/8\nset ports 40000-40000\n",
-        3,
-    ),
-    (
-        "nfp 1\nchain c\nfn n nat\nset inside 10.0.0.0/8\nset public 192.0.2.1\nset ports 80\n",
-        3,
-    ),
-    (
-        "nfp 1\nchain c\nfn n nat\nset inside 10.0.0.0/8\nset public 192.0.2.1\nset ports 1-2\nset ports 1-2\n",
-        7,
-    ),
-    ("nfp 1\nchain c\nfn b balancer\nset vip 10.0.0.2\n", 3),
-    (
-        "nfp 1\nchain c\nfn b balancer\nrule backend 10.9.0.1\nrule 10.9.0.2\nset vip 10.0.0.2\n",
-        5,
-    ),
-    ("nfp 1\nchain c\nfn m monitor\nset default allow\n", 4),
-    (
-        "nfp 1\nchain c\nfn l limiter\nset rate 0\nset burst 28\n",
-        3,
-    ),
-    (
-        "nfp 1\nchain c\nfn l limiter\nset rate 14\nset burst 28\nset size 1\nset rate 14\n",
-        6,
-    ),
-];
-
-fn are_refused(rt: &impl Abort, alloc: Global, declarations: &[(&str, u32)]) {
-    for (text, line) in declarations {
-        is_refused(rt, alloc, text, *line);
-    }
-}
-
-fn is_refused(rt: &impl Abort, alloc: Global, text: &str, line: u32) {
-    assert_eq!(rt;
-        built(rt, alloc, text).err(),
-        Some(BuildFault::BadSetting(line))
-    );
-}
-
-#[test]
-fn a_refused_line_of_a_firewall_is_named(rt: HostRuntime) {
-    are_refused(&rt, rt.alloc(), REFUSED);
-}
-
-#[test]
-fn a_refused_line_of_a_function_with_a_state_is_named(rt: HostRuntime) {
-    are_refused(&rt, rt.alloc(), REFUSED_OF_STATES);
 }

@@ -1,50 +1,54 @@
 //! Values and clauses, and the longest text.
-use policy_text::{Seen, TagSeen, Word, fits, parse, pattern, read_match};
+
+use crate::making::parsed;
+use crate::plenty::had;
+use policy_text::{Seen, TagSeen, Word, fits, pattern, read_match};
 use std::alloc::Global;
-use std::test::Fail;
+use std::process::Abort;
 
-fn word(alloc: Global, text: &str) -> Result<Word, Fail> {
-    Ok(Word::new(text.as_bytes().to_vec(alloc)?))
+fn word(rt: &impl Abort, alloc: Global, text: &str) -> Word {
+    Word::new(had(rt, text.as_bytes().to_vec(alloc)))
 }
 
-#[test]
-fn clauses_are_read_and_met(rt: HostRuntime) -> Result<(), Fail> {
-    let alloc = rt.alloc();
-    let words = vec![in alloc; word(alloc, "src")?, word(alloc, "10.1.0.0/16")?]?;
-    let fit = read_match(alloc, &words)
-        .ok()
-        .ok_or("the words are clauses")?;
-    let mut seen = Seen {
-        tag: TagSeen::Bare,
-        src: Some(0x0a01_0203),
-        dst: None,
-        src6: None,
-        dst6: None,
-        sport: None,
-        dport: None,
-        proto: Some(17),
-    };
-    assert!(rt; fits(&fit, &seen));
-    seen.src = None;
-    assert!(rt; !fits(&fit, &seen));
-    Ok(())
-}
+// Of UDP from 10.1.2.3.
+const SEEN: Seen = Seen {
+    tag: TagSeen::Bare,
+    src: Some(0x0a01_0203),
+    dst: None,
+    src6: None,
+    dst6: None,
+    sport: None,
+    dport: None,
+    proto: Some(17),
+};
+
+// The same without its source.
+const WITHOUT_SOURCE: Seen = Seen { src: None, ..SEEN };
 
 #[test]
-fn patterns_are_read_in_both_spellings(rt: HostRuntime) -> Result<(), Fail> {
+fn clauses_are_read_and_met(rt: HostRuntime) {
     let alloc = rt.alloc();
-    for (form, word) in [("text", "GET"), ("hex", "474554")] {
-        let bytes = pattern(alloc, form.as_bytes(), word.as_bytes())?.ok_or("a pattern")?;
-        assert_eq!(rt; bytes.as_slice(), b"GET".as_slice());
+    let words = [word(&rt, alloc, "src"), word(&rt, alloc, "10.1.0.0/16")];
+    let fit = had(&rt, read_match(alloc, &words));
+    assert!(rt; fits(&fit, &SEEN) && !fits(&fit, &WITHOUT_SOURCE));
+}
+
+fn is_get(rt: &impl Abort, alloc: Global, form: &str, word: &str) -> bool {
+    match had(rt, pattern(alloc, form.as_bytes(), word.as_bytes())) {
+        Some(bytes) => bytes.as_slice() == b"GET".as_slice(),
+        None => false,
     }
-    Ok(())
 }
 
 #[test]
-fn the_longest_text_is_read(rt: HostRuntime) -> Result<(), Fail> {
-    let mut text = vec![in rt.alloc(); b'\n'; 1_048_571]?;
-    text.extend_from_slice(b"nfp 1")?;
-    let policy = parse(rt.alloc(), &text).ok().ok_or("the text is a policy")?;
-    assert_eq!(rt; policy.chains.as_slice().len(), 0);
-    Ok(())
+fn patterns_are_read_in_both_spellings(rt: HostRuntime) {
+    assert!(rt; is_get(&rt, rt.alloc(), "text", "GET") && is_get(&rt, rt.alloc(), "hex", "474554"));
+}
+
+#[test]
+fn the_longest_text_is_read(rt: HostRuntime) {
+    let mut text = had(&rt, vec![in rt.alloc(); b'\n'; 1_048_571]);
+    had(&rt, text.extend_from_slice(b"nfp 1"));
+    let policy = parsed(&rt, rt.alloc(), &text);
+    assert!(rt; policy.chains.as_slice().is_empty());
 }

@@ -1,9 +1,10 @@
 //! Graphs that no chain makes, lawful and not.
 
+use crate::plenty::had;
 use action_profile::{FieldSet, Mode, Profile, StageParts, Touch};
 use graph_compile::{Branch, Graph, Stage, lawful};
 use item_list::Items;
-use std::alloc::{AllocError, Global};
+use std::alloc::Global;
 use std::process::Abort;
 
 // A function that does nothing.
@@ -17,34 +18,40 @@ const IDLE: Profile = Profile {
     whole: false,
 };
 
+// A branch with these positions.
+fn branch(rt: &impl Abort, alloc: Global, positions: &[u32]) -> Branch {
+    Branch {
+        positions: Items::new(had(rt, positions.to_vec(alloc))),
+    }
+}
+
 // A stage in which each branch touches nothing.
-fn idle_stage(alloc: Global, branches: &[&[u32]]) -> Result<Stage, AllocError> {
+fn idle_stage(rt: &impl Abort, alloc: Global, branches: &[&[u32]]) -> Stage {
     let mut made = Vec::new(alloc);
     let mut touches = Vec::new(alloc);
     for positions in branches {
-        let positions = Items::new(positions.to_vec(alloc)?);
-        made.push(Branch { positions })?;
-        touches.push(Touch::NONE)?;
+        had(rt, made.push(branch(rt, alloc, positions)));
+        had(rt, touches.push(Touch::NONE));
     }
-    Ok(Stage {
+    Stage {
         branches: Items::new(made),
         parts: StageParts {
             modes: [Mode::Shared; 10],
             touches: Items::new(touches),
         },
-    })
+    }
 }
 
 // Is a graph of such stages lawful for two functions that do nothing?
-fn is_lawful(alloc: Global, stages: &[&[&[u32]]]) -> Result<bool, AllocError> {
+fn is_lawful(rt: &impl Abort, alloc: Global, stages: &[&[&[u32]]]) -> bool {
     let mut made = Vec::new(alloc);
     for branches in stages {
-        made.push(idle_stage(alloc, branches)?)?;
+        had(rt, made.push(idle_stage(rt, alloc, branches)));
     }
     let graph = Graph {
         stages: Items::new(made),
     };
-    Ok(lawful(&graph, &[IDLE, IDLE]))
+    lawful(&graph, &[IDLE, IDLE])
 }
 
 // Graphs, stage by stage, and whether each is lawful.
@@ -65,22 +72,18 @@ const STAGES: &[(&[&[&[u32]]], bool)] = &[
     (&[&[&[2]], &[], &[&[1]]], true),
 ];
 
-fn compare(
-    rt: &(impl Abort + AllocGlobal),
-    graphs: &[(&[&[&[u32]]], bool)],
-) -> Result<(), AllocError> {
+fn compare(rt: &(impl Abort + AllocGlobal), graphs: &[(&[&[&[u32]]], bool)]) {
     for (stages, lawful) in graphs {
-        assert_eq!(rt; is_lawful(rt.alloc(), stages)?, *lawful);
+        assert!(rt; is_lawful(rt, rt.alloc(), stages) == *lawful);
     }
-    Ok(())
 }
 
 #[test]
-fn takes_each_position_once_in_any_branch(rt: HostRuntime) -> Result<(), AllocError> {
-    compare(&rt, GRAPHS)
+fn takes_each_position_once_in_any_branch(rt: HostRuntime) {
+    compare(&rt, GRAPHS);
 }
 
 #[test]
-fn holds_a_stage_against_the_next_alone(rt: HostRuntime) -> Result<(), AllocError> {
-    compare(&rt, STAGES)
+fn holds_a_stage_against_the_next_alone(rt: HostRuntime) {
+    compare(&rt, STAGES);
 }

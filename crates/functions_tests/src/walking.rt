@@ -3,29 +3,30 @@ ghost use Rattle.std.specs.Prelude.{◌≤◌, length};
 
 use crate::making::built;
 use crate::painter::Painter;
+use crate::plenty::had;
 use chain_walk::Fate;
 use fixtures::udp;
 use frame_walk::walk_chain;
 use net_functions::{Function, NetFunction};
 use packet_fields::Frame;
-use std::alloc::{AllocError, Global};
+use std::alloc::Global;
 use std::process::Abort;
 use std::sync::Wait;
-use std::test::Fail;
 
 // The walk promises much, and each function that calls it is shown all of that: so the tests call this one, which says nothing.
 
 /// Where a frame of this time ends behind a chain.
-pub fn walked<F: Function, R: Wait>(
-    rt: &R,
+pub fn walked<F: Function>(
+    rt: &(impl Abort + Wait),
     alloc: Global,
     chain: &mut [F],
     time: u64,
     frame: &[u8],
-) -> Result<Fate, AllocError>
+) -> Fate
     requires { length chain.old ≤ 64 }
 {
-    walk_chain(rt, alloc, chain, time, Frame::new(frame.to_vec(alloc)?))
+    let frame = Frame::new(had(rt, frame.to_vec(alloc)));
+    had(rt, walk_chain(rt, alloc, chain, time, frame))
 }
 
 /// Does the frame go out with these bytes?
@@ -45,12 +46,12 @@ pub fn is_gone(fate: &Fate, at: u32) -> bool {
 }
 
 /// The lines of the states of a chain.
-pub fn lines_of<F: Function>(alloc: Global, chain: &[F]) -> Result<Vec<u8>, AllocError> {
+pub fn lines_of<F: Function>(rt: &impl Abort, alloc: Global, chain: &[F]) -> Vec<u8> {
     let mut lines = Vec::new(alloc);
     for function in chain {
-        function.state_lines(&mut lines)?;
+        had(rt, function.state_lines(&mut lines));
     }
-    Ok(lines)
+    lines
 }
 
 const FIRST: &str = "nfp 1\nchain c\nfn a firewall\nrule deny dport 80\n";
@@ -65,46 +66,46 @@ fn compare(
     host: u8,
     port: u16,
     passes: bool,
-) -> Result<(), AllocError>
+)
     requires { length chain.old ≤ 64 }
 {
     let frame = udp(host, port);
-    let fate = walked(rt, rt.alloc(), chain, 0, &frame)?;
+    let fate = walked(rt, rt.alloc(), chain, 0, &frame);
     assert!(rt; is_out(&fate, &frame) == passes && is_gone(&fate, 2) != passes);
-    Ok(())
 }
 
 #[test]
-fn the_second_firewall_drops_what_its_rules_deny(rt: HostRuntime) -> Result<(), Fail> {
+fn the_second_firewall_drops_what_its_rules_deny(rt: HostRuntime) {
     let mut chain = [
         built(&rt, rt.alloc(), FIRST).expect(&rt, "a firewall"),
         built(&rt, rt.alloc(), SECOND).expect(&rt, "a firewall"),
     ];
-    compare(&rt, &mut chain, 9, 7, false)?;
-    compare(&rt, &mut chain, 9, 8, true)?;
-    compare(&rt, &mut chain, 7, 10, true)?;
-    compare(&rt, &mut chain, 8, 10, false)?;
-    assert!(rt; lines_of(rt.alloc(), &chain)?.is_empty());
-    Ok(())
+    compare(&rt, &mut chain, 9, 7, false);
+    compare(&rt, &mut chain, 9, 8, true);
+    compare(&rt, &mut chain, 7, 10, true);
+    compare(&rt, &mut chain, 8, 10, false);
+    assert!(rt; lines_of(&rt, rt.alloc(), &chain).is_empty());
 }
 
 // The type of service that a painter gives a frame, where it passes.
-fn painted(rt: &(impl AllocGlobal + Wait), chain: &mut [Painter]) -> Result<Option<u8>, AllocError>
+fn painted(rt: &(impl Abort + AllocGlobal + Wait), chain: &mut [Painter]) -> Option<u8>
     requires { length chain.old ≤ 64 }
 {
-    match walked(rt, rt.alloc(), chain, 0, &udp(1, 1000))? {
-        Fate::Out(out) => Ok(out.bytes().get(15).copied()),
-        Fate::Gone(_) => Ok(None),
+    match walked(rt, rt.alloc(), chain, 0, &udp(1, 1000)) {
+        Fate::Out(out) => out.bytes().get(15).copied(),
+        Fate::Gone(_) => None,
     }
 }
 
 #[test]
-fn a_painter_writes_and_drops_every_third(rt: HostRuntime) -> Result<(), Fail> {
+fn a_painter_writes_and_drops_every_third(rt: HostRuntime) {
     let mut chain = [Painter { count: 0 }];
-    assert_eq!(rt; painted(&rt, &mut chain)?, Some(0));
-    assert_eq!(rt; painted(&rt, &mut chain)?, Some(1));
-    assert_eq!(rt; painted(&rt, &mut chain)?, None);
-    assert_eq!(rt; painted(&rt, &mut chain)?, Some(0));
-    assert!(rt; lines_of(rt.alloc(), &chain)?.as_slice() == [1].as_slice());
-    Ok(())
+    let services = [
+        painted(&rt, &mut chain),
+        painted(&rt, &mut chain),
+        painted(&rt, &mut chain),
+        painted(&rt, &mut chain),
+    ];
+    assert_eq!(rt; services, [Some(0), Some(1), None, Some(0)]);
+    assert!(rt; lines_of(&rt, rt.alloc(), &chain).as_slice() == [1].as_slice());
 }

@@ -1,13 +1,14 @@
 //! What branches put on a board comes together, packet by packet.
-ghost use Rattle.std.specs.Prelude.{◌≡◌, ◌≤◌, ◌<◌, ◌%◌, ◌∷◌, [], false, IfOk};
+ghost use Rattle.std.specs.Prelude.{◌≡◌, ◌≤◌, ◌<◌, ◌%◌, ◌∷◌, [], false};
 ghost use Rattle.std.specs.Vec.{vec_capacity};
 ghost use Rattle.merge_board.specs.Rule.{has};
 
+use crate::plenty::had;
 use merge_board::{Board, BoardDue, BranchSeat, Complete, MergerSeat, Seats};
-use std::alloc::{AllocError, Global};
+use std::alloc::Global;
 use std::marker::Brand;
+use std::process::Abort;
 use std::sync::Wait;
-use std::test::Fail;
 use std::thread;
 use std::thread::Threads;
 
@@ -22,18 +23,18 @@ struct Meeting {
 }
 
 /// A board on which 5 and 15 are due from the first branch, and 6 and 16 from the second.
-fn new_meeting<D: BoardDue<u32>>(alloc: Global) -> Result<Meeting, AllocError>
+fn new_meeting<D: BoardDue<u32>>(rt: &impl Abort, alloc: Global) -> Meeting
     requires { D.due ≡ (5 ∷ 15 ∷ []) ∷ (6 ∷ 16 ∷ []) ∷ [] }
-    ensures pids { IfOk result (λ m. m.board.pids ≡ 2) }
-    ensures branches { IfOk result (λ m. m.board.branches ≡ 2) }
-    ensures mergers { IfOk result (λ m. m.board.mergers ≡ 1) }
-    ensures first { IfOk result (λ m. m.first ≡ record { board = m.board.board; branch = 0; due = (5 ∷ 15 ∷ []) ∷ (6 ∷ 16 ∷ []) ∷ []; put = [] }) }
-    ensures second { IfOk result (λ m. m.second ≡ record { board = m.board.board; branch = 1; due = (5 ∷ 15 ∷ []) ∷ (6 ∷ 16 ∷ []) ∷ []; put = [] }) }
-    ensures merger { IfOk result (λ m. m.merger ≡ record { board = m.board.board; merger = 0; due = (5 ∷ 15 ∷ []) ∷ (6 ∷ 16 ∷ []) ∷ []; done = []; loads = 0; pid = 0; word = 0 }) }
-    ensures branch_list { IfOk result (λ m. m.lists.branch.items ≡ []) }
-    ensures merger_list { IfOk result (λ m. m.lists.merger.items ≡ []) }
+    ensures pids { result.board.pids ≡ 2 }
+    ensures branches { result.board.branches ≡ 2 }
+    ensures mergers { result.board.mergers ≡ 1 }
+    ensures first { result.first ≡ record { board = result.board.board; branch = 0; due = (5 ∷ 15 ∷ []) ∷ (6 ∷ 16 ∷ []) ∷ []; put = [] } }
+    ensures second { result.second ≡ record { board = result.board.board; branch = 1; due = (5 ∷ 15 ∷ []) ∷ (6 ∷ 16 ∷ []) ∷ []; put = [] } }
+    ensures merger { result.merger ≡ record { board = result.board.board; merger = 0; due = (5 ∷ 15 ∷ []) ∷ (6 ∷ 16 ∷ []) ∷ []; done = []; loads = 0; pid = 0; word = 0 } }
+    ensures branch_list { result.lists.branch.items ≡ [] }
+    ensures merger_list { result.lists.merger.items ≡ [] }
 {
-    let (board, seats) = Board::<u32>::new::<D>(alloc, 2, 2, 1)?;
+    let (board, seats) = had(rt, Board::<u32>::new::<D>(alloc, 2, 2, 1));
     let Seats {
         branch: mut branches,
         merger: mut mergers,
@@ -47,7 +48,7 @@ fn new_meeting<D: BoardDue<u32>>(alloc: Global) -> Result<Meeting, AllocError>
     let Some(merger) = mergers.pop() else {
         unreachable!()
     };
-    Ok(Meeting {
+    Meeting {
         board,
         first,
         second,
@@ -56,46 +57,40 @@ fn new_meeting<D: BoardDue<u32>>(alloc: Global) -> Result<Meeting, AllocError>
             branch: branches,
             merger: mergers,
         },
-    })
+    }
 }
 
-/// Looks before each put of a packet's values and behind the last, and ends the board. Nothing comes
-/// where an early look found the packet complete.
-fn in_turn(alloc: Global) -> Result<Option<(Option<Complete>, Vec<u32>)>, AllocError> {
-    let mut values = Vec::with_capacity(alloc, 2)?;
+/// Looks before each put of a packet's values, when nothing is complete, and behind the last, and ends the board.
+fn in_turn(rt: &impl Abort, alloc: Global) -> (Option<Complete>, Vec<u32>) {
+    let mut values = had(rt, Vec::with_capacity(alloc, 2));
     let Meeting {
         board,
         mut first,
         mut second,
         merger: mut seat,
         lists,
-    } = new_meeting::<Brand>(alloc)?;
-    if board.poll(&mut seat, 0, &mut values).is_some() {
-        return Ok(None);
-    }
+    } = new_meeting::<Brand>(rt, alloc);
+    assert!(rt; board.poll(&mut seat, 0, &mut values).is_none());
     board.put(&mut second, 0, 6);
-    if board.poll(&mut seat, 0, &mut values).is_some() {
-        return Ok(None);
-    }
+    assert!(rt; board.poll(&mut seat, 0, &mut values).is_none());
     board.put(&mut first, 0, 5);
     let complete = board.poll(&mut seat, 0, &mut values);
     let Seats {
         mut branch,
         mut merger,
     } = lists;
-    branch.push(first)?;
-    branch.push(second)?;
-    merger.push(seat)?;
+    had(rt, branch.push(first));
+    had(rt, branch.push(second));
+    had(rt, merger.push(seat));
     board.close(Seats { branch, merger });
-    Ok(Some((complete, values)))
+    (complete, values)
 }
 
 #[test]
-fn a_packet_is_complete_with_its_last_value(rt: HostRuntime) -> Result<(), Fail> {
-    let (complete, values) = in_turn(rt.alloc())?.ok_or("complete too early")?;
+fn a_packet_is_complete_with_its_last_value(rt: HostRuntime) {
+    let (complete, values) = in_turn(&rt, rt.alloc());
     assert_eq!(rt; complete, Some(Complete { pid: 0 }));
     assert_eq!(rt; values.as_slice(), [5, 6].as_slice());
-    Ok(())
 }
 
 /// Puts what is due from the first branch.
@@ -163,32 +158,28 @@ fn put_second_and_collect<R: Wait>(
 }
 
 /// One thread puts for the first branch, another for the second, and collects what both put.
-fn across<R: Threads + Wait + Sync>(
-    rt: &R,
-    alloc: Global,
-) -> Result<(Vec<u32>, Vec<u32>), AllocError> {
-    let values = Vec::with_capacity(alloc, 2)?;
-    let others = Vec::with_capacity(alloc, 2)?;
+fn across(rt: &(impl Abort + Threads + Wait + Sync), alloc: Global) -> (Vec<u32>, Vec<u32>) {
+    let values = had(rt, Vec::with_capacity(alloc, 2));
+    let others = had(rt, Vec::with_capacity(alloc, 2));
     let Meeting {
         board,
         first,
         second,
         merger,
         lists: _,
-    } = new_meeting::<Brand>(alloc)?;
+    } = new_meeting::<Brand>(rt, alloc);
     let shared = &board;
     let (_, collected) = thread::join(
         rt,
         move || put_first(shared, first),
         move || put_second_and_collect(rt, shared, second, merger, values, others),
     );
-    Ok(collected)
+    collected
 }
 
 #[test]
-fn what_two_threads_put_comes_together(rt: HostRuntime) -> Result<(), Fail> {
-    let (values, others) = across(&rt, rt.alloc())?;
+fn what_two_threads_put_comes_together(rt: HostRuntime) {
+    let (values, others) = across(&rt, rt.alloc());
     assert_eq!(rt; values.as_slice(), [5, 6].as_slice());
     assert_eq!(rt; others.as_slice(), [15, 16].as_slice());
-    Ok(())
 }

@@ -1,32 +1,33 @@
 //! Packets, numbered and cut into bursts.
 
-use capture_bytes::PcapRecord;
-use classifier::Cutter;
-use packet_fields::Frame;
-use std::alloc::{AllocError, Global};
-use std::test::Fail;
+use crate::plenty::had;
+use crate::runs::packet;
+use classifier::{Burst, Cutter};
 
-fn packet(alloc: Global, host: u8) -> Result<PcapRecord, AllocError> {
-    let frame = fixtures::udp(host, 1000).to_vec(alloc)?;
-    Ok(PcapRecord {
-        seconds: 0,
-        fraction: 0,
-        wire: 60,
-        frame: Frame::new(frame),
-    })
+// Has a burst been closed with so many packets?
+fn has_packets(burst: &Option<Burst>, count: usize) -> bool {
+    match burst {
+        Some(burst) => burst.items.as_slice().len() == count,
+        None => false,
+    }
+}
+
+// Has the last packet of the open burst this number?
+fn ends_with(burst: Burst, number: u32) -> bool {
+    match burst.items.into_vec().pop() {
+        Some(item) => item.number == number,
+        None => false,
+    }
 }
 
 /// Three packets in bursts of two: the second closes a burst, and the third stays in the open one.
 #[test]
-fn every_second_packet_closes_a_burst(rt: HostRuntime) -> Result<(), Fail> {
-    let mut cutter = Cutter::new(rt.alloc(), 2)?;
-    let first = cutter.add(packet(rt.alloc(), 1)?, Some(0))?;
-    let second = cutter.add(packet(rt.alloc(), 2)?, None)?;
-    let third = cutter.add(packet(rt.alloc(), 3)?, Some(0))?;
-    let rest = cutter.rest();
-    assert!(rt; first.is_none() && third.is_none());
-    assert!(rt; second.is_some_and(|b| b.items.as_slice().len() == 2));
-    let last = rest.items.into_vec().pop();
-    assert!(rt; last.is_some_and(|i| i.number == 3));
-    Ok(())
+fn every_second_packet_closes_a_burst(rt: HostRuntime) {
+    let alloc = rt.alloc();
+    let mut cutter = had(&rt, Cutter::new(alloc, 2));
+    let first = had(&rt, cutter.add(packet(&rt, alloc, 1), Some(0)));
+    let second = had(&rt, cutter.add(packet(&rt, alloc, 2), None));
+    let third = had(&rt, cutter.add(packet(&rt, alloc, 3), Some(0)));
+    assert!(rt; first.is_none() && third.is_none() && has_packets(&second, 2));
+    assert!(rt; ends_with(cutter.rest(), 3));
 }

@@ -1,10 +1,9 @@
 //! Which chain takes a packet.
 
+use crate::plenty::had;
 use classifier::ClassTable;
 use fixtures::UDP;
 use policy_text::parse;
-use std::process::Abort;
-use std::test::Fail;
 
 const POLICY: &str =
     "nfp 1\nchain tagged match tag 7\nchain inside match src 10.0.0.0/8\nchain others\n";
@@ -26,15 +25,13 @@ fn foreign() -> [u8; 42] {
 }
 
 #[test]
-fn the_first_chain_that_fits_takes_a_packet(rt: HostRuntime) -> Result<(), Fail> {
-    match parse(rt.alloc(), POLICY.as_bytes()) {
-        Ok(policy) => {
-            let table = ClassTable::new(rt.alloc(), &policy)?;
-            assert!(rt; table.class(&tagged()) == Some(0));
-            assert!(rt; table.class(&UDP) == Some(1));
-            assert!(rt; table.class(&foreign()) == Some(2));
-        }
-        Err(_) => rt.abort(),
-    }
-    Ok(())
+fn the_first_chain_that_fits_takes_a_packet(rt: HostRuntime) {
+    let policy = had(&rt, parse(rt.alloc(), POLICY.as_bytes()));
+    let table = had(&rt, ClassTable::new(rt.alloc(), &policy));
+    let classes = [
+        table.class(&tagged()),
+        table.class(&UDP),
+        table.class(&foreign()),
+    ];
+    assert_eq!(rt; classes, [Some(0), Some(1), Some(2)]);
 }

@@ -12,14 +12,12 @@ mod bursts;
 #[cfg(test)]
 mod classes;
 #[cfg(test)]
-mod graphs;
-#[cfg(test)]
-mod joined;
-#[cfg(test)]
 mod links;
 #[cfg(test)]
 mod messages;
 #[cfg(test)]
-mod piped;
+mod plenty;
+#[cfg(test)]
+mod runs;
 #[cfg(test)]
 mod tables;

@@ -1,59 +1,59 @@
 //! Messages go over links in their order, and from one thread to another.
-ghost use Rattle.std.specs.Prelude.{◌≡◌, ◌∷◌, [], IfOk};
+ghost use Rattle.std.specs.Prelude.{◌≡◌, ◌∷◌, []};
 
+use crate::plenty::had;
 use ruled_links::{Counts, LinkDue, Putter, Taker, finish, link};
-use std::alloc::{AllocError, Global};
+use std::alloc::Global;
 use std::marker::Brand;
+use std::process::Abort;
 use std::sync::Wait;
-use std::test::Fail;
 use std::thread;
 use std::thread::Threads;
 
 /// A link on which these three numbers are due.
 fn link_of<D: LinkDue<u32>>(
+    rt: &impl Abort,
     alloc: Global,
     first: u32,
     second: u32,
     third: u32,
-) -> Result<(Putter<u32>, Taker<u32>), AllocError>
+) -> (Putter<u32>, Taker<u32>)
     requires { D.due ≡ first ∷ second ∷ third ∷ [] }
-    ensures one_link { IfOk result (λ ends. ends.1.link ≡ ends.0.link) }
-    ensures putter { IfOk result (λ ends. (ends.0.capacity ≡ 3) × (ends.0.due ≡ first ∷ second ∷ third ∷ []) × (ends.0.put ≡ [])) }
-    ensures taker { IfOk result (λ ends. (ends.1.due ≡ first ∷ second ∷ third ∷ []) × (ends.1.taken ≡ [])) }
+    ensures one_link { result.1.link ≡ result.0.link }
+    ensures putter { (result.0.capacity ≡ 3) × (result.0.due ≡ first ∷ second ∷ third ∷ []) × (result.0.put ≡ []) }
+    ensures taker { (result.1.due ≡ first ∷ second ∷ third ∷ []) × (result.1.taken ≡ []) }
 {
-    link::<u32, D>(alloc, 3)
+    had(rt, link::<u32, D>(alloc, 3))
 }
 
 /// What a link gives before anything was put, and then.
-fn asked_twice<R: Wait>(rt: &R, alloc: Global) -> Result<[Option<u32>; 2], AllocError> {
-    let (mut putter, mut taker) = link_of::<Brand>(alloc, 5, 6, 7)?;
+fn asked_twice(rt: &(impl Abort + Wait), alloc: Global) -> [Option<u32>; 2] {
+    let (mut putter, mut taker) = link_of::<Brand>(rt, alloc, 5, 6, 7);
     let before = taker.try_take(rt);
     putter.put(rt, 5);
-    Ok([before, taker.try_take(rt)])
+    [before, taker.try_take(rt)]
 }
 
 #[test]
-fn a_new_link_is_empty_until_a_number_is_put(rt: HostRuntime) -> Result<(), Fail> {
-    assert_eq!(rt; asked_twice(&rt, rt.alloc())?, [None, Some(5)]);
-    Ok(())
+fn a_new_link_is_empty_until_a_number_is_put(rt: HostRuntime) {
+    assert_eq!(rt; asked_twice(&rt, rt.alloc()), [None, Some(5)]);
 }
 
 /// As many numbers are put as a link has room for, and two of them taken.
-fn all_put_two_taken<R: Wait>(rt: &R, alloc: Global) -> Result<([u32; 2], Counts), AllocError> {
-    let (mut putter, mut taker) = link_of::<Brand>(alloc, 5, 6, 7)?;
+fn all_put_two_taken(rt: &(impl Abort + Wait), alloc: Global) -> ([u32; 2], Counts) {
+    let (mut putter, mut taker) = link_of::<Brand>(rt, alloc, 5, 6, 7);
     putter.put(rt, 5);
     putter.put(rt, 6);
     putter.put(rt, 7);
     let taken = [taker.take(rt), taker.take(rt)];
-    Ok((taken, finish(putter, taker)))
+    (taken, finish(putter, taker))
 }
 
 #[test]
-fn a_link_counts_what_was_put_and_taken(rt: HostRuntime) -> Result<(), Fail> {
-    let (taken, counts) = all_put_two_taken(&rt, rt.alloc())?;
+fn a_link_counts_what_was_put_and_taken(rt: HostRuntime) {
+    let (taken, counts) = all_put_two_taken(&rt, rt.alloc());
     assert_eq!(rt; taken, [5, 6]);
     assert_eq!(rt; counts, Counts { put: 3, taken: 2 });
-    Ok(())
 }
 
 /// Asks three times, and waits for each answer before it asks again.
@@ -94,12 +94,9 @@ fn answer<R: Wait>(
 }
 
 /// One thread asks and another answers, over a link for each way.
-fn talk<R: Threads + Wait + Sync>(
-    rt: &R,
-    alloc: Global,
-) -> Result<([u32; 3], Counts, Counts), AllocError> {
-    let (asking, asked) = link_of::<Brand>(alloc, 1, 2, 3)?;
-    let (answering, answered) = link_of::<Brand>(alloc, 11, 12, 13)?;
+fn talk(rt: &(impl Abort + Threads + Wait + Sync), alloc: Global) -> ([u32; 3], Counts, Counts) {
+    let (asking, asked) = link_of::<Brand>(rt, alloc, 1, 2, 3);
+    let (answering, answered) = link_of::<Brand>(rt, alloc, 11, 12, 13);
     let ((heard, asking, answered), (asked, answering)) = thread::join(
         rt,
         move || -> ([u32; 3], Putter<u32>, Taker<u32>)
@@ -111,14 +108,13 @@ fn talk<R: Threads + Wait + Sync>(
             ensures { (result.0.link ≡ asked.link) × (result.1.link ≡ answering.link) }
         { answer(rt, asked, answering) },
     );
-    Ok((heard, finish(asking, asked), finish(answering, answered)))
+    (heard, finish(asking, asked), finish(answering, answered))
 }
 
 #[test]
-fn two_threads_talk_over_two_links(rt: HostRuntime) -> Result<(), Fail> {
-    let (heard, questions, answers) = talk(&rt, rt.alloc())?;
+fn two_threads_talk_over_two_links(rt: HostRuntime) {
+    let (heard, questions, answers) = talk(&rt, rt.alloc());
     assert_eq!(rt; heard, [11, 12, 13]);
     assert_eq!(rt; questions, Counts { put: 3, taken: 3 });
     assert_eq!(rt; answers, Counts { put: 3, taken: 3 });
-    Ok(())
 }

@@ -1,13 +1,13 @@
 //! What has come of packets, kept until they are whole.
 
+use crate::plenty::had;
 use acc_table::{AccTable, Complete};
-use std::test::Fail;
 
 /// Two packets of two branches wait at once, and the first that is whole is handed over.
 #[test]
-fn values_come_in_branch_order(rt: HostRuntime) -> Result<(), Fail> {
-    let mut table = AccTable::with_room(rt.alloc(), 2, 2)?;
-    let mut values = Vec::with_capacity(rt.alloc(), 2)?;
+fn values_come_in_branch_order(rt: HostRuntime) {
+    let mut table = had(&rt, AccTable::with_room(rt.alloc(), 2, 2));
+    let mut values = had(&rt, Vec::with_capacity(rt.alloc(), 2));
     assert_eq!(rt; table.open_count(), 0);
     let first = table.arrive(7, 0, b'a', &mut values);
     assert!(rt; first.is_none() && table.open_count() == 1);
@@ -17,15 +17,14 @@ fn values_come_in_branch_order(rt: HostRuntime) -> Result<(), Fail> {
     assert_eq!(rt; third, Some(Complete { pid: 7 }));
     assert!(rt; values.as_slice() == b"ab".as_slice());
     assert_eq!(rt; table.open_count(), 1);
-    Ok(())
 }
 
 /// Packets whose numbers leave the same rest by four stand in one bucket, and one that is whole
 /// leaves it.
 #[test]
-fn packets_of_one_bucket(rt: HostRuntime) -> Result<(), Fail> {
-    let mut table = AccTable::with_room(rt.alloc(), 4, 2)?;
-    let mut values = Vec::with_capacity(rt.alloc(), 2)?;
+fn packets_of_one_bucket(rt: HostRuntime) {
+    let mut table = had(&rt, AccTable::with_room(rt.alloc(), 4, 2));
+    let mut values = had(&rt, Vec::with_capacity(rt.alloc(), 2));
     assert_eq!(rt; table.open_count(), 0);
     let first = table.arrive(1, 0, b'a', &mut values);
     assert!(rt; first.is_none() && table.open_count() == 1);
@@ -39,5 +38,4 @@ fn packets_of_one_bucket(rt: HostRuntime) -> Result<(), Fail> {
     assert_eq!(rt; fourth, Some(Complete { pid: 5 }));
     assert!(rt; values.as_slice() == b"bd".as_slice());
     assert_eq!(rt; table.chain_len(1), 2);
-    Ok(())
 }
