@@ -1,0 +1,29 @@
+//! What is odd in a policy without fault.
+//!
+//! [`lint`] looks for what an operator will hardly have meant: chains and functions that no packet reaches, rules that never decide,
+//! firewalls that deny by addresses of one version of IP alone, limiters behind what rewrites sources, nats whose public address or
+//! ports can't work. It gives each as a [`Finding`] with its lines, in the order that `findings` of `specs/Findings.antt` has, and
+//! promises exactly these.
+//!
+//! What they are worth is said by laws, in the words of the language (`is_fitting` of `policy_text`) and of rules (`first_met` of
+//! `function_lines`): [`what_is_covered_is_met`], [`covered_rules_never_decide`] and [`covered_chains_take_nothing`].
+//!
+//! A policy has no finding where none of this is there; it may still be odd in another way. Which version of IP a packet has, and
+//! what a chain's earlier functions leave of it, isn't looked at.
+#![tactic(auto)]
+
+mod asking;
+mod behind;
+mod covering;
+mod finding;
+mod firewalls;
+mod laws;
+mod linting;
+mod nats;
+mod rule_line;
+mod versions;
+
+pub use covering::covers;
+pub use finding::Finding;
+pub use laws::{covered_chains_take_nothing, covered_rules_never_decide, what_is_covered_is_met};
+pub use linting::lint;
