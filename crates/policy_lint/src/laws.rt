@@ -1,12 +1,17 @@
 //! What findings are worth.
 
-ghost use Rattle.std.specs.Prelude.{◌≡◌, ◌≢◌, List, ◌++◌, ◌∷◌, length, Option, Some, position, true};
+ghost use Rattle.std.specs.Prelude.{◌≡◌, ◌≢◌, List, ◌++◌, ◌∷◌, Bool, length, Option, Some, position, true, false};
 ghost use Rattle.std.specs.List.{list_any};
+ghost use Rattle.std.specs.Option.{option_map_or};
 ghost use Rattle.policy_text.specs.declared.clause.Match.{Match};
 ghost use Rattle.policy_text.specs.declared.seen.Seen.{Seen};
 ghost use Rattle.policy_text.specs.Meeting.{is_fitting};
 ghost use Rattle.function_lines.specs.Rules.{first_met};
+ghost use Rattle.policy_lint.specs.declared.rule_line.RuleLine.{RuleLine};
+ghost use Rattle.policy_lint.specs.declared.versions.Version.{Version};
+ghost use Rattle.policy_lint.specs.Firewalls.{drops_by};
 ghost use Rattle.policy_lint.specs.Implying.{covers};
+ghost use Rattle.policy_lint.specs.Versions.{asks_by, Lacks};
 
 use function_lines::Fitting;
 
@@ -27,4 +32,15 @@ pub fn covered_rules_never_decide<R: Fitting>()
 pub fn covered_chains_take_nothing()
     ensures { (before after : List Match) → (fit : Match) → (seen : Seen) → list_any (λ b. covers b fit) before ≡ true →
         position (λ f. is_fitting f seen) (before ++ fit ∷ after) ≢ Some (length before) }
+{}
+
+/// A law: of rules that drop all, the first that a packet meets denies it, and where it meets none the default does.
+pub fn rules_that_drop_all_deny()
+    ensures { (default : Bool) → (rules : List RuleLine) → (seen : Seen) → drops_by default rules ≡ true →
+        option_map_or (λ (r : RuleLine). r.allow) (first_met (λ (r : RuleLine). r.fit) seen rules) default ≡ false }
+{}
+
+/// A law: clauses of which one asks for an address of a version aren't met by a packet that has none of this version.
+pub fn addresses_keep_to_their_version()
+    ensures { (version : Version) → (fit : Match) → (seen : Seen) → asks_by version fit ≡ true → Lacks version seen → is_fitting fit seen ≡ false }
 {}

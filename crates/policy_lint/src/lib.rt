@@ -6,7 +6,8 @@
 //! promises exactly these.
 //!
 //! What they are worth is said by laws, in the words of the language (`is_fitting` of `policy_text`) and of rules (`first_met` of
-//! `function_lines`): [`what_is_covered_is_met`], [`covered_rules_never_decide`] and [`covered_chains_take_nothing`].
+//! `function_lines`): [`what_is_covered_is_met`], [`covered_rules_never_decide`], [`covered_chains_take_nothing`],
+//! [`rules_that_drop_all_deny`] and [`addresses_keep_to_their_version`].
 //!
 //! A policy has no finding where none of this is there; it may still be odd in another way. Which version of IP a packet has, and
 //! what a chain's earlier functions leave of it, isn't looked at.
@@ -25,5 +26,8 @@ mod versions;
 
 pub use covering::covers;
 pub use finding::Finding;
-pub use laws::{covered_chains_take_nothing, covered_rules_never_decide, what_is_covered_is_met};
+pub use laws::{
+    addresses_keep_to_their_version, covered_chains_take_nothing, covered_rules_never_decide,
+    rules_that_drop_all_deny, what_is_covered_is_met,
+};
 pub use linting::lint;
