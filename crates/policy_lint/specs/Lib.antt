@@ -5,4 +5,5 @@ pub mod Gathering
 pub mod Implying
 pub mod Nats
 pub mod Rules
+pub mod Telling
 pub mod Versions

@@ -3,7 +3,7 @@
 //! [`lint`] looks for what an operator will hardly have meant: chains and functions that no packet reaches, rules that never decide,
 //! firewalls that deny by addresses of one version of IP alone, limiters behind what rewrites sources, nats whose public address or
 //! ports can't work. It gives each as a [`Finding`] with its lines, in the order that `findings` of `specs/Findings.antt` has, and
-//! promises exactly these.
+//! promises exactly these. [`Finding::text`] tells what it means and how to say it otherwise.
 //!
 //! What they are worth is said by laws, in the words of the language (`is_fitting` of `policy_text`) and of rules (`first_met` of
 //! `function_lines`): [`what_is_covered_is_met`], [`covered_rules_never_decide`], [`covered_chains_take_nothing`],
@@ -22,6 +22,7 @@ mod laws;
 mod linting;
 mod nats;
 mod rule_line;
+mod telling;
 mod versions;
 
 pub use covering::covers;
