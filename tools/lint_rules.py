@@ -1,14 +1,15 @@
-"""What is odd in a policy without fault, by rules of its own: what `nfp plan` tells on standard error beside the plan.
+"""What is odd in a policy without fault, by rules of its own: what the crate `policy_lint` finds.
 
 Nothing of it is a fault. Each finding has a name, the line that it speaks of, and the line that makes it so, or 0.
 
-    chain-taken     no packet reaches this chain: each that meets its clauses meets those of the other, before it
-    rule-covered    this rule never decides: each packet that meets it meets the other, before it in the function
-    nat-inside      the public address lies in the prefix inside
-    nat-shared      a nat has the public address of the other, and at least one port
-    one-version     what this firewall denies by addresses, it denies of one version of IP alone, and lets pass of the other
-    limiter-behind  this limiter counts by the sources that the other function writes
-    never-reached   no packet reaches this function: the other, before it in the chain, drops each
+    chain-taken        no packet reaches this chain: each that meets its clauses meets those of the other, before it
+    rule-covered       this rule never decides: each packet that meets it meets the other, before it in the function
+    denies-ipv4-alone  this firewall denies by addresses of IPv4 alone, and packets of IPv6 come to it
+    denies-ipv6-alone  the same the other way round
+    never-reached      no packet reaches this function: the other, before it in the chain, drops each
+    limiter-behind     this limiter counts by the sources that the other function writes
+    public-inside      the public address lies in the prefix inside
+    shared-ports       a nat has the public address of the other, and at least one port
 """
 
 import ipaddress
@@ -94,28 +95,42 @@ def versions(clauses):
 
 
 def denied_version(function):
-    """The one version of IP by whose addresses a firewall denies, where it denies by no address of the other and lets pass what is left."""
+    """The one version of IP by whose addresses a firewall denies, where no rule asks for one of the other or for nothing, and what is left passes."""
     rules = rules_of(function)
     denied = {version for rule in rules if not rule.allow for version in versions(rule.clauses)}
     named = {version for rule in rules for version in versions(rule.clauses)}
-    decides = any(not rule.clauses for rule in rules)
-    return named if len(named) == 1 and denied == named and default_of(function) and not decides else set()
+    is_open = any(not rule.clauses for rule in rules)
+    return named if len(named) == 1 and denied == named and default_of(function) and not is_open else set()
+
+
+def takes_version(chain, version):
+    """Does a chain take all packets with addresses of this version?"""
+    everything = {4: ipaddress.ip_network('0.0.0.0/0'), 6: ipaddress.ip_network('::/0')}[version]
+    return all(value == everything for value in chain.clauses.values())
 
 
 def one_version(chains, at):
     """The firewalls of a chain that deny by addresses of one version, where packets of the other come to them."""
     chain = chains[at]
     for function in chain.functions:
-        if function.kind == 'firewall':
-            for version in denied_version(function):
-                if version not in versions(chain.clauses) and not takes_version(chains[:at], 10 - version):
-                    yield Finding('one-version', function.line, 0)
+        for version in denied_version(function) if function.kind == 'firewall' else ():
+            if version not in versions(chain.clauses) and not any(takes_version(other, 10 - version) for other in chains[:at]):
+                yield Finding(f'denies-ipv{version}-alone', function.line, 0)
 
 
-def takes_version(chains, version):
-    """Does a chain take all packets with a source, or a destination, of this version?"""
-    everything = {4: ipaddress.ip_network('0.0.0.0/0'), 6: ipaddress.ip_network('::/0')}[version]
-    return any(chain.clauses in ({}, {'src': everything}, {'dst': everything}) for chain in chains)
+def unreached(walk):
+    """The functions behind the first that drops each packet."""
+    dropper = next((at for at, function in enumerate(walk) if drops_all(function)), len(walk))
+    for function in walk[dropper + 1 :]:
+        yield Finding('never-reached', function.line, walk[dropper].line)
+
+
+def limited(walk):
+    """The limiters behind the first function that writes sources."""
+    for at, function in enumerate(walk):
+        writer = next((other for other in walk[:at] if 'src' in policy_rules.KINDS[other.kind][1].split()), None)
+        if function.kind == 'limiter' and writer:
+            yield Finding('limiter-behind', function.line, writer.line)
 
 
 def nats_of(chains):
@@ -123,32 +138,19 @@ def nats_of(chains):
         for function in chain.functions:
             if function.kind == 'nat':
                 said = {setting.lead[1]: setting for setting in policy_rules.read_settings(function)}
-                yield said['inside'].value, said['public'], said['ports']
+                yield said['inside'], said['public'], said['ports']
 
 
-def nats(chains):
+def odd_nats(chains):
     before = []
     for inside, public, ports in nats_of(chains):
-        if public.value in inside:
-            yield Finding('nat-inside', public.number, 0)
-        for other, others in before:
-            if other == public.value and ports.value[0] <= others.value[1] and others.value[0] <= ports.value[1]:
-                yield Finding('nat-shared', ports.number, others.number)
-                break
+        if public.value in inside.value:
+            yield Finding('public-inside', public.number, inside.number)
+        low, high = ports.value
+        other = next((others for address, others in before if address == public.value and low <= others.value[1] and others.value[0] <= high), None)
+        if other:
+            yield Finding('shared-ports', ports.number, other.number)
         before.append((public.value, ports))
-
-
-def behind(chain, order):
-    """What is told of functions that stand behind others in the order of a chain."""
-    by_name = {function.name: function for function in chain.functions}
-    walk = [by_name[name] for name in order]
-    for at, function in enumerate(walk):
-        writer = next((other for other in walk[:at] if 'src' in policy_rules.KINDS[other.kind][1].split()), None)
-        if function.kind == 'limiter' and writer:
-            yield Finding('limiter-behind', function.line, writer.line)
-        dropper = next((other for other in walk[:at] if drops_all(other)), None)
-        if dropper:
-            yield Finding('never-reached', function.line, dropper.line)
 
 
 def findings(text):
@@ -157,8 +159,8 @@ def findings(text):
     chains = [chain for chain, _ in checked]
     found = list(covered('chain-taken', [(chain.line, chain.clauses) for chain in chains]))
     for at, (chain, order) in enumerate(checked):
+        walk = [next(function for function in chain.functions if function.name == name) for name in order]
         for function in chain.functions:
             found += covered('rule-covered', [(rule.line, rule.clauses) for rule in rules_of(function)])
-        found += one_version(chains, at)
-        found += behind(chain, order)
-    return found + list(nats(chains))
+        found += [*one_version(chains, at), *unreached(walk), *limited(walk)]
+    return found + list(odd_nats(chains))

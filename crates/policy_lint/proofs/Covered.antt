@@ -17,7 +17,7 @@ use Rattle.policy_text.specs.declared.seen.TagSeen.TheVariants.{Absent, Bare, Id
 use Rattle.function_lines.specs.Rules.{first_met}
 use Rattle.policy_lint.specs.Implying.{lies_in, lies_in6, is_part, implies, covers}
 
-both_true : (a b : Bool) → (a && b) ≡ true → (a ≡ true) × (b ≡ true)
+pub both_true : (a b : Bool) → (a && b) ≡ true → (a ≡ true) × (b ≡ true)
 both_true true b h = (refl, h)
 both_true false b h = absurd cc
 

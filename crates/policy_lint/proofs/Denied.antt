@@ -15,7 +15,7 @@ use Rattle.policy_lint.specs.declared.versions.Version.TheVariants.{Ipv4, Ipv6}
 use Rattle.policy_lint.specs.Firewalls.{is_empty, ends, drops_by}
 use Rattle.policy_lint.specs.Versions.{is_of, asks_by, Lacks}
 
-negated : (b : Bool) → not b ≡ true → b ≡ false
+pub negated : (b : Bool) → not b ≡ true → b ≡ false
 negated true h = sym h
 negated false h = refl
 

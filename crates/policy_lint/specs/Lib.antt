@@ -3,6 +3,7 @@ pub mod Findings
 pub mod Firewalls
 pub mod Gathering
 pub mod Implying
+pub mod Meaning
 pub mod Nats
 pub mod Rules
 pub mod Telling

@@ -1,16 +1,20 @@
 //! What findings are worth.
 
-ghost use Rattle.std.specs.Prelude.{◌≡◌, ◌≢◌, List, ◌++◌, ◌∷◌, Bool, length, Option, Some, position, true, false};
+ghost use Rattle.std.specs.Prelude.{◌≡◌, ◌≢◌, List, ◌++◌, ◌∷◌, Bool, length, Option, Some, position, true, false, All};
 ghost use Rattle.std.specs.List.{list_any};
 ghost use Rattle.std.specs.Option.{option_map_or};
 ghost use Rattle.policy_text.specs.declared.clause.Match.{Match};
 ghost use Rattle.policy_text.specs.declared.seen.Seen.{Seen};
 ghost use Rattle.policy_text.specs.Meeting.{is_fitting};
 ghost use Rattle.function_lines.specs.Rules.{first_met};
+ghost use Rattle.policy_text.specs.declared.policy.ChainPolicy.{ChainPolicy};
+ghost use Rattle.policy_check.specs.declared.fault.Order.{Order};
 ghost use Rattle.policy_lint.specs.declared.rule_line.RuleLine.{RuleLine};
 ghost use Rattle.policy_lint.specs.declared.versions.Version.{Version};
 ghost use Rattle.policy_lint.specs.Firewalls.{drops_by};
+ghost use Rattle.policy_lint.specs.Findings.{findings};
 ghost use Rattle.policy_lint.specs.Implying.{covers};
+ghost use Rattle.policy_lint.specs.Meaning.{Means};
 ghost use Rattle.policy_lint.specs.Versions.{asks_by, Lacks};
 
 use function_lines::Fitting;
@@ -43,4 +47,10 @@ pub fn rules_that_drop_all_deny()
 /// A law: clauses of which one asks for an address of a version aren't met by a packet that has none of this version.
 pub fn addresses_keep_to_their_version()
     ensures { (version : Version) → (fit : Match) → (seen : Seen) → asks_by version fit ≡ true → Lacks version seen → is_fitting fit seen ≡ false }
+{}
+
+/// A law: each finding is true. Its lines are those of things of the policy, in their order, of which holds what it says:
+/// whatever meets the one meets the other, no packet passes the firewall before, and so on.
+pub fn findings_are_true()
+    ensures { (chains : List ChainPolicy) → (orders : List Order) → All (Means chains orders) (findings chains orders) }
 {}

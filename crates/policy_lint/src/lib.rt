@@ -5,9 +5,10 @@
 //! ports can't work. It gives each as a [`Finding`] with its lines, in the order that `findings` of `specs/Findings.antt` has, and
 //! promises exactly these. [`Finding::text`] tells what it means and how to say it otherwise.
 //!
-//! What they are worth is said by laws, in the words of the language (`is_fitting` of `policy_text`) and of rules (`first_met` of
-//! `function_lines`): [`what_is_covered_is_met`], [`covered_rules_never_decide`], [`covered_chains_take_nothing`],
-//! [`rules_that_drop_all_deny`] and [`addresses_keep_to_their_version`].
+//! Each finding is true ([`findings_are_true`]): `specs/Meaning.antt` says what it means, in the words of the language (`is_fitting` of
+//! `policy_text`) and of rules (`first_met` of `function_lines`). What that is worth for packets say [`what_is_covered_is_met`],
+//! [`covered_rules_never_decide`], [`covered_chains_take_nothing`], [`rules_that_drop_all_deny`] and
+//! [`addresses_keep_to_their_version`].
 //!
 //! A policy has no finding where none of this is there; it may still be odd in another way. Which version of IP a packet has, and
 //! what a chain's earlier functions leave of it, isn't looked at.
@@ -29,6 +30,6 @@ pub use covering::covers;
 pub use finding::Finding;
 pub use laws::{
     addresses_keep_to_their_version, covered_chains_take_nothing, covered_rules_never_decide,
-    rules_that_drop_all_deny, what_is_covered_is_met,
+    findings_are_true, rules_that_drop_all_deny, what_is_covered_is_met,
 };
 pub use linting::lint;
