@@ -47,6 +47,7 @@ class Function(typing.NamedTuple):
 
 class Chain(typing.NamedTuple):
     name: str
+    line: int
     clauses: dict
     functions: list
     statements: list  # line, and the words of an order, priority or position
@@ -198,7 +199,7 @@ def read_chain_line(chains, line):
         raise line.fault('too many chains')
     if words[1] in [chain.name for chain in chains]:
         raise line.fault('duplicate name')
-    chains.append(Chain(words[1], clauses, [], []))
+    chains.append(Chain(words[1], line.number, clauses, [], []))
 
 
 def read_function_line(chains, line):

@@ -1,0 +1,4 @@
+pub mod Covered
+pub mod Denied
+pub mod Meant
+pub mod Steps

@@ -1,0 +1,10 @@
+pub mod Behind
+pub mod Findings
+pub mod Firewalls
+pub mod Gathering
+pub mod Implying
+pub mod Meaning
+pub mod Nats
+pub mod Rules
+pub mod Telling
+pub mod Versions

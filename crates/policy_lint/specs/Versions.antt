@@ -1,0 +1,83 @@
+-- For proofs: firewalls that deny by addresses of one version of IP alone.
+use Rattle.std.specs.Prelude.{ℕ, ◌≡◌, List, [], Bool, true, false, not, ◌&&◌, ◌==◌, if◌then◌else◌, Option, Some, None}
+use Rattle.std.specs.List.{list_all, list_any}
+use Rattle.std.specs.Option.{option_to_list}
+use Rattle.policy_text.specs.declared.clause.Clause.{Clause}
+use Rattle.policy_text.specs.declared.clause.Clause.TheVariants.{Src, Dst, Src6, Dst6}
+use Rattle.policy_text.specs.declared.clause.Match.{Match}
+use Rattle.policy_text.specs.declared.policy.ChainPolicy.{ChainPolicy}
+use Rattle.policy_text.specs.declared.policy.FunctionDecl.{FunctionDecl}
+use Rattle.policy_text.specs.declared.seen.Seen.{Seen}
+use Rattle.policy_lint.specs.declared.finding.Finding.{Finding}
+use Rattle.policy_lint.specs.declared.finding.Finding.TheVariants.{DeniesIpv4Alone, DeniesIpv6Alone}
+use Rattle.policy_lint.specs.declared.rule_line.RuleLine.{RuleLine}
+use Rattle.policy_lint.specs.declared.versions.Version.{Version}
+use Rattle.policy_lint.specs.declared.versions.Version.TheVariants.{Ipv4, Ipv6}
+use Rattle.policy_lint.specs.Firewalls.{is_firewall, is_empty, default_of}
+use Rattle.policy_lint.specs.Gathering.{gathered}
+use Rattle.policy_lint.specs.Rules.{rules_of}
+
+abbrev pub other_than : Version → Version
+other_than Ipv4 = Ipv6
+other_than Ipv6 = Ipv4
+
+-- the clause is a prefix of this version
+abbrev pub is_of : Version → Clause → Bool
+is_of Ipv4 (Src prefix bits) = true
+is_of Ipv4 (Dst prefix bits) = true
+is_of Ipv6 (Src6 prefix bits) = true
+is_of Ipv6 (Dst6 prefix bits) = true
+is_of version clause = false
+
+-- it takes all addresses of this version
+abbrev pub takes_all : Version → Clause → Bool
+takes_all Ipv4 (Src prefix bits) = bits == 0
+takes_all Ipv4 (Dst prefix bits) = bits == 0
+takes_all Ipv6 (Src6 prefix bits) = bits == 0
+takes_all Ipv6 (Dst6 prefix bits) = bits == 0
+takes_all version clause = false
+
+abbrev pub asks_by : Version → Match → Bool
+asks_by version fit = list_any (is_of version) fit.clauses
+
+-- a rule denies by an address of this version, or some rule asks for one, or for nothing
+abbrev pub is_denied_by : Version → RuleLine → Bool
+is_denied_by version r = not r.allow && asks_by version r.fit
+
+abbrev pub denies_by : Version → List RuleLine → Bool
+denies_by version rules = list_any (is_denied_by version) rules
+
+abbrev pub names : Version → List RuleLine → Bool
+names version rules = list_any (λ r. asks_by version r.fit) rules
+
+abbrev pub has_open : List RuleLine → Bool
+has_open rules = list_any (λ r. is_empty r.fit.clauses) rules
+
+-- some rule denies by addresses of this version, none asks for one of the other or for nothing
+abbrev pub denies_alone : Version → List RuleLine → Bool
+denies_alone version rules = denies_by version rules && (not (names (other_than version) rules) && not (has_open rules))
+
+-- packets of this version may come to the chain: no chain before takes all of them, and it asks for none of the other version
+abbrev pub comes : Version → List ChainPolicy → ChainPolicy → Bool
+comes version before chain = not (asks_by (other_than version) chain.fit) && not (list_any (λ (c : ChainPolicy). list_all (takes_all version) c.fit.clauses) before)
+
+-- of this version alone, though packets of the other come
+abbrev pub is_alone : Version → List ChainPolicy → ChainPolicy → List RuleLine → Bool
+is_alone version before chain rules = denies_alone version rules && comes (other_than version) before chain
+
+abbrev pub told_alone : List ChainPolicy → ChainPolicy → ℕ → List RuleLine → Option Finding
+told_alone before chain line rules =
+    if is_alone Ipv4 before chain rules then Some (DeniesIpv4Alone line) else
+    if is_alone Ipv6 before chain rules then Some (DeniesIpv6Alone line) else None
+
+-- of a firewall that lets pass what meets no rule
+abbrev pub alone_of : List ChainPolicy → ChainPolicy → FunctionDecl → Option Finding
+alone_of before chain decl = if is_firewall decl.kind && default_of decl then told_alone before chain decl.line (rules_of decl) else None
+
+abbrev pub alone_in : List ChainPolicy → ChainPolicy → List Finding
+alone_in before chain = gathered (λ others decl. option_to_list (alone_of before chain decl)) [] chain.functions
+
+-- a packet has no address of this version
+abbrev pub Lacks : Version → Seen → Type 0
+Lacks Ipv4 seen = (seen.src ≡ None) × (seen.dst ≡ None)
+Lacks Ipv6 seen = (seen.src6 ≡ None) × (seen.dst6 ≡ None)
