@@ -9,6 +9,7 @@ pub mod FirstBlock
 pub mod Giving
 pub mod Reading
 pub mod Pieces
+pub mod Short
 pub mod Again
 pub mod PacketAgain
 pub mod Same

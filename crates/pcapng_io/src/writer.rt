@@ -1,5 +1,5 @@
 //! Blocks, as they are written.
-ghost use Rattle.std.specs.Prelude.{◌≡◌, ◌≢◌, ◌≤◌, ◌<◌, ◌+◌, ◌-◌, ◌%◌, ◌^◌, ◌++◌, IsSome, OnErr, OnOk, length, replicate, take};
+ghost use Rattle.std.specs.Prelude.{◌≡◌, ◌≢◌, ◌≤◌, ◌<◌, ◌+◌, ◌-◌, ◌%◌, ◌^◌, ◌++◌, IsSome, OnErr, OnOk, drop, length, replicate, take};
 ghost use Rattle.nfp_outside.specs.declared.slot.Slot.{Slot};
 ghost use Rattle.nfp_outside.specs.Outside.{Appends, AppendsPrefix, WriteCause};
 ghost use Rattle.capture_bytes.specs.Numbers.{bytes_of, number_at};
@@ -14,6 +14,14 @@ use nfp_outside::{Desk, OutsideFault, Slot, write_whole};
 
 // The length of a section that isn't told.
 const NO_SECTION_LENGTH: [u8; 8] = [255, 255, 255, 255, 255, 255, 255, 255];
+
+// The bytes of a packet's block before its frame.
+const HEAD: usize = 28;
+
+// The most bytes of a frame that is put in one piece with what stands around it, and of its block.
+const SHORT_FRAME: usize = 220;
+
+const SHORT_BLOCK: usize = 256;
 
 // What stands behind a frame up to a multiple of four.
 const ZEROS: [u8; 4] = [0, 0, 0, 0];
@@ -93,10 +101,122 @@ pub fn put_packet<D: Desk>(
     let length = (32 + data + options.len()) as u32;
     let captured = frame.len() as u32;
     let head = head_of(order, length, interface, ticks, captured, packet.wire);
-    if let Err(fault) = put_two(desk, &head, frame) {
+    put_around(
+        desk,
+        order,
+        &head,
+        frame,
+        data - frame.len(),
+        options,
+        length,
+    )
+}
+
+// Puts a frame with what stands before it, and behind it so many zeros, the options, and the block's length. Where the frame is short and
+// there are no options, it is one piece.
+fn put_around<D: Desk>(
+    desk: &mut D,
+    order: Endian,
+    head: &[u8],
+    frame: &[u8],
+    padding: usize,
+    options: &[u8],
+    size: u32,
+) -> Result<(), OutsideFault>
+    requires attached { IsSome (D.slots desk.old Slot.Out).name }
+    requires head { length head.now ≡ 28 }
+    requires few { padding ≤ 4 }
+    ensures ok { OnOk result (Appends ((head.now ++ frame.now) ++ (replicate padding 0 ++ options.now ++ bytes_of order 4 size)) (D.slots desk.old Slot.Out) (D.slots desk.new Slot.Out)) }
+    ensures err { OnErr result (AppendsPrefix ((head.now ++ frame.now) ++ (replicate padding 0 ++ options.now ++ bytes_of order 4 size)) (D.slots desk.old Slot.Out) (D.slots desk.new Slot.Out)) }
+    ensures cause { WriteCause Slot.Out (D.slots desk.old Slot.Out) (D.slots desk.new Slot.Out) result }
+    ensures others { (s : Slot) → s ≢ Slot.Out → D.slots desk.new s ≡ D.slots desk.old s }
+{
+    if options.is_empty() && frame.len() <= SHORT_FRAME {
+        put_short(desk, order, head, frame, padding, size)
+    } else {
+        put_long(desk, order, head, frame, padding, options, size)
+    }
+}
+
+// Puts a short frame with what stands before it, and behind it so many zeros and the block's length, in one piece.
+#[tactic(auto, using(crate::proofs::Short::short_whole))]
+fn put_short<D: Desk>(
+    desk: &mut D,
+    order: Endian,
+    head: &[u8],
+    frame: &[u8],
+    padding: usize,
+    size: u32,
+) -> Result<(), OutsideFault>
+    requires attached { IsSome (D.slots desk.old Slot.Out).name }
+    requires head { length head.now ≡ 28 }
+    requires short { length frame.now ≤ 220 }
+    requires few { padding ≤ 4 }
+    ensures ok { OnOk result (Appends ((head.now ++ frame.now) ++ (replicate padding 0 ++ bytes_of order 4 size)) (D.slots desk.old Slot.Out) (D.slots desk.new Slot.Out)) }
+    ensures err { OnErr result (AppendsPrefix ((head.now ++ frame.now) ++ (replicate padding 0 ++ bytes_of order 4 size)) (D.slots desk.old Slot.Out) (D.slots desk.new Slot.Out)) }
+    ensures cause { WriteCause Slot.Out (D.slots desk.old Slot.Out) (D.slots desk.new Slot.Out) result }
+    ensures others { (s : Slot) → s ≢ Slot.Out → D.slots desk.new s ≡ D.slots desk.old s }
+{
+    let end = HEAD + frame.len() + padding;
+    let block = short_block(order, head, frame, end, size);
+    write_whole(desk, Slot::Out, &block[..end + 4])
+}
+
+// The block of a short frame without options, whose length stands at this place, and zeros behind it.
+fn short_block(order: Endian, head: &[u8], frame: &[u8], end: usize, size: u32) -> [u8; SHORT_BLOCK]
+    requires head { length head.now ≡ 28 }
+    requires short { length frame.now ≤ 220 }
+    requires end { end ≤ 252 }
+    ensures { take (end + 4) result ≡ take end ((head.now ++ frame.now) ++ replicate (228 - length frame.now) 0) ++ bytes_of order 4 size }
+{
+    let mut block = short_front(head, frame);
+    put_u32(order, &mut block, end, size);
+    block
+}
+
+// A short frame with what stands before it, and zeros behind it.
+#[tactic(auto, using(crate::proofs::Short::front_whole))]
+fn short_front(head: &[u8], frame: &[u8]) -> [u8; SHORT_BLOCK]
+    requires head { length head.now ≡ 28 }
+    requires short { length frame.now ≤ 220 }
+    ensures { result ≡ (head.now ++ frame.now) ++ replicate (228 - length frame.now) 0 }
+{
+    let mut block = [0; SHORT_BLOCK];
+    put_piece(&mut block, 0, head);
+    put_piece(&mut block, HEAD, frame);
+    block
+}
+
+// Puts a piece at a place.
+fn put_piece(bytes: &mut [u8], at: usize, piece: &[u8])
+    requires { at + length piece.now ≤ length bytes.old }
+    ensures { bytes.new ≡ take at bytes.old ++ (piece.now ++ drop (length piece.now) (drop at bytes.old)) }
+{
+    bytes[at..at + piece.len()].copy_from_slice(piece);
+}
+
+// Puts what [`put_around`] puts piece by piece.
+#[tactic(auto, using(nfp_outside::specs::Adding::prefix_longer, nfp_outside::specs::Adding::prefix_more))]
+fn put_long<D: Desk>(
+    desk: &mut D,
+    order: Endian,
+    head: &[u8],
+    frame: &[u8],
+    padding: usize,
+    options: &[u8],
+    size: u32,
+) -> Result<(), OutsideFault>
+    requires attached { IsSome (D.slots desk.old Slot.Out).name }
+    requires few { padding ≤ 4 }
+    ensures ok { OnOk result (Appends ((head.now ++ frame.now) ++ (replicate padding 0 ++ options.now ++ bytes_of order 4 size)) (D.slots desk.old Slot.Out) (D.slots desk.new Slot.Out)) }
+    ensures err { OnErr result (AppendsPrefix ((head.now ++ frame.now) ++ (replicate padding 0 ++ options.now ++ bytes_of order 4 size)) (D.slots desk.old Slot.Out) (D.slots desk.new Slot.Out)) }
+    ensures cause { WriteCause Slot.Out (D.slots desk.old Slot.Out) (D.slots desk.new Slot.Out) result }
+    ensures others { (s : Slot) → s ≢ Slot.Out → D.slots desk.new s ≡ D.slots desk.old s }
+{
+    if let Err(fault) = put_two(desk, head, frame) {
         return Err(fault);
     }
-    put_tail(desk, order, data - frame.len(), options, length)
+    put_tail(desk, order, padding, options, size)
 }
 
 // Puts what stands behind a frame: so many zeros, the options, and the block's length. Mostly there are no options: then it is one piece.
