@@ -2,6 +2,7 @@
 //!
 //! The line and the status are what the program promises. Where there is no memory for more, or no standard error, there is no more.
 
+use crate::odd::tell_odd;
 use nfp_outside::{Reason, Slot};
 use nfp_run::{Option4, Outcome, UsageFault};
 use operator_help::capture::{Captured, Purpose};
@@ -30,7 +31,10 @@ pub fn tell_more<R: Env + Eprint + AllocGlobal>(
     reason: Option<Reason>,
 ) {
     let mut page = Page::new(rt.alloc());
-    fill(&mut page, rt, words, seen, outcome, reason);
+    match (outcome, seen.name(Slot::Capture)) {
+        (Outcome::Done, None) => tell_odd(&mut page, rt, rt.alloc(), seen),
+        _ => fill(&mut page, rt, words, seen, outcome, reason),
+    }
     if !page.text().is_empty() {
         let _ = rt.eprint(page.text());
     }

@@ -10,6 +10,7 @@
 #![tactic(auto)]
 
 mod help;
+mod odd;
 
 use help::tell_more;
 use nfp_outside::{FileDesk, OpenGate, Reason, Slot};

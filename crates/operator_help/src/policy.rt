@@ -135,8 +135,8 @@ pub fn quote_row(page: &mut Page, policy: PolicyText<'_>, row: Row<'_>, mark: Op
     page.quote(row.text, mark);
 }
 
-// Adds the line with this number, with a mark under the word at a place where there is one, and gives it.
-fn quote_line<'a>(
+/// Adds the line with this number, with a mark under the word at a place where there is one, and gives it.
+pub fn quote_line<'a>(
     page: &mut Page,
     policy: PolicyText<'a>,
     line: u32,
