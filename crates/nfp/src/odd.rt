@@ -33,10 +33,7 @@ fn find(page: &mut Page, alloc: Global, policy: PolicyText<'_>)
     let Ok(judged) = judge(alloc, policy.text) else {
         return;
     };
-    let Ok(found) = policy_lint::lint(alloc, &judged.policy, judged.orders.as_slice()) else {
-        return;
-    };
-    for finding in found.as_slice() {
-        lint::finding(page, policy, *finding);
+    if let Ok(found) = policy_lint::lint(alloc, &judged.policy, judged.orders.as_slice()) {
+        lint::findings(page, policy, found.as_slice());
     }
 }

@@ -40,6 +40,22 @@ const LED: &str = "the records before it went through the chains; OUT and REPORT
 
 const COUNTED: &str = "the records before it are counted; OUT has their flows";
 
+const BSD: &str = "what was captured at the loopback interface of BSD or macOS";
+
+const OPENBSD: &str = "what was captured at the loopback interface of OpenBSD";
+
+const DIALLED: &str = "what was captured at a dialled or tunnelled link";
+
+const TUNNEL: &str = "what was captured at a tunnel (tun), which has no link header";
+
+const BLUETOOTH: &str = "what was captured at a Bluetooth adapter";
+
+const USB: &str = "what was captured at a USB bus";
+
+const NFLOG: &str = "what the Linux firewall logs, as by `tcpdump -i nflog`";
+
+const RADIO_LINK: &str = "IEEE 802.11 with a radio header";
+
 const ANY: &str = "what was captured at all interfaces at once, as by `tcpdump -i any`";
 
 const RADIO: &str = "what was captured at a radio in monitor mode";
@@ -198,40 +214,45 @@ fn cut_head(page: &mut Page, name: &str, front: &[u8]) {
     }
 }
 
-// What a kind of link is called, and what is captured so, by its number (the registry of link-layer header types).
+// What a kind of link is called, and what is captured so.
 fn link_of(number: u32) -> (&'static str, &'static str) {
-    match number {
-        0 => (
-            "BSD loopback",
-            "what was captured at the loopback interface of BSD or macOS",
-        ),
-        9 | 50 | 51 => ("PPP", "what was captured at a dialled or tunnelled link"),
-        10 => ("FDDI", "what was captured at an FDDI ring"),
-        6 => ("Token Ring", "what was captured at a token ring"),
-        12 | 14 | 101 => (
-            "raw IP",
-            "what was captured at a tunnel (tun), which has no link header",
-        ),
-        104 => ("Cisco HDLC", SERIAL),
-        105 => ("IEEE 802.11", RADIO),
-        107 => ("Frame Relay", SERIAL),
-        108 => (
-            "OpenBSD loopback",
-            "what was captured at the loopback interface of OpenBSD",
-        ),
-        113 => ("Linux cooked v1", ANY),
-        119 | 127 | 163 | 192 => ("IEEE 802.11 with a radio header", RADIO),
-        187 | 201 => ("Bluetooth", "what was captured at a Bluetooth adapter"),
-        189 | 220 => ("USB", "what was captured at a USB bus"),
-        195 | 230 => ("IEEE 802.15.4", RADIO),
-        228 => ("raw IPv4", NO_HEADER),
-        229 => ("raw IPv6", NO_HEADER),
-        239 => (
-            "NFLOG",
-            "what the Linux firewall logs, as by `tcpdump -i nflog`",
-        ),
-        253 => ("netlink", "what was captured at a netlink monitor"),
-        276 => ("Linux cooked v2", ANY),
-        _ => ("of another kind", "not known here; `capinfos` names it"),
+    for (known, link, source) in LINKS {
+        if *known == number {
+            return (*link, *source);
+        }
     }
+    ("of another kind", "not known here; `capinfos` names it")
 }
+
+// Kinds of links by their numbers (the registry of link-layer header types).
+const LINKS: &[(u32, &str, &str)] = &[
+    (0, "BSD loopback", BSD),
+    (6, "Token Ring", "what was captured at a token ring"),
+    (9, "PPP", DIALLED),
+    (10, "FDDI", "what was captured at an FDDI ring"),
+    (12, "raw IP", TUNNEL),
+    (14, "raw IP", TUNNEL),
+    (50, "PPP", DIALLED),
+    (51, "PPP", DIALLED),
+    (101, "raw IP", TUNNEL),
+    (104, "Cisco HDLC", SERIAL),
+    (105, "IEEE 802.11", RADIO),
+    (107, "Frame Relay", SERIAL),
+    (108, "OpenBSD loopback", OPENBSD),
+    (113, "Linux cooked v1", ANY),
+    (119, RADIO_LINK, RADIO),
+    (127, RADIO_LINK, RADIO),
+    (163, RADIO_LINK, RADIO),
+    (187, "Bluetooth", BLUETOOTH),
+    (189, "USB", USB),
+    (192, RADIO_LINK, RADIO),
+    (195, "IEEE 802.15.4", RADIO),
+    (201, "Bluetooth", BLUETOOTH),
+    (220, "USB", USB),
+    (228, "raw IPv4", NO_HEADER),
+    (229, "raw IPv6", NO_HEADER),
+    (230, "IEEE 802.15.4", RADIO),
+    (239, "NFLOG", NFLOG),
+    (253, "netlink", "what was captured at a netlink monitor"),
+    (276, "Linux cooked v2", ANY),
+];

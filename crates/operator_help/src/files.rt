@@ -46,37 +46,34 @@ pub enum Sign {
     Unknown,
 }
 
+// What files are that begin so.
+const SIGNS: &[(&[u8], Sign)] = &[
+    (b"\xd4\xc3\xb2\xa1", Sign::Pcap),
+    (b"\xa1\xb2\xc3\xd4", Sign::Pcap),
+    (b"\x4d\x3c\xb2\xa1", Sign::Pcap),
+    (b"\xa1\xb2\x3c\x4d", Sign::Pcap),
+    (b"\x34\xcd\xb2\xa1", Sign::PatchedPcap),
+    (b"\xa1\xb2\xcd\x34", Sign::PatchedPcap),
+    (b"\x0a\x0d\x0d\x0a", Sign::Pcapng),
+    (b"snoop\0\0\0", Sign::Snoop),
+    (b"\x1f\x8b", Sign::Gzip),
+    (b"BZh", Sign::Bzip2),
+    (b"\xfd7zXZ\0", Sign::Xz),
+    (b"\x28\xb5\x2f\xfd", Sign::Zstandard),
+    (b"\xef\xbb\xbf", Sign::Utf8),
+    (b"\xff\xfe", Sign::Utf16),
+    (b"\xfe\xff", Sign::Utf16),
+    (b"nfp 1", Sign::Policy),
+];
+
 /// What a file is that begins so.
 pub fn sign_of(front: &[u8]) -> Sign {
-    let signs: [(&[u8], Sign); 15] = [
-        (b"\xd4\xc3\xb2\xa1", Sign::Pcap),
-        (b"\xa1\xb2\xc3\xd4", Sign::Pcap),
-        (b"\x4d\x3c\xb2\xa1", Sign::Pcap),
-        (b"\xa1\xb2\x3c\x4d", Sign::Pcap),
-        (b"\x34\xcd\xb2\xa1", Sign::PatchedPcap),
-        (b"\xa1\xb2\xcd\x34", Sign::PatchedPcap),
-        (b"\x0a\x0d\x0d\x0a", Sign::Pcapng),
-        (b"snoop\0\0\0", Sign::Snoop),
-        (b"\x1f\x8b", Sign::Gzip),
-        (b"BZh", Sign::Bzip2),
-        (b"\xfd7zXZ\0", Sign::Xz),
-        (b"\x28\xb5\x2f\xfd", Sign::Zstandard),
-        (b"\xef\xbb\xbf", Sign::Utf8),
-        (b"\xff\xfe", Sign::Utf16),
-        (b"\xfe\xff", Sign::Utf16),
-    ];
-    for (start, sign) in signs {
+    for (start, sign) in SIGNS {
         if front.starts_with(start) {
-            return sign;
+            return *sign;
         }
     }
-    text_sign(front)
-}
-
-fn text_sign(front: &[u8]) -> Sign {
-    if front.starts_with(b"nfp 1") {
-        Sign::Policy
-    } else if front.is_empty() {
+    if front.is_empty() {
         Sign::Unknown
     } else {
         letters_sign(front)
@@ -86,7 +83,7 @@ fn text_sign(front: &[u8]) -> Sign {
 // A text has nothing but printable characters, blanks and ends of lines.
 fn letters_sign(front: &[u8]) -> Sign {
     for byte in front {
-        if !is_printable(*byte) && *byte != b'\t' && *byte != b'\n' && *byte != b'\r' {
+        if !is_printable(*byte) && !b"\t\n\r".contains(byte) {
             return Sign::Unknown;
         }
     }

@@ -58,24 +58,23 @@ pub fn required_of(kind: Kind) -> &'static str {
 
 /// The forms of the lines that begin with this word, one a line.
 pub fn forms_of_line(first: &[u8]) -> &'static str {
-    if first == b"chain".as_slice() {
-        "  chain NAME\n  chain NAME match CLAUSE .."
-    } else if first == b"fn".as_slice() {
-        "  fn NAME KIND"
-    } else if first == b"order".as_slice() {
-        "  order NAME before NAME"
-    } else if first == b"priority".as_slice() {
-        "  priority NAME > NAME"
-    } else if first == b"position".as_slice() {
-        "  position NAME first|last"
-    } else if first == b"set".as_slice() {
-        "  set WORD .."
-    } else if first == b"rule".as_slice() {
-        "  rule WORD .."
-    } else {
-        ""
+    for (word, forms) in LINE_FORMS {
+        if *word == first {
+            return *forms;
+        }
     }
+    ""
 }
+
+const LINE_FORMS: &[(&[u8], &str)] = &[
+    (b"chain", "  chain NAME\n  chain NAME match CLAUSE .."),
+    (b"fn", "  fn NAME KIND"),
+    (b"order", "  order NAME before NAME"),
+    (b"priority", "  priority NAME > NAME"),
+    (b"position", "  position NAME first|last"),
+    (b"set", "  set WORD .."),
+    (b"rule", "  rule WORD .."),
+];
 
 /// The place up to which a line fits the best of these forms. Nothing where it fits one of them whole.
 pub fn best_misfit(page: &mut Page, forms: &str, clauses: &str, row: Row<'_>) -> Option<usize> {

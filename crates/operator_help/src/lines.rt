@@ -134,11 +134,6 @@ pub fn row_at<'a>(rows: &[Row<'a>], place: usize) -> Row<'a> {
     }
 }
 
-/// The line with a number, or an empty one.
-pub fn row_of<'a>(rows: &[Row<'a>], number: u32) -> Row<'a> {
-    row_at(rows, place_of(rows, number))
-}
-
 /// The lines behind a place.
 pub fn rows_behind<'r, 'a>(rows: &'r [Row<'a>], place: usize) -> &'r [Row<'a>] {
     &rows[place.saturating_add(1).min(rows.len())..]

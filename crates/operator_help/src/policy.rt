@@ -2,7 +2,7 @@
 
 use crate::files::{Sign, sign_of};
 use crate::forms::{ALL_CLAUSES, forms_of_line};
-use crate::lines::{Row, place_of, row_at, row_of, until};
+use crate::lines::{Row, place_of, row_at, until};
 use crate::page::Page;
 pub use crate::settings::bad_setting;
 use crate::settings::{kind_at, say_kind_forms, say_word};
@@ -70,18 +70,30 @@ pub struct PolicyText<'a> {
     pub text: &'a [u8],
 }
 
+/// The same as its lines that aren't blank.
+#[derive(Clone, Copy)]
+pub struct Lines<'r> {
+    pub name: &'r str,
+    pub rows: &'r [Row<'r>],
+}
+
 /// A text that isn't a policy.
 pub fn text_fault(page: &mut Page, policy: PolicyText<'_>, fault: TextFault) {
+    let rows = page.rows(policy.text);
+    let lines = Lines {
+        name: policy.name,
+        rows: &rows,
+    };
     match fault {
         TextFault::NotUtf8(place) => not_utf8(page, policy, place),
-        TextFault::BadVersionLine => bad_version_line(page, policy),
-        TextFault::Syntax(line, column) => syntax(page, policy, line, column as usize),
-        TextFault::UnknownKind(line) => unknown_kind(page, policy, line),
-        TextFault::DuplicateName(line) => duplicate_name(page, policy, line),
-        TextFault::UnknownName(line) => unknown_name(page, policy, line),
-        TextFault::TooManyFunctions(line) => limit(page, policy, line, FUNCTIONS),
-        TextFault::TooManyChains(line) => limit(page, policy, line, CHAINS),
-        TextFault::TooManyRules(line) => limit(page, policy, line, RULES),
+        TextFault::BadVersionLine => bad_version_line(page, policy, lines),
+        TextFault::Syntax(line, column) => syntax(page, lines, line, column as usize),
+        TextFault::UnknownKind(line) => unknown_kind(page, lines, line),
+        TextFault::DuplicateName(line) => duplicate_name(page, lines, line),
+        TextFault::UnknownName(line) => unknown_name(page, lines, line),
+        TextFault::TooManyFunctions(line) => limit(page, lines, line, FUNCTIONS),
+        TextFault::TooManyChains(line) => limit(page, lines, line, CHAINS),
+        TextFault::TooManyRules(line) => limit(page, lines, line, RULES),
         TextFault::OutOfMemory => {}
     }
 }
@@ -102,9 +114,9 @@ pub fn cycle(page: &mut Page, policy: PolicyText<'_>, chain: u32) {
     for row in &rows {
         if row.begins_with(b"chain") {
             chains = chains.saturating_add(1);
-        } else if chains == chain.saturating_add(1) && is_statement(*row) && left > 0 {
+        } else if chains == chain.saturating_add(1) && left > 0 && is_statement(*row) {
             left -= 1;
-            quote_row(page, policy, *row, None);
+            quote_row(page, policy.name, *row, None);
         }
     }
     page.tell(REVERSED);
@@ -112,8 +124,13 @@ pub fn cycle(page: &mut Page, policy: PolicyText<'_>, chain: u32) {
 
 /// A priority that is forbidden.
 pub fn forbidden(page: &mut Page, policy: PolicyText<'_>, line: u32) {
-    let row = quote_line(page, policy, line, None);
-    let (high, low) = (row.word(1), row.word(3));
+    let rows = page.rows(policy.text);
+    let row = row_at(&rows, place_of(&rows, line));
+    quote_row(page, policy.name, row, None);
+    say_forbidden(page, row.word(1), row.word(3));
+}
+
+fn say_forbidden(page: &mut Page, high: &[u8], low: &[u8]) {
     page.tell(FORBIDDEN);
     page.word(high);
     page.word(low);
@@ -124,36 +141,28 @@ pub fn forbidden(page: &mut Page, policy: PolicyText<'_>, line: u32) {
 }
 
 fn is_statement(row: Row<'_>) -> bool {
-    row.begins_with(b"order") || row.begins_with(b"priority") || row.begins_with(b"position")
+    for word in STATEMENTS {
+        if row.begins_with(word) {
+            return true;
+        }
+    }
+    false
 }
 
+const STATEMENTS: &[&[u8]] = &[b"order", b"priority", b"position"];
+
 /// Adds a line of the policy, with its number.
-pub fn quote_row(page: &mut Page, policy: PolicyText<'_>, row: Row<'_>, mark: Option<usize>) {
+pub fn quote_row(page: &mut Page, name: &str, row: Row<'_>, mark: Option<usize>) {
     page.tell("{}, line {}:");
-    page.name(policy.name);
+    page.name(name);
     page.number(u64::from(row.number));
     page.quote(row.text, mark);
 }
 
-/// Adds the line with this number, with a mark under the word at a place where there is one, and gives it.
-pub fn quote_line<'a>(
-    page: &mut Page,
-    policy: PolicyText<'a>,
-    line: u32,
-    marked: Option<usize>,
-) -> Row<'a> {
-    let rows = page.rows(policy.text);
-    let row = row_of(&rows, line);
-    match marked {
-        Some(place) => quote_row(page, policy, row, Some(row.column(place))),
-        None => quote_row(page, policy, row, None),
-    }
-    row
-}
-
 // A line that is one too many of its kind.
-fn limit(page: &mut Page, policy: PolicyText<'_>, line: u32, text: &'static str) {
-    quote_line(page, policy, line, None);
+fn limit(page: &mut Page, lines: Lines<'_>, line: u32, text: &'static str) {
+    let row = row_at(lines.rows, place_of(lines.rows, line));
+    quote_row(page, lines.name, row, None);
     page.tell(text);
 }
 
@@ -169,7 +178,7 @@ fn not_utf8(page: &mut Page, policy: PolicyText<'_>, place: usize) {
     }
     let rest = &policy.text[start.min(policy.text.len())..];
     let row = Row::new(number, &rest[..until(rest, b'\n')]);
-    quote_row(page, policy, row, Some(place.saturating_sub(start)));
+    quote_row(page, policy.name, row, Some(place.saturating_sub(start)));
     page.tell(NOT_UTF8);
     say_sign(page, policy);
 }
@@ -184,46 +193,40 @@ fn say_sign(page: &mut Page, policy: PolicyText<'_>) {
 }
 
 // The first line isn't `nfp 1`.
-fn bad_version_line(page: &mut Page, policy: PolicyText<'_>) {
+fn bad_version_line(page: &mut Page, policy: PolicyText<'_>, lines: Lines<'_>) {
     if matches!(sign_of(policy.text), Sign::Utf8) {
         page.tell(BYTE_ORDER_MARK);
         page.name(policy.name);
         page.name(policy.name);
     } else {
-        no_version_line(page, policy);
+        quote_first(page, lines);
+        page.tell(VERSION_LINE);
+        say_sign(page, policy);
     }
 }
 
-fn no_version_line(page: &mut Page, policy: PolicyText<'_>) {
-    let rows = page.rows(policy.text);
-    match rows.first() {
-        Some(row) => quote_row(page, policy, *row, Some(row.column(0))),
+fn quote_first(page: &mut Page, lines: Lines<'_>) {
+    match lines.rows.first() {
+        Some(row) => quote_row(page, lines.name, *row, Some(row.column(0))),
         None => {
             page.tell("{} has no line");
-            page.name(policy.name);
+            page.name(lines.name);
         }
     }
-    page.tell(VERSION_LINE);
-    say_sign(page, policy);
 }
 
 // A word doesn't fit, or is missing.
-fn syntax(page: &mut Page, policy: PolicyText<'_>, line: u32, column: usize) {
-    let rows = page.rows(policy.text);
-    let place = place_of(&rows, line);
-    let row = row_at(&rows, place);
+fn syntax(page: &mut Page, lines: Lines<'_>, line: u32, column: usize) {
+    let place = place_of(lines.rows, line);
+    let row = row_at(lines.rows, place);
     let mark = column.saturating_sub(1);
-    quote_row(page, policy, row, Some(mark));
-    match row.place_at(mark) {
-        Some(0) => say_first(page, row),
-        Some(word) => {
-            say_word(page, row, word);
-            say_line_forms(page, &rows, place);
-        }
-        None => {
-            say_word(page, row, usize::MAX);
-            say_line_forms(page, &rows, place);
-        }
+    quote_row(page, lines.name, row, Some(mark));
+    let word = row.place_at(mark).unwrap_or(usize::MAX);
+    if word == 0 {
+        say_first(page, row);
+    } else {
+        say_word(page, row, word);
+        say_line_forms(page, lines.rows, place);
     }
 }
 
@@ -274,8 +277,9 @@ pub fn say_forms(page: &mut Page, forms: &'static str, clauses: &str) {
 }
 
 // There is no such kind.
-fn unknown_kind(page: &mut Page, policy: PolicyText<'_>, line: u32) {
-    let row = quote_line(page, policy, line, Some(2));
+fn unknown_kind(page: &mut Page, lines: Lines<'_>, line: u32) {
+    let row = row_at(lines.rows, place_of(lines.rows, line));
+    quote_row(page, lines.name, row, Some(row.column(2)));
     page.tell(UNKNOWN_KIND);
     page.word(row.word(2));
     say_kinds(page);
@@ -291,38 +295,42 @@ fn say_kinds(page: &mut Page) {
 }
 
 // A chain or a function before has the same name.
-fn duplicate_name(page: &mut Page, policy: PolicyText<'_>, line: u32) {
-    let rows = page.rows(policy.text);
-    let place = place_of(&rows, line);
-    let row = row_at(&rows, place);
-    quote_row(page, policy, row, Some(row.column(1)));
+fn duplicate_name(page: &mut Page, lines: Lines<'_>, line: u32) {
+    let row = row_at(lines.rows, place_of(lines.rows, line));
+    quote_row(page, lines.name, row, Some(row.column(1)));
     page.tell(TAKEN);
     page.word(row.word(1));
-    for other in &rows[..place] {
+    let other = first_alike(lines.rows, row);
+    quote_row(page, lines.name, other, Some(other.column(1)));
+}
+
+// The first of these lines with the same two first words as one of them.
+fn first_alike<'a>(rows: &[Row<'a>], row: Row<'a>) -> Row<'a> {
+    for other in rows {
         if other.word(0) == row.word(0) && other.word(1) == row.word(1) {
-            quote_row(page, policy, *other, Some(other.column(1)));
-            return;
+            return *other;
         }
     }
+    row
 }
 
 // A statement names what isn't declared before it in its chain.
-fn unknown_name(page: &mut Page, policy: PolicyText<'_>, line: u32) {
-    let rows = page.rows(policy.text);
-    let place = place_of(&rows, line);
-    let row = row_at(&rows, place);
-    let here = since_chain(&rows[..place]);
-    let at = match declaring(here, row.word(1)) {
-        Some(_) => 3,
-        None => 1,
+fn unknown_name(page: &mut Page, lines: Lines<'_>, line: u32) {
+    let place = place_of(lines.rows, line);
+    let row = row_at(lines.rows, place);
+    let here = since_chain(&lines.rows[..place]);
+    let at = if declaring(here, row.word(1)).is_some() {
+        3
+    } else {
+        1
     };
-    quote_row(page, policy, row, Some(row.column(at)));
+    quote_row(page, lines.name, row, Some(row.column(at)));
     page.tell(UNDECLARED);
     page.word(row.word(at));
-    match declaring(&rows, row.word(at)) {
+    match declaring(lines.rows, row.word(at)) {
         Some(other) => {
             page.tell(ELSEWHERE);
-            quote_row(page, policy, other, None);
+            quote_row(page, lines.name, other, None);
         }
         None => say_declared(page, here),
     }

@@ -21,16 +21,15 @@ const TWICE: &str = "it is set already, in line {}; take one of the two lines aw
 pub fn bad_setting(page: &mut Page, policy: PolicyText<'_>, line: u32) {
     let rows = page.rows(policy.text);
     let place = place_of(&rows, line);
-    let Some(kind) = kind_at(&rows, place.saturating_add(1)) else {
-        return;
-    };
-    let row = row_at(&rows, place);
-    if row.begins_with(b"fn") {
-        bad_function(page, policy, row, rows_behind(&rows, place), kind);
-    } else {
-        bad_line(page, policy, &rows[..place], row, kind);
+    if let Some(kind) = kind_at(&rows, place.saturating_add(1)) {
+        let row = row_at(&rows, place);
+        if row.begins_with(b"fn") {
+            bad_function(page, policy.name, row, rows_behind(&rows, place), kind);
+        } else {
+            bad_line(page, policy.name, row, &rows[..place], kind);
+        }
+        say_kind_forms(page, kind);
     }
-    say_kind_forms(page, kind);
 }
 
 /// The kind of the last function that these lines declare before a place.
@@ -53,29 +52,23 @@ pub fn say_kind_forms(page: &mut Page, kind: Kind) {
 
 // A line that is required of a function is missing, or can't be read. Quotes the first of the lines behind that of the function
 // that fits no form of its kind.
-fn bad_function(
-    page: &mut Page,
-    policy: PolicyText<'_>,
-    row: Row<'_>,
-    behind: &[Row<'_>],
-    kind: Kind,
-) {
-    quote_row(page, policy, row, None);
+fn bad_function(page: &mut Page, name: &str, row: Row<'_>, behind: &[Row<'_>], kind: Kind) {
+    quote_row(page, name, row, None);
     page.tell(MISSING);
     page.say(kind.name());
     page.say(required_of(kind));
     for row in behind {
-        if !row.is_setting() || quote_misfit(page, policy, *row, kind) {
+        if !row.is_setting() || quote_misfit(page, name, *row, kind) {
             return;
         }
     }
 }
 
 // Quotes a line with a mark under the first word that fits no form of this kind, where there is one.
-fn quote_misfit(page: &mut Page, policy: PolicyText<'_>, row: Row<'_>, kind: Kind) -> bool {
+fn quote_misfit(page: &mut Page, name: &str, row: Row<'_>, kind: Kind) -> bool {
     match best_misfit(page, forms_of(kind), clauses_of(kind), row) {
         Some(place) => {
-            quote_row(page, policy, row, Some(row.column(place)));
+            quote_row(page, name, row, Some(row.column(place)));
             say_word(page, row, place);
             true
         }
@@ -84,21 +77,21 @@ fn quote_misfit(page: &mut Page, policy: PolicyText<'_>, row: Row<'_>, kind: Kin
 }
 
 // Quotes the line that is refused, behind these.
-fn bad_line(page: &mut Page, policy: PolicyText<'_>, rows: &[Row<'_>], row: Row<'_>, kind: Kind) {
-    if !quote_misfit(page, policy, row, kind) {
-        quote_row(page, policy, row, None);
-        say_clash(page, policy, rows, row);
+fn bad_line(page: &mut Page, name: &str, row: Row<'_>, before: &[Row<'_>], kind: Kind) {
+    if !quote_misfit(page, name, row, kind) {
+        quote_row(page, name, row, None);
+        say_clash(page, name, row, before);
     }
 }
 
-// A line that fits a form sets what stands among these already, or is a rule that can't stand beside the others, as a server's.
-fn say_clash(page: &mut Page, policy: PolicyText<'_>, rows: &[Row<'_>], row: Row<'_>) {
+// A line that fits a form sets what stands before it already, or is a rule that can't stand beside the others, as a server's.
+fn say_clash(page: &mut Page, name: &str, row: Row<'_>, before: &[Row<'_>]) {
     if row.begins_with(b"rule") {
         page.tell(OTHER_VERSION);
-    } else if let Some(other) = setting_before(rows, row.word(1)) {
+    } else if let Some(other) = setting_before(before, row.word(1)) {
         page.tell(TWICE);
         page.number(u64::from(other.number));
-        quote_row(page, policy, other, None);
+        quote_row(page, name, other, None);
     }
 }
 

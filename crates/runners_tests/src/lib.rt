@@ -19,5 +19,3 @@ mod messages;
 mod plenty;
 #[cfg(test)]
 mod runs;
-#[cfg(test)]
-mod tables;
