@@ -6,7 +6,8 @@
 //! branches made, and `walks` leads frames through chains. Of functions: `lines` reads declarations of a kind of its own, which has a
 //! line that has to be there; `making` makes functions of declarations; `walking` leads frames through firewalls, and through a
 //! `painter`, which writes, drops and has a state; `states` leads them through functions that keep flows and sources. Of the language:
-//! `reading` reads policies, `judging` judges them, `plans` prints plans, and `frames` asks what clauses see of a frame.
+//! `reading` reads policies, `judging` judges them, `odd` asks what is odd in them, `plans` prints plans, and `frames` asks what clauses
+//! see of a frame.
 #![tactic(auto)]
 
 #[cfg(test)]
@@ -23,6 +24,8 @@ mod lines;
 mod making;
 #[cfg(test)]
 mod merges;
+#[cfg(test)]
+mod odd;
 #[cfg(test)]
 mod painter;
 #[cfg(test)]
