@@ -7,7 +7,7 @@
 //! frames apart and together. Of functions: `lines` reads declarations of a kind of its own, which has a line that has to be there;
 //! `making` makes a function of a declaration; `walking` leads frames through firewalls, and through a `painter`, which writes, drops and
 //! has a state; `states` tells the lines of functions that keep flows and sources. Of the language: `reading` reads values and clauses,
-//! and `frames` asks what clauses see of a frame.
+//! `frames` asks what clauses see of a frame, and `odd` what is odd in a policy.
 #![tactic(auto)]
 
 #[cfg(test)]
@@ -18,6 +18,8 @@ mod leases;
 mod lines;
 #[cfg(test)]
 mod making;
+#[cfg(test)]
+mod odd;
 #[cfg(test)]
 mod painter;
 #[cfg(test)]
