@@ -27,3 +27,12 @@ pub short_whole : (head frame last block : List ℕ) (padding : ℕ) → length 
     take (28 + length frame + padding + 4) block ≡ (head ++ frame) ++ (replicate padding 0 ++ last)
 short_whole head frame last block padding size short few is =
     is ∙ ap (λ l. l ++ last) (before_size head frame padding size short few) ∙ append_assoc (head ++ frame) (replicate padding 0) last
+
+-- the same, of the pieces as they are put
+pub pieces_whole : (head frame last one two block : List ℕ) (padding : ℕ) → length head ≡ 28 → length frame ≤ 220 → padding ≤ 4 →
+    one ≡ take 0 (replicate 256 0) ++ (head ++ drop (length head) (drop 0 (replicate 256 0))) → two ≡ take 28 one ++ (frame ++ drop (length frame) (drop 28 one)) →
+    take (28 + length frame + padding + 4) block ≡ take (28 + length frame + padding) two ++ last →
+    take (28 + length frame + padding + 4) block ≡ (head ++ frame) ++ (replicate padding 0 ++ last)
+pieces_whole head frame last one two block padding size short few first second third =
+    short_whole head frame last block padding size short few
+    (third ∙ ap (λ l. take (28 + length frame + padding) l ++ last) (second ∙ ap (λ l. take 28 l ++ (frame ++ drop (length frame) (drop 28 l))) first ∙ front_whole head frame size))

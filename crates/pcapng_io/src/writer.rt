@@ -139,7 +139,6 @@ fn put_around<D: Desk>(
 }
 
 // Puts a short frame with what stands before it, and behind it so many zeros and the block's length, in one piece.
-#[tactic(auto, using(crate::proofs::Short::short_whole))]
 fn put_short<D: Desk>(
     desk: &mut D,
     order: Endian,
@@ -158,33 +157,11 @@ fn put_short<D: Desk>(
     ensures others { (s : Slot) → s ≢ Slot.Out → D.slots desk.new s ≡ D.slots desk.old s }
 {
     let end = HEAD + frame.len() + padding;
-    let block = short_block(order, head, frame, end, size);
-    write_whole(desk, Slot::Out, &block[..end + 4])
-}
-
-// The block of a short frame without options, whose length stands at this place, and zeros behind it.
-fn short_block(order: Endian, head: &[u8], frame: &[u8], end: usize, size: u32) -> [u8; SHORT_BLOCK]
-    requires head { length head.now ≡ 28 }
-    requires short { length frame.now ≤ 220 }
-    requires end { end ≤ 252 }
-    ensures { take (end + 4) result ≡ take end ((head.now ++ frame.now) ++ replicate (228 - length frame.now) 0) ++ bytes_of order 4 size }
-{
-    let mut block = short_front(head, frame);
-    put_u32(order, &mut block, end, size);
-    block
-}
-
-// A short frame with what stands before it, and zeros behind it.
-#[tactic(auto, using(crate::proofs::Short::front_whole))]
-fn short_front(head: &[u8], frame: &[u8]) -> [u8; SHORT_BLOCK]
-    requires head { length head.now ≡ 28 }
-    requires short { length frame.now ≤ 220 }
-    ensures { result ≡ (head.now ++ frame.now) ++ replicate (228 - length frame.now) 0 }
-{
     let mut block = [0; SHORT_BLOCK];
     put_piece(&mut block, 0, head);
     put_piece(&mut block, HEAD, frame);
-    block
+    put_u32(order, &mut block, end, size);
+    write_whole(desk, Slot::Out, &block[..end + 4])
 }
 
 // Puts a piece at a place.
