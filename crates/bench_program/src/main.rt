@@ -14,18 +14,16 @@ use std::{env, io};
 
 /// The number at this place of the words, or another one.
 fn number(words: &[String], place: usize, otherwise: u32) -> u32 {
-    words
-        .get(place)
-        .and_then(|word| word.parse().ok())
-        .unwrap_or(otherwise)
+    match words.get(place) {
+        Some(word) => word.parse().unwrap_or(otherwise),
+        None => otherwise,
+    }
 }
 
 /// The same for a number of 16 bits.
 fn short(words: &[String], place: usize, otherwise: u16) -> u16 {
-    words
-        .get(place)
-        .and_then(|word| word.parse().ok())
-        .unwrap_or(otherwise)
+    let number = number(words, place, u32::from(otherwise));
+    u16::try_from(number).unwrap_or(otherwise)
 }
 
 fn main(rt: HostRuntime) -> io::Result<()> {

@@ -70,10 +70,13 @@ fn make_running(
 }
 
 fn outs(fates: &[Fate]) -> u64 {
-    fates
-        .iter()
-        .filter(|fate| matches!(fate, Fate::Out(_)))
-        .count() as u64
+    let mut outs = 0u64;
+    for fate in fates {
+        if let Fate::Out(_) = fate {
+            outs = outs.wrapping_add(1);
+        }
+    }
+    outs
 }
 
 /// How a burst goes through the graph.

@@ -20,10 +20,13 @@ pub fn search(functions: &[NetFunction], burst: &Burst, rounds: u32) -> u64 {
 
 // How many of the functions find one of their patterns.
 fn finds(functions: &[NetFunction], payload: &[u8]) -> u64 {
-    functions
-        .iter()
-        .filter(|function| finds_one(function, payload))
-        .count() as u64
+    let mut found = 0u64;
+    for function in functions {
+        if finds_one(function, payload) {
+            found = found.wrapping_add(1);
+        }
+    }
+    found
 }
 
 fn finds_one(function: &NetFunction, payload: &[u8]) -> bool {

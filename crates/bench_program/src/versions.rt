@@ -74,7 +74,10 @@ fn frame(alloc: Global, length: usize) -> Result<Vec<u8>, AllocError> {
 
 /// The last byte, which is looked at so that no work is left out.
 fn last_of(bytes: &[u8]) -> u64 {
-    bytes.last().map_or(0, |byte| u64::from(*byte))
+    match bytes.last() {
+        Some(byte) => u64::from(*byte),
+        None => 0,
+    }
 }
 
 fn copied(alloc: Global, frame: &[u8]) -> Result<u64, AllocError> {
