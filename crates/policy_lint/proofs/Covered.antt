@@ -1,5 +1,5 @@
 -- What clauses cover others is worth.
-use Rattle.std.proofs.Common.{◌≡◌, ◌≢◌, ◌<◌, ◌≤◌, ◌+◌, ◌-◌, ◌*◌, ◌/◌, ◌^◌, ◌∙◌, ℕ, List, [], ◌∷◌, ◌++◌, length, get_or, Bool, true, false, refl, sym, ap, subst, arith, Some, None, cond, suc}
+use Rattle.std.proofs.Common.{◌≡◌, ◌≢◌, ◌<◌, ◌≤◌, ◌+◌, ◌-◌, ◌/◌, ◌^◌, ◌∙◌, ℕ, List, [], ◌∷◌, ◌++◌, length, get_or, Bool, true, false, refl, sym, ap, subst, arith, Some, None, cond, suc}
 use Rattle.std.specs.Prelude.{◌&&◌, ◌||◌, ◌==◌, nat_le, Option, find, position}
 use Rattle.std.specs.List.{list_all, list_any}
 use Rattle.std.specs.Option.{option_map_or}
@@ -7,7 +7,7 @@ use Rattle.std.proofs.Math.Nat.{div-div-eq-div-mul}
 use Rattle.std.proofs.lemmas.Nat.{pow-add}
 use Rattle.std.proofs.lemmas.Bool.{eqb-true, eq-eqb, leb-true, le-leb}
 use Rattle.std.proofs.lemmas.List.Quantifiers.{position-Some}
-use Rattle.policy_text.specs.Meeting.{first_bits, is_within, is_within6, is_between, has_id, is_bare, is_met, is_fitting}
+use Rattle.policy_text.specs.Meeting.{first_bits, is_within, is_within6, is_between, has_id, is_met, is_fitting}
 use Rattle.policy_text.specs.declared.clause.Clause.{Clause}
 use Rattle.policy_text.specs.declared.clause.Clause.TheVariants.{Src, Dst, Src6, Dst6, Sport, Dport, Proto, TagId, NoTag}
 use Rattle.policy_text.specs.declared.clause.Match.{Match}
@@ -15,7 +15,7 @@ use Rattle.policy_text.specs.declared.seen.Seen.{Seen}
 use Rattle.policy_text.specs.declared.seen.TagSeen.{TagSeen}
 use Rattle.policy_text.specs.declared.seen.TagSeen.TheVariants.{Absent, Bare, Id}
 use Rattle.function_lines.specs.Rules.{first_met}
-use Rattle.policy_lint.specs.Implying.{lies_in, lies_in6, is_part, implies, covers}
+use Rattle.policy_lint.specs.Implying.{is_part, implies, covers}
 
 pub both_true : (a b : Bool) → (a && b) ≡ true → (a ≡ true) × (b ≡ true)
 both_true true b h = (refl, h)

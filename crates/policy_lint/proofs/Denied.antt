@@ -1,11 +1,11 @@
 -- What firewalls that drop all, or by one version alone, do to packets.
-use Rattle.std.proofs.Common.{◌≡◌, ◌∙◌, List, [], ◌∷◌, Bool, true, false, refl, sym, ap, Some, None, cond}
-use Rattle.std.specs.Prelude.{◌&&◌, ◌||◌, not, find, Option}
+use Rattle.std.proofs.Common.{◌≡◌, ◌∙◌, List, [], ◌∷◌, Bool, true, false, refl, sym, ap, Some, cond}
+use Rattle.std.specs.Prelude.{◌&&◌, ◌||◌, not, find}
 use Rattle.std.specs.List.{list_all, list_any}
 use Rattle.std.specs.Option.{option_map_or}
 use Rattle.policy_text.specs.Meeting.{is_within, is_within6, is_met, is_fitting}
 use Rattle.policy_text.specs.declared.clause.Clause.{Clause}
-use Rattle.policy_text.specs.declared.clause.Clause.TheVariants.{Src, Dst, Src6, Dst6, Sport, Dport, Proto, TagId, NoTag}
+use Rattle.policy_text.specs.declared.clause.Clause.TheVariants.{Src, Dst, Src6, Dst6}
 use Rattle.policy_text.specs.declared.clause.Match.{Match}
 use Rattle.policy_text.specs.declared.seen.Seen.{Seen}
 use Rattle.function_lines.specs.Rules.{first_met}

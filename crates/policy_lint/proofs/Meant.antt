@@ -1,5 +1,5 @@
 -- Each finding means what it says.
-use Rattle.std.proofs.Common.{◌≡◌, ◌≤◌, ◌∙◌, ℕ, List, [], ◌∷◌, ◌++◌, length, map, Bool, true, false, refl, sym, ap, subst, append_assoc, Some, None, cond}
+use Rattle.std.proofs.Common.{◌≡◌, ◌∙◌, ℕ, List, [], ◌∷◌, ◌++◌, length, map, Bool, true, false, refl, sym, ap, subst, append_assoc, Some, None, cond}
 use Rattle.std.specs.Prelude.{◌&&◌, ◌==◌, nat_le, not, find, Option, All, slice_get, if◌then◌else◌}
 use Rattle.std.specs.Option.{option_map, option_map_or, option_to_list}
 use Rattle.std.proofs.lemmas.Bool.{eqb-true, leb-true}
@@ -11,18 +11,17 @@ use Rattle.policy_check.specs.declared.fault.Order.{Order}
 use Rattle.policy_lint.specs.declared.finding.Finding.{Finding}
 use Rattle.policy_lint.specs.declared.finding.Finding.TheVariants.{LimiterBehind, DeniesIpv4Alone, DeniesIpv6Alone, PublicInside, SharedPorts}
 use Rattle.policy_lint.specs.declared.nats.NatLines.{NatLines}
-use Rattle.policy_lint.specs.declared.rule_line.RuleLine.{RuleLine}
 use Rattle.policy_lint.specs.declared.versions.Version.{Version}
 use Rattle.policy_lint.specs.declared.versions.Version.TheVariants.{Ipv4, Ipv6}
-use Rattle.policy_lint.specs.Behind.{is_at, line_at, told_unreached, unreached, writes_source, is_limiter, limits, told_behind, limited_behind}
-use Rattle.policy_lint.specs.Findings.{chain_asking, rule_asking, covered_in, told_in, order_at, told_at, findings}
+use Rattle.policy_lint.specs.Behind.{is_at, line_at, told_unreached, unreached, writes_source, limits, told_behind, limited_behind}
+use Rattle.policy_lint.specs.Findings.{chain_asking, rule_asking, covered_in, order_at, told_at, findings}
 use Rattle.policy_lint.specs.Firewalls.{default_of, is_firewall, drops_by, drops_all}
 use Rattle.policy_lint.specs.Gathering.{Asking, gathered, cover_of, told_of, covered}
 use Rattle.policy_lint.specs.Implying.{covers}
-use Rattle.policy_lint.specs.Meaning.{IsOne, Follows, IsCovered, IsRuleCovered, StandsBehind, IsNeverReached, IsLimiterBehind, DeniesAlone, IsPublicInside, HasSharedPorts, Means}
+use Rattle.policy_lint.specs.Meaning.{IsOne, Follows, IsCovered, StandsBehind, DeniesAlone, Means}
 use Rattle.policy_lint.specs.Nats.{nats_of, inside_of, shares, shared_of, told_nats}
 use Rattle.policy_lint.specs.Rules.{rules_of}
-use Rattle.policy_lint.specs.Versions.{other_than, denies_by, names, has_open, denies_alone, comes, is_alone, told_alone, alone_of, alone_in}
+use Rattle.policy_lint.specs.Versions.{other_than, denies_by, names, has_open, denies_alone, comes, is_alone, alone_of, alone_in}
 use Rattle.policy_lint.proofs.Covered.{both_true, covered_is_met}
 use Rattle.policy_lint.proofs.Denied.{negated, all_denied}
 

@@ -1,13 +1,11 @@
 -- For proofs: what a firewall drops altogether, and of which version of IP alone.
-use Rattle.std.specs.Prelude.{ℕ, List, [], ◌∷◌, Bool, true, false, not, ◌&&◌, ◌||◌, find, codes}
+use Rattle.std.specs.Prelude.{List, [], ◌∷◌, Bool, true, false, not, ◌&&◌, ◌||◌, find, codes}
 use Rattle.std.specs.Option.{option_map_or}
-use Rattle.std.specs.List.{list_all, list_any}
+use Rattle.std.specs.List.{list_any}
 use Rattle.std.specs.Str.{bytes_eq}
 use Rattle.action_profile.specs.declared.kind.Kind.{Kind}
 use Rattle.action_profile.specs.declared.kind.Kind.TheVariants.{Firewall}
 use Rattle.policy_text.specs.declared.clause.Clause.{Clause}
-use Rattle.policy_text.specs.declared.clause.Clause.TheVariants.{Src, Dst, Src6, Dst6}
-use Rattle.policy_text.specs.declared.clause.Match.{Match}
 use Rattle.policy_text.specs.declared.policy.FunctionDecl.{FunctionDecl}
 use Rattle.policy_text.specs.declared.policy.Setting.{Setting}
 use Rattle.policy_lint.specs.declared.rule_line.RuleLine.{RuleLine}

@@ -1,5 +1,5 @@
 -- For proofs: what each finding means, in the words of the language.
-use Rattle.std.specs.Prelude.{ℕ, ◌≡◌, ◌≤◌, List, ◌∷◌, ◌++◌, length, Bool, true, false, Some, slice_get}
+use Rattle.std.specs.Prelude.{ℕ, ◌≡◌, ◌≤◌, List, ◌∷◌, ◌++◌, length, true, false, Some, slice_get}
 use Rattle.std.specs.Option.{option_map_or}
 use Rattle.packet_fields.specs.declared.field.Field.TheVariants.{SrcIp}
 use Rattle.action_profile.specs.Profiles.{profile_of, writes_of}

@@ -1,5 +1,5 @@
 -- For proofs: the rules of a declared function of which the first that a packet meets decides, as its lines spell them.
-use Rattle.std.specs.Prelude.{ℕ, List, [], ◌∷◌, Bool, if◌then◌else◌, Option, Some, None, slice_index_or, filter_map, codes}
+use Rattle.std.specs.Prelude.{ℕ, List, [], ◌∷◌, if◌then◌else◌, Option, None, slice_index_or, filter_map, codes}
 use Rattle.std.specs.Option.{option_map}
 use Rattle.std.specs.Str.{bytes_eq}
 use Rattle.action_profile.specs.declared.kind.Kind.{Kind}

@@ -1,5 +1,3 @@
-use Rattle.std.proofs.Common.{◌≡◌, drop}
-use Rattle.policy_lint.specs.Behind.{unreached}
 use Rattle.policy_lint.proofs.Steps.{NoneYet}
 use Rattle.policy_lint.proofs.behind.push_unreached.Given as goal
 
