@@ -122,7 +122,8 @@ fn usage_reason(page: &mut Page, words: &[String], fault: UsageFault) {
         UsageFault::Number(which) => number_help(page, which),
         UsageFault::Merge => usage::no_way(page),
         UsageFault::SameName => usage::same_name(page),
-        _ => {}
+        UsageFault::Words => usage::misfit(page, words),
+        UsageFault::NoCommand => {}
     }
 }
 

@@ -14,6 +14,8 @@ pub mod capture;
 pub mod capture_ng;
 pub mod files;
 mod forms;
+mod given;
+mod hints;
 mod lines;
 pub mod lint;
 mod page;

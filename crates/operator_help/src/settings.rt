@@ -1,6 +1,7 @@
 //! What is wrong with the lines of a function.
 
 use crate::forms::{best_misfit, clauses_of, forms_of, required_of};
+use crate::hints::hint_of;
 use crate::lines::{Row, last_before, place_of, row_at, rows_behind};
 use crate::page::Page;
 use crate::policy::{PolicyText, quote_row, say_forms};
@@ -116,5 +117,13 @@ pub fn say_word(page: &mut Page, row: Row<'_>, place: usize) {
     } else {
         page.tell("`{}` doesn't fit here");
         page.word(word);
+        say_hint(page, hint_of(word));
+    }
+}
+
+// How to say what was meant, where that is known.
+fn say_hint(page: &mut Page, hint: &'static str) {
+    if !hint.is_empty() {
+        page.tell(hint);
     }
 }

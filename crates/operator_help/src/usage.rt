@@ -1,5 +1,6 @@
 //! The words of the command line.
 
+pub use crate::given::misfit;
 use crate::page::Page;
 use crate::release::VERSION;
 

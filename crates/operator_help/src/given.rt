@@ -1,0 +1,205 @@
+//! The words behind a command, and the first that doesn't fit.
+
+use crate::lines::{part, until};
+use crate::page::Page;
+
+const EMPTY: &str = "a name is empty";
+
+const DASH: &str =
+    "a single `-` is no name: `./-` is a file of that name, and /dev/stdin and /dev/stdout are what comes and goes through a pipe";
+
+const NO_OPTION: &str =
+    "`{}` is no option of `{}`; for a file of that name write `./` before it, or `--` before the names";
+
+const TWICE: &str = "`{}` is given twice";
+
+const NO_VALUE: &str = "`{}` has no value";
+
+const TOO_MANY: &str = "`{}` is a name too many: `{}` has {}";
+
+const MISSING: &str = "{} is missing: `{}` has {}";
+
+/// What stands behind a command: its names in their order, and its options.
+#[derive(Clone, Copy)]
+struct Form {
+    command: &'static str,
+    names: &'static [&'static str],
+    /// The same in a row.
+    said: &'static str,
+    options: &'static [&'static [u8]],
+}
+
+const LED: &[&[u8]] = &[b"--mergers", b"--burst", b"--merge"];
+
+const RUN: Form = Form {
+    command: "run",
+    names: &["POLICY", "CAPTURE", "OUT", "REPORT"],
+    said: "POLICY CAPTURE OUT REPORT",
+    options: LED,
+};
+
+const PLAN: Form = Form {
+    command: "plan",
+    names: &["POLICY"],
+    said: "POLICY",
+    options: &[],
+};
+
+const FLOWS: Form = Form {
+    command: "flows",
+    names: &["CAPTURE", "OUT"],
+    said: "CAPTURE OUT",
+    options: &[b"--workers", b"--burst"],
+};
+
+const DEMO: Form = Form {
+    command: "demo",
+    names: &["SEED", "COUNT"],
+    said: "SEED COUNT",
+    options: LED,
+};
+
+/// Tells the first of the words behind a command that doesn't fit, or what is missing.
+pub fn misfit(page: &mut Page, words: &[String]) {
+    let mut reading = Reading::new(form_of(words));
+    for (place, word) in words.iter().enumerate() {
+        if place > 0 && !reading.takes(page, word.as_bytes()) {
+            return;
+        }
+    }
+    reading.end(page);
+}
+
+fn form_of(words: &[String]) -> Form {
+    match words.first() {
+        Some(word) => match word.as_str() {
+            "run" => RUN,
+            "flows" => FLOWS,
+            "demo" => DEMO,
+            _ => PLAN,
+        },
+        None => PLAN,
+    }
+}
+
+/// How far the words are read.
+#[derive(Clone, Copy)]
+struct Reading {
+    form: Form,
+    names: usize,
+    /// Whether each word is a name now.
+    behind: bool,
+    /// The option whose value comes next.
+    waits: Option<&'static [u8]>,
+    /// The options that were given.
+    given: [bool; 3],
+}
+
+impl Reading {
+    fn new(form: Form) -> Self {
+        Reading {
+            form,
+            names: 0,
+            behind: false,
+            waits: None,
+            given: [false; 3],
+        }
+    }
+
+    // Whether the next word fits. Where it doesn't, it is told.
+    fn takes(&mut self, page: &mut Page, word: &[u8]) -> bool {
+        if let Some(option) = self.waits {
+            self.waits = None;
+            return self.takes_value(page, option, word);
+        }
+        if self.behind || !word.starts_with(b"-") {
+            return self.takes_name(page, word);
+        }
+        match word {
+            b"-" => tell(page, DASH),
+            b"--" => {
+                self.behind = true;
+                true
+            }
+            _ => self.takes_option(page, word),
+        }
+    }
+
+    fn takes_value(&self, page: &mut Page, option: &[u8], value: &[u8]) -> bool {
+        if value.starts_with(b"-") || value.is_empty() {
+            return tell_word(page, NO_VALUE, option);
+        }
+        true
+    }
+
+    fn takes_name(&mut self, page: &mut Page, word: &[u8]) -> bool {
+        if word.is_empty() {
+            return tell(page, EMPTY);
+        }
+        if self.names >= self.form.names.len() {
+            tell_word(page, TOO_MANY, word);
+            return self.say_form(page);
+        }
+        self.names = self.names.saturating_add(1);
+        true
+    }
+
+    fn takes_option(&mut self, page: &mut Page, word: &[u8]) -> bool {
+        let end = until(word, b'=');
+        let option = part(word, 0, end);
+        let Some(place) = place_in(self.form.options, option) else {
+            tell_word(page, NO_OPTION, option);
+            page.say(self.form.command);
+            return false;
+        };
+        let option = self.form.options.get(place).copied().unwrap_or(b"");
+        if place < 3 && self.given[place] {
+            return tell_word(page, TWICE, option);
+        }
+        if place < 3 {
+            self.given[place] = true;
+        }
+        if end == word.len() {
+            self.waits = Some(option);
+            return true;
+        }
+        self.takes_value(page, option, part(word, end.saturating_add(1), word.len()))
+    }
+
+    // What is missing behind the last word.
+    fn end(&self, page: &mut Page) {
+        if let Some(option) = self.waits {
+            tell_word(page, NO_VALUE, option);
+        } else if let Some(name) = self.form.names.get(self.names) {
+            page.tell(MISSING);
+            page.say(name);
+            self.say_form(page);
+        }
+    }
+
+    fn say_form(&self, page: &mut Page) -> bool {
+        page.say(self.form.command);
+        page.say(self.form.said);
+        false
+    }
+}
+
+fn tell(page: &mut Page, text: &'static str) -> bool {
+    page.tell(text);
+    false
+}
+
+fn tell_word(page: &mut Page, text: &'static str, word: &[u8]) -> bool {
+    page.tell(text);
+    page.word(word);
+    false
+}
+
+fn place_in(options: &[&[u8]], option: &[u8]) -> Option<usize> {
+    for (place, each) in options.iter().enumerate() {
+        if *each == option {
+            return Some(place);
+        }
+    }
+    None
+}
