@@ -2,10 +2,11 @@
 ghost use Rattle.std.specs.Prelude.{IsNone};
 ghost use Rattle.nfp_outside.specs.declared.slot.Slot.{Slot};
 
+use crate::plenty::had;
 use nfp_outside::{Desk, FixedDesk, MemDesk, Slot};
 use pcap_io::{CaptureFault, PcapFault, Reader, Writer};
-use std::alloc::{AllocError, Global};
-use std::test::Fail;
+use std::alloc::Global;
+use std::process::Abort;
 
 // Little-endian, in microseconds.
 const HEAD: [u8; 24] = [
@@ -23,35 +24,42 @@ const RECORD: [u8; 18] = [1, 0, 0, 0, 2, 1, 0, 0, 2, 0, 0, 0, 60, 0, 0, 0, 0xab,
 const NANO_RECORD: [u8; 18] = [0, 0, 0, 1, 0, 0, 1, 2, 0, 0, 0, 2, 0, 0, 0, 60, 0xab, 0xcd];
 
 // Reads a capture of one record, and writes it: the time of the record.
-fn copy<D: Desk>(alloc: Global, desk: &mut D) -> Result<Option<u64>, Fail>
+fn copy<D: Desk>(rt: &impl Abort, alloc: Global, desk: &mut D) -> Option<u64>
     requires { (s : Slot) → IsNone (D.slots desk.old s).name }
 {
-    desk.attach(Slot::Capture, "capture")?;
-    desk.attach(Slot::Out, "out")?;
-    let (head, mut reader) = Reader::begin(desk)?;
-    let mut writer = Writer::begin(desk, &head)?;
-    let Some(packet) = reader.next(alloc, desk)? else {
-        return Ok(None);
-    };
-    writer.put(desk, &packet)?;
-    Ok(Some(packet.time(head.unit)))
+    had(rt, desk.attach(Slot::Capture, "capture"));
+    had(rt, desk.attach(Slot::Out, "out"));
+    let (head, mut reader) = had(rt, Reader::begin(desk));
+    let mut writer = had(rt, Writer::begin(desk, &head));
+    match had(rt, reader.next(alloc, desk)) {
+        Some(packet) => {
+            had(rt, writer.put(desk, &packet));
+            Some(packet.time(head.unit))
+        }
+        None => None,
+    }
+}
+
+// A capture of this head and this record.
+fn of_one(rt: &impl Abort, alloc: Global, head: &[u8], record: &[u8]) -> Vec<u8> {
+    let mut bytes = had(rt, head.to_vec(alloc));
+    had(rt, bytes.extend_from_slice(record));
+    bytes
 }
 
 // Is a capture of this head and this record, which is of this time, the same when it is copied?
-fn is_copied(alloc: Global, head: &[u8], record: &[u8], time: u64) -> Result<bool, Fail> {
-    let mut bytes = head.to_vec(alloc)?;
-    bytes.extend_from_slice(record)?;
-    let wanted = bytes.clone()?;
+fn is_copied(rt: &impl Abort, alloc: Global, head: &[u8], record: &[u8], time: u64) -> bool {
+    let bytes = of_one(rt, alloc, head, record);
+    let wanted = of_one(rt, alloc, head, record);
     let mut desk = FixedDesk::new(alloc, Vec::new(alloc), bytes, 7);
-    let copied = copy(alloc, &mut desk)?;
-    Ok(copied == Some(time) && desk.put(Slot::Out) == wanted.as_slice())
+    let copied = copy(rt, alloc, &mut desk);
+    copied == Some(time) && desk.put(Slot::Out) == wanted.as_slice()
 }
 
 #[test]
-fn a_copied_capture_is_the_same(rt: HostRuntime) -> Result<(), Fail> {
-    assert!(rt; is_copied(rt.alloc(), &HEAD, &RECORD, 1_000_258_000)?);
-    assert!(rt; is_copied(rt.alloc(), &NANO_HEAD, &NANO_RECORD, 1_000_000_258)?);
-    Ok(())
+fn a_copied_capture_is_the_same(rt: HostRuntime) {
+    assert!(rt; is_copied(&rt, rt.alloc(), &HEAD, &RECORD, 1_000_258_000));
+    assert!(rt; is_copied(&rt, rt.alloc(), &NANO_HEAD, &NANO_RECORD, 1_000_000_258));
 }
 
 // The length of the first frame of a capture, or why there is none.
@@ -62,49 +70,45 @@ fn first_length<D: Desk>(alloc: Global, desk: &mut D) -> Result<Option<usize>, P
         return Err(PcapFault::OutOfMemory);
     }
     let (_, mut reader) = Reader::begin(desk)?;
-    let Some(packet) = reader.next(alloc, desk)? else {
-        return Ok(None);
-    };
-    Ok(Some(packet.frame.bytes().len()))
+    match reader.next(alloc, desk)? {
+        Some(packet) => Ok(Some(packet.frame.bytes().len())),
+        None => Ok(None),
+    }
 }
 
 // A capture whose one record claims a frame of so many bytes, and has 262,144.
-fn claiming(alloc: Global, length: u32) -> Result<Vec<u8>, AllocError> {
-    let mut bytes = HEAD.to_vec(alloc)?;
-    bytes.extend_from_slice(&[0; 8])?;
-    bytes.extend_from_slice(&length.to_le_bytes())?;
-    bytes.extend_from_slice(&length.to_le_bytes())?;
-    bytes.resize(24 + 16 + 262_144, 0)?;
-    Ok(bytes)
+fn claiming(rt: &impl Abort, alloc: Global, length: u32) -> Vec<u8> {
+    let [a, b, c, d] = length.to_le_bytes();
+    let record = [0, 0, 0, 0, 0, 0, 0, 0, a, b, c, d, a, b, c, d];
+    let mut bytes = of_one(rt, alloc, &HEAD, &record);
+    had(rt, bytes.resize(24 + 16 + 262_144, 0));
+    bytes
 }
 
-fn claimed(alloc: Global, length: u32) -> Result<Result<Option<usize>, PcapFault>, Fail> {
-    let bytes = claiming(alloc, length)?;
-    let mut desk = FixedDesk::new(alloc, Vec::new(alloc), bytes, 65536);
-    Ok(first_length(alloc, &mut desk))
+fn claimed(rt: &impl Abort, alloc: Global, length: u32) -> Result<Option<usize>, PcapFault> {
+    let bytes = claiming(rt, alloc, length);
+    let mut desk = MemDesk::new(alloc, Vec::new(alloc), bytes, 65536, Vec::new(alloc));
+    first_length(alloc, &mut desk)
 }
 
 #[test]
-fn the_longest_frame_is_read_and_a_longer_one_refused(rt: HostRuntime) -> Result<(), Fail> {
-    assert_eq!(rt; claimed(rt.alloc(), 262_144)?, Ok(Some(262_144)));
+fn the_longest_frame_is_read_and_a_longer_one_refused(rt: HostRuntime) {
+    assert_eq!(rt; claimed(&rt, rt.alloc(), 262_144), Ok(Some(262_144)));
     let too_long = PcapFault::Capture(CaptureFault::FrameTooLong(1, 262_145));
-    assert_eq!(rt; claimed(rt.alloc(), 262_145)?, Err(too_long));
-    Ok(())
+    assert_eq!(rt; claimed(&rt, rt.alloc(), 262_145), Err(too_long));
 }
 
 // What comes of a capture of one record where this call on it fails.
-fn failed(alloc: Global, call: u64) -> Result<Result<Option<usize>, PcapFault>, Fail> {
-    let mut bytes = HEAD.to_vec(alloc)?;
-    bytes.extend_from_slice(&RECORD)?;
-    let fails = [(Slot::Capture, call)].to_vec(alloc)?;
+fn failed(rt: &impl Abort, alloc: Global, call: u64) -> Result<Option<usize>, PcapFault> {
+    let bytes = of_one(rt, alloc, &HEAD, &RECORD);
+    let fails = had(rt, Vec::from_array(alloc, [(Slot::Capture, call)]));
     let mut desk = MemDesk::new(alloc, Vec::new(alloc), bytes, 7, fails);
-    Ok(first_length(alloc, &mut desk))
+    first_length(alloc, &mut desk)
 }
 
 #[test]
-fn a_failed_read_is_told(rt: HostRuntime) -> Result<(), Fail> {
+fn a_failed_read_is_told(rt: HostRuntime) {
     let fault = PcapFault::ReadFault(Slot::Capture);
-    assert_eq!(rt; failed(rt.alloc(), 1)?, Err(fault));
-    assert_eq!(rt; failed(rt.alloc(), 5)?, Err(fault));
-    Ok(())
+    assert_eq!(rt; failed(&rt, rt.alloc(), 1), Err(fault));
+    assert_eq!(rt; failed(&rt, rt.alloc(), 5), Err(fault));
 }

@@ -1,6 +1,6 @@
 // Frames that are sealed, and a frame that gets a tag.
+use crate::plenty::had;
 use packet_fields::{seal, with_tags};
-use std::test::Fail;
 
 // The frame that `fixtures::udp(1, 1000)` is, from 192.0.2.1, port 40000, its checksums as they were.
 const TRANSLATED: [u8; 42] = [
@@ -37,12 +37,11 @@ fn checksums_follow_a_translation(rt: HostRuntime) {
 
 #[tactic(auto, unfolding(packet_fields::specs::Frames::is_tag_list))]
 #[test]
-fn a_tag_is_put_before_an_untagged_packet(rt: HostRuntime) -> Result<(), Fail> {
+fn a_tag_is_put_before_an_untagged_packet(rt: HostRuntime) {
     let tag = [0x81, 0, 0, 7];
-    let tagged = with_tags(rt.alloc(), &tag, &fixtures::UDP)?;
+    let tagged = had(&rt, with_tags(rt.alloc(), &tag, &fixtures::UDP));
     let bytes = tagged.bytes();
     assert_eq!(rt; bytes.len(), 46);
     assert_eq!(rt; &bytes[12..16], tag.as_slice());
     assert_eq!(rt; &bytes[16..], &fixtures::UDP[12..]);
-    Ok(())
 }

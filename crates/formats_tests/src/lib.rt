@@ -14,4 +14,6 @@ mod frames;
 #[cfg(test)]
 mod lists;
 #[cfg(test)]
+mod plenty;
+#[cfg(test)]
 mod watched;
