@@ -1,7 +1,8 @@
 //! Three packets of two flows, counted, gathered and exported.
-ghost use Rattle.std.specs.Prelude.{◌≡◌, ◌≤◌, IfOk};
+ghost use Rattle.std.specs.Prelude.{◌≡◌, ◌≤◌};
 ghost use Rattle.flow_line.specs.Versions.{HasFittingKey};
 
+use crate::plenty::had;
 use capture_bytes::{PcapRecord, Unit};
 use classifier::{Burst, Item};
 use flow_export::{Span5, export};
@@ -9,8 +10,8 @@ use flow_shards::{FlowKey, FlowLine, Shards};
 use item_list::Items;
 use nfp_outside::{Desk, FixedDesk, Slot};
 use packet_fields::Frame;
-use std::alloc::{AllocError, Global};
-use std::test::Fail;
+use std::alloc::Global;
+use std::process::Abort;
 use std::thread::Threads;
 
 /// One packet with two records: of 10.0.0.1, two packets of 28 bytes at 0 and 2 seconds, and of 10.0.0.9 one at 1 second.
@@ -22,11 +23,11 @@ const EXPORT: [u8; 120] = [
     0, 0, 0, 0, 0, 0, 0, 0, 0,
 ];
 
-fn item(alloc: Global, number: u32, seconds: u32, host: u8) -> Result<Item, AllocError>
-    ensures { IfOk result (λ item. item.number ≡ number) }
+fn item(rt: &impl Abort, alloc: Global, number: u32, seconds: u32, host: u8) -> Item
+    ensures { result.number ≡ number }
 {
-    let frame = fixtures::udp(host, 1000).to_vec(alloc)?;
-    Ok(Item {
+    let frame = had(rt, fixtures::udp(host, 1000).to_vec(alloc));
+    Item {
         number,
         class: None,
         packet: PcapRecord {
@@ -35,37 +36,34 @@ fn item(alloc: Global, number: u32, seconds: u32, host: u8) -> Result<Item, Allo
             wire: 42,
             frame: Frame::new(frame),
         },
-    })
+    }
 }
 
-fn in_one_burst<R: Threads + Sync>(
-    rt: &R,
-    alloc: Global,
-    workers: u32,
-) -> Result<Shards, AllocError>
+fn in_one_burst(rt: &(impl Abort + Threads + Sync), alloc: Global, workers: u32) -> Shards
     requires some { 1 ≤ workers }
     requires few { workers ≤ 16 }
 {
-    let shards = Shards::new(alloc, workers)?;
-    let mut items = Vec::new(alloc);
-    items.push(item(alloc, 1, 0, 1)?)?;
-    items.push(item(alloc, 2, 1, 9)?)?;
-    items.push(item(alloc, 3, 2, 1)?)?;
+    let shards = had(rt, Shards::new(alloc, workers));
+    let items = [
+        item(rt, alloc, 1, 0, 1),
+        item(rt, alloc, 2, 1, 9),
+        item(rt, alloc, 3, 2, 1),
+    ];
     let burst = Burst {
-        items: Items::new(items),
+        items: Items::new(had(rt, Vec::from_array(alloc, items))),
     };
-    shards.feed(rt, alloc, &burst, Unit::Micro)
+    had(rt, shards.feed(rt, alloc, &burst, Unit::Micro))
 }
 
 /// The lines that are gathered.
-fn gathers<R: Threads + Sync>(rt: &R, alloc: Global, workers: u32) -> Result<bool, AllocError>
+fn gathers(rt: &(impl Abort + Threads + Sync), alloc: Global, workers: u32) -> bool
     requires some { 1 ≤ workers }
     requires few { workers ≤ 16 }
 {
-    let lines = in_one_burst(rt, alloc, workers)?.gather(alloc)?;
+    let lines = had(rt, in_one_burst(rt, alloc, workers).gather(alloc));
     match lines.as_slice() {
-        [one, nine] => Ok(is_line(one, 1, 2, 2_000_000_000) && is_line(nine, 2, 1, 1_000_000_000)),
-        _ => Ok(false),
+        [one, nine] => is_line(one, 1, 2, 2_000_000_000) && is_line(nine, 2, 1, 1_000_000_000),
+        _ => false,
     }
 }
 
@@ -96,7 +94,7 @@ fn line(host: u128, packets: u64, bytes: u64, begun: u64, last: u64) -> FlowLine
 }
 
 #[test]
-fn two_flows_make_one_packet(rt: HostRuntime) -> Result<(), Fail> {
+fn two_flows_make_one_packet(rt: HostRuntime) {
     let alloc = rt.alloc();
     let lines = [
         line(1, 2, 56, 0, 2_000_000_000),
@@ -107,17 +105,14 @@ fn two_flows_make_one_packet(rt: HostRuntime) -> Result<(), Fail> {
         greatest: 2_000_000_000,
     };
     let mut desk = FixedDesk::new(alloc, Vec::new(alloc), Vec::new(alloc), 7);
-    desk.attach(Slot::Out, "out")?;
-    let packets = export(alloc, &mut desk, &lines, &span)?;
-    assert!(rt; packets == 1);
-    assert!(rt; desk.put(Slot::Out) == EXPORT.as_slice());
-    Ok(())
+    had(&rt, desk.attach(Slot::Out, "out"));
+    let packets = had(&rt, export(alloc, &mut desk, &lines, &span));
+    assert!(rt; packets == 1 && desk.put(Slot::Out) == EXPORT.as_slice());
 }
 
 #[test]
-fn workers_gather_the_same_lines(rt: HostRuntime) -> Result<(), Fail> {
-    assert!(rt; gathers(&rt, rt.alloc(), 1)?);
-    assert!(rt; gathers(&rt, rt.alloc(), 2)?);
-    assert!(rt; gathers(&rt, rt.alloc(), 16)?);
-    Ok(())
+fn workers_gather_the_same_lines(rt: HostRuntime) {
+    assert!(rt; gathers(&rt, rt.alloc(), 1));
+    assert!(rt; gathers(&rt, rt.alloc(), 2));
+    assert!(rt; gathers(&rt, rt.alloc(), 16));
 }

@@ -6,3 +6,5 @@
 
 #[cfg(test)]
 mod exported;
+#[cfg(test)]
+mod plenty;

@@ -1,18 +1,18 @@
 //! Gates that look at the steps of a run: no clause speaks of them, since a gate's call may wait.
 
 use crate::packets::{Capture, HEAD, Packet, THREE};
-use crate::rows::{Words, run_gated};
+use crate::plenty::had;
+use crate::rows::{Given, Words, run};
 use crate::runs::TWO_CHAINS;
 use crate::states::{BEHIND, BESIDE};
-use nfp_outside::{Gate, Slot};
+use nfp_outside::{Gate, MemDesk, Slot};
 use nfp_run::Outcome;
-use std::alloc::{AllocError, Global};
+use std::alloc::Global;
 use std::process::Abort;
 use std::rt::Clock;
 use std::sync::Wait;
 use std::sync::atomic::Ordering::SeqCst;
 use std::sync::atomic::{AtomicBool, AtomicU64};
-use std::test::Fail;
 use std::thread;
 use std::thread::Threads;
 
@@ -38,18 +38,23 @@ const WAYS: [Words<'static>; 2] = [
 /// A step: the position of the function in its chain, and the number of the record.
 type Step = (u32, u32);
 
-/// Holds each of two steps until the other has come.
+/// Counts the steps, adds up what they are told, and holds each of two steps until the other has come.
 #[derive(Drop)]
-struct Meeting {
+pub struct Watch {
     first: Step,
     second: Step,
     first_came: AtomicBool,
     second_came: AtomicBool,
     missed: AtomicBool,
+    passes: AtomicU64,
+    chains: AtomicU64,
+    positions: AtomicU64,
+    numbers: AtomicU64,
 }
 
-impl Gate for Meeting {
-    fn pass<R: Wait>(&self, _rt: &R, _chain: u32, position: u32, number: u32) {
+impl Gate for Watch {
+    fn pass<R: Wait>(&self, _rt: &R, chain: u32, position: u32, number: u32) {
+        self.count(chain, position, number);
         if (position, number) == self.first {
             self.meet(&self.first_came, &self.second_came);
         }
@@ -59,15 +64,31 @@ impl Gate for Meeting {
     }
 }
 
-impl Meeting {
-    fn new(first: Step, second: Step) -> Meeting {
-        Meeting {
+impl Watch {
+    /// Holds no step: positions and numbers count from 1.
+    pub fn idle() -> Watch {
+        Watch::over((0, 0), (0, 0))
+    }
+
+    fn over(first: Step, second: Step) -> Watch {
+        Watch {
             first,
             second,
             first_came: AtomicBool::new(false),
             second_came: AtomicBool::new(false),
             missed: AtomicBool::new(false),
+            passes: AtomicU64::new(0),
+            chains: AtomicU64::new(0),
+            positions: AtomicU64::new(0),
+            numbers: AtomicU64::new(0),
         }
+    }
+
+    fn count(&self, chain: u32, position: u32, number: u32) {
+        self.passes.fetch_add(1, SeqCst);
+        self.chains.fetch_add(u64::from(chain), SeqCst);
+        self.positions.fetch_add(u64::from(position), SeqCst);
+        self.numbers.fetch_add(u64::from(number), SeqCst);
     }
 
     fn meet(&self, own: &AtomicBool, other: &AtomicBool) {
@@ -80,71 +101,6 @@ impl Meeting {
         }
         self.missed.store(true, SeqCst);
     }
-}
-
-// Runs a policy over a capture, and compares the outcome: two steps are to meet, by each way of merging.
-fn meet(
-    rt: &(impl Abort + AllocGlobal + Threads + Wait + Clock + Sync),
-    policy: &[u8],
-    capture: Capture<'_>,
-    first: Step,
-    second: Step,
-) -> Result<(), Fail> {
-    for way in WAYS {
-        let meeting = Meeting::new(first, second);
-        let bytes = capture.bytes(rt.alloc())?;
-        let (outcome, _) = run_gated(rt, rt.alloc(), way, policy, bytes, &meeting)?;
-        assert!(rt; matches!(outcome, Outcome::Done));
-        assert!(rt; !meeting.missed.load(SeqCst));
-    }
-    Ok(())
-}
-
-// The monitor and the firewall of one stage, both on the first packet.
-#[test]
-fn gate_side_by_side(rt: HostRuntime) -> Result<(), Fail> {
-    meet(&rt, BESIDE, THREE, (1, 1), (2, 1))
-}
-
-// The firewall of the first stage on the second packet, while the translation of the second stage is at the first.
-#[test]
-fn gate_pipelined(rt: HostRuntime) -> Result<(), Fail> {
-    meet(&rt, STAGES, TWO_FLOWS, (1, 2), (3, 1))
-}
-
-// The firewall of the first stage on both packets: it keeps no state, so each of the two mergers has a node of it.
-#[test]
-fn gate_replicas(rt: HostRuntime) -> Result<(), Fail> {
-    meet(&rt, STAGES, TWO_FLOWS, (1, 1), (1, 2))
-}
-
-/// Counts the steps, and adds up what they are told.
-#[derive(Drop)]
-struct Steps {
-    passes: AtomicU64,
-    chains: AtomicU64,
-    positions: AtomicU64,
-    numbers: AtomicU64,
-}
-
-impl Gate for Steps {
-    fn pass<R: Wait>(&self, _rt: &R, chain: u32, position: u32, number: u32) {
-        self.passes.fetch_add(1, SeqCst);
-        self.chains.fetch_add(u64::from(chain), SeqCst);
-        self.positions.fetch_add(u64::from(position), SeqCst);
-        self.numbers.fetch_add(u64::from(number), SeqCst);
-    }
-}
-
-impl Steps {
-    fn new() -> Steps {
-        Steps {
-            passes: AtomicU64::new(0),
-            chains: AtomicU64::new(0),
-            positions: AtomicU64::new(0),
-            numbers: AtomicU64::new(0),
-        }
-    }
 
     fn sums(&self) -> [u64; 4] {
         [
@@ -154,6 +110,58 @@ impl Steps {
             self.numbers.load(SeqCst),
         ]
     }
+}
+
+// A run over a policy, whose steps pass this gate.
+fn watched(
+    rt: &(impl Abort + AllocGlobal + Threads + Wait + Clock + Sync),
+    call: Words<'_>,
+    policy: &[u8],
+    capture: Vec<u8>,
+    watch: &Watch,
+) -> MemDesk {
+    let given = Given {
+        policy,
+        step: 4096,
+        fails: &[],
+    };
+    let (outcome, desk) = run(rt, call, given, capture, watch);
+    assert!(rt; matches!(outcome, Outcome::Done));
+    desk
+}
+
+// Runs a policy over a capture: two steps are to meet, by each way of merging.
+fn meet(
+    rt: &(impl Abort + AllocGlobal + Threads + Wait + Clock + Sync),
+    policy: &[u8],
+    capture: Capture<'_>,
+    first: Step,
+    second: Step,
+) {
+    for way in WAYS {
+        let watch = Watch::over(first, second);
+        let bytes = capture.bytes(rt, rt.alloc());
+        watched(rt, way, policy, bytes, &watch);
+        assert!(rt; !watch.missed.load(SeqCst));
+    }
+}
+
+// The monitor and the firewall of one stage, both on the first packet.
+#[test]
+fn gate_side_by_side(rt: HostRuntime) {
+    meet(&rt, BESIDE, THREE, (1, 1), (2, 1));
+}
+
+// The firewall of the first stage on the second packet, while the translation of the second stage is at the first.
+#[test]
+fn gate_pipelined(rt: HostRuntime) {
+    meet(&rt, STAGES, TWO_FLOWS, (1, 2), (3, 1));
+}
+
+// The firewall of the first stage on both packets: it keeps no state, so each of the two mergers has a node of it.
+#[test]
+fn gate_replicas(rt: HostRuntime) {
+    meet(&rt, STAGES, TWO_FLOWS, (1, 1), (1, 2));
 }
 
 const COUNTED_CALLS: [Words<'static>; 3] = [
@@ -203,23 +211,21 @@ fn count_steps(
     rt: &(impl Abort + AllocGlobal + Threads + Wait + Clock + Sync),
     policy: &[u8],
     sums: [u64; 4],
-) -> Result<(), Fail> {
+) {
     for call in COUNTED_CALLS {
-        let steps = Steps::new();
-        let bytes = THREE.bytes(rt.alloc())?;
-        let (outcome, _) = run_gated(rt, rt.alloc(), call, policy, bytes, &steps)?;
-        assert!(rt; matches!(outcome, Outcome::Done));
-        assert_eq!(rt; steps.sums(), sums);
+        let watch = Watch::idle();
+        let bytes = THREE.bytes(rt, rt.alloc());
+        watched(rt, call, policy, bytes, &watch);
+        assert_eq!(rt; watch.sums(), sums);
     }
-    Ok(())
 }
 
 // A monitor beside a firewall sees all three packets, and behind it the two that pass. Of two chains each sees its own alone.
 #[test]
-fn each_step_of_the_walk_passes_the_gate_once(rt: HostRuntime) -> Result<(), Fail> {
-    count_steps(&rt, BESIDE, [6, 0, 9, 12])?;
-    count_steps(&rt, BEHIND, [5, 0, 7, 10])?;
-    count_steps(&rt, TWO_CHAINS, [3, 1, 3, 6])
+fn each_step_of_the_walk_passes_the_gate_once(rt: HostRuntime) {
+    count_steps(&rt, BESIDE, [6, 0, 9, 12]);
+    count_steps(&rt, BEHIND, [5, 0, 7, 10]);
+    count_steps(&rt, TWO_CHAINS, [3, 1, 3, 6]);
 }
 
 const COUNTED_IN_TURN: &[u8] =
@@ -233,33 +239,29 @@ const LONG_CALLS: [Words<'static>; 2] = [
 ];
 
 // So many packets of the hosts 1 and 9 in turn.
-fn in_turn(alloc: Global, pairs: u32) -> Result<Vec<u8>, AllocError> {
+fn in_turn(rt: &impl Abort, alloc: Global, pairs: u32) -> Vec<u8> {
     let pair = Capture {
         head: &[],
         packets: &[Packet::From(1), Packet::From(9)],
     };
-    let pair = pair.bytes(alloc)?;
-    let mut capture = HEAD.to_vec(alloc)?;
+    let pair = pair.bytes(rt, alloc);
+    let mut capture = had(rt, HEAD.to_vec(alloc));
     for _pair in 0..pairs {
-        capture.extend_from_slice(&pair)?;
+        had(rt, capture.extend_from_slice(&pair));
     }
-    Ok(capture)
+    capture
 }
 
 // A burst of 2,200 packets goes in three pieces at least, and bursts of 1,024 in as many: both functions see each packet once, and every
 // second is dropped.
 #[test]
-fn a_long_burst_goes_in_pieces(rt: HostRuntime) -> Result<(), Fail> {
+fn a_long_burst_goes_in_pieces(rt: HostRuntime) {
     for call in LONG_CALLS {
-        let steps = Steps::new();
-        let bytes = in_turn(rt.alloc(), 1100)?;
-        let (outcome, desk) = run_gated(&rt, rt.alloc(), call, BESIDE, bytes, &steps)?;
-        assert!(&rt; matches!(outcome, Outcome::Done));
-        assert_eq!(&rt; steps.sums(), [4400, 0, 6600, 4842200]);
-        let note = desk.put(Slot::Note);
-        assert_eq!(&rt; note, LONG_NOTE);
-        let report = desk.put(Slot::Report);
-        assert!(&rt; report.ends_with(COUNTED_IN_TURN));
+        let watch = Watch::idle();
+        let bytes = in_turn(&rt, rt.alloc(), 1100);
+        let desk = watched(&rt, call, BESIDE, bytes, &watch);
+        assert_eq!(rt; watch.sums(), [4400, 0, 6600, 4842200]);
+        let is_told = desk.put(Slot::Note) == LONG_NOTE;
+        assert!(rt; is_told && desk.put(Slot::Report).ends_with(COUNTED_IN_TURN));
     }
-    Ok(())
 }

@@ -1,20 +1,36 @@
 //! Cut and malformed input, and each call of the desk failing: the table of what is to come of each.
 
+use crate::gates::Watch;
 use crate::packets::THREE;
-use crate::rows::{RUN, run_failing};
+use crate::plenty::had;
+use crate::rows::{Given, RUN, run};
 use crate::runs::POLICY;
 use nfp_outside::{MemDesk, Slot};
 use nfp_run::Outcome;
 use pcap_io::CaptureFault;
-use std::alloc::{AllocError, Global};
+use std::alloc::Global;
 use std::process::Abort;
 use std::rt::Clock;
 use std::sync::Wait;
-use std::test::Fail;
 use std::thread::Threads;
 
 // The bytes of a policy may be so many.
 const LONGEST_POLICY: usize = 1_048_576;
+
+// A run by this policy whose calls of the desk fail where they are listed.
+fn failing(
+    rt: &(impl Abort + AllocGlobal + Threads + Wait + Clock + Sync),
+    policy: &[u8],
+    capture: Vec<u8>,
+    fails: &[(Slot, u64)],
+) -> (Outcome, MemDesk) {
+    let given = Given {
+        policy,
+        step: 4096,
+        fails,
+    };
+    run(rt, RUN, given, capture, &Watch::idle())
+}
 
 // What is to come of the first bytes of a capture whose head has 24 bytes and whose three records have 58, of which the second
 // is dropped.
@@ -55,40 +71,37 @@ fn is_left_of_cut(length: u32, desk: &MemDesk) -> bool {
 }
 
 // Compares what is left of a run over the first bytes of the capture.
-fn compare_cut(
-    rt: &(impl Abort + AllocGlobal + Threads + Wait + Clock + Sync),
-    length: u32,
-) -> Result<(), Fail> {
-    let mut cut = THREE.bytes(rt.alloc())?;
+fn compare_cut(rt: &(impl Abort + AllocGlobal + Threads + Wait + Clock + Sync), length: u32) {
+    let mut cut = THREE.bytes(rt, rt.alloc());
     cut.truncate(length as usize);
-    let (outcome, desk) = run_failing(rt, rt.alloc(), RUN, POLICY, cut, &[])?;
-    assert!(rt; is_due_of_cut(length, &outcome), "{length}");
-    assert!(rt; is_left_of_cut(length, &desk), "{length}");
-    Ok(())
+    let (outcome, desk) = failing(rt, POLICY, cut, &[]);
+    assert!(rt;
+        is_due_of_cut(length, &outcome) && is_left_of_cut(length, &desk),
+        "{length}"
+    );
 }
 
 #[test]
-fn a_capture_is_cut_after_each_byte(rt: HostRuntime) -> Result<(), Fail> {
+fn a_capture_is_cut_after_each_byte(rt: HostRuntime) {
     for length in 0..=198u32 {
-        compare_cut(&rt, length)?;
+        compare_cut(&rt, length);
     }
-    Ok(())
 }
 
 // A policy of a front part and so many lines like this one.
-fn repeated(alloc: Global, front: &[u8], line: &[u8], count: u32) -> Result<Vec<u8>, AllocError> {
-    let mut policy = front.to_vec(alloc)?;
+fn repeated(rt: &impl Abort, alloc: Global, front: &[u8], line: &[u8], count: u32) -> Vec<u8> {
+    let mut policy = had(rt, front.to_vec(alloc));
     for _ in 0..count {
-        policy.extend_from_slice(line)?;
+        had(rt, policy.extend_from_slice(line));
     }
-    Ok(policy)
+    policy
 }
 
 // A policy of so many bytes, which says nothing but its version.
-fn filled(alloc: Global, length: usize) -> Result<Vec<u8>, AllocError> {
-    let mut policy = b"nfp 1\n#".to_vec(alloc)?;
-    policy.resize(length, b'x')?;
-    Ok(policy)
+fn filled(rt: &impl Abort, alloc: Global, length: usize) -> Vec<u8> {
+    let mut policy = had(rt, b"nfp 1\n#".to_vec(alloc));
+    had(rt, policy.resize(length, b'x'));
+    policy
 }
 
 const RULES: &[u8] = b"nfp 1\nchain main\nfn fw firewall\n";
@@ -102,24 +115,25 @@ fn compare_policy(
     policy: &[u8],
     status: u8,
     note: &[u8],
-) -> Result<(), Fail> {
-    let capture = THREE.bytes(rt.alloc())?;
-    let (outcome, desk) = run_failing(rt, rt.alloc(), RUN, policy, capture, &[])?;
-    assert_eq!(rt; outcome.status(), status);
-    assert_eq!(rt; desk.put(Slot::Note), note);
-    Ok(())
+) {
+    let capture = THREE.bytes(rt, rt.alloc());
+    let (outcome, desk) = failing(rt, policy, capture, &[]);
+    assert!(rt;
+        outcome.status() == status && desk.put(Slot::Note) == note,
+        "{status}"
+    );
 }
 
 #[test]
-fn a_policy_passes_a_limit(rt: HostRuntime) -> Result<(), Fail> {
+fn a_policy_passes_a_limit(rt: HostRuntime) {
     let alloc = rt.alloc();
-    let many = repeated(alloc, RULES, b"rule deny src 10.0.0.9\n", 257)?;
-    let longest = filled(alloc, LONGEST_POLICY)?;
-    let too_long = filled(alloc, LONGEST_POLICY + 1)?;
-    compare_policy(&rt, SEVENTEEN, 2, b"policy: line 18: too many chains\n")?;
-    compare_policy(&rt, &many, 2, b"policy: line 260: too many rules\n")?;
-    compare_policy(&rt, &longest, 0, b"done records 3 emitted 3 dropped 0\n")?;
-    compare_policy(&rt, &too_long, 2, b"policy: too long\n")
+    let many = repeated(&rt, alloc, RULES, b"rule deny src 10.0.0.9\n", 257);
+    let longest = filled(&rt, alloc, LONGEST_POLICY);
+    let too_long = filled(&rt, alloc, LONGEST_POLICY + 1);
+    compare_policy(&rt, SEVENTEEN, 2, b"policy: line 18: too many chains\n");
+    compare_policy(&rt, &many, 2, b"policy: line 260: too many rules\n");
+    compare_policy(&rt, &longest, 0, b"done records 3 emitted 3 dropped 0\n");
+    compare_policy(&rt, &too_long, 2, b"policy: too long\n");
 }
 
 // The answer is the fault of this slot, and of no other, where a call failed, and else that all is done.
@@ -158,20 +172,13 @@ fn compare_failed(
     slot: Slot,
     call: u64,
     calls: u64,
-) -> Result<(), Fail> {
-    let capture = THREE.bytes(rt.alloc())?;
-    let fails = [(slot, call)];
-    let (outcome, desk) = run_failing(rt, rt.alloc(), RUN, POLICY, capture, &fails)?;
-    assert!(rt;
-        is_due_of_failed(&outcome, slot, call < calls),
-        "{slot:?} {call}"
-    );
-    assert!(rt; call > 0 || is_untouched(&desk, slot), "{slot:?}");
-    assert!(rt;
-        is_left(&desk, whole, slot != Slot::Note && call < calls),
-        "{slot:?} {call}"
-    );
-    Ok(())
+) {
+    let capture = THREE.bytes(rt, rt.alloc());
+    let (outcome, desk) = failing(rt, POLICY, capture, &[(slot, call)]);
+    let is_due = is_due_of_failed(&outcome, slot, call < calls)
+        && (call > 0 || is_untouched(&desk, slot))
+        && is_left(&desk, whole, slot != Slot::Note && call < calls);
+    assert!(rt; is_due, "{slot:?} {call}");
 }
 
 const SLOTS: &[Slot] = &[
@@ -182,14 +189,10 @@ const SLOTS: &[Slot] = &[
     Slot::Note,
 ];
 
-fn compare_slots(
-    rt: &(impl Abort + AllocGlobal + Threads + Wait + Clock + Sync),
-    whole: &MemDesk,
-) -> Result<(), Fail> {
+fn compare_slots(rt: &(impl Abort + AllocGlobal + Threads + Wait + Clock + Sync), whole: &MemDesk) {
     for slot in SLOTS {
-        compare_slot(rt, whole, *slot)?;
+        compare_slot(rt, whole, *slot);
     }
-    Ok(())
 }
 
 // For this slot and k from 0 on, the k-th call on it fails, until a run makes fewer: that one is done.
@@ -197,19 +200,18 @@ fn compare_slot(
     rt: &(impl Abort + AllocGlobal + Threads + Wait + Clock + Sync),
     whole: &MemDesk,
     slot: Slot,
-) -> Result<(), Fail> {
+) {
     let calls = whole.calls(slot);
     assert!(rt; calls > 0);
     for call in 0..=calls {
-        compare_failed(rt, whole, slot, call, calls)?;
+        compare_failed(rt, whole, slot, call, calls);
     }
-    Ok(())
 }
 
 #[test]
-fn each_call_of_the_desk_fails(rt: HostRuntime) -> Result<(), Fail> {
-    let capture = THREE.bytes(rt.alloc())?;
-    let (outcome, whole) = run_failing(&rt, rt.alloc(), RUN, POLICY, capture, &[])?;
+fn each_call_of_the_desk_fails(rt: HostRuntime) {
+    let capture = THREE.bytes(&rt, rt.alloc());
+    let (outcome, whole) = failing(&rt, POLICY, capture, &[]);
     assert!(rt; matches!(outcome, Outcome::Done));
-    compare_slots(&rt, &whole)
+    compare_slots(&rt, &whole);
 }

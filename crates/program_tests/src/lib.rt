@@ -21,6 +21,8 @@ mod options;
 #[cfg(test)]
 mod packets;
 #[cfg(test)]
+mod plenty;
+#[cfg(test)]
 mod rows;
 #[cfg(test)]
 mod runs;

@@ -3,7 +3,6 @@
 use crate::packets::{Capture, NOTHING, Packet};
 use crate::rows::{Row, WAYS, compare};
 use crate::runs::POLICY;
-use std::alloc::AllocError;
 
 // A little-endian section header without the section's length, and an interface for Ethernet with snaplen 65535.
 const HEAD_BLOCKS: [u8; 48] = [
@@ -163,8 +162,8 @@ const SECTIONS: Row<'static> = Row {
 const RUNS: &[Row<'static>] = &[PASSED, DROPPED, TAGGED, SECTIONS];
 
 #[test]
-fn blocks_go_through_chains(rt: HostRuntime) -> Result<(), AllocError> {
-    compare(&rt, RUNS)
+fn blocks_go_through_chains(rt: HostRuntime) {
+    compare(&rt, RUNS);
 }
 
 // The capture of one packet, cut inside it.
@@ -244,8 +243,8 @@ const NO_INTERFACE: Row<'static> = Row {
 const FAULTS: &[Row<'static>] = &[CUT_PACKET, CUT, BAD_LINK, NO_INTERFACE];
 
 #[test]
-fn a_fault_of_a_block_ends_a_capture(rt: HostRuntime) -> Result<(), AllocError> {
-    compare(&rt, FAULTS)
+fn a_fault_of_a_block_ends_a_capture(rt: HostRuntime) {
+    compare(&rt, FAULTS);
 }
 
 const CUT_FIRST: Row<'static> = Row {
@@ -299,6 +298,6 @@ const NO_BYTE: Row<'static> = Row {
 const REFUSED: &[Row<'static>] = &[CUT_FIRST, LONG_FIRST, BAD_FIRST, NO_BYTE];
 
 #[test]
-fn a_fault_of_the_first_block_leaves_nothing(rt: HostRuntime) -> Result<(), AllocError> {
-    compare(&rt, REFUSED)
+fn a_fault_of_the_first_block_leaves_nothing(rt: HostRuntime) {
+    compare(&rt, REFUSED);
 }

@@ -3,7 +3,6 @@
 use crate::packets::{Capture, Datagram, FIRST, HEAD, NOTHING, Packet, THREE};
 use crate::rows::{Failure, Row, compare, compare_failing};
 use nfp_outside::Slot;
-use std::alloc::AllocError;
 
 // How the first source leaves.
 const OUTSIDE: Datagram<'static> = Datagram {
@@ -128,8 +127,8 @@ const SLOWED: &[Row<'static>] = &[Row {
 
 // Twenty packets in as many seconds, of which every second passes the limiter, and five find a port.
 #[test]
-fn states_are_carried_from_burst_to_burst(rt: HostRuntime) -> Result<(), AllocError> {
-    compare(&rt, SLOWED)
+fn states_are_carried_from_burst_to_burst(rt: HostRuntime) {
+    compare(&rt, SLOWED);
 }
 
 const OPEN: &[Failure<'static>] = &[Failure {
@@ -151,8 +150,8 @@ const OPEN: &[Failure<'static>] = &[Failure {
 
 // Bursts of one packet are written one by one: the first stands, and the second couldn't be written.
 #[test]
-fn a_burst_is_written_before_the_next(rt: HostRuntime) -> Result<(), AllocError> {
-    compare_failing(&rt, OPEN)
+fn a_burst_is_written_before_the_next(rt: HostRuntime) {
+    compare_failing(&rt, OPEN);
 }
 
 const NO_CHAINS: &[Row<'static>] = &[Row {
@@ -170,8 +169,8 @@ const NO_CHAINS: &[Row<'static>] = &[Row {
 }];
 
 #[test]
-fn without_chains_all_packets_pass(rt: HostRuntime) -> Result<(), AllocError> {
-    compare(&rt, NO_CHAINS)
+fn without_chains_all_packets_pass(rt: HostRuntime) {
+    compare(&rt, NO_CHAINS);
 }
 
 const DEMO: &[Row<'static>] = &[Row {
@@ -207,6 +206,6 @@ const DEMO: &[Row<'static>] = &[Row {
 }];
 
 #[test]
-fn a_demo_is_told_by_its_weights(rt: HostRuntime) -> Result<(), AllocError> {
-    compare(&rt, DEMO)
+fn a_demo_is_told_by_its_weights(rt: HostRuntime) {
+    compare(&rt, DEMO);
 }

@@ -2,7 +2,9 @@
 
 ghost use Rattle.std.specs.Prelude.{◌≤◌};
 
+use crate::plenty::had;
 use std::alloc::{AllocError, Global};
+use std::process::Abort;
 
 /// Version 2.4, snaplen 65535, Ethernet.
 pub const HEAD: [u8; 24] = [
@@ -87,12 +89,12 @@ pub struct Capture<'a> {
 
 impl Capture<'_> {
     /// The bytes of the capture.
-    pub fn bytes(self, alloc: Global) -> Result<Vec<u8>, AllocError> {
-        let mut capture = self.head.to_vec(alloc)?;
+    pub fn bytes(self, rt: &impl Abort, alloc: Global) -> Vec<u8> {
+        let mut capture = had(rt, self.head.to_vec(alloc));
         for packet in self.packets {
-            push_packet(&mut capture, packet)?;
+            had(rt, push_packet(&mut capture, packet));
         }
-        Ok(capture)
+        capture
     }
 }
 

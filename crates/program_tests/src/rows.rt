@@ -2,10 +2,12 @@
 ghost use Rattle.std.specs.Prelude.{◌≡◌, [], None, IfSome};
 ghost use Rattle.nfp_outside.specs.declared.slot.Slot.{Slot};
 
+use crate::gates::Watch;
 use crate::packets::Capture;
-use nfp_outside::{Desk, FixedDesk, Gate, MemDesk, OpenGate, Slot};
+use crate::plenty::had;
+use nfp_outside::{Desk, Gate, MemDesk, Slot};
 use nfp_run::{Outcome, nfp};
-use std::alloc::{AllocError, Global};
+use std::alloc::Global;
 use std::process::Abort;
 use std::rt::Clock;
 use std::sync::Wait;
@@ -71,16 +73,16 @@ pub struct Row<'a> {
 }
 
 /// The words of a command line.
-pub fn words(alloc: Global, texts: &[&str]) -> Result<Vec<String>, AllocError> {
+fn words(rt: &impl Abort, alloc: Global, texts: &[&str]) -> Vec<String> {
     let mut words = Vec::new(alloc);
     for text in texts {
-        words.push(String::from_str(alloc, text)?)?;
+        had(rt, words.push(had(rt, String::from_str(alloc, text))));
     }
-    Ok(words)
+    words
 }
 
 // The top call promises much, and each function that calls it is shown all of that: so all tests call this one, which says nothing.
-fn run<R: Threads + Wait + Clock + Sync, D: Desk, G: Gate + Sync>(
+fn call<R: Threads + Wait + Clock + Sync, D: Desk, G: Gate + Sync>(
     rt: &R,
     alloc: Global,
     words: &[String],
@@ -93,83 +95,64 @@ fn run<R: Threads + Wait + Clock + Sync, D: Desk, G: Gate + Sync>(
     nfp(rt, alloc, words, desk, gate)
 }
 
-/// A run over a desk in memory, and what it left.
-pub fn run_gated<R: Threads + Wait + Clock + Sync, G: Gate + Sync>(
-    rt: &R,
-    alloc: Global,
-    texts: &[&str],
-    policy: &[u8],
-    capture: Vec<u8>,
-    gate: &G,
-) -> Result<(Outcome, FixedDesk), AllocError> {
-    let words = words(alloc, texts)?;
-    let mut desk = FixedDesk::new(alloc, policy.to_vec(alloc)?, capture, 7);
-    let outcome = run(rt, alloc, &words, &mut desk, gate);
-    Ok((outcome, desk))
+/// What a desk holds and does: its policy, the most bytes that a call moves, and the calls that fail.
+#[derive(Clone, Copy)]
+pub struct Given<'a> {
+    pub policy: &'a [u8],
+    pub step: u16,
+    pub fails: &'a [(Slot, u64)],
 }
 
-/// A run over a desk in memory that fails at these calls, and what it left.
-pub fn run_failing<R: Threads + Wait + Clock + Sync>(
-    rt: &R,
-    alloc: Global,
+/// A run over a desk in memory with this capture, and what it left. All runs are over one type of desk and one of gate, since the program
+/// is built once more for each.
+pub fn run(
+    rt: &(impl Abort + AllocGlobal + Threads + Wait + Clock + Sync),
     texts: &[&str],
-    policy: &[u8],
+    given: Given<'_>,
     capture: Vec<u8>,
-    fails: &[(Slot, u64)],
-) -> Result<(Outcome, MemDesk), AllocError> {
-    let words = words(alloc, texts)?;
-    let fails = fails.to_vec(alloc)?;
-    let mut desk = MemDesk::new(alloc, policy.to_vec(alloc)?, capture, 4096, fails);
-    let outcome = run(rt, alloc, &words, &mut desk, &OpenGate);
-    Ok((outcome, desk))
+    gate: &Watch,
+) -> (Outcome, MemDesk) {
+    let alloc = rt.alloc();
+    let words = words(rt, alloc, texts);
+    let policy = had(rt, given.policy.to_vec(alloc));
+    let fails = had(rt, given.fails.to_vec(alloc));
+    let step = usize::from(given.step).max(1);
+    let mut desk = MemDesk::new(alloc, policy, capture, step, fails);
+    let outcome = call(rt, alloc, &words, &mut desk, gate);
+    (outcome, desk)
 }
 
 /// Makes the calls of these rows, and compares what each of them leaves.
-pub fn compare(
-    rt: &(impl Abort + AllocGlobal + Threads + Wait + Clock + Sync),
-    rows: &[Row<'_>],
-) -> Result<(), AllocError> {
+pub fn compare(rt: &(impl Abort + AllocGlobal + Threads + Wait + Clock + Sync), rows: &[Row<'_>]) {
     for row in rows {
-        compare_row(rt, *row)?;
+        for call in row.calls {
+            compare_call(rt, call, *row);
+        }
     }
-    Ok(())
-}
-
-fn compare_row(
-    rt: &(impl Abort + AllocGlobal + Threads + Wait + Clock + Sync),
-    row: Row<'_>,
-) -> Result<(), AllocError> {
-    for call in row.calls {
-        compare_call(rt, call, row)?;
-    }
-    Ok(())
 }
 
 fn compare_call(
     rt: &(impl Abort + AllocGlobal + Threads + Wait + Clock + Sync),
     call: &[&str],
     row: Row<'_>,
-) -> Result<(), AllocError> {
-    let alloc = rt.alloc();
-    let out = row.out.bytes(alloc)?;
-    let capture = row.capture.bytes(alloc)?;
-    let (outcome, desk) = run_gated(rt, alloc, call, row.policy, capture, &OpenGate)?;
-    is_outcome(rt, alloc, &outcome, row.outcome)?;
+) {
+    let out = row.out.bytes(rt, rt.alloc());
+    let capture = row.capture.bytes(rt, rt.alloc());
+    let given = Given {
+        policy: row.policy,
+        step: 7,
+        fails: &[],
+    };
+    let (outcome, desk) = run(rt, call, given, capture, &Watch::idle());
+    is_outcome(rt, rt.alloc(), &outcome, row.outcome);
     is_same(rt, "out", desk.put(Slot::Out), &out);
     is_same(rt, "report", desk.put(Slot::Report), row.report);
     is_same(rt, "note", desk.put(Slot::Note), row.note);
-    Ok(())
 }
 
-fn is_outcome(
-    rt: &impl Abort,
-    alloc: Global,
-    outcome: &Outcome,
-    due: &str,
-) -> Result<(), AllocError> {
-    let text = format!(in alloc; "{outcome:?}")?;
+fn is_outcome(rt: &impl Abort, alloc: Global, outcome: &Outcome, due: &str) {
+    let text = had(rt, format!(in alloc; "{outcome:?}"));
     is_same(rt, "outcome", text.as_bytes(), due.as_bytes());
-    Ok(())
 }
 
 // One assertion for all: each costs the function that makes it more than this call does.
@@ -194,35 +177,28 @@ pub struct Failure<'a> {
 pub fn compare_failing(
     rt: &(impl Abort + AllocGlobal + Threads + Wait + Clock + Sync),
     failures: &[Failure<'_>],
-) -> Result<(), AllocError> {
+) {
     for failure in failures {
-        compare_failure(rt, *failure)?;
+        for call in failure.calls {
+            compare_failing_call(rt, call, *failure);
+        }
     }
-    Ok(())
-}
-
-fn compare_failure(
-    rt: &(impl Abort + AllocGlobal + Threads + Wait + Clock + Sync),
-    failure: Failure<'_>,
-) -> Result<(), AllocError> {
-    for call in failure.calls {
-        compare_failing_call(rt, call, failure)?;
-    }
-    Ok(())
 }
 
 fn compare_failing_call(
     rt: &(impl Abort + AllocGlobal + Threads + Wait + Clock + Sync),
     call: &[&str],
     failure: Failure<'_>,
-) -> Result<(), AllocError> {
-    let alloc = rt.alloc();
-    let out = failure.out.bytes(alloc)?;
-    let capture = failure.capture.bytes(alloc)?;
-    let fails = [failure.fails];
-    let (outcome, desk) = run_failing(rt, alloc, call, failure.policy, capture, &fails)?;
-    is_outcome(rt, alloc, &outcome, failure.outcome)?;
+) {
+    let out = failure.out.bytes(rt, rt.alloc());
+    let capture = failure.capture.bytes(rt, rt.alloc());
+    let given = Given {
+        policy: failure.policy,
+        step: 4096,
+        fails: &[failure.fails],
+    };
+    let (outcome, desk) = run(rt, call, given, capture, &Watch::idle());
+    is_outcome(rt, rt.alloc(), &outcome, failure.outcome);
     is_same(rt, "out", desk.put(Slot::Out), &out);
     is_same(rt, "note", desk.put(Slot::Note), failure.note);
-    Ok(())
 }

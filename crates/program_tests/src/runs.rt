@@ -3,7 +3,6 @@
 use crate::packets::{Capture, HEAD, NONE, NOTHING, Packet, THREE};
 use crate::rows::{Failure, RUN, Row, compare, compare_failing};
 use nfp_outside::Slot;
-use std::alloc::AllocError;
 
 /// Denies the host 9.
 pub const POLICY: &[u8] = b"nfp 1\nchain main\nfn fw firewall\nrule deny src 10.0.0.9\n";
@@ -44,8 +43,8 @@ const BESIDE: Row<'static> = Row {
 const IN_CHAIN_ORDER: &[Row<'static>] = &[FILTERED, TWO, BESIDE];
 
 #[test]
-fn a_capture_goes_through_the_functions_in_chain_order(rt: HostRuntime) -> Result<(), AllocError> {
-    compare(&rt, IN_CHAIN_ORDER)
+fn a_capture_goes_through_the_functions_in_chain_order(rt: HostRuntime) {
+    compare(&rt, IN_CHAIN_ORDER);
 }
 
 /// Each chain is for the packets of one host.
@@ -85,8 +84,8 @@ const SEVERAL_CHAINS: &[Row<'static>] = &[CHAINS, SIXTEEN];
 
 // A packet of the first chain, one that the last chain drops, and one that no chain takes, which goes out too.
 #[test]
-fn each_packet_goes_through_the_chain_that_takes_it(rt: HostRuntime) -> Result<(), AllocError> {
-    compare(&rt, SEVERAL_CHAINS)
+fn each_packet_goes_through_the_chain_that_takes_it(rt: HostRuntime) {
+    compare(&rt, SEVERAL_CHAINS);
 }
 
 // In nanoseconds, the high byte of each number first.
@@ -106,11 +105,11 @@ const CARRIED: &[Row<'static>] = &[Row {
 }];
 
 #[test]
-fn each_order_and_unit_is_carried(rt: HostRuntime) -> Result<(), AllocError> {
-    compare(&rt, CARRIED)
+fn each_order_and_unit_is_carried(rt: HostRuntime) {
+    compare(&rt, CARRIED);
 }
 
-const PLANNED: &[Row<'static>] = &[Row {
+const PLANNED: Row<'static> = Row {
     calls: &[&["plan", "p"]],
     policy: b"nfp 1\nchain main\nfn sig signature\nfn fw firewall\npriority sig > fw\nchain rest match proto tcp\n",
     capture: NOTHING,
@@ -118,11 +117,26 @@ const PLANNED: &[Row<'static>] = &[Row {
     out: NOTHING,
     report: b"",
     note: b"chain main\norder fw sig\nstage 1\nbranch 1 fw\nbranch 2 sig\npart tag shared\npart src shared\npart dst shared\npart sport shared\npart dport shared\npart payload shared\nchain rest\norder\n",
-}];
+};
 
+const COPYING: Row<'static> = Row {
+    policy: b"nfp 1\nchain main\nfn m monitor\nfn f firewall\nfn b balancer\nset vip 10.0.0.2\nrule backend 10.9.0.1\n",
+    note: b"chain main\norder m f b\nstage 1\nbranch 1 m\nbranch 2 f b\npart tag shared\npart src shared\npart dst copied 1\npart sport shared\npart dport shared\n",
+    ..PLANNED
+};
+
+const MOVING: Row<'static> = Row {
+    policy: b"nfp 1\nchain main\nfn n nat\nset inside 10.0.0.0/8\nset public 192.0.2.1\nset ports 40000-40000\nfn fw firewall\nfn sig signature\nposition n last\n",
+    note: b"chain main\norder fw sig n\nstage 1\nbranch 1 fw\nbranch 2 sig\npart tag shared\npart src shared\npart dst shared\npart sport shared\npart dport shared\npart payload shared\nstage 2\nbranch 1 n\npart src moved 1\npart dst moved 1\npart sport moved 1\npart dport moved 1\n",
+    ..PLANNED
+};
+
+const PLANS: &[Row<'static>] = &[PLANNED, COPYING, MOVING];
+
+// Each chain in its order, and of each stage what is shared, copied and moved.
 #[test]
-fn a_plan_shows_each_chain_in_order(rt: HostRuntime) -> Result<(), AllocError> {
-    compare(&rt, PLANNED)
+fn a_plan_shows_each_chain_in_order(rt: HostRuntime) {
+    compare(&rt, PLANS);
 }
 
 const NO_COMMAND: Row<'static> = Row {
@@ -176,8 +190,8 @@ const REFUSED_WORDS: &[Row<'static>] = &[
 ];
 
 #[test]
-fn words_that_are_no_command_are_told(rt: HostRuntime) -> Result<(), AllocError> {
-    compare(&rt, REFUSED_WORDS)
+fn words_that_are_no_command_are_told(rt: HostRuntime) {
+    compare(&rt, REFUSED_WORDS);
 }
 
 const NO_VERSION: Row<'static> = Row {
@@ -193,6 +207,12 @@ const NO_VERSION: Row<'static> = Row {
 // What a policy is refused with, in the order of the checks.
 const REFUSED_POLICIES: &[Row<'static>] = &[
     NO_VERSION,
+    Row {
+        policy: b"nfp 1\nchain main\nfn mon monitor\nfn fw firewall\nposition mon\n",
+        outcome: "Policy(Text(Syntax(5, 13)))",
+        note: b"policy: line 5 column 13: syntax\n",
+        ..NO_VERSION
+    },
     Row {
         policy: b"\xff",
         outcome: "Policy(Text(NotUtf8(0)))",
@@ -224,6 +244,18 @@ const REFUSED_POLICIES: &[Row<'static>] = &[
         ..NO_VERSION
     },
     Row {
+        policy: b"nfp 1\nchain a\nfn m monitor\nfn l monitor\norder m before l\norder l before m\nchain b\nfn n hop\nfn o hop\npriority o > n\n",
+        outcome: "Policy(Check { chain: 0, fault: Cycle(Items { items: [0, 1] }) })",
+        note: b"policy: cycle m l\n",
+        ..NO_VERSION
+    },
+    Row {
+        policy: b"nfp 1\nchain b\nfn o hop\nfn n hop\npriority o > n\n",
+        outcome: "Policy(Check { chain: 0, fault: PriorityForbidden { high: 0, low: 1, line: 5, first: Write(Ttl), second: Read(Ttl) } })",
+        note: b"policy: line 5: priority o over n forbidden: write ttl before read ttl\n",
+        ..NO_VERSION
+    },
+    Row {
         policy: b"nfp 1\nchain main\nfn mon monitor\nfn n nat\nset inside 10.0.0.0/8\nset public 192.0.2.1\nset ports 40000-40009\npriority mon > n\n",
         outcome: "Policy(Check { chain: 0, fault: PriorityForbidden { high: 0, low: 1, line: 8, first: Write(SrcIp), second: Read(SrcIp) } })",
         note: b"policy: line 8: priority mon over n forbidden: write src before read src\n",
@@ -232,8 +264,79 @@ const REFUSED_POLICIES: &[Row<'static>] = &[
 ];
 
 #[test]
-fn a_policy_is_refused_for_its_first_fault(rt: HostRuntime) -> Result<(), AllocError> {
-    compare(&rt, REFUSED_POLICIES)
+fn a_policy_is_refused_for_its_first_fault(rt: HostRuntime) {
+    compare(&rt, REFUSED_POLICIES);
+}
+
+const SETTING_3: Row<'static> = Row {
+    outcome: "Policy(BadSetting(3))",
+    note: b"policy: line 3: bad setting\n",
+    ..NO_VERSION
+};
+
+const SETTING_4: Row<'static> = Row {
+    outcome: "Policy(BadSetting(4))",
+    note: b"policy: line 4: bad setting\n",
+    ..NO_VERSION
+};
+
+const SETTING_5: Row<'static> = Row {
+    outcome: "Policy(BadSetting(5))",
+    note: b"policy: line 5: bad setting\n",
+    ..NO_VERSION
+};
+
+// Of the lines that are refused the least is told. One that is missing, or stands and can't be read, is told by the line of its function.
+const REFUSED_LINES: &[Row<'static>] = &[
+    Row {
+        policy: b"nfp 1\nchain c\nfn f firewall\nset default deny\nset default deny\n",
+        ..SETTING_5
+    },
+    Row {
+        policy: b"nfp 1\nchain c\nfn f firewall\nset size 1\nrule allow src\n",
+        ..SETTING_4
+    },
+    Row {
+        policy: b"nfp 1\nchain a\nfn f firewall\nset default maybe\nfn g firewall\nrule deny src 10.0.0.256\norder f before g\norder g before f\n",
+        ..SETTING_4
+    },
+    Row {
+        policy: b"nfp 1\nchain c\nfn n nat\nset inside 10.0.0.0/8\nset public 192.0.2.1\nset ports 80\n",
+        ..SETTING_3
+    },
+    Row {
+        policy: b"nfp 1\nchain c\nfn n nat\nset inside 10.0.0.0/8\nset public 192.0.2.1\nset ports 1-2\nset ports 1-2\n",
+        outcome: "Policy(BadSetting(7))",
+        note: b"policy: line 7: bad setting\n",
+        ..NO_VERSION
+    },
+    Row {
+        policy: b"nfp 1\nchain c\nfn b balancer\nset vip 10.0.0.2\n",
+        ..SETTING_3
+    },
+    Row {
+        policy: b"nfp 1\nchain c\nfn b balancer\nrule backend 10.9.0.1\nrule 10.9.0.2\nset vip 10.0.0.2\n",
+        ..SETTING_5
+    },
+    Row {
+        policy: b"nfp 1\nchain c\nfn m monitor\nset default allow\n",
+        ..SETTING_4
+    },
+    Row {
+        policy: b"nfp 1\nchain c\nfn l limiter\nset rate 0\nset burst 28\n",
+        ..SETTING_3
+    },
+    Row {
+        policy: b"nfp 1\nchain c\nfn l limiter\nset rate 14\nset burst 28\nset size 1\nset rate 14\n",
+        outcome: "Policy(BadSetting(6))",
+        note: b"policy: line 6: bad setting\n",
+        ..NO_VERSION
+    },
+];
+
+#[test]
+fn the_least_refused_line_is_told(rt: HostRuntime) {
+    compare(&rt, REFUSED_LINES);
 }
 
 // The capture of three records, cut inside the last: two are done, and the report says why it ends.
@@ -260,8 +363,8 @@ const CUT: &[Row<'static>] = &[Row {
 }];
 
 #[test]
-fn a_cut_capture_is_done_up_to_its_fault(rt: HostRuntime) -> Result<(), AllocError> {
-    compare(&rt, CUT)
+fn a_cut_capture_is_done_up_to_its_fault(rt: HostRuntime) {
+    compare(&rt, CUT);
 }
 
 const POLICY_FAILS: Failure<'static> = Failure {
@@ -306,6 +409,6 @@ const FAILURES: &[Failure<'static>] = &[POLICY_FAILS, OUT_FAILS, REPORT_FAILS, N
 // Each call that fails is answered by the fault of its own slot, and what was written before stays. Where the line of a drop can't be
 // put, the packets of its burst stand in Out.
 #[test]
-fn failures_are_told_by_their_slot(rt: HostRuntime) -> Result<(), AllocError> {
-    compare_failing(&rt, FAILURES)
+fn failures_are_told_by_their_slot(rt: HostRuntime) {
+    compare_failing(&rt, FAILURES);
 }
