@@ -1,5 +1,6 @@
 pub mod Feeding
 pub mod Gathering
+mod InTurn
 pub mod Keeping
 pub mod Keyed
 pub mod Monitored

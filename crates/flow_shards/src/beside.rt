@@ -10,6 +10,10 @@ use std::alloc::{AllocError, Global};
 use std::thread;
 use std::thread::Threads;
 
+/// From so many packets on each worker counts on a thread of its own, where one can be started: for fewer a thread costs more than it
+/// spares.
+const MANY: usize = 32_768;
+
 /// A worker, and the lines of its shard.
 #[derive(Drop)]
 pub(crate) struct Job {
@@ -17,7 +21,7 @@ pub(crate) struct Job {
     table: Table,
 }
 
-/// Counts packets, each worker those of its own shard, on a thread of its own where one can be started.
+/// Counts packets, each worker those of its own shard, side by side where there are many.
 pub(crate) fn count_beside<R: Threads + Sync>(
     rt: &R,
     alloc: Global,
@@ -32,14 +36,15 @@ pub(crate) fn count_beside<R: Threads + Sync>(
 {
     let workers = tables.len() as u32;
     let jobs = jobs_of(alloc, tables)?;
-    let counted = run_beside(rt, jobs, workers, sights)?;
+    let counted = run_beside(rt, alloc, jobs, workers, sights)?;
     tables_of(alloc, counted)
 }
 
-/// Counts for each worker, on a thread of its own where one can be started, and gives what they counted in their order. The one
-/// refusal is want of memory for that.
+/// Counts for each worker, where there are many packets on a thread of its own if one can be started, and gives what they counted in their
+/// order. The one refusal is want of memory for that.
 fn run_beside<R: Threads + Sync>(
     rt: &R,
+    alloc: Global,
     jobs: Vec<Job>,
     workers: u32,
     sights: &[Sight],
@@ -50,11 +55,34 @@ fn run_beside<R: Threads + Sync>(
     ensures each { IfOk result (λ counted. (k : ℕ) (d e : _) → k < length jobs.items →
         IsCounted workers sights.now (slice_index_or jobs.items k d) (slice_index_or counted.items k e)) }
 {
+    if sights.len() < MANY {
+        return run_in_turn(alloc, jobs, workers, sights);
+    }
     let run = |job: Job| -> Result<Table, AllocError>
         requires { (1 ≤ workers) × (workers ≤ 16) }
         ensures { IsCounted workers sights.entry.now job result }
     { count_own(job.table, job.worker, workers, sights) };
     thread::map_vec(rt, jobs, &run)
+}
+
+ghost use Rattle.flow_shards.specs.Working.{AreCounted};
+
+/// Counts for one worker after another.
+fn run_in_turn(
+    alloc: Global,
+    jobs: Vec<Job>,
+    workers: u32,
+    sights: &[Sight],
+) -> Result<Vec<Result<Table, AllocError>>, AllocError>
+    requires some { 1 ≤ workers }
+    requires few { workers ≤ 16 }
+    ensures { IfOk result (λ counted. AreCounted workers sights.now jobs.items counted.items) }
+{
+    let mut counted = Vec::new(alloc);
+    'jobs: for job in jobs {
+        counted.push(count_own(job.table, job.worker, workers, sights))?;
+    }
+    Ok(counted)
 }
 
 /// The jobs of all workers, counted from 0.

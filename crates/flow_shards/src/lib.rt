@@ -9,7 +9,8 @@
 //! In other words: [`flows_have_one_shard`] says that a flow is in exactly one shard, and that a shard's lines are what is counted of
 //! the packets of its own flows alone; [`lines_are_a_monitors`] that keys, packets and bytes are those of one monitor.
 //!
-//! Left out: when workers run side by side. A worker is a thread where one can be started, and else a turn of the caller.
+//! Left out: when workers run side by side. Of a burst of many packets a worker is a thread where one can be started, and else a turn of
+//! the caller.
 #![tactic(auto)]
 
 mod beside;
