@@ -5,7 +5,7 @@ ghost use Rattle.action_profile.specs.Modes.{has_write, copies};
 ghost use Rattle.graph_compile.specs.InARow.{copies_nothing, stage_copies_nothing};
 
 use crate::graph::{Graph, Stage};
-use crate::parts::some_only_reads;
+use crate::handing::some_only_reads;
 use action_profile::{Mode, StageParts, Touch, all_fields};
 use packet_fields::Field;
 

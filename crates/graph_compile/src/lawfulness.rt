@@ -10,7 +10,7 @@ ghost use Rattle.graph_compile.specs.Parts.{touches_of, stage_parts};
 ghost use Rattle.graph_compile.specs.Positions.{holds, stands};
 
 use crate::graph::{Branch, Graph, Stage};
-use crate::parts::{first_writer, is_alone, some_only_reads};
+use crate::handing::{first_writer, is_alone, some_only_reads};
 use crate::placing::is_forbidden;
 use crate::touching::touch_of;
 use action_profile::{Mode, Profile, StageParts, Touch, all_fields};

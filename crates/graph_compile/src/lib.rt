@@ -9,7 +9,7 @@
 //! ([`copies_nothing`]), a packet ends the same way and as few copies are made by either.
 //!
 //! Each field of a packet is shared by the branches that only read it, moved to the one branch that
-//! touches it, or copied for those that write it. [`copies`] counts the copies, and
+//! touches it, or copied for those that write it. [`parts`] tells that of any branches. [`copies`] counts the copies, and
 //! [`no_copy_is_spared`] says that there is none too many. [`functions_are_placed_for_cause`] and
 //! [`fields_are_handed_on_by_rule`] say of stages and of fields what they come to by themselves.
 //!
@@ -25,15 +25,16 @@
 mod copying;
 mod draft;
 mod graph;
+mod handing;
 mod lawfulness;
 mod laws;
-mod parts;
 mod placing;
 mod row;
 mod touching;
 
 pub use copying::{copies, copies_nothing};
 pub use graph::{Branch, Graph, Stage};
+pub use handing::parts;
 pub use lawfulness::lawful;
 pub use laws::{
     fields_are_handed_on_by_rule, functions_are_placed_for_cause, lawful_graph_is_staged,

@@ -9,7 +9,7 @@ ghost use Rattle.graph_compile.specs.Stages.{is_forbidden, holds_back, alone, gr
 
 use crate::draft::Draft;
 use crate::graph::{Branch, Graph, Stage};
-use crate::parts::stage_parts;
+use crate::handing::parts;
 use crate::touching::profile_at;
 use action_profile::Profile;
 use dependency_table::{Answer, pair};
@@ -148,7 +148,7 @@ fn stage_of(
     requires { length branches < 2 ^ 32 }
     ensures { IfOk result (λ stage. stage ≡ stage_of profiles.now branches) }
 {
-    let parts = stage_parts(alloc, profiles, branches.as_slice())?;
+    let parts = parts(alloc, branches.as_slice(), profiles)?;
     Ok(Stage { branches, parts })
 }
 

@@ -12,6 +12,9 @@
 //! [`pattern`]: IPv4 addresses are four decimal numbers (RFC 791), IPv6 addresses eight hexadecimal
 //! groups (RFC 4291, 2.2), and a clause takes a prefix of either.
 //!
+//! [`Lines`] cuts any text of this kind into numbered lines of words, with their columns ([`Line`], [`WordSpan`]), and [`is_name`] tells
+//! a name.
+//!
 //! The meaning of settings, which differs from kind to kind, and whether orders contradict each
 //! other are left out.
 #![tactic(auto)]
@@ -41,6 +44,7 @@ pub use clause::{Clause, Match};
 pub use fault::{BuildFault, MatchFault, TextFault};
 pub use item_list::Items;
 pub use laws::{prefixes_have_one_version, prefixes_keep_to_their_version};
+pub use line::{Line, Lines, WordSpan};
 pub use matching::{clause_of, read_match};
 pub use name::{Name, Word};
 pub use names::{name_at, names_at};

@@ -12,12 +12,13 @@ use item_list::Items;
 use packet_fields::Field;
 use std::alloc::{AllocError, Global};
 
-/// The parts of a stage with these branches.
+/// The parts of a stage with these branches, whose positions are those of a chain with these profiles, in chain order: what each
+/// branch reads and writes, and whether each field is shared, moved or copied. The one error is want of memory.
 #[tactic(auto, unfolding(crate::specs::Parts::stage_parts))]
-pub(crate) fn stage_parts(
+pub fn parts(
     alloc: Global,
-    profiles: &[Profile],
     branches: &[Branch],
+    profiles: &[Profile],
 ) -> Result<StageParts, AllocError>
     requires { length branches.now < 2 ^ 32 }
     ensures { IfOk result (λ parts. parts ≡ stage_parts profiles.now branches.now) }

@@ -1,0 +1,57 @@
+//! Why a graph text is refused.
+
+ghost use Rattle.std.specs.Prelude.{◌≡◌};
+
+use dependency_table::Action;
+use std::alloc::{AllocError, AllocFailed};
+
+/// The first fault of a graph text. Lines count from 1; chains of the policy and functions of a chain count from 0, as they are
+/// declared.
+#[derive(Clone, Copy, Debug, PartialEq, Eq)]
+pub enum GraphFault {
+    /// The text has more than 1,048,576 bytes.
+    TooLong,
+    /// The byte place, counted from 0, from which on the text is no UTF-8.
+    NotUtf8(usize),
+    BadVersionLine,
+    /// A line that has no form, stands in no chain or no stage, or opens a stage without a branch.
+    Syntax(u32),
+    UnknownName(u32),
+    /// A line that lists a chain again, or a function that stands already.
+    Twice(u32),
+    /// A line that lists a chain with a function that works on the frame as a whole, as no kind does yet.
+    WholeChain(u32),
+    /// In this chain this function doesn't stand.
+    Missing(u32, u32),
+    /// In this chain the first of these functions comes before the second, but they stand the other way round.
+    OutOfOrder(u32, u32, u32),
+    /// In this chain these functions stand side by side, though this action of the first must come before this one of the second.
+    Forbidden(u32, u32, u32, Action, Action),
+}
+
+/// Why a graph text isn't taken.
+#[derive(Clone, Copy, Debug, PartialEq, Eq)]
+pub enum GraphReadFault {
+    Graph(GraphFault),
+    OutOfMemory,
+}
+
+impl From<AllocError> for GraphReadFault {
+    ghost use Rattle.graph_text.specs.declared.fault.GraphReadFault.TheVariants.{OutOfMemory};
+
+    ghost from_gives = { λ _ e. e ≡ OutOfMemory };
+
+    fn from(_e: AllocError) -> GraphReadFault {
+        GraphReadFault::OutOfMemory
+    }
+}
+
+impl<T: Drop> From<AllocFailed<T>> for GraphReadFault {
+    ghost use Rattle.graph_text.specs.declared.fault.GraphReadFault.TheVariants.{OutOfMemory};
+
+    ghost from_gives = { λ _ e. e ≡ OutOfMemory };
+
+    fn from(_e: AllocFailed<T>) -> GraphReadFault {
+        GraphReadFault::OutOfMemory
+    }
+}
