@@ -4,7 +4,7 @@ use Rattle.std.specs.Prelude.{find}
 use Rattle.std.proofs.lemmas.Slice.Eq.{bytes_eq-Decides}
 use Rattle.action_profile.specs.Kinds.{kind_name, kinds, is_name_of, kind_named}
 use Rattle.action_profile.specs.declared.kind.Kind.{Kind}
-use Rattle.action_profile.specs.declared.kind.Kind.TheVariants.{Firewall, Signature, Nat, Balancer, Monitor, Limiter, Marker, Nexthop, Hop, Redactor, Tagger, Untagger}
+use Rattle.action_profile.specs.declared.kind.Kind.TheVariants.{Firewall, Signature, Nat, Balancer, Monitor, Limiter, Marker, Nexthop, Hop, Redactor, Tagger, Untagger, Encap, Decap}
 
 pub kind_named-name : (kind : Kind) → kind_named (kind_name kind) ≡ Some kind
 kind_named-name Firewall = refl
@@ -19,6 +19,8 @@ kind_named-name Hop = refl
 kind_named-name Redactor = refl
 kind_named-name Tagger = refl
 kind_named-name Untagger = refl
+kind_named-name Encap = refl
+kind_named-name Decap = refl
 
 found-name : (word : List ℕ) (kind : Kind) (among : List Kind) → find (is_name_of word) among ≡ Some kind → word ≡ kind_name kind
 found-name word kind [] e = absurd cc

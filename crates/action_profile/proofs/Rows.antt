@@ -1,7 +1,7 @@
 -- Rows of the table, computed by the definitions.
 use Rattle.std.proofs.Common.{◌≡◌, refl, true, false}
 use Rattle.packet_fields.specs.declared.field.Field.TheVariants.{LinkDst, Tag, SrcIp, Payload}
-use Rattle.action_profile.specs.declared.kind.Kind.TheVariants.{Firewall, Nat, Monitor, Nexthop, Tagger, Untagger}
+use Rattle.action_profile.specs.declared.kind.Kind.TheVariants.{Firewall, Nat, Monitor, Nexthop, Tagger, Untagger, Encap, Decap}
 use Rattle.action_profile.specs.Profiles.{reads_of, writes_of, profile_of}
 
 firewall_reads_tags : reads_of (profile_of Firewall) Tag ≡ true
@@ -29,3 +29,10 @@ untagger_writes = refl
 
 untagger_reads_no_address : reads_of (profile_of Untagger) SrcIp ≡ false
 untagger_reads_no_address = refl
+
+-- both ends of a tunnel rewrite a packet whole and tell of no field
+entry_is_whole : profile_of Encap ≡ record { reads = record { 0 = 0 }; writes = record { 0 = 0 }; drops = false; state = false; adds = false; removes = false; whole = true }
+entry_is_whole = refl
+
+exit_is_whole : profile_of Decap ≡ profile_of Encap
+exit_is_whole = refl

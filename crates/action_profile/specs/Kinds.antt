@@ -2,7 +2,7 @@
 use Rattle.std.specs.Prelude.{ℕ, List, [], ◌∷◌, Bool, Option, find, codes}
 use Rattle.std.specs.Str.{bytes_eq}
 use Rattle.action_profile.specs.declared.kind.Kind.{Kind}
-use Rattle.action_profile.specs.declared.kind.Kind.TheVariants.{Firewall, Signature, Nat, Balancer, Monitor, Limiter, Marker, Nexthop, Hop, Redactor, Tagger, Untagger}
+use Rattle.action_profile.specs.declared.kind.Kind.TheVariants.{Firewall, Signature, Nat, Balancer, Monitor, Limiter, Marker, Nexthop, Hop, Redactor, Tagger, Untagger, Encap, Decap}
 
 -- the name of a kind in policies and printed texts
 abbrev pub kind_name : Kind → List ℕ
@@ -18,10 +18,12 @@ kind_name Hop = codes "hop"
 kind_name Redactor = codes "redactor"
 kind_name Tagger = codes "tagger"
 kind_name Untagger = codes "untagger"
+kind_name Encap = codes "encap"
+kind_name Decap = codes "decap"
 
 -- all kinds
 abbrev pub kinds : List Kind
-kinds = Firewall ∷ Signature ∷ Nat ∷ Balancer ∷ Monitor ∷ Limiter ∷ Marker ∷ Nexthop ∷ Hop ∷ Redactor ∷ Tagger ∷ Untagger ∷ []
+kinds = Firewall ∷ Signature ∷ Nat ∷ Balancer ∷ Monitor ∷ Limiter ∷ Marker ∷ Nexthop ∷ Hop ∷ Redactor ∷ Tagger ∷ Untagger ∷ Encap ∷ Decap ∷ []
 
 abbrev pub is_name_of : List ℕ → Kind → Bool
 is_name_of word kind = bytes_eq (kind_name kind) word

@@ -3,7 +3,7 @@ use Rattle.std.specs.Prelude.{List, [], ◌∷◌, Bool, true, false, ◌&&◌, 
 use Rattle.packet_fields.specs.declared.field.Field.{Field}
 use Rattle.packet_fields.specs.declared.field.Field.TheVariants.{LinkDst, LinkSrc, Tag, Tos, Ttl, SrcIp, DstIp, SrcPort, DstPort, Payload}
 use Rattle.action_profile.specs.declared.kind.Kind.{Kind}
-use Rattle.action_profile.specs.declared.kind.Kind.TheVariants.{Firewall, Signature, Nat, Balancer, Monitor, Limiter, Marker, Nexthop, Hop, Redactor, Tagger, Untagger}
+use Rattle.action_profile.specs.declared.kind.Kind.TheVariants.{Firewall, Signature, Nat, Balancer, Monitor, Limiter, Marker, Nexthop, Hop, Redactor, Tagger, Untagger, Encap, Decap}
 use Rattle.action_profile.specs.declared.rights.Profile.{Profile}
 use Rattle.action_profile.specs.FieldSets.{has, fields}
 
@@ -46,3 +46,5 @@ profile_of Hop = record (plain (Ttl ∷ []) (Ttl ∷ [])) { drops = true }
 profile_of Redactor = plain (Payload ∷ []) (Payload ∷ [])
 profile_of Tagger = record (plain (SrcIp ∷ []) []) { adds = true }
 profile_of Untagger = record (plain [] []) { removes = true }
+profile_of Encap = record (plain [] []) { whole = true }
+profile_of Decap = record (plain [] []) { whole = true }

@@ -29,10 +29,14 @@ pub enum Kind {
     Tagger,
     /// Removes a tag (IEEE 802.1Q).
     Untagger,
+    /// Puts a packet into a packet at a tunnel's entry (RFC 2003).
+    Encap,
+    /// Takes it out again at the tunnel's exit (RFC 2003).
+    Decap,
 }
 
 /// All kinds, in the order of their sections in the operator's manual.
-pub const KINDS: [Kind; 12] = [
+pub const KINDS: [Kind; 14] = [
     Kind::Firewall,
     Kind::Signature,
     Kind::Nat,
@@ -45,6 +49,8 @@ pub const KINDS: [Kind; 12] = [
     Kind::Redactor,
     Kind::Tagger,
     Kind::Untagger,
+    Kind::Encap,
+    Kind::Decap,
 ];
 
 impl Kind {
@@ -78,6 +84,8 @@ impl Kind {
             Kind::Redactor => "redactor",
             Kind::Tagger => "tagger",
             Kind::Untagger => "untagger",
+            Kind::Encap => "encap",
+            Kind::Decap => "decap",
         }
     }
 }

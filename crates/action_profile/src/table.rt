@@ -88,5 +88,9 @@ pub fn profile(kind: Kind) -> Profile
             removes: true,
             ..NOTHING
         },
+        Kind::Encap | Kind::Decap => Profile {
+            whole: true,
+            ..NOTHING
+        },
     }
 }

@@ -61,6 +61,10 @@ front_at : (mappings more : List Endpoint) (place : Option ℕ) (proto : ℕ) (i
 front_at mappings more None proto inside h = absurd cc
 front_at mappings more (Some place) proto inside h = front mappings more place proto inside h
 
+-- addresses and ports stay as they were set
+pub stays_set : (n : PlainNat) (ends : Option (Endpoint × Endpoint)) → (translated n ends).after.settings ≡ n.settings
+stays_set n ends = (later n ends).settings
+
 pub stays_mapped : (n : PlainNat) (ends : Option (Endpoint × Endpoint)) (public inside : Endpoint) → mapped n public ≡ Some inside → mapped (translated n ends).after public ≡ Some inside
 stays_mapped n ends public inside h =
     let l = later n ends in

@@ -40,10 +40,11 @@ pub fn backends_are_of_one_version()
 
 /// Once a packet left by a public port, what is sent to that port by the same protocol comes back to where the packet
 /// came from, whatever packets come. No public port is given twice, whatever the protocols: endpoints that have one port are
-/// one endpoint.
+/// one endpoint. The addresses and ports of a translation stay as they were set.
 pub fn packets_come_back()
     ensures back { (n : PlainNat) (source : Endpoint) (address port : ℕ) → port_at n.settings (place_of n.mappings source) ≡ Some port →
         mapped (leaving n source (Some port)).after (record { proto = source.proto; address = address; port = port }) ≡ Some source }
+    ensures settings { (fixed : Fixed) (n : PlainNat) (v : Values) → (stepped nat_behaviour fixed n v).after.settings ≡ n.settings }
     ensures kept { (fixed : Fixed) (n : PlainNat) (v : Values) (public inside : Endpoint) → mapped n public ≡ Some inside → mapped (stepped nat_behaviour fixed n v).after public ≡ Some inside }
     ensures once { (n : PlainNat) (a b : Endpoint) (port : ℕ) → is_known n.mappings a ≡ true → is_known n.mappings b ≡ true →
         port_at n.settings (place_of n.mappings a) ≡ Some port → port_at n.settings (place_of n.mappings b) ≡ Some port → a ≡ b }
