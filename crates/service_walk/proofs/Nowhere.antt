@@ -3,7 +3,7 @@ use Rattle.std.proofs.Common.{◌≡◌, ◌≤◌, ℕ, zero, suc, List, [], �
 use Rattle.std.proofs.lemmas.List.{get_or_past}
 use Rattle.chain_walk.specs.Packets.{Packet}
 use Rattle.chain_walk.specs.Step.{Behaviour}
-use Rattle.chain_walk.specs.Walk.{Walked, walk}
+use Rattle.piece_walk.specs.Pieces.{Piece, Went, long}
 use Rattle.chain_walk.specs.declared.walk.Fate.TheVariants.{Out}
 use Rattle.service_walk.specs.Service.{at_chain}
 
@@ -13,11 +13,11 @@ put_anywhere [] place row h = sym (h (omega arith))
 put_anywhere (first ∷ rows) zero row h = refl
 put_anywhere (first ∷ rows) (suc place) row h = put_anywhere rows place row (λ le. h (omega arith))
 
-module _ {F : Type 0} (b : Behaviour F) (chains : List (List F)) (chain : ℕ) (p : Packet) where
-  pub walked_nowhere : length chains ≤ chain → ◌≡◌ {A = Walked F} (walk b p.time 1 (at_chain chains chain) p.frame) (record { functions = []; fate = Out p.frame })
-  unfolding walk
-  walked_nowhere le = ap (λ (functions : List F). walk b p.time 1 functions p.frame) (get_or_past chains chain [] le)
+module _ {F : Type 0} (b : Behaviour F) (chains : List (List (Piece F))) (chain : ℕ) (p : Packet) where
+  pub went_nowhere : length chains ≤ chain → ◌≡◌ {A = Went F} (long b p.time 1 (at_chain chains chain) p.frame) (record { pieces = []; fate = Out p.frame })
+  unfolding long
+  went_nowhere le = ap (λ (functions : List (Piece F)). long b p.time 1 functions p.frame) (get_or_past chains chain [] le)
 
   -- a chain is left as the walk leaves it, also where there is none
-  pub put_walked : at_chain (set chains chain (walk b p.time 1 (at_chain chains chain) p.frame).functions) chain ≡ (walk b p.time 1 (at_chain chains chain) p.frame).functions
-  put_walked = put_anywhere chains chain (walk b p.time 1 (at_chain chains chain) p.frame).functions (λ le. ap (λ (w : Walked F). w.functions) (walked_nowhere le))
+  pub put_went : at_chain (set chains chain (long b p.time 1 (at_chain chains chain) p.frame).pieces) chain ≡ (long b p.time 1 (at_chain chains chain) p.frame).pieces
+  put_went = put_anywhere chains chain (long b p.time 1 (at_chain chains chain) p.frame).pieces (λ le. ap (λ (w : Went F). w.pieces) (went_nowhere le))

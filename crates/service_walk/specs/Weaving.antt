@@ -1,20 +1,21 @@
 -- For proofs: the fates of packets, put together again from those of each chain.
 use Rattle.std.specs.Prelude.{ℕ, suc, List, [], ◌∷◌, drop, slice_get, slice_set, Option, Some, None}
-use Rattle.chain_walk.specs.Packets.{fates, functions_after}
 use Rattle.chain_walk.specs.Step.{Behaviour}
 use Rattle.chain_walk.specs.declared.walk.Fate.{Fate}
 use Rattle.chain_walk.specs.declared.walk.Fate.TheVariants.{Out}
+use Rattle.piece_walk.specs.Pieces.{Piece}
+use Rattle.piece_walk.specs.PiecePackets.{long_fates, pieces_after}
 use Rattle.service_walk.specs.Service.{Classed, at_chain, packets_in}
 
 -- the fates of each chain's packets, as if there were no other chain, where the first chain has this number
-unfoldable pub each_fates : {F : Type 0} → Behaviour F → List Classed → ℕ → List (List F) → List (List Fate)
+unfoldable pub each_fates : {F : Type 0} → Behaviour F → List Classed → ℕ → List (List (Piece F)) → List (List Fate)
 each_fates b xs chain [] = []
-each_fates b xs chain (functions ∷ later) = fates b functions (packets_in chain xs) ∷ each_fates b xs (suc chain) later
+each_fates b xs chain (pieces ∷ later) = long_fates b pieces (packets_in chain xs) ∷ each_fates b xs (suc chain) later
 
--- the functions of each chain behind its own packets
-unfoldable pub each_after : {F : Type 0} → Behaviour F → List Classed → ℕ → List (List F) → List (List F)
+-- the pieces of each chain behind its own packets
+unfoldable pub each_after : {F : Type 0} → Behaviour F → List Classed → ℕ → List (List (Piece F)) → List (List (Piece F))
 each_after b xs chain [] = []
-each_after b xs chain (functions ∷ later) = functions_after b functions (packets_in chain xs) ∷ each_after b xs (suc chain) later
+each_after b xs chain (pieces ∷ later) = pieces_after b pieces (packets_in chain xs) ∷ each_after b xs (suc chain) later
 
 -- the next fate of the chain that takes a packet
 abbrev pub next_fate : List (List Fate) → Option ℕ → Option Fate

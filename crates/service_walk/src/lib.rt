@@ -1,7 +1,7 @@
 //! The sequential model of several chains: each packet of a capture walks through the chain that takes it.
 //!
-//! This is the yardstick of `chain_walk` for a service of several chains (`specs/Service.antt`). A packet comes with the chain
-//! that takes it; it walks through that chain's functions as the packet before left them, the functions of the other
+//! This is the yardstick of `piece_walk` for a service of several chains (`specs/Service.antt`). A packet comes with the chain
+//! that takes it; it goes through that chain's pieces as the packet before left them, the pieces of the other
 //! chains never see it, and a packet that no chain takes passes as it is. Nothing is known here of how a chain is chosen.
 //!
 //! [`chains_walk_apart`] says that a chain's packets end as if there were no other chain; [`packets_pass_in_a_row`] that packets

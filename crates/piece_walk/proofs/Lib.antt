@@ -1,0 +1,9 @@
+pub mod Moving
+pub mod OnePiece
+pub mod PieceByPiece
+pub mod PacketsInRow
+pub mod Keeping
+pub mod Within
+pub mod FrameSizes
+pub mod Growing
+pub mod Through

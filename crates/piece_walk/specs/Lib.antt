@@ -1,0 +1,4 @@
+pub mod Pieces
+pub mod PiecePackets
+pub mod Rejoining
+pub mod Kinds
