@@ -13,7 +13,7 @@ use crate::runs::{Counts, Least, Way, by_walk, through_graph};
 use crate::search::{pass, search};
 use crate::{number, short};
 use classifier::Burst;
-use net_functions::{NetFunction, build};
+use net_functions::{Made, NetFunction, make};
 use piped_run::MergeWay;
 use policy_text::{BuildFault, ChainPolicy, FunctionDecl, parse};
 use std::alloc::Global;
@@ -38,7 +38,10 @@ fn push_function(
     functions: &mut Vec<NetFunction>,
     decl: &FunctionDecl,
 ) -> Result<(), BuildFault> {
-    let function = build(alloc, decl)?;
+    // An end of a tunnel is no function of a graph.
+    let Made::Function(function) = make(alloc, decl)? else {
+        return Err(BuildFault::BadSetting(decl.line));
+    };
     if functions.push(function).is_err() {
         return Err(BuildFault::OutOfMemory);
     }

@@ -2,7 +2,7 @@
 
 use crate::plenty::had;
 use function_lines::FitRules;
-use net_functions::{NetFunction, build};
+use net_functions::{Made, NetFunction, make};
 use nf_filter::GuardedRule;
 use policy_text::{BuildFault, FunctionDecl, Policy, Seen, TagSeen, parse};
 use std::alloc::Global;
@@ -28,14 +28,17 @@ pub fn first_declared<'a>(rt: &impl Abort, policy: &'a Policy) -> &'a FunctionDe
     }
 }
 
-fn made(alloc: Global, decl: &FunctionDecl) -> Result<NetFunction, BuildFault> {
-    build(alloc, decl)
+fn made(alloc: Global, decl: &FunctionDecl) -> Result<Made, BuildFault> {
+    make(alloc, decl)
 }
 
-/// The first function that a text declares.
+/// The first function that a text declares, which is no end of a tunnel.
 pub fn built(rt: &impl Abort, alloc: Global, text: &str) -> Result<NetFunction, BuildFault> {
     let policy = parsed(rt, alloc, text.as_bytes());
-    made(alloc, first_declared(rt, &policy))
+    match made(alloc, first_declared(rt, &policy))? {
+        Made::Function(function) => Ok(function),
+        Made::Encap(_) | Made::Decap(_) => rt.panic("an end of a tunnel"),
+    }
 }
 
 #[test]

@@ -4,11 +4,13 @@
 //! it does is its `behaviour` (of `chain_walk`), a function of what it is shown alone: whoever runs it
 //! sees the same step whether the packet is whole or in parts. `keeps` says that it keeps to its profile. A function whose profile
 //! says that it keeps no state can be had once more ([`Function::try_clone`]), so that several threads run it at once.
-//! [`NetFunction`] is a function of any kind, and [`build`] makes the one that a policy
-//! declares, or names the least line of the declaration that is refused. `frame_walk` leads whole frames
-//! through functions of any kind, with the same behaviour.
+//! [`NetFunction`] is a function of any of the twelve kinds that see a packet's fields. `frame_walk` leads whole frames
+//! through functions of these kinds, with the same behaviour. The ends of a tunnel (`nf_tunnel`), which rewrite a packet whole, are
+//! no [`Function`].
 //!
-//! All twelve kinds are built. How functions are put into stages, and which of them see a packet, is left out.
+//! [`make`] makes the function that a policy declares, of any of the fourteen kinds, or names the least line of the declaration that
+//! is refused; what it makes is [`Made`]. [`build`] does the same for a declaration that is known to be of none of the ends of a
+//! tunnel. How functions are put into stages, and which of them see a packet, is left out.
 #![tactic(auto)]
 
 mod function;
@@ -16,5 +18,5 @@ mod making;
 mod net_function;
 
 pub use function::Function;
-pub use making::build;
+pub use making::{Made, build, make};
 pub use net_function::NetFunction;

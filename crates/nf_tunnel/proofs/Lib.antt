@@ -6,3 +6,4 @@ pub mod Leaving
 pub mod Lengths
 pub mod Seen
 mod Rows
+mod LineRows

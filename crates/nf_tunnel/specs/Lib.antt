@@ -1,3 +1,5 @@
 pub mod OuterHeaders
 pub mod Tunnels
 pub mod Headers
+pub mod TunnelLines
+pub mod Ends

@@ -1,5 +1,8 @@
 //! The exit of a tunnel.
 
+mod build;
+mod lines;
+
 use crate::encap::IP_IN_IP;
 use crate::ipv4::{
     DESTINATION, FRAGMENT, HEADER, PROTOCOL, datagram_len, header_len, ipv4_at, packet_from,

@@ -1,5 +1,8 @@
 //! The entry of a tunnel.
 
+mod build;
+mod lines;
+
 use crate::ipv4::{
     FRAGMENT, HEADER, TYPE_OF_SERVICE, datagram_len, header_len, ipv4_at, packet_from,
 };

@@ -6,6 +6,9 @@
 //! such packet passes either of them as it is: one whose header isn't captured whole, whose length would no longer fit into 16
 //! bits, or, at the exit, a fragment or a packet for someone else.
 //!
+//! [`Encap::build`] and [`Decap::build`] make them of the lines that an operator wrote, or name the least line that is refused
+//! (`specs/TunnelLines.antt`, `specs/Ends.antt`).
+//!
 //! What is promised: a step gives `encapsulated` and `decapsulated` of `specs/Tunnels.antt`, over the outer header of
 //! `specs/OuterHeaders.antt`; where the IP header lies is `packet_fields`' to say. An entry takes memory for the longer frame, and only where
 //! the packet goes in; an exit takes none. In other words than these definitions, [`an_exit_undoes_its_entry`] says that a tunnel
@@ -18,6 +21,7 @@
 //! from inside the tunnel says of a packet isn't sent on (RFC 2003, 4).
 #![tactic(auto)]
 
+mod address;
 mod decap;
 mod encap;
 mod ipv4;

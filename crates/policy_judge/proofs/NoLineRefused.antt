@@ -6,7 +6,7 @@ use Rattle.std.proofs.lemmas.List.Elements.{All-nil, All-cons, All-head, All-tai
 use Rattle.policy_text.specs.declared.policy.ChainPolicy.{ChainPolicy}
 use Rattle.policy_text.specs.declared.policy.FunctionDecl.{FunctionDecl}
 use Rattle.net_functions.specs.Builds.{refused_line, function_of}
-use Rattle.net_functions.specs.declared.net_function.NetFunction.{NetFunction}
+use Rattle.net_functions.specs.declared.making.Made.{Made}
 use Rattle.policy_judge.specs.Kept.{kept_where, kept_of, kept_each}
 use Rattle.policy_judge.specs.Making.{place_of, functions_made}
 use Rattle.policy_judge.specs.Settings.{lesser_of, least_among, least_refused, IsSettled}
@@ -57,7 +57,7 @@ kept_in (c ∷ cs) settled =
     ∙ ap (λ l. map place_of c.functions ∷ l) (kept_in cs (All-tail IsSettled c cs settled))
 
 -- past the last chain all functions are made, where no line was refused
-pub all_made : (cs : List ChainPolicy) (index : ℕ) (least : Option ℕ) (functions made : List (List (Option NetFunction))) → length cs ≤ index →
+pub all_made : (cs : List ChainPolicy) (index : ℕ) (least : Option ℕ) (functions made : List (List (Option Made))) → length cs ≤ index →
     least ≡ least_refused (take index cs) → functions ≡ map (λ c. kept_each c.functions) (take index cs) → least ≡ None → made ≡ functions →
     (least_refused cs ≡ None) × (made ≡ functions_made cs)
 all_made cs index least functions made past least_is functions_are none made_are =

@@ -1,7 +1,7 @@
 //! A policy without fault.
 
 use item_list::Items;
-use net_functions::NetFunction;
+use net_functions::Made;
 use policy_check::Order;
 use policy_text::Policy;
 
@@ -11,5 +11,5 @@ use policy_text::Policy;
 pub struct Judged {
     pub policy: Policy,
     pub orders: Items<Order>,
-    pub functions: Items<Items<Option<NetFunction>>>,
+    pub functions: Items<Items<Option<Made>>>,
 }

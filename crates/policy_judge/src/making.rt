@@ -5,7 +5,7 @@ ghost use Rattle.policy_judge.specs.Kept.{kept_of, kept_each, MakesAll};
 ghost use Rattle.policy_judge.specs.Settings.{lesser_of, least_among};
 
 use item_list::Items;
-use net_functions::{NetFunction, build};
+use net_functions::{Made, make};
 use policy_text::{BuildFault, ChainPolicy, FunctionDecl};
 use std::alloc::{AllocError, Global};
 
@@ -13,7 +13,7 @@ use std::alloc::{AllocError, Global};
 pub fn functions_of(
     alloc: Global,
     chains: &[ChainPolicy],
-) -> Result<Items<Items<Option<NetFunction>>>, BuildFault>
+) -> Result<Items<Items<Option<Made>>>, BuildFault>
     ensures { MakesAll chains.now result }
 {
     let mut least = None;
@@ -33,13 +33,13 @@ fn make_each(
     alloc: Global,
     least: &mut Option<u32>,
     decls: &[FunctionDecl],
-) -> Result<Items<Option<NetFunction>>, AllocError>
+) -> Result<Items<Option<Made>>, AllocError>
     ensures functions { IfOk result (λ functions. functions ≡ kept_each decls.now) }
     ensures least { OnOk result (least.new ≡ least_among least.old decls.now) }
 {
     let mut functions = Vec::new(alloc);
     'decls: for decl in decls {
-        let function = make(alloc, least, decl)?;
+        let function = make_one(alloc, least, decl)?;
         functions.push(function)?;
     }
     Ok(Items::new(functions))
@@ -47,15 +47,15 @@ fn make_each(
 
 // Makes a function, and takes the line that it refuses into the least one. None stands for one that is refused, which nobody gets.
 #[tactic(auto, using(crate::proofs::NoLineRefused::lesser_of_none))]
-fn make(
+fn make_one(
     alloc: Global,
     least: &mut Option<u32>,
     decl: &FunctionDecl,
-) -> Result<Option<NetFunction>, AllocError>
+) -> Result<Option<Made>, AllocError>
     ensures function { IfOk result (λ function. function ≡ kept_of decl.now) }
     ensures least { OnOk result (least.new ≡ lesser_of least.old (refused_line decl.now)) }
 {
-    match build(alloc, decl) {
+    match make(alloc, decl) {
         Ok(function) => Ok(Some(function)),
         Err(BuildFault::BadSetting(line)) => {
             *least = Some(lesser_of(*least, line));
