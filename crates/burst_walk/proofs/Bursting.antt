@@ -10,12 +10,13 @@ use Rattle.policy_text.specs.declared.policy.ChainPolicy.{ChainPolicy}
 use Rattle.chain_walk.specs.Step.{Behaviour}
 use Rattle.chain_walk.specs.declared.walk.Fate.{Fate}
 use Rattle.chain_walk.specs.declared.walk.Fate.TheVariants.{Out}
+use Rattle.piece_walk.specs.Pieces.{Piece}
 use Rattle.service_walk.specs.Service.{Classed, chains_after, fates_among}
 use Rattle.service_walk.specs.Weaving.{each_after, each_fates, fates_left, fates_seen, woven}
 use Rattle.classifier.specs.Classes.{class_of}
 use Rattle.classifier.specs.declared.burst.Item.{Item}
 use Rattle.chain_service.specs.NamedFunctions.{named_behaviour}
-use Rattle.chain_service.specs.Opening.{chains_of, fits_of}
+use Rattle.chain_service.specs.Opening.{chains_of, fits_of, pieces_in}
 use Rattle.chain_service.specs.declared.named.NamedFunction.{NamedFunction}
 use Rattle.chain_service.specs.declared.service.ServiceChain.{ServiceChain}
 use Rattle.burst_walk.specs.Fates.{all_classed, chains_behind, fates_of}
@@ -53,15 +54,15 @@ classes_within fits (i ∷ items) many within same held =
     (subst (λ n. IfSome i.class (λ class. class < n)) (sym same) (class_within fits i.packet.frame i.class within (All-head (IsClassed fits) i items held).class))
     (classes_within fits items many within same (All-tail (IsClassed fits) i items held))
 
-as_many_rows : (b : Behaviour NamedFunction) (xs : List Classed) (n : ℕ) (chains : List (List NamedFunction)) → length (each_fates b xs n chains) ≡ length chains
+as_many_rows : (b : Behaviour NamedFunction) (xs : List Classed) (n : ℕ) (chains : List (List (Piece NamedFunction))) → length (each_fates b xs n chains) ≡ length chains
 unfolding each_fates
 as_many_rows b xs n [] = refl
 as_many_rows b xs n (c ∷ chains) = ap suc (as_many_rows b xs (suc n) chains)
 
 -- each chain has its row of fates
-pub rows_many : (fits : List Match) (chains : List ServiceChain) (xs : List Classed) (rows : List (List Fate)) (many : ℕ) → length rows ≡ many → rows ≡ each_fates named_behaviour xs 0 (chains_of chains).functions → fits ≡ fits_of chains → many ≡ length fits
+pub rows_many : (fits : List Match) (chains : List ServiceChain) (xs : List Classed) (rows : List (List Fate)) (many : ℕ) → length rows ≡ many → rows ≡ each_fates named_behaviour xs 0 (chains_of chains).pieces → fits ≡ fits_of chains → many ≡ length fits
 rows_many fits chains xs rows many all each told =
-    sym all ∙ ap length each ∙ as_many_rows named_behaviour xs 0 (chains_of chains).functions ∙ length-map chains (λ c. c.running.functions) ∙ sym (length-map chains (λ c. c.declared.fit)) ∙ ap length (sym told)
+    sym all ∙ ap length each ∙ as_many_rows named_behaviour xs 0 (chains_of chains).pieces ∙ length-map chains pieces_in ∙ sym (length-map chains (λ c. c.declared.fit)) ∙ ap length (sym told)
 
 pub as_many_woven : (classes : List (Option ℕ)) (rows : List (List Fate)) → length (woven classes rows) ≡ length classes
 unfolding woven
@@ -85,12 +86,12 @@ pub classes_by_record : (fits : List Match) (chains : List ServiceChain) (unit :
 classes_by_record fits chains unit items told held = classes_seen unit items ∙ ap (map (λ (x : Classed). x.class)) (packets_told fits chains unit items told held)
 
 -- what is left of the chains is what their own packets left of each
-each_functions : (xs : List Classed) (n : ℕ) (a b : List ServiceChain) → LeadsEach xs n a b → map (λ (c : ServiceChain). c.running.functions) b ≡ each_after named_behaviour xs n (map (λ (c : ServiceChain). c.running.functions) a)
+each_pieces : (xs : List Classed) (n : ℕ) (a b : List ServiceChain) → LeadsEach xs n a b → map pieces_in b ≡ each_after named_behaviour xs n (map pieces_in a)
 unfolding LeadsEach each_after
-each_functions xs n [] [] led = refl
-each_functions xs n [] (y ∷ b) led = absurd led
-each_functions xs n (x ∷ a) [] led = absurd led
-each_functions xs n (x ∷ a) (y ∷ b) led = λ i. led.0.functions i ∷ each_functions xs (suc n) a b led.1 i
+each_pieces xs n [] [] led = refl
+each_pieces xs n [] (y ∷ b) led = absurd led
+each_pieces xs n (x ∷ a) [] led = absurd led
+each_pieces xs n (x ∷ a) (y ∷ b) led = λ i. led.0.pieces i ∷ each_pieces xs (suc n) a b led.1 i
 
 each_declared : (xs : List Classed) (n : ℕ) (a b : List ServiceChain) → LeadsEach xs n a b → map (λ (c : ServiceChain). c.declared) b ≡ map (λ (c : ServiceChain). c.declared) a
 unfolding LeadsEach
@@ -99,24 +100,31 @@ each_declared xs n [] (y ∷ b) led = absurd led
 each_declared xs n (x ∷ a) [] led = absurd led
 each_declared xs n (x ∷ a) (y ∷ b) led = λ i. led.0.same_chain i ∷ each_declared xs (suc n) a b led.1 i
 
+each_names : (xs : List Classed) (n : ℕ) (a b : List ServiceChain) → LeadsEach xs n a b → map (λ (c : ServiceChain). c.names) b ≡ map (λ (c : ServiceChain). c.names) a
+unfolding LeadsEach
+each_names xs n [] [] led = refl
+each_names xs n [] (y ∷ b) led = absurd led
+each_names xs n (x ∷ a) [] led = absurd led
+each_names xs n (x ∷ a) (y ∷ b) led = λ i. led.0.same_names i ∷ each_names xs (suc n) a b led.1 i
+
 -- fates in the packets' order are those of each chain, woven
 abbrev pub AreWoven : Type 0
-AreWoven = (b : Behaviour NamedFunction) (chains : List (List NamedFunction)) (xs : List Classed) → fates_seen xs (woven (map (λ x. x.class) xs) (each_fates b xs 0 chains)) ≡ fates_among b chains xs
+AreWoven = (b : Behaviour NamedFunction) (chains : List (List (Piece NamedFunction))) (xs : List Classed) → fates_seen xs (woven (map (λ x. x.class) xs) (each_fates b xs 0 chains)) ≡ fates_among b chains xs
 
 pub burst_fates : (fits : List Match) (unit : TimeUnit) (items : List Item) (before : List ServiceChain) (rows : List (List Fate)) (fates : List (Option Fate)) → AreWoven → fits ≡ fits_of before → All (IsClassed fits) items →
-    rows ≡ each_fates named_behaviour (classed_items unit items) 0 (chains_of before).functions → fates ≡ woven (map (λ i. i.class) items) rows → all_ended items fates ≡ fates_of (chains_of before) unit (records_of items)
+    rows ≡ each_fates named_behaviour (classed_items unit items) 0 (chains_of before).pieces → fates ≡ woven (map (λ i. i.class) items) rows → all_ended items fates ≡ fates_of (chains_of before) unit (records_of items)
 unfolding fates_of
 burst_fates fits unit items before rows fates weaves told held each is =
-    let chains = (chains_of before).functions in
+    let chains = (chains_of before).pieces in
     ended_seen unit items fates ∙ ap (fates_seen (classed_items unit items)) (is ∙ (λ i. woven (classes_seen unit items i) (each i)))
     ∙ weaves named_behaviour chains (classed_items unit items)
     ∙ ap (fates_among named_behaviour chains) (packets_told fits before unit items told held)
 
-pub burst_chains : (fits : List Match) (unit : TimeUnit) (items : List Item) (before after : List ServiceChain) → ((b : Behaviour NamedFunction) (chains : List (List NamedFunction)) (xs : List Classed) → each_after b xs 0 chains ≡ chains_after b chains xs) → fits ≡ fits_of before →
+pub burst_chains : (fits : List Match) (unit : TimeUnit) (items : List Item) (before after : List ServiceChain) → ((b : Behaviour NamedFunction) (chains : List (List (Piece NamedFunction))) (xs : List Classed) → each_after b xs 0 chains ≡ chains_after b chains xs) → fits ≡ fits_of before →
     All (IsClassed fits) items → LeadsEach (classed_items unit items) 0 before after → chains_of after ≡ chains_behind (chains_of before) unit (records_of items)
 unfolding chains_behind
 burst_chains fits unit items before after weaves told held led =
-    let functions : (chains_of after).functions ≡ chains_after named_behaviour (chains_of before).functions (all_classed (chains_of before).declared unit (records_of items)) =
-    each_functions (classed_items unit items) 0 before after led ∙ weaves named_behaviour (chains_of before).functions (classed_items unit items)
-    ∙ ap (chains_after named_behaviour (chains_of before).functions) (packets_told fits before unit items told held) in
-    λ i. record { declared = each_declared (classed_items unit items) 0 before after led i; functions = functions i }
+    let pieces : (chains_of after).pieces ≡ chains_after named_behaviour (chains_of before).pieces (all_classed (chains_of before).declared unit (records_of items)) =
+    each_pieces (classed_items unit items) 0 before after led ∙ weaves named_behaviour (chains_of before).pieces (classed_items unit items)
+    ∙ ap (chains_after named_behaviour (chains_of before).pieces) (packets_told fits before unit items told held) in
+    λ i. record { declared = each_declared (classed_items unit items) 0 before after led i; names = each_names (classed_items unit items) 0 before after led i; pieces = pieces i }

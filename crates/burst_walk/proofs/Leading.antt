@@ -5,18 +5,21 @@ use Rattle.std.proofs.lemmas.List.{length-map, map_push}
 use Rattle.std.proofs.lemmas.List.Elements.{All-cons, All-head, All-nil, All-push, All-tail}
 use Rattle.capture_bytes.specs.Packets.{IsShort}
 use Rattle.capture_bytes.specs.declared.packet.Unit.{Unit as TimeUnit}
-use Rattle.chain_walk.specs.Packets.{Packet, fates}
+use Rattle.chain_walk.specs.Packets.{Packet}
 use Rattle.chain_walk.specs.declared.walk.Fate.{Fate}
+use Rattle.piece_walk.specs.PiecePackets.{long_fates}
+use Rattle.piece_walk.specs.Pieces.{Piece}
 use Rattle.service_walk.specs.Service.{Classed, is_of as takes, packets_in}
 use Rattle.service_walk.specs.Weaving.{each_fates}
 use Rattle.classifier.specs.declared.burst.Item.{Item}
 use Rattle.graph_run.specs.Packets.{is_of, packet_of, packets_taken}
 use Rattle.chain_service.specs.NamedFunctions.{named_behaviour}
+use Rattle.chain_service.specs.Opening.{pieces_in}
 use Rattle.chain_service.specs.declared.named.NamedFunction.{NamedFunction}
 use Rattle.chain_service.specs.declared.service.ServiceChain.{ServiceChain}
 use Rattle.burst_walk.specs.Leading.{IsWritable, LeadsChain, LeadsEach, classed_item, classed_items}
 
--- the packets that a graph takes are those of its chain
+-- the packets that the pieces of a chain take are those of the chain
 pub packets_led : (unit : TimeUnit) (chain : ℕ) (items : List Item) → packets_taken unit chain items ≡ packets_in chain (classed_items unit items)
 packets_led unit chain [] = refl
 packets_led unit chain (item ∷ items) = by (is_of chain item) (packets_led unit chain items)
@@ -57,16 +60,13 @@ no_fates : (packets : List Classed) (number : ℕ) → each_fates named_behaviou
 unfolding each_fates
 no_fates packets number = refl
 
-each_more : (packets : List Classed) (number : ℕ) (chains : List (List NamedFunction)) (functions : List NamedFunction) →
-    each_fates named_behaviour packets number (chains ++ functions ∷ []) ≡ each_fates named_behaviour packets number chains ++ fates named_behaviour functions (packets_in (number + length chains) packets) ∷ []
+each_more : (packets : List Classed) (number : ℕ) (chains : List (List (Piece NamedFunction))) (pieces : List (Piece NamedFunction)) →
+    each_fates named_behaviour packets number (chains ++ pieces ∷ []) ≡ each_fates named_behaviour packets number chains ++ long_fates named_behaviour pieces (packets_in (number + length chains) packets) ∷ []
 unfolding each_fates
-each_more packets number [] functions = ap (λ n. fates named_behaviour functions (packets_in n packets) ∷ []) (omega arith)
-each_more packets number (first ∷ chains) functions =
-    ap (λ l. fates named_behaviour first (packets_in number packets) ∷ l)
-    (each_more packets (suc number) chains functions ∙ ap (λ n. each_fates named_behaviour packets (suc number) chains ++ fates named_behaviour functions (packets_in n packets) ∷ []) (omega arith))
-
-abbrev functions_of : ServiceChain → List NamedFunction
-functions_of chain = chain.running.functions
+each_more packets number [] pieces = ap (λ n. long_fates named_behaviour pieces (packets_in n packets) ∷ []) (omega arith)
+each_more packets number (first ∷ chains) pieces =
+    ap (λ l. long_fates named_behaviour first (packets_in number packets) ∷ l)
+    (each_more packets (suc number) chains pieces ∙ ap (λ n. each_fates named_behaviour packets (suc number) chains ++ long_fates named_behaviour pieces (packets_in n packets) ∷ []) (omega arith))
 
 -- Some chains led their packets, and these are left.
 pub record IsLeading {V : Type 0} (row_of : V → List Fate) (packets : List Classed) (chains left led : List ServiceChain) (number : ℕ) (rows : List V) : Type 0 where
@@ -74,7 +74,7 @@ pub record IsLeading {V : Type 0} (row_of : V → List Fate) (packets : List Cla
   pub row : chains ≡ done ++ left
   pub count : number ≡ length done
   pub each : LeadsEach packets 0 done led
-  pub fates_are : map row_of rows ≡ each_fates named_behaviour packets 0 (map (λ c. c.running.functions) done)
+  pub fates_are : map row_of rows ≡ each_fates named_behaviour packets 0 (map pieces_in done)
   pub writable : All (λ v. All IsWritable (row_of v)) rows
 
 pub leading_begins : {V : Type 0} (row_of : V → List Fate) (packets : List Classed) (chains left led : List ServiceChain) (rows : List V) → left ≡ chains → led ≡ [] → rows ≡ [] → IsLeading row_of packets chains left led 0 rows
@@ -88,10 +88,10 @@ leading_begins row_of packets chains left led rows all none no_rows = record {
 }
 
 pub leading_goes_on : {V : Type 0} (row_of : V → List Fate) (packets : List Classed) (chains left left' led led' : List ServiceChain) (number : ℕ) (rows rows' : List V) (chain after : ServiceChain) (fate_row : V) →
-    IsLeading row_of packets chains left led number rows → left ≡ chain ∷ left' → LeadsChain packets number chain after → row_of fate_row ≡ fates named_behaviour chain.running.functions (packets_in number packets) →
+    IsLeading row_of packets chains left led number rows → left ≡ chain ∷ left' → LeadsChain packets number chain after → row_of fate_row ≡ long_fates named_behaviour (pieces_in chain) (packets_in number packets) →
     All IsWritable (row_of fate_row) → led' ≡ led ++ after ∷ [] → rows' ≡ rows ++ fate_row ∷ [] → IsLeading row_of packets chains left' led' (number + 1) rows'
 leading_goes_on row_of packets chains left left' led led' number rows rows' chain after fate_row at next leads are writable more more_rows =
-    let many : length (map functions_of at.done) ≡ length at.done = length-map at.done functions_of in
+    let many : length (map pieces_in at.done) ≡ length at.done = length-map at.done pieces_in in
     let count = at.count in
     record {
       done = at.done ++ chain ∷ [];
@@ -99,7 +99,7 @@ leading_goes_on row_of packets chains left left' led led' number rows rows' chai
       count = let e = length-append at.done (chain ∷ []) in omega arith;
       each = subst (LeadsEach packets 0 (at.done ++ chain ∷ [])) (sym more) (leads_more packets 0 at.done led chain after at.each (subst (λ n. LeadsChain packets n chain after) (omega arith) leads));
       fates_are = ap (map row_of) more_rows ∙ map_push row_of rows fate_row ∙ ap (λ l. l ++ row_of fate_row ∷ []) at.fates_are
-          ∙ ap (λ l. each_fates named_behaviour packets 0 (map functions_of at.done) ++ l ∷ []) (are ∙ ap (λ n. fates named_behaviour chain.running.functions (packets_in n packets)) (omega arith))
-          ∙ sym (each_more packets 0 (map functions_of at.done) chain.running.functions) ∙ ap (each_fates named_behaviour packets 0) (sym (map_push functions_of at.done chain));
+          ∙ ap (λ l. each_fates named_behaviour packets 0 (map pieces_in at.done) ++ l ∷ []) (are ∙ ap (λ n. long_fates named_behaviour (pieces_in chain) (packets_in n packets)) (omega arith))
+          ∙ sym (each_more packets 0 (map pieces_in at.done) (pieces_in chain)) ∙ ap (each_fates named_behaviour packets 0) (sym (map_push pieces_in at.done chain));
       writable = subst (All (λ v. All IsWritable (row_of v))) (sym more_rows) (All-push (λ v. All IsWritable (row_of v)) rows fate_row at.writable writable);
     }

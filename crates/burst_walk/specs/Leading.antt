@@ -5,16 +5,17 @@ use Rattle.capture_bytes.specs.declared.packet.PcapRecord.{PcapRecord}
 use Rattle.capture_bytes.specs.declared.packet.Unit.{Unit as TimeUnit}
 use Rattle.packet_fields.specs.declared.field.Field.{Field}
 use Rattle.policy_text.specs.declared.clause.Match.{Match}
-use Rattle.chain_walk.specs.Packets.{fates, functions_after}
 use Rattle.chain_walk.specs.declared.walk.Fate.{Fate}
 use Rattle.chain_walk.specs.declared.walk.Fate.TheVariants.{Out, Gone}
 use Rattle.service_walk.specs.Service.{Classed, packets_in}
 use Rattle.packet_version.specs.Tallies.{count_of, raised}
 use Rattle.classifier.specs.Classes.{class_of}
 use Rattle.classifier.specs.declared.burst.Item.{Item}
-use Rattle.graph_run.specs.Counting.{copies_made}
 use Rattle.graph_run.specs.Packets.{packet_of}
+use Rattle.piece_walk.specs.PiecePackets.{pieces_after}
+use Rattle.segment_run.specs.Counting.{copies_through}
 use Rattle.chain_service.specs.NamedFunctions.{named_behaviour}
+use Rattle.chain_service.specs.Opening.{pieces_in}
 use Rattle.chain_service.specs.declared.service.ServiceChain.{ServiceChain}
 
 -- the records of the packets of a burst
@@ -41,9 +42,9 @@ IsWritable (Gone position) = Unit {0}
 -- The chain with this number led its packets among these, and stays the chain that it is.
 pub record LeadsChain (packets : List Classed) (number : ℕ) (before after : ServiceChain) : Type 0 where
   pub same_chain : after.declared ≡ before.declared
-  pub same_graph : after.running.graph ≡ before.running.graph
-  pub functions : after.running.functions ≡ functions_after named_behaviour before.running.functions (packets_in number packets)
-  pub copied : (f : Field) → count_of after.copies f ≡ raised (count_of before.copies f) (copies_made before.running.graph.stages (packets_in number packets) (fates named_behaviour before.running.functions (packets_in number packets)) f)
+  pub same_names : after.names ≡ before.names
+  pub pieces : pieces_in after ≡ pieces_after named_behaviour (pieces_in before) (packets_in number packets)
+  pub copied : (f : Field) → count_of after.copies f ≡ raised (count_of before.copies f) (copies_through named_behaviour (pieces_in before) (packets_in number packets) f)
 
 -- each chain did so, where the first has this number
 unfoldable pub LeadsEach : List Classed → ℕ → List ServiceChain → List ServiceChain → Type 0

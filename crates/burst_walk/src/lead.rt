@@ -1,27 +1,30 @@
 //! The packets of a burst on their way through the chains, each chain with its own.
 ghost use Rattle.std.specs.Prelude.{◌≡◌, ◌≤◌, ◌<◌, ◌^◌, All, IfOk, length, map};
 ghost use Rattle.capture_bytes.specs.Packets.{IsShort};
-ghost use Rattle.chain_walk.specs.Packets.{fates};
+ghost use Rattle.piece_walk.specs.PiecePackets.{long_fates};
 ghost use Rattle.service_walk.specs.Service.{packets_in};
 ghost use Rattle.service_walk.specs.Weaving.{each_fates};
 ghost use Rattle.chain_service.specs.NamedFunctions.{named_behaviour};
+ghost use Rattle.chain_service.specs.Opening.{pieces_in};
 ghost use Rattle.burst_walk.specs.Leading.{IsWritable, LeadsChain, LeadsEach, classed_items};
 
 use crate::merging::Merging;
+use crate::tunnels::pieces_grow_little;
 use capture_bytes::Unit;
-use chain_service::{NamedFunction, ServiceChain};
-use chain_walk::{Fate, frames_walk_as_fields, values_stay_well_formed};
+use chain_service::{ChainPieces, NamedFunction, ServiceChain};
+use chain_walk::Fate;
 use classifier::Burst;
 use item_list::Items;
 use nfp_outside::Gate;
-use piped_run::run_piped;
+use piece_walk::{frames_grow_little, pieces_keep_their_kind};
+use segment_run::run_pieces;
 use std::alloc::{AllocError, Global};
 use std::rt::Clock;
 use std::sync::Wait;
 use std::thread::Threads;
 
 /// Leads the packets of a burst through their chains, one chain after another, and gives the fates of each chain's packets. The
-/// dealers and branches of a chain's graph run side by side, and what the branches of a stage give is put together so.
+/// dealers and branches of a graph run side by side, and what the branches of a stage give is put together so.
 pub fn lead<R: Threads + Wait + Clock + Sync, G: Gate + Sync>(
     rt: &R,
     alloc: Global,
@@ -35,7 +38,7 @@ pub fn lead<R: Threads + Wait + Clock + Sync, G: Gate + Sync>(
     requires short { All (λ i. IsShort i.packet) burst.now.items }
     requires few_chains { length chains < 2 ^ 32 }
     ensures led { IfOk result (λ led. LeadsEach (classed_items unit burst.now.items) 0 chains led.0) }
-    ensures fates { IfOk result (λ led. map (λ v. v.items) led.1.items ≡ each_fates named_behaviour (classed_items unit burst.now.items) 0 (map (λ c. c.running.functions) chains)) }
+    ensures fates { IfOk result (λ led. map (λ v. v.items) led.1.items ≡ each_fates named_behaviour (classed_items unit burst.now.items) 0 (map pieces_in chains)) }
     ensures writable { IfOk result (λ led. All (λ v. All IsWritable v.items) led.1.items) }
 {
     let mut led = Vec::new(alloc);
@@ -64,21 +67,24 @@ fn lead_chain<R: Threads + Wait + Clock + Sync, G: Gate + Sync>(
     requires few { length burst.now.items ≤ 65536 }
     requires short { All (λ i. IsShort i.packet) burst.now.items }
     ensures led { IfOk result (λ led. LeadsChain (classed_items unit burst.now.items) number chain led.0) }
-    ensures fates { IfOk result (λ led. led.1.items ≡ fates named_behaviour chain.running.functions (packets_in number (classed_items unit burst.now.items))) }
+    ensures fates { IfOk result (λ led. led.1.items ≡ long_fates named_behaviour (pieces_in chain) (packets_in number (classed_items unit burst.now.items))) }
     ensures writable { IfOk result (λ led. All IsWritable led.1.items) }
 {
-    // Fields keep their lengths but for a few tags, so what goes out fits a record.
-    values_stay_well_formed::<NamedFunction>();
-    frames_walk_as_fields::<NamedFunction>();
+    // A frame grows by little, so what goes out fits a record.
+    frames_grow_little::<NamedFunction>();
+    pieces_keep_their_kind::<NamedFunction>();
     let ServiceChain {
         declared,
-        running,
+        names,
+        pieces,
         mut copies,
     } = chain;
-    let (running, fates) = run_piped(
+    let pieces = pieces.into_vec();
+    pieces_grow_little(pieces.as_slice());
+    let (pieces, fates) = run_pieces(
         rt,
         alloc,
-        running,
+        pieces,
         burst,
         unit,
         number,
@@ -89,7 +95,8 @@ fn lead_chain<R: Threads + Wait + Clock + Sync, G: Gate + Sync>(
     )?;
     let chain = ServiceChain {
         declared,
-        running,
+        names,
+        pieces: ChainPieces::new(pieces),
         copies,
     };
     Ok((chain, fates))

@@ -9,6 +9,7 @@
 
 mod lead;
 mod merging;
+mod tunnels;
 mod walk;
 mod weave;
 

@@ -1,4 +1,6 @@
 pub mod Chaining
+pub mod CutSoFar
+pub mod Joining
 pub mod Opens
 pub mod Serving
 pub mod Taking

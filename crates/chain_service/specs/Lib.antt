@@ -1,3 +1,4 @@
+pub mod Cutting
 pub mod NamedFunctionLaws
 pub mod NamedFunctions
 pub mod Opening

@@ -1,4 +1,4 @@
--- Believed: what a policy runs: its chains, each with its functions in the order in which a packet walks through them.
+-- Believed: what a policy runs: its chains, each cut into pieces, with its functions in the order in which a packet walks through them.
 use Rattle.std.specs.Prelude.{ℕ, List, [], ◌∷◌, map, slice_get, Option, Some, None, Result, Ok, Err}
 use Rattle.std.specs.List.{flat_map, zip}
 use Rattle.std.specs.Option.{option_map_or}
@@ -9,40 +9,66 @@ use Rattle.policy_judge.specs.declared.fault.Refusal.{Refusal}
 use Rattle.policy_judge.specs.declared.judged.Judged.{Judged}
 use Rattle.graph_compile.specs.Stages.{graph_of}
 use Rattle.graph_compile.specs.declared.graph.Stage.{Stage}
+use Rattle.policy_text.specs.Names.{names_at}
 use Rattle.net_functions.specs.Builds.{function_of}
+use Rattle.net_functions.specs.declared.making.Made.{Made}
+use Rattle.net_functions.specs.declared.making.Made.TheVariants as made
+use Rattle.nf_tunnel.specs.Tunnels.{encapsulated, decapsulated}
+use Rattle.piece_walk.specs.Pieces.{Piece, Graph, Whole}
 use Rattle.chain_service.specs.NamedFunctions.{named_behaviour}
 use Rattle.chain_service.specs.declared.named.NamedFunction.{NamedFunction}
 
--- What runs: the chains as they are declared, in the order of the text, and the functions of each, in chain order.
+-- What runs: the chains as they are declared, in the order of the text, the names of the functions of each, in chain order, and its
+-- pieces.
 pub record Chains : Type 0 where
   pub declared : List ChainPolicy
-  pub functions : List (List NamedFunction)
+  pub names : List (List (List ℕ))
+  pub pieces : List (List (Piece NamedFunction))
 
--- a function with the name that is declared for it
-abbrev pub named : FunctionDecl → NamedFunction
-named decl = record { name = decl.name; function = function_of decl }
+-- the stages of the graph in which these functions run
+abbrev pub stages_of : List NamedFunction → List Stage
+stages_of functions = (graph_of (map named_behaviour.profile functions)).stages
 
--- the function that is declared at a place, counted from 0; none past the last
-abbrev pub function_at : List FunctionDecl → ℕ → List NamedFunction
-function_at declared place = option_map_or (λ decl. named decl ∷ []) (slice_get declared place) []
+-- functions that run in the graph that is compiled for them
+abbrev pub compiled : List NamedFunction → Piece NamedFunction
+compiled functions = Graph (stages_of functions) functions
 
--- the functions that are declared at these places, in this order
-abbrev pub functions_at : List FunctionDecl → List ℕ → List NamedFunction
-functions_at declared places = flat_map (function_at declared) places
+-- a function in front of pieces: it stands in the first one, where that has a graph
+abbrev pub with_first : NamedFunction → List (Piece NamedFunction) → List (Piece NamedFunction)
+with_first f (Graph stages functions ∷ later) = compiled (f ∷ functions) ∷ later
+with_first f pieces = compiled (f ∷ []) ∷ pieces
 
--- the functions of each chain, by its order
-abbrev pub functions_by : List ChainPolicy → List Order → List (List NamedFunction)
-functions_by chains orders = map (λ x. functions_at x.0.functions x.1.positions) (zip chains orders)
+-- the same for a function that was made: one that rewrites frames whole is a piece by itself
+abbrev pub with_made : List ℕ → Made → List (Piece NamedFunction) → List (Piece NamedFunction)
+with_made name (made.Function f) later = with_first (record { name = name; function = f }) later
+with_made name (made.Encap tunnel) later = Whole (encapsulated tunnel) ∷ later
+with_made name (made.Decap tunnel) later = Whole (decapsulated tunnel) ∷ later
+
+-- the pieces of functions that are declared so, in chain order
+unfoldable pub cut : List FunctionDecl → List (Piece NamedFunction)
+cut [] = []
+cut (decl ∷ later) = with_made decl.name (function_of decl) (cut later)
+
+-- the declaration at a place, counted from 0; none past the last
+abbrev pub declared_at : List FunctionDecl → ℕ → List FunctionDecl
+declared_at declared place = option_map_or (λ decl. decl ∷ []) (slice_get declared place) []
+
+-- the pieces of the functions that are declared at these places, in this order
+abbrev pub pieces_at : List FunctionDecl → List ℕ → List (Piece NamedFunction)
+pieces_at declared places = cut (flat_map (declared_at declared) places)
+
+-- the names of the functions of each chain, and its pieces, by its order
+abbrev pub names_by : List ChainPolicy → List Order → List (List (List ℕ))
+names_by chains orders = map (λ x. names_at x.0.functions x.1.positions) (zip chains orders)
+
+abbrev pub pieces_by : List ChainPolicy → List Order → List (List (Piece NamedFunction))
+pieces_by chains orders = map (λ x. pieces_at x.0.functions x.1.positions) (zip chains orders)
 
 -- the chains of a policy
 abbrev pub service_among : List ChainPolicy → List Order → Chains
-service_among chains orders = record { declared = chains; functions = functions_by chains orders }
+service_among chains orders = record { declared = chains; names = names_by chains orders; pieces = pieces_by chains orders }
 
 -- the same for a policy without fault; a policy that is refused runs nothing
 abbrev pub service_of : Result Judged Refusal → Option Chains
 service_of (Ok judged) = Some (service_among judged.policy.chains judged.orders)
 service_of (Err refusal) = None
-
--- the stages of the graph in which these functions run
-abbrev pub stages_of : List NamedFunction → List Stage
-stages_of functions = (graph_of (map named_behaviour.profile functions)).stages

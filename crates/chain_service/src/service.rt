@@ -1,32 +1,35 @@
 //! The chains of a policy, ready to run.
-ghost use Rattle.std.specs.Prelude.{◌≡◌, ◌<◌, ◌≤◌, ◌++◌, All, IfOk, OnOk, IsPermutation, length, map, slice_get};
+ghost use Rattle.std.specs.Prelude.{◌≡◌, ◌<◌, ◌≤◌, All, IfOk, OnOk, IsPermutation, length, map, slice_get};
 ghost use Rattle.std.specs.List.{AllZip, range_with_len};
-ghost use Rattle.graph_run.specs.Running.{profiles_of};
+ghost use Rattle.policy_text.specs.Names.{name_at, names_at};
 ghost use Rattle.policy_judge.specs.Making.{functions_made, place_of};
 ghost use Rattle.policy_judge.specs.Orders.{IsOrdered};
-ghost use Rattle.chain_service.specs.Opening.{IsOpening, IsOpeningChain, chains_of};
-ghost use Rattle.chain_service.specs.Services.{function_at, functions_at, functions_by, service_among, stages_of};
+ghost use Rattle.segment_run.specs.Segments.{pieces_of};
+ghost use Rattle.chain_service.specs.Cutting.{GoesOn, with_declared};
+ghost use Rattle.chain_service.specs.Opening.{IsOpening, IsOpeningChain, chains_of, pieces_in};
+ghost use Rattle.chain_service.specs.Services.{names_by, pieces_at, pieces_by, service_among};
 ghost use Rattle.chain_service.specs.Taking.{without};
 
+use crate::cutting::Cutting;
 use crate::named::NamedFunction;
-use action_profile::Profile;
+use crate::pieces::ChainPieces;
 use classifier::ClassTable;
-use graph_compile::compile;
-use graph_run::Running;
 use item_list::Items;
-use net_functions::{Function, NetFunction};
+use net_functions::Made;
 use packet_version::Tally;
 use policy_check::Order;
 use policy_judge::Judged;
-use policy_text::{ChainPolicy, FunctionDecl, Name, Policy};
+use policy_text::{ChainPolicy, FunctionDecl, Name, Policy, name_at};
+use segment_run::Piece;
 use std::alloc::{AllocError, Global};
 
-/// A chain that runs: as it is declared; its functions in the order in which a packet walks through them, with the graph that
-/// is compiled for them; and the copies that were made of its packets' fields.
+/// A chain that runs: as it is declared; the names of its functions, in the order in which a packet goes through them; its pieces, each with a graph
+/// that is compiled for its functions; and the copies that were made of its packets' fields.
 #[derive(Drop)]
 pub struct ServiceChain {
     pub declared: ChainPolicy,
-    pub running: Running<NamedFunction>,
+    pub names: Items<Name>,
+    pub pieces: ChainPieces,
     pub copies: Tally,
 }
 
@@ -57,17 +60,18 @@ pub fn make_service(alloc: Global, judged: Judged) -> Result<Service, AllocError
     Ok(Service { classes, chains })
 }
 
-// The chains, each with its order and the functions that were made for it.
+// The chains, each cut by its order into pieces of the functions that were made for it.
 fn service_chains(
     alloc: Global,
     chains: Items<ChainPolicy>,
     orders: Items<Order>,
-    made: Items<Items<Option<NetFunction>>>,
+    made: Items<Items<Option<Made>>>,
 ) -> Result<Items<ServiceChain>, AllocError>
     requires ordered { AllZip IsOrdered chains orders }
     requires made { made ≡ functions_made chains }
     ensures declared { IfOk result (λ s. map (λ c. c.declared) s ≡ chains) }
-    ensures functions { IfOk result (λ s. map (λ c. c.running.functions) s ≡ functions_by chains orders) }
+    ensures names { IfOk result (λ s. map (λ c. c.names) s ≡ names_by chains orders) }
+    ensures pieces { IfOk result (λ s. map pieces_in s ≡ pieces_by chains orders) }
     ensures opening { IfOk result (All IsOpeningChain) }
 {
     let mut running = Vec::new(alloc);
@@ -78,98 +82,95 @@ fn service_chains(
     Ok(Items::new(running))
 }
 
-// A chain with its functions in its order, in the graph that is compiled for them.
+// A chain with the names of its functions in its order, and its pieces.
 #[tactic(auto, using(crate::proofs::Serving::few_functions))]
 fn service_chain(
     alloc: Global,
     chain: ChainPolicy,
     order: &Order,
-    made: Items<Option<NetFunction>>,
+    made: Items<Option<Made>>,
 ) -> Result<ServiceChain, AllocError>
     requires ordered { IsOrdered chain order.now }
     requires made { made ≡ map place_of chain.functions }
     ensures declared { IfOk result (λ c. c.declared ≡ chain) }
-    ensures functions { IfOk result (λ c. c.running.functions ≡ functions_at chain.functions order.now.positions) }
+    ensures names { IfOk result (λ c. c.names ≡ names_at chain.functions order.now.positions) }
+    ensures pieces { IfOk result (λ c. pieces_in c ≡ pieces_at chain.functions order.now.positions) }
     ensures opening { IfOk result IsOpeningChain }
 {
-    let functions = functions_at(
-        alloc,
-        chain.functions.as_slice(),
-        order.positions.as_slice(),
-        made.into_vec(),
-    )?;
+    let declared = chain.functions.as_slice();
+    let places = order.positions.as_slice();
+    let names = names(alloc, declared, places)?;
+    let pieces = pieces(alloc, declared, places, made.into_vec())?;
     Ok(ServiceChain {
         declared: chain,
-        running: running(alloc, functions)?,
+        names: Items::new(names),
+        pieces: ChainPieces::new(pieces),
         copies: Tally::new(),
     })
 }
 
-// Functions in the graph that is compiled for them.
-fn running(
-    alloc: Global,
-    functions: Vec<NamedFunction>,
-) -> Result<Running<NamedFunction>, AllocError>
-    requires { length functions.items ≤ 64 }
-    ensures functions { IfOk result (λ running. running.functions ≡ functions.items) }
-    ensures compiled { IfOk result (λ running. running.graph.stages ≡ stages_of functions.items) }
+// The names of the functions that are declared at these places.
+fn names(alloc: Global, declared: &[FunctionDecl], places: &[u32]) -> Result<Vec<Name>, AllocError>
+    ensures { IfOk result (λ names. names.items ≡ names_at declared.now places.now) }
 {
-    let profiles = profiles(alloc, functions.as_slice())?;
-    let graph = compile(alloc, &profiles)?;
-    Ok(Running::new(functions, graph))
+    let mut names = Vec::new(alloc);
+    'places: for place in places {
+        names.push(name(alloc, declared, *place)?)?;
+    }
+    Ok(names)
 }
 
-fn profiles<F: Function>(alloc: Global, functions: &[F]) -> Result<Vec<Profile>, AllocError>
-    ensures { IfOk result (λ profiles. profiles.items ≡ profiles_of F.behaviour functions.now) }
+fn name(alloc: Global, declared: &[FunctionDecl], place: u32) -> Result<Name, AllocError>
+    ensures { IfOk result (λ name. name ≡ name_at declared.now place) }
 {
-    functions
-        .iter()
-        .map(|function| function.profile())
-        .collect(alloc)
+    let name = name_at(declared, place).to_vec(alloc)?;
+    Ok(Name::new(name))
 }
 
-// The functions that are declared at these places, each taken out of those that were made. No place is asked twice, so each is
-// found.
-fn functions_at(
+// The pieces of the functions that are declared at these places, each taken out of those that were made. No place is asked twice, so
+// each is found.
+#[tactic(auto, using(crate::proofs::CutSoFar::cutting_begins, crate::proofs::CutSoFar::cutting_goes_on, crate::proofs::CutSoFar::cutting_ends))]
+fn pieces(
     alloc: Global,
     declared: &[FunctionDecl],
     places: &[u32],
-    made: Vec<Option<NetFunction>>,
-) -> Result<Vec<NamedFunction>, AllocError>
+    made: Vec<Option<Made>>,
+) -> Result<Vec<Piece<NamedFunction>>, AllocError>
     requires each_once { IsPermutation (range_with_len 0 (length declared.now)) places.now }
     requires inside { All (λ p. p < length declared.now) places.now }
+    requires few { length places.now ≤ 64 }
     requires made { made.items ≡ map place_of declared.now }
-    ensures { IfOk result (λ functions. functions.items ≡ functions_at declared.now places.now) }
+    ensures { IfOk result (λ pieces. pieces_of pieces.items ≡ pieces_at declared.now places.now) }
 {
     let mut made = made;
-    let mut functions = Vec::new(alloc);
+    let mut cutting = Cutting::new(alloc);
     'places: for place in places {
-        push_function(alloc, &mut functions, declared, &mut made, *place as usize)?;
+        cutting = with_place(alloc, cutting, declared, &mut made, *place as usize)?;
     }
-    Ok(functions)
+    cutting.into_pieces(alloc)
 }
 
 // Takes the function that was made for a place, and adds it with its name.
-#[tactic(auto, using(crate::proofs::Taking::is_there))]
-fn push_function(
+#[tactic(auto, using(crate::proofs::Taking::is_there, crate::proofs::Taking::goes_on_so))]
+fn with_place(
     alloc: Global,
-    functions: &mut Vec<NamedFunction>,
+    cutting: Cutting,
     declared: &[FunctionDecl],
-    made: &mut [Option<NetFunction>],
+    made: &mut [Option<Made>],
     place: usize,
-) -> Result<(), AllocError>
+) -> Result<Cutting, AllocError>
     requires inside { place < length declared.now }
     requires as_long { length made.old ≡ length declared.now }
     requires untaken { slice_get made.old place ≡ slice_get (map place_of declared.now) place }
-    ensures pushed { OnOk result (functions.new.items ≡ functions.old.items ++ function_at declared.now place) }
+    requires few { length cutting.waiting.items ≤ 64 }
+    ensures goes_on { IfOk result (λ new. GoesOn cutting new (with_declared declared.now place)) }
     ensures taken { OnOk result (made.new ≡ without made.old place) }
 {
     match made[place].take() {
         Some(function) => {
             let name = Name::new(declared[place].name.bytes().to_vec(alloc)?);
-            functions.push(NamedFunction { name, function })?;
+            cutting.with(alloc, name, function)
         }
         None => unreachable!(),
     }
-    Ok(())
 }

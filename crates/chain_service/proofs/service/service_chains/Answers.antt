@@ -2,11 +2,12 @@ use Rattle.std.proofs.Common.{◌≡◌, List, [], ◌∷◌, ◌++◌, length, 
 use Rattle.std.specs.Prelude.{◌⊎◌, All}
 use Rattle.std.specs.Vec.Iter.{into_iter_items}
 use Rattle.std.specs.Iterator.Adapters.{zip_first, zip_second}
+use Rattle.policy_text.specs.Names.{names_at}
 use Rattle.policy_text.specs.declared.policy.ChainPolicy.{ChainPolicy}
-use Rattle.chain_service.specs.Opening.{IsOpeningChain}
-use Rattle.chain_service.specs.Services.{functions_at}
+use Rattle.chain_service.specs.Opening.{IsOpeningChain, pieces_in}
+use Rattle.chain_service.specs.Services.{pieces_at}
 use Rattle.chain_service.specs.declared.service.ServiceChain.{ServiceChain}
-use Rattle.chain_service.proofs.Chaining.{IsUnderway, goes_on_with, counted_on, ends, all_declared, all_functions}
+use Rattle.chain_service.proofs.Chaining.{IsUnderway, goes_on_with, counted_on, ends, all_declared, all_names, all_pieces}
 use Rattle.chain_service.proofs.service.service_chains.Goals as goal
 
 pub chains-preserved : goal.chains-preserved
@@ -18,10 +19,12 @@ chains-preserved c =
     let orders = into_iter_items (zip_second (zip_first c.next.new.self)) in
     let left = into_iter_items (zip_second c.next.new.self) in
     let pushed : c.push.new.self.items ≡ c.chains.running.items ++ chain ∷ [] = search rules in
-    let functions : chain.running.functions ≡ functions_at chain.declared.functions c.in-Some.order.positions =
-    made.ensures.functions ∙ ap (λ (d : ChainPolicy). functions_at d.functions c.in-Some.order.positions) (sym made.ensures.declared) in
+    let names : chain.names ≡ names_at chain.declared.functions c.in-Some.order.positions =
+    made.ensures.names ∙ ap (λ (d : ChainPolicy). names_at d.functions c.in-Some.order.positions) (sym made.ensures.declared) in
+    let pieces : pieces_in chain ≡ pieces_at chain.declared.functions c.in-Some.order.positions =
+    made.ensures.pieces ∙ ap (λ (d : ChainPolicy). pieces_at d.functions c.in-Some.order.positions) (sym made.ensures.declared) in
     let next = goes_on_with c.args.chains c.args.orders c.chains.running.items _ _ _ c.in-Some.order c.in-Some.made chains orders left chain c.chains.invariant.underway
-    (record { chain_next = cc (s.0.0.0, made.ensures.declared); order_next = s.0.1.0; made_next = s.1.0 }) functions made.ensures.opening in
+    (record { chain_next = cc (s.0.0.0, made.ensures.declared); order_next = s.0.1.0; made_next = s.1.0 }) names pieces made.ensures.opening in
     record {
       can_next = search rules;
       is_finite = search rules;
@@ -46,6 +49,7 @@ returns c =
     let under = ends c.args.chains c.args.orders c.chains.running.items chains orders left c.chains.invariant.underway ended in
     record {
       declared = ap (λ (r : List ServiceChain). map (λ c. c.declared) r) c.new.ensures ∙ all_declared _ _ _ under;
-      functions = ap (λ (r : List ServiceChain). map (λ c. c.running.functions) r) c.new.ensures ∙ all_functions _ _ _ under;
+      names = ap (λ (r : List ServiceChain). map (λ c. c.names) r) c.new.ensures ∙ all_names _ _ _ under;
+      pieces = ap (λ (r : List ServiceChain). map pieces_in r) c.new.ensures ∙ all_pieces _ _ _ under;
       opening = subst (λ (r : List ServiceChain). All IsOpeningChain r) (sym c.new.ensures) under.opening;
     }

@@ -1,0 +1,33 @@
+-- For proofs: a chain that is being cut into pieces, from its first function on.
+use Rattle.std.specs.Prelude.{◌≡◌, ◌≤◌, ◌+◌, ℕ, List, [], ◌∷◌, ◌++◌, length, slice_get}
+use Rattle.std.specs.Option.{option_map_or}
+use Rattle.policy_text.specs.declared.policy.FunctionDecl.{FunctionDecl}
+use Rattle.net_functions.specs.Builds.{function_of}
+use Rattle.piece_walk.specs.Pieces.{Piece}
+use Rattle.segment_run.specs.Segments.{pieces_of}
+use Rattle.chain_service.specs.Services.{compiled, with_first, with_made}
+use Rattle.chain_service.specs.declared.cutting.Cutting.{Cutting}
+use Rattle.chain_service.specs.declared.named.NamedFunction.{NamedFunction}
+
+-- the piece of functions in a row, if there is one
+abbrev pub closed : List NamedFunction → List (Piece NamedFunction)
+closed [] = []
+closed (f ∷ functions) = compiled (f ∷ functions) ∷ []
+
+-- functions in front of pieces: they stand in the first one, where that has a graph
+unfoldable pub with_all : List NamedFunction → List (Piece NamedFunction) → List (Piece NamedFunction)
+with_all [] later = later
+with_all (f ∷ functions) later = with_first f (with_all functions later)
+
+-- a chain that is cut so far, with the pieces of what comes behind
+abbrev pub cut_with : Cutting → List (Piece NamedFunction) → List (Piece NamedFunction)
+cut_with cutting later = pieces_of cutting.pieces.items ++ with_all cutting.waiting.items later
+
+-- The chain has one function more, which stands before what comes behind.
+pub record GoesOn (old new : Cutting) (with_one : List (Piece NamedFunction) → List (Piece NamedFunction)) : Type 0 where
+  pub joined : (later : List (Piece NamedFunction)) → cut_with new later ≡ cut_with old (with_one later)
+  pub longer : length new.waiting.items ≤ length old.waiting.items + 1
+
+-- the function that is declared at a place, before the pieces of those behind it
+abbrev pub with_declared : List FunctionDecl → ℕ → List (Piece NamedFunction) → List (Piece NamedFunction)
+with_declared declared place later = option_map_or (λ decl. with_made decl.name (function_of decl) later) (slice_get declared place) later

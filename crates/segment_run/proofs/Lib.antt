@@ -1,0 +1,11 @@
+pub mod CopiesInRow
+pub mod Tunnels
+pub mod Taken
+pub mod Rejoining
+pub mod Raising
+pub mod OnTheWay
+pub mod Alone
+pub mod GoingOn
+pub mod Leading
+pub mod PuttingBack
+pub mod Through

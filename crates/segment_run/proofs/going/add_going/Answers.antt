@@ -1,0 +1,16 @@
+use Rattle.std.proofs.Common.{ap, sym, refl, rules, ◌≡◌, ◌∙◌, ◌++◌, [], ◌∷◌}
+use Rattle.chain_walk.specs.declared.walk.Fate.{Fate}
+use Rattle.chain_walk.specs.declared.walk.Fate.TheVariants.{Out}
+use Rattle.graph_run.specs.Packets.{packet_of, packets_taken}
+use Rattle.piece_walk.specs.Rejoining.{still_going}
+use Rattle.segment_run.proofs.GoingOn.{adds_copy}
+use Rattle.segment_run.proofs.Rejoining.{adds_none}
+use Rattle.segment_run.proofs.going.add_going.Goals as goal
+
+pub returns-in-Gone-clause-packets : goal.returns-in-Gone-clause-packets
+returns-in-Gone-clause-packets c = λ unit. adds_none unit c.args.chain c.args.next.now.items c.args.next.now.items c.args.item.now c.in-Gone.field-0 refl
+    ∙ ap (λ (fate : Fate). packets_taken unit c.args.chain c.args.next.now.items ++ still_going (packet_of unit c.args.item.now ∷ []) (fate ∷ [])) (sym c.in-Gone.is)
+
+pub returns-in_ok-push-in-Out-clause-packets : goal.returns-in_ok-push-in-Out-clause-packets
+returns-in_ok-push-in-Out-clause-packets c = λ unit. let is : c.args.fate.now ≡ Out c.in_ok-copied-in-Out.field-0 = search rules in
+    adds_copy unit c.args.chain c.args.next.now.items c.push.new.self.items c.args.item.now _ c.args.fate.now c.in_ok-copied-in-Out.field-0 c.in_ok-push-in-Out.ensures.items refl refl refl refl is

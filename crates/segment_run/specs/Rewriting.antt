@@ -1,0 +1,23 @@
+-- For proofs: what becomes of a frame at one end of a tunnel, and at none.
+use Rattle.std.specs.Prelude.{ℕ, List, [], ◌∷◌, Option, Some, None}
+use Rattle.chain_walk.specs.Packets.{Packet}
+use Rattle.chain_walk.specs.declared.walk.Fate.{Fate}
+use Rattle.chain_walk.specs.declared.walk.Fate.TheVariants.{Out}
+use Rattle.nf_tunnel.specs.Tunnels.{encapsulated, decapsulated}
+use Rattle.segment_run.specs.declared.ends.End.{End}
+use Rattle.segment_run.specs.declared.ends.End.TheVariants.{Entry, Exit, Open}
+
+-- the frame behind an end
+abbrev pub rewritten : End → List ℕ → List ℕ
+rewritten (Entry tunnel) frame = encapsulated tunnel frame
+rewritten (Exit tunnel) frame = decapsulated tunnel frame
+rewritten Open frame = frame
+
+-- a packet goes out with its frame rewritten
+abbrev pub out_of : (List ℕ → List ℕ) → Packet → Fate
+out_of by p = Out (by p.frame)
+
+-- a fate that is put before others; where there is none, nothing comes any more
+abbrev pub then_put : Option Fate → List Fate → List Fate
+then_put None fates = []
+then_put (Some fate) fates = fate ∷ fates

@@ -1,0 +1,76 @@
+//! One end of a tunnel, through which each packet goes alone.
+ghost use Rattle.std.specs.Prelude.{◌≡◌, ◌++◌, List, ◌∷◌, IfOk, OnOk, map};
+ghost use Rattle.capture_bytes.specs.declared.packet.Unit.{Unit as TimeUnit};
+ghost use Rattle.classifier.specs.declared.burst.Item.{Item};
+ghost use Rattle.graph_run.specs.Packets.{packets_taken};
+ghost use Rattle.segment_run.specs.Rewriting.{out_of, rewritten};
+
+use chain_walk::Fate;
+use classifier::Item;
+use graph_run::is_of;
+use nf_tunnel::{Decap, Encap};
+use packet_fields::Frame;
+use std::alloc::{AllocError, Global};
+
+/// An end of a tunnel, or none.
+#[derive(Clone, Copy)]
+pub(crate) enum End {
+    Entry(Encap),
+    Exit(Decap),
+    Open,
+}
+
+/// Lets each packet of the chain with this number go out behind the end.
+pub(crate) fn rewrite_all(
+    alloc: Global,
+    end: End,
+    items: &[Item],
+    chain: u32,
+) -> Result<Vec<Fate>, AllocError>
+    ensures { IfOk result (λ fates. (unit : TimeUnit) → fates.items ≡ map (out_of (rewritten end)) (packets_taken unit chain items.now)) }
+{
+    let mut fates = Vec::with_capacity(alloc, items.len())?;
+    'items: for item in items {
+        rewrite_next(alloc, end, item, chain, &mut fates)?;
+    }
+    Ok(fates)
+}
+
+// Adds how a packet goes out, if it is of the chain.
+fn rewrite_next(
+    alloc: Global,
+    end: End,
+    item: &Item,
+    chain: u32,
+    fates: &mut Vec<Fate>,
+) -> Result<(), AllocError>
+    ensures { OnOk result ((unit : TimeUnit) (later : List Item) → fates.new.items ++ map (out_of (rewritten end)) (packets_taken unit chain later) ≡ fates.old.items ++ map (out_of (rewritten end)) (packets_taken unit chain (item.now ∷ later))) }
+{
+    if !is_of(item, chain) {
+        return Ok(());
+    }
+    let frame = rewrite(alloc, end, item.packet.frame.bytes())?;
+    fates.push(Fate::Out(frame))?;
+    Ok(())
+}
+
+// The frame behind the end.
+fn rewrite(alloc: Global, end: End, frame: &[u8]) -> Result<Frame, AllocError>
+    ensures { IfOk result (λ new. new ≡ rewritten end frame.now) }
+{
+    let copy = copied(alloc, frame)?;
+    match end {
+        End::Entry(tunnel) => tunnel.step(alloc, copy),
+        End::Exit(tunnel) => tunnel.step(copy),
+        End::Open => Ok(copy),
+    }
+}
+
+/// A frame of these bytes.
+pub(crate) fn copied(alloc: Global, bytes: &[u8]) -> Result<Frame, AllocError>
+    ensures { IfOk result (λ new. new ≡ bytes.now) }
+{
+    let mut copy = Vec::with_capacity(alloc, bytes.len())?;
+    copy.extend_from_slice(bytes)?;
+    Ok(Frame::new(copy))
+}

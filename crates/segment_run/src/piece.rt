@@ -1,0 +1,13 @@
+//! A piece of a chain.
+
+use graph_run::Running;
+use net_functions::Function;
+use nf_tunnel::{Decap, Encap};
+
+/// A piece of a chain: functions that run in a graph, or one end of a tunnel, which rewrites each packet whole.
+#[derive(Drop)]
+pub enum Piece<F: Function> {
+    Graph(Running<F>),
+    Encap(Encap),
+    Decap(Decap),
+}
