@@ -13,14 +13,15 @@ use Rattle.action_profile.specs.FieldSets.{all_fields}
 use Rattle.action_profile.specs.Kinds.{kind_name}
 use Rattle.chain_walk.specs.declared.walk.Fate.{Fate}
 use Rattle.chain_walk.specs.declared.walk.Fate.TheVariants.{Out, Gone}
-use Rattle.service_walk.specs.Service.{Classed, at_chain, fates_in, packets_in}
+use Rattle.service_walk.specs.Service.{Classed, at_chain, packets_in}
 use Rattle.packet_version.specs.Tallies.{raised}
-use Rattle.graph_run.specs.Counting.{copies_made}
+use Rattle.piece_walk.specs.Pieces.{Piece, functions_in}
+use Rattle.segment_run.specs.Counting.{copies_through}
 use Rattle.policy_text.specs.declared.policy.ChainPolicy.{ChainPolicy}
 use Rattle.policy_text.specs.declared.policy.FunctionDecl.{FunctionDecl}
 use Rattle.text_lines.specs.Texts.{joined}
-use Rattle.chain_service.specs.NamedFunctions.{named_lines, names_of}
-use Rattle.chain_service.specs.Services.{Chains, stages_of}
+use Rattle.chain_service.specs.NamedFunctions.{named_behaviour, named_lines}
+use Rattle.chain_service.specs.Services.{Chains}
 use Rattle.chain_service.specs.declared.named.NamedFunction.{NamedFunction}
 use Rattle.burst_walk.specs.Fates.{all_classed, chains_behind, fates_of}
 use Rattle.capture_report.specs.FaultLines.{fault_text}
@@ -36,7 +37,7 @@ pub record ChainNames : Type 0 where
 
 -- the names of each chain
 abbrev pub names_among : Chains → List ChainNames
-names_among chains = map (λ x. record { chain = x.0.name; functions = names_of x.1 }) (zip chains.declared chains.functions)
+names_among chains = map (λ x. record { chain = x.0.name; functions = x.1 }) (zip chains.declared chains.names)
 
 -- `drop RECORD CHAIN FUNCTION`
 unfoldable pub drop_text : List ℕ → ℕ → List ℕ → List ℕ
@@ -65,9 +66,9 @@ unfoldable pub total_line : ℕ → ℕ → List ℕ
 total_line records dropped =
     joined (codes "records " ∷ decimal records ∷ codes " emitted " ∷ decimal (records - dropped) ∷ codes " dropped " ∷ decimal dropped ∷ codes "\n" ∷ [])
 
--- how many copies of a field the graph of a chain makes of its packets, which end so; a count stops at 2^64 - 1
-unfoldable pub copies_due : List (List NamedFunction) → List Classed → List Fate → ℕ → Field → ℕ
-copies_due functions packets fates chain f = raised 0 (copies_made (stages_of (at_chain functions chain)) (packets_in chain packets) (fates_in chain packets fates) f)
+-- how many copies of a field the graphs of a chain's pieces make of its packets; a count stops at 2^64 - 1
+unfoldable pub copies_due : List (List (Piece NamedFunction)) → List Classed → ℕ → Field → ℕ
+copies_due pieces packets chain f = raised 0 (copies_through named_behaviour (at_chain pieces chain) (packets_in chain packets) f)
 
 -- `copies CHAIN FIELD COUNT`
 unfoldable pub copies_text : List ℕ → List ℕ → ℕ → List ℕ
@@ -103,18 +104,18 @@ unfoldable pub last_line : Option FormatFault → List ℕ
 last_line None = codes "end\n"
 last_line (Some fault) = codes "fault " ++ fault_text fault
 
--- what stands behind the lines of the dropped packets, with the functions as the last packet left them
+-- what stands behind the lines of the dropped packets, with the pieces as the last packet left them
 unfoldable pub summary : Chains → ℕ → ℕ → (ℕ → Field → ℕ) → Option FormatFault → List ℕ
 summary chains records dropped copies fault =
     total_line records dropped
     ++ (flat_map (λ x. copies_lines x.1.name (copies x.0)) (enumerate_from 0 chains.declared)
-    ++ (flat_map (λ x. chain_lines x.0 x.1) (zip chains.declared chains.functions)
+    ++ (flat_map (λ x. chain_lines x.0 (functions_in x.1)) (zip chains.declared chains.pieces)
     ++ last_line fault))
 
 -- the report of packets that end so, by the chains as they were before the first packet and behind the last
 unfoldable pub report_bytes : Chains → Chains → List Classed → List Fate → Option FormatFault → List ℕ
 report_bytes chains last packets fates fault =
-    title ++ drop_lines (names_among chains) 1 (map (λ x. x.class) packets) fates ++ summary last (length fates) (count_by is_gone fates) (copies_due chains.functions packets fates) fault
+    title ++ drop_lines (names_among chains) 1 (map (λ x. x.class) packets) fates ++ summary last (length fates) (count_by is_gone fates) (copies_due chains.pieces packets) fault
 
 -- the report of records that go through these chains
 abbrev pub report_of : Chains → TimeUnit → List PcapRecord → Option FormatFault → List ℕ

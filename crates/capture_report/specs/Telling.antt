@@ -2,19 +2,20 @@
 use Rattle.std.specs.Prelude.{ℕ, List, ◌++◌}
 use Rattle.std.specs.List.{flat_map}
 use Rattle.packet_version.specs.Tallies.{count_of}
-use Rattle.chain_service.specs.NamedFunctions.{names_of}
+use Rattle.piece_walk.specs.Pieces.{functions_in}
+use Rattle.chain_service.specs.Opening.{pieces_in}
 use Rattle.chain_service.specs.declared.service.ServiceChain.{ServiceChain}
 use Rattle.capture_report.specs.Report.{ChainNames, chain_lines, copies_lines, last_line, total_line}
 use Rattle.capture_report.specs.declared.ended.Ended.{Ended}
 
 -- the names of a chain and of its functions
 abbrev pub names_in : ServiceChain → ChainNames
-names_in chain = record { chain = chain.declared.name; functions = names_of chain.running.functions }
+names_in chain = record { chain = chain.declared.name; functions = chain.names }
 
 -- the totals, and what each chain tells of its copies and its functions
 unfoldable pub told_text : List ServiceChain → Ended → List ℕ
 told_text chains ended =
     total_line ended.totals.records ended.totals.dropped
     ++ (flat_map (λ c. copies_lines c.declared.name (count_of c.copies)) chains
-    ++ (flat_map (λ c. chain_lines c.declared c.running.functions) chains
+    ++ (flat_map (λ c. chain_lines c.declared (functions_in (pieces_in c))) chains
     ++ last_line ended.fault))

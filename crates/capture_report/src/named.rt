@@ -3,14 +3,36 @@ ghost use Rattle.std.specs.Prelude.{◌≡◌};
 ghost use Rattle.std.specs.List.{find};
 ghost use Rattle.std.specs.Option.{option_copied};
 ghost use Rattle.std.specs.Str.{bytes_eq};
+ghost use Rattle.piece_walk.specs.Pieces.{functions_in, functions_of};
+ghost use Rattle.segment_run.specs.Segments.{piece_of, pieces_of};
 
 use chain_service::NamedFunction;
+use segment_run::Piece;
 
-/// The function with this name, where there is one.
-pub fn function_named<'a>(functions: &'a [NamedFunction], name: &[u8]) -> Option<&'a NamedFunction>
-    ensures { option_copied result ≡ find (λ f. bytes_eq f.name name.now) functions.now }
+/// The function with this name among those of a chain's pieces, where there is one.
+pub fn function_named<'a>(
+    pieces: &'a [Piece<NamedFunction>],
+    name: &[u8],
+) -> Option<&'a NamedFunction>
+    ensures { option_copied result ≡ find (λ f. bytes_eq f.name name.now) (functions_in (pieces_of pieces.now)) }
 {
-    with_name(functions, name)
+    'pieces: for piece in pieces {
+        if let Some(function) = named_in(piece, name) {
+            return Some(function);
+        }
+    }
+    None
+}
+
+// The function with this name in a piece.
+fn named_in<'a>(piece: &'a Piece<NamedFunction>, name: &[u8]) -> Option<&'a NamedFunction>
+    ensures { option_copied result ≡ find (λ f. bytes_eq f.name name.now) (functions_of (piece_of piece.now)) }
+{
+    match piece {
+        Piece::Graph(running) => with_name(running.functions(), name),
+        Piece::Encap(_) => None,
+        Piece::Decap(_) => None,
+    }
 }
 
 // What has a name.

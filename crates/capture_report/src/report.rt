@@ -98,16 +98,16 @@ fn push_dropped(
     ensures { OnOk result (text.new.items ≡ text.old.items ++ dropped_by number position (names_in chain.now)) }
 {
     match chain
-        .running
-        .functions()
+        .names
+        .as_slice()
         .get((position as usize).saturating_sub(1))
     {
-        Some(function) => push_drop_text(
+        Some(name) => push_drop_text(
             alloc,
             text,
             chain.declared.name.bytes(),
             number,
-            function.name.bytes(),
+            name.bytes(),
         ),
         None => Ok(()),
     }

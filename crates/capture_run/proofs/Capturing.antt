@@ -3,13 +3,7 @@ use Rattle.std.proofs.Common.{◌≡◌, ◌∙◌, ℕ, List, [], length, refl,
 use Rattle.std.specs.Prelude.{count_by, Option}
 use Rattle.nfp_outside.specs.declared.slot.Slot.{Slot}
 use Rattle.nfp_outside.specs.Outside.{SlotView}
-use Rattle.capture_bytes.specs.declared.packet.PcapRecord.{PcapRecord}
 use Rattle.capture_bytes.specs.declared.packet.Unit.{Unit as TimeUnit}
-use Rattle.chain_walk.specs.Packets.{fates}
-use Rattle.chain_walk.specs.Step.{Behaviour}
-use Rattle.service_walk.specs.Service.{Classed, at_chain, fates_among, fates_in, packets_in}
-use Rattle.chain_service.specs.NamedFunctions.{named_behaviour}
-use Rattle.chain_service.specs.declared.named.NamedFunction.{NamedFunction}
 use Rattle.chain_service.specs.Opening.{IsOpening, chains_of}
 use Rattle.chain_service.specs.Services.{Chains}
 use Rattle.chain_service.specs.declared.service.Service.{Service}
@@ -27,7 +21,7 @@ use Rattle.capture_run.specs.declared.given.Given.{Given}
 use Rattle.capture_run.specs.declared.passage.Passage.{Passage}
 use Rattle.capture_run.specs.Putting.{earlier_cause, later_more}
 use Rattle.capture_run.proofs.Running.{broken_goes, for_each, goes_by, if_some}
-use Rattle.capture_run.proofs.Telling.{WalkApart, summary_told}
+use Rattle.capture_run.proofs.Telling.{summary_told}
 use Rattle.capture_run.proofs.Walking.{length-fates_of}
 use Rattle.capture_run.proofs.Whole.{all_put, records_refused, summary_due, text_refused, title_refused}
 
@@ -41,31 +35,22 @@ started service unit sink = record { service = service; unit = unit; writer = si
 pub fresh_so : {W : Type 0} (service : Service) (unit : TimeUnit) (sink : W) → IsOpening service → IsFresh (started service unit sink)
 fresh_so service unit sink opening = record { records = refl; dropped = refl; opening = opening.chains; told = opening.classes }
 
--- each chain's packets end as if there were no other chain
-abbrev pub WalksApart : Service → Type 0
-WalksApart service = (unit : TimeUnit) (records : List PcapRecord) → WalkApart (chains_of service.chains).functions (all_classed (chains_of service.chains).declared unit records) (fates_of (chains_of service.chains) unit records)
-
-pub walks_apart : (service : Service) →
-    ((b : Behaviour NamedFunction) (chains : List (List NamedFunction)) (xs : List Classed) (chain : ℕ) → fates_in chain xs (fates_among b chains xs) ≡ fates b (at_chain chains chain) (packets_in chain xs)) → WalksApart service
-unfolding fates_of
-walks_apart service law = λ unit records chain. law named_behaviour (chains_of service.chains).functions (all_classed (chains_of service.chains).declared unit records) chain
-
 -- how a run ended
 abbrev pub ended_so : {W : Type 0} → Passage W × Option FormatFault → Ended
 ended_so run = record { totals = run.0.totals; fault = run.1 }
 
 -- what is told behind the lines is what is due
-told_due : {W X B : Type 0} (spelled : W → Given X B → List ℕ) (service : Service) (unit : TimeUnit) (sink : W) (run : Passage W × Option FormatFault) (old new : Slot → SlotView) (b : Stream X B) → IsOpening service → WalksApart service →
+told_due : {W X B : Type 0} (spelled : W → Given X B → List ℕ) (service : Service) (unit : TimeUnit) (sink : W) (run : Passage W × Option FormatFault) (old new : Slot → SlotView) (b : Stream X B) → IsOpening service →
     PassesStream spelled (started service unit sink) run.0 run.1 old new b → told_text run.0.service.chains (ended_so run) ≡ summary_due (chains_of service.chains) unit (records_in b.given) b.fault
-told_due spelled service unit sink run old new b opening apart passed =
+told_due spelled service unit sink run old new b opening passed =
     let went = passed.passes.advances in
     let chains = chains_of service.chains in
     let ended = fates_of chains unit (records_in b.given) in
     let packets = all_classed chains.declared unit (records_in b.given) in
     let read : run.0.totals.records ≡ length ended = let e = length-fates_of chains unit (records_in b.given) in let r = went.read in omega arith in
     let dropped : run.0.totals.dropped ≡ count_by is_gone ended = let r = went.dropped in omega arith in
-    summary_told packets ended service.chains run.0.service.chains (ended_so run) went.led opening.chains (apart unit (records_in b.given))
-    ∙ (λ i. summary (went.chains i) (read i) (dropped i) (copies_due chains.functions packets ended) (passed.fault_is i))
+    summary_told packets service.chains run.0.service.chains (ended_so run) went.led opening.chains
+    ∙ (λ i. summary (went.chains i) (read i) (dropped i) (copies_due chains.pieces packets) (passed.fault_is i))
 
 pub breaks_at_title : {X B : Type 0} (spelled : Given X B → List ℕ) (chains : Chains) (unit : TimeUnit) (stream : Option (Stream X B)) (old new : Slot → SlotView) (e : RunFault) → Breaks [] title old new e → WriteBreaks spelled chains unit stream old new e
 breaks_at_title spelled chains unit stream old new e refused = record {
@@ -82,18 +67,18 @@ breaks_at_records spelled service unit sink stream old mid new e first broken = 
   prefixes = if_some stream _ _ (λ b x. (records_refused _ (chains_of service.chains) unit (records_in b.given) b.fault old mid new e first (record { prefixes = x; cause = broken.cause })).prefixes) broken.prefixes;
 }
 
-pub breaks_at_summary : {W X B : Type 0} (spelled : W → Given X B → List ℕ) (service : Service) (unit : TimeUnit) (sink : W) (run : Passage W × Option FormatFault) (stream : Option (Stream X B)) (old mid now new : Slot → SlotView) (e : RunFault) → IsOpening service → WalksApart service →
+pub breaks_at_summary : {W X B : Type 0} (spelled : W → Given X B → List ℕ) (service : Service) (unit : TimeUnit) (sink : W) (run : Passage W × Option FormatFault) (stream : Option (Stream X B)) (old mid now new : Slot → SlotView) (e : RunFault) → IsOpening service →
     Puts [] title old mid → RunsAll spelled (started service unit sink) stream mid now run → Breaks [] (told_text run.0.service.chains (ended_so run)) now new e → WriteBreaks (spelled sink) (chains_of service.chains) unit stream old new e
-breaks_at_summary spelled service unit sink run stream old mid now new e opening apart first ran refused = record {
+breaks_at_summary spelled service unit sink run stream old mid now new e opening first ran refused = record {
   goes = goes_more old mid new (goes_by _ _ old mid first) (goes_more mid now new ran.goes (broken_goes _ _ now new e refused));
   cause = earlier_cause old now new e (later_more old mid now first.later ran.goes.later) refused.cause;
   prefixes = if_some stream _ _ (λ b passed. (text_refused _ (chains_of service.chains) unit (records_in b.given) b.fault old mid now new e first passed.passes.puts
-      (subst (λ t. Breaks [] t now new e) (told_due spelled service unit sink run mid now b opening apart passed) refused)).prefixes) ran.passed;
+      (subst (λ t. Breaks [] t now new e) (told_due spelled service unit sink run mid now b opening passed) refused)).prefixes) ran.passed;
 }
 
-pub writes_all : {W X B : Type 0} (spelled : W → Given X B → List ℕ) (service : Service) (unit : TimeUnit) (sink : W) (run : Passage W × Option FormatFault) (stream : Option (Stream X B)) (old mid now new : Slot → SlotView) → IsOpening service → WalksApart service →
+pub writes_all : {W X B : Type 0} (spelled : W → Given X B → List ℕ) (service : Service) (unit : TimeUnit) (sink : W) (run : Passage W × Option FormatFault) (stream : Option (Stream X B)) (old mid now new : Slot → SlotView) → IsOpening service →
     Puts [] title old mid → RunsAll spelled (started service unit sink) stream mid now run → Puts [] (told_text run.0.service.chains (ended_so run)) now new → WritesAll (spelled sink) (chains_of service.chains) unit stream old new (ended_so run)
-writes_all spelled service unit sink run stream old mid now new opening apart first ran last = record {
+writes_all spelled service unit sink run stream old mid now new opening first ran last = record {
   goes = goes_more old mid new (goes_by _ _ old mid first) (goes_more mid now new ran.goes (goes_by _ _ now new last));
   within = ran.within;
   kind = ran.kind;
@@ -103,5 +88,5 @@ writes_all spelled service unit sink run stream old mid now new opening apart fi
     fault = passed.fault_is;
   }) ran.passed;
   puts = if_some stream _ _ (λ b passed. all_put _ (chains_of service.chains) unit (records_in b.given) b.fault old mid now new first passed.passes.puts
-      (subst (λ t. Puts [] t now new) (told_due spelled service unit sink run mid now b opening apart passed) last)) ran.passed;
+      (subst (λ t. Puts [] t now new) (told_due spelled service unit sink run mid now b opening passed) last)) ran.passed;
 }

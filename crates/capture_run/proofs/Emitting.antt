@@ -6,7 +6,6 @@ use Rattle.std.proofs.lemmas.List.Elements.{All-head, All-same, All-tail}
 use Rattle.nfp_outside.specs.declared.slot.Slot.{Slot}
 use Rattle.nfp_outside.specs.declared.slot.Slot.TheVariants as slots
 use Rattle.nfp_outside.specs.Outside.{SlotView}
-use Rattle.packet_fields.specs.Checksums.{sealed}
 use Rattle.capture_bytes.specs.declared.packet.PcapRecord.{PcapRecord}
 use Rattle.chain_walk.specs.declared.walk.Fate.{Fate}
 use Rattle.chain_walk.specs.declared.walk.Fate.TheVariants.{Out}
@@ -33,9 +32,8 @@ unfolding emitted_among all_ended
 put_of-cons spelled item items x beside fate fates = refl
 
 -- a packet with the frame that was read goes out as it was read
-pub unchanged : (spelled : PcapRecord → List ℕ) (packet : PcapRecord) → sealed packet.frame packet.frame ≡ packet.frame →
-    wire_after packet.wire (length packet.frame) (length packet.frame) ≡ packet.wire → emitted spelled packet (Out packet.frame) ≡ spelled packet
-unchanged spelled packet own as_long = λ i. spelled (record packet { wire = as_long i; frame = own i })
+pub unchanged : (spelled : PcapRecord → List ℕ) (packet : PcapRecord) → wire_after packet.wire (length packet.frame) (length packet.frame) ≡ packet.wire → emitted spelled packet (Out packet.frame) ≡ spelled packet
+unchanged spelled packet as_long = λ i. spelled (record packet { wire = as_long i })
 
 -- The records of some packets were put, and these fates are left.
 pub record IsEmitting {X B : Type 0} (spelled spelled' : Given X B → List ℕ) (items : List Item) (beside : List X) (fates left : List (Option Fate)) (index : ℕ) (old now : Slot → SlotView) : Type 0 where

@@ -9,10 +9,12 @@ use Rattle.std.proofs.lemmas.List.Concat.{flat_map-append}
 use Rattle.nfp_outside.specs.declared.slot.Slot.{Slot}
 use Rattle.nfp_outside.specs.declared.slot.Slot.TheVariants as slots
 use Rattle.nfp_outside.specs.Outside.{SlotView}
+use Rattle.piece_walk.specs.Pieces.{functions_in}
 use Rattle.packet_version.specs.Tallies.{count_of}
 use Rattle.policy_text.specs.declared.policy.ChainPolicy.{ChainPolicy}
 use Rattle.policy_text.specs.declared.policy.FunctionDecl.{FunctionDecl}
 use Rattle.chain_service.specs.NamedFunctions.{named_lines}
+use Rattle.chain_service.specs.Opening.{pieces_in}
 use Rattle.chain_service.specs.declared.named.NamedFunction.{NamedFunction}
 use Rattle.chain_service.specs.declared.service.ServiceChain.{ServiceChain}
 use Rattle.capture_report.specs.Report.{chain_lines, copies_lines, function_lines, last_line, state_text, total_line}
@@ -108,7 +110,7 @@ chain_told chain functions items same = ap (flat_map (function_lines chain.name 
 
 -- the lines of each chain's functions
 abbrev pub listed : List ServiceChain → List ℕ
-listed chains = flat_map (λ c. chain_lines c.declared c.running.functions) chains
+listed chains = flat_map (λ c. chain_lines c.declared (functions_in (pieces_in c))) chains
 
 -- all that is told, by what the buffer held before the functions
 pub told_parts : (chains : List ServiceChain) (ended : Ended) (none held : List ℕ) → none ≡ [] →

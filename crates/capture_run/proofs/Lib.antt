@@ -8,7 +8,6 @@ pub mod Listing
 pub mod Passing
 pub mod Refusing
 pub mod Running
-pub mod Sealing
 pub mod Streaming
 pub mod Telling
 pub mod Turns

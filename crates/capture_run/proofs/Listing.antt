@@ -1,15 +1,11 @@
 -- What is put of records in a row is what is put of each part.
 use Rattle.std.proofs.Common.{◌≡◌, ◌+◌, ◌∙◌, ℕ, List, [], ◌∷◌, ◌++◌, length, refl, ap, arith}
 use Rattle.std.specs.Prelude.{count_by, cond, Option}
-use Rattle.std.specs.List.{flat_map, sum_by, zip, enumerate_from}
+use Rattle.std.specs.List.{flat_map, zip, enumerate_from}
 use Rattle.std.proofs.lemmas.Grind.{flat_map-append}
 use Rattle.std.proofs.lemmas.List.Sums.{sum_by-append}
-use Rattle.packet_fields.specs.declared.field.Field.{Field}
 use Rattle.capture_bytes.specs.declared.packet.PcapRecord.{PcapRecord}
-use Rattle.chain_walk.specs.Packets.{Packet}
 use Rattle.chain_walk.specs.declared.walk.Fate.{Fate}
-use Rattle.graph_compile.specs.declared.graph.Stage.{Stage}
-use Rattle.graph_run.specs.Counting.{copies_made}
 use Rattle.capture_run.specs.Emitted.{emitted, emitted_all}
 use Rattle.capture_report.specs.Report.{ChainNames, drop_line, drop_lines, is_gone}
 
@@ -49,13 +45,6 @@ lines-append names first cs ds fs gs many =
 pub gone-append : (fs gs : List Fate) → count_by is_gone (fs ++ gs) ≡ count_by is_gone fs + count_by is_gone gs
 gone-append fs gs = sum_by-append (λ x. cond (is_gone x) 1 0) fs gs
 
-sums-append : (g : Packet × Fate → ℕ) (ps qs : List Packet) (fs gs : List Fate) → length fs ≡ length ps → sum_by g (zip (ps ++ qs) (fs ++ gs)) ≡ sum_by g (zip ps fs) + sum_by g (zip qs gs)
-sums-append g ps qs fs gs many = ap (sum_by g) (zip-append ps qs fs gs many) ∙ sum_by-append g (zip ps fs) (zip qs gs)
-
-pub copies-append : (stages : List Stage) (ps qs : List Packet) (fs gs : List Fate) (f : Field) → length fs ≡ length ps → copies_made stages (ps ++ qs) (fs ++ gs) f ≡ copies_made stages ps fs f + copies_made stages qs gs f
-unfolding copies_made
-copies-append stages ps qs fs gs f many = sums-append _ ps qs fs gs many
-
 -- nothing is put of no records
 pub none_emitted : (spelled : PcapRecord → List ℕ) → emitted_all spelled [] [] ≡ []
 unfolding emitted_all
@@ -64,7 +53,3 @@ none_emitted spelled = refl
 pub no_lines : (names : List ChainNames) (first : ℕ) → drop_lines names first [] [] ≡ []
 unfolding drop_lines
 no_lines names first = refl
-
-pub no_copies : (stages : List Stage) (f : Field) → copies_made stages [] [] f ≡ 0
-unfolding copies_made
-no_copies stages f = refl

@@ -17,7 +17,7 @@ use Rattle.capture_run.specs.declared.given.Given.{Given}
 use Rattle.capture_run.specs.declared.given.Given.TheVariants.{Block}
 use Rattle.capture_run.specs.declared.passage.Passage.{Passage}
 use Rattle.capture_run.specs.Putting.{breaks_is, breaks_longer, breaks_more, puts_is, puts_more, puts_none}
-use Rattle.capture_run.proofs.Following.{each_fits, each_more, each_names, each_none}
+use Rattle.capture_run.proofs.Following.{CountsInARow, each_fits, each_more, each_names, each_none}
 use Rattle.capture_run.proofs.Listing.{gone-append, lines-append, no_lines}
 use Rattle.capture_run.proofs.Streaming.{among-append, none_among, records-append}
 use Rattle.capture_run.proofs.Walking.{chains_behind-append, classed-append, declared_behind, fates_of-append, length-fates_of, no_fates, none_behind}
@@ -99,12 +99,12 @@ lines_more spelled xs ys a b went =
     ∙ lines-append (names_among (chains_in a)) (next_number a) (classes_of (packets_next a xs)) (classes_of (packets_next b ys)) (fates_next a xs) (fates_next b ys) (as_many_next a xs)
     ∙ (λ i. lines_next a xs ++ drop_lines (sym names i) (number i) (classes_of (packets_next b ys)) (fates_next b ys))
 
-advances_more : {W X B : Type 0} (spelled : W → Given X B → List ℕ) (xs ys : List PcapRecord) (a b c : Passage W) → Advances spelled xs a b → Advances spelled ys b c → Advances spelled (xs ++ ys) a c
-advances_more spelled xs ys a b c first second = record {
+advances_more : {W X B : Type 0} → CountsInARow → (spelled : W → Given X B → List ℕ) (xs ys : List PcapRecord) (a b c : Passage W) → Advances spelled xs a b → Advances spelled ys b c → Advances spelled (xs ++ ys) a c
+advances_more law spelled xs ys a b c first second = record {
   same_classes = second.same_classes ∙ first.same_classes;
   same_unit = second.same_unit ∙ first.same_unit;
   same_spelling = second.same_spelling ∙ first.same_spelling;
-  led = subst (λ l. LeadsEach l 0 a.service.chains c.service.chains) (sym (packets_more spelled xs ys a b first)) (each_more (packets_next a xs) (packets_next b ys) 0 a.service.chains b.service.chains c.service.chains first.led second.led);
+  led = subst (λ l. LeadsEach l 0 a.service.chains c.service.chains) (sym (packets_more spelled xs ys a b first)) (each_more law (packets_next a xs) (packets_next b ys) 0 a.service.chains b.service.chains c.service.chains first.led second.led);
   chains = second.chains ∙ (λ i. chains_behind (first.chains i) (first.same_unit i) ys) ∙ sym (chains_behind-append (chains_in a) a.unit xs ys);
   read = let e = length-append xs ys in let h = first.read in let k = second.read in omega arith;
   dropped =
@@ -115,15 +115,15 @@ advances_more spelled xs ys a b c first second = record {
 }
 
 -- the same for what was given
-advances_row : {W X B : Type 0} (spelled : W → Given X B → List ℕ) (xs ys : List (Given X B)) (a b c : Passage W) → Advances spelled (records_in xs) a b → Advances spelled (records_in ys) b c → Advances spelled (records_in (xs ++ ys)) a c
-advances_row spelled xs ys a b c first second = subst (λ l. Advances spelled l a c) (sym (records-append xs ys)) (advances_more spelled (records_in xs) (records_in ys) a b c first second)
+advances_row : {W X B : Type 0} → CountsInARow → (spelled : W → Given X B → List ℕ) (xs ys : List (Given X B)) (a b c : Passage W) → Advances spelled (records_in xs) a b → Advances spelled (records_in ys) b c → Advances spelled (records_in (xs ++ ys)) a c
+advances_row law spelled xs ys a b c first second = subst (λ l. Advances spelled l a c) (sym (records-append xs ys)) (advances_more law spelled (records_in xs) (records_in ys) a b c first second)
 
 lines_row : {W X B : Type 0} (spelled : W → Given X B → List ℕ) (xs ys : List (Given X B)) (a b : Passage W) → Advances spelled (records_in xs) a b → lines_next a (records_in (xs ++ ys)) ≡ lines_next a (records_in xs) ++ lines_next b (records_in ys)
 lines_row spelled xs ys a b went = ap (lines_next a) (records-append xs ys) ∙ lines_more spelled (records_in xs) (records_in ys) a b went
 
-pub passes_more : {W X B : Type 0} (spelled : W → Given X B → List ℕ) (xs ys : List (Given X B)) (a b c : Passage W) (old mid new : Slot → SlotView) → Passes spelled xs a b old mid → Passes spelled ys b c mid new → Passes spelled (xs ++ ys) a c old new
-passes_more spelled xs ys a b c old mid new first second = record {
-  advances = advances_row spelled xs ys a b c first.advances second.advances;
+pub passes_more : {W X B : Type 0} → CountsInARow → (spelled : W → Given X B → List ℕ) (xs ys : List (Given X B)) (a b c : Passage W) (old mid new : Slot → SlotView) → Passes spelled xs a b old mid → Passes spelled ys b c mid new → Passes spelled (xs ++ ys) a c old new
+passes_more law spelled xs ys a b c old mid new first second = record {
+  advances = advances_row law spelled xs ys a b c first.advances second.advances;
   puts = puts_is _ _ _ _ old new (sym (out_more spelled xs ys a b first.advances)) (sym (lines_row spelled xs ys a b first.advances)) (puts_more _ _ _ _ old mid new first.puts second.puts);
 }
 

@@ -3,7 +3,7 @@ use Rattle.std.proofs.Common.{◌≡◌, ◌≢◌, ◌≤◌, ◌+◌, ◌∙�
 use Rattle.std.specs.Prelude.{All, IsTrue, if◌then◌else◌, Option, Some, None, IfSome}
 use Rattle.std.specs.Option.{option_map}
 use Rattle.std.proofs.lemmas.Bool.{false≢true}
-use Rattle.std.proofs.lemmas.List.{append-nil, map-append, length-map}
+use Rattle.std.proofs.lemmas.List.{append-nil, length-map}
 use Rattle.std.proofs.lemmas.List.Sums.{count_by-le-length}
 use Rattle.std.proofs.lemmas.List.Elements.{All-nil, All-cons, All-append}
 use Rattle.nfp_outside.specs.declared.slot.Slot.{Slot}
@@ -31,6 +31,7 @@ use Rattle.capture_run.specs.declared.given.Given.{Given}
 use Rattle.capture_run.specs.declared.given.Given.TheVariants.{Packet, Block}
 use Rattle.capture_run.specs.declared.passage.Passage.{Passage}
 use Rattle.capture_run.specs.Putting.{breaks_none, capture_is_not_out, capture_is_not_report, puts_is, puts_more, puts_read}
+use Rattle.capture_run.proofs.Following.{CountsInARow}
 use Rattle.capture_run.proofs.Passing.{breaks_block, breaks_next, longer, passes_block, passes_more, passes_none}
 use Rattle.capture_run.proofs.Running.{breaks_run, runs_all, with_all, with_more, with_none}
 use Rattle.capture_run.proofs.Streaming.{held_more, records-append, records_held}
@@ -116,11 +117,11 @@ takes_broken spelled cut beside all packet x class items p old new e are more ma
     subst (λ l. PassBreaks spelled l p old new e) ((λ i. held_in (are i) (more i)) ∙ sym (more_held cut beside packet x class many)) broken
 
 -- a block that is no packet closed the burst, and was put behind it
-pub takes_block : {W X B : Type 0} (spelled : W → Given X B → List ℕ) (cut cut' : Cutting) (beside beside' : List X) (b : B) (items : List Item) (p p' : Passage W) (w : W) (old mid new : Slot → SlotView) → cut' ≡ closed_now cut → items ≡ cut.held → beside' ≡ [] →
+pub takes_block : {W X B : Type 0} → CountsInARow → (spelled : W → Given X B → List ℕ) (cut cut' : Cutting) (beside beside' : List X) (b : B) (items : List Item) (p p' : Passage W) (w : W) (old mid new : Slot → SlotView) → cut' ≡ closed_now cut → items ≡ cut.held → beside' ≡ [] →
     IsTold p' → Passes spelled (held_in items beside) p p' old mid → spelled w ≡ spelled p'.writer → Puts (spelled p'.writer (Block b)) [] mid new → Takes spelled cut beside cut' beside' (Block b) p (record p' { writer = w }) old new
-takes_block spelled cut cut' beside beside' b items p p' w old mid new is are none told passes same put = record {
+takes_block law spelled cut cut' beside beside' b items p p' w old mid new is are none told passes same put = record {
   ran = held_in items beside ++ Block b ∷ [];
-  passes = passes_more spelled (held_in items beside) (Block b ∷ []) p p' (record p' { writer = w }) old mid new passes (passes_block spelled p' w b mid new same put);
+  passes = passes_more law spelled (held_in items beside) (Block b ∷ []) p p' (record p' { writer = w }) old mid new passes (passes_block spelled p' w b mid new same put);
   row = ap (λ l. held_in l beside ++ Block b ∷ []) (sym are) ∙ sym (append-nil _) ∙ ap (λ c. (held_in items beside ++ Block b ∷ []) ++ held_in c.held beside') (sym is);
   classed = subst (λ c. All (IsClassed p.service.classes) c.held) (sym is) (All-nil (IsClassed p.service.classes));
   told = told;
@@ -194,12 +195,12 @@ numbered (Packet r x) n few within = omega arith
 numbered (Block b) n few within = omega arith
 
 -- more was given, and taken
-pub at_goes_on : {W X B S : Type 0} (spelled : W → Given X B → List ℕ) (left : S → SlotView → Option (Stream X B)) (packets taken : S → ℕ) (is_open : S → Bool) (first p p' : Passage W) (cut cut' : Cutting) (beside beside' : List X) (start source source' : S) (x : Given X B)
+pub at_goes_on : {W X B S : Type 0} → CountsInARow → (spelled : W → Given X B → List ℕ) (left : S → SlotView → Option (Stream X B)) (packets taken : S → ℕ) (is_open : S → Bool) (first p p' : Passage W) (cut cut' : Cutting) (beside beside' : List X) (start source source' : S) (x : Given X B)
     (old mid now new : Slot → SlotView) →
     IsAt spelled left packets is_open first p cut beside start source old mid → GivesNext left packets taken x source source' (mid slots.Capture) (now slots.Capture) → is_open source' ≡ true → (mid slots.Capture).faults ≤ (now slots.Capture).faults →
     (now slots.Capture).name ≡ (mid slots.Capture).name → ((s : Slot) → s ≢ slots.Capture → now s ≡ mid s) →
     Takes spelled cut beside cut' beside' x p p' now new → ((s : Slot) → s ≢ slots.Out → s ≢ slots.Report → new s ≡ now s) → IsAt spelled left packets is_open first p' cut' beside' start source' old new
-at_goes_on {B = B} spelled left packets taken is_open first p p' cut cut' beside beside' start source source' x old mid now new at gives asked later name around takes beyond =
+at_goes_on {B = B} law spelled left packets taken is_open first p p' cut cut' beside beside' start source source' x old mid now new at gives asked later name around takes beyond =
     let capture : new slots.Capture ≡ now slots.Capture = beyond slots.Capture capture_is_not_out capture_is_not_report in
     let here : packets source ≡ cut.added = at.at in
     let held = held_in cut.held beside in
@@ -208,7 +209,7 @@ at_goes_on {B = B} spelled left packets taken is_open first p p' cut cut' beside
     let one = takes.added in
     record {
       done = at.done ++ takes.ran;
-      passes = passes_more spelled at.done takes.ran first p p' old now new (passes_read spelled at.done first p old mid now at.passes (puts_read mid now later around)) takes.passes;
+      passes = passes_more law spelled at.done takes.ran first p p' old now new (passes_read spelled at.done first p old mid now at.passes (puts_read mid now later around)) takes.passes;
       whole = at.whole ∙ ap (option_map (with_all (at.done ++ held))) rest ∙ with_more (at.done ++ held) x (left source' (new slots.Capture))
           ∙ ap (λ l. option_map (with_all l) (left source' (new slots.Capture))) (row_of at.done takes.ran held held' x takes.row);
       classed = subst (λ fits. All (IsClassed fits) cut'.held) (sym takes.passes.advances.same_classes) takes.classed;
@@ -232,32 +233,32 @@ at_goes_on {B = B} spelled left packets taken is_open first p p' cut cut' beside
     }
 
 -- nothing more comes, and the open burst ran
-at_last : {W X B S : Type 0} (spelled : W → Given X B → List ℕ) (left : S → SlotView → Option (Stream X B)) (packets : S → ℕ) (is_open : S → Bool) (first p : Passage W) (cut : Cutting) (beside : List X) (start source : S) (fault : Option FormatFault) (run : Passage W × Option FormatFault)
+at_last : {W X B S : Type 0} → CountsInARow → (spelled : W → Given X B → List ℕ) (left : S → SlotView → Option (Stream X B)) (packets : S → ℕ) (is_open : S → Bool) (first p : Passage W) (cut : Cutting) (beside : List X) (start source : S) (fault : Option FormatFault) (run : Passage W × Option FormatFault)
     (old mid now new : Slot → SlotView) → IsAt spelled left packets is_open first p cut beside start source old mid →
     IfSome (left source (mid slots.Capture)) (λ s. s ≡ record { given = []; fault = fault }) → IfSome fault (λ f. ¬ IsOpeningFault f) → Puts [] [] mid now → Ends spelled (held_in cut.held beside) p fault now new run →
     RunsAll spelled first (left start (old slots.Capture)) old new run
-at_last spelled left packets is_open first p cut beside start source fault run old mid now new at empty kind reads ends =
+at_last law spelled left packets is_open first p cut beside start source fault run old mid now new at empty kind reads ends =
     runs_all spelled first run (left start (old slots.Capture)) (left source (mid slots.Capture)) (at.done ++ held_in cut.held beside) old new
-    (passes_more spelled at.done (held_in cut.held beside) first p run.0 old now new (passes_read spelled at.done first p old mid now at.passes reads) ends.passes) at.whole
+    (passes_more law spelled at.done (held_in cut.held beside) first p run.0 old now new (passes_read spelled at.done first p old mid now at.passes reads) ends.passes) at.whole
     (subst (λ f. IfSome (left source (mid slots.Capture)) (λ s. s ≡ record { given = []; fault = f })) (sym ends.told) empty) (subst (λ f. IfSome f (λ x. ¬ IsOpeningFault x)) (sym ends.told) kind)
     (still_within spelled (held_in cut.held beside) p run.0 now new ends.passes at.within)
 
-pub at_end : {W X B S : Type 0} (spelled : W → Given X B → List ℕ) (left : S → SlotView → Option (Stream X B)) (packets : S → ℕ) (is_open : S → Bool) (first p : Passage W) (cut : Cutting) (beside : List X) (start source : S) (run : Passage W × Option FormatFault)
+pub at_end : {W X B S : Type 0} → CountsInARow → (spelled : W → Given X B → List ℕ) (left : S → SlotView → Option (Stream X B)) (packets : S → ℕ) (is_open : S → Bool) (first p : Passage W) (cut : Cutting) (beside : List X) (start source : S) (run : Passage W × Option FormatFault)
     (old mid now new : Slot → SlotView) → IsAt spelled left packets is_open first p cut beside start source old mid →
     IfSome (left source (mid slots.Capture)) (λ s. s ≡ record { given = []; fault = None }) → (mid slots.Capture).faults ≤ (now slots.Capture).faults → ((s : Slot) → s ≢ slots.Capture → now s ≡ mid s) → Ends spelled (held_in cut.held beside) p None now new run →
     RunsAll spelled first (left start (old slots.Capture)) old new run
-at_end spelled left packets is_open first p cut beside start source run old mid now new at empty later around ends = at_last spelled left packets is_open first p cut beside start source None run old mid now new at empty tt (puts_read mid now later around) ends
+at_end law spelled left packets is_open first p cut beside start source run old mid now new at empty later around ends = at_last law spelled left packets is_open first p cut beside start source None run old mid now new at empty tt (puts_read mid now later around) ends
 
 -- the next record couldn't be read: a fault ends the capture
-pub at_stop : {W X B S : Type 0} (spelled : W → Given X B → List ℕ) (left : S → SlotView → Option (Stream X B)) (packets : S → ℕ) (is_open : S → Bool) (first p : Passage W) (cut : Cutting) (beside : List X) (start source : S) (refusal : SourceFault) (run : Passage W × Option FormatFault)
+pub at_stop : {W X B S : Type 0} → CountsInARow → (spelled : W → Given X B → List ℕ) (left : S → SlotView → Option (Stream X B)) (packets : S → ℕ) (is_open : S → Bool) (first p : Passage W) (cut : Cutting) (beside : List X) (start source : S) (refusal : SourceFault) (run : Passage W × Option FormatFault)
     (old mid now new : Slot → SlotView) → IsAt spelled left packets is_open first p cut beside start source old mid →
     ((fault : FormatFault) → refusal ≡ refusals.Format fault → RefusesNext left fault source (mid slots.Capture)) →
     (mid slots.Capture).faults ≤ (now slots.Capture).faults → ((s : Slot) → s ≢ slots.Capture → now s ≡ mid s) → StopEnds spelled (held_in cut.held beside) p refusal now new run →
     RunsAll spelled first (left start (old slots.Capture)) old new run
-at_stop spelled left packets is_open first p cut beside start source (refusals.Format fault) run old mid now new at refused later around ends =
-    at_last spelled left packets is_open first p cut beside start source (Some fault) run old mid now new at (refused fault refl).whole (refused fault refl).kind (puts_read mid now later around) ends
-at_stop spelled left packets is_open first p cut beside start source refusals.ReadFault run old mid now new at refused later around ends = absurd ends
-at_stop spelled left packets is_open first p cut beside start source refusals.OutOfMemory run old mid now new at refused later around ends = absurd ends
+at_stop law spelled left packets is_open first p cut beside start source (refusals.Format fault) run old mid now new at refused later around ends =
+    at_last law spelled left packets is_open first p cut beside start source (Some fault) run old mid now new at (refused fault refl).whole (refused fault refl).kind (puts_read mid now later around) ends
+at_stop law spelled left packets is_open first p cut beside start source refusals.ReadFault run old mid now new at refused later around ends = absurd ends
+at_stop law spelled left packets is_open first p cut beside start source refusals.OutOfMemory run old mid now new at refused later around ends = absurd ends
 
 -- the open burst was broken off
 pub at_end_break : {W X B S : Type 0} (spelled : W → Given X B → List ℕ) (left : S → SlotView → Option (Stream X B)) (packets : S → ℕ) (is_open : S → Bool) (first p : Passage W) (cut : Cutting) (beside : List X) (start source : S) (e : RunFault)

@@ -22,7 +22,7 @@ lines_due chains unit records = drop_lines (names_among chains) 1 (map (λ x. x.
 abbrev pub summary_due : Chains → TimeUnit → List PcapRecord → Option FormatFault → List ℕ
 summary_due chains unit records fault =
     summary (chains_behind chains unit records) (length (fates_of chains unit records)) (count_by is_gone (fates_of chains unit records))
-    (copies_due chains.functions (all_classed chains.declared unit records) (fates_of chains unit records)) fault
+    (copies_due chains.pieces (all_classed chains.declared unit records)) fault
 
 pub title_refused : (out : List ℕ) (chains : Chains) (unit : TimeUnit) (records : List PcapRecord) (fault : Option FormatFault) (old new : Slot → SlotView) (e : RunFault) →
     Breaks [] title old new e → Breaks out (report_of chains unit records fault) old new e

@@ -1,7 +1,6 @@
--- Believed: the classic capture that is written: the records whose packets passed, each with the frame that its chain left, sealed.
+-- Believed: the classic capture that is written: the records whose packets passed, each with the frame that its chain left.
 use Rattle.std.specs.Prelude.{ℕ, ◌+◌, ◌-◌, min, List, [], ◌++◌, length}
 use Rattle.std.specs.List.{flat_map, zip}
-use Rattle.packet_fields.specs.Checksums.{sealed}
 use Rattle.pcap_io.specs.Written.{head_bytes, record_bytes}
 use Rattle.capture_bytes.specs.declared.packet.PcapRecord.{PcapRecord}
 use Rattle.pcap_io.specs.declared.capture.CaptureHead.{CaptureHead}
@@ -12,9 +11,9 @@ use Rattle.chain_walk.specs.declared.walk.Fate.TheVariants.{Out, Gone}
 abbrev pub wire_after : ℕ → ℕ → ℕ → ℕ
 wire_after wire before after = min (wire + after - before) 4294967295
 
--- a record as it goes out with this frame, its checksums and its original length following what its chain changed
+-- a record as it goes out with this frame, its original length following how much longer or shorter its chain made it
 abbrev pub emitted_record : PcapRecord → List ℕ → PcapRecord
-emitted_record r frame = record r { wire = wire_after r.wire (length r.frame) (length frame); frame = sealed r.frame frame }
+emitted_record r frame = record r { wire = wire_after r.wire (length r.frame) (length frame); frame = frame }
 
 -- its bytes, and nothing of one that was dropped
 abbrev pub emitted : (PcapRecord → List ℕ) → PcapRecord → Fate → List ℕ

@@ -1,7 +1,6 @@
 //! Writes the packets of a burst that passed.
 ghost use Rattle.std.specs.Prelude.{◌≡◌, ◌≢◌, ◌<◌, ◌^◌, [], All, IfErr, IfSome, OnOk, IsSome, length};
 ghost use Rattle.nfp_outside.specs.declared.slot.Slot.{Slot};
-ghost use Rattle.packet_fields.specs.Checksums.{sealed};
 ghost use Rattle.chain_walk.specs.declared.walk.Fate.TheVariants.{Out};
 ghost use Rattle.capture_run.specs.Emitted.{emitted, emitted_record, wire_after};
 ghost use Rattle.burst_walk.specs.Leading.{IsWritable, ended, all_ended};
@@ -15,10 +14,10 @@ use capture_bytes::PcapRecord;
 use chain_walk::Fate;
 use classifier::Item;
 use nfp_outside::Desk;
-use packet_fields::{Frame, seal};
+use packet_fields::Frame;
 
 /// Puts the packets that passed into Out, in their order, each with what stands beside its record: with the frame that its chain
-/// left, sealed, or as it was read where no chain took it.
+/// left, or as it was read where no chain took it.
 pub fn put_emitted<X, B, W: Sink<X, B>, D: Desk>(
     desk: &mut D,
     writer: &mut W,
@@ -69,8 +68,7 @@ fn put_fate<X, B, W: Sink<X, B>, D: Desk>(
     }
 }
 
-// Puts the record of a packet that its chain left with this frame. Comparing frames is far cheaper than sealing one, so a record whose
-// frame didn't change is put as it was read.
+// Puts the record of a packet that its chain left with this frame.
 fn put_left<X, B, W: Sink<X, B>, D: Desk>(
     desk: &mut D,
     writer: &mut W,
@@ -86,14 +84,10 @@ fn put_left<X, B, W: Sink<X, B>, D: Desk>(
     ensures spelling { W.spelled writer.new ≡ W.spelled writer.old }
     ensures others { (s : Slot) → s ≢ Slot.Out → D.slots desk.new s ≡ D.slots desk.old s }
 {
-    if frame.bytes() == packet.frame.bytes() {
-        put_unchanged(desk, writer, packet, beside)
-    } else {
-        put_packet(desk, writer, &emitted_record(packet, frame), beside)
-    }
+    put_packet(desk, writer, &emitted_record(packet, frame), beside)
 }
 
-// Puts the record of a packet whose frame is as it was read: its checksums and its original length are as they were.
+// Puts the record of a packet that no chain took, as it was read.
 fn put_unchanged<X, B, W: Sink<X, B>, D: Desk>(
     desk: &mut D,
     writer: &mut W,
@@ -107,29 +101,26 @@ fn put_unchanged<X, B, W: Sink<X, B>, D: Desk>(
     ensures spelling { W.spelled writer.new ≡ W.spelled writer.old }
     ensures others { (s : Slot) → s ≢ Slot.Out → D.slots desk.new s ≡ D.slots desk.old s }
 {
-    let frame = packet.frame.bytes();
-    unchanged_is_sealed(frame);
-    unchanged_is_as_long(packet.wire, frame.len());
+    unchanged_is_as_long(packet.wire, packet.frame.bytes().len());
     put_packet(desk, writer, packet, beside)
 }
 
-// The record as it goes out, with this frame, whose checksums are adjusted to what changed, and with its original length.
+// The record as it goes out, with this frame and its original length.
 fn emitted_record(packet: &PcapRecord, frame: Frame) -> PcapRecord
     requires short { length packet.now.frame < 2 ^ 22 }
     requires writable { length frame < 2 ^ 22 }
     ensures record { result ≡ emitted_record packet.now frame }
     ensures length { length result.frame ≡ length frame }
 {
-    let before = packet.frame.bytes();
     PcapRecord {
         seconds: packet.seconds,
         fraction: packet.fraction,
-        wire: wire_after(packet.wire, before.len(), frame.bytes().len()),
-        frame: seal_frame(before, frame),
+        wire: wire_after(packet.wire, packet.frame.bytes().len(), frame.bytes().len()),
+        frame,
     }
 }
 
-// The original length of a frame that went from one length to another: tags that were put in or taken off count there too.
+// The original length of a frame that went from one length to another: what was put in or taken off counts there too.
 fn wire_after(wire: u32, before: usize, after: usize) -> u32
     requires after { after < 2 ^ 32 }
     ensures { result ≡ wire_after wire before after }
@@ -138,22 +129,7 @@ fn wire_after(wire: u32, before: usize, after: usize) -> u32
     u32::try_from(longer.saturating_sub(before as u64)).unwrap_or(u32::MAX)
 }
 
-// The frame with its checksums adjusted to what changed.
-fn seal_frame(before: &[u8], frame: Frame) -> Frame
-    ensures sealed { result ≡ sealed before.now frame }
-    ensures length { length result ≡ length frame }
-{
-    let mut bytes = frame.into_bytes();
-    seal(before, &mut bytes);
-    Frame::new(bytes)
-}
-
 // A frame that is as long as before keeps its original length.
 fn unchanged_is_as_long(wire: u32, length: usize)
     ensures { wire_after wire length length ≡ wire }
-{}
-
-// A frame that didn't change stays as it is where it is sealed.
-fn unchanged_is_sealed(frame: &[u8])
-    ensures { sealed frame.now frame.now ≡ frame.now }
 {}

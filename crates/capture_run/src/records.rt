@@ -17,8 +17,10 @@ use crate::write::put_block;
 use burst_walk::Merging;
 use capture_bytes::PcapRecord;
 use capture_report::FormatFault;
+use chain_service::NamedFunction;
 use classifier::{Burst, Cutter};
 use nfp_outside::{Desk, Gate};
+use segment_run::bursts_are_counted_in_a_row;
 use std::alloc::Global;
 use std::rt::Clock;
 use std::sync::Wait;
@@ -57,6 +59,7 @@ pub fn run_records<
     ensures capture_name { (D.slots desk.new Slot.Capture).name ≡ (D.slots desk.old Slot.Capture).name }
     ensures others { (s : Slot) → s ≢ Slot.Out → s ≢ Slot.Report → s ≢ Slot.Capture → D.slots desk.new s ≡ D.slots desk.old s }
 {
+    bursts_are_counted_in_a_row::<NamedFunction>();
     let mut source = source;
     let mut cutter = Cutter::new(alloc, burst)?;
     let mut beside = Vec::new(alloc);
@@ -193,6 +196,7 @@ fn pass_block<
     ensures err { IfErr result (TakeBreaks W.spelled cutter.old beside.old.items (Block block) passage (D.slots desk.old) (D.slots desk.new)) }
     ensures others { (s : Slot) → s ≢ Slot.Out → s ≢ Slot.Report → D.slots desk.new s ≡ D.slots desk.old s }
 {
+    bursts_are_counted_in_a_row::<NamedFunction>();
     let burst = cutter.cut_now()?;
     let mut passage = run_held(rt, alloc, desk, passage, burst, beside, merging, gate)?;
     put_block(desk, &mut passage.writer, &block)?;

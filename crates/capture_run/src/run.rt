@@ -14,9 +14,8 @@ use crate::write::put_text;
 use burst_walk::Merging;
 use capture_bytes::Unit;
 use capture_report::{Ended, TITLE, Totals};
-use chain_service::{NamedFunction, Service};
+use chain_service::Service;
 use nfp_outside::{Desk, Gate};
-use service_walk::chains_walk_apart;
 use std::alloc::Global;
 use std::rt::Clock;
 use std::sync::Wait;
@@ -65,7 +64,6 @@ pub fn run_capture<
     ensures capture_name { (D.slots desk.new Slot.Capture).name ≡ (D.slots desk.old Slot.Capture).name }
     ensures others { (s : Slot) → s ≢ Slot.Out → s ≢ Slot.Report → s ≢ Slot.Capture → D.slots desk.new s ≡ D.slots desk.old s }
 {
-    chains_walk_apart::<NamedFunction>();
     put_text(desk, TITLE)?;
     let passage = Passage {
         service,

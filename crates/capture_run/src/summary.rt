@@ -2,7 +2,10 @@
 ghost use Rattle.std.specs.Prelude.{◌≡◌, ◌≢◌, ◌<◌, ◌≤◌, ◌++◌, [], IfErr, IsSome, OnOk, length, slice_index_or};
 ghost use Rattle.std.specs.List.{flat_map};
 ghost use Rattle.nfp_outside.specs.declared.slot.Slot.{Slot};
+ghost use Rattle.piece_walk.specs.Pieces.{functions_in};
 ghost use Rattle.packet_version.specs.Tallies.{count_of};
+ghost use Rattle.segment_run.specs.Segments.{pieces_of};
+ghost use Rattle.chain_service.specs.Opening.{pieces_in};
 ghost use Rattle.chain_service.specs.StateRows.{named_rows};
 ghost use Rattle.chain_service.specs.NamedFunctions.{named_lines};
 ghost use Rattle.capture_report.specs.Report.{chain_lines, copies_lines, function_lines, state_text, total_line};
@@ -19,6 +22,7 @@ use chain_service::{NamedFunction, ServiceChain};
 use net_functions::Function;
 use nfp_outside::Desk;
 use policy_text::{ChainPolicy, FunctionDecl};
+use segment_run::Piece;
 use std::alloc::{AllocError, Global};
 
 /// From how many bytes on it is put what was gathered, and how many more may come meanwhile without more memory.
@@ -75,18 +79,12 @@ fn tell_functions<D: Desk>(
     chains: &[ServiceChain],
 ) -> Result<(), RunFault>
     requires report { IsSome (D.slots desk.old Slot.Report).name }
-    ensures ok { OnOk result (Gathers (flat_map (λ c. chain_lines c.declared c.running.functions) chains.now) held.old.items held.new.items (D.slots desk.old) (D.slots desk.new)) }
-    ensures err { IfErr result (Breaks [] (held.old.items ++ flat_map (λ c. chain_lines c.declared c.running.functions) chains.now) (D.slots desk.old) (D.slots desk.new)) }
+    ensures ok { OnOk result (Gathers (flat_map (λ c. chain_lines c.declared (functions_in (pieces_in c))) chains.now) held.old.items held.new.items (D.slots desk.old) (D.slots desk.new)) }
+    ensures err { IfErr result (Breaks [] (held.old.items ++ flat_map (λ c. chain_lines c.declared (functions_in (pieces_in c))) chains.now) (D.slots desk.old) (D.slots desk.new)) }
     ensures others { (s : Slot) → s ≢ Slot.Report → D.slots desk.new s ≡ D.slots desk.old s }
 {
     'chains: for chain in chains {
-        tell_chain(
-            alloc,
-            desk,
-            held,
-            &chain.declared,
-            chain.running.functions(),
-        )?;
+        tell_chain(alloc, desk, held, &chain.declared, chain.pieces.as_slice())?;
     }
     Ok(())
 }
@@ -97,15 +95,15 @@ fn tell_chain<D: Desk>(
     desk: &mut D,
     held: &mut Vec<u8>,
     chain: &ChainPolicy,
-    functions: &[NamedFunction],
+    pieces: &[Piece<NamedFunction>],
 ) -> Result<(), RunFault>
     requires report { IsSome (D.slots desk.old Slot.Report).name }
-    ensures ok { OnOk result (Gathers (chain_lines chain.now functions.now) held.old.items held.new.items (D.slots desk.old) (D.slots desk.new)) }
-    ensures err { IfErr result (Breaks [] (held.old.items ++ chain_lines chain.now functions.now) (D.slots desk.old) (D.slots desk.new)) }
+    ensures ok { OnOk result (Gathers (chain_lines chain.now (functions_in (pieces_of pieces.now))) held.old.items held.new.items (D.slots desk.old) (D.slots desk.new)) }
+    ensures err { IfErr result (Breaks [] (held.old.items ++ chain_lines chain.now (functions_in (pieces_of pieces.now))) (D.slots desk.old) (D.slots desk.new)) }
     ensures others { (s : Slot) → s ≢ Slot.Report → D.slots desk.new s ≡ D.slots desk.old s }
 {
     'functions: for declared in chain.functions.as_slice() {
-        tell_function(alloc, desk, held, chain.name.bytes(), functions, declared)?;
+        tell_function(alloc, desk, held, chain.name.bytes(), pieces, declared)?;
     }
     Ok(())
 }
@@ -116,31 +114,31 @@ fn tell_function<D: Desk>(
     desk: &mut D,
     held: &mut Vec<u8>,
     chain: &[u8],
-    functions: &[NamedFunction],
+    pieces: &[Piece<NamedFunction>],
     declared: &FunctionDecl,
 ) -> Result<(), RunFault>
     requires report { IsSome (D.slots desk.old Slot.Report).name }
-    ensures ok { OnOk result (Gathers (function_lines chain.now functions.now declared.now) held.old.items held.new.items (D.slots desk.old) (D.slots desk.new)) }
-    ensures err { IfErr result (Breaks [] (held.old.items ++ function_lines chain.now functions.now declared.now) (D.slots desk.old) (D.slots desk.new)) }
+    ensures ok { OnOk result (Gathers (function_lines chain.now (functions_in (pieces_of pieces.now)) declared.now) held.old.items held.new.items (D.slots desk.old) (D.slots desk.new)) }
+    ensures err { IfErr result (Breaks [] (held.old.items ++ function_lines chain.now (functions_in (pieces_of pieces.now)) declared.now) (D.slots desk.old) (D.slots desk.new)) }
     ensures others { (s : Slot) → s ≢ Slot.Report → D.slots desk.new s ≡ D.slots desk.old s }
 {
     push_function_line(alloc, held, chain, declared)?;
-    tell_state(desk, held, functions, declared.name.bytes())
+    tell_state(desk, held, pieces, declared.name.bytes())
 }
 
 // Tells the state of the function with this name.
 fn tell_state<D: Desk>(
     desk: &mut D,
     held: &mut Vec<u8>,
-    functions: &[NamedFunction],
+    pieces: &[Piece<NamedFunction>],
     name: &[u8],
 ) -> Result<(), RunFault>
     requires report { IsSome (D.slots desk.old Slot.Report).name }
-    ensures ok { OnOk result (Gathers (state_text functions.now name.now) held.old.items held.new.items (D.slots desk.old) (D.slots desk.new)) }
-    ensures err { IfErr result (Breaks [] (held.old.items ++ state_text functions.now name.now) (D.slots desk.old) (D.slots desk.new)) }
+    ensures ok { OnOk result (Gathers (state_text (functions_in (pieces_of pieces.now)) name.now) held.old.items held.new.items (D.slots desk.old) (D.slots desk.new)) }
+    ensures err { IfErr result (Breaks [] (held.old.items ++ state_text (functions_in (pieces_of pieces.now)) name.now) (D.slots desk.old) (D.slots desk.new)) }
     ensures others { (s : Slot) → s ≢ Slot.Report → D.slots desk.new s ≡ D.slots desk.old s }
 {
-    match function_named(functions, name) {
+    match function_named(pieces, name) {
         Some(function) => tell_rows(desk, held, function),
         None => Ok(()),
     }

@@ -7,7 +7,6 @@ pub mod EndedRuns
 pub mod FlowRuns
 pub mod Formats
 pub mod GoodCalls
-pub mod GrownHeads
 pub mod HeldBytes
 mod NgRows
 pub mod NotedLines
@@ -17,5 +16,6 @@ pub mod PolicyEnds
 pub mod PutInSteps
 mod Rows
 pub mod ShownPlans
+mod TunnelRows
 pub mod UnreadWords
 pub mod WrittenSlots

@@ -23,11 +23,16 @@ use Rattle.net_functions.specs.Builds.{making_of}
 use Rattle.net_functions.specs.NetFunctions.{profile_by, step_by, lines_of}
 use Rattle.nf_filter.specs.Firewalls.{passes}
 use Rattle.nf_filter.specs.Lines.{line_of}
+use Rattle.chain_walk.specs.Packets.{fates}
 use Rattle.chain_walk.specs.Walk.{walk}
 use Rattle.nfp_run.specs.declared.outcome.Outcome.TheVariants.{Done, CaptureNg}
 use Rattle.nfp_run.specs.Written.{both}
 use Rattle.nfp_run.specs.Due.{due_of_run, nothing_but}
+use Rattle.piece_walk.specs.PiecePackets.{passed as passed_on}
+use Rattle.piece_walk.specs.Pieces.{long}
 use Rattle.service_walk.specs.Service.{fates_among, chains_after}
+use Rattle.segment_run.specs.Counting.{copies_through}
+use Rattle.chain_service.specs.Services.{cut as cut_chain}
 use Rattle.burst_walk.specs.Fates.{fates_of, chains_behind}
 use Rattle.capture_run.specs.EmittedNg.{ng_out_bytes}
 use Rattle.capture_report.specs.FaultLines.{ng_text}
@@ -67,7 +72,7 @@ passed : due_of_run (worth deny) (section ++ (interface 255 ++ block 207 1)) ≡
   });
   note = codes "done records 1 emitted 1 dropped 0\n";
 }
-unfolding worth making_of profile_by step_by lines_of deny policy_of_utf8 after_line orders_from answer_of edges_of taken stuck named_cycle from_earliest cycle_back first_refusal section interface block blocks_of options_of packet_head ng_out_bytes tags_len is_ipv4 is_ipv6 walk fates_among chains_after fates_of chains_behind report_bytes drop_text drop_lines total_line last_line ng_text summary done_text digits words is_changed change_sum has_same_places has_transport passes line_of function_text chain_lines copies_due copies_lines copies_made written_in graph_of placed holds_back is_forbidden branch_reads branch_writes touch_of stage_parts mode_of copies pair_of first_forbidden pairs actions all_actions is_copied copied
+unfolding worth making_of profile_by step_by lines_of deny policy_of_utf8 after_line orders_from answer_of edges_of taken stuck named_cycle from_earliest cycle_back first_refusal section interface block blocks_of options_of packet_head ng_out_bytes tags_len is_ipv4 is_ipv6 walk fates long cut_chain fates_among chains_after fates_of chains_behind report_bytes drop_text drop_lines total_line last_line ng_text summary done_text digits words is_changed change_sum has_same_places has_transport passes line_of function_text chain_lines copies_due copies_lines copies_through passed_on copies_made written_in graph_of placed holds_back is_forbidden branch_reads branch_writes touch_of stage_parts mode_of copies pair_of first_forbidden pairs actions all_actions is_copied copied
 passed = refl
 
 -- of a packet that is dropped nothing goes out
@@ -79,7 +84,7 @@ dropped : due_of_run (worth deny) (section ++ (interface 255 ++ block 199 9)) �
   });
   note = codes "done records 1 emitted 0 dropped 1\n";
 }
-unfolding worth making_of profile_by step_by lines_of deny policy_of_utf8 after_line orders_from answer_of edges_of taken stuck named_cycle from_earliest cycle_back first_refusal section interface block blocks_of options_of packet_head ng_out_bytes tags_len is_ipv4 is_ipv6 walk fates_among chains_after fates_of chains_behind report_bytes drop_text drop_lines total_line last_line ng_text summary done_text digits words is_changed change_sum has_same_places has_transport passes line_of function_text chain_lines copies_due copies_lines copies_made written_in graph_of placed holds_back is_forbidden branch_reads branch_writes touch_of stage_parts mode_of copies pair_of first_forbidden pairs actions all_actions is_copied copied
+unfolding worth making_of profile_by step_by lines_of deny policy_of_utf8 after_line orders_from answer_of edges_of taken stuck named_cycle from_earliest cycle_back first_refusal section interface block blocks_of options_of packet_head ng_out_bytes tags_len is_ipv4 is_ipv6 walk fates long cut_chain fates_among chains_after fates_of chains_behind report_bytes drop_text drop_lines total_line last_line ng_text summary done_text digits words is_changed change_sum has_same_places has_transport passes line_of function_text chain_lines copies_due copies_lines copies_through passed_on copies_made written_in graph_of placed holds_back is_forbidden branch_reads branch_writes touch_of stage_parts mode_of copies pair_of first_forbidden pairs actions all_actions is_copied copied
 dropped = refl
 
 -- cut inside the packet's block: the two blocks before it stand
@@ -91,10 +96,10 @@ cut : due_of_run (worth deny) (take 100 (section ++ (interface 255 ++ block 207 
   });
   note = codes "capture: cut block 3\n";
 }
-unfolding worth making_of profile_by step_by lines_of deny policy_of_utf8 after_line orders_from answer_of edges_of taken stuck named_cycle from_earliest cycle_back first_refusal section interface block blocks_of options_of packet_head ng_out_bytes tags_len is_ipv4 is_ipv6 walk fates_among chains_after fates_of chains_behind report_bytes drop_text drop_lines total_line last_line ng_text summary done_text digits words is_changed change_sum has_same_places has_transport passes line_of function_text chain_lines copies_due copies_lines copies_made written_in graph_of placed holds_back is_forbidden branch_reads branch_writes touch_of stage_parts mode_of copies pair_of first_forbidden pairs actions all_actions is_copied copied
+unfolding worth making_of profile_by step_by lines_of deny policy_of_utf8 after_line orders_from answer_of edges_of taken stuck named_cycle from_earliest cycle_back first_refusal section interface block blocks_of options_of packet_head ng_out_bytes tags_len is_ipv4 is_ipv6 walk fates long cut_chain fates_among chains_after fates_of chains_behind report_bytes drop_text drop_lines total_line last_line ng_text summary done_text digits words is_changed change_sum has_same_places has_transport passes line_of function_text chain_lines copies_due copies_lines copies_through passed_on copies_made written_in graph_of placed holds_back is_forbidden branch_reads branch_writes touch_of stage_parts mode_of copies pair_of first_forbidden pairs actions all_actions is_copied copied
 cut = refl
 
 -- a first block that is cut leaves nothing to write
 cut_first : due_of_run (worth deny) (take 9 section) ≡ nothing_but (CaptureNg (CutBlock 1)) (codes "capture: cut block 1\n")
-unfolding worth making_of profile_by step_by lines_of deny policy_of_utf8 after_line orders_from answer_of edges_of taken stuck named_cycle from_earliest cycle_back first_refusal section interface block blocks_of options_of packet_head ng_out_bytes tags_len is_ipv4 is_ipv6 walk fates_among chains_after fates_of chains_behind report_bytes drop_text drop_lines total_line last_line ng_text summary done_text digits words is_changed change_sum has_same_places has_transport passes line_of function_text chain_lines copies_due copies_lines copies_made written_in graph_of placed holds_back is_forbidden branch_reads branch_writes touch_of stage_parts mode_of copies pair_of first_forbidden pairs actions all_actions is_copied copied
+unfolding worth making_of profile_by step_by lines_of deny policy_of_utf8 after_line orders_from answer_of edges_of taken stuck named_cycle from_earliest cycle_back first_refusal section interface block blocks_of options_of packet_head ng_out_bytes tags_len is_ipv4 is_ipv6 walk fates long cut_chain fates_among chains_after fates_of chains_behind report_bytes drop_text drop_lines total_line last_line ng_text summary done_text digits words is_changed change_sum has_same_places has_transport passes line_of function_text chain_lines copies_due copies_lines copies_through passed_on copies_made written_in graph_of placed holds_back is_forbidden branch_reads branch_writes touch_of stage_parts mode_of copies pair_of first_forbidden pairs actions all_actions is_copied copied
 cut_first = refl

@@ -37,13 +37,18 @@ use Rattle.nf_filter.specs.Lines.{line_of}
 use Rattle.nf_translate.specs.NatLines.{line_of as nat_line_of}
 use Rattle.nf_observe.specs.StateLines.{flow_line, endpoint_text}
 use Rattle.first_sight.specs.Addresses.{dotted}
+use Rattle.chain_walk.specs.Packets.{fates}
 use Rattle.chain_walk.specs.Walk.{walk}
 use Rattle.command_words.specs.declared.usage.UsageFault.TheVariants.{Merge}
 use Rattle.command_words.specs.Given.{given_by}
 use Rattle.nfp_run.specs.declared.outcome.Outcome.TheVariants.{Done, Usage, Policy, Capture}
 use Rattle.nfp_run.specs.Written.{both}
 use Rattle.nfp_run.specs.Due.{Due, due, due_of_plan, due_of_run, nothing_but}
+use Rattle.piece_walk.specs.PiecePackets.{passed}
+use Rattle.piece_walk.specs.Pieces.{long}
 use Rattle.service_walk.specs.Service.{fates_among, chains_after}
+use Rattle.segment_run.specs.Counting.{copies_through}
+use Rattle.chain_service.specs.Services.{cut}
 use Rattle.burst_walk.specs.Fates.{fates_of, chains_behind}
 use Rattle.capture_run.specs.Emitted.{emitted_all, out_bytes}
 use Rattle.capture_report.specs.FaultLines.{capture_text}
@@ -89,7 +94,7 @@ deny_written : due_of_run (worth deny) capture ≡ record {
   });
   note = codes "done records 3 emitted 2 dropped 1\n";
 }
-unfolding worth making_of profile_by step_by lines_of deny policy_of_utf8 after_line orders_from answer_of edges_of taken stuck named_cycle from_earliest cycle_back first_refusal head first ninth capture body_of head_bytes record_head tags_len is_ipv4 is_ipv6 walk fates_among chains_after fates_of chains_behind emitted_all out_bytes report_bytes drop_text drop_lines total_line last_line summary done_text digits words is_changed change_sum has_same_places has_transport passes line_of function_text chain_lines copies_due copies_lines copies_made written_in graph_of placed holds_back is_forbidden branch_reads branch_writes touch_of stage_parts mode_of copies pair_of first_forbidden pairs actions all_actions is_copied copied
+unfolding worth making_of profile_by step_by lines_of deny policy_of_utf8 after_line orders_from answer_of edges_of taken stuck named_cycle from_earliest cycle_back first_refusal head first ninth capture body_of head_bytes record_head tags_len is_ipv4 is_ipv6 walk fates long cut fates_among chains_after fates_of chains_behind emitted_all out_bytes report_bytes drop_text drop_lines total_line last_line summary done_text digits words is_changed change_sum has_same_places has_transport passes line_of function_text chain_lines copies_due copies_lines copies_through passed copies_made written_in graph_of placed holds_back is_forbidden branch_reads branch_writes touch_of stage_parts mode_of copies pair_of first_forbidden pairs actions all_actions is_copied copied
 deny_written = refl
 
 -- b stands before a, and denies what no rule of its own allows: only the second packet passes it, and a drops that
@@ -104,7 +109,7 @@ two_written : due_of_run (worth two) capture ≡ record {
   });
   note = codes "done records 3 emitted 0 dropped 3\n";
 }
-unfolding worth making_of profile_by step_by lines_of two policy_of_utf8 after_line orders_from answer_of edges_of taken stuck named_cycle from_earliest cycle_back first_refusal head first ninth capture body_of head_bytes record_head tags_len is_ipv4 is_ipv6 walk fates_among chains_after fates_of chains_behind emitted_all out_bytes report_bytes drop_text drop_lines total_line last_line summary done_text digits words is_changed change_sum has_same_places has_transport passes line_of function_text chain_lines copies_due copies_lines copies_made written_in graph_of placed holds_back is_forbidden branch_reads branch_writes touch_of stage_parts mode_of copies pair_of first_forbidden pairs actions all_actions is_copied copied
+unfolding worth making_of profile_by step_by lines_of two policy_of_utf8 after_line orders_from answer_of edges_of taken stuck named_cycle from_earliest cycle_back first_refusal head first ninth capture body_of head_bytes record_head tags_len is_ipv4 is_ipv6 walk fates long cut fates_among chains_after fates_of chains_behind emitted_all out_bytes report_bytes drop_text drop_lines total_line last_line summary done_text digits words is_changed change_sum has_same_places has_transport passes line_of function_text chain_lines copies_due copies_lines copies_through passed copies_made written_in graph_of placed holds_back is_forbidden branch_reads branch_writes touch_of stage_parts mode_of copies pair_of first_forbidden pairs actions all_actions is_copied copied
 two_written = refl
 
 -- cut inside the third record: the two before it are done, and the report ends with the fault
@@ -116,7 +121,7 @@ cut_written : due_of_run (worth deny) (head ++ (first ++ (ninth ++ take 30 first
   });
   note = codes "capture: cut record 3\n";
 }
-unfolding worth making_of profile_by step_by lines_of deny capture_text policy_of_utf8 after_line orders_from answer_of edges_of taken stuck named_cycle from_earliest cycle_back first_refusal head first ninth capture body_of head_bytes record_head tags_len is_ipv4 is_ipv6 walk fates_among chains_after fates_of chains_behind emitted_all out_bytes report_bytes drop_text drop_lines total_line last_line summary done_text digits words is_changed change_sum has_same_places has_transport passes line_of function_text chain_lines copies_due copies_lines copies_made written_in graph_of placed holds_back is_forbidden branch_reads branch_writes touch_of stage_parts mode_of copies pair_of first_forbidden pairs actions all_actions is_copied copied
+unfolding worth making_of profile_by step_by lines_of deny capture_text policy_of_utf8 after_line orders_from answer_of edges_of taken stuck named_cycle from_earliest cycle_back first_refusal head first ninth capture body_of head_bytes record_head tags_len is_ipv4 is_ipv6 walk fates long cut fates_among chains_after fates_of chains_behind emitted_all out_bytes report_bytes drop_text drop_lines total_line last_line summary done_text digits words is_changed change_sum has_same_places has_transport passes line_of function_text chain_lines copies_due copies_lines copies_through passed copies_made written_in graph_of placed holds_back is_forbidden branch_reads branch_writes touch_of stage_parts mode_of copies pair_of first_forbidden pairs actions all_actions is_copied copied
 cut_written = refl
 
 -- the second packet is dropped by the first function, which stands beside the other, and the others by that
@@ -131,7 +136,7 @@ beside_written : due_of_run (worth beside) capture ≡ record {
   });
   note = codes "done records 3 emitted 0 dropped 3\n";
 }
-unfolding worth making_of profile_by step_by lines_of beside policy_of_utf8 after_line orders_from answer_of edges_of taken stuck named_cycle from_earliest cycle_back first_refusal head first ninth capture body_of head_bytes record_head tags_len is_ipv4 is_ipv6 walk fates_among chains_after fates_of chains_behind emitted_all out_bytes report_bytes drop_text drop_lines total_line last_line summary done_text digits words is_changed change_sum has_same_places has_transport passes line_of function_text chain_lines copies_due copies_lines copies_made written_in graph_of placed holds_back is_forbidden branch_reads branch_writes touch_of stage_parts mode_of copies pair_of first_forbidden pairs actions all_actions is_copied copied
+unfolding worth making_of profile_by step_by lines_of beside policy_of_utf8 after_line orders_from answer_of edges_of taken stuck named_cycle from_earliest cycle_back first_refusal head first ninth capture body_of head_bytes record_head tags_len is_ipv4 is_ipv6 walk fates long cut fates_among chains_after fates_of chains_behind emitted_all out_bytes report_bytes drop_text drop_lines total_line last_line summary done_text digits words is_changed change_sum has_same_places has_transport passes line_of function_text chain_lines copies_due copies_lines copies_through passed copies_made written_in graph_of placed holds_back is_forbidden branch_reads branch_writes touch_of stage_parts mode_of copies pair_of first_forbidden pairs actions all_actions is_copied copied
 beside_written = refl
 
 -- A monitor in front of a firewall counts what that drops, too, and the report tells its flows in the order of first sight.
@@ -146,7 +151,7 @@ counting_written : due_of_run (worth counting) capture ≡ record {
   });
   note = codes "done records 3 emitted 2 dropped 1\n";
 }
-unfolding worth making_of profile_by step_by lines_of counting policy_of_utf8 after_line orders_from answer_of edges_of taken stuck named_cycle from_earliest cycle_back first_refusal head first ninth capture body_of head_bytes record_head tags_len is_ipv4 is_ipv6 walk fates_among chains_after fates_of chains_behind emitted_all out_bytes report_bytes drop_text drop_lines total_line last_line summary done_text digits words is_changed change_sum has_same_places has_transport passes line_of function_text chain_lines copies_due copies_lines copies_made written_in graph_of placed holds_back is_forbidden branch_reads branch_writes touch_of stage_parts mode_of copies pair_of first_forbidden pairs actions all_actions is_copied copied flow_line endpoint_text dotted ipv4_bits
+unfolding worth making_of profile_by step_by lines_of counting policy_of_utf8 after_line orders_from answer_of edges_of taken stuck named_cycle from_earliest cycle_back first_refusal head first ninth capture body_of head_bytes record_head tags_len is_ipv4 is_ipv6 walk fates long cut fates_among chains_after fates_of chains_behind emitted_all out_bytes report_bytes drop_text drop_lines total_line last_line summary done_text digits words is_changed change_sum has_same_places has_transport passes line_of function_text chain_lines copies_due copies_lines copies_through passed copies_made written_in graph_of placed holds_back is_forbidden branch_reads branch_writes touch_of stage_parts mode_of copies pair_of first_forbidden pairs actions all_actions is_copied copied flow_line endpoint_text dotted ipv4_bits
 counting_written = refl
 
 -- The clauses of both chains are met by the second packet, and the first chain takes it. The others meet the second chain's alone.
@@ -161,7 +166,7 @@ overlapping_written : due_of_run (worth overlapping) capture ≡ record {
   });
   note = codes "done records 3 emitted 0 dropped 3\n";
 }
-unfolding worth making_of profile_by step_by lines_of overlapping policy_of_utf8 after_line orders_from answer_of edges_of taken stuck named_cycle from_earliest cycle_back first_refusal head first ninth capture body_of head_bytes record_head tags_len is_ipv4 is_ipv6 walk fates_among chains_after fates_of chains_behind emitted_all out_bytes report_bytes drop_text drop_lines total_line last_line summary done_text digits words is_changed change_sum has_same_places has_transport passes line_of function_text chain_lines copies_due copies_lines copies_made written_in graph_of placed holds_back is_forbidden branch_reads branch_writes touch_of stage_parts mode_of copies pair_of first_forbidden pairs actions all_actions is_copied copied
+unfolding worth making_of profile_by step_by lines_of overlapping policy_of_utf8 after_line orders_from answer_of edges_of taken stuck named_cycle from_earliest cycle_back first_refusal head first ninth capture body_of head_bytes record_head tags_len is_ipv4 is_ipv6 walk fates long cut fates_among chains_after fates_of chains_behind emitted_all out_bytes report_bytes drop_text drop_lines total_line last_line summary done_text digits words is_changed change_sum has_same_places has_transport passes line_of function_text chain_lines copies_due copies_lines copies_through passed copies_made written_in graph_of placed holds_back is_forbidden branch_reads branch_writes touch_of stage_parts mode_of copies pair_of first_forbidden pairs actions all_actions is_copied copied
 overlapping_written = refl
 
 -- a frame of 14 bytes that is no IPv4, and its record
@@ -180,7 +185,7 @@ untaken_written : due_of_run (worth untaken) (head ++ (first ++ (other ++ ninth)
   });
   note = codes "done records 3 emitted 2 dropped 1\n";
 }
-unfolding worth making_of profile_by step_by lines_of untaken other policy_of_utf8 after_line orders_from answer_of edges_of taken stuck named_cycle from_earliest cycle_back first_refusal head first ninth capture body_of head_bytes record_head tags_len is_ipv4 is_ipv6 walk fates_among chains_after fates_of chains_behind emitted_all out_bytes report_bytes drop_text drop_lines total_line last_line summary done_text digits words is_changed change_sum has_same_places has_transport passes line_of function_text chain_lines copies_due copies_lines copies_made written_in graph_of placed holds_back is_forbidden branch_reads branch_writes touch_of stage_parts mode_of copies pair_of first_forbidden pairs actions all_actions is_copied copied
+unfolding worth making_of profile_by step_by lines_of untaken other policy_of_utf8 after_line orders_from answer_of edges_of taken stuck named_cycle from_earliest cycle_back first_refusal head first ninth capture body_of head_bytes record_head tags_len is_ipv4 is_ipv6 walk fates long cut fates_among chains_after fates_of chains_behind emitted_all out_bytes report_bytes drop_text drop_lines total_line last_line summary done_text digits words is_changed change_sum has_same_places has_transport passes line_of function_text chain_lines copies_due copies_lines copies_through passed copies_made written_in graph_of placed holds_back is_forbidden branch_reads branch_writes touch_of stage_parts mode_of copies pair_of first_forbidden pairs actions all_actions is_copied copied
 untaken_written = refl
 
 -- a chain without functions lets its packets pass
@@ -189,7 +194,7 @@ idle_written : due_of_run (worth (codes "nfp 1\nchain idle match src 10.0.0.9\n"
   written = both (record { out = capture; report = codes "nfp report 1\nrecords 3 emitted 3 dropped 0\nend\n" });
   note = codes "done records 3 emitted 3 dropped 0\n";
 }
-unfolding worth policy_of_utf8 after_line orders_from answer_of edges_of taken stuck named_cycle from_earliest cycle_back first_refusal head first ninth capture body_of head_bytes record_head tags_len is_ipv4 is_ipv6 walk fates_among chains_after fates_of chains_behind emitted_all out_bytes report_bytes drop_text drop_lines total_line last_line summary done_text digits words is_changed change_sum has_same_places has_transport passes line_of function_text chain_lines copies_due copies_lines copies_made written_in graph_of placed holds_back is_forbidden branch_reads branch_writes touch_of stage_parts mode_of copies pair_of first_forbidden pairs actions all_actions is_copied copied
+unfolding worth policy_of_utf8 after_line orders_from answer_of edges_of taken stuck named_cycle from_earliest cycle_back first_refusal head first ninth capture body_of head_bytes record_head tags_len is_ipv4 is_ipv6 walk fates long cut fates_among chains_after fates_of chains_behind emitted_all out_bytes report_bytes drop_text drop_lines total_line last_line summary done_text digits words is_changed change_sum has_same_places has_transport passes line_of function_text chain_lines copies_due copies_lines copies_through passed copies_made written_in graph_of placed holds_back is_forbidden branch_reads branch_writes touch_of stage_parts mode_of copies pair_of first_forbidden pairs actions all_actions is_copied copied
 idle_written = refl
 
 -- without chains every packet passes, and the report has the totals and the end alone
@@ -198,12 +203,12 @@ no_chains_written : due_of_run (worth (codes "nfp 1\n")) capture ≡ record {
   written = both (record { out = capture; report = codes "nfp report 1\nrecords 3 emitted 3 dropped 0\nend\n" });
   note = codes "done records 3 emitted 3 dropped 0\n";
 }
-unfolding worth policy_of_utf8 after_line orders_from answer_of edges_of taken stuck named_cycle from_earliest cycle_back first_refusal head first ninth capture body_of head_bytes record_head tags_len is_ipv4 is_ipv6 walk fates_among chains_after fates_of chains_behind emitted_all out_bytes report_bytes drop_text drop_lines total_line last_line summary done_text digits words is_changed change_sum has_same_places has_transport passes line_of function_text chain_lines copies_due copies_lines copies_made written_in graph_of placed holds_back is_forbidden branch_reads branch_writes touch_of stage_parts mode_of copies pair_of first_forbidden pairs actions all_actions is_copied copied
+unfolding worth policy_of_utf8 after_line orders_from answer_of edges_of taken stuck named_cycle from_earliest cycle_back first_refusal head first ninth capture body_of head_bytes record_head tags_len is_ipv4 is_ipv6 walk fates long cut fates_among chains_after fates_of chains_behind emitted_all out_bytes report_bytes drop_text drop_lines total_line last_line summary done_text digits words is_changed change_sum has_same_places has_transport passes line_of function_text chain_lines copies_due copies_lines copies_through passed copies_made written_in graph_of placed holds_back is_forbidden branch_reads branch_writes touch_of stage_parts mode_of copies pair_of first_forbidden pairs actions all_actions is_copied copied
 no_chains_written = refl
 
 -- the snaplen that is written where a capture with this snaplen runs through the chains of a text; 0 of a text that is refused
 grown_snaplen : ℕ → Result PolicyRead TextFault → ℕ
-grown_snaplen snaplen (Ok policy) = (written_head (record { declared = policy.chains; functions = [] }) (record { order = Little; unit = Micro; zone = 0; sigfigs = 0; snaplen = snaplen })).snaplen
+grown_snaplen snaplen (Ok policy) = (written_head (record { declared = policy.chains; names = []; pieces = [] }) (record { order = Little; unit = Micro; zone = 0; sigfigs = 0; snaplen = snaplen })).snaplen
 grown_snaplen snaplen (Err fault) = 0
 
 -- a frame of 65535 bytes and a tag more fit
@@ -219,6 +224,15 @@ taggers_of_both = refl
 no_tagger : grown_snaplen 65535 (policy_of_utf8 (codes "nfp 1\nchain main\nfn fw firewall\nfn u untagger\n")) ≡ 65535
 unfolding grown_snaplen policy_of_utf8 after_line
 no_tagger = refl
+
+-- an outer header of twenty bytes counts too, and what takes one off doesn't
+one_entry : grown_snaplen 65535 (policy_of_utf8 (codes "nfp 1\nchain main\nfn e encap\n")) ≡ 65555
+unfolding grown_snaplen policy_of_utf8 after_line
+one_entry = refl
+
+entry_tagger_and_exit : grown_snaplen 65535 (policy_of_utf8 (codes "nfp 1\nchain main\nfn t tagger\nfn e encap\nfn d decap\n")) ≡ 65559
+unfolding grown_snaplen policy_of_utf8 after_line
+entry_tagger_and_exit = refl
 
 -- there is no larger number of 32 bits
 largest_snaplen : grown_snaplen 4294967293 (policy_of_utf8 (codes "nfp 1\nchain main\nfn t tagger\n")) ≡ 4294967295

@@ -1,28 +1,30 @@
--- Believed: the head that is written: a tag makes a frame four bytes longer, and so the snaplen grows by four for each function that adds one.
-use Rattle.std.specs.Prelude.{ℕ, ◌+◌, ◌*◌, min, count_by, Bool}
+-- Believed: the head that is written: its snaplen grows by how many bytes longer the functions may make a frame.
+use Rattle.std.specs.Prelude.{ℕ, ◌+◌, min, if◌then◌else◌}
 use Rattle.std.specs.List.{sum_by}
 use Rattle.action_profile.specs.Profiles.{profile_of}
 use Rattle.action_profile.specs.declared.kind.Kind.{Kind}
+use Rattle.action_profile.specs.declared.kind.Kind.TheVariants.{Encap}
 use Rattle.pcap_io.specs.declared.capture.CaptureHead.{CaptureHead}
 use Rattle.policy_text.specs.declared.policy.ChainPolicy.{ChainPolicy}
 use Rattle.chain_service.specs.Services.{Chains}
 
--- a function of this kind adds a tag
-abbrev pub adds_tag : Kind → Bool
-adds_tag kind = (profile_of kind).adds
+-- how many bytes longer a function of this kind may make a frame: a tag has four (IEEE 802.1Q, 9.3), an outer header twenty (RFC 2003, 3.1)
+abbrev pub growth_by : Kind → ℕ
+growth_by Encap = 20
+growth_by kind = if (profile_of kind).adds then 4 else 0
 
--- how many functions of a chain add one
-abbrev pub adders_in : ChainPolicy → ℕ
-adders_in chain = count_by (λ f. adds_tag f.kind) chain.functions
+-- how many those of a chain may
+abbrev pub growth_in : ChainPolicy → ℕ
+growth_in chain = sum_by (λ f. growth_by f.kind) chain.functions
 
--- how many functions of all chains do
-abbrev pub adders_of : Chains → ℕ
-adders_of chains = sum_by adders_in chains.declared
+-- how many those of all chains may
+abbrev pub growth_among : Chains → ℕ
+growth_among chains = sum_by growth_in chains.declared
 
--- how many bytes longer they may make a frame, up to the largest number of 32 bits
+-- the same, up to the largest number of 32 bits
 abbrev pub growth_of : Chains → ℕ
-growth_of chains = min (4 * adders_of chains) 4294967295
+growth_of chains = min (growth_among chains) 4294967295
 
--- the head that was read, its snaplen grown by four for each of them, up to the largest number that a head has place for
+-- the head that was read, its snaplen grown by as much, up to the largest number that a head has place for
 abbrev pub written_head : Chains → CaptureHead → CaptureHead
-written_head chains head = record head { snaplen = min (head.snaplen + 4 * adders_of chains) 4294967295 }
+written_head chains head = record head { snaplen = min (head.snaplen + growth_among chains) 4294967295 }

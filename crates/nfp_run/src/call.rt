@@ -23,7 +23,7 @@ use std::thread::Threads;
 ///
 /// The policy is checked whole before anything else is touched. `run` leads each packet through the first chain whose clauses
 /// it meets, and lets one that no chain takes pass as it was read. It puts the capture of the packets that passed into Out, and
-/// into Report the line of each that was dropped, the totals, the copies that the graph of each chain made of each field, the
+/// into Report the line of each that was dropped, the totals, the copies that the graphs of each chain made of each field, the
 /// functions of each chain, and the capture's fault where it has one. The capture is read record by record, and written burst
 /// by burst, each of at most as many packets as `--burst` says. `demo` makes its own capture, runs it through its own policy, and touches
 /// no slot but Note. `flows` looks at no policy: it reads a classic capture record by record, counts its flows on as many workers as

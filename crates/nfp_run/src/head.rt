@@ -1,19 +1,20 @@
 //! The head of the capture that is written.
-ghost use Rattle.std.specs.Prelude.{◌≡◌, ◌+◌, ◌*◌, min, count_by};
+ghost use Rattle.std.specs.Prelude.{◌≡◌, ◌+◌, min};
 ghost use Rattle.std.specs.List.{sum_by};
 ghost use Rattle.chain_service.specs.Opening.{chains_of};
-ghost use Rattle.nfp_run.specs.Heads.{adds_tag, adders_in, growth_of, written_head};
+ghost use Rattle.nfp_run.specs.Heads.{growth_by, growth_in, growth_of, written_head};
 
-use action_profile::profile;
+use action_profile::{Kind, profile};
 use chain_service::{Service, ServiceChain};
 use pcap_io::CaptureHead;
-use policy_text::{ChainPolicy, FunctionDecl};
+use policy_text::FunctionDecl;
 
-// How many bytes a tag has (IEEE 802.1Q).
+// How many bytes a tag has (IEEE 802.1Q), and an outer header (RFC 2003).
 const TAG_LEN: u32 = 4;
 
-/// The head that is written where a capture with this head runs through the chains: each of their functions that adds a
-/// tag may make a frame longer by it.
+const OUTER_LEN: u32 = 20;
+
+/// The head that is written where a capture with this head runs through the chains, some of whose functions may make a frame longer.
 pub fn written_head(head: &CaptureHead, service: &Service) -> CaptureHead
     ensures { result ≡ written_head (chains_of service.now.chains) head.now }
 {
@@ -30,34 +31,35 @@ pub fn growth(service: &Service) -> u32
     grown(0, service.chains.as_slice())
 }
 
-// A snaplen in bytes, grown by a tag for each function of the chains that adds one.
+// A snaplen in bytes, grown by what the functions of the chains may add to a frame, up to the largest number.
 fn grown(snaplen: u32, chains: &[ServiceChain]) -> u32
-    ensures { result ≡ min (snaplen + 4 * sum_by (λ c. adders_in c.declared) chains.now) 4294967295 }
+    ensures { result ≡ min (snaplen + sum_by (λ c. growth_in c.declared) chains.now) 4294967295 }
 {
     let mut grown = snaplen;
     'chains: for chain in chains {
-        grown = grown.saturating_add(added_by(&chain.declared));
+        grown = grown_by(grown, chain.declared.functions.as_slice());
     }
     grown
 }
 
-// How many bytes the functions of a chain may add to a frame, up to the largest number.
-fn added_by(chain: &ChainPolicy) -> u32
-    ensures { result ≡ min (4 * adders_in chain.now) 4294967295 }
+// The same by these functions.
+fn grown_by(snaplen: u32, functions: &[FunctionDecl]) -> u32
+    ensures { result ≡ min (snaplen + sum_by (λ f. growth_by f.kind) functions.now) 4294967295 }
 {
-    u32::try_from(count_adders(chain.functions.as_slice()))
-        .unwrap_or(u32::MAX)
-        .saturating_mul(TAG_LEN)
+    let mut grown = snaplen;
+    'functions: for function in functions {
+        grown = grown.saturating_add(growth_by(function.kind));
+    }
+    grown
 }
 
-fn count_adders(functions: &[FunctionDecl]) -> usize
-    ensures { result ≡ count_by (λ f. adds_tag f.kind) functions.now }
+// How many bytes longer a function of this kind may make a frame.
+fn growth_by(kind: Kind) -> u32
+    ensures { result ≡ growth_by kind }
 {
-    functions.iter().filter(|f| adds_tag(f)).count()
-}
-
-fn adds_tag(function: &FunctionDecl) -> bool
-    ensures { result ≡ adds_tag function.now.kind }
-{
-    profile(function.kind).adds
+    match kind {
+        Kind::Encap => OUTER_LEN,
+        _ if profile(kind).adds => TAG_LEN,
+        _ => 0,
+    }
 }

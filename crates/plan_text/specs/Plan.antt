@@ -1,5 +1,5 @@
 -- Believed: the plan of a chain, as text.
-use Rattle.std.specs.Prelude.{ℕ, suc, ◌+◌, ◌-◌, List, [], ◌∷◌, ◌++◌, codes, map, slice_get, slice_index_or, if◌then◌else◌}
+use Rattle.std.specs.Prelude.{ℕ, suc, ◌+◌, ◌-◌, Bool, ◌||◌, List, [], ◌∷◌, ◌++◌, length, codes, map, slice_get, slice_index_or, if◌then◌else◌}
 use Rattle.std.specs.Fmt.{decimal}
 use Rattle.std.specs.List.{flat_map, list_any}
 use Rattle.std.specs.Option.{option_map_or}
@@ -27,6 +27,25 @@ profile_in functions place = option_map_or (λ f. profile_of f.kind) (slice_get 
 -- the profiles of the functions, in chain order
 abbrev pub profiles_in : List FunctionDecl → List ℕ → List Profile
 profiles_in functions order = map (profile_in functions) order
+
+-- the function at a place rewrites packets whole
+abbrev pub is_whole_at : List FunctionDecl → ℕ → Bool
+is_whole_at functions place = (profile_in functions place).whole
+
+-- a place in front of pieces: it stands in the first one, but where a function of the two rewrites packets whole
+abbrev pub with_place : List FunctionDecl → ℕ → List (List ℕ) → List (List ℕ)
+with_place functions place [] = (place ∷ []) ∷ []
+with_place functions place (piece ∷ later) =
+    if is_whole_at functions place || list_any (is_whole_at functions) piece then (place ∷ []) ∷ piece ∷ later else (place ∷ piece) ∷ later
+
+-- a chain, cut before and behind each function that rewrites packets whole
+unfoldable pub cut : List FunctionDecl → List ℕ → List (List ℕ)
+cut functions [] = []
+cut functions (place ∷ later) = with_place functions place (cut functions later)
+
+-- the stages of a piece, as if it were a chain
+abbrev pub stages_of : List FunctionDecl → List ℕ → List Stage
+stages_of functions piece = (graph_of (profiles_in functions piece)).stages
 
 -- texts of numbered things, the first with this number
 abbrev pub numbered : {X : Type 0} → (ℕ → X → List ℕ) → ℕ → List X → List ℕ
@@ -61,7 +80,13 @@ unfoldable pub stage_text : List FunctionDecl → List ℕ → ℕ → Stage →
 stage_text functions order number stage =
     line_of (codes "stage " ∷ decimal number ∷ []) ++ numbered (branch_text functions order) 1 stage.branches ++ flat_map (part_text stage.parts) all_fields
 
+-- the stages of pieces, numbered on through all of them, the first with this number
+unfoldable pub pieces_text : List FunctionDecl → ℕ → List (List ℕ) → List ℕ
+pieces_text functions number [] = []
+pieces_text functions number (piece ∷ later) =
+    numbered (stage_text functions piece) number (stages_of functions piece) ++ pieces_text functions (number + length (stages_of functions piece)) later
+
 -- the line of a chain, that of its functions in chain order, and its stages
 unfoldable pub chain_plan : ChainPolicy → List ℕ → List ℕ
 chain_plan chain order =
-    line_of (codes "chain " ∷ chain.name ∷ []) ++ line_of (codes "order" ∷ spaced (names_at chain.functions order) ∷ []) ++ numbered (stage_text chain.functions order) 1 (graph_of (profiles_in chain.functions order)).stages
+    line_of (codes "chain " ∷ chain.name ∷ []) ++ line_of (codes "order" ∷ spaced (names_at chain.functions order) ∷ []) ++ pieces_text chain.functions 1 (cut chain.functions order)

@@ -1,6 +1,6 @@
 //! The functions of a chain, in chain order.
 ghost use Rattle.std.specs.Prelude.{◌≡◌, ◌<◌, ◌≤◌, length, All, IfOk};
-ghost use Rattle.plan_text.specs.Plan.{profile_in, profiles_in, name_in};
+ghost use Rattle.plan_text.specs.Plan.{profile_in, profiles_in, is_whole_at, name_in};
 
 use action_profile::{Profile, profile};
 use policy_text::{FunctionDecl, name_at};
@@ -27,6 +27,16 @@ fn profile_in(functions: &[FunctionDecl], place: u32) -> Profile
     ensures { result ≡ profile_in functions.now place }
 {
     profile(functions[place as usize].kind)
+}
+
+/// Does the function at a place rewrite packets whole?
+pub(crate) fn is_whole_at(functions: &[FunctionDecl], place: u32) -> bool
+    ensures { result ≡ is_whole_at functions.now place }
+{
+    match functions.get(place as usize) {
+        Some(function) => profile(function.kind).whole,
+        None => false,
+    }
 }
 
 /// The name of the function at a position of the chain, which counts from 1; none past its end.

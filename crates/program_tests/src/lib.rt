@@ -28,3 +28,5 @@ mod rows;
 mod runs;
 #[cfg(test)]
 mod states;
+#[cfg(test)]
+mod tunnels;

@@ -1,4 +1,3 @@
-use Rattle.std.proofs.Common.{subst}
 use Rattle.capture_run.specs.Putting.{no_memory}
 use Rattle.capture_run.specs.declared.fault.RunFault.TheVariants.{OutOfMemory}
 use Rattle.capture_run.proofs.HandingOn.{handed_on}
@@ -19,6 +18,6 @@ returns-in_err-put_block-clause-err g c = handed_on c.from_residual-in_err-put_b
 
 pub returns-clause-ok : goal.returns-clause-ok
 returns-clause-ok g c =
-    takes_block g.W.Sink.spelled c.args.cutter.now c.cut_now.new.self c.args.beside.now.items c.run_held.new.beside.items c.args.block c.in_ok-burst.burst.items c.args.passage c.in_ok-passage.passage c.put_block.new.writer
+    takes_block c.bursts_are_counted_in_a_row.ensures.row g.W.Sink.spelled c.args.cutter.now c.cut_now.new.self c.args.beside.now.items c.run_held.new.beside.items c.args.block c.in_ok-burst.burst.items c.args.passage c.in_ok-passage.passage c.put_block.new.writer
     (g.D.Desk.slots c.args.desk.now) (g.D.Desk.slots c.run_held.new.desk) (g.D.Desk.slots c.put_block.new.desk) c.in_ok-burst.ensures.closed c.in_ok-burst.ensures.burst c.in_ok-passage.ensures.none_left c.in_ok-passage.ensures.told c.in_ok-passage.ensures.ok
     c.in_ok-put_block.ensures.spelling c.in_ok-put_block.ensures.ok

@@ -10,7 +10,7 @@ pub records-init : goal.records-init
 records-init g c = at_begins _ _ _ _ _ _ _ c.args.burst _ _ c.requires.new c.in_ok-cutter.ensures c.new-beside.ensures.items c.requires.fresh c.requires.open
 
 pub records-preserved : goal.records-preserved
-records-preserved g c = at_goes_on _ _ _ _ _ _ _ _ _ _ _ _ _ _ _ c.in-Ok-Some.given _ (g.D.Desk.slots c.records.desk) (g.D.Desk.slots c.next.new.desk) _ c.records.invariant
+records-preserved g c = at_goes_on c.bursts_are_counted_in_a_row.ensures.row _ _ _ _ _ _ _ _ _ _ _ _ _ _ _ c.in-Ok-Some.given _ (g.D.Desk.slots c.records.desk) (g.D.Desk.slots c.next.new.desk) _ c.records.invariant
     (rw c.in-Ok-Some.field-0-is at c.in-Ok-Some.ensures.given) c.in-Ok-Some.ensures.stays_open c.next.ensures.later c.next.ensures.name c.next.ensures.others c.in-Ok.ensures.ok c.take.ensures.others
 
 pub returns-in-Err-take-clause-err : goal.returns-in-Err-take-clause-err
@@ -19,7 +19,7 @@ returns-in-Err-take-clause-err g c = at_take_break _ _ _ _ _ _ _ _ _ _ _ _ c.in-
 
 pub returns-in-Ok-None-clause-ok : goal.returns-in-Ok-None-clause-ok
 returns-in-Ok-None-clause-ok g c = IfOk-weaker c.end.result _ _
-    (λ run ends. at_end _ _ _ _ _ _ _ _ _ _ run _ (g.D.Desk.slots c.records.desk) (g.D.Desk.slots c.next.new.desk) _ c.records.invariant (rw c.in-Ok-None.field-0-is at c.in-Ok-None.ensures.end) c.next.ensures.later c.next.ensures.others ends)
+    (λ run ends. at_end c.bursts_are_counted_in_a_row.ensures.row _ _ _ _ _ _ _ _ _ _ run _ (g.D.Desk.slots c.records.desk) (g.D.Desk.slots c.next.new.desk) _ c.records.invariant (rw c.in-Ok-None.field-0-is at c.in-Ok-None.ensures.end) c.next.ensures.later c.next.ensures.others ends)
     c.end.ensures.ok
 
 pub returns-in-Ok-None-clause-err : goal.returns-in-Ok-None-clause-err
@@ -29,7 +29,7 @@ returns-in-Ok-None-clause-err g c = IfErr-weaker c.end.result _ _
 
 pub returns-in-Err-clause-ok : goal.returns-in-Err-clause-ok
 returns-in-Err-clause-ok g c = IfOk-weaker c.stop.result _ _
-    (λ run ends. at_stop _ _ _ _ _ _ _ _ _ _ c.in-Err.refusal run _ (g.D.Desk.slots c.records.desk) (g.D.Desk.slots c.next.new.desk) _ c.records.invariant (λ fault is. c.in-Err.ensures.refused fault (ap Err is)) c.next.ensures.later c.next.ensures.others ends)
+    (λ run ends. at_stop c.bursts_are_counted_in_a_row.ensures.row _ _ _ _ _ _ _ _ _ _ c.in-Err.refusal run _ (g.D.Desk.slots c.records.desk) (g.D.Desk.slots c.next.new.desk) _ c.records.invariant (λ fault is. c.in-Err.ensures.refused fault (ap Err is)) c.next.ensures.later c.next.ensures.others ends)
     c.stop.ensures.ok
 
 pub returns-in-Err-clause-err : goal.returns-in-Err-clause-err

@@ -1,7 +1,0 @@
-use Rattle.std.proofs.Common.{◌≡◌, ◌+◌, ◌++◌, drop}
-use Rattle.plan_text.specs.Plan.{numbered, stage_text}
-use Rattle.plan_text.proofs.plan.put_stages.Given as goal
-
--- the stages so far, and those of the rest
-abbrev pub invariant-stages : goal.invariant-stages
-invariant-stages l = l.out.items ++ numbered (stage_text l.functions l.order) (l.index + 1) (drop l.index l.stages) ≡ l.fn.out.items ++ numbered (stage_text l.functions l.order) 1 l.stages
