@@ -66,7 +66,7 @@ def written(capture, frames, growth):
 
 
 def written_record(record, frame):
-    """The original length changes by what tags change of the frame's, which nothing else does."""
+    """The original length changes by what tags and the headers of tunnels change of the frame's, which nothing else does. It stops at the ends of 32 bits."""
     return b'' if frame is None else record.spell(in_32_bits(record.original + len(frame) - len(record.frame)), frame)
 
 

@@ -27,6 +27,7 @@ from frames import (
     Capture,
     arp_request,
     asked_neighbour,
+    carried,
     echo,
     echo6,
     ethernet,
@@ -539,6 +540,39 @@ def provider_edge():
     ]
 
 
+def two_sites():
+    """What was seen at the gateway of a site, of which another one is reached by a tunnel over a provider, and how many bytes of it were captured."""
+    here, there, resolver, web, mail = OFFICE, '10.2.4.20', '10.2.0.53', '10.2.0.80', '10.2.0.25'
+    gateway, other_gateway, stranger = '192.0.2.1', '198.51.100.1', SCANNER
+
+    def came(source, content, to=here, sender=other_gateway, outer=None, **fields):
+        return plain(sender, carried(ipv4(source, to, content, **fields)), to=gateway, **outer or {})
+
+    question, long_page = udp(40001, 53, QUERY), page(50123)
+    return [
+        ('DNS query for the other site', plain(here, question, to=resolver), None),
+        ('its answer, out of the tunnel', came(resolver, udp(53, 40001, ANSWER)), None),
+        ('TCP SYN for a server of the other site, which mustn\'t be split', plain(here, tcp(50123, 443, SYN), to=web, is_unsplit=True), None),
+        ('its answer, marked with tos 8', came(web, tcp(443, 50123, SYN | ACK), tos=8, outer={'tos': 8}), None),
+        ('a web page of 1,500 bytes for the other site, cut by the snaplen', plain(here, long_page, to=there), None),
+        ('one from there, cut by the snaplen', came(web, long_page), None),
+        ('mail for the other site', plain(here, tcp(50124, 25, SYN), to=mail), None),
+        ('a packet at its last hop', plain(here, question, to=resolver, ttl=1), None),
+        ('a later fragment for the other site', plain(here, udp(40002, 5000, b'r' * 64), to=there, offset=1480), None),
+        ('a ping with options', plain(here, echo(1), to=there, options=RECORD_ROUTE), None),
+        ('the same, cut inside its options', plain(here, echo(2), to=there, options=RECORD_ROUTE), 40),
+        ('DNS query with a wrong header checksum', miscounted(plain(here, question, to=resolver), IPV4_SUM), None),
+        ('DNS query of a machine in VLAN 20', plain(here, question, to=resolver, tags=tag(VLAN_TAG, 20)), None),
+        ('somebody else sends into the tunnel', came(there, udp(40003, 53, QUERY), sender=stranger), None),
+        ('out of the tunnel for a network that isn\'t here', came(there, udp(40004, 53, QUERY), to='10.9.0.1'), None),
+        ('the first fragment of what went into the tunnel', came(web, long_page, outer={'more': True}), None),
+        ('IPv6 in IPv4 for the gateway', plain(other_gateway, (41, lambda *_: ipv6('2001:db8:2::20', '2001:db8:1::20', echo6(1))), to=gateway), None),
+        ('DNS query for a resolver outside', plain(here, question, to=RESOLVER), None),
+        ('IPv6 ping', ping6(), None),
+        ('ARP request of an office machine', arp_request(here, '10.1.0.1'), None),
+    ]
+
+
 def noted():
     """What a help desk saved of a gateway's two sides with its notes, and behind it what a probe outside saw, each with a clock of its own."""
     lan, wan = 0, 1
@@ -601,6 +635,7 @@ MADE = {
     'two-interfaces': blocks.Capture(noted()),
     'voice-marking': Capture('<', MICRO, 262144, [(n * 180_503, *record) for n, record in enumerate(calls())]),
     'redacted-secret': Capture('<', MICRO, 262144, [(n * 180_503, *record) for n, record in enumerate(logins())]),
+    'tunnel': Capture('<', MICRO, 96, [(n * 180_503, *record) for n, record in enumerate(two_sites())]),
     'tenant-tags': Capture('<', MICRO, 96, [(n * 180_503, *record) for n, record in enumerate(provider_edge())]),
     'plan': None,
 }

@@ -55,8 +55,8 @@ class Drop(typing.NamedTuple):
 
 class Change(typing.NamedTuple):
     field: str
-    before: bytes
-    after: bytes
+    before: typing.Optional[bytes]  # None where the packet had no such field, as behind an end of a tunnel
+    after: typing.Optional[bytes]
 
 
 class Step(typing.NamedTuple):
@@ -117,7 +117,10 @@ class Walk:
             packet.is_changed = False
         if not passes:
             function.dropped += 1
-            self.drops.append(Drop(self.record, function, cause, source_of(packet)))
+            # Behind an end of a tunnel the packet has another header than it was read with.
+            frame = self.records[self.record - 1].frame
+            came = packet if packet.read is frame else packet_rules.Packet(frame, packet.time)
+            self.drops.append(Drop(self.record, function, cause, source_of(came)))
 
     def slowly(self, number, record):
         """The fate of the packet whose way is told."""
@@ -128,8 +131,9 @@ class Walk:
         def look(name, cause, passes, packet):
             self.look(name, cause, passes, packet)
             after = fields_of(packet)
-            changes = [Change(field, before[field], after[field]) for field in after if before[field] != after[field]]
+            changes = [Change(field, before.get(field), after.get(field)) for field in policy_rules.FIELDS if before.get(field) != after.get(field)]
             steps.append(Step(self.functions[name], cause, passes, changes))
+            before.clear()
             before.update(after)
 
         fate = self.chains.fate(record.frame, record.time, look)
@@ -165,7 +169,7 @@ class Walk:
         place, number, fates = 0, 0, iter(self.fates)
         for part in self.capture.parts:
             if isinstance(part, capture_rules.Other):
-                place, owner = place + len(part.spell(4 * self.chains.taggers)), None
+                place, owner = place + len(part.spell(self.chains.growth)), None
             else:
                 fate, number = next(fates), number + 1
                 place, owner = place + len(capture_rules.written_record(part, None if fate.drop else fate.frame)), number

@@ -49,6 +49,9 @@ SPELLED = {
 
 
 def spelled(field, value):
+    """A value of a field, or an empty text where there is none."""
+    if value is None:
+        return ''
     return SPELLED[field](value) if field in SPELLED else str(packet_rules.number(value))
 
 
@@ -63,7 +66,13 @@ def data_text(data, begin):
     return f"'{letters}'" + ('..' if begin + LONGEST_DATA < len(data) else '')
 
 
+def value_text(field, value):
+    return data_text(value, 0) if field == 'payload' else spelled(field, value)
+
+
 def change_text(change):
+    if None in change:
+        return f'{change.field} {" -> ".join("absent" if value is None else value_text(change.field, value) for value in change[1:])}'
     if change.field != 'payload':
         return f'{change.field} {spelled(*change[:2])} -> {spelled(change.field, change.after)}'
     at = next(at for at, (was, now) in enumerate(zip(change.before, change.after)) if was != now)
@@ -192,7 +201,7 @@ def all_lines(walk):
 
 def way_lines(way):
     yield f'record {way.record}: {counted(len(way.frame), "byte")}'
-    yield from (f'  {field} {data_text(value, 0) if field == "payload" else spelled(field, value)}' for field, value in way.fields.items())
+    yield from (f'  {field} {value_text(field, value)}' for field, value in way.fields.items())
     if way.fate.chain is None:
         yield 'no chain takes it: it goes out as it was read'
         return

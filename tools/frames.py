@@ -11,7 +11,7 @@ FIRST_SECOND = 1_700_000_000
 
 VLAN_TAG, SERVICE_TAG = 0x8100, 0x88A8
 TYPE_IPV4, TYPE_ARP, TYPE_IPV6, TYPE_PPPOE = 0x0800, 0x0806, 0x86DD, 0x8864
-ICMP, TCP, UDP, ICMP6 = 1, 6, 17, 58
+ICMP, IP_IN_IP, TCP, UDP, ICMP6 = 1, 4, 6, 17, 58
 
 GATEWAY, STATION = bytes.fromhex('020000000001'), bytes.fromhex('020000000002')
 BROADCAST = b'\xff' * 6
@@ -86,14 +86,14 @@ def asked_neighbour(target):
 SYN, ACK, PUSH_ACK = 0x02, 0x10, 0x18
 
 
-def ipv4(source, destination, content, options=b'', offset=0, more=False, lead=None, tos=0, ttl=64):
-    """A whole packet, RFC 791. `lead` stands in the place of the first byte, which is version and header length."""
+def ipv4(source, destination, content, options=b'', offset=0, more=False, is_unsplit=False, lead=None, tos=0, ttl=64):
+    """A whole packet, RFC 791. `lead` stands in the place of the first byte, which is version and header length; one that is unsplit mustn't be split."""
     protocol, segment = content
     source, destination = address(source), address(destination)
     body = segment(source, destination)
     words = 5 + len(options) // 4
     first = 0x40 + words if lead is None else lead
-    fragment = offset // 8 + (0x2000 if more else 0)
+    fragment = offset // 8 + (0x2000 if more else 0) + (0x4000 if is_unsplit else 0)
     head = struct.pack('>BBHHHBB', first, tos, 4 * words + len(body), 0x1234, fragment, ttl, protocol)
     total = internet_checksum(head + b'\0\0' + source + destination + options)
     return head + struct.pack('>H', total) + source + destination + options + body
@@ -119,6 +119,11 @@ def ipv6(source, destination, content, ttl=64, traffic_class=0, payload_length=N
     first = 0x60 + (traffic_class >> 4) if lead is None else lead
     head = struct.pack('>BBHHBB', first, (traffic_class & 0xF) << 4, 0, len(body) if payload_length is None else payload_length, protocol, ttl)
     return head + source + destination + body
+
+
+def carried(packet):
+    """A packet of IPv4 as what stands in another one, RFC 2003."""
+    return IP_IN_IP, lambda *_: packet
 
 
 def tag(kind, vlan, priority=0):

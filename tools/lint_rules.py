@@ -126,10 +126,10 @@ def unreached(walk):
 
 
 def limited(walk):
-    """The limiters behind the first function that writes sources."""
+    """The limiters behind the first function that writes sources, where none before them rewrites packets whole, so that another source may be seen behind it."""
     for at, function in enumerate(walk):
         writer = next((other for other in walk[:at] if 'src' in policy_rules.KINDS[other.kind][1].split()), None)
-        if function.kind == 'limiter' and writer:
+        if function.kind == 'limiter' and writer and not any(policy_rules.is_whole(other.kind) for other in walk[:at]):
             yield Finding('limiter-behind', function.line, writer.line)
 
 

@@ -2,6 +2,7 @@
 
 It is a second account of what the program is proved to do, and shares nothing with it. A packet walks through the
 functions of its chain one after another; no stage or branch plays a part, but for the copies that a plan costs.
+Before and behind one that rewrites it whole its checksums follow what was written, and it is seen anew.
 docs/POLICY.md says the same in words. How captures are read and written stands in capture_rules.py.
 """
 
@@ -30,6 +31,7 @@ class Header(typing.NamedTuple):
 
     version: int
     begin: int
+    size: int  # of the IP header, as it tells it
     proto: typing.Optional[int]  # None where it wasn't captured
     length: typing.Optional[int]  # of the packet with its header, None where it wasn't captured or takes more than 16 bits
     transport: typing.Optional[int]  # None where there is none, as in a later fragment
@@ -76,7 +78,7 @@ def header_of(frame, place):
     is_first = version == 6 or number(frame[begin + 6 : begin + 8]) & 0x1FFF == 0
     has_transport = proto in (TCP, UDP) and length is not None and is_first and size <= length
     end = len(frame) if length is None else min(len(frame), begin + length)
-    return Header(version, begin, proto, length, begin + size if has_transport else None, end)
+    return Header(version, begin, size, proto, length, begin + size if has_transport else None, end)
 
 
 def fields_of(frame, behind_tags, header):
@@ -252,6 +254,11 @@ def sealed(packet):
         adjust_sums(packet, frame)
     begin, end = packet.places.get('tag', (0, 0))
     return bytes(frame[:begin]) + packet.get('tag') + bytes(frame[end:]) if 'tag' in packet.written else bytes(frame)
+
+
+def frame_of(packet):
+    """The frame with what was written into it, or as it was read."""
+    return sealed(packet) if packet.written else packet.read
 
 
 def adjust_sums(packet, after):
@@ -537,6 +544,59 @@ class Untagger(Stateless):
         return True
 
 
+# The ends of tunnels (RFC 2003), which rewrite a packet whole.
+
+IN_IP = 4  # the protocol of a packet of IPv4 in one
+LONGEST_INSIDE = 65535 - 20
+
+
+def has_header(packet):
+    """Whether a packet has a header of IPv4 that was captured whole."""
+    header = packet.header
+    return header is not None and header.version == 4 and header.begin + header.size <= len(packet.read)
+
+
+def with_right_sum(header):
+    """A header of 20 bytes, whose checksum is 0 yet, with the right one. The sum of its words isn't 0, so with end-around carry it isn't either."""
+    total = (sum(words_of(header)) - 1) % 0xFFFF + 1
+    return header[:10] + (0xFFFF - total).to_bytes(2, 'big') + header[12:]
+
+
+class Tunnel(Function):
+    """What both ends have. A step gives the frame that leaves it."""
+
+    def step(self, packet):
+        """A packet passes always; what left it is in `frame`."""
+        self.cause = NOTHING
+        self.frame = self.rewritten(packet, packet.read) if has_header(packet) else packet.read
+        return True
+
+
+class Encap(Tunnel):
+    def __init__(self, said):
+        self.entry, self.exit, self.ttl = (only(said, 'set', key) for key in ('entry', 'exit', 'ttl'))
+
+    def rewritten(self, packet, frame):
+        header, begin = packet.header, packet.header.begin
+        if header.length is None or not header.size <= header.length <= LONGEST_INSIDE:
+            return frame
+        lead = struct.pack('>BBHHBBBBH', 0x45, frame[begin + 1], header.length + 20, 0, frame[begin + 6] & 0x40, 0, self.ttl, IN_IP, 0)
+        return frame[:begin] + with_right_sum(lead + self.entry.packed + self.exit.packed) + frame[begin:]
+
+
+class Decap(Tunnel):
+    def __init__(self, said):
+        self.exit = only(said, 'set', 'exit')
+
+    def rewritten(self, packet, frame):
+        header, begin = packet.header, packet.header.begin
+        inside = begin + header.size
+        is_fragment = number(frame[begin + 6 : begin + 8]) & 0x3FFF != 0
+        is_for_it = header.proto == IN_IP and frame[begin + 16 : begin + 20] == self.exit.packed and not is_fragment
+        is_inside = header.length is not None and header.size < header.length and frame[inside : inside + 1] >= b'\x40' and frame[inside : inside + 1] <= b'\x4f'
+        return frame[:begin] + frame[inside:] if is_for_it and is_inside else frame
+
+
 KINDS = {
     'firewall': Firewall,
     'signature': Signature,
@@ -550,10 +610,21 @@ KINDS = {
     'redactor': Redactor,
     'tagger': Tagger,
     'untagger': Untagger,
+    'encap': Encap,
+    'decap': Decap,
 }
 
 
 # Chains of them, and what is written.
+
+
+class Piece(typing.NamedTuple):
+    """Functions between two cuts of a chain, or one that rewrites packets whole."""
+
+    names: list
+    is_whole: bool
+    stages: list  # the names in each
+    copied: list  # how many copies a packet costs in each, by their fields
 
 
 class Chain:
@@ -562,14 +633,33 @@ class Chain:
         self.kinds = {each.name: each.kind for each in policy.functions}
         self.functions = {each.name: KINDS[each.kind](policy_rules.read_settings(each)) for each in policy.functions}
         self.copies = dict.fromkeys(policy_rules.FIELDS, 0)
-        kinds = [self.kinds[name] for name in order]
-        stages = policy_rules.stages_of(kinds)
-        self.stages = [{order[place] for branch in stage for place in branch} for stage in stages]
-        self.copied = [copied_in([[kinds[place] for place in branch] for branch in stage]) for stage in stages]
+        self.pieces = [self.piece(places) for places in policy_rules.pieces_of([self.kinds[name] for name in order])]
+
+    def piece(self, places):
+        kinds = [self.kinds[name] for name in self.order]
+        stages = policy_rules.stages_in(kinds, places)
+        copied = [copied_in([[kinds[place] for place in branch] for branch in stage]) for stage in stages]
+        names = [{self.order[place] for branch in stage for place in branch} for stage in stages]
+        return Piece([self.order[place] for place in places], policy_rules.is_whole(kinds[places[0]]), names, copied)
 
     def walk(self, packet, look=None):
-        """The name of the function that drops the packet, which is written, or None. Who looks is told what each function did."""
-        for name in self.order:
+        """The name of the function that drops the packet, or None, and the packet as the last piece that it entered left it. Who looks is told what
+        each function did."""
+        for place, piece in enumerate(self.pieces):
+            if place:
+                packet = Packet(frame_of(packet), packet.time)
+            if piece.is_whole:
+                packet = self.rewritten(piece, packet, look)
+                continue
+            drop = self.walk_in(piece, packet, look)
+            self.count_copies(piece, packet, drop)
+            if drop:
+                return drop, packet
+        return None, packet
+
+    def walk_in(self, piece, packet, look):
+        """The name of the function of a piece that drops the packet, which is written, or None."""
+        for name in piece.names:
             function = self.functions[name]
             passes = function.step(packet)
             if look:
@@ -578,9 +668,20 @@ class Chain:
                 return name
         return None
 
-    def count_copies(self, packet, drop):
+    def rewritten(self, piece, packet, look):
+        """A packet as the one function of this piece rewrites it."""
+        (name,) = piece.names
+        function = self.functions[name]
+        function.step(packet)
+        after = Packet(function.frame, packet.time)
+        after.is_changed = function.frame != packet.read
+        if look:
+            look(name, function.cause, True, after)
+        return after
+
+    def count_copies(self, piece, packet, drop):
         """A copy is made when a packet enters a stage, which it does up to the one in which it is dropped."""
-        for stage, copied in zip(self.stages, self.copied):
+        for stage, copied in zip(piece.stages, piece.copied):
             for field, count in copied.items():
                 self.copies[field] += count if field in packet.places else 0
             if drop in stage:
@@ -610,7 +711,8 @@ class Chains:
     def __init__(self, checked):
         self.all = [Chain(chain, order) for chain, order in checked]
         self.first = FirstMet([chain.clauses for chain in self.all])
-        self.taggers = [kind for chain in self.all for kind in chain.kinds.values()].count('tagger')
+        kinds = [kind for chain in self.all for kind in chain.kinds.values()]
+        self.growth = 4 * kinds.count('tagger') + 20 * kinds.count('encap')  # the most bytes by which frames get longer
 
     def fate(self, frame, time, look=None):
         """The first chain whose clauses the frame meets, as it was read, takes it; else it passes as it is."""
@@ -619,9 +721,8 @@ class Chains:
         if place is None:
             return Fate(None, None, frame)
         chain = self.all[place]
-        drop = chain.walk(packet, look)
-        chain.count_copies(packet, drop)
-        return Fate(chain.name, drop, sealed(packet) if packet.written else frame)
+        drop, packet = chain.walk(packet, look)
+        return Fate(chain.name, drop, frame_of(packet))
 
 
 class Answer(typing.NamedTuple):
@@ -668,6 +769,6 @@ def answered(chains, capture, fates, fault):
     dropped = emitted.count(None)
     total = f'records {len(fates)} emitted {len(fates) - dropped} dropped {dropped}'
     report = ''.join(f'{line}\n' for line in report_of(chains.all, fates, total, fault))
-    # There has to be room for a tag of each tagger.
-    out = capture_rules.written(capture, emitted, 4 * chains.taggers)
+    # There has to be room for a tag of each tagger and a header of each encap.
+    out = capture_rules.written(capture, emitted, chains.growth)
     return Answer([record.frame for record in capture.records], fates, out, report, fault or f'done {total}', 3 if fault else 0)

@@ -7,7 +7,8 @@ behind it where that counts: `, 500 bytes` for its length with the IP header, `,
 traffic class 184` and `, payload length 0` of an IPv6 header, `, data ..` for what UDP or TCP carry, `, tags 100 and 7 pcp 5` for the
 VLAN ids of its tags from the outermost on, with priorities that aren't 0, and `, cut to 20 bytes` for what was captured of the frame; `,
 a later fragment`, without ports, `, behind a routing header` and the like for an extension header of IPv6, and `, in MPLS` and the like
-for what it stands in. What becomes of it is told in the same words.
+for what it stands in, `, in a tunnel from 192.0.2.1 to 192.0.2.2` for an IPv4 packet in another of these addresses. What becomes of it is told in
+the same words, and of what comes `out of the tunnel` its ends.
 """
 
 import re
@@ -35,6 +36,7 @@ MORE = {
     'data': re.compile('data `(.*)`'),
     'fragment': re.compile('(a later fragment)'),
     'behind': re.compile('behind a (hop-by-hop|routing|fragment|destination) header'),
+    'tunnel': re.compile(r'in a tunnel (from [0-9.]+ to [0-9.]+)'),
     'inside': re.compile('in (PPPoE|MPLS|LLC|GRE|IPv4|VXLAN|a tag of type 0x9100)'),
 }
 
@@ -68,6 +70,7 @@ def frame_of(text):
     said = more_of(parts)
     tags = b''.join(frames.tag(frames.VLAN_TAG, int(vlan), int(priority or 0)) for vlan, priority in re.findall(TAG, said.get('tags', '')))
     frame = OTHERS[what](tags) if what in OTHERS else packet_of(what, said, tags)
+    frame = in_tunnel(frame, *said['tunnel'].split(' ')[1::2]) if 'tunnel' in said else frame
     return INSIDE[said['inside']](frame) if 'inside' in said else frame, int(said['cut']) if 'cut' in said else None
 
 
@@ -88,6 +91,12 @@ def behind(ether_type, header):
 def tunnelled(content):
     """A frame of IPv4 with another in it."""
     return lambda frame: frames.plain('198.51.100.1', content(frame), to='198.51.100.2')
+
+
+def in_tunnel(frame, entry, end):
+    """A frame with its packet of IPv4 in another one (RFC 2003)."""
+    header = packet_rules.header_of(frame, packet_rules.type_place(frame))
+    return frames.plain(entry, frames.carried(frame[header.begin : header.end]), to=end, tags=frame[12 : header.begin - 2])
 
 
 # What a packet may stand in, where no rule sees it, and the frame that has it there.
@@ -204,15 +213,44 @@ def fate_text(frame, fate):
     """What becomes of a packet, as the page spells it."""
     if fate.drop is not None:
         return 'is dropped'
-    before, after = (packet_rules.Packet(each, 0) for each in (frame, fate.frame))
-    changed = {field for field in before.places if before.get(field) != after.get(field)}
-    parts = [ends_text(fate.frame)] if changed & {'src', 'dst', 'sport', 'dport'} else []
+    before, after = layers_of(frame), layers_of(fate.frame)
+    entered = max(len(after) - len(before), 0)
+    parts = [f'in a tunnel {tunnel_text(layer)}' for layer in after[:entered]]
+    if len(after) < len(before):
+        # (of a packet that was cut off before its addresses nothing more is told)
+        parts += ['out of the tunnel'] + ([ends_text(fate.frame)] if packet_rules.Packet(fate.frame, 0).has('src', 'dst') else [])
+    was, now = before[max(len(before) - len(after), 0)], after[entered]
+    return ', '.join(parts + changes_of(was, now, len(after) >= len(before))) or 'passes'
+
+
+def layers_of(frame):
+    """A frame, and as long as a packet of IPv4 stands in one the frame without the outer one."""
+    layers = [frame]
+    while True:
+        header = packet_rules.Packet(layers[-1], 0).header
+        inside = header and header.begin + header.size
+        if header is None or header.version != 4 or header.proto != packet_rules.IN_IP or not b'\x45' <= layers[-1][inside : inside + 1] <= b'\x4f':
+            return layers
+        layers.append(layers[-1][: header.begin] + layers[-1][inside:])
+
+
+def tunnel_text(frame):
+    """The ends of a tunnel, and what its header says else."""
+    packet = packet_rules.Packet(frame, 0)
+    tos, ttl = (packet_rules.number(packet.get(field)) for field in ('tos', 'ttl'))
+    return f'{ends_text(frame)} with ttl {ttl}' + (f' and tos {tos}' if tos else '')
+
+
+def changes_of(was, now, tells_ends):
+    """What changed from one frame to the other."""
+    before, after = (packet_rules.Packet(each, 0) for each in (was, now))
+    changed = {field for field in before.places if before.get(field) != after.got(field)}
+    parts = [ends_text(now)] if tells_ends and changed & {'src', 'dst', 'sport', 'dport'} else []
     if changed & {'link-dst', 'link-src'}:
         parts.append('to {} from {}'.format(*(after.get(field).hex(':') for field in ('link-dst', 'link-src'))))
     parts += [f'{field} {packet_rules.number(after.get(field))}' for field in ('tos', 'ttl') if field in changed]
     parts += [tags_text(after.get('tag'))] if 'tag' in changed else []
-    parts += ['data `{}`'.format(after.get('payload').decode('ascii'))] if 'payload' in changed else []
-    return ', '.join(parts) or 'passes'
+    return parts + (['data `{}`'.format(after.get('payload').decode('ascii'))] if 'payload' in changed else [])
 
 
 def tags_text(tags):

@@ -110,9 +110,11 @@ def has(kind, what):
 
 
 def waiting_cause(first, second):
-    """Which fields the first kind writes and the second reads, and whether the first drops what the second would count."""
+    """Which fields the first kind writes and the second reads, whether the first drops what the second would count, and which of them rewrites packets
+    whole, the second or else the first."""
     fields = [field for field in policy_rules.FIELDS if field in writes(first) and field in reads(second)]
-    return ' '.join(fields), has(first, 'drop') and has(second, 'state')
+    rewriting = 'second' if has(second, 'whole') else 'first' if has(first, 'whole') else ''
+    return ' '.join(fields), has(first, 'drop') and has(second, 'state'), rewriting
 
 
 def waiting_lines(name, others, kinds):
@@ -122,8 +124,9 @@ def waiting_lines(name, others, kinds):
         cause = waiting_cause(kinds[other], kinds[name])
         if any(cause):
             alike.setdefault(cause, []).append(other)
-    for (fields, counts), names in alike.items():
-        why = [f'reads {fields}, which {listed(names)} {verb(names, "writes", "write")}'] if fields else []
+    for (fields, counts, rewriting), names in alike.items():
+        why = {'second': ['rewrites packets whole'], 'first': [f'sees packets as {listed(names)} {verb(names, "leaves", "leave")} them']}.get(rewriting, [])
+        why += [f'reads {fields}, which {listed(names)} {verb(names, "writes", "write")}'] if fields else []
         why += [f'keeps a state, and {listed(names)} may drop'] if counts else []
         yield f'{name} behind {listed(names)}: it {", and ".join(why)}'
 

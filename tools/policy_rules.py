@@ -27,6 +27,8 @@ KINDS = {
     'redactor': ('payload', 'payload', ''),
     'tagger': ('tag src', 'tag', ''),
     'untagger': ('tag', 'tag', ''),
+    'encap': ('', '', 'whole'),
+    'decap': ('', '', 'whole'),
 }
 
 
@@ -295,6 +297,14 @@ def link_address(word):
     return bytes.fromhex(word.replace(':', ''))
 
 
+def hops(word):
+    """A time to live that isn't 0."""
+    number = numeral(word, 255)
+    if number == 0:
+        raise ValueError(word)
+    return number
+
+
 def pattern(data):
     if not 1 <= len(data) <= 256:
         raise ValueError(data)
@@ -371,10 +381,12 @@ LINES = {
     'redactor': PATTERNS,
     'tagger': {('rule', 'vid'): pushed_tag},
     'untagger': {},
+    'encap': {('set', 'entry'): one(address), ('set', 'exit'): one(address), ('set', 'ttl'): one(hops)},
+    'decap': {('set', 'exit'): one(address)},
 }
 
 # The kinds each of whose lines has to stand in a declaration once or more.
-COMPLETE = {'nat', 'balancer', 'limiter'}
+COMPLETE = {'nat', 'balancer', 'limiter', 'encap', 'decap'}
 
 
 def backends_apart(said):
@@ -427,7 +439,7 @@ def forbidden(first, second):
     """The first two actions that forbid the second kind to stand beside the first, which is before it, or None."""
     for a in actions(first):
         for b in actions(second):
-            if (a, b) == ('drop', 'state') or a.startswith('write ') and b == a.replace('write', 'read'):
+            if 'whole' in (a, b) or (a, b) == ('drop', 'state') or a.startswith('write ') and b == a.replace('write', 'read'):
                 return a, b
     return None
 
@@ -487,12 +499,32 @@ def check(text):
 # The plan of a chain: stages of branches, which are lists of places in the chain, and the parts of each stage.
 
 
-def stages_of(kinds):
-    """The stages of a chain of these kinds. The functions are taken one after another, each into the last stage if it can be."""
-    stages = []
+def is_whole(kind):
+    """Whether functions of this kind rewrite a packet whole, so that none stands beside them."""
+    return 'whole' in actions(kind)
+
+
+def pieces_of(kinds):
+    """The places of a chain of these kinds, cut before and behind each one that rewrites packets whole."""
+    pieces = []
     for place, kind in enumerate(kinds):
+        if not pieces or is_whole(kind) or is_whole(kinds[place - 1]):
+            pieces.append([])
+        pieces[-1].append(place)
+    return pieces
+
+
+def stages_of(kinds):
+    """The stages of a chain of these kinds, piece by piece."""
+    return [stage for piece in pieces_of(kinds) for stage in stages_in(kinds, piece)]
+
+
+def stages_in(kinds, places):
+    """The stages of a piece. The functions are taken one after another, each into the last stage if it can be."""
+    stages = []
+    for place in places:
         stage = stages[-1] if stages else []
-        behind = [branch for branch in stage if any(forbidden(kinds[other], kind) for other in branch)]
+        behind = [branch for branch in stage if any(forbidden(kinds[other], kinds[place]) for other in branch)]
         if not stages or len(behind) > 1:
             stages.append([[place]])
         elif behind:

@@ -87,6 +87,11 @@ def some_link(rng):
     return ':'.join(f'{rng.randrange(256):02x}' for _ in range(6))
 
 
+def some_exit(rng):
+    """Mostly of one tunnel, so that packets come to its end."""
+    return some_address(rng) if rng.randrange(4) == 0 else '203.0.113.66'
+
+
 def nat_lines(rng):
     low = rng.choice([1, 40000, 65535])
     return [f'set inside {some_prefix4(rng)}', f'set public {some_address(rng)}', f'set ports {low}-{min(low + rng.randrange(3), 65535)}']
@@ -117,6 +122,8 @@ LINES = {
         f'rule vid {rng.choice([0, 7, 4095])} pcp {rng.randrange(8)}{some_clauses(rng, ("src",))}' for _ in range(rng.randrange(3))
     ],
     'untagger': lambda rng: [],
+    'encap': lambda rng: [f'set entry {some_address(rng)}', f'set exit {some_exit(rng)}', f'set ttl {rng.choice([1, 2, 64, 255])}'],
+    'decap': lambda rng: [f'set exit {some_exit(rng)}'],
 }
 
 
@@ -185,6 +192,13 @@ def with_sum(rng, frame, at):
     return frame[:at] + struct.pack('>H', rng.choice([0, 0xFFFF, there ^ 1, rng.randrange(65536)])) + frame[at + 2 :]
 
 
+def with_tunnel(rng, packet, tags):
+    """A packet of IPv4, or something else, in one that goes to the exit of a tunnel, or somewhere else."""
+    inside = rng.choice([packet, packet, packet, b'', b'\x60' + packet[1:], b'\x4f'])
+    content = rng.choice([4, 4, 4, 4, 41, 17]), lambda *_: inside
+    return frames.plain(some_address(rng), content, to=some_exit(rng), tags=tags, **rng.choice([{}, {}, {}, {}, *UNUSUAL]))
+
+
 def made_frame(rng):
     is_ipv4 = rng.randrange(2) == 0
     made, address, unusual = (frames.plain, some_address, UNUSUAL) if is_ipv4 else (frames.plain6, some_address6, UNUSUAL6)
@@ -195,6 +209,8 @@ def made_frame(rng):
     if content[0] in (frames.TCP, frames.UDP) and rng.randrange(4) == 0:
         header, own = len(tags) + (34 if is_ipv4 else 54), 16 if content[0] == frames.TCP else 6
         frame = with_sum(rng, frame, header + own)
+    if is_ipv4 and rng.randrange(6) == 0:
+        frame = with_tunnel(rng, frame[len(tags) + 14 :], tags)
     others = [frames.arp_request(some_address(rng), some_address(rng)), frames.ping6(), b'', b'\0' * 13, frame[: rng.randrange(len(frame) + 1)]]
     return frame if rng.randrange(8) else rng.choice(others)
 
@@ -325,7 +341,7 @@ OF_BYTES = [flip_bit, flip_bit, set_byte, cut, cut_front, double, delete, insert
 
 WORDS = sorted(
     {*policy_rules.KINDS, *policy_rules.CLAUSES, *'nfp chain fn set rule order priority position before > first last match allow deny default'.split()}
-    | set('inside public ports vip backend rate burst tos to from vid pcp text hex tcp udp none 1 a a-b A _ - 10.0.0.0/8 0-65535 2001:db8::/32 ::'.split())
+    | set('inside public ports vip backend rate burst entry exit tos to from vid pcp text hex tcp udp none 1 a a-b A _ - 10.0.0.0/8 0-65535 2001:db8::/32 ::'.split())
 )
 
 

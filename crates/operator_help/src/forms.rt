@@ -29,7 +29,17 @@ pub fn forms_of(kind: Kind) -> &'static str {
         Kind::Marker => "  rule tos 0-255 CLAUSE ..",
         Kind::Nexthop => "  rule PREFIX to MAC from MAC",
         Kind::Tagger => "  rule vid 0-4095 pcp 0-7 CLAUSE ..",
+        Kind::Encap => "  set entry IPV4-ADDRESS\n  set exit IPV4-ADDRESS\n  set ttl 1-255",
+        Kind::Decap => "  set exit IPV4-ADDRESS",
         Kind::Monitor | Kind::Hop | Kind::Untagger => "",
+    }
+}
+
+/// What stands before the name of this kind where it is spoken of.
+pub fn article_of(kind: Kind) -> &'static str {
+    match kind {
+        Kind::Encap | Kind::Untagger => "an",
+        _ => "a",
     }
 }
 
@@ -52,6 +62,8 @@ pub fn required_of(kind: Kind) -> &'static str {
         Kind::Nat => "set inside, set public and set ports",
         Kind::Balancer => "set vip and at least one rule backend",
         Kind::Limiter => "set rate and set burst",
+        Kind::Encap => "set entry, set exit and set ttl",
+        Kind::Decap => "set exit",
         _ => "nothing",
     }
 }

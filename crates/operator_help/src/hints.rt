@@ -11,6 +11,8 @@ const ICMP: &str = "ICMP has the number 1, so write `proto 1`";
 
 const IGMP: &str = "IGMP has the number 2, so write `proto 2`";
 
+const IPIP: &str = "IP in IP has the number 4, so write `proto 4`";
+
 const GRE: &str = "GRE has the number 47, so write `proto 47`";
 
 const ESP: &str = "ESP has the number 50, so write `proto 50`";
@@ -31,6 +33,7 @@ pub fn hint_of(word: &[u8]) -> &'static str {
         b"any" | b"all" | b"*" => ANY,
         b"icmp" | b"ICMP" => ICMP,
         b"igmp" => IGMP,
+        b"ipip" | b"ipencap" => IPIP,
         b"gre" => GRE,
         b"esp" => ESP,
         b"icmp6" | b"icmpv6" | b"ipv6-icmp" => ICMP6,

@@ -1,20 +1,20 @@
 //! What is wrong with the lines of a function.
 
-use crate::forms::{best_misfit, clauses_of, forms_of, required_of};
+use crate::forms::{article_of, best_misfit, clauses_of, forms_of, required_of};
 use crate::hints::hint_of;
 use crate::lines::{Row, last_before, place_of, row_at, rows_behind};
 use crate::page::Page;
 use crate::policy::{PolicyText, quote_row, say_forms};
 use action_profile::Kind;
 
-const MISSING: &str = "a line is missing that a {} can't be without, or it is wrong: it needs {}";
+const MISSING: &str = "a line is missing that {} {} can't be without, or it is wrong: it needs {}";
 
 const OTHER_VERSION: &str =
     "a server has an address of the same version of IP as the one that is set: of IPv4 or of IPv6";
 
-const LINES: &str = "the lines of a {} are:";
+const LINES: &str = "the lines of {} {} are:";
 
-const NO_LINES: &str = "a {} has no line `set` or `rule`";
+const NO_LINES: &str = "{} {} has no line `set` or `rule`";
 
 const TWICE: &str = "it is set already, in line {}; take one of the two lines away";
 
@@ -45,6 +45,7 @@ pub fn kind_at(rows: &[Row<'_>], place: usize) -> Option<Kind> {
 pub fn say_kind_forms(page: &mut Page, kind: Kind) {
     let forms = forms_of(kind);
     page.tell(if forms.is_empty() { NO_LINES } else { LINES });
+    page.say(article_of(kind));
     page.say(kind.name());
     if !forms.is_empty() {
         say_forms(page, forms, clauses_of(kind));
@@ -56,6 +57,7 @@ pub fn say_kind_forms(page: &mut Page, kind: Kind) {
 fn bad_function(page: &mut Page, name: &str, row: Row<'_>, behind: &[Row<'_>], kind: Kind) {
     quote_row(page, name, row, None);
     page.tell(MISSING);
+    page.say(article_of(kind));
     page.say(kind.name());
     page.say(required_of(kind));
     for row in behind {

@@ -1,6 +1,7 @@
 -- Each finding means what it says.
 use Rattle.std.proofs.Common.{◌≡◌, ◌∙◌, ℕ, List, [], ◌∷◌, ◌++◌, length, map, Bool, true, false, refl, sym, ap, subst, append_assoc, Some, None, cond}
 use Rattle.std.specs.Prelude.{◌&&◌, ◌==◌, nat_le, not, find, Option, All, slice_get, if◌then◌else◌}
+use Rattle.std.specs.List.{list_any}
 use Rattle.std.specs.Option.{option_map, option_map_or, option_to_list}
 use Rattle.std.proofs.lemmas.Bool.{eqb-true, leb-true}
 use Rattle.std.proofs.lemmas.List.Elements.{All-nil, All-cons, All-append}
@@ -13,7 +14,7 @@ use Rattle.policy_lint.specs.declared.finding.Finding.TheVariants.{LimiterBehind
 use Rattle.policy_lint.specs.declared.nats.NatLines.{NatLines}
 use Rattle.policy_lint.specs.declared.versions.Version.{Version}
 use Rattle.policy_lint.specs.declared.versions.Version.TheVariants.{Ipv4, Ipv6}
-use Rattle.policy_lint.specs.Behind.{is_at, line_at, told_unreached, unreached, writes_source, limits, told_behind, limited_behind}
+use Rattle.policy_lint.specs.Behind.{is_at, line_at, told_unreached, unreached, writes_source, limits, is_whole, told_behind, limited_behind}
 use Rattle.policy_lint.specs.Findings.{chain_asking, rule_asking, covered_in, order_at, told_at, findings}
 use Rattle.policy_lint.specs.Firewalls.{default_of, is_firewall, drops_by, drops_all}
 use Rattle.policy_lint.specs.Gathering.{Asking, gathered, cover_of, told_of, covered}
@@ -150,14 +151,14 @@ module _ (chains : List ChainPolicy) (orders : List Order) (before : List ChainP
       by false drops later = later
 
   -- a limiter behind one that writes sources
-  told_limiter : (front : List ℕ) (place : ℕ) (back : List ℕ) → order_at orders (length before) ≡ front ++ place ∷ back → (b : Bool) (o : Option ℕ) → is_at limits chain.functions place ≡ b → find (is_at writes_source chain.functions) front ≡ o →
+  told_limiter : (front : List ℕ) (place : ℕ) (back : List ℕ) → order_at orders (length before) ≡ front ++ place ∷ back → (b : Bool) (o : Option ℕ) → (is_at limits chain.functions place && not (list_any (is_at is_whole chain.functions) front)) ≡ b → find (is_at writes_source chain.functions) front ≡ o →
       All (Means chains orders) (option_to_list (if b then option_map (λ writer. LimiterBehind (line_at chain.functions place) (line_at chain.functions writer)) o else None))
   told_limiter front place back of false o limited found = All-nil (Means chains orders)
   told_limiter front place back of true None limited found = All-nil (Means chains orders)
   told_limiter front place back of true (Some writer) limited found =
       let one = find_one (is_at writes_source chain.functions) front writer found in
       let writes = there writes_source chain.functions writer one.1 in
-      let limits = there limits chain.functions place limited in
+      let limits = there limits chain.functions place (both_true (is_at limits chain.functions place) (not (list_any (is_at is_whole chain.functions) front)) limited).0 in
       one_told (Means chains orders) (LimiterBehind (line_at chain.functions place) (line_at chain.functions writer)) (record {
         behind = behind writer place (record { before = front; after = back; is = of; among = one.0 });
         writer = writes.0;
@@ -170,7 +171,7 @@ module _ (chains : List ChainPolicy) (orders : List Order) (before : List ChainP
 
   all_limited : All (Means chains orders) (limited_behind chain.functions (order_at orders (length before)))
   all_limited = all_gathered (Means chains orders) (λ front place. option_to_list (told_behind chain.functions front place)) (order_at orders (length before))
-      (λ front place back of. told_limiter front place back of (is_at limits chain.functions place) (find (is_at writes_source chain.functions) front) refl refl)
+      (λ front place back of. told_limiter front place back of (is_at limits chain.functions place && not (list_any (is_at is_whole chain.functions) front)) (find (is_at writes_source chain.functions) front) refl refl)
       [] (order_at orders (length before)) refl
 
   all_told : All (Means chains orders) (told_at orders before chain)

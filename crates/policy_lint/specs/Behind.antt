@@ -1,6 +1,7 @@
 -- For proofs: what is told of functions that stand behind others in the order of their chain. A place is that of a function as declared, counted from 0.
-use Rattle.std.specs.Prelude.{ℕ, List, [], ◌∷◌, Bool, true, false, map, find, if◌then◌else◌, slice_get, Option, None}
+use Rattle.std.specs.Prelude.{ℕ, List, [], ◌∷◌, Bool, true, false, not, ◌&&◌, map, find, if◌then◌else◌, slice_get, Option, None}
 use Rattle.std.specs.Option.{option_map, option_map_or, option_to_list}
+use Rattle.std.specs.List.{list_any}
 use Rattle.packet_fields.specs.declared.field.Field.TheVariants.{SrcIp}
 use Rattle.action_profile.specs.Profiles.{profile_of, writes_of}
 use Rattle.action_profile.specs.declared.kind.Kind.{Kind}
@@ -37,10 +38,14 @@ is_limiter kind = false
 abbrev pub limits : FunctionDecl → Bool
 limits decl = is_limiter decl.kind
 
--- a limiter, behind the first that writes sources
+-- it rewrites packets whole, so that another source may be seen behind it
+abbrev pub is_whole : FunctionDecl → Bool
+is_whole decl = (profile_of decl.kind).whole
+
+-- a limiter, behind the first that writes sources, where no function before it rewrites packets whole
 abbrev pub told_behind : List FunctionDecl → List ℕ → ℕ → Option Finding
 told_behind functions before place =
-    if is_at limits functions place
+    if is_at limits functions place && not (list_any (is_at is_whole functions) before)
     then option_map (λ writer. LimiterBehind (line_at functions place) (line_at functions writer)) (find (is_at writes_source functions) before)
     else None
 

@@ -1,7 +1,8 @@
 //! Functions that stand behind others in the order of their chain. A place is that of a function as declared, counted from 0.
 ghost use Rattle.std.specs.Prelude.{◌≡◌, ◌++◌, map, find, OnOk, IfOk};
 ghost use Rattle.std.specs.Option.{option_copied, option_to_list};
-ghost use Rattle.policy_lint.specs.Behind.{is_at, line_at, told_unreached, unreached, writes_source, is_limiter, limits, told_behind, limited_behind};
+ghost use Rattle.std.specs.List.{list_any};
+ghost use Rattle.policy_lint.specs.Behind.{is_at, line_at, told_unreached, unreached, writes_source, is_limiter, limits, is_whole, told_behind, limited_behind};
 ghost use Rattle.policy_lint.specs.Firewalls.{drops_all};
 
 use crate::asking::push_one;
@@ -90,13 +91,29 @@ pub fn push_limited(
 fn told_behind(functions: &[FunctionDecl], before: &[u32], place: u32) -> Option<Finding>
     ensures { result ≡ told_behind functions.now before.now place }
 {
-    if !limits_at(functions, place) {
+    if !limits_at(functions, place) || has_whole(functions, before) {
         return None;
     }
     let writer = writer_in(functions, before)?;
     let line = line_at(functions, place);
     let by = line_at(functions, writer);
     Some(Finding::LimiterBehind { line, by })
+}
+
+// Does the function at one of these places rewrite packets whole?
+fn has_whole(functions: &[FunctionDecl], places: &[u32]) -> bool
+    ensures { result ≡ list_any (is_at is_whole functions.now) places.now }
+{
+    places.iter().any(|place| is_whole_at(functions, *place))
+}
+
+fn is_whole_at(functions: &[FunctionDecl], place: u32) -> bool
+    ensures { result ≡ is_at is_whole functions.now place }
+{
+    match functions.get(place as usize) {
+        Some(decl) => profile(decl.kind).whole,
+        None => false,
+    }
 }
 
 // The first of these places whose function writes sources.

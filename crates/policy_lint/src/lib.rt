@@ -11,7 +11,8 @@
 //! [`addresses_keep_to_their_version`].
 //!
 //! A policy has no finding where none of this is there; it may still be odd in another way. Which version of IP a packet has, and
-//! what a chain's earlier functions leave of it, isn't looked at.
+//! what a chain's earlier functions leave of it, isn't looked at. Of a limiter that stands behind an end of a tunnel nothing is told, since another
+//! source may be seen there.
 #![tactic(auto)]
 
 mod asking;
