@@ -8,9 +8,9 @@ use Rattle.clap.specs.Faults.{is_simple_and_free}
 use Rattle.clap.specs.Walk.{Row, Rule, Text, first_of, idle, nothing_held, rows_after, walk}
 use Rattle.command_words.specs.Apps.{run_app, plan_app, demo_app, flows_app, run_names, plan_names, demo_names, flows_names}
 use Rattle.command_words.specs.Given.{all_differ, contains, value_given}
-use Rattle.command_words.specs.Words.{flows_options, run_options}
+use Rattle.command_words.specs.Words.{demo_options, flows_options, plan_options, run_options}
 use Rattle.command_words.specs.Roles.{Role, anything, is_fit, is_whole, names_in, option_names, options_in, roles}
-use Rattle.command_words.proofs.Table.{Indexed, HasIds, app_with, by_long, by_short, demo_ids, demo_indexed, flows_ids, flows_indexed, id_found, no_default_fault, no_defaults, plan_indexed, required_names, run_ids, run_indexed, table}
+use Rattle.command_words.proofs.Table.{Indexed, HasIds, app_with, by_long, by_short, demo_ids, demo_indexed, flows_ids, flows_indexed, id_found, no_default_fault, no_defaults, plan_ids, plan_indexed, required_names, run_ids, run_indexed, table}
 use Rattle.command_words.proofs.Walking.{Agrees, AllUtf8, Rests, Serves, Use, agrees, fails, placed, rows_for}
 use Rattle.command_words.proofs.Placing.{AllDiffer, Before, Fits, NoneHas, NoneIsOption, fits, is_whole_from, roles_give, value_is}
 
@@ -91,12 +91,12 @@ run_reads words u = reads_table run_app.top.name run_names run_options run_ids r
     ((refl, (refl, (refl, tt))), ((refl, (refl, tt)), ((refl, tt), (tt, tt)))) (refl, (refl, (refl, (refl, tt)))) words u
 
 pub plan_reads : (words : List Text) → AllUtf8 words
-    → Reads plan_names [] (fault_of plan_app words) (matches_of plan_app words) (roles [] anything words) (is_whole 1 (roles [] anything words))
-plan_reads words u = reads_table plan_app.top.name plan_names [] tt plan_indexed (tt, tt) (refl, tt) words u
+    → Reads plan_names plan_options (fault_of plan_app words) (matches_of plan_app words) (roles plan_options anything words) (is_whole 1 (roles plan_options anything words))
+plan_reads words u = reads_table plan_app.top.name plan_names plan_options plan_ids plan_indexed (tt, tt) (refl, tt) words u
 
 pub demo_reads : (words : List Text) → AllUtf8 words
-    → Reads demo_names run_options (fault_of demo_app words) (matches_of demo_app words) (roles run_options anything words) (is_whole 2 (roles run_options anything words))
-demo_reads words u = reads_table demo_app.top.name demo_names run_options demo_ids demo_indexed
+    → Reads demo_names demo_options (fault_of demo_app words) (matches_of demo_app words) (roles demo_options anything words) (is_whole 2 (roles demo_options anything words))
+demo_reads words u = reads_table demo_app.top.name demo_names demo_options demo_ids demo_indexed
     ((refl, tt), (tt, tt)) (refl, (refl, tt)) words u
 
 pub flows_reads : (words : List Text) → AllUtf8 words

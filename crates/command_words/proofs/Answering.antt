@@ -9,11 +9,11 @@ use Rattle.command_words.specs.declared.usage.UsageFault.TheVariants as fault
 use Rattle.command_words.specs.declared.usage.WordsFault.{WordsFault}
 use Rattle.command_words.specs.declared.usage.WordsFault.TheVariants as error
 use Rattle.command_words.specs.Apps.{demo_names, flows_names, plan_names, run_names}
-use Rattle.command_words.specs.Matched.{Matches, demo_read, flow_options_have_text, flows_read, four_names, given_has_text, options_have_text, plan_read, run_read}
+use Rattle.command_words.specs.Matched.{Matches, demo_read, flow_options_have_text, flows_read, four_names, given_has_text, options_have_text, plan_read, run_options_have_text, run_read}
 use Rattle.command_words.specs.Named.{ReadsWords}
 use Rattle.command_words.specs.Roles.{Role, anything, gives, is_fit, is_whole, name, names_in, opens, option_names, options_in, roles, separator, unfit}
 use Rattle.command_words.specs.Given.{Given, Word, all_differ, contains, given_by, has_text, value_given}
-use Rattle.command_words.specs.Words.{Answer, Plan, answer_by, demo_by, demo_of, flows_by, flows_of, flows_options, plan_by, plan_of, run_by, run_of, run_options}
+use Rattle.command_words.specs.Words.{Answer, PlanFiles, answer_by, demo_by, demo_of, demo_options, flows_by, flows_of, flows_options, plan_by, plan_of, plan_options, plan_with, run_by, run_of, run_options}
 use Rattle.command_words.proofs.Givens.{fit_given, given_of, same_given, sieved, texts}
 use Rattle.command_words.proofs.Placing.{GivesOnly, eq_sym, roles_give}
 use Rattle.command_words.proofs.Table.{same_text}
@@ -165,39 +165,47 @@ values_have_text known (o ∷ os) only e =
 
 options_are : (options : List (Word × Word))
     → options_have_text (value_given (codes "mergers") options) (value_given (codes "burst") options) (value_given (codes "merge") options)
-    ≡ given_texts options run_options
+    ≡ given_texts options demo_options
 options_are options = ap (λ t. given_has_text (value_given (codes "mergers") options) && (given_has_text (value_given (codes "burst") options) && t))
     (sym (and_true (given_has_text (value_given (codes "merge") options))))
 
-run_is : (a b c d m n o : Option Word) (names : List Word) (options : List (Word × Word)) → a ∷ b ∷ c ∷ d ∷ [] ≡ map Some names
+run_options_are : (options : List (Word × Word))
+    → run_options_have_text (value_given (codes "mergers") options) (value_given (codes "burst") options) (value_given (codes "merge") options)
+    (value_given (codes "graph") options) ≡ given_texts options run_options
+run_options_are options = ap (λ t. given_has_text (value_given (codes "mergers") options) && (given_has_text (value_given (codes "burst") options)
+    && (given_has_text (value_given (codes "merge") options) && t))) (sym (and_true (given_has_text (value_given (codes "graph") options))))
+
+run_is : (a b c d m n o g : Option Word) (names : List Word) (options : List (Word × Word)) → a ∷ b ∷ c ∷ d ∷ [] ≡ map Some names
     → m ≡ value_given (codes "mergers") options → n ≡ value_given (codes "burst") options → o ≡ value_given (codes "merge") options
-    → run_read (four_names a b c d) m n o ≡ cond (list_all has_text names && given_texts options run_options) (run_by names options) (Err fault.Words)
-run_is a b c d m n o [] options e em en eo = cc
-run_is a b c d m n o (p ∷ []) options e em en eo = cc
-run_is a b c d m n o (p ∷ q ∷ []) options e em en eo = cc
-run_is a b c d m n o (p ∷ q ∷ r ∷ []) options e em en eo = cc
-run_is a b c d m n o (p ∷ q ∷ r ∷ s ∷ t ∷ ts) options e em en eo = cc
-run_is a b c d m n o (p ∷ q ∷ r ∷ s ∷ []) options e em en eo =
+    → g ≡ value_given (codes "graph") options
+    → run_read (four_names a b c d g) m n o ≡ cond (list_all has_text names && given_texts options run_options) (run_by names options) (Err fault.Words)
+run_is a b c d m n o g [] options e em en eo eg = cc
+run_is a b c d m n o g (p ∷ []) options e em en eo eg = cc
+run_is a b c d m n o g (p ∷ q ∷ []) options e em en eo eg = cc
+run_is a b c d m n o g (p ∷ q ∷ r ∷ []) options e em en eo eg = cc
+run_is a b c d m n o g (p ∷ q ∷ r ∷ s ∷ t ∷ ts) options e em en eo eg = cc
+run_is a b c d m n o g (p ∷ q ∷ r ∷ s ∷ []) options e em en eo eg =
     let ea : a ≡ Some p = cc in
     let eb : b ≡ Some q = cc in
     let ec : c ≡ Some r = cc in
     let ed : d ≡ Some s = cc in
-    rw (ea, eb, ec, ed, em, en, eo) (ap (λ t. cond (list_all has_text (p ∷ q ∷ r ∷ s ∷ []) && t) (run_by (p ∷ q ∷ r ∷ s ∷ []) options) (Err fault.Words))
-    (options_are options))
+    rw (ea, eb, ec, ed, em, en, eo, eg) (ap (λ t. cond (list_all has_text (p ∷ q ∷ r ∷ s ∷ []) && t) (run_by (p ∷ q ∷ r ∷ s ∷ []) options) (Err fault.Words))
+    (run_options_are options))
 
-plan_is : (a : Option Word) (names : List Word) (options : List (Word × Word)) → a ∷ [] ≡ map Some names
-    → plan_read a ≡ cond (list_all has_text names && given_texts options []) (plan_by names options) (Err fault.Words)
-plan_is a [] options e = cc
-plan_is a (p ∷ q ∷ qs) options e = cc
-plan_is a (p ∷ []) options e = let ea : a ≡ Some p = cc in rw ea (go (has_text p))
-  where
-    go : (b : Bool) → cond b (Ok (Plan p)) (Err fault.Words) ≡ cond ((b && true) && true) (Ok (Plan p)) (Err fault.Words)
-    go true = refl
-    go false = refl
+plan_is : (a g : Option Word) (names : List Word) (options : List (Word × Word)) → a ∷ [] ≡ map Some names → g ≡ value_given (codes "graph") options
+    → plan_read a g ≡ cond (list_all has_text names && given_texts options plan_options) (plan_by names options) (Err fault.Words)
+plan_is a g [] options e eg = cc
+plan_is a g (p ∷ q ∷ qs) options e eg = cc
+plan_is a g (p ∷ []) options e eg =
+    let ea : a ≡ Some p = cc in
+    let name_is : has_text p ≡ (has_text p && true) = sym (and_true (has_text p)) in
+    let graph_is : given_has_text (value_given (codes "graph") options) ≡ given_texts options plan_options
+    = sym (and_true (given_has_text (value_given (codes "graph") options))) in
+    rw (ea, eg) (λ i. cond (name_is i && graph_is i) (plan_by (p ∷ []) options) (Err fault.Words))
 
 demo_is : (a b m n o : Option Word) (names : List Word) (options : List (Word × Word)) → a ∷ b ∷ [] ≡ map Some names
     → m ≡ value_given (codes "mergers") options → n ≡ value_given (codes "burst") options → o ≡ value_given (codes "merge") options
-    → demo_read a b m n o ≡ cond (list_all has_text names && given_texts options run_options) (demo_by names options) (Err fault.Words)
+    → demo_read a b m n o ≡ cond (list_all has_text names && given_texts options demo_options) (demo_by names options) (Err fault.Words)
 demo_is a b m n o [] options e em en eo = cc
 demo_is a b m n o (p ∷ []) options e em en eo = cc
 demo_is a b m n o (p ∷ q ∷ r ∷ rs) options e em en eo = cc
@@ -237,25 +245,26 @@ texts_are n known words answer e =
     (values_have_text known (options_in rs) (only_known known rs (roles_give known anything words tt)) differ)
 
 pub run_answered : (words : List Word) (m : ArgMatches) → Matches run_names run_options words m
-    → run_read (four_names (value m (codes "policy")) (value m (codes "capture")) (value m (codes "out")) (value m (codes "report")))
+    → run_read (four_names (value m (codes "policy")) (value m (codes "capture")) (value m (codes "out")) (value m (codes "report")) (value m (codes "graph")))
     (value m (codes "mergers")) (value m (codes "burst")) (value m (codes "merge")) ≡ run_of words
 run_answered words m h =
-    run_is _ _ _ _ _ _ _ (names_in (roles run_options anything words)) (options_in (roles run_options anything words)) h.gives_names
+    run_is _ _ _ _ _ _ _ _ (names_in (roles run_options anything words)) (options_in (roles run_options anything words)) h.gives_names
     (h.gives_options (codes "mergers") refl) (h.gives_options (codes "burst") refl) (h.gives_options (codes "merge") refl)
-    ∙ texts_are 4 run_options words _ h.whole ∙ sym (whole_answer 4 run_options words run_by h.whole)
+    (h.gives_options (codes "graph") refl) ∙ texts_are 4 run_options words _ h.whole ∙ sym (whole_answer 4 run_options words run_by h.whole)
 
-pub plan_answered : (words : List Word) (m : ArgMatches) → Matches plan_names [] words m → plan_read (value m (codes "policy")) ≡ plan_of words
+pub plan_answered : (words : List Word) (m : ArgMatches) → Matches plan_names plan_options words m
+    → plan_read (value m (codes "policy")) (value m (codes "graph")) ≡ plan_of words
 plan_answered words m h =
-    plan_is _ (names_in (roles [] anything words)) (options_in (roles [] anything words)) h.gives_names
-    ∙ texts_are 1 [] words _ h.whole ∙ sym (whole_answer 1 [] words plan_by h.whole)
+    plan_is _ _ (names_in (roles plan_options anything words)) (options_in (roles plan_options anything words)) h.gives_names
+    (h.gives_options (codes "graph") refl) ∙ texts_are 1 plan_options words _ h.whole ∙ sym (whole_answer 1 plan_options words plan_by h.whole)
 
-pub demo_answered : (words : List Word) (m : ArgMatches) → Matches demo_names run_options words m
+pub demo_answered : (words : List Word) (m : ArgMatches) → Matches demo_names demo_options words m
     → demo_read (value m (codes "seed")) (value m (codes "count")) (value m (codes "mergers")) (value m (codes "burst")) (value m (codes "merge"))
     ≡ demo_of words
 demo_answered words m h =
-    demo_is _ _ _ _ _ (names_in (roles run_options anything words)) (options_in (roles run_options anything words)) h.gives_names
+    demo_is _ _ _ _ _ (names_in (roles demo_options anything words)) (options_in (roles demo_options anything words)) h.gives_names
     (h.gives_options (codes "mergers") refl) (h.gives_options (codes "burst") refl) (h.gives_options (codes "merge") refl)
-    ∙ texts_are 2 run_options words _ h.whole ∙ sym (whole_answer 2 run_options words demo_by h.whole)
+    ∙ texts_are 2 demo_options words _ h.whole ∙ sym (whole_answer 2 demo_options words demo_by h.whole)
 
 pub flows_answered : (words : List Word) (m : ArgMatches) → Matches flows_names flows_options words m
     → flows_read (value m (codes "capture")) (value m (codes "out")) (value m (codes "workers")) (value m (codes "burst")) ≡ flows_of words
@@ -275,11 +284,11 @@ refused n known words answer e wants h =
 pub run_refused : (words : List Word) (e : WordsFault) → (e ≡ error.OutOfMemory) ⊎ ((e ≡ error.Usage fault.Words) × (is_whole 4 (roles run_options anything words) ≡ false)) → ReadsWords (Err e) (run_of words)
 run_refused words e h = refused 4 run_options words run_by e run_wants h
 
-pub plan_refused : (words : List Word) (e : WordsFault) → (e ≡ error.OutOfMemory) ⊎ ((e ≡ error.Usage fault.Words) × (is_whole 1 (roles [] anything words) ≡ false)) → ReadsWords (Err e) (plan_of words)
-plan_refused words e h = refused 1 [] words plan_by e plan_wants h
+pub plan_refused : (words : List Word) (e : WordsFault) → (e ≡ error.OutOfMemory) ⊎ ((e ≡ error.Usage fault.Words) × (is_whole 1 (roles plan_options anything words) ≡ false)) → ReadsWords (Err e) (plan_of words)
+plan_refused words e h = refused 1 plan_options words plan_by e plan_wants h
 
-pub demo_refused : (words : List Word) (e : WordsFault) → (e ≡ error.OutOfMemory) ⊎ ((e ≡ error.Usage fault.Words) × (is_whole 2 (roles run_options anything words) ≡ false)) → ReadsWords (Err e) (demo_of words)
-demo_refused words e h = refused 2 run_options words demo_by e demo_wants h
+pub demo_refused : (words : List Word) (e : WordsFault) → (e ≡ error.OutOfMemory) ⊎ ((e ≡ error.Usage fault.Words) × (is_whole 2 (roles demo_options anything words) ≡ false)) → ReadsWords (Err e) (demo_of words)
+demo_refused words e h = refused 2 demo_options words demo_by e demo_wants h
 
 pub flows_refused : (words : List Word) (e : WordsFault) → (e ≡ error.OutOfMemory) ⊎ ((e ≡ error.Usage fault.Words) × (is_whole 2 (roles flows_options anything words) ≡ false)) → ReadsWords (Err e) (flows_of words)
 flows_refused words e h = refused 2 flows_options words flows_by e flows_wants h

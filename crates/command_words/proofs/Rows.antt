@@ -1,5 +1,5 @@
 -- Worked rows, computed by the definitions.
-use Rattle.std.specs.Prelude.{◌≡◌, ℕ, List, [], refl, ◌==◌, Ok, Err, codes}
+use Rattle.std.specs.Prelude.{◌≡◌, ℕ, List, [], refl, ◌==◌, Some, None, Ok, Err, codes}
 use Rattle.std.specs.List.{slice_split}
 use Rattle.command_words.specs.declared.requests.FlowOptions.{FlowOptions}
 use Rattle.command_words.specs.declared.requests.RunOptions.{RunOptions}
@@ -24,7 +24,7 @@ options = options_by Inbox
 -- `run p c o r` with these options
 abbrev runs_by : Way → ℕ → ℕ → Answer
 runs_by way mergers burst =
-    Ok (Run (record { policy = codes "p"; capture = codes "c"; out = codes "o"; report = codes "r" }) (options_by way mergers burst))
+    Ok (Run (record { policy = codes "p"; capture = codes "c"; out = codes "o"; report = codes "r"; graph = None }) (options_by way mergers burst))
 
 abbrev runs : ℕ → ℕ → Answer
 runs = runs_by Inbox
@@ -45,7 +45,7 @@ a_run : read (codes "run p c o r") ≡ runs 2 1024
 unfolding given_by
 a_run = refl
 
-a_plan : read (codes "plan p") ≡ Ok (Plan (codes "p"))
+a_plan : read (codes "plan p") ≡ Ok (Plan (record { policy = codes "p"; graph = None }))
 unfolding given_by
 a_plan = refl
 
@@ -89,7 +89,7 @@ options_of_plan = refl
 
 -- ---- behind `--` each word is a name
 
-dashed_names : read (codes "run --burst 7 -- -p --burst=9 -- r") ≡ Ok (Run (record { policy = codes "-p"; capture = codes "--burst=9"; out = codes "--"; report = codes "r" }) (options 2 7))
+dashed_names : read (codes "run --burst 7 -- -p --burst=9 -- r") ≡ Ok (Run (record { policy = codes "-p"; capture = codes "--burst=9"; out = codes "--"; report = codes "r"; graph = None }) (options 2 7))
 unfolding given_by
 dashed_names = refl
 
@@ -418,3 +418,47 @@ workers_before_names = refl
 equal_files : read (codes "flows c c") ≡ Err SameName
 unfolding given_by
 equal_files = refl
+
+-- ---- graphs that were written by hand
+
+-- `run p c o r` with graphs of this name
+abbrev runs_by_hand : List ℕ → Answer
+runs_by_hand graph =
+    Ok (Run (record { policy = codes "p"; capture = codes "c"; out = codes "o"; report = codes "r"; graph = Some graph }) (options 2 1024))
+
+a_graph : read (codes "run p c --graph g o r") ≡ runs_by_hand (codes "g")
+unfolding given_by
+a_graph = refl
+
+attached_graph : read (codes "run --graph=g p c o r") ≡ runs_by_hand (codes "g")
+unfolding given_by
+attached_graph = refl
+
+planned_graph : read (codes "plan p --graph g") ≡ Ok (Plan (record { policy = codes "p"; graph = Some (codes "g") }))
+unfolding given_by
+planned_graph = refl
+
+graph_twice : read (codes "plan --graph g --graph h p") ≡ Err Words
+unfolding given_by
+graph_twice = refl
+
+graph_of_demo : read (codes "demo 7 1 --graph g") ≡ Err Words
+unfolding given_by
+graph_of_demo = refl
+
+graph_without_text : read (codes "plan p --graph=-") ≡ Err Words
+unfolding given_by
+graph_without_text = refl
+
+-- the name of the graphs is one of the names that differ, last of all that is looked at
+graph_is_policy : read (codes "plan p --graph p") ≡ Err SameName
+unfolding given_by
+graph_is_policy = refl
+
+graph_is_report : read (codes "run p c o r --graph r") ≡ Err SameName
+unfolding given_by
+graph_is_report = refl
+
+graph_behind_way : read (codes "run p c o r --graph r --merge x") ≡ Err Merge
+unfolding given_by
+graph_behind_way = refl

@@ -14,7 +14,7 @@ use Rattle.clap.specs.declared.builder.range.ValueRange.{ValueRange}
 use Rattle.clap.specs.declared.builder.value_parser.ValueParser.TheVariants as vp
 use Rattle.command_words.specs.Apps.{run_app, plan_app, demo_app, flows_app, run_names, plan_names, demo_names, flows_names}
 use Rattle.command_words.specs.Given.{contains}
-use Rattle.command_words.specs.Words.{flows_options, run_options}
+use Rattle.command_words.specs.Words.{demo_options, flows_options, plan_options, run_options}
 
 abbrev pub one_value : ValueRange
 one_value = record { start_inclusive = 1; end_inclusive = 1 }
@@ -51,10 +51,10 @@ app_with name rules = record { top = shape name rules; subs = [] }
 pub run_built : built run_app ≡ app_with run_app.top.name (table run_names run_options)
 run_built = refl
 
-pub plan_built : built plan_app ≡ app_with plan_app.top.name (table plan_names [])
+pub plan_built : built plan_app ≡ app_with plan_app.top.name (table plan_names plan_options)
 plan_built = refl
 
-pub demo_built : built demo_app ≡ app_with demo_app.top.name (table demo_names run_options)
+pub demo_built : built demo_app ≡ app_with demo_app.top.name (table demo_names demo_options)
 demo_built = refl
 
 pub flows_built : built flows_app ≡ app_with flows_app.top.name (table flows_names flows_options)
@@ -76,19 +76,22 @@ HasIds rules (o ∷ os) = (arg_by_id rules o ≡ Some (built_option o)) × HasId
 pub run_indexed : Indexed (table run_names run_options) 1 run_names
 run_indexed = (refl, (refl, (refl, (refl, (refl, (refl, (refl, (refl, refl))))))))
 
-pub plan_indexed : Indexed (table plan_names []) 1 plan_names
+pub plan_indexed : Indexed (table plan_names plan_options) 1 plan_names
 plan_indexed = (refl, (refl, refl))
 
-pub demo_indexed : Indexed (table demo_names run_options) 1 demo_names
+pub demo_indexed : Indexed (table demo_names demo_options) 1 demo_names
 demo_indexed = (refl, (refl, (refl, (refl, refl))))
 
 pub flows_indexed : Indexed (table flows_names flows_options) 1 flows_names
 flows_indexed = (refl, (refl, (refl, (refl, refl))))
 
 pub run_ids : HasIds (table run_names run_options) run_options
-run_ids = (refl, (refl, (refl, tt)))
+run_ids = (refl, (refl, (refl, (refl, tt))))
 
-pub demo_ids : HasIds (table demo_names run_options) run_options
+pub plan_ids : HasIds (table plan_names plan_options) plan_options
+plan_ids = (refl, tt)
+
+pub demo_ids : HasIds (table demo_names demo_options) demo_options
 demo_ids = (refl, (refl, (refl, tt)))
 
 pub flows_ids : HasIds (table flows_names flows_options) flows_options

@@ -3,7 +3,7 @@ use Rattle.std.specs.Prelude.{List, [], ◌∷◌, ◌++◌, map, Some, true, co
 use Rattle.clap.specs.declared.builder.action.ArgAction.TheVariants.{Set}
 use Rattle.clap.specs.Simple.{App, new_rule, new_shape}
 use Rattle.clap.specs.Walk.{Rule, Text}
-use Rattle.command_words.specs.Words.{flows_options, run_options}
+use Rattle.command_words.specs.Words.{demo_options, flows_options, plan_options, run_options}
 
 -- a name that has to be there
 abbrev pub name_rule : Text → Rule
@@ -41,10 +41,10 @@ abbrev pub run_app : App
 run_app = app (codes "run") run_names run_options
 
 abbrev pub plan_app : App
-plan_app = app (codes "plan") plan_names []
+plan_app = app (codes "plan") plan_names plan_options
 
 abbrev pub demo_app : App
-demo_app = app (codes "demo") demo_names run_options
+demo_app = app (codes "demo") demo_names demo_options
 
 abbrev pub flows_app : App
 flows_app = app (codes "flows") flows_names flows_options

@@ -7,7 +7,7 @@ use Rattle.clap.specs.Words.{Text, first_value, found_of}
 use Rattle.command_words.specs.declared.usage.UsageFault.TheVariants as fault
 use Rattle.command_words.specs.Roles.{Role, anything, is_whole, names_in, options_in, roles}
 use Rattle.command_words.specs.Given.{Word, contains, has_text, value_given}
-use Rattle.command_words.specs.Words.{Answer, Names, Plan, demo_with, flows_with, run_with}
+use Rattle.command_words.specs.Words.{Answer, Names, PlanFiles, demo_with, flows_with, plan_with, run_with}
 
 -- the names that the words give, in order
 abbrev pub GivesNames : List Text → List Role → ArgMatches → Type 0
@@ -33,10 +33,11 @@ IsUnfit names options words = is_whole (length names) (roles options anything wo
 abbrev pub names_of : Names → List Word
 names_of n = n.policy ∷ n.capture ∷ n.out ∷ n.report ∷ []
 
-abbrev pub four_names : Option Word → Option Word → Option Word → Option Word → Option Names
-four_names (Some p) (Some c) (Some o) (Some r) =
-    Some (record { policy = p; capture = c; out = o; report = r })
-four_names p c o r = None
+-- where all four are there
+abbrev pub four_names : Option Word → Option Word → Option Word → Option Word → Option Word → Option Names
+four_names (Some p) (Some c) (Some o) (Some r) graph =
+    Some (record { policy = p; capture = c; out = o; report = r; graph = graph })
+four_names p c o r graph = None
 
 -- a value that is given has text
 abbrev pub given_has_text : Option Word → Bool
@@ -47,15 +48,21 @@ abbrev pub options_have_text : Option Word → Option Word → Option Word → B
 options_have_text mergers burst way =
     given_has_text mergers && (given_has_text burst && given_has_text way)
 
+-- the same of the options of `run`
+abbrev pub run_options_have_text : Option Word → Option Word → Option Word → Option Word → Bool
+run_options_have_text mergers burst way graph =
+    given_has_text mergers && (given_has_text burst && (given_has_text way && given_has_text graph))
+
 abbrev pub run_read : Option Names → Option Word → Option Word → Option Word → Answer
 run_read None mergers burst way = Err fault.Words
 run_read (Some names) mergers burst way =
-    if list_all has_text (names_of names) && options_have_text mergers burst way
+    if list_all has_text (names_of names) && run_options_have_text mergers burst way names.graph
     then run_with names mergers burst way else Err fault.Words
 
-abbrev pub plan_read : Option Word → Answer
-plan_read None = Err fault.Words
-plan_read (Some policy) = if has_text policy then Ok (Plan policy) else Err fault.Words
+abbrev pub plan_read : Option Word → Option Word → Answer
+plan_read None graph = Err fault.Words
+plan_read (Some policy) graph =
+    if has_text policy && given_has_text graph then plan_with (record { policy = policy; graph = graph }) else Err fault.Words
 
 abbrev pub demo_read : Option Word → Option Word → Option Word → Option Word → Option Word → Answer
 demo_read (Some seed) (Some count) mergers burst way =

@@ -6,25 +6,29 @@ use Rattle.command_words.specs.declared.requests.Command.TheVariants as asked
 use Rattle.command_words.specs.declared.requests.FileNames.{FileNames}
 use Rattle.command_words.specs.declared.requests.FlowNames.{FlowNames}
 use Rattle.command_words.specs.declared.requests.FlowOptions.{FlowOptions}
+use Rattle.command_words.specs.declared.requests.PlanNames.{PlanNames}
 use Rattle.command_words.specs.declared.requests.RunOptions.{RunOptions}
 use Rattle.command_words.specs.declared.usage.UsageFault.{UsageFault}
 use Rattle.command_words.specs.declared.usage.WordsFault.{WordsFault}
 use Rattle.command_words.specs.declared.usage.WordsFault.TheVariants.{Usage, OutOfMemory}
 use Rattle.command_words.specs.Given.{Word}
-use Rattle.command_words.specs.Words.{Answer, Command, Demo, FlowFiles, Flows, Names, Plan, Run}
+use Rattle.command_words.specs.Words.{Answer, Command, Demo, FlowFiles, Flows, Names, Plan, PlanFiles, Run}
 
 abbrev pub word_in : Option (Bor Word) → Option Word
 word_in = option_map (λ word. word.now)
 
 abbrev pub names_seen : FileNames → Names
-names_seen n = record { policy = n.policy.now; capture = n.capture.now; out = n.out.now; report = n.report.now }
+names_seen n = record { policy = n.policy.now; capture = n.capture.now; out = n.out.now; report = n.report.now; graph = word_in n.graph }
+
+abbrev pub plan_seen : PlanNames → PlanFiles
+plan_seen n = record { policy = n.policy.now; graph = word_in n.graph }
 
 abbrev pub files_seen : FlowNames → FlowFiles
 files_seen n = record { capture = n.capture.now; out = n.out.now }
 
 abbrev pub command_seen : Asked → Command
 command_seen (asked.Run names options) = Run (names_seen names) options
-command_seen (asked.Plan name) = Plan name.now
+command_seen (asked.Plan names) = Plan (plan_seen names)
 command_seen (asked.Demo input options) = Demo input options
 command_seen (asked.Flows names options) = Flows (files_seen names) options
 
@@ -35,6 +39,10 @@ answer_seen (Err fault) = Err fault
 abbrev pub distinct_seen : Result FileNames UsageFault → Result Names UsageFault
 distinct_seen (Ok names) = Ok (names_seen names)
 distinct_seen (Err fault) = Err fault
+
+abbrev pub distinct_plan_seen : Result PlanNames UsageFault → Result PlanFiles UsageFault
+distinct_plan_seen (Ok names) = Ok (plan_seen names)
+distinct_plan_seen (Err fault) = Err fault
 
 abbrev pub distinct_files_seen : Result FlowNames UsageFault → Result FlowFiles UsageFault
 distinct_files_seen (Ok names) = Ok (files_seen names)
@@ -62,6 +70,6 @@ pub record IsFlowRange (options : FlowOptions) : Type 0 where
 
 abbrev pub HasRanges : Asked → Type 0
 HasRanges (asked.Run names options) = IsInRange options
-HasRanges (asked.Plan name) = ⊤
+HasRanges (asked.Plan names) = ⊤
 HasRanges (asked.Demo input options) = (1 ≤ input.count) × (input.count ≤ 1000000) × IsInRange options
 HasRanges (asked.Flows names options) = IsFlowRange options

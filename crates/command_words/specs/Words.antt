@@ -58,31 +58,45 @@ way_of (Some word) = if bytes_eq word (codes "inbox") then Ok Inbox else if byte
 
 -- ---- the commands
 
--- The names of the four files of `run`.
+-- The names of the four files of `run`, and of the graphs that were written by hand, where they are named.
 pub record Names : Type 0 where
   pub policy : Word
   pub capture : Word
   pub out : Word
   pub report : Word
+  pub graph : Option Word
+
+-- The names of the policy of `plan` and of such graphs.
+pub record PlanFiles : Type 0 where
+  pub policy : Word
+  pub graph : Option Word
 
 -- The names of the two files of `flows`.
 pub record FlowFiles : Type 0 where
   pub capture : Word
   pub out : Word
 
--- What is asked for: to run a policy over a capture, to show the plan of a policy with this name, to run the demonstration, or to count
--- the flows of a capture.
+-- What is asked for: to run a policy over a capture, to show the plan of a policy, to run the demonstration, or to count the flows of a
+-- capture.
 pub data Command : Type 0 where
   Run : Names → RunOptions → Command
-  Plan : Word → Command
+  Plan : PlanFiles → Command
   Demo : DemoInput → RunOptions → Command
   Flows : FlowFiles → FlowOptions → Command
 
 abbrev pub Answer : Type 0
 Answer = Result Command UsageFault
 
+-- these names and that of the graphs, where they are named
+abbrev pub with_graph : Option Word → List Word → List Word
+with_graph None names = names
+with_graph (Some graph) names = graph ∷ names
+
 abbrev pub distinct : Names → Result Names UsageFault
-distinct n = if all_differ (n.policy ∷ n.capture ∷ n.out ∷ n.report ∷ []) then Ok n else Err SameName
+distinct n = if all_differ (with_graph n.graph (n.policy ∷ n.capture ∷ n.out ∷ n.report ∷ [])) then Ok n else Err SameName
+
+abbrev pub distinct_plan : PlanFiles → Result PlanFiles UsageFault
+distinct_plan n = if all_differ (with_graph n.graph (n.policy ∷ [])) then Ok n else Err SameName
 
 abbrev pub distinct_files : FlowFiles → Result FlowFiles UsageFault
 distinct_files n = if all_differ (n.capture ∷ n.out ∷ []) then Ok n else Err SameName
@@ -91,6 +105,9 @@ distinct_files n = if all_differ (n.capture ∷ n.out ∷ []) then Ok n else Err
 abbrev pub run_with : Names → Option Word → Option Word → Option Word → Answer
 run_with names mergers burst way = after (mergers_of mergers) (λ m. after (burst_of burst) (λ b. after (way_of way) (λ w. after (distinct names) (λ n.
     Ok (Run n (record { mergers = m; burst = b; way = w }))))))
+
+abbrev pub plan_with : PlanFiles → Answer
+plan_with files = after (distinct_plan files) (λ n. Ok (Plan n))
 
 abbrev pub demo_with : Word → Word → Option Word → Option Word → Option Word → Answer
 demo_with seed count mergers burst way = after (mergers_of mergers) (λ m. after (burst_of burst) (λ b. after (seed_of seed) (λ s. after (count_of count) (λ c.
@@ -101,12 +118,13 @@ flows_with files burst workers = after (burst_of burst) (λ b. after (workers_of
     Ok (Flows n (record { workers = w; burst = b })))))
 
 abbrev pub run_by : List Word → List (Word × Word) → Answer
-run_by (policy ∷ capture ∷ out ∷ report ∷ []) options = run_with (record { policy = policy; capture = capture; out = out; report = report })
+run_by (policy ∷ capture ∷ out ∷ report ∷ []) options =
+    run_with (record { policy = policy; capture = capture; out = out; report = report; graph = value_given (codes "graph") options })
     (value_given (codes "mergers") options) (value_given (codes "burst") options) (value_given (codes "merge") options)
 run_by names options = Err Words
 
 abbrev pub plan_by : List Word → List (Word × Word) → Answer
-plan_by (policy ∷ []) options = Ok (Plan policy)
+plan_by (policy ∷ []) options = plan_with (record { policy = policy; graph = value_given (codes "graph") options })
 plan_by names options = Err Words
 
 abbrev pub demo_by : List Word → List (Word × Word) → Answer
@@ -124,9 +142,17 @@ abbrev pub answer_by : (List Word → List (Word × Word) → Answer) → Option
 answer_by answer None = Err Words
 answer_by answer (Some given) = if is_sound given then answer given.names given.options else Err Words
 
--- the options of `run` and of `demo`
+-- the options of `run`
 abbrev pub run_options : List Word
-run_options = codes "mergers" ∷ codes "burst" ∷ codes "merge" ∷ []
+run_options = codes "mergers" ∷ codes "burst" ∷ codes "merge" ∷ codes "graph" ∷ []
+
+-- those of `plan`
+abbrev pub plan_options : List Word
+plan_options = codes "graph" ∷ []
+
+-- those of `demo`
+abbrev pub demo_options : List Word
+demo_options = codes "mergers" ∷ codes "burst" ∷ codes "merge" ∷ []
 
 -- those of `flows`
 abbrev pub flows_options : List Word
@@ -136,10 +162,10 @@ abbrev pub run_of : List Word → Answer
 run_of words = answer_by run_by (given_by run_options None words)
 
 abbrev pub plan_of : List Word → Answer
-plan_of words = answer_by plan_by (given_by [] None words)
+plan_of words = answer_by plan_by (given_by plan_options None words)
 
 abbrev pub demo_of : List Word → Answer
-demo_of words = answer_by demo_by (given_by run_options None words)
+demo_of words = answer_by demo_by (given_by demo_options None words)
 
 abbrev pub flows_of : List Word → Answer
 flows_of words = answer_by flows_by (given_by flows_options None words)

@@ -2,13 +2,15 @@
 ghost use Rattle.std.specs.Prelude.{◌≡◌, IfOk, codes, option_map};
 ghost use Rattle.std.specs.List.{list_all};
 ghost use Rattle.clap.specs.Words.{first_value, found_of};
-ghost use Rattle.command_words.specs.Matched.{demo_read, flow_options_have_text as flow_options_spell, flows_read, four_names, given_has_text as given_spells, names_of, options_have_text as options_spell, plan_read, run_read};
-ghost use Rattle.command_words.specs.Named.{HasRanges, answer_seen, distinct_files_seen, distinct_seen, files_seen, names_seen, word_in};
-ghost use Rattle.command_words.specs.Given.{all_differ, has_text as spells};
-ghost use Rattle.command_words.specs.Words.{demo_with, distinct as distinct_names, distinct_files, flows_with, run_with};
+ghost use Rattle.command_words.specs.Matched.{demo_read, flow_options_have_text as flow_options_spell, flows_read, four_names, given_has_text as given_spells, names_of, options_have_text as options_spell, plan_read, run_options_have_text as run_options_spell, run_read};
+ghost use Rattle.command_words.specs.Named.{HasRanges, answer_seen, distinct_files_seen, distinct_plan_seen, distinct_seen, files_seen, names_seen, plan_seen, word_in};
+ghost use Rattle.command_words.specs.Given.{all_differ, contains, has_text as spells};
+ghost use Rattle.command_words.specs.Words.{demo_with, distinct as distinct_names, distinct_files, distinct_plan as distinct_plan_files, flows_with, plan_with, run_with, with_graph};
 
 use crate::numbers::{burst, count, mergers, seed, workers};
-use crate::requests::{Command, DemoInput, FileNames, FlowNames, FlowOptions, RunOptions};
+use crate::requests::{
+    Command, DemoInput, FileNames, FlowNames, FlowOptions, PlanNames, RunOptions,
+};
 use crate::usage::UsageFault;
 use crate::ways::merge_way;
 use clap::ArgMatches;
@@ -44,6 +46,16 @@ fn options_have_text(options: &OptionWords<'_>) -> bool
         && given_has_text(options.merge)
 }
 
+fn run_options_have_text(options: &OptionWords<'_>, graph: Option<&str>) -> bool
+    ensures { result ≡ run_options_spell (word_in options.now.mergers) (word_in options.now.burst) (word_in options.now.merge)
+        (word_in graph.entry) }
+{
+    given_has_text(options.mergers)
+        && given_has_text(options.burst)
+        && given_has_text(options.merge)
+        && given_has_text(graph)
+}
+
 fn names_have_text(names: &FileNames<'_>) -> bool
     ensures { result ≡ list_all spells (names_of (names_seen names.now)) }
 {
@@ -53,7 +65,14 @@ fn names_have_text(names: &FileNames<'_>) -> bool
         && has_text(names.report)
 }
 
-fn are_distinct(names: &FileNames<'_>) -> bool
+// It is the name of one of the four files.
+fn is_named(names: &FileNames<'_>, graph: &str) -> bool
+    ensures { result ≡ contains graph.now (names_of (names_seen names.now)) }
+{
+    names.policy == graph || names.capture == graph || names.out == graph || names.report == graph
+}
+
+fn four_are_distinct(names: &FileNames<'_>) -> bool
     ensures { result ≡ all_differ (names_of (names_seen names.now)) }
 {
     let first = names.capture == names.policy
@@ -61,6 +80,15 @@ fn are_distinct(names: &FileNames<'_>) -> bool
         || names.report == names.policy;
     let second = names.out == names.capture || names.report == names.capture;
     !first && !second && names.report != names.out
+}
+
+fn are_distinct(names: &FileNames<'_>) -> bool
+    ensures { result ≡ all_differ (with_graph (word_in names.now.graph) (names_of (names_seen names.now))) }
+{
+    match names.graph {
+        Some(graph) => !is_named(names, graph) && four_are_distinct(names),
+        None => four_are_distinct(names),
+    }
 }
 
 fn distinct<'a>(names: FileNames<'a>) -> Result<FileNames<'a>, UsageFault>
@@ -131,7 +159,7 @@ fn option_words<'a>(matches: &ArgMatches<'a>) -> OptionWords<'a>
 fn file_names<'a>(matches: &ArgMatches<'a>) -> Option<FileNames<'a>>
     ensures { option_map names_seen result ≡ four_names (first_value (found_of matches.now) (codes "policy"))
         (first_value (found_of matches.now) (codes "capture")) (first_value (found_of matches.now) (codes "out"))
-        (first_value (found_of matches.now) (codes "report")) }
+        (first_value (found_of matches.now) (codes "report")) (first_value (found_of matches.now) (codes "graph")) }
 {
     let policy = matches.get_str("policy")?;
     let capture = matches.get_str("capture")?;
@@ -142,6 +170,7 @@ fn file_names<'a>(matches: &ArgMatches<'a>) -> Option<FileNames<'a>>
         capture,
         out,
         report,
+        graph: matches.get_str("graph"),
     })
 }
 
@@ -149,7 +178,8 @@ fn file_names<'a>(matches: &ArgMatches<'a>) -> Option<FileNames<'a>>
 pub fn run_answer<'a>(matches: &ArgMatches<'a>) -> Result<Command<'a>, UsageFault>
     ensures answer { answer_seen result ≡ run_read (four_names (first_value (found_of matches.now) (codes "policy"))
         (first_value (found_of matches.now) (codes "capture")) (first_value (found_of matches.now) (codes "out"))
-        (first_value (found_of matches.now) (codes "report"))) (first_value (found_of matches.now) (codes "mergers"))
+        (first_value (found_of matches.now) (codes "report")) (first_value (found_of matches.now) (codes "graph")))
+        (first_value (found_of matches.now) (codes "mergers"))
         (first_value (found_of matches.now) (codes "burst")) (first_value (found_of matches.now) (codes "merge")) }
     ensures ranges { IfOk result HasRanges }
 {
@@ -157,21 +187,44 @@ pub fn run_answer<'a>(matches: &ArgMatches<'a>) -> Result<Command<'a>, UsageFaul
     let Some(names) = file_names(matches) else {
         return Err(UsageFault::Words);
     };
-    if names_have_text(&names) && options_have_text(&options) {
+    if names_have_text(&names) && run_options_have_text(&options, names.graph) {
         run_from(names, &options)
     } else {
         Err(UsageFault::Words)
     }
 }
 
-/// The command `plan` of words that `clap` matched.
-pub fn plan_answer<'a>(matches: &ArgMatches<'a>) -> Result<Command<'a>, UsageFault>
-    ensures answer { answer_seen result ≡ plan_read (first_value (found_of matches.now) (codes "policy")) }
+fn distinct_plan<'a>(names: PlanNames<'a>) -> Result<PlanNames<'a>, UsageFault>
+    ensures { distinct_plan_seen result ≡ distinct_plan_files (plan_seen names.entry) }
+{
+    match names.graph {
+        Some(graph) if names.policy == graph => Err(UsageFault::SameName),
+        _ => Ok(names),
+    }
+}
+
+fn plan_from<'a>(names: PlanNames<'a>) -> Result<Command<'a>, UsageFault>
+    ensures answer { answer_seen result ≡ plan_with (plan_seen names.entry) }
     ensures ranges { IfOk result HasRanges }
 {
-    match matches.get_str("policy") {
-        Some(policy) if has_text(policy) => Ok(Command::Plan(policy)),
-        _ => Err(UsageFault::Words),
+    let names = distinct_plan(names)?;
+    Ok(Command::Plan(names))
+}
+
+/// The command `plan` of words that `clap` matched.
+pub fn plan_answer<'a>(matches: &ArgMatches<'a>) -> Result<Command<'a>, UsageFault>
+    ensures answer { answer_seen result ≡ plan_read (first_value (found_of matches.now) (codes "policy"))
+        (first_value (found_of matches.now) (codes "graph")) }
+    ensures ranges { IfOk result HasRanges }
+{
+    let Some(policy) = matches.get_str("policy") else {
+        return Err(UsageFault::Words);
+    };
+    let graph = matches.get_str("graph");
+    if has_text(policy) && given_has_text(graph) {
+        plan_from(PlanNames { policy, graph })
+    } else {
+        Err(UsageFault::Words)
     }
 }
 

@@ -50,6 +50,7 @@ fn without_arguments<'a>(alloc: Global, name: &'a str) -> Command<'a>
         .disable_version_flag(true)
 }
 
+// The options of `demo`, which `run` has too.
 fn with_run_options<'a>(alloc: Global, command: Command<'a>) -> Result<Command<'a>, AllocError>
     ensures { IfOk result (λ c. app_of c ≡ with_rule (with_rule (with_rule (app_of command.entry)
         (option_rule (codes "mergers"))) (option_rule (codes "burst"))) (option_rule (codes "merge"))) }
@@ -68,18 +69,20 @@ pub fn run_command<'a>(alloc: Global) -> Result<Command<'a>, AllocError>
     let command = with_name(alloc, command, "capture")?;
     let command = with_name(alloc, command, "out")?;
     let command = with_name(alloc, command, "report")?;
-    with_run_options(alloc, command)
+    let command = with_run_options(alloc, command)?;
+    with_option(alloc, command, "graph")
 }
 
-/// `plan POLICY`.
+/// `plan POLICY` with its option.
 pub fn plan_command<'a>(alloc: Global) -> Result<Command<'a>, AllocError>
     ensures { IfOk result (λ c. app_of c ≡ plan_app) }
 {
     let command = without_arguments(alloc, "plan");
-    with_name(alloc, command, "policy")
+    let command = with_name(alloc, command, "policy")?;
+    with_option(alloc, command, "graph")
 }
 
-/// `demo SEED COUNT` with the options of `run`.
+/// `demo SEED COUNT` with its options.
 pub fn demo_command<'a>(alloc: Global) -> Result<Command<'a>, AllocError>
     ensures { IfOk result (λ c. app_of c ≡ demo_app) }
 {

@@ -1,9 +1,9 @@
 //! The words behind each command, matched by `clap`.
-ghost use Rattle.std.specs.Prelude.{◌≡◌, ◌≢◌, ◌⊎◌, MatchResult, map, string_bytes, []};
+ghost use Rattle.std.specs.Prelude.{◌≡◌, ◌≢◌, ◌⊎◌, MatchResult, map, string_bytes};
 ghost use Rattle.clap.specs.Words.{kind_of};
 ghost use Rattle.command_words.specs.Apps.{demo_names, flows_names, plan_names, run_names};
 ghost use Rattle.command_words.specs.Matched.{IsUnfit, Matches};
-ghost use Rattle.command_words.specs.Words.{flows_options, run_options};
+ghost use Rattle.command_words.specs.Words.{demo_options, flows_options, plan_options, run_options};
 
 use crate::commands::{demo_command, flows_command, plan_command, run_command};
 use crate::usage::{UsageFault, WordsFault};
@@ -36,9 +36,9 @@ pub fn run_matches<'a>(alloc: Global, words: &'a [String]) -> Result<ArgMatches<
 }
 
 pub fn plan_matches<'a>(alloc: Global, words: &'a [String]) -> Result<ArgMatches<'a>, WordsFault>
-    ensures { MatchResult result (Matches plan_names [] (map string_bytes words.entry.now))
+    ensures { MatchResult result (Matches plan_names plan_options (map string_bytes words.entry.now))
         (λ e. (e ≡ WordsFault.OutOfMemory) ⊎ ((e ≡ WordsFault.Usage UsageFault.Words)
-        × IsUnfit plan_names [] (map string_bytes words.entry.now))) }
+        × IsUnfit plan_names plan_options (map string_bytes words.entry.now))) }
 {
     let command = plan_command(alloc)?;
     match command.try_get_matches_from(words) {
@@ -48,9 +48,9 @@ pub fn plan_matches<'a>(alloc: Global, words: &'a [String]) -> Result<ArgMatches
 }
 
 pub fn demo_matches<'a>(alloc: Global, words: &'a [String]) -> Result<ArgMatches<'a>, WordsFault>
-    ensures { MatchResult result (Matches demo_names run_options (map string_bytes words.entry.now))
+    ensures { MatchResult result (Matches demo_names demo_options (map string_bytes words.entry.now))
         (λ e. (e ≡ WordsFault.OutOfMemory) ⊎ ((e ≡ WordsFault.Usage UsageFault.Words)
-        × IsUnfit demo_names run_options (map string_bytes words.entry.now))) }
+        × IsUnfit demo_names demo_options (map string_bytes words.entry.now))) }
 {
     let command = demo_command(alloc)?;
     match command.try_get_matches_from(words) {

@@ -1,12 +1,22 @@
 //! What the words of a command line ask for.
 
-/// The names of the four files.
+/// The names of the files of `run`.
 #[derive(Clone, Copy, Debug)]
 pub struct FileNames<'a> {
     pub policy: &'a str,
     pub capture: &'a str,
     pub out: &'a str,
     pub report: &'a str,
+    /// `--graph`: the text of graphs that were written by hand, where there is one.
+    pub graph: Option<&'a str>,
+}
+
+/// The names of the files of `plan`.
+#[derive(Clone, Copy, Debug)]
+pub struct PlanNames<'a> {
+    pub policy: &'a str,
+    /// `--graph`: the text of graphs that were written by hand, where there is one.
+    pub graph: Option<&'a str>,
 }
 
 /// The names of the two files of `flows`.
@@ -57,10 +67,10 @@ pub struct FlowOptions {
 /// What is asked for.
 #[derive(Clone, Copy, Debug)]
 pub enum Command<'a> {
-    /// `run POLICY CAPTURE OUT REPORT [--mergers N] [--burst N] [--merge WAY]`
+    /// `run POLICY CAPTURE OUT REPORT [--mergers N] [--burst N] [--merge WAY] [--graph NAME]`
     Run(FileNames<'a>, RunOptions),
-    /// `plan POLICY`
-    Plan(&'a str),
+    /// `plan POLICY [--graph NAME]`
+    Plan(PlanNames<'a>),
     /// `demo SEED COUNT [--mergers N] [--burst N] [--merge WAY]`
     Demo(DemoInput, RunOptions),
     /// `flows CAPTURE OUT [--workers N] [--burst N]`

@@ -33,7 +33,7 @@ pub enum UsageFault {
     Number(Option4),
     /// The value of `--merge` is neither `inbox` nor `board`.
     Merge,
-    /// Two of the names of `run` or of `flows` are equal.
+    /// Two of the names of files of `run`, `plan` or `flows` are equal.
     SameName,
 }
 

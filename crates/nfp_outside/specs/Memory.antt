@@ -31,11 +31,11 @@ sink_view s = record { name = option_map string_bytes s.name; bytes = Some s.byt
 
 -- the name that a slot is attached with
 abbrev pub name_in : FixedDesk → Slot → Option (List ℕ)
-name_in d s = option_map string_bytes (at_slot d.policy.name d.capture.name d.out.name d.report.name d.note.name s)
+name_in d s = option_map string_bytes (at_slot d.policy.name d.capture.name d.out.name d.report.name d.note.name d.graph.name s)
 
 -- the bytes that are left in a read slot, or were put into a write slot
 abbrev pub contents : FixedDesk → Slot → List ℕ
-contents d = at_slot (left_in d.policy) (left_in d.capture) d.out.bytes.items d.report.bytes.items d.note.bytes.items
+contents d = at_slot (left_in d.policy) (left_in d.capture) d.out.bytes.items d.report.bytes.items d.note.bytes.items (left_in d.graph)
 
 -- the most that a call of the desk moves
 abbrev pub step_of : FixedDesk → ℕ
@@ -47,7 +47,7 @@ fixed_slots d s = record { name = name_in d s; bytes = Some (contents d s); weig
 
 -- the calls on a slot of the desk that fails where it is told to
 abbrev pub call_counts : MemDesk → Slot → CallCounts
-call_counts d = at_slot d.policy d.capture d.out d.report d.note
+call_counts d = at_slot d.policy d.capture d.out d.report d.note d.graph
 
 -- how many calls there were on a slot, which is the number of its next call
 abbrev pub calls_of : MemDesk → Slot → ℕ

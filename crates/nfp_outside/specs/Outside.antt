@@ -2,7 +2,7 @@
 use Rattle.std.specs.Prelude.{◌≡◌, ◌<◌, ◌≤◌, ◌+◌, ◌^◌, ◌-◌, ◌⊎◌, ℕ, List, [], ◌++◌, length, take, drop, Bool, true, false, if◌then◌else◌, Option, Some, None, MatchOption, Result, Ok, Err, IsErrOf, min}
 use Rattle.std.specs.Option.{option_map}
 use Rattle.nfp_outside.specs.declared.slot.Slot.{Slot}
-use Rattle.nfp_outside.specs.declared.slot.Slot.TheVariants.{Policy, Capture, Out, Report, Note}
+use Rattle.nfp_outside.specs.declared.slot.Slot.TheVariants.{Policy, Capture, Out, Report, Note, Graph}
 use Rattle.nfp_outside.specs.declared.slot.DeskFault.{DeskFault}
 use Rattle.nfp_outside.specs.declared.slot.DeskFault.TheVariants.{Failed, NoMemory}
 use Rattle.nfp_outside.specs.declared.slot.OutsideFault.{OutsideFault}
@@ -29,6 +29,7 @@ is_read Capture = true
 is_read Out = false
 is_read Report = false
 is_read Note = false
+is_read Graph = true
 
 -- a count that was before is now: it is greater, or it stands at the end of its type
 abbrev pub IsRisen : ℕ → ℕ → Type 0

@@ -51,6 +51,7 @@ pub struct FileDesk<R: Files + Print + AllocGlobal + Drop> {
     out: Port<BufWriter<Target<R::File>>>,
     report: Port<BufWriter<Target<R::File>>>,
     note_faults: u64,
+    graph: Port<BufReader<R::File>>,
     lost: Option<Slot>,
 }
 
@@ -67,6 +68,7 @@ impl<R: Files + Print + AllocGlobal + Drop> FileDesk<R> {
             out: Port::new(),
             report: Port::new(),
             note_faults: 0,
+            graph: Port::new(),
             lost: None,
         }
     }
@@ -98,6 +100,10 @@ impl<R: Files + Print + AllocGlobal + Drop> FileDesk<R> {
                 source_identity(&self.capture),
                 Reason::AttachedAt(Slot::Capture),
             ),
+            (
+                source_identity(&self.graph),
+                Reason::AttachedAt(Slot::Graph),
+            ),
             (target_identity(&self.out), Reason::AttachedAt(Slot::Out)),
             (
                 target_identity(&self.report),
@@ -128,6 +134,7 @@ impl<R: Files + Print + AllocGlobal + Drop> FileDesk<R> {
             Slot::Out => self.out.reason,
             Slot::Report => self.report.reason,
             Slot::Note => None,
+            Slot::Graph => self.graph.reason,
         }
     }
 
@@ -152,7 +159,8 @@ impl<R: Files + Print + AllocGlobal + Drop> FileDesk<R> {
 impl<R: Files + Print + AllocGlobal + Drop> Desk for FileDesk<R> {
     ghost slots = { λ d. at_slot
         (port_view d.policy) (port_view d.capture)
-        (port_view d.out) (port_view d.report) (stream_view d.note_faults) };
+        (port_view d.out) (port_view d.report) (stream_view d.note_faults)
+        (port_view d.graph) };
 
     /// `Failed` where the file can't be opened, and at Out and Report also where it is one that is
     /// attached already, or to which standard output or standard error leads. The count of the slot rises by one then, and in no other case.
@@ -186,6 +194,7 @@ impl<R: Files + Print + AllocGlobal + Drop> Desk for FileDesk<R> {
                 Ok(())
             }
             Slot::Note => unreachable!(),
+            Slot::Graph => self.graph.attach(slot, text, open(&self.rt, name)),
         }
     }
 
@@ -210,6 +219,7 @@ impl<R: Files + Print + AllocGlobal + Drop> Desk for FileDesk<R> {
         match slot {
             Slot::Policy => self.policy.read(into),
             Slot::Capture => self.capture.read(into),
+            Slot::Graph => self.graph.read(into),
             _ => unreachable!(),
         }
     }

@@ -17,16 +17,17 @@ pub struct FixedDesk {
     out: Sink,
     report: Sink,
     note: Sink,
+    graph: Source,
     ghost moves: { 1 ≤ step },
 }
 
 impl FixedDesk {
-    ghost use Rattle.std.specs.Prelude.{◌≡◌, ◌≤◌, [], None, false};
+    ghost use Rattle.std.specs.Prelude.{◌≡◌, ◌≢◌, ◌≤◌, [], None, false};
     ghost use Rattle.nfp_outside.specs.declared.slot.Slot.{Slot};
     ghost use Rattle.nfp_outside.specs.Outside.{is_read};
     ghost use Rattle.nfp_outside.specs.Memory.{fixed_slots, contents, step_of};
 
-    /// A desk whose read slots hold these bytes, whose write slots are empty, and which moves at most
+    /// A desk whose read slots hold these bytes, Graph none, whose write slots are empty, and which moves at most
     /// `step` bytes in a call. Nothing is attached.
     #[tactic(auto, unfolding(crate::specs::Slots::at_slot))]
     pub fn new(alloc: Global, policy: Vec<u8>, capture: Vec<u8>, step: usize) -> Self
@@ -34,6 +35,7 @@ impl FixedDesk {
         ensures names { (s : Slot) → (fixed_slots result s).name ≡ None }
         ensures policy { contents result Slot.Policy ≡ policy.items }
         ensures capture { contents result Slot.Capture ≡ capture.items }
+        ensures graph { contents result Slot.Graph ≡ [] }
         ensures empty { (s : Slot) → is_read s ≡ false → contents result s ≡ [] }
         ensures step { step_of result ≡ step }
     {
@@ -45,7 +47,20 @@ impl FixedDesk {
             out: Sink::new(alloc),
             report: Sink::new(alloc),
             note: Sink::new(alloc),
+            graph: Source::new(Vec::new(alloc)),
         }
+    }
+
+    /// The same desk, whose Graph holds these bytes and isn't attached.
+    #[tactic(auto, unfolding(crate::specs::Slots::at_slot))]
+    pub fn with_graph(mut self, graph: Vec<u8>) -> Self
+        ensures name { (fixed_slots result Slot.Graph).name ≡ None }
+        ensures graph { contents result Slot.Graph ≡ graph.items }
+        ensures others { (s : Slot) → s ≢ Slot.Graph → fixed_slots result s ≡ fixed_slots self s }
+        ensures step { step_of result ≡ step_of self }
+    {
+        self.graph = Source::new(graph);
+        self
     }
 
     /// The bytes that a write slot holds.
@@ -90,6 +105,7 @@ impl Desk for FixedDesk {
             Slot::Out => self.out.attach(self.alloc, name),
             Slot::Report => self.report.attach(self.alloc, name),
             Slot::Note => unreachable!(),
+            Slot::Graph => self.graph.attach(self.alloc, name),
         }
     }
 
@@ -112,6 +128,7 @@ impl Desk for FixedDesk {
         match slot {
             Slot::Policy => Ok(self.policy.read(into, self.step)),
             Slot::Capture => Ok(self.capture.read(into, self.step)),
+            Slot::Graph => Ok(self.graph.read(into, self.step)),
             _ => unreachable!(),
         }
     }

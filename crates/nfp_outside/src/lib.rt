@@ -1,6 +1,6 @@
 //! Where a program's bytes come from and go to.
 //!
-//! A [`Desk`] has five slots: two that are read and three that are written. Each slot has a name
+//! A [`Desk`] has six slots: three that are read and three that are written. Each slot has a name
 //! once it is attached, bytes that are left in it or were put into it, and a count of the calls on
 //! it that failed. [`read_all`] and [`write_whole`] carry whole texts over a desk, and a [`Gate`]
 //! is what each step of a function passes first.

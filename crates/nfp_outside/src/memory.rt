@@ -19,6 +19,7 @@ pub struct MemDesk {
     out: CallCounts,
     report: CallCounts,
     note: CallCounts,
+    graph: CallCounts,
 }
 
 impl MemDesk {
@@ -27,7 +28,7 @@ impl MemDesk {
     ghost use Rattle.nfp_outside.specs.Outside.{is_read, one_more, HasCause, CountsFailure};
     ghost use Rattle.nfp_outside.specs.Memory.{mem_slots, mem_contents, mem_step, calls_of, listed, call_counts};
 
-    /// A desk whose read slots hold these bytes, whose write slots are empty, which moves at most
+    /// A desk whose read slots hold these bytes, Graph none, whose write slots are empty, which moves at most
     /// `step` bytes in a call, and which fails at the listed calls. Nothing is attached, and every
     /// count is 0.
     #[tactic(auto, unfolding(crate::specs::Slots::at_slot))]
@@ -42,6 +43,7 @@ impl MemDesk {
         ensures names { (s : Slot) → (mem_slots result s).name ≡ None }
         ensures policy { mem_contents result Slot.Policy ≡ policy.items }
         ensures capture { mem_contents result Slot.Capture ≡ capture.items }
+        ensures graph { mem_contents result Slot.Graph ≡ [] }
         ensures empty { (s : Slot) → is_read s ≡ false → mem_contents result s ≡ [] }
         ensures faults { (s : Slot) → (mem_slots result s).faults ≡ 0 }
         ensures calls { (s : Slot) → calls_of result s ≡ 0 }
@@ -56,7 +58,22 @@ impl MemDesk {
             out: CallCounts::new(),
             report: CallCounts::new(),
             note: CallCounts::new(),
+            graph: CallCounts::new(),
         }
+    }
+
+    /// The same desk, whose Graph holds these bytes and isn't attached.
+    pub fn with_graph(mut self, graph: Vec<u8>) -> Self
+        ensures name { (mem_slots result Slot.Graph).name ≡ None }
+        ensures graph { mem_contents result Slot.Graph ≡ graph.items }
+        ensures others { (s : Slot) → s ≢ Slot.Graph → mem_slots result s ≡ mem_slots self s }
+        ensures faults { (s : Slot) → (mem_slots result s).faults ≡ (mem_slots self s).faults }
+        ensures calls { (s : Slot) → calls_of result s ≡ calls_of self s }
+        ensures step { mem_step result ≡ mem_step self }
+        ensures listed { listed result ≡ listed self }
+    {
+        self.held = self.held.with_graph(graph);
+        self
     }
 
     /// The bytes that a write slot holds.
@@ -79,6 +96,7 @@ impl MemDesk {
             Slot::Out => self.out.calls,
             Slot::Report => self.report.calls,
             Slot::Note => self.note.calls,
+            Slot::Graph => self.graph.calls,
         }
     }
 
@@ -110,6 +128,7 @@ impl MemDesk {
             Slot::Out => self.out.count(fails),
             Slot::Report => self.report.count(fails),
             Slot::Note => self.note.count(fails),
+            Slot::Graph => self.graph.count(fails),
         }
     }
 }

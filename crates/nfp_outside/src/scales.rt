@@ -10,7 +10,7 @@ use std::alloc::Global;
 /// A desk that keeps of all that is put into it only how many bytes it is and what they weigh: its
 /// memory doesn't grow. It tells these and no bytes.
 ///
-/// Capture, Out and Report are attached from the start, under the empty name. Nothing is left in a
+/// Capture, Out, Report and Graph are attached from the start, under the empty name. Nothing is left in a
 /// read slot. It never fails, so each count of faults is 0 for good; a piece that would carry the
 /// count of bytes past the end of `u64` is refused with `NoMemory`.
 #[derive(Drop)]
@@ -29,7 +29,7 @@ impl Scales {
     ghost use Rattle.nfp_outside.specs.Weights.{no_weight};
     ghost use Rattle.nfp_outside.specs.Scales.{scales_slots};
 
-    /// A desk into which nothing was put. Capture, Out and Report are attached.
+    /// A desk into which nothing was put. Capture, Out, Report and Graph are attached.
     #[tactic(auto, unfolding(crate::specs::Slots::at_slot))]
     pub fn new(alloc: Global) -> Self
         ensures policy { IsNone (scales_slots result Slot.Policy).name }

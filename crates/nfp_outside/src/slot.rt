@@ -2,7 +2,7 @@
 
 use thiserror::Error;
 
-/// A place that bytes come from or go to. Policy and Capture are read, the others are written.
+/// A place that bytes come from or go to. Policy, Capture and Graph are read, the others are written.
 #[derive(Clone, Copy, Debug, PartialEq, Eq)]
 pub enum Slot {
     /// What the operator wants: the text of a policy. Read.
@@ -15,6 +15,8 @@ pub enum Slot {
     Report,
     /// A note to the operator. Written, and open from the start.
     Note,
+    /// The text of graphs that the operator wrote by hand. Read.
+    Graph,
 }
 
 /// Why a call of a desk was refused. Nothing was taken, put or attached then.

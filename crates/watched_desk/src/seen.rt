@@ -7,7 +7,7 @@ use std::alloc::Global;
 /// How many of the first bytes of a capture are kept.
 const FRONT: usize = 64;
 
-/// The names of a run, the text of its policy, and the first bytes of its capture. Where there was no memory for one of them, it
+/// The names of a run, the text of its policy and of its graphs, and the first bytes of its capture. Where there was no memory for one of them, it
 /// is as if it had not been seen.
 #[derive(Drop)]
 pub struct Seen {
@@ -16,7 +16,9 @@ pub struct Seen {
     capture_name: Option<String>,
     out_name: Option<String>,
     report_name: Option<String>,
+    graph_name: Option<String>,
     policy: Option<Vec<u8>>,
+    graph: Option<Vec<u8>>,
     front: Vec<u8>,
 }
 
@@ -29,7 +31,9 @@ impl Seen {
             capture_name: None,
             out_name: None,
             report_name: None,
+            graph_name: None,
             policy: Some(Vec::new(alloc)),
+            graph: Some(Vec::new(alloc)),
             front: Vec::new(alloc),
         }
     }
@@ -41,6 +45,7 @@ impl Seen {
             Slot::Capture => &self.capture_name,
             Slot::Out => &self.out_name,
             Slot::Report => &self.report_name,
+            Slot::Graph => &self.graph_name,
             Slot::Note => return None,
         };
         match name {
@@ -57,18 +62,17 @@ impl Seen {
         }
     }
 
+    /// What was read of the text of graphs.
+    pub fn graph(&self) -> Option<&[u8]> {
+        match &self.graph {
+            Some(bytes) => Some(bytes.as_slice()),
+            None => None,
+        }
+    }
+
     /// The first bytes of what was read of the capture, at most 64.
     pub fn front(&self) -> &[u8] {
         &self.front
-    }
-
-    // Keeps more of the policy, or lets go of it whole.
-    fn keep_policy(&mut self, bytes: &[u8]) {
-        if let Some(kept) = &mut self.policy
-            && kept.extend_from_slice(bytes).is_err()
-        {
-            self.policy = None;
-        }
     }
 
     // Keeps the first bytes of the capture.
@@ -88,17 +92,28 @@ impl Watcher for Seen {
             Slot::Capture => self.capture_name = name,
             Slot::Out => self.out_name = name,
             Slot::Report => self.report_name = name,
+            Slot::Graph => self.graph_name = name,
             Slot::Note => {}
         }
     }
 
     fn passed(&mut self, slot: Slot, bytes: &[u8]) {
         match slot {
-            Slot::Policy => self.keep_policy(bytes),
+            Slot::Policy => keep(&mut self.policy, bytes),
+            Slot::Graph => keep(&mut self.graph, bytes),
             Slot::Capture => self.keep_front(bytes),
             _ => {}
         }
     }
 
     fn writing(&mut self, _slot: Slot) {}
+}
+
+// Keeps more of a text, or lets go of it whole.
+fn keep(text: &mut Option<Vec<u8>>, bytes: &[u8]) {
+    if let Some(kept) = text
+        && kept.extend_from_slice(bytes).is_err()
+    {
+        *text = None;
+    }
 }
