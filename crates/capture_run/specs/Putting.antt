@@ -2,7 +2,7 @@
 use Rattle.std.proofs.Common.{◌≡◌, ◌≢◌, ◌≤◌, inl, inr, ℕ, List, [], ◌++◌, ap, sym, subst, arith}
 use Rattle.std.specs.Prelude.{Result, Err}
 use Rattle.nfp_outside.specs.declared.slot.Slot.{Slot}
-use Rattle.nfp_outside.specs.declared.slot.Slot.TheVariants.{Policy, Capture, Out, Report, Note}
+use Rattle.nfp_outside.specs.declared.slot.Slot.TheVariants.{Policy, Capture, Out, Report, Note, Graph}
 use Rattle.nfp_outside.specs.declared.slot.OutsideFault.{OutsideFault}
 use Rattle.nfp_outside.specs.declared.slot.OutsideFault.TheVariants as outside
 use Rattle.nfp_outside.specs.Outside.{SlotView, IsRisen, Appends, AppendsPrefix, WriteCause}
@@ -138,6 +138,7 @@ earlier_cause old mid new (faults.WriteFault Report) l h = risen_earlier _ _ _ l
 earlier_cause old mid new (faults.WriteFault Policy) l h = h
 earlier_cause old mid new (faults.WriteFault Capture) l h = h
 earlier_cause old mid new (faults.WriteFault Note) l h = h
+earlier_cause old mid new (faults.WriteFault Graph) l h = h
 earlier_cause old mid new faults.ReadFault l h = risen_earlier _ _ _ l.capture h
 earlier_cause old mid new faults.OutOfMemory l h = tt
 

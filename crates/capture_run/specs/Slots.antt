@@ -1,7 +1,7 @@
 -- For proofs: what a run puts into Out and Report, step by step.
 use Rattle.std.specs.Prelude.{◌≡◌, ◌≤◌, ℕ, List, [], ◌++◌}
 use Rattle.nfp_outside.specs.declared.slot.Slot.{Slot}
-use Rattle.nfp_outside.specs.declared.slot.Slot.TheVariants.{Policy, Capture, Out, Report, Note}
+use Rattle.nfp_outside.specs.declared.slot.Slot.TheVariants.{Policy, Capture, Out, Report, Note, Graph}
 use Rattle.nfp_outside.specs.declared.slot.OutsideFault.{OutsideFault}
 use Rattle.nfp_outside.specs.declared.slot.OutsideFault.TheVariants as outside
 use Rattle.nfp_outside.specs.Outside.{SlotView, IsRisen, Appends, AppendsPrefix}
@@ -34,6 +34,7 @@ IsBroken old new (faults.WriteFault Report) = IsRisen (old Report).faults (new R
 IsBroken old new (faults.WriteFault Policy) = ⊥
 IsBroken old new (faults.WriteFault Capture) = ⊥
 IsBroken old new (faults.WriteFault Note) = ⊥
+IsBroken old new (faults.WriteFault Graph) = ⊥
 IsBroken old new faults.OutOfMemory = Unit {0}
 
 -- Putting was broken off, and what was put is a front part.

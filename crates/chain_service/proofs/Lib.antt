@@ -4,3 +4,4 @@ pub mod Joining
 pub mod Opens
 pub mod Serving
 pub mod Taking
+pub mod Written

@@ -17,7 +17,8 @@ use Rattle.net_functions.specs.declared.making.Made.TheVariants as made
 use Rattle.nf_tunnel.specs.Tunnels.{encapsulated, decapsulated}
 use Rattle.piece_walk.specs.Pieces.{Piece, Graph, Whole, count_of}
 use Rattle.segment_run.specs.Segments.{functions_count}
-use Rattle.chain_service.specs.Services.{compiled, cut, declared_at, pieces_at, with_first, with_made}
+use Rattle.graph_compile.specs.declared.graph.Graph.{Graph as StagedGraph}
+use Rattle.chain_service.specs.Services.{compiled, cut, declared_at, in_graph, pieces_at, with_first, with_made}
 use Rattle.chain_service.specs.declared.named.NamedFunction.{NamedFunction}
 
 first_counts : (f : NamedFunction) (later : List (Piece NamedFunction)) → functions_count (with_first f later) ≡ suc (functions_count later)
@@ -54,6 +55,14 @@ few_places chain order ordered =
     let few = ordered.few in
     omega (arith, all, few, length-range_with_len 0 (length chain.functions))
 
-pub few_functions : (chain : ChainPolicy) (order : Order) → IsOrdered chain order → functions_count (pieces_at chain.functions order.positions) ≤ 64
-few_functions chain order ordered =
-    omega (arith, cut_counts (flat_map (declared_at chain.functions) order.positions), few_at chain.functions order.positions, few_places chain order ordered)
+-- a graph that is written for a chain leaves it its functions
+same_count : (graph : Option StagedGraph) (pieces : List (Piece NamedFunction)) → functions_count (in_graph graph pieces) ≡ functions_count pieces
+same_count None pieces = refl
+same_count (Some graph) [] = refl
+same_count (Some graph) (Graph stages functions ∷ []) = refl
+same_count (Some graph) (Whole rewritten ∷ []) = refl
+same_count (Some graph) (one ∷ two ∷ later) = refl
+
+pub few_functions : (chain : ChainPolicy) (order : Order) (graph : Option StagedGraph) → IsOrdered chain order → functions_count (in_graph graph (pieces_at chain.functions order.positions)) ≤ 64
+few_functions chain order graph ordered =
+    omega (arith, same_count graph (pieces_at chain.functions order.positions), cut_counts (flat_map (declared_at chain.functions) order.positions), few_at chain.functions order.positions, few_places chain order ordered)

@@ -1,4 +1,5 @@
 pub mod Cutting
+pub mod Fitting
 pub mod NamedFunctionLaws
 pub mod NamedFunctions
 pub mod Opening

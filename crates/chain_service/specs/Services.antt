@@ -1,4 +1,5 @@
--- Believed: what a policy runs: its chains, each cut into pieces, with its functions in the order in which a packet walks through them.
+-- Believed: what a policy runs: its chains, each cut into pieces, with its functions in the order in which a packet walks through them. A chain
+-- for which a graph was written by hand runs in that graph.
 use Rattle.std.specs.Prelude.{ℕ, List, [], ◌∷◌, map, slice_get, Option, Some, None, Result, Ok, Err}
 use Rattle.std.specs.List.{flat_map, zip}
 use Rattle.std.specs.Option.{option_map_or}
@@ -8,7 +9,9 @@ use Rattle.policy_check.specs.declared.fault.Order.{Order}
 use Rattle.policy_judge.specs.declared.fault.Refusal.{Refusal}
 use Rattle.policy_judge.specs.declared.judged.Judged.{Judged}
 use Rattle.graph_compile.specs.Stages.{graph_of}
+use Rattle.graph_compile.specs.declared.graph.Graph.{Graph as StagedGraph}
 use Rattle.graph_compile.specs.declared.graph.Stage.{Stage}
+use Rattle.graph_text.specs.Graphs.{no_graph}
 use Rattle.policy_text.specs.Names.{names_at}
 use Rattle.net_functions.specs.Builds.{function_of}
 use Rattle.net_functions.specs.declared.making.Made.{Made}
@@ -57,18 +60,31 @@ declared_at declared place = option_map_or (λ decl. decl ∷ []) (slice_get dec
 abbrev pub pieces_at : List FunctionDecl → List ℕ → List (Piece NamedFunction)
 pieces_at declared places = cut (flat_map (declared_at declared) places)
 
--- the names of the functions of each chain, and its pieces, by its order
+-- the functions of a piece in another graph; one that rewrites frames whole runs in none
+abbrev pub by_graph : StagedGraph → Piece NamedFunction → Piece NamedFunction
+by_graph graph (Graph stages functions) = Graph graph.stages functions
+by_graph graph (Whole rewritten) = Whole rewritten
+
+-- a chain of one piece in the graph that was written for it, if one was
+abbrev pub in_graph : Option StagedGraph → List (Piece NamedFunction) → List (Piece NamedFunction)
+in_graph (Some graph) (piece ∷ []) = by_graph graph piece ∷ []
+in_graph graph pieces = pieces
+
+-- the names of the functions of each chain, and its pieces, by its order and the graph that was written for it
 abbrev pub names_by : List ChainPolicy → List Order → List (List (List ℕ))
 names_by chains orders = map (λ x. names_at x.0.functions x.1.positions) (zip chains orders)
 
-abbrev pub pieces_by : List ChainPolicy → List Order → List (List (Piece NamedFunction))
-pieces_by chains orders = map (λ x. pieces_at x.0.functions x.1.positions) (zip chains orders)
+abbrev pub pieces_of_one : (ChainPolicy × Order) × Option StagedGraph → List (Piece NamedFunction)
+pieces_of_one x = in_graph x.1 (pieces_at x.0.0.functions x.0.1.positions)
 
--- the chains of a policy
-abbrev pub service_among : List ChainPolicy → List Order → Chains
-service_among chains orders = record { declared = chains; names = names_by chains orders; pieces = pieces_by chains orders }
+abbrev pub pieces_by : List ChainPolicy → List Order → List (Option StagedGraph) → List (List (Piece NamedFunction))
+pieces_by chains orders graphs = map pieces_of_one (zip (zip chains orders) graphs)
 
--- the same for a policy without fault; a policy that is refused runs nothing
+-- the chains of a policy, each with its order, and with the graph that was written for it, if one was
+abbrev pub service_among : List ChainPolicy → List Order → List (Option StagedGraph) → Chains
+service_among chains orders graphs = record { declared = chains; names = names_by chains orders; pieces = pieces_by chains orders graphs }
+
+-- the chains of a policy without fault, for which no graph was written; a policy that is refused runs nothing
 abbrev pub service_of : Result Judged Refusal → Option Chains
-service_of (Ok judged) = Some (service_among judged.policy.chains judged.orders)
+service_of (Ok judged) = Some (service_among judged.policy.chains judged.orders (map no_graph judged.policy.chains))
 service_of (Err refusal) = None

@@ -11,6 +11,7 @@
 #![tactic(auto)]
 
 mod cutting;
+mod in_graph;
 mod named;
 mod pieces;
 mod service;

@@ -6,14 +6,17 @@ ghost use Rattle.policy_judge.specs.Making.{functions_made, place_of};
 ghost use Rattle.policy_judge.specs.Orders.{IsOrdered};
 ghost use Rattle.segment_run.specs.Segments.{pieces_of};
 ghost use Rattle.chain_service.specs.Cutting.{GoesOn, with_declared};
+ghost use Rattle.chain_service.specs.Fitting.{FitAll, Fits};
 ghost use Rattle.chain_service.specs.Opening.{IsOpening, IsOpeningChain, chains_of, pieces_in};
-ghost use Rattle.chain_service.specs.Services.{names_by, pieces_at, pieces_by, service_among};
+ghost use Rattle.chain_service.specs.Services.{in_graph, names_by, pieces_at, pieces_by, service_among};
 ghost use Rattle.chain_service.specs.Taking.{without};
 
 use crate::cutting::Cutting;
+use crate::in_graph::in_graph;
 use crate::named::NamedFunction;
 use crate::pieces::ChainPieces;
 use classifier::ClassTable;
+use graph_compile::Graph;
 use item_list::Items;
 use net_functions::Made;
 use packet_version::Tally;
@@ -24,7 +27,7 @@ use segment_run::Piece;
 use std::alloc::{AllocError, Global};
 
 /// A chain that runs: as it is declared; the names of its functions, in the order in which a packet goes through them; its pieces, each with a graph
-/// that is compiled for its functions; and the copies that were made of its packets' fields.
+/// that is compiled for its functions, or that was written for them; and the copies that were made of its packets' fields.
 #[derive(Drop)]
 pub struct ServiceChain {
     pub declared: ChainPolicy,
@@ -40,13 +43,19 @@ pub struct Service {
     pub chains: Items<ServiceChain>,
 }
 
-/// What a policy without fault runs.
+/// What a policy without fault runs, each chain in the graph that is written for it, if one is. A chain that has a function that rewrites
+/// packets whole besides others is compiled whatever is written.
 #[tactic(auto, using(crate::proofs::Opens::opens))]
-pub fn make_service(alloc: Global, judged: Judged) -> Result<Service, AllocError>
+pub fn make_service(
+    alloc: Global,
+    judged: Judged,
+    graphs: Vec<Option<Graph>>,
+) -> Result<Service, AllocError>
     requires ordered { AllZip IsOrdered judged.policy.chains judged.orders }
     requires made { judged.functions ≡ functions_made judged.policy.chains }
     requires few { length judged.policy.chains ≤ 16 }
-    ensures runs { IfOk result (λ s. chains_of s.chains ≡ service_among judged.policy.chains judged.orders) }
+    requires fit { FitAll judged.policy.chains judged.orders graphs.items }
+    ensures runs { IfOk result (λ s. chains_of s.chains ≡ service_among judged.policy.chains judged.orders graphs.items) }
     ensures opening { IfOk result IsOpening }
 {
     let Judged {
@@ -56,51 +65,56 @@ pub fn make_service(alloc: Global, judged: Judged) -> Result<Service, AllocError
     } = judged;
     let classes = ClassTable::new(alloc, &policy)?;
     let Policy { chains } = policy;
-    let chains = service_chains(alloc, chains, orders, functions)?;
+    let chains = service_chains(alloc, chains, orders, graphs, functions)?;
     Ok(Service { classes, chains })
 }
 
-// The chains, each cut by its order into pieces of the functions that were made for it.
+// The chains, each cut by its order into pieces of the functions that were made for it, and in the graph that is written for it.
 fn service_chains(
     alloc: Global,
     chains: Items<ChainPolicy>,
     orders: Items<Order>,
+    graphs: Vec<Option<Graph>>,
     made: Items<Items<Option<Made>>>,
 ) -> Result<Items<ServiceChain>, AllocError>
     requires ordered { AllZip IsOrdered chains orders }
+    requires fit { FitAll chains orders graphs.items }
     requires made { made ≡ functions_made chains }
     ensures declared { IfOk result (λ s. map (λ c. c.declared) s ≡ chains) }
     ensures names { IfOk result (λ s. map (λ c. c.names) s ≡ names_by chains orders) }
-    ensures pieces { IfOk result (λ s. map pieces_in s ≡ pieces_by chains orders) }
+    ensures pieces { IfOk result (λ s. map pieces_in s ≡ pieces_by chains orders graphs.items) }
     ensures opening { IfOk result (All IsOpeningChain) }
 {
     let mut running = Vec::new(alloc);
     let chains = chains.into_vec().into_iter().zip(orders.into_vec());
-    'chains: for ((chain, order), made) in chains.zip(made.into_vec()) {
-        running.push(service_chain(alloc, chain, &order, made)?)?;
+    let chains = chains.zip(graphs);
+    'chains: for (((chain, order), graph), made) in chains.zip(made.into_vec()) {
+        running.push(service_chain(alloc, chain, &order, graph, made)?)?;
     }
     Ok(Items::new(running))
 }
 
 // A chain with the names of its functions in its order, and its pieces.
-#[tactic(auto, using(crate::proofs::Serving::few_functions))]
 fn service_chain(
     alloc: Global,
     chain: ChainPolicy,
     order: &Order,
+    graph: Option<Graph>,
     made: Items<Option<Made>>,
 ) -> Result<ServiceChain, AllocError>
     requires ordered { IsOrdered chain order.now }
+    requires fits { Fits (chain, order.now) graph }
     requires made { made ≡ map place_of chain.functions }
     ensures declared { IfOk result (λ c. c.declared ≡ chain) }
     ensures names { IfOk result (λ c. c.names ≡ names_at chain.functions order.now.positions) }
-    ensures pieces { IfOk result (λ c. pieces_in c ≡ pieces_at chain.functions order.now.positions) }
+    ensures pieces { IfOk result (λ c. pieces_in c ≡ in_graph graph (pieces_at chain.functions order.now.positions)) }
     ensures opening { IfOk result IsOpeningChain }
 {
     let declared = chain.functions.as_slice();
     let places = order.positions.as_slice();
     let names = names(alloc, declared, places)?;
     let pieces = pieces(alloc, declared, places, made.into_vec())?;
+    let pieces = in_graph(pieces, graph)?;
     Ok(ServiceChain {
         declared: chain,
         names: Items::new(names),

@@ -28,8 +28,8 @@ fn place_of_chain(chains: &[ChainPolicy], name: &[u8]) -> Option<usize>
     chains.iter().position(|chain| chain.name.bytes() == name)
 }
 
-/// The functions of the chain at a place, as they are declared.
-pub(crate) fn functions_at(chains: &[ChainPolicy], place: u32) -> &[FunctionDecl]
+/// The functions of the chain at a place, counted from 0, as they are declared; none past the last chain.
+pub fn functions_at(chains: &[ChainPolicy], place: u32) -> &[FunctionDecl]
     ensures { result.now ≡ functions_at chains.now place }
 {
     match chains.get(place as usize) {

@@ -19,7 +19,7 @@ pub enum GraphFault {
     UnknownName(u32),
     /// A line that lists a chain again, or a function that stands already.
     Twice(u32),
-    /// A line that lists a chain with a function that works on the frame as a whole, as no kind does yet.
+    /// A line that lists a chain with a function that rewrites packets whole, as the ends of tunnels do.
     WholeChain(u32),
     /// In this chain this function doesn't stand.
     Missing(u32, u32),

@@ -102,7 +102,8 @@ fn graphs_with(
     Ok(graphs)
 }
 
-fn no_graphs(alloc: Global, chains: &[ChainPolicy]) -> Result<Vec<Option<Graph>>, AllocError>
+/// No graph for any of these chains. The one error is want of memory.
+pub fn no_graphs(alloc: Global, chains: &[ChainPolicy]) -> Result<Vec<Option<Graph>>, AllocError>
     ensures { IfOk result (λ graphs. graphs.items ≡ map no_graph chains.now) }
 {
     let mut graphs = Vec::new(alloc);

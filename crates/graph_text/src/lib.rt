@@ -23,6 +23,7 @@ mod listed;
 mod listing;
 mod standing;
 
+pub use chains::functions_at;
 pub use fault::{GraphFault, GraphReadFault};
-pub use graphs::read_graphs;
+pub use graphs::{no_graphs, read_graphs};
 pub use laws::lawful_stages_have_no_fault;

@@ -1,7 +1,11 @@
 -- A graph has no more stages than its chain has functions.
 use Rattle.std.proofs.Common.{◌≡◌, ◌<◌, ◌≤◌, ◌+◌, ℕ, suc, List, [], ◌∷◌, length, arith, refl}
 use Rattle.std.specs.Prelude.{slice_get, Some}
+use Rattle.std.proofs.lemmas.List.{length-map}
 use Rattle.std.proofs.lemmas.List.Sums.{sum_by-cons}
+use Rattle.policy_text.specs.declared.policy.FunctionDecl.{FunctionDecl}
+use Rattle.plan_text.specs.Plan.{profile_in, profiles_in}
+use Rattle.plan_text.specs.Putting.{IsShownFor}
 use Rattle.action_profile.specs.declared.rights.Profile.{Profile}
 use Rattle.graph_compile.specs.declared.graph.Branch.{Branch}
 use Rattle.graph_compile.specs.declared.graph.Graph.{Graph}
@@ -30,3 +34,9 @@ pub few_stages : (graph : Graph) (chain : List Profile) → IsFull graph → IsS
 few_stages graph chain full staged =
     let many = rising chain 1 graph.stages (suc (length chain)) staged full.branches full.functions in
     omega (arith, many)
+
+-- nor has one that was written for the chain
+pub few_written : (functions : List FunctionDecl) (order : List ℕ) (graph : Graph) → IsShownFor functions order (Some graph) → length order ≤ 64 → 1 + length graph.stages ≤ 65
+few_written functions order graph shown few =
+    let many = few_stages graph (profiles_in functions order) shown.0 shown.1 in
+    omega (arith, many, few, length-map order (profile_in functions))

@@ -1,5 +1,5 @@
 -- Believed: the plan of a chain, as text.
-use Rattle.std.specs.Prelude.{ℕ, suc, ◌+◌, ◌-◌, Bool, ◌||◌, List, [], ◌∷◌, ◌++◌, length, codes, map, slice_get, slice_index_or, if◌then◌else◌}
+use Rattle.std.specs.Prelude.{ℕ, suc, ◌+◌, ◌-◌, Bool, ◌||◌, List, [], ◌∷◌, ◌++◌, length, codes, map, slice_get, slice_index_or, if◌then◌else◌, Option, Some, None}
 use Rattle.std.specs.Fmt.{decimal}
 use Rattle.std.specs.List.{flat_map, list_any}
 use Rattle.std.specs.Option.{option_map_or}
@@ -14,6 +14,7 @@ use Rattle.action_profile.specs.declared.rights.Profile.{Profile}
 use Rattle.action_profile.specs.Modes.{has_touch, copies}
 use Rattle.graph_compile.specs.Stages.{graph_of}
 use Rattle.graph_compile.specs.declared.graph.Branch.{Branch}
+use Rattle.graph_compile.specs.declared.graph.Graph.{Graph}
 use Rattle.graph_compile.specs.declared.graph.Stage.{Stage}
 use Rattle.policy_text.specs.declared.policy.ChainPolicy.{ChainPolicy}
 use Rattle.policy_text.specs.declared.policy.FunctionDecl.{FunctionDecl}
@@ -86,7 +87,12 @@ pieces_text functions number [] = []
 pieces_text functions number (piece ∷ later) =
     numbered (stage_text functions piece) number (stages_of functions piece) ++ pieces_text functions (number + length (stages_of functions piece)) later
 
+-- the stages of a chain: those of the graph that was written for it, or else those of its pieces
+abbrev pub stages_text : List FunctionDecl → List ℕ → Option Graph → List ℕ
+stages_text functions order None = pieces_text functions 1 (cut functions order)
+stages_text functions order (Some graph) = numbered (stage_text functions order) 1 graph.stages
+
 -- the line of a chain, that of its functions in chain order, and its stages
-unfoldable pub chain_plan : ChainPolicy → List ℕ → List ℕ
-chain_plan chain order =
-    line_of (codes "chain " ∷ chain.name ∷ []) ++ line_of (codes "order" ∷ spaced (names_at chain.functions order) ∷ []) ++ pieces_text chain.functions 1 (cut chain.functions order)
+unfoldable pub chain_plan : ChainPolicy → List ℕ → Option Graph → List ℕ
+chain_plan chain order graph =
+    line_of (codes "chain " ∷ chain.name ∷ []) ++ line_of (codes "order" ∷ spaced (names_at chain.functions order) ∷ []) ++ stages_text chain.functions order graph

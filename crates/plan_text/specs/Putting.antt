@@ -1,7 +1,10 @@
--- For proofs: the stages of a chain are put piece by piece.
-use Rattle.std.specs.Prelude.{ℕ, ◌≡◌, ◌<◌, ◌≤◌, ◌+◌, List, ◌∷◌, ◌++◌, length, take, drop, All}
+-- For proofs: the stages of a chain are put piece by piece, or those of a graph that was written for it.
+use Rattle.std.specs.Prelude.{Option, Some, None, ℕ, suc, ◌≡◌, ◌<◌, ◌≤◌, ◌+◌, List, ◌∷◌, ◌++◌, length, take, drop, All}
 use Rattle.policy_text.specs.declared.policy.FunctionDecl.{FunctionDecl}
-use Rattle.plan_text.specs.Plan.{cut, pieces_text}
+use Rattle.graph_compile.specs.Facts.{IsFull}
+use Rattle.graph_compile.specs.Lawful.{IsStaged}
+use Rattle.graph_compile.specs.declared.graph.Graph.{Graph}
+use Rattle.plan_text.specs.Plan.{cut, pieces_text, profiles_in}
 
 -- so many functions are the first piece of a chain
 pub record IsFirstPiece (functions : List FunctionDecl) (order : List ℕ) (count : ℕ) : Type 0 where
@@ -15,3 +18,8 @@ pub record IsPut (functions : List FunctionDecl) (order rest : List ℕ) (number
   pub inside : All (λ p. p < length functions) rest
   pub few : number + length rest ≤ 65
   pub counted : 0 < number
+
+-- a graph that was written for a chain: its stages follow each other through the chain, and none of them and no branch is empty
+abbrev pub IsShownFor : List FunctionDecl → List ℕ → Option Graph → Type 0
+IsShownFor functions order None = Unit {0}
+IsShownFor functions order (Some graph) = IsFull graph × IsStaged (profiles_in functions order) 1 graph.stages (suc (length (profiles_in functions order)))

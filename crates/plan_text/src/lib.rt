@@ -5,6 +5,7 @@
 //! that a branch touches: whether it is shared, moved to one branch, or copied, and how often. A chain
 //! is cut before and behind each function that rewrites packets whole, as the ends of tunnels do: each
 //! such function is a stage by itself, and what stands between two cuts is staged as a chain would be.
+//! For a chain whose graph an operator wrote by hand, its stages are shown.
 //! `specs/Plan.antt` has the text.
 #![tactic(auto)]
 

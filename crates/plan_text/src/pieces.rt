@@ -96,8 +96,8 @@ fn graph_in(alloc: Global, functions: &[FunctionDecl], piece: &[u32]) -> Result<
     Ok(graph)
 }
 
-// Adds the lines of stages, the first with this number.
-fn put_stages(
+/// Adds the lines of stages, the first with this number.
+pub(crate) fn put_stages(
     alloc: Global,
     out: &mut Vec<u8>,
     functions: &[FunctionDecl],

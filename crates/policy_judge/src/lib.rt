@@ -21,3 +21,4 @@ mod text;
 pub use fault::{JudgeFault, PolicyFault, Refusal};
 pub use judged::Judged;
 pub use judging::{judge, too_long};
+pub use text::action_text;

@@ -137,8 +137,8 @@ fn priority_line<'a>(
     )
 }
 
-// What a function does with a packet.
-fn action_text(alloc: Global, action: Action) -> Result<Vec<u8>, AllocError>
+/// What a function does with a packet, in words: `read src-ip`, `drop`. The one error is want of memory.
+pub fn action_text(alloc: Global, action: Action) -> Result<Vec<u8>, AllocError>
     ensures { IfOk result (λ text. text.items ≡ action_text action) }
 {
     match action {

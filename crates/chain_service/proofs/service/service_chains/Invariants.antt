@@ -7,8 +7,10 @@ abbrev pub invariant-chains : goal.invariant-chains
 invariant-chains l = record {
   can_next : (goal.iterator-chains).can_next l.chain-iterator;
   is_finite : (goal.iterator-chains).is_finite l.chain-iterator;
-  underway : IsUnderway l.fn.chains l.fn.orders l.running.items (into_iter_items (zip_first (zip_first l.chain-iterator))) (into_iter_items (zip_second (zip_first l.chain-iterator))) (into_iter_items (zip_second l.chain-iterator));
-  chains : IsCounted (zip_first (zip_first l.chain-iterator));
-  orders : IsCounted (zip_second (zip_first l.chain-iterator));
+  underway : IsUnderway l.fn.chains l.fn.orders l.fn.graphs.items l.running.items (into_iter_items (zip_first (zip_first (zip_first l.chain-iterator)))) (into_iter_items (zip_second (zip_first (zip_first l.chain-iterator))))
+      (into_iter_items (zip_second (zip_first l.chain-iterator))) (into_iter_items (zip_second l.chain-iterator));
+  chains : IsCounted (zip_first (zip_first (zip_first l.chain-iterator)));
+  orders : IsCounted (zip_second (zip_first (zip_first l.chain-iterator)));
+  graphs : IsCounted (zip_second (zip_first l.chain-iterator));
   made : IsCounted (zip_second l.chain-iterator);
 }
