@@ -1,6 +1,6 @@
 -- Packets that go on behind a piece.
 use Rattle.std.proofs.Common.{◌≡◌, ◌∙◌, ◌++◌, ◌+◌, ◌*◌, ℕ, List, [], ◌∷◌, length, take, drop, ap, sym, arith}
-use Rattle.std.specs.Prelude.{Some}
+use Rattle.std.specs.Prelude.{Some, OnOk, Result, Ok, Err}
 use Rattle.std.proofs.lemmas.List.{append-nil, drop_all, take_all}
 use Rattle.capture_bytes.specs.Packets.{time_of}
 use Rattle.capture_bytes.specs.declared.packet.PcapRecord.{PcapRecord}
@@ -37,3 +37,8 @@ adds_copy unit chain chosen chosen' item made fate frame push class seconds frac
 pub written_over : (result written items : List ℕ) (n : ℕ) → result ≡ take n (written ++ drop (length written) items) → n ≡ length items → length written ≡ length items → result ≡ written
 written_over result written items n is whole as_long =
     is ∙ ap (λ t. take n (written ++ t)) (drop_all (length written) items (omega arith)) ∙ ap (take n) (append-nil written) ∙ take_all n written (omega arith)
+
+-- what follows of what holds where a call succeeds
+pub on_ok_too : {T E P Q : Type 0} (r : Result T E) → (P → Q) → OnOk r P → OnOk r Q
+on_ok_too (Ok x) more p = more p
+on_ok_too (Err e) more p = tt

@@ -7,5 +7,6 @@ pub mod OnTheWay
 pub mod Alone
 pub mod GoingOn
 pub mod Leading
+pub mod InPlace
 pub mod PuttingBack
 pub mod Through

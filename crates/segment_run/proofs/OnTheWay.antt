@@ -1,5 +1,5 @@
 -- Packets on their way: they went through some pieces, and the others are left.
-use Rattle.std.proofs.Common.{◌≡◌, ◌≤◌, ◌∙◌, ◌+◌, ℕ, List, [], ◌∷◌, ◌++◌, map, ap, refl, sym, subst, append_assoc, arith}
+use Rattle.std.proofs.Common.{◌≡◌, ◌≤◌, ◌∙◌, ◌+◌, ℕ, List, [], ◌∷◌, ◌++◌, length, map, ap, refl, sym, subst, append_assoc, arith}
 use Rattle.std.specs.Prelude.{All}
 use Rattle.std.proofs.lemmas.List.Sums.{sum_by-append, sum_by-cons}
 use Rattle.packet_fields.specs.declared.field.Field.{Field}
@@ -10,6 +10,7 @@ use Rattle.chain_walk.specs.declared.walk.Fate.{Fate}
 use Rattle.piece_walk.specs.Pieces.{Piece, count_of}
 use Rattle.piece_walk.specs.PiecePackets.{long_fates, pieces_after}
 use Rattle.piece_walk.specs.Rejoining.{moved, put_back, still_going}
+use Rattle.piece_walk.proofs.PacketsInRow.{count_of_fates}
 use Rattle.piece_walk.proofs.Through.{fates_through, pieces_through}
 use Rattle.piece_walk.proofs.Within.{all_within}
 use Rattle.graph_run.specs.Counting.{RaisesUpTo}
@@ -71,6 +72,10 @@ module _ {F : Type 0} (b : Behaviour F) (packets : List Packet) where
       append_nil : (l : List (Piece F)) → l ++ [] ≡ l
       append_nil [] = refl
       append_nil (x ∷ l) = ap (λ r. x ∷ r) (append_nil l)
+
+  -- each packet ended or goes on
+  pub way_counts : (pieces left done : List (Piece F)) (old new : List ℕ) (ended : List Fate) (before : ℕ) → IsOnTheWay b pieces packets old new left done ended before → length ended ≡ length packets
+  way_counts pieces left done old new ended before at = ap length at.goes.fates ∙ count_of_fates b at.front packets
 
   -- what the pieces in front make is within what all make
   front_copies : (pieces front left : List (Piece F)) (f : Field) → pieces ≡ front ++ left → copies_through b front packets f ≤ copies_through b pieces packets f

@@ -1,8 +1,8 @@
 -- One step of putting fates back, and of choosing the packets that go on.
-use Rattle.std.proofs.Common.{◌≡◌, ◌≤◌, ◌<◌, ◌∙◌, ◌+◌, ℕ, true, false, List, [], ◌∷◌, ◌++◌, length, map, drop, ap, refl, sym, append_assoc, eq-eqb}
-use Rattle.std.specs.Prelude.{Option, Some, None, slice_index_or}
+use Rattle.std.proofs.Common.{◌≡◌, ◌∙◌, ℕ, true, List, [], ◌∷◌, ◌++◌, map, ap, refl, sym, append_assoc, eq-eqb}
+use Rattle.std.specs.Prelude.{Option, Some, None}
 use Rattle.std.specs.Option.{option_to_list}
-use Rattle.std.proofs.lemmas.List.{append-nil, drop_all, drop_more}
+use Rattle.std.proofs.lemmas.List.{append-nil}
 use Rattle.capture_bytes.specs.Packets.{time_of}
 use Rattle.capture_bytes.specs.declared.packet.Unit.{Unit as TimeUnit}
 use Rattle.chain_walk.specs.Packets.{Packet}
@@ -12,7 +12,7 @@ use Rattle.classifier.specs.declared.burst.Item.{Item}
 use Rattle.graph_run.specs.Packets.{is_of, packet_of, packets_taken}
 use Rattle.piece_walk.specs.Rejoining.{still_going, put_back, moved}
 use Rattle.segment_run.specs.Rewriting.{then_put}
-use Rattle.segment_run.proofs.Taken.{taken, skipped, taken_append}
+use Rattle.segment_run.proofs.Taken.{taken, taken_append}
 
 pub put_gone : (before position : ℕ) (rest later : List Fate) → put_back (Gone position ∷ rest) (map (moved before) later) ≡ then_put (Some (Gone position)) (put_back rest (map (moved before) later))
 unfolding put_back
@@ -64,28 +64,22 @@ module _ (unit : TimeUnit) (chain : ℕ) where
   abbrev due : List Item → List Item → List Fate → List Packet
   due chosen later ended = packets_taken unit chain chosen ++ still_going (packets_taken unit chain later) ended
 
-  pub going_skips : (chosen chosen' later : List Item) (item : Item) (ended : List Fate) → is_of chain item ≡ false → chosen' ≡ chosen → due chosen' later ended ≡ due chosen (item ∷ later) ended
-  going_skips chosen chosen' later item ended e same =
-      ap (λ l. due l later ended) same ∙ ap (λ ps. packets_taken unit chain chosen ++ still_going ps ended) (sym (skipped unit chain item later e))
-
-  pub going_ends : (chosen chosen' later : List Item) (item : Item) (ended : List Fate) (place : ℕ) → length ended ≤ place → chosen' ≡ chosen → due chosen' later (drop place ended) ≡ due chosen (item ∷ later) (drop place ended)
-  going_ends chosen chosen' later item ended place over same =
-      let none : drop place ended ≡ [] = drop_all place ended over in
-      ap (λ l. due l later (drop place ended)) same
-      ∙ ap (λ l. packets_taken unit chain chosen ++ l) (ap (still_going (packets_taken unit chain later)) none ∙ none_going (packets_taken unit chain later)
+  pub going_ends : (chosen chosen' later : List Item) (item : Item) (left left' : List Fate) → left ≡ [] → left' ≡ [] → chosen' ≡ chosen → due chosen' later left' ≡ due chosen (item ∷ later) left
+  going_ends chosen chosen' later item left left' none none' same =
+      ap (λ l. due l later left') same
+      ∙ ap (λ l. packets_taken unit chain chosen ++ l) (ap (still_going (packets_taken unit chain later)) none' ∙ none_going (packets_taken unit chain later)
       ∙ sym (ap (still_going (packets_taken unit chain (item ∷ later))) none ∙ none_going (packets_taken unit chain (item ∷ later))))
 
-  pub going_takes : (chosen chosen' later : List Item) (item : Item) (ended : List Fate) (place : ℕ) (fate : Fate) → is_of chain item ≡ true → place < length ended → fate ≡ slice_index_or ended place fate →
+  pub going_takes : (chosen chosen' later : List Item) (item : Item) (fate : Fate) (left left' : List Fate) → is_of chain item ≡ true → left ≡ fate ∷ left' →
       packets_taken unit chain chosen' ≡ packets_taken unit chain chosen ++ still_going (packet_of unit item ∷ []) (fate ∷ []) →
-      due chosen' later (drop (place + 1) ended) ≡ due chosen (item ∷ later) (drop place ended)
-  going_takes chosen chosen' later item ended place fate e inside is more =
-      let row : drop place ended ≡ fate ∷ drop (place + 1) ended = drop_more ended place fate inside ∙ ap (λ x. x ∷ drop (place + 1) ended) (sym is) in
-      let rest = still_going (packets_taken unit chain later) (drop (place + 1) ended) in
+      due chosen' later left' ≡ due chosen (item ∷ later) left
+  going_takes chosen chosen' later item fate left left' e row more =
+      let rest = still_going (packets_taken unit chain later) left' in
       ap (λ l. l ++ rest) more
       ∙ append_assoc (packets_taken unit chain chosen) (still_going (packet_of unit item ∷ []) (fate ∷ [])) rest
-      ∙ ap (λ l. packets_taken unit chain chosen ++ l) (sym (ap (λ ps. still_going ps (drop place ended)) (taken unit chain item later e)
+      ∙ ap (λ l. packets_taken unit chain chosen ++ l) (sym (ap (λ ps. still_going ps left) (taken unit chain item later e)
       ∙ ap (still_going (packet_of unit item ∷ packets_taken unit chain later)) row
-      ∙ going_cons (packet_of unit item) (packets_taken unit chain later) fate (drop (place + 1) ended)))
+      ∙ going_cons (packet_of unit item) (packets_taken unit chain later) fate left'))
 
   pub adds_out : (chosen chosen' : List Item) (item made : Item) (frame : List ℕ) → chosen' ≡ chosen ++ made ∷ [] → made.class ≡ Some chain → packet_of unit made ≡ record { time = time_of unit item.packet; frame = frame } →
       packets_taken unit chain chosen' ≡ packets_taken unit chain chosen ++ still_going (packet_of unit item ∷ []) (Out frame ∷ [])

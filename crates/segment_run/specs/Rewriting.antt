@@ -2,7 +2,7 @@
 use Rattle.std.specs.Prelude.{ℕ, List, [], ◌∷◌, Option, Some, None}
 use Rattle.chain_walk.specs.Packets.{Packet}
 use Rattle.chain_walk.specs.declared.walk.Fate.{Fate}
-use Rattle.chain_walk.specs.declared.walk.Fate.TheVariants.{Out}
+use Rattle.chain_walk.specs.declared.walk.Fate.TheVariants.{Gone, Out}
 use Rattle.nf_tunnel.specs.Tunnels.{encapsulated, decapsulated}
 use Rattle.segment_run.specs.declared.ends.End.{End}
 use Rattle.segment_run.specs.declared.ends.End.TheVariants.{Entry, Exit, Open}
@@ -16,6 +16,16 @@ rewritten Open frame = frame
 -- a packet goes out with its frame rewritten
 abbrev pub out_of : (List ℕ → List ℕ) → Packet → Fate
 out_of by p = Out (by p.frame)
+
+-- the same of a packet whose fate is told, where it isn't gone
+abbrev pub out_by : (List ℕ → List ℕ) → Fate → Fate
+out_by by (Out frame) = Out (by frame)
+out_by by (Gone position) = Gone position
+
+-- a fate of whose frame nothing is told
+abbrev pub without_frame : Fate → Fate
+without_frame (Out frame) = Out []
+without_frame (Gone position) = Gone position
 
 -- a fate that is put before others; where there is none, nothing comes any more
 abbrev pub then_put : Option Fate → List Fate → List Fate

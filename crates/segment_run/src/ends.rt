@@ -3,7 +3,7 @@ ghost use Rattle.std.specs.Prelude.{◌≡◌, ◌++◌, List, ◌∷◌, IfOk, 
 ghost use Rattle.capture_bytes.specs.declared.packet.Unit.{Unit as TimeUnit};
 ghost use Rattle.classifier.specs.declared.burst.Item.{Item};
 ghost use Rattle.graph_run.specs.Packets.{packets_taken};
-ghost use Rattle.segment_run.specs.Rewriting.{out_of, rewritten};
+ghost use Rattle.segment_run.specs.Rewriting.{out_by, out_of, rewritten};
 
 use chain_walk::Fate;
 use classifier::Item;
@@ -49,25 +49,54 @@ fn rewrite_next(
     if !is_of(item, chain) {
         return Ok(());
     }
-    let frame = rewrite(alloc, end, item.packet.frame.bytes())?;
+    let copy = copied(alloc, item.packet.frame.bytes())?;
+    let frame = rewrite(alloc, end, copy)?;
     fates.push(Fate::Out(frame))?;
     Ok(())
 }
 
-// The frame behind the end.
-fn rewrite(alloc: Global, end: End, frame: &[u8]) -> Result<Frame, AllocError>
-    ensures { IfOk result (λ new. new ≡ rewritten end frame.now) }
+/// Lets each packet that goes out do so behind the end. Its frame is rewritten and not copied before.
+pub(crate) fn rewrite_fates(
+    alloc: Global,
+    end: End,
+    ended: Vec<Fate>,
+) -> Result<Vec<Fate>, AllocError>
+    ensures { IfOk result (λ fates. fates.items ≡ map (out_by (rewritten end)) ended.items) }
 {
-    let copy = copied(alloc, frame)?;
-    match end {
-        End::Entry(tunnel) => tunnel.step(alloc, copy),
-        End::Exit(tunnel) => tunnel.step(copy),
-        End::Open => Ok(copy),
+    let mut fates = Vec::with_capacity(alloc, ended.len())?;
+    'fates: for fate in ended {
+        let fate = rewrite_fate(alloc, end, fate)?;
+        fates.push(fate)?;
+    }
+    Ok(fates)
+}
+
+// The same fate behind the end.
+fn rewrite_fate(alloc: Global, end: End, fate: Fate) -> Result<Fate, AllocError>
+    ensures { IfOk result (λ new. new ≡ out_by (rewritten end) fate) }
+{
+    match fate {
+        Fate::Out(frame) => {
+            let frame = rewrite(alloc, end, frame)?;
+            Ok(Fate::Out(frame))
+        }
+        Fate::Gone(position) => Ok(Fate::Gone(position)),
     }
 }
 
-/// A frame of these bytes.
-pub(crate) fn copied(alloc: Global, bytes: &[u8]) -> Result<Frame, AllocError>
+// The frame behind the end.
+fn rewrite(alloc: Global, end: End, frame: Frame) -> Result<Frame, AllocError>
+    ensures { IfOk result (λ new. new ≡ rewritten end frame) }
+{
+    match end {
+        End::Entry(tunnel) => tunnel.step(alloc, frame),
+        End::Exit(tunnel) => tunnel.step(frame),
+        End::Open => Ok(frame),
+    }
+}
+
+// A frame of these bytes.
+fn copied(alloc: Global, bytes: &[u8]) -> Result<Frame, AllocError>
     ensures { IfOk result (λ new. new ≡ bytes.now) }
 {
     let mut copy = Vec::with_capacity(alloc, bytes.len())?;

@@ -4,11 +4,33 @@ ghost use Rattle.std.specs.Option.{option_to_list};
 ghost use Rattle.chain_walk.specs.Walk.{EndsWithin};
 ghost use Rattle.chain_walk.specs.declared.walk.Fate.{Fate};
 ghost use Rattle.piece_walk.specs.Rejoining.{moved, put_back};
-ghost use Rattle.segment_run.specs.Rewriting.{then_put};
+ghost use Rattle.segment_run.specs.Rewriting.{then_put, without_frame};
 
 use chain_walk::Fate;
+use packet_fields::Frame;
 use std::alloc::{AllocError, Global};
 use std::vec::IntoIter;
+
+/// The same fates without frames: all that is put back of them is which packets are gone, so that the frames of the others can be moved on.
+pub(crate) fn without_frames(alloc: Global, ended: &[Fate]) -> Result<Vec<Fate>, AllocError>
+    ensures { IfOk result (λ fates. fates.items ≡ map without_frame ended.now) }
+{
+    let mut fates = Vec::with_capacity(alloc, ended.len())?;
+    'fates: for fate in ended {
+        fates.push(without_frame(alloc, fate))?;
+    }
+    Ok(fates)
+}
+
+// The same fate without its frame. An empty frame takes no memory.
+fn without_frame(alloc: Global, fate: &Fate) -> Fate
+    ensures { result ≡ without_frame fate.now }
+{
+    match fate {
+        Fate::Out(_) => Fate::Out(Frame::new(Vec::new(alloc))),
+        Fate::Gone(position) => Fate::Gone(*position),
+    }
+}
 
 /// The fates of all packets, where those that went on ended so: behind so many functions, which their positions count too.
 pub(crate) fn put_back(

@@ -9,10 +9,10 @@ ghost use Rattle.segment_run.specs.Counting.{copies_through};
 ghost use Rattle.segment_run.specs.Rewriting.{rewritten};
 ghost use Rattle.segment_run.specs.Segments.{GoesOn, GoesThrough, functions_count, piece_of, pieces_of};
 
-use crate::ends::{End, rewrite_all};
+use crate::ends::{End, rewrite_all, rewrite_fates};
 use crate::going::going;
 use crate::piece::Piece;
-use crate::putting::put_back;
+use crate::putting::{put_back, without_frames};
 use crate::sealing::seal_all;
 use capture_bytes::Unit;
 use chain_walk::Fate;
@@ -149,15 +149,55 @@ fn lead_on<F: Function + Drop + Send, G: Gate + Sync, R: Threads + Wait + Clock 
     requires few_functions { count_of_piece (piece_of piece) ≤ 64 }
     requires some_mergers { 1 ≤ mergers }
     requires few_mergers { mergers ≤ 16 }
+    requires one_each { length ended.items ≡ length (packets_taken unit chain burst.now.items) }
     ensures goes { IfOk result (λ ran. GoesOn F.behaviour (piece_of piece) (packets_taken unit chain burst.now.items) before ended.items tally.old tally.new (piece_of ran.0) ran.1.items) }
     ensures refused { OnErr result (RaisesUpTo (copies_through F.behaviour (piece_of piece ∷ []) (still_going (packets_taken unit chain burst.now.items) ended.items)) tally.old tally.new) }
 {
-    let next = going(alloc, burst.items.as_slice(), chain, &ended)?;
-    let (piece, fates) = lead(
-        rt, alloc, piece, &next, unit, chain, tally, mergers, gate, way,
+    match piece {
+        Piece::Graph(run) => lead_graph_on(
+            rt, alloc, run, before, ended, burst, unit, chain, tally, mergers, gate, way,
+        ),
+        Piece::Encap(tunnel) => {
+            let fates = rewrite_fates(alloc, End::Entry(tunnel), ended)?;
+            Ok((Piece::Encap(tunnel), fates))
+        }
+        Piece::Decap(tunnel) => {
+            let fates = rewrite_fates(alloc, End::Exit(tunnel), ended)?;
+            Ok((Piece::Decap(tunnel), fates))
+        }
+    }
+}
+
+// Leads those that go on through a graph.
+fn lead_graph_on<F: Function + Drop + Send, G: Gate + Sync, R: Threads + Wait + Clock + Sync>(
+    rt: &R,
+    alloc: Global,
+    run: Running<F>,
+    before: u32,
+    ended: Vec<Fate>,
+    burst: &Burst,
+    unit: Unit,
+    chain: u32,
+    tally: &mut Tally,
+    mergers: u32,
+    gate: &G,
+    way: MergeWay,
+) -> Result<(Piece<F>, Vec<Fate>), AllocError>
+    requires few { length burst.now.items ≤ 65536 }
+    requires few_before { before ≤ 64 }
+    requires few_functions { length run.functions ≤ 64 }
+    requires some_mergers { 1 ≤ mergers }
+    requires few_mergers { mergers ≤ 16 }
+    ensures goes { IfOk result (λ ran. GoesOn F.behaviour (Graph run.graph.stages run.functions) (packets_taken unit chain burst.now.items) before ended.items tally.old tally.new (piece_of ran.0) ran.1.items) }
+    ensures refused { OnErr result (RaisesUpTo (copies_through F.behaviour (Graph run.graph.stages run.functions ∷ []) (still_going (packets_taken unit chain burst.now.items) ended.items)) tally.old tally.new) }
+{
+    let stays = without_frames(alloc, &ended)?;
+    let next = going(alloc, burst.items.as_slice(), chain, ended)?;
+    let (piece, fates) = lead_graph(
+        rt, alloc, run, &next, unit, chain, tally, mergers, gate, way,
     )?;
-    let ended = put_back(alloc, ended, fates, before)?;
-    Ok((piece, ended))
+    let all = put_back(alloc, stays, fates, before)?;
+    Ok((piece, all))
 }
 
 // Leads them through one piece.

@@ -1,6 +1,5 @@
-use Rattle.std.proofs.Common.{ap, sym, refl, rules, ◌≡◌, ◌∙◌, ◌++◌, [], ◌∷◌}
+use Rattle.std.proofs.Common.{ap, sym, refl, ◌∙◌, ◌++◌, [], ◌∷◌}
 use Rattle.chain_walk.specs.declared.walk.Fate.{Fate}
-use Rattle.chain_walk.specs.declared.walk.Fate.TheVariants.{Out}
 use Rattle.graph_run.specs.Packets.{packet_of, packets_taken}
 use Rattle.piece_walk.specs.Rejoining.{still_going}
 use Rattle.segment_run.proofs.GoingOn.{adds_copy}
@@ -12,5 +11,5 @@ returns-in-Gone-clause-packets c = λ unit. adds_none unit c.args.chain c.args.n
     ∙ ap (λ (fate : Fate). packets_taken unit c.args.chain c.args.next.now.items ++ still_going (packet_of unit c.args.item.now ∷ []) (fate ∷ [])) (sym c.in-Gone.is)
 
 pub returns-in_ok-push-in-Out-clause-packets : goal.returns-in_ok-push-in-Out-clause-packets
-returns-in_ok-push-in-Out-clause-packets c = λ unit. let is : c.args.fate.now ≡ Out c.in_ok-copied-in-Out.field-0 = search rules in
-    adds_copy unit c.args.chain c.args.next.now.items c.push.new.self.items c.args.item.now _ c.args.fate.now c.in_ok-copied-in-Out.field-0 c.in_ok-push-in-Out.ensures.items refl refl refl refl is
+returns-in_ok-push-in-Out-clause-packets c = λ unit.
+    adds_copy unit c.args.chain c.args.next.now.items c.push.new.self.items c.args.item.now _ c.args.fate c.in-Out.frame c.in_ok-push-in-Out.ensures.items refl refl refl refl c.in-Out.is

@@ -6,7 +6,6 @@ use Rattle.segment_run.proofs.going.going.Given as goal
 
 abbrev pub invariant-items : goal.invariant-items
 invariant-items l = record {
-  inside : l.place ≤ length l.ended;
   fewer : length l.next.items ≤ l.item-index;
-  due : (unit : TimeUnit) → packets_taken unit l.chain l.next.items ++ still_going (packets_taken unit l.chain (drop l.item-index l.items)) (drop l.place l.ended) ≡ still_going (packets_taken unit l.chain l.items) l.ended;
+  due : (unit : TimeUnit) → packets_taken unit l.chain l.next.items ++ still_going (packets_taken unit l.chain (drop l.item-index l.items)) l.left.rest.items ≡ still_going (packets_taken unit l.chain l.items) l.fn.ended.items;
 }

@@ -1,6 +1,7 @@
 use Rattle.std.proofs.Common.{◌∷◌, arith}
 use Rattle.graph_run.specs.Packets.{packets_taken}
 use Rattle.segment_run.specs.Segments.{piece_of, pieces_of}
+use Rattle.segment_run.proofs.OnTheWay.{way_counts}
 use Rattle.segment_run.proofs.Through.{first_refused, first_within, next_few, next_refused, next_within, on_err, through_begins, through_ends, through_goes_on}
 use Rattle.segment_run.proofs.run.run_on.Goals as goal
 
@@ -18,6 +19,9 @@ pub lead_on-requires-clause-few_before : goal.lead_on-requires-clause-few_before
 lead_on-requires-clause-few_before g c κs within =
     let few = next_few g.F.Function.behaviour _ _ c.pieces.piece-iterator.rest.items _ _ c.in-Some.piece _ _ _ c.pieces.before c.pieces.invariant c.in-Some.ensures.steps.0 c.requires.few_functions in
     omega (arith, few)
+
+pub lead_on-requires-clause-one_each : goal.lead_on-requires-clause-one_each
+lead_on-requires-clause-one_each g c κs within = way_counts g.F.Function.behaviour _ _ _ _ _ _ c.pieces.ended.items c.pieces.before c.pieces.invariant
 
 pub returns-in_err-piece-clause-refused : goal.returns-in_err-piece-clause-refused
 returns-in_err-piece-clause-refused g c = on_err _ _ (next_refused g.F.Function.behaviour _ _ c.pieces.piece-iterator.rest.items _ _ c.in-Some.piece _ _ c.lead_on.new.tally _ c.pieces.before c.pieces.invariant c.in-Some.ensures.steps.0 c.in_err-piece.ensures.refused)
