@@ -6,8 +6,9 @@ use crate::odd::tell_odd;
 use nfp_outside::{Reason, Slot};
 use nfp_run::{Option4, Outcome, UsageFault};
 use operator_help::capture::{Captured, Purpose};
+use operator_help::graph::GraphText;
 use operator_help::policy::PolicyText;
-use operator_help::{Page, capture, capture_ng, files, policy, usage};
+use operator_help::{Page, capture, capture_ng, files, graph, policy, usage};
 use policy_check::CheckFault;
 use policy_judge::PolicyFault;
 use std::env::FillError;
@@ -52,6 +53,11 @@ fn fill<R: Env>(
         Outcome::Done | Outcome::OutOfMemory => {}
         Outcome::Usage(fault) => usage_help(page, rt, words, *fault),
         Outcome::Policy(fault) => policy_help(page, seen, fault),
+        Outcome::Graph(fault) => {
+            if let Some(text) = graph_seen(seen) {
+                graph::fault(page, text, *fault);
+            }
+        }
         Outcome::Capture(fault) => capture::fault(page, captured(seen), *fault),
         Outcome::CaptureNg(fault) => capture_ng::fault(page, captured(seen), *fault),
         Outcome::ReadFault(slot) => unread_help(page, seen, *slot, reason),
@@ -156,10 +162,26 @@ fn foreign_word<R: Env>(page: &mut Page, rt: &R) -> bool {
     false
 }
 
-// A policy that is refused. Its text is what was read of it, unless there was no memory to keep it.
+// A policy that is refused.
 fn policy_help(page: &mut Page, seen: &Seen, fault: &PolicyFault) {
-    if let (Some(name), Some(text)) = (seen.name(Slot::Policy), seen.policy()) {
-        policy_fault(page, PolicyText { name, text }, fault);
+    if let Some(text) = policy_seen(seen) {
+        policy_fault(page, text, fault);
+    }
+}
+
+// What was read of the policy, unless there was no memory to keep it.
+fn policy_seen(seen: &Seen) -> Option<PolicyText<'_>> {
+    match (seen.name(Slot::Policy), seen.policy()) {
+        (Some(name), Some(text)) => Some(PolicyText { name, text }),
+        _ => None,
+    }
+}
+
+// The same of the text of graphs, with the policy that it is for.
+fn graph_seen(seen: &Seen) -> Option<GraphText<'_>> {
+    match (seen.name(Slot::Graph), seen.graph(), policy_seen(seen)) {
+        (Some(name), Some(text), Some(policy)) => Some(GraphText { name, text, policy }),
+        _ => None,
     }
 }
 

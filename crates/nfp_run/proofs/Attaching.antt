@@ -16,7 +16,7 @@ use Rattle.capture_run.specs.Sources.{IsOpeningFault}
 use Rattle.capture_run.specs.declared.fault.RunFault.{RunFault}
 use Rattle.capture_run.specs.declared.fault.RunFault.TheVariants as faults
 use Rattle.nfp_run.specs.declared.outcome.Outcome.{Outcome}
-use Rattle.nfp_run.specs.declared.outcome.Outcome.TheVariants.{Done, Usage, Policy, Capture, CaptureNg, ReadFault, WriteFault, OutOfMemory}
+use Rattle.nfp_run.specs.declared.outcome.Outcome.TheVariants.{Done, Usage, Policy, Graph, Capture, CaptureNg, ReadFault, WriteFault, OutOfMemory}
 use Rattle.nfp_run.specs.Answers.{AttachedUnless, BothAttached, FaultAttaches, NoneAttached, RunAttaches}
 use Rattle.nfp_run.specs.Attached.{RunLeavesAttached}
 use Rattle.nfp_run.specs.Closing.{closed, ending_of, outcome_seen}
@@ -50,6 +50,7 @@ run_attaches (Err (faults.WriteFault slots.Capture)) old new behind broken left 
 run_attaches (Err (faults.WriteFault slots.Out)) old new behind broken left = tt
 run_attaches (Err (faults.WriteFault slots.Report)) old new behind broken left = left
 run_attaches (Err (faults.WriteFault slots.Note)) old new behind broken left = absurd broken
+run_attaches (Err (faults.WriteFault slots.Graph)) old new behind broken left = absurd broken
 run_attaches (Err faults.OutOfMemory) old new behind broken left = tt
 
 head_refused : (fault : CaptureFault) (new : Slot → SlotView) → IsOpeningFault (formats.Pcap fault) → NoneAttached new → FaultAttaches fault new
@@ -66,6 +67,7 @@ pub refused_attaches : (outcome : Outcome) (before after : SlotView) (new : Slot
 refused_attaches Done before after new refused none = absurd refused
 refused_attaches (Usage fault) before after new refused none = absurd refused
 refused_attaches (Policy fault) before after new refused none = absurd refused
+refused_attaches (Graph fault) before after new refused none = absurd refused
 refused_attaches (Capture fault) before after new refused none = head_refused fault new refused.0 none
 refused_attaches (CaptureNg fault) before after new refused none = subst (λ first. AttachedUnless first new) (sym refused.0) none
 refused_attaches (ReadFault slots.Policy) before after new refused none = none
@@ -73,5 +75,6 @@ refused_attaches (ReadFault slots.Capture) before after new refused none = tt
 refused_attaches (ReadFault slots.Out) before after new refused none = tt
 refused_attaches (ReadFault slots.Report) before after new refused none = tt
 refused_attaches (ReadFault slots.Note) before after new refused none = tt
+refused_attaches (ReadFault slots.Graph) before after new refused none = none
 refused_attaches (WriteFault slot) before after new refused none = absurd refused
 refused_attaches OutOfMemory before after new refused none = tt

@@ -1,21 +1,22 @@
 -- What a call answers once its line was put into Note.
 use Rattle.std.proofs.Common.{◌≡◌, ◌≢◌, ◌⊎◌, ◌∙◌, inl, inr, ℕ, List, refl, ap, rules, sym, subst}
-use Rattle.std.specs.Prelude.{Option, Some, None, IfSome, Result, Ok, Err}
+use Rattle.std.specs.Prelude.{Result}
 use Rattle.nfp_outside.specs.declared.slot.Slot.{Slot}
 use Rattle.nfp_outside.specs.declared.slot.Slot.TheVariants as slots
 use Rattle.nfp_outside.specs.Outside.{SlotView, IsRisen, Appends, AppendsPrefix}
 use Rattle.nfp_run.specs.declared.outcome.Outcome.{Outcome}
-use Rattle.nfp_run.specs.declared.outcome.Outcome.TheVariants.{Done, Usage, Policy, Capture, CaptureNg, ReadFault, WriteFault, OutOfMemory}
+use Rattle.nfp_run.specs.declared.outcome.Outcome.TheVariants.{Done, Usage, Policy, Graph, Capture, CaptureNg, ReadFault, WriteFault, OutOfMemory}
 use Rattle.nfp_run.specs.declared.ending.Ending.{Ending}
-use Rattle.nfp_run.specs.declared.ending.Ending.TheVariants.{Completed, Shown, Refused, Stopped}
+use Rattle.nfp_run.specs.declared.ending.Ending.TheVariants.{Completed, Shown, Refused, GraphRefused, Stopped}
 use Rattle.command_words.specs.declared.usage.UsageFault.{UsageFault}
-use Rattle.command_words.specs.Words.{Command, Run, Plan, Demo, Flows}
+use Rattle.command_words.specs.Words.{Command}
 use Rattle.nfp_run.specs.Due.{Due, due_of_command}
 use Rattle.nfp_run.specs.Written.{Files}
 use Rattle.nfp_run.specs.Closing.{outcome_seen, untold, text_of, EndsDue, Notes}
 use Rattle.nfp_run.specs.Ran.{Ran}
 use Rattle.nfp_run.specs.Answers.{IsDue, IsFinal, NoneRose, WhereRead, Leaves, LeavesPrefix, LeavesPrefixes, LeavesSlot, ReadFaultCause, WriteFaultCause, note_due}
 use Rattle.nfp_outside.specs.Adding.{prefix_whole}
+use Rattle.nfp_run.proofs.TextsTold.{if_read, read_always, read_under}
 
 -- a call: what ran, and then the line in Note
 pub record Called (command : Result Command UsageFault) (old mid new : Slot → SlotView) (ended : Ending) (result : Outcome) : Type 0 where
@@ -23,73 +24,14 @@ pub record Called (command : Result Command UsageFault) (old mid new : Slot → 
   pub notes : Notes ended (mid slots.Note) (new slots.Note) result
   pub beside : (s : Slot) → s ≢ slots.Note → new s ≡ mid s
 
-if_told : (a b : Option (List ℕ)) (P Q : List ℕ → List ℕ → Type 0) → ((p c : List ℕ) → P p c → Q p c) → IfSome a (λ p. IfSome b (P p)) → IfSome a (λ p. IfSome b (Q p))
-if_told None b P Q f h = tt
-if_told (Some p) None P Q f h = tt
-if_told (Some p) (Some c) P Q f h = f p c h
-
-if_policy : (a : Option (List ℕ)) (P Q : List ℕ → List ℕ → Type 0) → ((p c : List ℕ) → P p c → Q p c) → IfSome a (λ p. (c : List ℕ) → P p c) → IfSome a (λ p. (c : List ℕ) → Q p c)
-if_policy None P Q f h = tt
-if_policy (Some p) P Q f h = λ c. f p c (h c)
-
-if_capture : (b : Option (List ℕ)) (P Q : List ℕ → List ℕ → Type 0) → ((p c : List ℕ) → P p c → Q p c) → IfSome b (λ c. (p : List ℕ) → P p c) → IfSome b (λ c. (p : List ℕ) → Q p c)
-if_capture None P Q f h = tt
-if_capture (Some c) P Q f h = λ p. f p c (h p)
-
--- what one fact gives another for all bytes, it gives it for those that are read
-pub if_read : (command : Result Command UsageFault) (old : Slot → SlotView) (P Q : List ℕ → List ℕ → Type 0) → ((p c : List ℕ) → P p c → Q p c) → WhereRead command old P → WhereRead command old Q
-if_read (Ok (Run names options)) old P Q f h = if_told (old slots.Policy).bytes (old slots.Capture).bytes P Q f h
-if_read (Ok (Plan name)) old P Q f h = if_policy (old slots.Policy).bytes P Q f h
-if_read (Ok (Demo input options)) old P Q f h = λ p c. f p c (h p c)
-if_read (Ok (Flows names options)) old P Q f h = if_capture (old slots.Capture).bytes P Q f h
-if_read (Err fault) old P Q f h = λ p c. f p c (h p c)
-
-told_always : (a b : Option (List ℕ)) (P : List ℕ → List ℕ → Type 0) → ((p c : List ℕ) → P p c) → IfSome a (λ p. IfSome b (P p))
-told_always None b P f = tt
-told_always (Some p) None P f = tt
-told_always (Some p) (Some c) P f = f p c
-
-policy_always : (a : Option (List ℕ)) (P : List ℕ → List ℕ → Type 0) → ((p c : List ℕ) → P p c) → IfSome a (λ p. (c : List ℕ) → P p c)
-policy_always None P f = tt
-policy_always (Some p) P f = f p
-
-capture_always : (b : Option (List ℕ)) (P : List ℕ → List ℕ → Type 0) → ((p c : List ℕ) → P p c) → IfSome b (λ c. (p : List ℕ) → P p c)
-capture_always None P f = tt
-capture_always (Some c) P f = λ p. f p c
-
-pub read_always : (command : Result Command UsageFault) (old : Slot → SlotView) (P : List ℕ → List ℕ → Type 0) → ((p c : List ℕ) → P p c) → WhereRead command old P
-read_always (Ok (Run names options)) old P f = told_always (old slots.Policy).bytes (old slots.Capture).bytes P f
-read_always (Ok (Plan name)) old P f = policy_always (old slots.Policy).bytes P f
-read_always (Ok (Demo input options)) old P f = f
-read_always (Ok (Flows names options)) old P f = capture_always (old slots.Capture).bytes P f
-read_always (Err fault) old P f = f
-
--- what is due of the bytes that are read under a premise
-told_under : (a b : Option (List ℕ)) (F : Type 0) (P : List ℕ → List ℕ → Type 0) → (F → IfSome a (λ p. IfSome b (P p))) → IfSome a (λ p. IfSome b (λ c. F → P p c))
-told_under None b F P h = tt
-told_under (Some p) None F P h = tt
-told_under (Some p) (Some c) F P h = h
-
-policy_under : (a : Option (List ℕ)) (F : Type 0) (P : List ℕ → List ℕ → Type 0) → (F → IfSome a (λ p. (c : List ℕ) → P p c)) → IfSome a (λ p. (c : List ℕ) → F → P p c)
-policy_under None F P h = tt
-policy_under (Some p) F P h = λ c x. h x c
-
-capture_under : (b : Option (List ℕ)) (F : Type 0) (P : List ℕ → List ℕ → Type 0) → (F → IfSome b (λ c. (p : List ℕ) → P p c)) → IfSome b (λ c. (p : List ℕ) → F → P p c)
-capture_under None F P h = tt
-capture_under (Some c) F P h = λ p x. h x p
-
-read_under : (command : Result Command UsageFault) (old : Slot → SlotView) (F : Type 0) (P : List ℕ → List ℕ → Type 0) → (F → WhereRead command old P) → WhereRead command old (λ p c. F → P p c)
-read_under (Ok (Run names options)) old F P h = told_under (old slots.Policy).bytes (old slots.Capture).bytes F P h
-read_under (Ok (Plan name)) old F P h = policy_under (old slots.Policy).bytes F P h
-read_under (Ok (Demo input options)) old F P h = λ p c x. h x p c
-read_under (Ok (Flows names options)) old F P h = capture_under (old slots.Capture).bytes F P h
-read_under (Err fault) old F P h = λ p c x. h x p c
-
 pub policy_beside : slots.Policy ≢ slots.Note
 policy_beside h = cc
 
 pub capture_beside : slots.Capture ≢ slots.Note
 capture_beside h = cc
+
+pub graph_beside : slots.Graph ≢ slots.Note
+graph_beside h = cc
 
 pub out_beside : slots.Out ≢ slots.Note
 out_beside h = cc
@@ -110,6 +52,7 @@ untold_final : (outcome : Outcome) → IsFinal (untold outcome) → untold outco
 untold_final Done final = search rules
 untold_final (Usage fault) final = refl
 untold_final (Policy fault) final = refl
+untold_final (Graph fault) final = refl
 untold_final (Capture fault) final = refl
 untold_final (CaptureNg fault) final = refl
 untold_final (ReadFault s) final = refl
@@ -129,22 +72,22 @@ due_exact due command old mid new ended result called ends final =
     due_here due old mid new ended result (called.beside slots.Out out_beside) (called.beside slots.Report report_beside) is (ends (subst IsFinal is final))
 
 pub called_exact : (command : Result Command UsageFault) (old mid new : Slot → SlotView) (ended : Ending) (result : Outcome) → Called command old mid new ended result →
-    IsFinal result → WhereRead command old (λ p c. IsDue (due_of_command command p c) old new result)
+    IsFinal result → WhereRead command old (λ p g c. IsDue (due_of_command command p g c) old new result)
 called_exact command old mid new ended result called final = if_read command old _ _
-    (λ p c ends. due_exact (due_of_command command p c) command old mid new ended result called ends final)
-    (read_under command old (IsFinal (outcome_seen ended)) (λ p c. EndsDue (due_of_command command p c) old mid ended) called.ran.due)
+    (λ p g c ends. due_exact (due_of_command command p g c) command old mid new ended result called ends final)
+    (read_under command old (IsFinal (outcome_seen ended)) (λ p g c. EndsDue (due_of_command command p g c) old mid ended) called.ran.due)
 
 -- where the work was done, what is due stands, whatever came of its line
 pub called_done : (command : Result Command UsageFault) (old mid new : Slot → SlotView) (ended : Ending) (outcome : Outcome) {result : Outcome} → Called command old mid new ended result →
-    outcome_seen ended ≡ Done → outcome ≡ outcome_seen ended → WhereRead command old (λ p c. IsDue (due_of_command command p c) old new outcome)
+    outcome_seen ended ≡ Done → outcome ≡ outcome_seen ended → WhereRead command old (λ p g c. IsDue (due_of_command command p g c) old new outcome)
 called_done command old mid new ended outcome called done is = if_read command old _ _
-    (λ p c ends. due_here (due_of_command command p c) old mid new ended outcome (called.beside slots.Out out_beside) (called.beside slots.Report report_beside) is ends)
+    (λ p g c ends. due_here (due_of_command command p g c) old mid new ended outcome (called.beside slots.Out out_beside) (called.beside slots.Report report_beside) is ends)
     (called.ran.due (subst IsFinal (sym done) tt))
 
 pub called_prefixes : (command : Result Command UsageFault) (old mid new : Slot → SlotView) (ended : Ending) (result : Outcome) → Called command old mid new ended result →
-    WhereRead command old (λ p c. LeavesPrefixes (due_of_command command p c).written old new)
+    WhereRead command old (λ p g c. LeavesPrefixes (due_of_command command p g c).written old new)
 called_prefixes command old mid new ended result called = if_read command old _ _
-    (λ p c h. prefixes_to (due_of_command command p c).written old mid new (called.beside slots.Out out_beside) (called.beside slots.Report report_beside) h) called.ran.prefixes
+    (λ p g c h. prefixes_to (due_of_command command p g c).written old mid new (called.beside slots.Out out_beside) (called.beside slots.Report report_beside) h) called.ran.prefixes
 
 -- no count that a fault of the run speaks of rose
 pub no_fault : (command : Result Command UsageFault) (old mid new : Slot → SlotView) (ended : Ending) → Ran command old mid ended → ((s : Slot) → s ≢ slots.Note → new s ≡ mid s) → NoneRose old new →
@@ -160,6 +103,7 @@ no_fault command old mid new ended ran beside none = go (outcome_seen ended) ref
     reading slots.Out h = h
     reading slots.Report h = h
     reading slots.Note h = h
+    reading slots.Graph h = risen slots.Graph graph_beside h.risen
 
     writing : (s : Slot) → outcome_seen ended ≡ WriteFault s → WriteFaultCause command old mid s → ⊥
     writing slots.Out e h = risen slots.Out out_beside h.1
@@ -167,11 +111,13 @@ no_fault command old mid new ended ran beside none = go (outcome_seen ended) ref
     writing slots.Note e h = ran.no_note_fault e
     writing slots.Policy e h = h
     writing slots.Capture e h = h
+    writing slots.Graph e h = h
 
     go : (o : Outcome) → outcome_seen ended ≡ o → IsFinal (outcome_seen ended) ⊎ (outcome_seen ended ≡ OutOfMemory)
     go Done e = inl (subst IsFinal (sym e) tt)
     go (Usage fault) e = inl (subst IsFinal (sym e) tt)
     go (Policy fault) e = inl (subst IsFinal (sym e) tt)
+    go (Graph fault) e = inl (subst IsFinal (sym e) tt)
     go (Capture fault) e = inl (subst IsFinal (sym e) tt)
     go (CaptureNg fault) e = inl (subst IsFinal (sym e) tt)
     go (ReadFault s) e = absurd (reading s (ran.read_faults s e))
@@ -200,45 +146,49 @@ due_answered due command old mid new ended result called ends none = by_notes ca
     by_notes (inr (inr (is, r, a))) = absurd (none slots.Note (subst (λ v. IsRisen v.faults (new slots.Note).faults) called.ran.note_stays r))
 
 pub called_answers : (command : Result Command UsageFault) (old mid new : Slot → SlotView) (ended : Ending) (result : Outcome) → Called command old mid new ended result → NoneRose old new →
-    WhereRead command old (λ p c. (IsDue (due_of_command command p c) old new result × Appends (due_of_command command p c).note (old slots.Note) (new slots.Note)) ⊎ (result ≡ OutOfMemory))
+    WhereRead command old (λ p g c. (IsDue (due_of_command command p g c) old new result × Appends (due_of_command command p g c).note (old slots.Note) (new slots.Note)) ⊎ (result ≡ OutOfMemory))
 called_answers command old mid new ended result called none = if_read command old _ _
-    (λ p c ends. due_answered (due_of_command command p c) command old mid new ended result called ends none)
-    (read_under command old (IsFinal (outcome_seen ended)) (λ p c. EndsDue (due_of_command command p c) old mid ended) called.ran.due)
+    (λ p g c ends. due_answered (due_of_command command p g c) command old mid new ended result called ends none)
+    (read_under command old (IsFinal (outcome_seen ended)) (λ p g c. EndsDue (due_of_command command p g c) old mid ended) called.ran.due)
 
 -- the line of what ended so is the one that is due
 seen_text : (command : Result Command UsageFault) (old mid : Slot → SlotView) (ended : Ending) → Ran command old mid ended → outcome_seen ended ≢ OutOfMemory →
-    WhereRead command old (λ p c. text_of ended ≡ note_due (outcome_seen ended) (due_of_command command p c).note)
-seen_text command old mid (Completed totals) ran some = if_read command old _ _ (λ p c ends. ends.note) (ran.due tt)
-seen_text command old mid (Shown text) ran some = if_read command old _ _ (λ p c ends. ends.note) (ran.due tt)
-seen_text command old mid (Refused refusal) ran some = if_read command old _ _ (λ p c ends. ends.note) (ran.due tt)
-seen_text command old mid (Stopped Done) ran some = if_read command old _ _ (λ p c ends. ends.note) (ran.due tt)
-seen_text command old mid (Stopped (Usage fault)) ran some = if_read command old _ _ (λ p c ends. ends.note) (ran.due tt)
-seen_text command old mid (Stopped (Policy fault)) ran some = if_read command old _ _ (λ p c ends. ends.note) (ran.due tt)
-seen_text command old mid (Stopped (Capture fault)) ran some = if_read command old _ _ (λ p c ends. ends.note) (ran.due tt)
-seen_text command old mid (Stopped (CaptureNg fault)) ran some = if_read command old _ _ (λ p c ends. ends.note) (ran.due tt)
-seen_text command old mid (Stopped (ReadFault s)) ran some = read_always command old _ (λ p c. refl)
-seen_text command old mid (Stopped (WriteFault slots.Out)) ran some = read_always command old _ (λ p c. refl)
-seen_text command old mid (Stopped (WriteFault slots.Report)) ran some = read_always command old _ (λ p c. refl)
+    WhereRead command old (λ p g c. text_of ended ≡ note_due (outcome_seen ended) (due_of_command command p g c).note)
+seen_text command old mid (Completed totals) ran some = if_read command old _ _ (λ p g c ends. ends.note) (ran.due tt)
+seen_text command old mid (Shown text) ran some = if_read command old _ _ (λ p g c ends. ends.note) (ran.due tt)
+seen_text command old mid (Refused refusal) ran some = if_read command old _ _ (λ p g c ends. ends.note) (ran.due tt)
+seen_text command old mid (GraphRefused refusal) ran some = if_read command old _ _ (λ p g c ends. ends.note) (ran.due tt)
+seen_text command old mid (Stopped Done) ran some = if_read command old _ _ (λ p g c ends. ends.note) (ran.due tt)
+seen_text command old mid (Stopped (Usage fault)) ran some = if_read command old _ _ (λ p g c ends. ends.note) (ran.due tt)
+seen_text command old mid (Stopped (Policy fault)) ran some = if_read command old _ _ (λ p g c ends. ends.note) (ran.due tt)
+seen_text command old mid (Stopped (Graph fault)) ran some = if_read command old _ _ (λ p g c ends. ends.note) (ran.due tt)
+seen_text command old mid (Stopped (Capture fault)) ran some = if_read command old _ _ (λ p g c ends. ends.note) (ran.due tt)
+seen_text command old mid (Stopped (CaptureNg fault)) ran some = if_read command old _ _ (λ p g c ends. ends.note) (ran.due tt)
+seen_text command old mid (Stopped (ReadFault s)) ran some = read_always command old _ (λ p g c. refl)
+seen_text command old mid (Stopped (WriteFault slots.Out)) ran some = read_always command old _ (λ p g c. refl)
+seen_text command old mid (Stopped (WriteFault slots.Report)) ran some = read_always command old _ (λ p g c. refl)
 seen_text command old mid (Stopped (WriteFault slots.Note)) ran some = absurd (ran.no_note_fault refl)
 seen_text command old mid (Stopped (WriteFault slots.Policy)) ran some = absurd (ran.write_faults slots.Policy refl)
 seen_text command old mid (Stopped (WriteFault slots.Capture)) ran some = absurd (ran.write_faults slots.Capture refl)
+seen_text command old mid (Stopped (WriteFault slots.Graph)) ran some = absurd (ran.write_faults slots.Graph refl)
 seen_text command old mid (Stopped OutOfMemory) ran some = absurd (some refl)
 
 -- the same where it couldn't be put: only work that was done is told by the fault of Note
 unnoted_text : (command : Result Command UsageFault) (old mid : Slot → SlotView) (ended : Ending) → Ran command old mid ended → untold (outcome_seen ended) ≢ OutOfMemory →
-    WhereRead command old (λ p c. text_of ended ≡ note_due (untold (outcome_seen ended)) (due_of_command command p c).note)
+    WhereRead command old (λ p g c. text_of ended ≡ note_due (untold (outcome_seen ended)) (due_of_command command p g c).note)
 unnoted_text command old mid ended ran some = go (outcome_seen ended) refl
   where
-    done : outcome_seen ended ≡ Done → WhereRead command old (λ p c. text_of ended ≡ (due_of_command command p c).note)
-    done e = if_read command old _ _ (λ p c ends. ends.note) (ran.due (subst IsFinal (sym e) tt))
+    done : outcome_seen ended ≡ Done → WhereRead command old (λ p g c. text_of ended ≡ (due_of_command command p g c).note)
+    done e = if_read command old _ _ (λ p g c ends. ends.note) (ran.due (subst IsFinal (sym e) tt))
 
-    same : untold (outcome_seen ended) ≡ outcome_seen ended → WhereRead command old (λ p c. text_of ended ≡ note_due (untold (outcome_seen ended)) (due_of_command command p c).note)
-    same e = subst (λ o. WhereRead command old (λ p c. text_of ended ≡ note_due o (due_of_command command p c).note)) (sym e) (seen_text command old mid ended ran (λ m. some (e ∙ m)))
+    same : untold (outcome_seen ended) ≡ outcome_seen ended → WhereRead command old (λ p g c. text_of ended ≡ note_due (untold (outcome_seen ended)) (due_of_command command p g c).note)
+    same e = subst (λ o. WhereRead command old (λ p g c. text_of ended ≡ note_due o (due_of_command command p g c).note)) (sym e) (seen_text command old mid ended ran (λ m. some (e ∙ m)))
 
-    go : (o : Outcome) → outcome_seen ended ≡ o → WhereRead command old (λ p c. text_of ended ≡ note_due (untold (outcome_seen ended)) (due_of_command command p c).note)
-    go Done e = subst (λ o. WhereRead command old (λ p c. text_of ended ≡ note_due (untold o) (due_of_command command p c).note)) (sym e) (done e)
+    go : (o : Outcome) → outcome_seen ended ≡ o → WhereRead command old (λ p g c. text_of ended ≡ note_due (untold (outcome_seen ended)) (due_of_command command p g c).note)
+    go Done e = subst (λ o. WhereRead command old (λ p g c. text_of ended ≡ note_due (untold o) (due_of_command command p g c).note)) (sym e) (done e)
     go (Usage fault) e = same (ap untold e ∙ sym e)
     go (Policy fault) e = same (ap untold e ∙ sym e)
+    go (Graph fault) e = same (ap untold e ∙ sym e)
     go (Capture fault) e = same (ap untold e ∙ sym e)
     go (CaptureNg fault) e = same (ap untold e ∙ sym e)
     go (ReadFault s) e = same (ap untold e ∙ sym e)
@@ -252,28 +202,28 @@ pub whole_here : (text text' : List ℕ) (old mid new : SlotView) → mid ≡ ol
 whole_here text text' old mid new p q a = subst (λ v. Appends text' v new) p (subst (λ t. Appends t mid new) q a)
 
 pub called_noted : (command : Result Command UsageFault) (old mid new : Slot → SlotView) (ended : Ending) (result : Outcome) → Called command old mid new ended result → result ≢ OutOfMemory →
-    WhereRead command old (λ p c. AppendsPrefix (note_due result (due_of_command command p c).note) (old slots.Note) (new slots.Note))
+    WhereRead command old (λ p g c. AppendsPrefix (note_due result (due_of_command command p g c).note) (old slots.Note) (new slots.Note))
 called_noted command old mid new ended result called some = by_notes called.notes
   where
-    by_notes : Notes ended (mid slots.Note) (new slots.Note) result → WhereRead command old (λ p c. AppendsPrefix (note_due result (due_of_command command p c).note) (old slots.Note) (new slots.Note))
+    by_notes : Notes ended (mid slots.Note) (new slots.Note) result → WhereRead command old (λ p g c. AppendsPrefix (note_due result (due_of_command command p g c).note) (old slots.Note) (new slots.Note))
     by_notes (inl (is, a)) = if_read command old _ _
-        (λ p c t. prefix_here (text_of ended) (note_due result (due_of_command command p c).note) (old slots.Note) (mid slots.Note) (new slots.Note) called.ran.note_stays
-        (t ∙ ap (λ o. note_due o (due_of_command command p c).note) (sym is)) (prefix_whole (text_of ended) (mid slots.Note) (new slots.Note) a))
+        (λ p g c t. prefix_here (text_of ended) (note_due result (due_of_command command p g c).note) (old slots.Note) (mid slots.Note) (new slots.Note) called.ran.note_stays
+        (t ∙ ap (λ o. note_due o (due_of_command command p g c).note) (sym is)) (prefix_whole (text_of ended) (mid slots.Note) (new slots.Note) a))
         (seen_text command old mid ended called.ran (λ m. some (is ∙ m)))
     by_notes (inr (inl (is, a))) = absurd (some is)
     by_notes (inr (inr (is, r, a))) = if_read command old _ _
-        (λ p c t. prefix_here (text_of ended) (note_due result (due_of_command command p c).note) (old slots.Note) (mid slots.Note) (new slots.Note) called.ran.note_stays
-        (t ∙ ap (λ o. note_due o (due_of_command command p c).note) (sym is)) a)
+        (λ p g c t. prefix_here (text_of ended) (note_due result (due_of_command command p g c).note) (old slots.Note) (mid slots.Note) (new slots.Note) called.ran.note_stays
+        (t ∙ ap (λ o. note_due o (due_of_command command p g c).note) (sym is)) a)
         (unnoted_text command old mid ended called.ran (λ m. some (is ∙ m)))
 
 pub called_noted_whole : (command : Result Command UsageFault) (old mid new : Slot → SlotView) (ended : Ending) (result : Outcome) → Called command old mid new ended result → result ≢ OutOfMemory →
-    ¬ IsRisen (old slots.Note).faults (new slots.Note).faults → WhereRead command old (λ p c. Appends (note_due result (due_of_command command p c).note) (old slots.Note) (new slots.Note))
+    ¬ IsRisen (old slots.Note).faults (new slots.Note).faults → WhereRead command old (λ p g c. Appends (note_due result (due_of_command command p g c).note) (old slots.Note) (new slots.Note))
 called_noted_whole command old mid new ended result called some calm = by_notes called.notes
   where
-    by_notes : Notes ended (mid slots.Note) (new slots.Note) result → WhereRead command old (λ p c. Appends (note_due result (due_of_command command p c).note) (old slots.Note) (new slots.Note))
+    by_notes : Notes ended (mid slots.Note) (new slots.Note) result → WhereRead command old (λ p g c. Appends (note_due result (due_of_command command p g c).note) (old slots.Note) (new slots.Note))
     by_notes (inl (is, a)) = if_read command old _ _
-        (λ p c t. whole_here (text_of ended) (note_due result (due_of_command command p c).note) (old slots.Note) (mid slots.Note) (new slots.Note) called.ran.note_stays
-        (t ∙ ap (λ o. note_due o (due_of_command command p c).note) (sym is)) a)
+        (λ p g c t. whole_here (text_of ended) (note_due result (due_of_command command p g c).note) (old slots.Note) (mid slots.Note) (new slots.Note) called.ran.note_stays
+        (t ∙ ap (λ o. note_due o (due_of_command command p g c).note) (sym is)) a)
         (seen_text command old mid ended called.ran (λ m. some (is ∙ m)))
     by_notes (inr (inl (is, a))) = absurd (some is)
     by_notes (inr (inr (is, r, a))) = absurd (calm (subst (λ v. IsRisen v.faults (new slots.Note).faults) called.ran.note_stays r))

@@ -8,15 +8,16 @@ use Rattle.pcap_io.specs.declared.capture.CaptureFault.{CaptureFault}
 use Rattle.pcap_io.specs.declared.capture.CaptureFault.TheVariants.{BadMagic, BadVersion, BadLink, CutHead, CutRecord, FrameTooLong, TooManyRecords}
 use Rattle.pcapng_io.specs.Blocks.{is_of_first_block}
 use Rattle.nfp_run.specs.declared.outcome.Outcome.{Outcome}
-use Rattle.nfp_run.specs.declared.outcome.Outcome.TheVariants.{Done, Usage, Policy, Capture, CaptureNg, ReadFault, WriteFault, OutOfMemory}
+use Rattle.nfp_run.specs.declared.outcome.Outcome.TheVariants.{Done, Usage, Policy, Graph, Capture, CaptureNg, ReadFault, WriteFault, OutOfMemory}
+use Rattle.graph_text.specs.declared.fault.GraphFault.{GraphFault}
 use Rattle.policy_judge.specs.declared.fault.PolicyFault.{PolicyFault}
 use Rattle.nfp_run.specs.declared.ending.Ending.{Ending}
 use Rattle.command_words.specs.declared.usage.UsageFault.{UsageFault}
 use Rattle.command_words.specs.Words.{Command, Run, Plan, Demo, Flows}
 use Rattle.nfp_run.specs.Closing.{outcome_seen, untold, Notes}
 use Rattle.nfp_run.specs.Due.{due_of_command}
-use Rattle.nfp_run.specs.Answers.{IsDue, WhereRead, HasNames, name_of, BothAttached, NoneAttached, OutAttached, FaultAttaches, FaultAttachesOut, FlowsAttach, AttachedUnless, RunAttaches, AttachesDue, ReachesCapture, PolicyCause, ReadFaultCause, WriteFaultCause}
-use Rattle.nfp_run.proofs.CallAnswers.{Called, called_done, policy_beside, capture_beside, out_beside, report_beside}
+use Rattle.nfp_run.specs.Answers.{IsDue, WhereRead, HasNames, name_of, BothAttached, NoneAttached, OutAttached, FaultAttaches, FaultAttachesOut, FlowsAttach, AttachedUnless, RunAttaches, AttachesDue, ReachesCapture, PolicyCause, GraphCause, ReadFaultCause, WriteFaultCause}
+use Rattle.nfp_run.proofs.CallAnswers.{Called, called_done, policy_beside, capture_beside, graph_beside, out_beside, report_beside}
 
 -- the names of Out and Report stay while the line is put into Note
 none_to : (mid new : Slot → SlotView) → new slots.Out ≡ mid slots.Out → new slots.Report ≡ mid slots.Report → NoneAttached mid → NoneAttached new
@@ -45,6 +46,7 @@ run_to : (outcome : Outcome) (mid new : Slot → SlotView) → new slots.Out ≡
 run_to Done mid new p q h = both_to mid new p q h
 run_to (Usage fault) mid new p q h = none_to mid new p q h
 run_to (Policy fault) mid new p q h = none_to mid new p q h
+run_to (Graph fault) mid new p q h = none_to mid new p q h
 run_to (Capture fault) mid new p q h = fault_to fault mid new p q h
 run_to (CaptureNg fault) mid new p q h = unless_to (is_of_first_block fault) mid new p q h
 run_to (ReadFault slots.Policy) mid new p q h = none_to mid new p q h
@@ -52,11 +54,13 @@ run_to (ReadFault slots.Capture) mid new p q h = tt
 run_to (ReadFault slots.Out) mid new p q h = tt
 run_to (ReadFault slots.Report) mid new p q h = tt
 run_to (ReadFault slots.Note) mid new p q h = tt
+run_to (ReadFault slots.Graph) mid new p q h = none_to mid new p q h
 run_to (WriteFault slots.Note) mid new p q h = both_to mid new p q h
 run_to (WriteFault slots.Report) mid new p q h = out_to mid new p h
 run_to (WriteFault slots.Out) mid new p q h = tt
 run_to (WriteFault slots.Policy) mid new p q h = tt
 run_to (WriteFault slots.Capture) mid new p q h = tt
+run_to (WriteFault slots.Graph) mid new p q h = tt
 run_to OutOfMemory mid new p q h = tt
 
 alone_to : (mid new : Slot → SlotView) → new slots.Out ≡ mid slots.Out → new slots.Report ≡ mid slots.Report → OutAttached mid → OutAttached new
@@ -75,6 +79,7 @@ flows_to : (outcome : Outcome) (mid new : Slot → SlotView) → new slots.Out �
 flows_to Done mid new p q h = alone_to mid new p q h
 flows_to (Usage fault) mid new p q h = none_to mid new p q h
 flows_to (Policy fault) mid new p q h = none_to mid new p q h
+flows_to (Graph fault) mid new p q h = none_to mid new p q h
 flows_to (Capture fault) mid new p q h = fault_to_out fault mid new p q h
 flows_to (CaptureNg fault) mid new p q h = none_to mid new p q h
 flows_to (ReadFault s) mid new p q h = ap (λ v. v.name) q ∙ h
@@ -83,6 +88,7 @@ flows_to (WriteFault slots.Report) mid new p q h = ap (λ v. v.name) q ∙ h
 flows_to (WriteFault slots.Out) mid new p q h = ap (λ v. v.name) q ∙ h
 flows_to (WriteFault slots.Policy) mid new p q h = ap (λ v. v.name) q ∙ h
 flows_to (WriteFault slots.Capture) mid new p q h = ap (λ v. v.name) q ∙ h
+flows_to (WriteFault slots.Graph) mid new p q h = ap (λ v. v.name) q ∙ h
 flows_to OutOfMemory mid new p q h = ap (λ v. v.name) q ∙ h
 
 attaches_to : (command : Result Command UsageFault) (outcome : Outcome) (mid new : Slot → SlotView) → new slots.Out ≡ mid slots.Out → new slots.Report ≡ mid slots.Report → AttachesDue command outcome mid → AttachesDue command outcome new
@@ -97,6 +103,7 @@ no_report : (outcome : Outcome) (new : Slot → SlotView) → FlowsAttach outcom
 no_report Done new h = h.1
 no_report (Usage fault) new h = h.1
 no_report (Policy fault) new h = h.1
+no_report (Graph fault) new h = h.1
 no_report (Capture BadMagic) new h = h.1
 no_report (Capture BadVersion) new h = h.1
 no_report (Capture (BadLink link)) new h = h.1
@@ -111,6 +118,7 @@ no_report (WriteFault slots.Report) new h = h
 no_report (WriteFault slots.Out) new h = h
 no_report (WriteFault slots.Policy) new h = h
 no_report (WriteFault slots.Capture) new h = h
+no_report (WriteFault slots.Graph) new h = h
 no_report OutOfMemory new h = h
 
 -- the same where memory ran out, or the line couldn't be put
@@ -125,6 +133,7 @@ run_untold : (outcome : Outcome) (new : Slot → SlotView) → RunAttaches outco
 run_untold Done new h = h
 run_untold (Usage fault) new h = h
 run_untold (Policy fault) new h = h
+run_untold (Graph fault) new h = h
 run_untold (Capture fault) new h = h
 run_untold (CaptureNg fault) new h = h
 run_untold (ReadFault s) new h = h
@@ -135,6 +144,7 @@ flows_untold : (outcome : Outcome) (new : Slot → SlotView) → FlowsAttach out
 flows_untold Done new h = h
 flows_untold (Usage fault) new h = h
 flows_untold (Policy fault) new h = h
+flows_untold (Graph fault) new h = h
 flows_untold (Capture fault) new h = h
 flows_untold (CaptureNg fault) new h = h
 flows_untold (ReadFault s) new h = h
@@ -167,6 +177,7 @@ reaches_untold : (command : Result Command UsageFault) (outcome : Outcome) (old 
 reaches_untold command Done old h = reaches_note command old
 reaches_untold command (Usage fault) old h = h
 reaches_untold command (Policy fault) old h = h
+reaches_untold command (Graph fault) old h = h
 reaches_untold command (Capture fault) old h = h
 reaches_untold command (CaptureNg fault) old h = h
 reaches_untold command (ReadFault s) old h = h
@@ -184,6 +195,7 @@ called_names command old mid new ended result called = go command called.ran.nam
     same : (s : Slot) → (new s).name ≡ (mid s).name
     same slots.Policy = ap (λ v. v.name) (called.beside slots.Policy policy_beside)
     same slots.Capture = ap (λ v. v.name) (called.beside slots.Capture capture_beside)
+    same slots.Graph = ap (λ v. v.name) (called.beside slots.Graph graph_beside)
     same slots.Out = ap (λ v. v.name) (called.beside slots.Out out_beside)
     same slots.Report = ap (λ v. v.name) (called.beside slots.Report report_beside)
     same slots.Note = note_name ended result (mid slots.Note) (new slots.Note) called.notes
@@ -201,6 +213,7 @@ untold_seen : (seen o : Outcome) → untold seen ≡ o → o ≢ WriteFault slot
 untold_seen Done o e other = absurd (other (sym e))
 untold_seen (Usage fault) o e other = e
 untold_seen (Policy fault) o e other = e
+untold_seen (Graph fault) o e other = e
 untold_seen (Capture fault) o e other = e
 untold_seen (CaptureNg fault) o e other = e
 untold_seen (ReadFault s) o e other = e
@@ -233,12 +246,31 @@ called_refused command old mid new ended result called fault e =
     let cause = called.ran.refused fault (seen_before ended result (Policy fault) (mid slots.Note) (new slots.Note) called.notes e (λ h. cc) (λ h. cc)) in
     (cause.0, cause.1, capture_name mid new (called.beside slots.Capture capture_beside) cause.2)
 
+pub called_graph_refused : (command : Result Command UsageFault) (old mid new : Slot → SlotView) (ended : Ending) (result : Outcome) → Called command old mid new ended result →
+    (fault : GraphFault) → result ≡ Graph fault → GraphCause command old new fault
+called_graph_refused command old mid new ended result called fault e =
+    let cause = called.ran.graph_refused fault (seen_before ended result (Graph fault) (mid slots.Note) (new slots.Note) called.notes e (λ h. cc) (λ h. cc)) in
+    record {
+      name = cause.name;
+      named = cause.named;
+      policy = cause.policy;
+      told = cause.told;
+      no_capture = capture_name mid new (called.beside slots.Capture capture_beside) cause.no_capture;
+    }
+
 read_to : (command : Result Command UsageFault) (old mid new : Slot → SlotView) (s : Slot) → ((x : Slot) → x ≢ slots.Note → new x ≡ mid x) → ReadFaultCause command old mid s → ReadFaultCause command old new s
 read_to command old mid new slots.Policy beside h = (h.0, subst (λ v. IsRisen (old slots.Policy).faults v.faults) (sym (beside slots.Policy policy_beside)) h.1, capture_name mid new (beside slots.Capture capture_beside) h.2)
 read_to command old mid new slots.Capture beside h = (h.0, subst (λ v. IsRisen (old slots.Capture).faults v.faults) (sym (beside slots.Capture capture_beside)) h.1)
 read_to command old mid new slots.Out beside h = h
 read_to command old mid new slots.Report beside h = h
 read_to command old mid new slots.Note beside h = h
+read_to command old mid new slots.Graph beside h = record {
+  name = h.name;
+  named = h.named;
+  policy = h.policy;
+  risen = subst (λ v. IsRisen (old slots.Graph).faults v.faults) (sym (beside slots.Graph graph_beside)) h.risen;
+  no_capture = capture_name mid new (beside slots.Capture capture_beside) h.no_capture;
+}
 
 pub called_read_faults : (command : Result Command UsageFault) (old mid new : Slot → SlotView) (ended : Ending) (result : Outcome) → Called command old mid new ended result →
     (s : Slot) → result ≡ ReadFault s → ReadFaultCause command old new s
@@ -250,6 +282,7 @@ untold_done : (seen : Outcome) → untold seen ≡ WriteFault slots.Note → (se
 untold_done Done e none = refl
 untold_done (Usage fault) e none = absurd (none e)
 untold_done (Policy fault) e none = absurd (none e)
+untold_done (Graph fault) e none = absurd (none e)
 untold_done (Capture fault) e none = absurd (none e)
 untold_done (CaptureNg fault) e none = absurd (none e)
 untold_done (ReadFault s) e none = absurd (none e)
@@ -263,11 +296,13 @@ called_write_faults command old mid new ended result called slots.Out e =
     (cause.0, subst (λ v. IsRisen (old slots.Out).faults v.faults) (sym (called.beside slots.Out out_beside)) cause.1)
 called_write_faults command old mid new ended result called slots.Report e =
     let cause = called.ran.write_faults slots.Report (seen_before ended result (WriteFault slots.Report) (mid slots.Note) (new slots.Note) called.notes e (λ h. cc) (λ h. cc)) in
-    (cause.0, subst (λ v. IsRisen (old slots.Report).faults v.faults) (sym (called.beside slots.Report report_beside)) cause.1, cause.2, cause.3)
+    (cause.0, subst (λ v. IsRisen (old slots.Report).faults v.faults) (sym (called.beside slots.Report report_beside)) cause.1)
 called_write_faults command old mid new ended result called slots.Policy e =
     called.ran.write_faults slots.Policy (seen_before ended result (WriteFault slots.Policy) (mid slots.Note) (new slots.Note) called.notes e (λ h. cc) (λ h. cc))
 called_write_faults command old mid new ended result called slots.Capture e =
     called.ran.write_faults slots.Capture (seen_before ended result (WriteFault slots.Capture) (mid slots.Note) (new slots.Note) called.notes e (λ h. cc) (λ h. cc))
+called_write_faults command old mid new ended result called slots.Graph e =
+    called.ran.write_faults slots.Graph (seen_before ended result (WriteFault slots.Graph) (mid slots.Note) (new slots.Note) called.notes e (λ h. cc) (λ h. cc))
 called_write_faults command old mid new ended result called slots.Note e = by_notes called.notes
   where
     by_notes : Notes ended (mid slots.Note) (new slots.Note) result → WriteFaultCause command old new slots.Note
@@ -279,10 +314,10 @@ called_write_faults command old mid new ended result called slots.Note e = by_no
     )
 
 pub called_note_fault : (command : Result Command UsageFault) (old mid new : Slot → SlotView) (ended : Ending) (result : Outcome) → Called command old mid new ended result →
-    result ≡ WriteFault slots.Note → WhereRead command old (λ p c. IsDue (due_of_command command p c) old new Done)
+    result ≡ WriteFault slots.Note → WhereRead command old (λ p g c. IsDue (due_of_command command p g c) old new Done)
 called_note_fault command old mid new ended result called e = by_notes called.notes
   where
-    by_notes : Notes ended (mid slots.Note) (new slots.Note) result → WhereRead command old (λ p c. IsDue (due_of_command command p c) old new Done)
+    by_notes : Notes ended (mid slots.Note) (new slots.Note) result → WhereRead command old (λ p g c. IsDue (due_of_command command p g c) old new Done)
     by_notes (inl (is, a)) = absurd (called.ran.no_note_fault (sym is ∙ e))
     by_notes (inr (inl (is, a))) = let h : OutOfMemory ≡ WriteFault slots.Note = sym is ∙ e in absurd cc
     by_notes (inr (inr (is, r, a))) =

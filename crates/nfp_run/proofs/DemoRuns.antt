@@ -1,6 +1,6 @@
 -- A demo gives the numbers of its summary.
 use Rattle.std.proofs.Common.{◌≡◌, ◌≤◌, ◌∙◌, ◌-◌, ℕ, List, [], length, refl, ap, sym, subst, arith}
-use Rattle.std.specs.Prelude.{None, Some, Ok}
+use Rattle.std.specs.Prelude.{map, Option, None, Some, Ok}
 use Rattle.std.specs.Option.{option_map}
 use Rattle.nfp_outside.specs.declared.slot.Slot.{Slot}
 use Rattle.nfp_outside.specs.declared.slot.Slot.TheVariants as slots
@@ -11,6 +11,8 @@ use Rattle.pcap_io.specs.Written.{head_bytes}
 use Rattle.pcap_io.specs.declared.capture.CaptureHead.{CaptureHead}
 use Rattle.capture_bytes.specs.declared.order.Endian.{Endian}
 use Rattle.capture_bytes.specs.declared.packet.PcapRecord.{PcapRecord}
+use Rattle.graph_compile.specs.declared.graph.Graph.{Graph}
+use Rattle.graph_text.specs.Graphs.{no_graph}
 use Rattle.policy_judge.specs.declared.judged.Judged.{Judged}
 use Rattle.policy_judge.specs.Judging.{judged}
 use Rattle.command_words.specs.declared.requests.DemoInput.{DemoInput}
@@ -28,8 +30,8 @@ use Rattle.nfp_run.specs.Closing.{LedWhole}
 use Rattle.nfp_run.specs.Written.{led_pcap, written_of}
 use Rattle.nfp_run.proofs.Formats.{pcap_whole}
 
-pub served_demo : (policy : Judged) (chains : Chains) → judged policy_text ≡ Ok policy → chains ≡ service_among policy.policy.chains policy.orders → service_of (judged policy_text) ≡ Some chains
-served_demo policy chains good is = ap service_of good ∙ ap Some (sym is)
+pub served_demo : (policy : Judged) (graphs : List (Option Graph)) (chains : Chains) → judged policy_text ≡ Ok policy → graphs ≡ map no_graph policy.policy.chains → chains ≡ service_among policy.policy.chains policy.orders graphs → service_of (judged policy_text) ≡ Some chains
+served_demo policy graphs chains good none is = ap service_of good ∙ ap Some (sym (is ∙ ap (service_among policy.policy.chains policy.orders) none))
 
 -- the policy is short
 pub policy_short : length policy_text ≤ 1048576

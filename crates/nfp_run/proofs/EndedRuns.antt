@@ -14,12 +14,9 @@ use Rattle.pcapng_io.specs.declared.fault.NgFault.{NgFault}
 use Rattle.pcapng_io.specs.declared.item.NgItem.{NgItem}
 use Rattle.pcapng_io.specs.declared.place.Place.{Place}
 use Rattle.chain_walk.specs.declared.walk.Fate.{Fate}
-use Rattle.policy_judge.specs.declared.fault.Refusal.{Refusal}
-use Rattle.policy_judge.specs.declared.judged.Judged.{Judged}
-use Rattle.policy_judge.specs.Judging.{judged}
 use Rattle.command_words.specs.declared.requests.RunOptions.{RunOptions}
 use Rattle.command_words.specs.Words.{Names, Run}
-use Rattle.chain_service.specs.Services.{Chains, service_of, service_among}
+use Rattle.chain_service.specs.Services.{Chains}
 use Rattle.capture_report.specs.declared.ended.Ended.{Ended}
 use Rattle.capture_report.specs.declared.ended.Totals.{Totals}
 use Rattle.capture_run.specs.declared.fault.RunFault.{RunFault}
@@ -32,10 +29,12 @@ use Rattle.capture_run.specs.Streams.{Stream}
 use Rattle.capture_run.specs.Slots.{IsBroken}
 use Rattle.nfp_run.specs.declared.ending.Ending.{Ending}
 use Rattle.nfp_run.specs.declared.outcome.Outcome.TheVariants.{WriteFault}
-use Rattle.nfp_run.specs.Answers.{HasNoOpeningFault, Holds, HoldsPrefix, IsFinal, IsUntouched, Leaves, LeavesPrefixes, WhereTold, WriteFaultCause}
+use Rattle.nfp_run.specs.Answers.{HasNoOpeningFault, Holds, HoldsPrefix, IsFinal, IsUntouched, HasTexts, Leaves, LeavesPrefixes, WhereRead, WhereTexts, WriteFaultCause}
 use Rattle.nfp_run.specs.Closing.{EndsDue, Left, closed, ending_of, outcome_seen, text_of}
 use Rattle.nfp_run.specs.Due.{Due, due_by_format, due_of_capture, due_of_command, due_of_led, due_of_ng, due_of_pcap, due_of_run, is_ng, note_of, outcome_of}
-use Rattle.nfp_run.specs.Reading.{IsOfFormat, LeavesAll, Opens, led_stream, opened_led}
+use Rattle.nfp_run.specs.Preparing.{Unprepared, chains_prepared, prepared}
+use Rattle.nfp_run.specs.Reading.{IsOfFormat, LeavesAll, Opens, Serves, chains_run, led_stream, opened_led}
+use Rattle.nfp_run.specs.declared.prepared.Prepared.{Prepared}
 use Rattle.nfp_run.specs.Notes.{done_text}
 use Rattle.capture_report.specs.Report.{is_gone}
 use Rattle.nfp_run.specs.Written.{both, Led, led_ng, led_pcap, Written}
@@ -43,6 +42,7 @@ use Rattle.nfp_run.specs.declared.read.Opened.{Opened}
 use Rattle.nfp_run.specs.declared.read.Opened.TheVariants.{Pcap, Ng}
 use Rattle.nfp_run.proofs.Formats.{led_streams}
 use Rattle.nfp_run.proofs.HeldBytes.{whole_prefix}
+use Rattle.nfp_run.proofs.TextsTold.{if_texts, if_told}
 
 -- this is what is due of a capture with these bytes
 pub record IsLed (chains : Chains) (left : Option Led) (bytes : List ℕ) : Type 0 where
@@ -88,9 +88,10 @@ opens_so chains name opened old new opens = go old.bytes opens.whole
     go None h = tt
     go (Some bytes) h = opened_is chains opened new bytes h.0 h.1
 
--- A capture was to run through these chains: the policy runs them, and the capture was opened, where the desk tells both.
-pub record Stands (chains : Chains) (left : Option Led) (old mid : Slot → SlotView) : Type 0 where
-  pub runs : IfSome (old slots.Policy).bytes (λ bytes. service_of (judged bytes) ≡ Some chains)
+-- A capture was to run through these chains: the policy and the graphs of this name run them, and the capture was opened, where the desk
+-- tells all.
+pub record Stands (named : Option (List ℕ)) (chains : Chains) (left : Option Led) (old mid : Slot → SlotView) : Type 0 where
+  pub serves : Serves named old chains
   pub told : IfSome (old slots.Capture).bytes (IsLed chains left)
   pub same_out : mid slots.Out ≡ old slots.Out
   pub same_report : mid slots.Report ≡ old slots.Report
@@ -102,18 +103,18 @@ LeftOf left mid new r = IfSome left (λ led. Left led mid new r)
 same_chains : (a b : Chains) → Some a ≡ Some b → a ≡ b
 same_chains a b e = cc
 
--- what is due of a policy that runs these chains
-run_due : (r : Result Judged Refusal) (y : List ℕ) (chains : Chains) → service_of r ≡ Some chains → due_of_run r y ≡ due_of_capture chains y
-run_due (Ok policy) y chains runs = ap (λ o. due_of_capture o y) (same_chains (service_among policy.policy.chains policy.orders) chains runs)
-run_due (Err refusal) y chains runs = absurd cc
+-- what is due of a policy and graphs that run these chains
+pub run_due : (r : Result Prepared Unprepared) (y : List ℕ) (chains : Chains) → chains_run r ≡ Some chains → due_of_run r y ≡ due_of_capture chains y
+run_due (Ok p) y chains runs = ap (λ o. due_of_capture o y) (same_chains (chains_prepared p) chains runs)
+run_due (Err fault) y chains runs = absurd cc
 
-told_due : (names : Names) (options : RunOptions) (p c : Option (List ℕ)) (left : Option Led) (chains : Chains) (P : Due → Type 0) →
-    IfSome p (λ bytes. service_of (judged bytes) ≡ Some chains) → IfSome c (IsLed chains left) → IfSome left (λ led. P (due_of_led led)) →
-    IfSome p (λ x. IfSome c (λ y. P (due_of_command (Ok (Run names options)) x y)))
-told_due names options None c left chains P runs told all = tt
-told_due names options (Some x) None left chains P runs told all = tt
-told_due names options (Some x) (Some y) left chains P runs told all =
-    subst P (sym (run_due (judged x) y chains runs ∙ told.due)) (subst (λ o. IfSome o (λ led. P (due_of_led led))) told.is all)
+told_due : (names : Names) (options : RunOptions) (old : Slot → SlotView) (left : Option Led) (chains : Chains) (P : Due → Type 0) →
+    WhereTexts names.graph old (λ p g. chains_run (prepared names.graph p g) ≡ Some chains) → IfSome (old slots.Capture).bytes (IsLed chains left) → IfSome left (λ led. P (due_of_led led)) →
+    WhereRead (Ok (Run names options)) old (λ p g c. P (due_of_command (Ok (Run names options)) p g c))
+told_due names options old left chains P runs told all = if_texts names.graph old _ _
+    (λ p g run. if_told (old slots.Capture).bytes (IsLed chains left) (λ y. P (due_of_run (prepared names.graph p g) y))
+    (λ y is. subst P (sym (run_due (prepared names.graph p g) y chains run ∙ is.due)) (subst (λ o. IfSome o (λ led. P (due_of_led led))) is.is all)) told)
+    runs
 
 if_some : (o : Option Led) (P Q : Led → Type 0) → ((b : Led) → P b → Q b) → IfSome o P → IfSome o Q
 if_some None P Q f h = tt
@@ -131,18 +132,17 @@ left_prefixes led old new (Ok ended) ((a, b), counts) =
 left_prefixes led old new (Err e) left = left
 
 pub run_prefixes : (names : Names) (options : RunOptions) (chains : Chains) (left : Option Led) (r : Result Ended RunFault) (old mid new : Slot → SlotView) →
-    Stands chains left old mid → LeftOf left mid new r → WhereTold old (λ p c. LeavesPrefixes (due_of_command (Ok (Run names options)) p c).written old new)
+    Stands names.graph chains left old mid → LeftOf left mid new r → WhereRead (Ok (Run names options)) old (λ p g c. LeavesPrefixes (due_of_command (Ok (Run names options)) p g c).written old new)
 run_prefixes names options chains left r old mid new s all =
-    told_due names options (old slots.Policy).bytes (old slots.Capture).bytes left chains (λ due. LeavesPrefixes due.written old new) s.runs s.told
+    told_due names options old left chains (λ due. LeavesPrefixes due.written old new) s.serves.runs s.told
     (if_some left _ _ (λ led x. prefixes_from led.written old mid new s.same_out s.same_report (left_prefixes led mid new r x)) all)
 
-is_good : (r : Result Judged Refusal) (chains : Chains) → service_of r ≡ Some chains → IsOk r
-is_good (Ok policy) chains runs = search rules
-is_good (Err refusal) chains runs = absurd cc
+is_good : (r : Result Prepared Unprepared) (chains : Chains) → chains_run r ≡ Some chains → IsOk r
+is_good (Ok p) chains runs = search rules
+is_good (Err fault) chains runs = absurd cc
 
-has_policy : (p : Option (List ℕ)) (chains : Chains) → IfSome p (λ bytes. service_of (judged bytes) ≡ Some chains) → IfSome p (λ bytes. IsOk (judged bytes))
-has_policy None chains runs = tt
-has_policy (Some bytes) chains runs = is_good (judged bytes) chains runs
+pub has_texts : (named : Option (List ℕ)) (old : Slot → SlotView) (chains : Chains) → Serves named old chains → HasTexts named old
+has_texts named old chains serves = (serves.policy, if_texts named old _ _ (λ p g runs. is_good (prepared named p g) chains runs) serves.runs)
 
 has_head : (c : Option (List ℕ)) (chains : Chains) (left : Option Led) → IfSome c (IsLed chains left) → IfSome c (λ bytes. HasNoOpeningFault (is_ng bytes) bytes)
 has_head None chains left told = tt
@@ -171,11 +171,11 @@ closed_due led ended old new counts left = record {
 
 -- what a run is answered with that wasn't broken off
 pub run_ends : (names : Names) (options : RunOptions) (chains : Chains) (left : Option Led) (r : Result Ended RunFault) (ending : Ending) (old mid new : Slot → SlotView) →
-    Stands chains left old mid → LeftOf left mid new r → ending ≡ ending_of r → IsFinal (outcome_seen ending) →
-    WhereTold old (λ p c. EndsDue (due_of_command (Ok (Run names options)) p c) old new ending)
+    Stands names.graph chains left old mid → LeftOf left mid new r → ending ≡ ending_of r → IsFinal (outcome_seen ending) →
+    WhereRead (Ok (Run names options)) old (λ p g c. EndsDue (due_of_command (Ok (Run names options)) p g c) old new ending)
 run_ends names options chains left (Ok ended) ending old mid new s all is final =
-    subst (λ e. WhereTold old (λ p c. EndsDue (due_of_command (Ok (Run names options)) p c) old new e)) (sym is)
-    (told_due names options (old slots.Policy).bytes (old slots.Capture).bytes left chains (λ due. EndsDue due old new (closed ended.totals ended.fault)) s.runs s.told
+    subst (λ e. WhereRead (Ok (Run names options)) old (λ p g c. EndsDue (due_of_command (Ok (Run names options)) p g c) old new e)) (sym is)
+    (told_due names options old left chains (λ due. EndsDue due old new (closed ended.totals ended.fault)) s.serves.runs s.told
     (if_some left _ _ (λ led x. closed_due led ended old new x.1 (leaves_from led.written old mid new s.same_out s.same_report x.0)) all))
 run_ends names options chains left (Err faults.ReadFault) ending old mid new s all is final = absurd (subst (λ e. IsFinal (outcome_seen e)) is final)
 run_ends names options chains left (Err (faults.WriteFault slot)) ending old mid new s all is final = absurd (subst (λ e. IsFinal (outcome_seen e)) is final)
@@ -183,14 +183,15 @@ run_ends names options chains left (Err faults.OutOfMemory) ending old mid new s
 
 -- a slot that was written gave the fault that broke the run off
 broken_write : (names : Names) (options : RunOptions) (chains : Chains) (left : Option Led) (old mid new : Slot → SlotView) (slot : Slot) →
-    Stands chains left old mid → IsBroken mid new (faults.WriteFault slot) → WriteFaultCause (Ok (Run names options)) old new slot
+    Stands names.graph chains left old mid → IsBroken mid new (faults.WriteFault slot) → WriteFaultCause (Ok (Run names options)) old new slot
 broken_write names options chains left old mid new slots.Out s cause =
-    ((has_policy (old slots.Policy).bytes chains s.runs, has_head (old slots.Capture).bytes chains left s.told), subst (λ v. IsRisen v.faults (new slots.Out).faults) s.same_out cause)
+    ((has_texts names.graph old chains s.serves, has_head (old slots.Capture).bytes chains left s.told), subst (λ v. IsRisen v.faults (new slots.Out).faults) s.same_out cause)
 broken_write names options chains left old mid new slots.Report s cause =
-    (tt, subst (λ v. IsRisen v.faults (new slots.Report).faults) s.same_report cause, has_policy (old slots.Policy).bytes chains s.runs, has_head (old slots.Capture).bytes chains left s.told)
+    ((has_texts names.graph old chains s.serves, has_head (old slots.Capture).bytes chains left s.told), subst (λ v. IsRisen v.faults (new slots.Report).faults) s.same_report cause)
 broken_write names options chains left old mid new slots.Note s cause = absurd cause
 broken_write names options chains left old mid new slots.Policy s cause = absurd cause
 broken_write names options chains left old mid new slots.Capture s cause = absurd cause
+broken_write names options chains left old mid new slots.Graph s cause = absurd cause
 
 no_write_fault : (totals : Totals) (f : Option FormatFault) (slot : Slot) → outcome_seen (closed totals f) ≡ WriteFault slot → ⊥
 no_write_fault totals None slot e = cc
@@ -198,7 +199,7 @@ no_write_fault totals (Some (formats.Pcap fault)) slot e = cc
 no_write_fault totals (Some (formats.Ng fault)) slot e = cc
 
 seen_write : (names : Names) (options : RunOptions) (chains : Chains) (left : Option Led) (old mid new : Slot → SlotView) (r : Result Ended RunFault) (slot : Slot) →
-    Stands chains left old mid → IfErr r (IsBroken mid new) → outcome_seen (ending_of r) ≡ WriteFault slot → WriteFaultCause (Ok (Run names options)) old new slot
+    Stands names.graph chains left old mid → IfErr r (IsBroken mid new) → outcome_seen (ending_of r) ≡ WriteFault slot → WriteFaultCause (Ok (Run names options)) old new slot
 seen_write names options chains left old mid new (Ok ended) slot s cause e = absurd (no_write_fault ended.totals ended.fault slot e)
 seen_write names options chains left old mid new (Err faults.ReadFault) slot s cause e = absurd cc
 seen_write names options chains left old mid new (Err faults.OutOfMemory) slot s cause e = absurd cc
@@ -207,5 +208,5 @@ seen_write names options chains left old mid new (Err (faults.WriteFault x)) slo
     broken_write names options chains left old mid new slot s (subst (λ y. IsBroken mid new (faults.WriteFault y)) same cause)
 
 pub run_write_faults : (names : Names) (options : RunOptions) (chains : Chains) (left : Option Led) (old mid new : Slot → SlotView) (r : Result Ended RunFault) (ending : Ending) →
-    Stands chains left old mid → IfErr r (IsBroken mid new) → ending ≡ ending_of r → (slot : Slot) → outcome_seen ending ≡ WriteFault slot → WriteFaultCause (Ok (Run names options)) old new slot
+    Stands names.graph chains left old mid → IfErr r (IsBroken mid new) → ending ≡ ending_of r → (slot : Slot) → outcome_seen ending ≡ WriteFault slot → WriteFaultCause (Ok (Run names options)) old new slot
 run_write_faults names options chains left old mid new r ending s cause is slot e = seen_write names options chains left old mid new r slot s cause (ap outcome_seen (sym is) ∙ e)

@@ -11,6 +11,7 @@ use Rattle.pcap_io.specs.Reader.{ReaderState, body_left}
 use Rattle.pcap_io.specs.declared.capture.CaptureFault.{CaptureFault}
 use Rattle.pcap_io.specs.declared.capture.CaptureFault.TheVariants.{BadMagic, BadVersion, BadLink, CutHead, CutRecord, FrameTooLong, TooManyRecords}
 use Rattle.pcap_io.specs.declared.capture.CaptureHead.{CaptureHead}
+use Rattle.graph_text.specs.declared.fault.GraphFault.{GraphFault}
 use Rattle.policy_judge.specs.declared.fault.PolicyFault.{PolicyFault}
 use Rattle.capture_report.specs.declared.fault.FormatFault.TheVariants.{Pcap}
 use Rattle.capture_run.specs.declared.fault.RunFault.{RunFault}
@@ -27,9 +28,9 @@ use Rattle.nfp_run.specs.FlowsRan.{FlowsBroken, FlowsEnd, FlowsEndTold, RefusedC
 use Rattle.nfp_run.specs.Ran.{Ran}
 use Rattle.nfp_run.specs.Written.{Files}
 use Rattle.nfp_run.specs.declared.ending.Ending.{Ending}
-use Rattle.nfp_run.specs.declared.ending.Ending.TheVariants.{Completed, Shown, Refused, Stopped}
+use Rattle.nfp_run.specs.declared.ending.Ending.TheVariants.{Completed, Shown, Refused, GraphRefused, Stopped}
 use Rattle.nfp_run.specs.declared.outcome.Outcome.{Outcome}
-use Rattle.nfp_run.specs.declared.outcome.Outcome.TheVariants.{Done, Usage, Policy, Capture, CaptureNg, ReadFault, WriteFault, OutOfMemory}
+use Rattle.nfp_run.specs.declared.outcome.Outcome.TheVariants.{Done, Usage, Policy, Graph, Capture, CaptureNg, ReadFault, WriteFault, OutOfMemory}
 use Rattle.nfp_run.proofs.HeldBytes.{untouched_same, whole_prefix}
 use Rattle.nfp_run.proofs.OtherSlots.{report_is_not_capture, report_is_not_out}
 
@@ -53,6 +54,7 @@ names_are names options old new stays slots.Capture = stays.capture
 names_are names options old new stays slots.Out = stays.out
 names_are names options old new stays slots.Report = inl (free_still names old new slots.Report stays (λ h. cc) (λ h. cc))
 names_are names options old new stays slots.Note = inl (free_still names old new slots.Note stays (λ h. cc) (λ h. cc))
+names_are names options old new stays slots.Graph = inl (free_still names old new slots.Graph stays (λ h. cc) (λ h. cc))
 
 no_report : (names : FlowFiles) (old new : Slot → SlotView) → Stays names old new → (new slots.Report).name ≡ None
 no_report names old new stays = free_still names old new slots.Report stays (λ h. cc) (λ h. cc)
@@ -89,13 +91,14 @@ write_slot (WriteFault s) = s
 write_slot outcome = slots.Out
 
 unopened_due : (names : FlowFiles) (options : FlowOptions) (old new : Slot → SlotView) (outcome : Outcome) → RefusedClassic (old slots.Capture) (new slots.Capture) outcome → IsUntouched (old slots.Out) (new slots.Out) → IsUntouched (old slots.Report) (new slots.Report) →
-    IsFinal outcome → IfSome (old slots.Capture).bytes (λ c. (p : List ℕ) → EndsDue (due_of_command (asked names options) p c) old new (Stopped outcome))
+    IsFinal outcome → IfSome (old slots.Capture).bytes (λ c. (p g : List ℕ) → EndsDue (due_of_command (asked names options) p g c) old new (Stopped outcome))
 unopened_due names options old new (Capture fault) refused out report final =
-    each (old slots.Capture).bytes (λ bytes. capture_of bytes ≡ Err fault) (λ c. (p : List ℕ) → EndsDue (due_of_command (asked names options) p c) old new (Stopped (Capture fault)))
-    (λ bytes is p. subst (λ r. EndsDue (due_of_flows r) old new (Stopped (Capture fault))) (sym is) (record { answer = refl; left = (out, report); note = refl })) refused.1
+    each (old slots.Capture).bytes (λ bytes. capture_of bytes ≡ Err fault) (λ c. (p g : List ℕ) → EndsDue (due_of_command (asked names options) p g c) old new (Stopped (Capture fault)))
+    (λ bytes is p g. subst (λ r. EndsDue (due_of_flows r) old new (Stopped (Capture fault))) (sym is) (record { answer = refl; left = (out, report); note = refl })) refused.1
 unopened_due names options old new Done refused out report final = absurd refused
 unopened_due names options old new (Usage fault) refused out report final = absurd refused
 unopened_due names options old new (Policy fault) refused out report final = absurd refused
+unopened_due names options old new (Graph fault) refused out report final = absurd refused
 unopened_due names options old new (CaptureNg fault) refused out report final = absurd refused
 unopened_due names options old new (ReadFault s) refused out report final = absurd final
 unopened_due names options old new (WriteFault s) refused out report final = absurd refused
@@ -112,6 +115,7 @@ unopened_attaches names options old new (Capture TooManyRecords) refused out rep
 unopened_attaches names options old new Done refused out report = absurd refused
 unopened_attaches names options old new (Usage fault) refused out report = (out, report)
 unopened_attaches names options old new (Policy fault) refused out report = (out, report)
+unopened_attaches names options old new (Graph fault) refused out report = (out, report)
 unopened_attaches names options old new (CaptureNg fault) refused out report = (out, report)
 unopened_attaches names options old new (ReadFault s) refused out report = report
 unopened_attaches names options old new (WriteFault s) refused out report = absurd refused
@@ -122,6 +126,7 @@ unopened_reaches names options old new (Capture fault) refused = tt
 unopened_reaches names options old new Done refused = tt
 unopened_reaches names options old new (Usage fault) refused = tt
 unopened_reaches names options old new (Policy fault) refused = tt
+unopened_reaches names options old new (Graph fault) refused = tt
 unopened_reaches names options old new (CaptureNg fault) refused = absurd refused
 unopened_reaches names options old new (ReadFault s) refused = tt
 unopened_reaches names options old new (WriteFault s) refused = tt
@@ -132,6 +137,9 @@ unopened_usage old new outcome fault refused is = subst (RefusedClassic old new)
 
 unopened_policy : (old new : SlotView) (outcome : Outcome) (fault : PolicyFault) → RefusedClassic old new outcome → outcome ≡ Policy fault → ⊥
 unopened_policy old new outcome fault refused is = subst (RefusedClassic old new) is refused
+
+unopened_graph : (old new : SlotView) (outcome : Outcome) (fault : GraphFault) → RefusedClassic old new outcome → outcome ≡ Graph fault → ⊥
+unopened_graph old new outcome fault refused is = subst (RefusedClassic old new) is refused
 
 unopened_write : (old new : SlotView) (outcome : Outcome) (s : Slot) → RefusedClassic old new outcome → outcome ≡ WriteFault s → ⊥
 unopened_write old new outcome s refused is = subst (RefusedClassic old new) is refused
@@ -148,8 +156,8 @@ unopened names options old new outcome refused stays same =
     let report_untouched : IsUntouched (old slots.Report) (new slots.Report) = untouched_same (old slots.Report) (new slots.Report) (stays.free slots.Report) report in
     record {
       due = λ final. unopened_due names options old new outcome refused out_untouched report_untouched final;
-      prefixes = always (old slots.Capture).bytes (λ c. (p : List ℕ) → LeavesPrefixes (due_of_command (asked names options) p c).written old new)
-          (λ c p. (untouched_prefix (due_of_flows (capture_of c)).written.out (old slots.Out) (new slots.Out) out_untouched, untouched_prefix (due_of_flows (capture_of c)).written.report (old slots.Report) (new slots.Report) report_untouched));
+      prefixes = always (old slots.Capture).bytes (λ c. (p g : List ℕ) → LeavesPrefixes (due_of_command (asked names options) p g c).written old new)
+          (λ c p g. (untouched_prefix (due_of_flows (capture_of c)).written.out (old slots.Out) (new slots.Out) out_untouched, untouched_prefix (due_of_flows (capture_of c)).written.report (old slots.Report) (new slots.Report) report_untouched));
       within = tt;
       names_are = names_are names options old new stays;
       attached = unopened_attaches names options old new outcome refused (ap (λ v. v.name) same ∙ stays.free slots.Out) (no_report names old new stays);
@@ -157,6 +165,7 @@ unopened names options old new outcome refused stays same =
       usage = λ fault is. absurd (unopened_usage (old slots.Capture) (new slots.Capture) outcome fault refused is);
       usage_always = λ fault is. absurd cc;
       refused = λ fault is. absurd (unopened_policy (old slots.Capture) (new slots.Capture) outcome fault refused is);
+      graph_refused = λ fault is. absurd (unopened_graph (old slots.Capture) (new slots.Capture) outcome fault refused is);
       policy = unopened_reaches names options old new outcome refused;
       read_faults = λ s is. unopened_read names options old new outcome s refused is;
       write_faults = λ s is. absurd (unopened_write (old slots.Capture) (new slots.Capture) outcome s refused is);
@@ -191,10 +200,10 @@ ends_prefixes unit body old new (Ok ending) ends = leaves_prefixes (due_of_body 
 ends_prefixes unit body old new (Err fault) ends = ends
 
 pub counted_prefixes : (names : FlowFiles) (options : FlowOptions) (head : CaptureHead) (reader : ReaderState) (old mid new : Slot → SlotView) (r : Result Ending RunFault) → Stands head reader old mid → IfSome (body_left reader (mid slots.Capture)) (λ body. FlowsEnd head.unit body mid new r) →
-    IfSome (old slots.Capture).bytes (λ c. (p : List ℕ) → LeavesPrefixes (due_of_command (asked names options) p c).written old new)
+    IfSome (old slots.Capture).bytes (λ c. (p g : List ℕ) → LeavesPrefixes (due_of_command (asked names options) p g c).written old new)
 counted_prefixes names options head reader old mid new r stands left =
-    each (old slots.Capture).bytes (λ bytes. IsSomeAnd (body_left reader (mid slots.Capture)) (λ body. capture_of bytes ≡ Ok (head, body))) (λ c. (p : List ℕ) → LeavesPrefixes (due_of_command (asked names options) p c).written old new)
-    (λ bytes is p. said head.unit head (body_left reader (mid slots.Capture)) bytes (λ body. FlowsEnd head.unit body mid new r) (λ due. LeavesPrefixes due.written old new) is left
+    each (old slots.Capture).bytes (λ bytes. IsSomeAnd (body_left reader (mid slots.Capture)) (λ body. capture_of bytes ≡ Ok (head, body))) (λ c. (p g : List ℕ) → LeavesPrefixes (due_of_command (asked names options) p g c).written old new)
+    (λ bytes is p g. said head.unit head (body_left reader (mid slots.Capture)) bytes (λ body. FlowsEnd head.unit body mid new r) (λ due. LeavesPrefixes due.written old new) is left
     (λ body ends. prefixes_from (due_of_body head.unit body).written old mid new stands.same_out stands.same_report (ends_prefixes head.unit body mid new r ends))) stands.whole
 
 ending_answers : (unit : TimeUnit) (body : Body) (f : Option CaptureFault) → outcome_seen (flows_ending (length body.records) (flow_lines unit body.records) f) ≡ outcome_of (option_map Pcap f)
@@ -213,16 +222,17 @@ body_due unit body old mid new ending out report (left, is) = record {
 }
 
 counted_due : (names : FlowFiles) (options : FlowOptions) (head : CaptureHead) (reader : ReaderState) (old mid new : Slot → SlotView) (ending : Ending) → Stands head reader old mid → IfSome (body_left reader (mid slots.Capture)) (λ body. FlowsEnd head.unit body mid new (Ok ending)) →
-    IfSome (old slots.Capture).bytes (λ c. (p : List ℕ) → EndsDue (due_of_command (asked names options) p c) old new ending)
+    IfSome (old slots.Capture).bytes (λ c. (p g : List ℕ) → EndsDue (due_of_command (asked names options) p g c) old new ending)
 counted_due names options head reader old mid new ending stands left =
-    each (old slots.Capture).bytes (λ bytes. IsSomeAnd (body_left reader (mid slots.Capture)) (λ body. capture_of bytes ≡ Ok (head, body))) (λ c. (p : List ℕ) → EndsDue (due_of_command (asked names options) p c) old new ending)
-    (λ bytes is p. said head.unit head (body_left reader (mid slots.Capture)) bytes (λ body. FlowsEnd head.unit body mid new (Ok ending)) (λ due. EndsDue due old new ending) is left
+    each (old slots.Capture).bytes (λ bytes. IsSomeAnd (body_left reader (mid slots.Capture)) (λ body. capture_of bytes ≡ Ok (head, body))) (λ c. (p g : List ℕ) → EndsDue (due_of_command (asked names options) p g c) old new ending)
+    (λ bytes is p g. said head.unit head (body_left reader (mid slots.Capture)) bytes (λ body. FlowsEnd head.unit body mid new (Ok ending)) (λ due. EndsDue due old new ending) is left
     (λ body ends. body_due head.unit body old mid new ending stands.same_out stands.same_report ends)) stands.whole
 
 told_within : (ending : Ending) → FlowsEndTold ending → CountsWithin ending
 told_within (Shown text) told = tt
 told_within (Stopped outcome) told = tt
 told_within (Refused refusal) told = absurd told
+told_within (GraphRefused refusal) told = absurd told
 told_within (Completed totals) told = absurd told
 
 told_attaches : (names : FlowFiles) (options : FlowOptions) (new : Slot → SlotView) (ending : Ending) → FlowsEndTold ending → IsSome (new slots.Out).name → (new slots.Report).name ≡ None → AttachesDue (asked names options) (outcome_seen ending) new
@@ -237,11 +247,13 @@ told_attaches names options new (Stopped (Capture TooManyRecords)) told out repo
 told_attaches names options new (Stopped Done) told out report = absurd told
 told_attaches names options new (Stopped (Usage fault)) told out report = absurd told
 told_attaches names options new (Stopped (Policy fault)) told out report = absurd told
+told_attaches names options new (Stopped (Graph fault)) told out report = absurd told
 told_attaches names options new (Stopped (CaptureNg fault)) told out report = absurd told
 told_attaches names options new (Stopped (ReadFault s)) told out report = absurd told
 told_attaches names options new (Stopped (WriteFault s)) told out report = absurd told
 told_attaches names options new (Stopped OutOfMemory) told out report = absurd told
 told_attaches names options new (Refused refusal) told out report = absurd told
+told_attaches names options new (GraphRefused refusal) told out report = absurd told
 told_attaches names options new (Completed totals) told out report = absurd told
 
 -- the outcome of what was told is Done or a fault of the capture
@@ -256,11 +268,13 @@ told_counted (Stopped (Capture fault)) told = tt
 told_counted (Stopped Done) told = absurd told
 told_counted (Stopped (Usage fault)) told = absurd told
 told_counted (Stopped (Policy fault)) told = absurd told
+told_counted (Stopped (Graph fault)) told = absurd told
 told_counted (Stopped (CaptureNg fault)) told = absurd told
 told_counted (Stopped (ReadFault s)) told = absurd told
 told_counted (Stopped (WriteFault s)) told = absurd told
 told_counted (Stopped OutOfMemory) told = absurd told
 told_counted (Refused refusal) told = absurd told
+told_counted (GraphRefused refusal) told = absurd told
 told_counted (Completed totals) told = absurd told
 
 counted_reaches : (names : FlowFiles) (options : FlowOptions) (old : Slot → SlotView) (outcome : Outcome) → IsCounted outcome → ReachesCapture (asked names options) outcome old
@@ -268,6 +282,7 @@ counted_reaches names options old Done is = tt
 counted_reaches names options old (Capture fault) is = tt
 counted_reaches names options old (Usage fault) is = absurd is
 counted_reaches names options old (Policy fault) is = absurd is
+counted_reaches names options old (Graph fault) is = absurd is
 counted_reaches names options old (CaptureNg fault) is = absurd is
 counted_reaches names options old (ReadFault s) is = absurd is
 counted_reaches names options old (WriteFault s) is = absurd is
@@ -287,6 +302,7 @@ exported names options head reader old mid new ending stands stays told out left
       usage = λ fault is. absurd (subst IsCounted is counted);
       usage_always = λ fault is. absurd cc;
       refused = λ fault is. absurd (subst IsCounted is counted);
+      graph_refused = λ fault is. absurd (subst IsCounted is counted);
       policy = counted_reaches names options old (outcome_seen ending) counted;
       read_faults = λ s is. absurd (subst IsCounted is counted);
       write_faults = λ s is. absurd (subst IsCounted is counted);
@@ -295,7 +311,7 @@ exported names options head reader old mid new ending stands stays told out left
 
 -- ---- it was broken off
 
-risen_from : (a b c : ℕ) → a ≤ b → IsRisen b c → IsRisen a c
+pub risen_from : (a b c : ℕ) → a ≤ b → IsRisen b c → IsRisen a c
 risen_from a b c later (inl less) = inl (omega (arith, later, less))
 risen_from a b c later (inr end) = inr end
 
@@ -321,6 +337,7 @@ broken_write names options head reader old mid new (faults.WriteFault slots.Poli
 broken_write names options head reader old mid new (faults.WriteFault slots.Capture) s stands cause is = absurd cause
 broken_write names options head reader old mid new (faults.WriteFault slots.Report) s stands cause is = absurd cause
 broken_write names options head reader old mid new (faults.WriteFault slots.Note) s stands cause is = absurd cause
+broken_write names options head reader old mid new (faults.WriteFault slots.Graph) s stands cause is = absurd cause
 
 broken_attaches : (names : FlowFiles) (options : FlowOptions) (mid new : Slot → SlotView) (fault : RunFault) → FlowsBroken mid new fault → (new slots.Report).name ≡ None → AttachesDue (asked names options) (broken_by fault) new
 broken_attaches names options mid new faults.ReadFault cause report = report
@@ -330,6 +347,7 @@ broken_attaches names options mid new (faults.WriteFault slots.Policy) cause rep
 broken_attaches names options mid new (faults.WriteFault slots.Capture) cause report = absurd cause
 broken_attaches names options mid new (faults.WriteFault slots.Report) cause report = absurd cause
 broken_attaches names options mid new (faults.WriteFault slots.Note) cause report = absurd cause
+broken_attaches names options mid new (faults.WriteFault slots.Graph) cause report = absurd cause
 
 -- the outcome of what was broken off is a fault of a slot other than Note, or want of memory
 abbrev IsCutOff : Outcome → Type 0
@@ -346,6 +364,7 @@ cut_off mid new (faults.WriteFault slots.Policy) cause = absurd cause
 cut_off mid new (faults.WriteFault slots.Capture) cause = absurd cause
 cut_off mid new (faults.WriteFault slots.Report) cause = absurd cause
 cut_off mid new (faults.WriteFault slots.Note) cause = absurd cause
+cut_off mid new (faults.WriteFault slots.Graph) cause = absurd cause
 
 cut_reaches : (names : FlowFiles) (options : FlowOptions) (old : Slot → SlotView) (fault : RunFault) → ReachesCapture (asked names options) (broken_by fault) old
 cut_reaches names options old faults.ReadFault = tt
@@ -371,6 +390,7 @@ broken names options head reader old mid new fault stands stays cause left =
       usage = λ f is. absurd (subst IsCutOff is cut);
       usage_always = λ f is. absurd cc;
       refused = λ f is. absurd (subst IsCutOff is cut);
+      graph_refused = λ f is. absurd (subst IsCutOff is cut);
       policy = cut_reaches names options old fault;
       read_faults = λ s is. broken_read names options old mid new fault s stands.later cause is;
       write_faults = λ s is. broken_write names options head reader old mid new fault s stands cause is;

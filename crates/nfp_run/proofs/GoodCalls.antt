@@ -11,15 +11,15 @@ use Rattle.pcapng_io.specs.Blocks.{blocks_of, next_of, start}
 use Rattle.pcapng_io.specs.declared.fault.NgFault.{NgFault}
 use Rattle.pcapng_io.specs.declared.item.NgItem.{NgItem}
 use Rattle.pcapng_io.specs.declared.place.Place.{Place}
-use Rattle.policy_judge.specs.declared.judged.Judged.{Judged}
-use Rattle.policy_judge.specs.Judging.{judged}
+use Rattle.nfp_run.specs.Preparing.{chains_prepared, prepared}
+use Rattle.nfp_run.specs.declared.prepared.Prepared.{Prepared}
 use Rattle.nfp_run.specs.declared.outcome.Outcome.TheVariants.{Done}
 use Rattle.nfp_run.specs.Due.{due, due_by_format, due_of_command, due_of_ng, due_of_pcap, due_of_plan, due_of_run, is_ng, outcome_of}
 use Rattle.capture_report.specs.declared.fault.FormatFault.TheVariants.{Ng}
-use Rattle.chain_service.specs.Services.{Chains, service_among}
+use Rattle.chain_service.specs.Services.{Chains}
 use Rattle.command_words.specs.declared.requests.DemoInput.{DemoInput}
 use Rattle.command_words.specs.declared.requests.RunOptions.{RunOptions}
-use Rattle.command_words.specs.Words.{Names, command_of, Run, Plan, Demo}
+use Rattle.command_words.specs.Words.{Names, PlanFiles, command_of, Run, Plan, Demo}
 
 -- no head begins with the type of a section header block
 no_head : (rest : List ℕ) (x : CaptureHead × Body) → capture_of (0x0a ∷ 0x0d ∷ 0x0d ∷ 0x0a ∷ rest) ≡ Ok x → ⊥
@@ -46,26 +46,26 @@ classic c x whole = go (is_ng c) refl
         let split = front_split c ((bytes_eq-Decides (take 4 c) (0x0a ∷ 0x0d ∷ 0x0d ∷ 0x0a ∷ [])).0 e) in
         absurd (no_head split.0 x (ap capture_of (sym split.1) ∙ whole))
 
-pub run_is_done : (words : List (List ℕ)) (names : Names) (options : RunOptions) (p c : List ℕ) (policy : Judged) (head : CaptureHead) (records : List PcapRecord) →
-    command_of words ≡ Ok (Run names options) → judged p ≡ Ok policy → capture_of c ≡ Ok (head, record { records = records; fault = None }) → (due words p c).outcome ≡ Done
-run_is_done words names options p c policy head records is good whole =
-    ap (λ command. (due_of_command command p c).outcome) is ∙ ap (λ r. (due_of_run r c).outcome) good
-    ∙ ap (λ b. (due_by_format b (service_among policy.policy.chains policy.orders) c).outcome) (classic c (head, record { records = records; fault = None }) whole)
-    ∙ ap (λ r. (due_of_pcap (service_among policy.policy.chains policy.orders) r).outcome) whole
+pub run_is_done : (words : List (List ℕ)) (names : Names) (options : RunOptions) (p g c : List ℕ) (policy : Prepared) (head : CaptureHead) (records : List PcapRecord) →
+    command_of words ≡ Ok (Run names options) → prepared names.graph p g ≡ Ok policy → capture_of c ≡ Ok (head, record { records = records; fault = None }) → (due words p g c).outcome ≡ Done
+run_is_done words names options p g c policy head records is good whole =
+    ap (λ command. (due_of_command command p g c).outcome) is ∙ ap (λ r. (due_of_run r c).outcome) good
+    ∙ ap (λ b. (due_by_format b (chains_prepared policy) c).outcome) (classic c (head, record { records = records; fault = None }) whole)
+    ∙ ap (λ r. (due_of_pcap (chains_prepared policy) r).outcome) whole
 
 first_good : (chains : Chains) (c : List ℕ) (items : List NgItem) (first : Result (Option (NgItem × Place × List ℕ)) NgFault) → IsOk first → blocks_of start c ≡ record { items = items; fault = None } → (due_of_ng chains c first).outcome ≡ Done
 first_good chains c items (Ok x) good whole = ap (λ blocks. outcome_of (option_map Ng blocks.fault)) whole
 first_good chains c items (Err fault) good whole = absurd cc
 
-pub ng_run_is_done : (words : List (List ℕ)) (names : Names) (options : RunOptions) (p c : List ℕ) (policy : Judged) (items : List NgItem) →
-    command_of words ≡ Ok (Run names options) → judged p ≡ Ok policy → is_ng c ≡ true → IsOk (next_of start c) → blocks_of start c ≡ record { items = items; fault = None } → (due words p c).outcome ≡ Done
-ng_run_is_done words names options p c policy items is good format first whole =
-    ap (λ command. (due_of_command command p c).outcome) is ∙ ap (λ r. (due_of_run r c).outcome) good
-    ∙ ap (λ b. (due_by_format b (service_among policy.policy.chains policy.orders) c).outcome) format
-    ∙ first_good (service_among policy.policy.chains policy.orders) c items (next_of start c) first whole
+pub ng_run_is_done : (words : List (List ℕ)) (names : Names) (options : RunOptions) (p g c : List ℕ) (policy : Prepared) (items : List NgItem) →
+    command_of words ≡ Ok (Run names options) → prepared names.graph p g ≡ Ok policy → is_ng c ≡ true → IsOk (next_of start c) → blocks_of start c ≡ record { items = items; fault = None } → (due words p g c).outcome ≡ Done
+ng_run_is_done words names options p g c policy items is good format first whole =
+    ap (λ command. (due_of_command command p g c).outcome) is ∙ ap (λ r. (due_of_run r c).outcome) good
+    ∙ ap (λ b. (due_by_format b (chains_prepared policy) c).outcome) format
+    ∙ first_good (chains_prepared policy) c items (next_of start c) first whole
 
-pub plan_is_done : (words : List (List ℕ)) (name p c : List ℕ) (policy : Judged) → command_of words ≡ Ok (Plan name) → judged p ≡ Ok policy → (due words p c).outcome ≡ Done
-plan_is_done words name p c policy is good = ap (λ command. (due_of_command command p c).outcome) is ∙ ap (λ r. (due_of_plan r).outcome) good
+pub plan_is_done : (words : List (List ℕ)) (names : PlanFiles) (p g c : List ℕ) (policy : Prepared) → command_of words ≡ Ok (Plan names) → prepared names.graph p g ≡ Ok policy → (due words p g c).outcome ≡ Done
+plan_is_done words names p g c policy is good = ap (λ command. (due_of_command command p g c).outcome) is ∙ ap (λ r. (due_of_plan r).outcome) good
 
-pub demo_is_done : (words : List (List ℕ)) (input : DemoInput) (options : RunOptions) (p c : List ℕ) → command_of words ≡ Ok (Demo input options) → (due words p c).outcome ≡ Done
-demo_is_done words input options p c is = ap (λ command. (due_of_command command p c).outcome) is
+pub demo_is_done : (words : List (List ℕ)) (input : DemoInput) (options : RunOptions) (p g c : List ℕ) → command_of words ≡ Ok (Demo input options) → (due words p g c).outcome ≡ Done
+demo_is_done words input options p g c is = ap (λ command. (due_of_command command p g c).outcome) is

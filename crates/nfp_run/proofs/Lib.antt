@@ -7,15 +7,20 @@ pub mod EndedRuns
 pub mod FlowRuns
 pub mod Formats
 pub mod GoodCalls
+mod GraphRows
 pub mod HeldBytes
 mod NgRows
 pub mod NotedLines
 pub mod Opening
 pub mod OtherSlots
 pub mod PolicyEnds
+pub mod Preparations
 pub mod PutInSteps
 mod Rows
+pub mod RunEnds
 pub mod ShownPlans
+pub mod TextEnds
+pub mod TextsTold
 mod TunnelRows
 pub mod UnreadWords
 pub mod WrittenSlots

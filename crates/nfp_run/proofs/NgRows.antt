@@ -1,5 +1,5 @@
 -- Rows of the result that are computed: pcapng captures.
-use Rattle.std.specs.Prelude.{◌≡◌, ℕ, List, [], ◌∷◌, ◌++◌, refl, take, Result, codes}
+use Rattle.std.specs.Prelude.{◌≡◌, ℕ, List, [], ◌∷◌, ◌++◌, refl, take, None, Result, codes}
 use Rattle.std.specs.Fmt.{digits}
 use Rattle.pcapng_io.specs.declared.fault.NgFault.TheVariants.{CutBlock}
 use Rattle.pcapng_io.specs.Blocks.{blocks_of}
@@ -16,8 +16,8 @@ use Rattle.policy_check.specs.Cycles.{cycle_back, from_earliest, named_cycle}
 use Rattle.policy_check.specs.Edges.{edges_of}
 use Rattle.policy_check.specs.Refusals.{first_refusal}
 use Rattle.policy_check.specs.Turns.{taken, stuck}
-use Rattle.policy_judge.specs.declared.fault.Refusal.{Refusal}
-use Rattle.policy_judge.specs.declared.judged.Judged.{Judged}
+use Rattle.nfp_run.specs.Preparing.{Unprepared, prepared_by}
+use Rattle.nfp_run.specs.declared.prepared.Prepared.{Prepared}
 use Rattle.policy_judge.specs.Judging.{judged_text, orders_from}
 use Rattle.net_functions.specs.Builds.{making_of}
 use Rattle.net_functions.specs.NetFunctions.{profile_by, step_by, lines_of}
@@ -57,8 +57,8 @@ block : ℕ → ℕ → List ℕ
 block sum host = 6 ∷ 0 ∷ 0 ∷ 0 ∷ 76 ∷ 0 ∷ 0 ∷ 0 ∷ 0 ∷ 0 ∷ 0 ∷ 0 ∷ 0 ∷ 0 ∷ 0 ∷ 0 ∷ 0 ∷ 0 ∷ 0 ∷ 0 ∷ 42 ∷ 0 ∷ 0 ∷ 0 ∷ 42 ∷ 0 ∷ 0 ∷ 0 ∷ 2 ∷ 0 ∷ 0 ∷ 0 ∷ 0 ∷ 2 ∷ 2 ∷ 0 ∷ 0 ∷ 0 ∷ 0 ∷ 1 ∷ 8 ∷ 0 ∷ 69 ∷ 0 ∷ 0 ∷ 28 ∷ 0 ∷ 0 ∷ 0 ∷ 0 ∷ 64 ∷ 17 ∷ 102 ∷ sum ∷ 10 ∷ 0 ∷ 0 ∷ host ∷ 10 ∷ 0 ∷ 0 ∷ 2 ∷ 3 ∷ 232 ∷ 0 ∷ 53 ∷ 0 ∷ 8 ∷ 0 ∷ 0 ∷ 0 ∷ 0 ∷ 76 ∷ 0 ∷ 0 ∷ 0 ∷ []
 
 -- what a text of ASCII characters is worth
-worth : List ℕ → Result Judged Refusal
-worth text = judged_text (policy_of_utf8 text)
+worth : List ℕ → Result Prepared Unprepared
+worth text = prepared_by None (judged_text (policy_of_utf8 text)) []
 
 deny : List ℕ
 deny = codes "nfp 1\nchain main\nfn fw firewall\nrule deny src 10.0.0.9\n"

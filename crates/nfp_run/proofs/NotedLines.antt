@@ -5,9 +5,9 @@ use Rattle.nfp_outside.specs.declared.slot.Slot.{Slot}
 use Rattle.nfp_outside.specs.declared.slot.Slot.TheVariants as slots
 use Rattle.nfp_outside.specs.Outside.{SlotView, IsRisen, Appends, AppendsPrefix}
 use Rattle.nfp_run.specs.declared.outcome.Outcome.{Outcome}
-use Rattle.nfp_run.specs.declared.outcome.Outcome.TheVariants.{Done, Usage, Policy, Capture, CaptureNg, ReadFault, WriteFault, OutOfMemory}
+use Rattle.nfp_run.specs.declared.outcome.Outcome.TheVariants.{Done, Usage, Policy, Graph, Capture, CaptureNg, ReadFault, WriteFault, OutOfMemory}
 use Rattle.nfp_run.specs.declared.ending.Ending.{Ending}
-use Rattle.nfp_run.specs.declared.ending.Ending.TheVariants.{Completed, Shown, Refused, Stopped}
+use Rattle.nfp_run.specs.declared.ending.Ending.TheVariants.{Completed, Shown, Refused, GraphRefused, Stopped}
 use Rattle.command_words.specs.declared.usage.UsageFault.{UsageFault}
 use Rattle.command_words.specs.Words.{Command}
 use Rattle.nfp_run.specs.Notes.{read_fault_text, write_fault_text}
@@ -16,12 +16,14 @@ use Rattle.nfp_run.specs.Closing.{outcome_seen, untold, text_of, Notes}
 use Rattle.nfp_run.specs.Ran.{Ran}
 use Rattle.nfp_run.specs.Answers.{IsFinal, NoneRose, WhereRead, Leaves, NotesPrefix, ReadFaultCause, WriteFaultCause}
 use Rattle.nfp_outside.specs.Adding.{prefix_whole}
-use Rattle.nfp_run.proofs.CallAnswers.{Called, if_read, read_always, whole_here, leaves_to, no_fault, policy_beside, capture_beside, out_beside, report_beside}
+use Rattle.nfp_run.proofs.CallAnswers.{Called, whole_here, leaves_to, no_fault, policy_beside, capture_beside, graph_beside, out_beside, report_beside}
+use Rattle.nfp_run.proofs.TextsTold.{if_read, read_always}
 
 untold_is_not_done : (outcome : Outcome) → untold outcome ≢ Done
 untold_is_not_done Done e = cc
 untold_is_not_done (Usage fault) e = cc
 untold_is_not_done (Policy fault) e = cc
+untold_is_not_done (Graph fault) e = cc
 untold_is_not_done (Capture fault) e = cc
 untold_is_not_done (CaptureNg fault) e = cc
 untold_is_not_done (ReadFault s) e = cc
@@ -29,12 +31,12 @@ untold_is_not_done (WriteFault s) e = cc
 untold_is_not_done OutOfMemory e = cc
 
 pub called_done_noted : (command : Result Command UsageFault) (old mid new : Slot → SlotView) (ended : Ending) (result : Outcome) → Called command old mid new ended result → result ≡ Done →
-    WhereRead command old (λ p c. Appends (due_of_command command p c).note (old slots.Note) (new slots.Note))
+    WhereRead command old (λ p g c. Appends (due_of_command command p g c).note (old slots.Note) (new slots.Note))
 called_done_noted command old mid new ended result called done = by_notes called.notes
   where
-    by_notes : Notes ended (mid slots.Note) (new slots.Note) result → WhereRead command old (λ p c. Appends (due_of_command command p c).note (old slots.Note) (new slots.Note))
+    by_notes : Notes ended (mid slots.Note) (new slots.Note) result → WhereRead command old (λ p g c. Appends (due_of_command command p g c).note (old slots.Note) (new slots.Note))
     by_notes (inl (is, a)) = if_read command old _ _
-        (λ p c ends. whole_here (text_of ended) (due_of_command command p c).note (old slots.Note) (mid slots.Note) (new slots.Note) called.ran.note_stays ends.note a)
+        (λ p g c ends. whole_here (text_of ended) (due_of_command command p g c).note (old slots.Note) (mid slots.Note) (new slots.Note) called.ran.note_stays ends.note a)
         (called.ran.due (subst IsFinal (sym (sym is ∙ done)) tt))
     by_notes (inr (inl (is, a))) = absurd cc
     by_notes (inr (inr (is, r, a))) = absurd (untold_is_not_done (outcome_seen ended) (sym is ∙ done))
@@ -47,8 +49,8 @@ IsTold old mid note text =
     ⊎ ((s : Slot) × (s ≢ slots.Note) × IsRisen (old s).faults (mid s).faults × (text ≡ write_fault_text s))
     ⊎ (text ≡ [])
 
-due_told : (command : Result Command UsageFault) (old mid : Slot → SlotView) (ended : Ending) → Ran command old mid ended → IsFinal (outcome_seen ended) → WhereRead command old (λ p c. IsTold old mid (due_of_command command p c).note (text_of ended))
-due_told command old mid ended ran final = if_read command old _ _ (λ p c ends. inl ends.note) (ran.due final)
+due_told : (command : Result Command UsageFault) (old mid : Slot → SlotView) (ended : Ending) → Ran command old mid ended → IsFinal (outcome_seen ended) → WhereRead command old (λ p g c. IsTold old mid (due_of_command command p g c).note (text_of ended))
+due_told command old mid ended ran final = if_read command old _ _ (λ p g c ends. inl ends.note) (ran.due final)
 
 -- a fault of a slot comes where its count rose, and it isn't Note's
 risen_reading : (command : Result Command UsageFault) (old mid : Slot → SlotView) (s : Slot) → ReadFaultCause command old mid s → (s ≢ slots.Note) × IsRisen (old s).faults (mid s).faults
@@ -57,6 +59,7 @@ risen_reading command old mid slots.Capture h = (capture_beside, h.1)
 risen_reading command old mid slots.Out h = absurd h
 risen_reading command old mid slots.Report h = absurd h
 risen_reading command old mid slots.Note h = absurd h
+risen_reading command old mid slots.Graph h = (graph_beside, h.risen)
 
 risen_writing : (command : Result Command UsageFault) (old mid : Slot → SlotView) (s : Slot) → s ≢ slots.Note → WriteFaultCause command old mid s → (s ≢ slots.Note) × IsRisen (old s).faults (mid s).faults
 risen_writing command old mid slots.Out other h = (out_beside, h.1)
@@ -64,19 +67,22 @@ risen_writing command old mid slots.Report other h = (report_beside, h.1)
 risen_writing command old mid slots.Note other h = absurd (other refl)
 risen_writing command old mid slots.Policy other h = absurd h
 risen_writing command old mid slots.Capture other h = absurd h
+risen_writing command old mid slots.Graph other h = absurd h
 
-told_text : (command : Result Command UsageFault) (old mid : Slot → SlotView) (ended : Ending) → Ran command old mid ended → WhereRead command old (λ p c. IsTold old mid (due_of_command command p c).note (text_of ended))
+told_text : (command : Result Command UsageFault) (old mid : Slot → SlotView) (ended : Ending) → Ran command old mid ended → WhereRead command old (λ p g c. IsTold old mid (due_of_command command p g c).note (text_of ended))
 told_text command old mid (Completed totals) ran = due_told command old mid (Completed totals) ran tt
 told_text command old mid (Shown text) ran = due_told command old mid (Shown text) ran tt
 told_text command old mid (Refused refusal) ran = due_told command old mid (Refused refusal) ran tt
+told_text command old mid (GraphRefused refusal) ran = due_told command old mid (GraphRefused refusal) ran tt
 told_text command old mid (Stopped Done) ran = due_told command old mid (Stopped Done) ran tt
 told_text command old mid (Stopped (Usage fault)) ran = due_told command old mid (Stopped (Usage fault)) ran tt
 told_text command old mid (Stopped (Policy fault)) ran = due_told command old mid (Stopped (Policy fault)) ran tt
+told_text command old mid (Stopped (Graph fault)) ran = due_told command old mid (Stopped (Graph fault)) ran tt
 told_text command old mid (Stopped (Capture fault)) ran = due_told command old mid (Stopped (Capture fault)) ran tt
 told_text command old mid (Stopped (CaptureNg fault)) ran = due_told command old mid (Stopped (CaptureNg fault)) ran tt
-told_text command old mid (Stopped (ReadFault s)) ran = read_always command old _ (λ p c. inr (inl (s, (risen_reading command old mid s (ran.read_faults s refl)).0, (risen_reading command old mid s (ran.read_faults s refl)).1, refl)))
-told_text command old mid (Stopped (WriteFault s)) ran = read_always command old _ (λ p c. inr (inr (inl (s, (risen_writing command old mid s (λ e. ran.no_note_fault (ap WriteFault e)) (ran.write_faults s refl)).0, (risen_writing command old mid s (λ e. ran.no_note_fault (ap WriteFault e)) (ran.write_faults s refl)).1, refl))))
-told_text command old mid (Stopped OutOfMemory) ran = read_always command old _ (λ p c. inr (inr (inr refl)))
+told_text command old mid (Stopped (ReadFault s)) ran = read_always command old _ (λ p g c. inr (inl (s, (risen_reading command old mid s (ran.read_faults s refl)).0, (risen_reading command old mid s (ran.read_faults s refl)).1, refl)))
+told_text command old mid (Stopped (WriteFault s)) ran = read_always command old _ (λ p g c. inr (inr (inl (s, (risen_writing command old mid s (λ e. ran.no_note_fault (ap WriteFault e)) (ran.write_faults s refl)).0, (risen_writing command old mid s (λ e. ran.no_note_fault (ap WriteFault e)) (ran.write_faults s refl)).1, refl))))
+told_text command old mid (Stopped OutOfMemory) ran = read_always command old _ (λ p g c. inr (inr (inr refl)))
 
 nothing_in_front : (done rest : List ℕ) → [] ≡ done ++ rest → done ≡ []
 nothing_in_front [] rest e = refl
@@ -106,9 +112,9 @@ prefix_told note text old mid new stays beside told a = by told
     by (inr (inr (inr e))) = inl (of_nothing note (old slots.Note) (new slots.Note) (put [] e))
 
 pub called_noted_short : (command : Result Command UsageFault) (old mid new : Slot → SlotView) (ended : Ending) (result : Outcome) → Called command old mid new ended result → result ≡ OutOfMemory →
-    WhereRead command old (λ p c. NotesPrefix (due_of_command command p c).note old new)
+    WhereRead command old (λ p g c. NotesPrefix (due_of_command command p g c).note old new)
 called_noted_short command old mid new ended result called short = if_read command old _ _
-    (λ p c told. prefix_told (due_of_command command p c).note (text_of ended) old mid new called.ran.note_stays called.beside told (by_notes called.notes))
+    (λ p g c told. prefix_told (due_of_command command p g c).note (text_of ended) old mid new called.ran.note_stays called.beside told (by_notes called.notes))
     (told_text command old mid ended called.ran)
   where
     by_notes : Notes ended (mid slots.Note) (new slots.Note) result → AppendsPrefix (text_of ended) (mid slots.Note) (new slots.Note)
@@ -121,9 +127,11 @@ no_text : (ended : Ending) → outcome_seen ended ≡ OutOfMemory → text_of en
 no_text (Completed totals) e = absurd cc
 no_text (Shown text) e = absurd cc
 no_text (Refused refusal) e = absurd cc
+no_text (GraphRefused refusal) e = absurd cc
 no_text (Stopped Done) e = absurd cc
 no_text (Stopped (Usage fault)) e = absurd cc
 no_text (Stopped (Policy fault)) e = absurd cc
+no_text (Stopped (Graph fault)) e = absurd cc
 no_text (Stopped (Capture fault)) e = absurd cc
 no_text (Stopped (CaptureNg fault)) e = absurd cc
 no_text (Stopped (ReadFault s)) e = absurd cc
@@ -137,12 +145,12 @@ nothing_put ended old new result e (inr (inl (is, a))) = nothing_before old new 
 nothing_put ended old new result e (inr (inr (is, r, a))) = nothing_before old new (subst (λ t. AppendsPrefix t old new) e a)
 
 pub called_noted_late : (command : Result Command UsageFault) (old mid new : Slot → SlotView) (ended : Ending) (result : Outcome) → Called command old mid new ended result → result ≡ OutOfMemory → NoneRose old new →
-    WhereRead command old (λ p c. Leaves (due_of_command command p c).written old new ⊎ Appends [] (old slots.Note) (new slots.Note))
+    WhereRead command old (λ p g c. Leaves (due_of_command command p g c).written old new ⊎ Appends [] (old slots.Note) (new slots.Note))
 called_noted_late command old mid new ended result called short none = by_end (no_fault command old mid new ended called.ran called.beside none)
   where
-    by_end : IsFinal (outcome_seen ended) ⊎ (outcome_seen ended ≡ OutOfMemory) → WhereRead command old (λ p c. Leaves (due_of_command command p c).written old new ⊎ Appends [] (old slots.Note) (new slots.Note))
+    by_end : IsFinal (outcome_seen ended) ⊎ (outcome_seen ended ≡ OutOfMemory) → WhereRead command old (λ p g c. Leaves (due_of_command command p g c).written old new ⊎ Appends [] (old slots.Note) (new slots.Note))
     by_end (inl final) = if_read command old _ _
-        (λ p c ends. inl (leaves_to (due_of_command command p c).written old mid new (called.beside slots.Out out_beside) (called.beside slots.Report report_beside) ends.left))
+        (λ p g c ends. inl (leaves_to (due_of_command command p g c).written old mid new (called.beside slots.Out out_beside) (called.beside slots.Report report_beside) ends.left))
         (called.ran.due final)
     by_end (inr late) = read_always command old _
-        (λ p c. inr (subst (λ v. Appends [] v (new slots.Note)) called.ran.note_stays (nothing_put ended (mid slots.Note) (new slots.Note) result (no_text ended late) called.notes)))
+        (λ p g c. inr (subst (λ v. Appends [] v (new slots.Note)) called.ran.note_stays (nothing_put ended (mid slots.Note) (new slots.Note) result (no_text ended late) called.notes)))

@@ -13,7 +13,7 @@ use Rattle.pcapng_io.specs.Reader as ng
 use Rattle.capture_run.specs.Formats.{SourceState, ng_left, ng_stream}
 use Rattle.capture_run.specs.Putting.{risen_earlier}
 use Rattle.nfp_run.specs.declared.outcome.Outcome.{Outcome}
-use Rattle.nfp_run.specs.declared.outcome.Outcome.TheVariants.{Done, Usage, Policy, Capture, CaptureNg, ReadFault, WriteFault, OutOfMemory}
+use Rattle.nfp_run.specs.declared.outcome.Outcome.TheVariants.{Done, Usage, Policy, Graph, Capture, CaptureNg, ReadFault, WriteFault, OutOfMemory}
 use Rattle.nfp_run.specs.declared.read.Opened.{Opened}
 use Rattle.nfp_run.specs.declared.read.Opened.TheVariants.{Pcap}
 use Rattle.nfp_run.specs.Due.{is_ng, is_ng_front}
@@ -80,6 +80,7 @@ refused_by_front k buffer first (ReadFault s) before old mid new same later four
 refused_by_front k buffer first OutOfMemory before old mid new same later four is fills h = tt
 refused_by_front k buffer first Done before old mid new same later four is fills h = h
 refused_by_front k buffer first (Usage fault) before old mid new same later four is fills h = h
+refused_by_front k buffer first (Graph fault) before old mid new same later four is fills h = absurd h
 refused_by_front k buffer first (Policy fault) before old mid new same later four is fills h = h
 refused_by_front k buffer first (WriteFault s) before old mid new same later four is fills h = h
 

@@ -1,6 +1,6 @@
 -- The slots differ from one another.
 use Rattle.std.proofs.Common.{◌≢◌}
-use Rattle.nfp_outside.specs.declared.slot.Slot.TheVariants.{Policy, Capture, Out, Report}
+use Rattle.nfp_outside.specs.declared.slot.Slot.TheVariants.{Policy, Capture, Out, Report, Note, Graph}
 
 pub out_is_not_report : Out ≢ Report
 out_is_not_report h = cc
@@ -28,3 +28,33 @@ out_is_not_capture h = cc
 
 pub report_is_not_capture : Report ≢ Capture
 report_is_not_capture h = cc
+
+pub capture_is_not_graph : Capture ≢ Graph
+capture_is_not_graph h = cc
+
+pub out_is_not_graph : Out ≢ Graph
+out_is_not_graph h = cc
+
+pub report_is_not_graph : Report ≢ Graph
+report_is_not_graph h = cc
+
+pub note_is_not_graph : Note ≢ Graph
+note_is_not_graph h = cc
+
+pub policy_is_not_graph : Policy ≢ Graph
+policy_is_not_graph h = cc
+
+pub graph_is_not_policy : Graph ≢ Policy
+graph_is_not_policy h = cc
+
+pub graph_is_not_capture : Graph ≢ Capture
+graph_is_not_capture h = cc
+
+pub graph_is_not_out : Graph ≢ Out
+graph_is_not_out h = cc
+
+pub graph_is_not_report : Graph ≢ Report
+graph_is_not_report h = cc
+
+pub note_is_not_policy : Note ≢ Policy
+note_is_not_policy h = cc

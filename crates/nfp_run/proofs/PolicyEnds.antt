@@ -1,10 +1,7 @@
 -- How a call ends at its policy.
 use Rattle.std.proofs.Common.{◌≡◌, ◌<◌, ◌∙◌, inl, inr, ℕ, List, length, refl, ap, sym, subst, true, Err, arith}
-use Rattle.std.specs.Prelude.{Option, Some, None, IfSome, nat_lt, if◌then◌else◌, Ok}
+use Rattle.std.specs.Prelude.{IfSome, nat_lt, if◌then◌else◌}
 use Rattle.std.proofs.lemmas.Bool.Decides.{nat_tests}
-use Rattle.policy_judge.specs.declared.judged.Judged.{Judged}
-use Rattle.nfp_run.specs.Plan.{plan_text}
-use Rattle.chain_service.specs.Services.{Chains, service_among, service_of}
 use Rattle.nfp_outside.specs.Outside.{SlotView}
 use Rattle.policy_text.specs.Grammar.{policy_of}
 use Rattle.policy_judge.specs.declared.fault.JudgeFault.{JudgeFault}
@@ -13,20 +10,16 @@ use Rattle.policy_judge.specs.declared.fault.PolicyFault.TheVariants as policies
 use Rattle.policy_judge.specs.Judging.{judged, judged_text, told, Judges}
 use Rattle.policy_judge.specs.Lines.{too_long_line}
 use Rattle.nfp_run.specs.declared.ending.Ending.{Ending}
-use Rattle.nfp_run.specs.declared.ending.Ending.TheVariants.{Completed, Shown, Refused, Stopped}
 use Rattle.nfp_run.specs.declared.read.Unread.{Unread}
 use Rattle.nfp_run.specs.declared.read.Unread.TheVariants.{TooLong, Failed, NoMemory}
-use Rattle.nfp_run.specs.Reading.{IsUnread, UnreadEnds, refused_by, EndsAtPolicy, IsPlanOf, PlanEnds}
+use Rattle.nfp_run.specs.Reading.{IsUnread, UnreadEnds, refused_by, EndsAtPolicy}
+use Rattle.nfp_run.proofs.TextsTold.{if_told}
 
 judged_long : (bytes : List ℕ) → 1048576 < length bytes → judged bytes ≡ Err (told policies.TooLong too_long_line)
 unfolding judged
 judged_long bytes long =
     let beyond : nat_lt 1048576 (length bytes) ≡ true = grind (arith, nat_tests) in
     ap (λ b. if b then Err (told policies.TooLong too_long_line) else judged_text (policy_of bytes)) beyond
-
-pub if_told : (o : Option (List ℕ)) (P Q : List ℕ → Type 0) → ((bytes : List ℕ) → P bytes → Q bytes) → IfSome o P → IfSome o Q
-if_told None P Q f h = tt
-if_told (Some bytes) P Q f h = f bytes h
 
 pub unread_ends : (old new : SlotView) (unread : Unread) (ending : Ending) → IsUnread 1048576 old new unread → UnreadEnds unread ending → EndsAtPolicy old new ending
 unread_ends old new TooLong ending is (inl e) = subst (EndsAtPolicy old new) (sym e) (if_told old.bytes _ _ (λ bytes long. judged_long bytes long) is)
@@ -37,17 +30,3 @@ unread_ends old new NoMemory ending is e = subst (EndsAtPolicy old new) (sym e) 
 pub refused_ends : (old new : SlotView) (read : List ℕ) (fault : JudgeFault) → IfSome old.bytes (λ bytes. bytes ≡ read) → Judges (judged read) (Err fault) → EndsAtPolicy old new (refused_by fault)
 refused_ends old new read (faults.Refused refusal) is due = if_told old.bytes _ _ (λ bytes e. ap judged e ∙ due) is
 refused_ends old new read faults.OutOfMemory is due = tt
-
-pub plan_ends : (old new : SlotView) (ending : Ending) → EndsAtPolicy old new ending → PlanEnds old new ending
-plan_ends old new (Refused refusal) ends = ends
-plan_ends old new (Stopped outcome) ends = ends
-plan_ends old new (Completed totals) ends = ends
-plan_ends old new (Shown text) ends = absurd ends
-
-pub plan_shown : (o : Option (List ℕ)) (policy : Judged) (text : List ℕ) → IfSome o (λ bytes. judged bytes ≡ Ok policy) → text ≡ plan_text policy → IfSome o (λ bytes. IsPlanOf text (judged bytes))
-plan_shown o policy text told is = if_told o _ _ (λ bytes e. subst (IsPlanOf text) (sym e) is) told
-
--- what the policy runs
-pub served : (o : Option (List ℕ)) (policy : Judged) (chains : Chains) → IfSome o (λ bytes. judged bytes ≡ Ok policy) → chains ≡ service_among policy.policy.chains policy.orders →
-    IfSome o (λ bytes. service_of (judged bytes) ≡ Some chains)
-served o policy chains told is = if_told o _ _ (λ bytes e. ap service_of e ∙ ap Some (sym is)) told

@@ -1,5 +1,5 @@
 -- Worked rows, computed by the definitions.
-use Rattle.std.specs.Prelude.{◌≡◌, ◌==◌, ℕ, List, [], ◌∷◌, ◌++◌, refl, take, slice_index, Result, Ok, Err, codes}
+use Rattle.std.specs.Prelude.{◌≡◌, ◌==◌, ℕ, List, [], ◌∷◌, ◌++◌, refl, take, slice_index, None, Result, Ok, Err, codes}
 use Rattle.std.specs.List.{slice_split}
 use Rattle.std.specs.Fmt.{digits}
 use Rattle.std.specs.Net.Addr.{ipv4_bits}
@@ -26,8 +26,8 @@ use Rattle.policy_check.specs.Edges.{edges_of}
 use Rattle.policy_check.specs.Refusals.{first_refusal}
 use Rattle.policy_check.specs.Turns.{taken, stuck}
 use Rattle.policy_judge.specs.declared.fault.PolicyFault.TheVariants.{Text, BadSetting, Check}
-use Rattle.policy_judge.specs.declared.fault.Refusal.{Refusal}
-use Rattle.policy_judge.specs.declared.judged.Judged.{Judged}
+use Rattle.nfp_run.specs.Preparing.{Unprepared, prepared_by}
+use Rattle.nfp_run.specs.declared.prepared.Prepared.{Prepared}
 use Rattle.policy_judge.specs.Judging.{judged_text, orders_from}
 use Rattle.policy_judge.specs.Lines.{text_line, setting_line, check_line, priority_line}
 use Rattle.net_functions.specs.Builds.{making_of}
@@ -79,8 +79,8 @@ capture : List ℕ
 capture = head ++ (first ++ (ninth ++ first))
 
 -- what a text of ASCII characters is worth
-worth : List ℕ → Result Judged Refusal
-worth text = judged_text (policy_of_utf8 text)
+worth : List ℕ → Result Prepared Unprepared
+worth text = prepared_by None (judged_text (policy_of_utf8 text)) []
 
 deny : List ℕ
 deny = codes "nfp 1\nchain main\nfn fw firewall\nrule deny src 10.0.0.9\n"
@@ -265,7 +265,7 @@ unfolding worth making_of setting_line digits nat_line_of policy_of_utf8 after_l
 no_public = refl
 
 -- bytes that are no UTF-8
-no_text : due_of_run (judged_text (Err (NotUtf8 0))) [] ≡ nothing_but (Policy (Text (NotUtf8 0))) (codes "policy: not utf-8 at 0\n")
+no_text : due_of_run (prepared_by None (judged_text (Err (NotUtf8 0))) []) [] ≡ nothing_but (Policy (Text (NotUtf8 0))) (codes "policy: not utf-8 at 0\n")
 unfolding text_line digits
 no_text = refl
 
@@ -288,18 +288,18 @@ forbidden = refl
 -- ---- how what the branches of a stage give comes together
 
 -- the result of a line whose words are parted by blanks
-abbrev due_of_line : List ℕ → List ℕ → List ℕ → Due
+abbrev due_of_line : List ℕ → List ℕ → List ℕ → List ℕ → Due
 due_of_line line = due (slice_split (λ c. c == 32) line)
 
-no_way : (policy capture : List ℕ) → due_of_line (codes "run p c o r --merge zip") policy capture ≡ nothing_but (Usage Merge) (codes "usage: merge\n")
+no_way : (policy graph bytes : List ℕ) → due_of_line (codes "run p c o r --merge zip") policy graph bytes ≡ nothing_but (Usage Merge) (codes "usage: merge\n")
 unfolding given_by
-no_way policy capture = refl
+no_way policy graph bytes = refl
 
 -- what is due is the same on a board as over links
-run_on_a_board : (policy capture : List ℕ) → due_of_line (codes "run p c o r --merge board") policy capture ≡ due_of_line (codes "run p c o r") policy capture
+run_on_a_board : (policy graph bytes : List ℕ) → due_of_line (codes "run p c o r --merge board") policy graph bytes ≡ due_of_line (codes "run p c o r") policy graph bytes
 unfolding given_by
-run_on_a_board policy capture = refl
+run_on_a_board policy graph bytes = refl
 
-demo_on_a_board : (policy capture : List ℕ) → due_of_line (codes "demo 1 20000 --merge board") policy capture ≡ due_of_line (codes "demo 1 20000") policy capture
+demo_on_a_board : (policy graph bytes : List ℕ) → due_of_line (codes "demo 1 20000 --merge board") policy graph bytes ≡ due_of_line (codes "demo 1 20000") policy graph bytes
 unfolding given_by
-demo_on_a_board policy capture = refl
+demo_on_a_board policy graph bytes = refl

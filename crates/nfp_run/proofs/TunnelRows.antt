@@ -1,5 +1,5 @@
 -- Rows of the result that are computed: tunnels.
-use Rattle.std.specs.Prelude.{◌≡◌, ℕ, List, [], ◌∷◌, ◌++◌, refl, Result, codes}
+use Rattle.std.specs.Prelude.{◌≡◌, ℕ, List, [], ◌∷◌, ◌++◌, refl, None, Result, codes}
 use Rattle.std.specs.Fmt.{digits}
 use Rattle.pcap_io.specs.Capture.{body_of}
 use Rattle.pcap_io.specs.Written.{head_bytes, record_head}
@@ -23,8 +23,8 @@ use Rattle.policy_check.specs.Edges.{edges_of}
 use Rattle.policy_check.specs.Refusals.{first_refusal}
 use Rattle.policy_check.specs.Turns.{taken, stuck}
 use Rattle.policy_judge.specs.declared.fault.PolicyFault.TheVariants.{BadSetting, Check}
-use Rattle.policy_judge.specs.declared.fault.Refusal.{Refusal}
-use Rattle.policy_judge.specs.declared.judged.Judged.{Judged}
+use Rattle.nfp_run.specs.Preparing.{Unprepared, prepared_by}
+use Rattle.nfp_run.specs.declared.prepared.Prepared.{Prepared}
 use Rattle.policy_judge.specs.Judging.{judged_text, orders_from}
 use Rattle.policy_judge.specs.Lines.{setting_line, check_line, priority_line}
 use Rattle.net_functions.specs.Builds.{making_of}
@@ -69,8 +69,8 @@ outer tos sum = 69 ∷ tos ∷ 0 ∷ 48 ∷ 0 ∷ 0 ∷ 0 ∷ 0 ∷ 64 ∷ 4 ∷
 capture : List ℕ
 capture = head 255 255 0 ++ (front 42 ++ datagram 0 0xcf)
 
-worth : List ℕ → Result Judged Refusal
-worth text = judged_text (policy_of_utf8 text)
+worth : List ℕ → Result Prepared Unprepared
+worth text = prepared_by None (judged_text (policy_of_utf8 text)) []
 
 -- a packet goes into a tunnel, and the snaplen grows by the outer header
 entry : List ℕ

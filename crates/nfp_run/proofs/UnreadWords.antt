@@ -12,7 +12,7 @@ use Rattle.nfp_run.specs.Answers.{AttachesDue, HasNames, LeavesPrefix, LeavesPre
 use Rattle.nfp_run.specs.Due.{due_of_command}
 use Rattle.nfp_run.specs.Ran.{Ran}
 use Rattle.nfp_run.specs.Written.{Files}
-use Rattle.nfp_run.proofs.CallAnswers.{read_always}
+use Rattle.nfp_run.proofs.TextsTold.{read_always}
 use Rattle.nfp_run.proofs.CallCauses.{reaches_unmade}
 use Rattle.nfp_run.proofs.HeldBytes.{untouched_same}
 
@@ -29,7 +29,7 @@ no_names (Ok command) old free = λ s. inl (free s)
 
 none_attached : (command : Result Command UsageFault) (old : Slot → SlotView) → ((s : Slot) → (old s).name ≡ None) → AttachesDue command OutOfMemory old
 none_attached (Ok (Run names options)) old free = tt
-none_attached (Ok (Plan name)) old free = (free slots.Out, free slots.Report)
+none_attached (Ok (Plan names)) old free = (free slots.Out, free slots.Report)
 none_attached (Ok (Demo input options)) old free = (free slots.Out, free slots.Report)
 none_attached (Ok (Flows names options)) old free = free slots.Report
 none_attached (Err fault) old free = (free slots.Out, free slots.Report)
@@ -37,7 +37,7 @@ none_attached (Err fault) old free = (free slots.Out, free slots.Report)
 pub unread_ran : (command : Result Command UsageFault) (old : Slot → SlotView) → ((s : Slot) → (old s).name ≡ None) → Ran command old old (Stopped OutOfMemory)
 unread_ran command old free = record {
   due = λ f. absurd f;
-  prefixes = read_always command old _ (λ p c. no_prefix (due_of_command command p c).written old free);
+  prefixes = read_always command old _ (λ p g c. no_prefix (due_of_command command p g c).written old free);
   within = tt;
   names_are = no_names command old free;
   attached = none_attached command old free;
@@ -45,6 +45,7 @@ unread_ran command old free = record {
   usage = λ fault x. absurd cc;
   usage_always = λ fault x. inr refl;
   refused = λ fault x. absurd cc;
+  graph_refused = λ fault x. absurd cc;
   policy = reaches_unmade command old;
   read_faults = λ s x. absurd cc;
   write_faults = λ s x. absurd cc;

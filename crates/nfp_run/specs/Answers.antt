@@ -8,15 +8,18 @@ use Rattle.pcap_io.specs.Capture.{capture_of}
 use Rattle.pcap_io.specs.declared.capture.CaptureFault.{CaptureFault}
 use Rattle.pcap_io.specs.declared.capture.CaptureFault.TheVariants.{BadMagic, BadVersion, BadLink, CutHead, CutRecord, FrameTooLong, TooManyRecords}
 use Rattle.pcapng_io.specs.Blocks.{is_of_first_block, next_of, start}
+use Rattle.graph_text.specs.declared.fault.GraphFault.{GraphFault}
 use Rattle.policy_judge.specs.declared.fault.PolicyFault.{PolicyFault}
 use Rattle.policy_judge.specs.declared.fault.Refusal.{Refusal}
 use Rattle.policy_judge.specs.declared.judged.Judged.{Judged}
 use Rattle.policy_judge.specs.Judging.{judged}
 use Rattle.nfp_run.specs.declared.outcome.Outcome.{Outcome}
-use Rattle.nfp_run.specs.declared.outcome.Outcome.TheVariants.{Done, Usage, Policy, Capture, CaptureNg, ReadFault, WriteFault, OutOfMemory}
+use Rattle.nfp_run.specs.declared.outcome.Outcome.TheVariants.{Done, Usage, Policy, Graph, Capture, CaptureNg, ReadFault, WriteFault, OutOfMemory}
 use Rattle.command_words.specs.declared.usage.UsageFault.{UsageFault}
 use Rattle.command_words.specs.Words.{Command, Run, Plan, Demo, Flows}
 use Rattle.nfp_run.specs.Notes.{read_fault_text, write_fault_text}
+use Rattle.nfp_run.specs.Preparing.{Unprepared, ByPolicy, ByGraph, prepared}
+use Rattle.nfp_run.specs.declared.prepared.Prepared.{Prepared}
 use Rattle.nfp_run.specs.Due.{Due, is_ng}
 use Rattle.nfp_run.specs.Written.{Files}
 
@@ -58,11 +61,12 @@ pub record IsDue (due : Due) (old new : Slot → SlotView) (outcome : Outcome) :
   pub answer : outcome ≡ due.outcome
   pub left : Leaves due.written old new
 
--- an outcome that the words, the policy and the capture alone determine
+-- an outcome that the words, the policy, the graphs and the capture alone determine
 abbrev pub IsFinal : Outcome → Type 0
 IsFinal Done = Unit {0}
 IsFinal (Usage fault) = Unit {0}
 IsFinal (Policy fault) = Unit {0}
+IsFinal (Graph fault) = Unit {0}
 IsFinal (Capture fault) = Unit {0}
 IsFinal (CaptureNg fault) = Unit {0}
 IsFinal (ReadFault slot) = ⊥
@@ -73,18 +77,24 @@ IsFinal OutOfMemory = ⊥
 abbrev pub NoneRose : (Slot → SlotView) → (Slot → SlotView) → Type 0
 NoneRose old new = (s : Slot) → ¬ IsRisen (old s).faults (new s).faults
 
--- a fact of the bytes of Policy and Capture, where the desk tells them
-abbrev pub WhereTold : (Slot → SlotView) → (List ℕ → List ℕ → Type 0) → Type 0
-WhereTold old P = IfSome (old slots.Policy).bytes (λ policy. IfSome (old slots.Capture).bytes (λ capture. P policy capture))
+-- a fact of the bytes of a slot, where it has a name among the words and the desk tells them; without a name it stands whatever they are
+abbrev pub WhereNamed : Option (List ℕ) → Option (List ℕ) → (List ℕ → Type 0) → Type 0
+WhereNamed None bytes P = (text : List ℕ) → P text
+WhereNamed (Some name) bytes P = IfSome bytes P
 
--- The same where the desk tells what the words read: `run` reads Policy and Capture, `plan` Policy, and `flows` Capture. A demo and
--- words that are refused read neither. Of a slot that isn't read the fact stands whatever it holds, also where the desk doesn't tell it.
-abbrev pub WhereRead : Result Command UsageFault → (Slot → SlotView) → (List ℕ → List ℕ → Type 0) → Type 0
-WhereRead (Ok (Run names options)) old P = WhereTold old P
-WhereRead (Ok (Plan name)) old P = IfSome (old slots.Policy).bytes (λ policy. (capture : List ℕ) → P policy capture)
-WhereRead (Ok (Demo input options)) old P = (policy capture : List ℕ) → P policy capture
-WhereRead (Ok (Flows names options)) old P = IfSome (old slots.Capture).bytes (λ capture. (policy : List ℕ) → P policy capture)
-WhereRead (Err fault) old P = (policy capture : List ℕ) → P policy capture
+-- a fact of the bytes of Policy, and of Graph where it has this name, where the desk tells them
+abbrev pub WhereTexts : Option (List ℕ) → (Slot → SlotView) → (List ℕ → List ℕ → Type 0) → Type 0
+WhereTexts named old P = IfSome (old slots.Policy).bytes (λ policy. WhereNamed named (old slots.Graph).bytes (P policy))
+
+-- The same where the desk tells what the words read: `run` reads Policy, Graph where the words name it, and Capture, `plan` the same without
+-- Capture, and `flows` Capture. A demo and words that are refused read none. Of a slot that isn't read the fact stands whatever it holds, also
+-- where the desk doesn't tell it.
+abbrev pub WhereRead : Result Command UsageFault → (Slot → SlotView) → (List ℕ → List ℕ → List ℕ → Type 0) → Type 0
+WhereRead (Ok (Run names options)) old P = WhereTexts names.graph old (λ policy graph. IfSome (old slots.Capture).bytes (P policy graph))
+WhereRead (Ok (Plan names)) old P = WhereTexts names.graph old (λ policy graph. (capture : List ℕ) → P policy graph capture)
+WhereRead (Ok (Demo input options)) old P = (policy graph capture : List ℕ) → P policy graph capture
+WhereRead (Ok (Flows names options)) old P = IfSome (old slots.Capture).bytes (λ capture. (policy graph : List ℕ) → P policy graph capture)
+WhereRead (Err fault) old P = (policy graph capture : List ℕ) → P policy graph capture
 
 -- the line that is put into Note: that of a fault of reading or writing, or the one that is due
 abbrev pub note_due : Outcome → List ℕ → List ℕ
@@ -108,8 +118,10 @@ name_of (Run names options) slots.Capture = Some names.capture
 name_of (Run names options) slots.Out = Some names.out
 name_of (Run names options) slots.Report = Some names.report
 name_of (Run names options) slots.Note = None
-name_of (Plan name) slots.Policy = Some name
-name_of (Plan name) slot = None
+name_of (Run names options) slots.Graph = names.graph
+name_of (Plan names) slots.Policy = Some names.policy
+name_of (Plan names) slots.Graph = names.graph
+name_of (Plan names) slot = None
 name_of (Demo input options) slot = None
 name_of (Flows names options) slots.Capture = Some names.capture
 name_of (Flows names options) slots.Out = Some names.out
@@ -123,6 +135,10 @@ HasNames (Ok command) new = (s : Slot) → ((new s).name ≡ None) ⊎ ((new s).
 -- the policy has no fault, where the desk tells it
 abbrev pub HasPolicy : (Slot → SlotView) → Type 0
 HasPolicy old = IfSome (old slots.Policy).bytes (λ bytes. IsOk (judged bytes))
+
+-- the same of the policy and of the graphs, where the words name them
+abbrev pub HasTexts : Option (List ℕ) → (Slot → SlotView) → Type 0
+HasTexts named old = HasPolicy old × WhereTexts named old (λ policy graph. IsOk (prepared named policy graph))
 
 -- the head of a classic capture has no fault, or the first block of a pcapng capture
 abbrev pub HasNoOpeningFault : Bool → List ℕ → Type 0
@@ -167,9 +183,11 @@ abbrev pub RunAttaches : Outcome → (Slot → SlotView) → Type 0
 RunAttaches Done new = BothAttached new
 RunAttaches (Usage fault) new = NoneAttached new
 RunAttaches (Policy fault) new = NoneAttached new
+RunAttaches (Graph fault) new = NoneAttached new
 RunAttaches (Capture fault) new = FaultAttaches fault new
 RunAttaches (CaptureNg fault) new = AttachedUnless (is_of_first_block fault) new
 RunAttaches (ReadFault slots.Policy) new = NoneAttached new
+RunAttaches (ReadFault slots.Graph) new = NoneAttached new
 RunAttaches (ReadFault slot) new = Unit {0}
 RunAttaches (WriteFault slots.Note) new = BothAttached new
 RunAttaches (WriteFault slots.Report) new = IsSome (new slots.Out).name
@@ -191,6 +209,7 @@ abbrev pub FlowsAttach : Outcome → (Slot → SlotView) → Type 0
 FlowsAttach Done new = OutAttached new
 FlowsAttach (Usage fault) new = NoneAttached new
 FlowsAttach (Policy fault) new = NoneAttached new
+FlowsAttach (Graph fault) new = NoneAttached new
 FlowsAttach (Capture fault) new = FaultAttachesOut fault new
 FlowsAttach (CaptureNg fault) new = NoneAttached new
 FlowsAttach (WriteFault slots.Note) new = OutAttached new
@@ -201,23 +220,23 @@ FlowsAttach OutOfMemory new = (new slots.Report).name ≡ None
 -- a plan attaches neither, nor does a demo, nor do words that are refused
 abbrev pub AttachesDue : Result Command UsageFault → Outcome → (Slot → SlotView) → Type 0
 AttachesDue (Ok (Run names options)) outcome new = RunAttaches outcome new
-AttachesDue (Ok (Plan name)) outcome new = NoneAttached new
+AttachesDue (Ok (Plan names)) outcome new = NoneAttached new
 AttachesDue (Ok (Demo input options)) outcome new = NoneAttached new
 AttachesDue (Ok (Flows names options)) outcome new = FlowsAttach outcome new
 AttachesDue (Err fault) outcome new = NoneAttached new
 
--- what is known of the words and the policy where work was done, or a slot was written: `run` and `plan` need a policy without fault,
+-- what is known of the words, the policy and the graphs where work was done, or a slot was written: `run` and `plan` need both without fault,
 -- and `run` and `flows` alone tell a fault of a capture
 abbrev pub ReachesCapture : Result Command UsageFault → Outcome → (Slot → SlotView) → Type 0
-ReachesCapture (Ok (Run names options)) Done old = HasPolicy old
-ReachesCapture (Ok (Plan name)) Done old = HasPolicy old
+ReachesCapture (Ok (Run names options)) Done old = HasTexts names.graph old
+ReachesCapture (Ok (Plan names)) Done old = HasTexts names.graph old
 ReachesCapture (Ok (Demo input options)) Done old = Unit {0}
 ReachesCapture (Ok (Flows names options)) Done old = Unit {0}
 ReachesCapture (Err fault) Done old = ⊥
-ReachesCapture (Ok (Run names options)) (Capture fault) old = HasPolicy old
+ReachesCapture (Ok (Run names options)) (Capture fault) old = HasTexts names.graph old
 ReachesCapture (Ok (Flows names options)) (Capture fault) old = Unit {0}
 ReachesCapture command (Capture fault) old = ⊥
-ReachesCapture (Ok (Run names options)) (CaptureNg fault) old = HasPolicy old
+ReachesCapture (Ok (Run names options)) (CaptureNg fault) old = HasTexts names.graph old
 ReachesCapture command (CaptureNg fault) old = ⊥
 ReachesCapture command outcome old = Unit {0}
 
@@ -229,7 +248,7 @@ IsFaultOf fault (Err refusal) = refusal.fault ≡ fault
 -- the words are a command that reads a policy
 abbrev pub ReadsPolicy : Result Command UsageFault → Type 0
 ReadsPolicy (Ok (Run names options)) = Unit {0}
-ReadsPolicy (Ok (Plan name)) = Unit {0}
+ReadsPolicy (Ok (Plan names)) = Unit {0}
 ReadsPolicy (Ok (Demo input options)) = ⊥
 ReadsPolicy (Ok (Flows names options)) = ⊥
 ReadsPolicy (Err fault) = ⊥
@@ -238,40 +257,69 @@ ReadsPolicy (Err fault) = ⊥
 abbrev pub PolicyCause : Result Command UsageFault → (Slot → SlotView) → (Slot → SlotView) → PolicyFault → Type 0
 PolicyCause command old new fault = ReadsPolicy command × IfSome (old slots.Policy).bytes (λ bytes. IsFaultOf fault (judged bytes)) × ((new slots.Capture).name ≡ None)
 
--- the words are `run`
-abbrev pub IsRun : Result Command UsageFault → Type 0
-IsRun (Ok (Run names options)) = Unit {0}
-IsRun (Ok (Plan name)) = ⊥
-IsRun (Ok (Demo input options)) = ⊥
-IsRun (Ok (Flows names options)) = ⊥
-IsRun (Err fault) = ⊥
+-- the words are a command that reads graphs of this name
+abbrev pub ReadsGraph : Result Command UsageFault → Option (List ℕ) → Type 0
+ReadsGraph (Ok (Run names options)) named = names.graph ≡ named
+ReadsGraph (Ok (Plan names)) named = names.graph ≡ named
+ReadsGraph (Ok (Demo input options)) named = ⊥
+ReadsGraph (Ok (Flows names options)) named = ⊥
+ReadsGraph (Err fault) named = ⊥
+
+-- a policy without fault was refused for these graphs, and tells this fault
+abbrev pub IsGraphFaultOf : GraphFault → Result Prepared Unprepared → Type 0
+IsGraphFaultOf fault (Ok p) = ⊥
+IsGraphFaultOf fault (Err (ByPolicy refusal)) = ⊥
+IsGraphFaultOf fault (Err (ByGraph refusal)) = refusal.fault ≡ fault
+
+-- Why graphs were refused: the words name them, the policy has no fault and their first fault is this, and the capture wasn't attached.
+pub record GraphCause (command : Result Command UsageFault) (old new : Slot → SlotView) (fault : GraphFault) : Type 0 where
+  pub name : List ℕ
+  pub named : ReadsGraph command (Some name)
+  pub policy : HasPolicy old
+  pub told : WhereTexts (Some name) old (λ policy graph. IsGraphFaultOf fault (prepared (Some name) policy graph))
+  pub no_capture : (new slots.Capture).name ≡ None
+
+-- Why Graph gave a fault: the words name it, its count rose, behind a policy without fault and before the capture was attached.
+pub record GraphReadCause (command : Result Command UsageFault) (old new : Slot → SlotView) : Type 0 where
+  pub name : List ℕ
+  pub named : ReadsGraph command (Some name)
+  pub policy : HasPolicy old
+  pub risen : IsRisen (old slots.Graph).faults (new slots.Graph).faults
+  pub no_capture : (new slots.Capture).name ≡ None
 
 -- the words are a command that reads a capture, and nothing is wrong that it looks at before
 abbrev pub ReadsCapture : Result Command UsageFault → (Slot → SlotView) → Type 0
-ReadsCapture (Ok (Run names options)) old = HasPolicy old
+ReadsCapture (Ok (Run names options)) old = HasTexts names.graph old
 ReadsCapture (Ok (Flows names options)) old = Unit {0}
 ReadsCapture command old = ⊥
 
 -- the words are a command that writes Out, and nothing is wrong that it looks at before
 abbrev pub WritesOut : Result Command UsageFault → (Slot → SlotView) → Type 0
-WritesOut (Ok (Run names options)) old = HasPolicy old × HasHead old
+WritesOut (Ok (Run names options)) old = HasTexts names.graph old × HasHead old
 WritesOut (Ok (Flows names options)) old = HasClassicHead old
 WritesOut command old = ⊥
 
+-- the words are `run`, and nothing is wrong with what it reads before it writes Report
+abbrev pub WritesReport : Result Command UsageFault → (Slot → SlotView) → Type 0
+WritesReport (Ok (Run names options)) old = HasTexts names.graph old × HasHead old
+WritesReport command old = ⊥
+
 -- why a slot that is read gave a fault: its count rose; for the policy, before the capture was attached, and for the
--- capture, behind a policy without fault
+-- capture, behind a policy and graphs without fault
 abbrev pub ReadFaultCause : Result Command UsageFault → (Slot → SlotView) → (Slot → SlotView) → Slot → Type 0
 ReadFaultCause command old new slots.Policy = ReadsPolicy command × IsRisen (old slots.Policy).faults (new slots.Policy).faults × ((new slots.Capture).name ≡ None)
 ReadFaultCause command old new slots.Capture = ReadsCapture command old × IsRisen (old slots.Capture).faults (new slots.Capture).faults
 ReadFaultCause command old new slots.Out = ⊥
 ReadFaultCause command old new slots.Report = ⊥
 ReadFaultCause command old new slots.Note = ⊥
+ReadFaultCause command old new slots.Graph = GraphReadCause command old new
 
--- why a slot that is written gave a fault: its count rose, for Out and Report behind a policy without fault and a good head,
+-- why a slot that is written gave a fault: its count rose, for Out and Report behind a policy and graphs without fault and a good head,
 -- and for Note where the work was done
 abbrev pub WriteFaultCause : Result Command UsageFault → (Slot → SlotView) → (Slot → SlotView) → Slot → Type 0
 WriteFaultCause command old new slots.Out = WritesOut command old × IsRisen (old slots.Out).faults (new slots.Out).faults
-WriteFaultCause command old new slots.Report = IsRun command × IsRisen (old slots.Report).faults (new slots.Report).faults × HasPolicy old × HasHead old
+WriteFaultCause command old new slots.Report = WritesReport command old × IsRisen (old slots.Report).faults (new slots.Report).faults
 WriteFaultCause command old new slots.Note = IsRisen (old slots.Note).faults (new slots.Note).faults × ReachesCapture command Done old
 WriteFaultCause command old new slots.Policy = ⊥
 WriteFaultCause command old new slots.Capture = ⊥
+WriteFaultCause command old new slots.Graph = ⊥

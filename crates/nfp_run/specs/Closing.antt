@@ -4,9 +4,9 @@ use Rattle.nfp_outside.specs.declared.slot.Slot.{Slot}
 use Rattle.nfp_outside.specs.declared.slot.Slot.TheVariants as slots
 use Rattle.nfp_outside.specs.Outside.{SlotView, IsRisen, Appends, AppendsPrefix}
 use Rattle.nfp_run.specs.declared.outcome.Outcome.{Outcome}
-use Rattle.nfp_run.specs.declared.outcome.Outcome.TheVariants.{Done, Usage, Policy, Capture, CaptureNg, ReadFault, WriteFault, OutOfMemory}
+use Rattle.nfp_run.specs.declared.outcome.Outcome.TheVariants.{Done, Usage, Policy, Graph, Capture, CaptureNg, ReadFault, WriteFault, OutOfMemory}
 use Rattle.nfp_run.specs.declared.ending.Ending.{Ending}
-use Rattle.nfp_run.specs.declared.ending.Ending.TheVariants.{Completed, Shown, Refused, Stopped}
+use Rattle.nfp_run.specs.declared.ending.Ending.TheVariants.{Completed, Shown, Refused, GraphRefused, Stopped}
 use Rattle.capture_report.specs.declared.ended.Totals.{Totals}
 use Rattle.capture_report.specs.declared.ended.Ended.{Ended}
 use Rattle.capture_run.specs.declared.fault.RunFault.{RunFault}
@@ -38,6 +38,7 @@ abbrev pub outcome_seen : Ending → Outcome
 outcome_seen (Completed totals) = Done
 outcome_seen (Shown text) = Done
 outcome_seen (Refused refusal) = Policy refusal.fault
+outcome_seen (GraphRefused refusal) = Graph refusal.fault
 outcome_seen (Stopped outcome) = outcome
 
 -- the line of an outcome that tells all
@@ -45,6 +46,7 @@ abbrev pub stop_text : Outcome → List ℕ
 stop_text Done = []
 stop_text (Usage fault) = usage_text fault
 stop_text (Policy fault) = []
+stop_text (Graph fault) = []
 stop_text (Capture fault) = capture_text fault
 stop_text (CaptureNg fault) = ng_text fault
 stop_text (ReadFault slot) = read_fault_text slot
@@ -56,6 +58,7 @@ abbrev pub text_of : Ending → List ℕ
 text_of (Completed totals) = done_text totals.records totals.dropped
 text_of (Shown text) = text
 text_of (Refused refusal) = refusal.line
+text_of (GraphRefused refusal) = refusal.line
 text_of (Stopped outcome) = stop_text outcome
 
 -- what a capture that is told leaves, by how the run over it ended
@@ -77,7 +80,7 @@ pub record LedPartly (left : Option Led) (old new : Slot → SlotView) (fault : 
   pub cause : IsBroken old new fault
   pub prefixes : IfSome left (λ led. PutsPrefixes led.written.out led.written.report old new)
 
--- An outcome that the words, the policy and the capture determine is the one that is due, and so is its line.
+-- An outcome that the words, the policy, the graphs and the capture determine is the one that is due, and so is its line.
 pub record EndsDue (due : Due) (old new : Slot → SlotView) (ending : Ending) : Type 0 where
   pub answer : outcome_seen ending ≡ due.outcome
   pub left : Leaves due.written old new

@@ -1,4 +1,4 @@
--- Believed: the result: what words, a policy and a capture are to be answered with.
+-- Believed: the result: what words, a policy, graphs and a capture are to be answered with.
 use Rattle.std.specs.Prelude.{ℕ, List, [], ◌∷◌, length, take, count_by, Bool, true, false, Option, Some, None, Result, Ok, Err}
 use Rattle.std.specs.Option.{option_map}
 use Rattle.std.specs.Str.{bytes_eq}
@@ -12,14 +12,11 @@ use Rattle.pcapng_io.specs.declared.fault.NgFault.{NgFault}
 use Rattle.pcapng_io.specs.declared.item.NgItem.{NgItem}
 use Rattle.pcapng_io.specs.declared.place.Place.{Place}
 use Rattle.chain_walk.specs.declared.walk.Fate.{Fate}
-use Rattle.policy_judge.specs.declared.fault.Refusal.{Refusal}
-use Rattle.policy_judge.specs.declared.judged.Judged.{Judged}
-use Rattle.policy_judge.specs.Judging.{judged}
 use Rattle.nfp_run.specs.declared.outcome.Outcome.{Outcome}
 use Rattle.nfp_run.specs.declared.outcome.Outcome.TheVariants as outcomes
 use Rattle.command_words.specs.declared.usage.UsageFault.{UsageFault}
 use Rattle.command_words.specs.Words.{Command, Run, Plan, Demo, Flows, command_of}
-use Rattle.chain_service.specs.Services.{Chains, service_among}
+use Rattle.chain_service.specs.Services.{Chains}
 use Rattle.capture_report.specs.FaultLines.{capture_text, fault_text, ng_text}
 use Rattle.capture_report.specs.Report.{is_gone}
 use Rattle.capture_report.specs.declared.fault.FormatFault.{FormatFault}
@@ -28,6 +25,8 @@ use Rattle.nfp_run.specs.Written.{Files, Led, both, led_ng, led_pcap, neither, o
 use Rattle.nfp_run.specs.DemoNote.{demo_text}
 use Rattle.nfp_run.specs.Notes.{usage_text, done_text, flows_text}
 use Rattle.nfp_run.specs.Plan.{plan_text}
+use Rattle.nfp_run.specs.Preparing.{Unprepared, ByPolicy, ByGraph, chains_prepared, prepared}
+use Rattle.nfp_run.specs.declared.prepared.Prepared.{Prepared}
 
 -- The outcome, what is written, and the line in Note.
 pub record Due : Type 0 where
@@ -95,27 +94,29 @@ abbrev pub due_of_flows : Result (CaptureHead × Body) CaptureFault → Due
 due_of_flows (Err fault) = nothing_but (outcomes.Capture fault) (capture_text fault)
 due_of_flows (Ok capture) = due_of_body capture.0.unit capture.1
 
--- a policy with a fault is told by it, whatever is asked for
-abbrev pub due_of_refusal : Refusal → Due
-due_of_refusal refusal = nothing_but (outcomes.Policy refusal.fault) refusal.line
+-- a policy with a fault is told by it, whatever is asked for, and so are graphs
+abbrev pub due_of_fault : Unprepared → Due
+due_of_fault (ByPolicy refusal) = nothing_but (outcomes.Policy refusal.fault) refusal.line
+due_of_fault (ByGraph refusal) = nothing_but (outcomes.Graph refusal.fault) refusal.line
 
-abbrev pub due_of_run : Result Judged Refusal → List ℕ → Due
-due_of_run (Err refusal) capture = due_of_refusal refusal
-due_of_run (Ok policy) capture = due_of_capture (service_among policy.policy.chains policy.orders) capture
+abbrev pub due_of_run : Result Prepared Unprepared → List ℕ → Due
+due_of_run (Err fault) capture = due_of_fault fault
+due_of_run (Ok p) capture = due_of_capture (chains_prepared p) capture
 
 -- a plan doesn't look at the capture
-abbrev pub due_of_plan : Result Judged Refusal → Due
-due_of_plan (Err refusal) = due_of_refusal refusal
-due_of_plan (Ok policy) = nothing_but outcomes.Done (plan_text policy)
+abbrev pub due_of_plan : Result Prepared Unprepared → Due
+due_of_plan (Err fault) = due_of_fault fault
+due_of_plan (Ok p) = nothing_but outcomes.Done (plan_text p)
 
--- a demo looks at neither, flows are those of the capture, and no option changes what is due
-abbrev pub due_of_command : Result Command UsageFault → List ℕ → List ℕ → Due
-due_of_command (Err fault) policy capture = nothing_but (outcomes.Usage fault) (usage_text fault)
-due_of_command (Ok (Run names options)) policy capture = due_of_run (judged policy) capture
-due_of_command (Ok (Plan name)) policy capture = due_of_plan (judged policy)
-due_of_command (Ok (Demo input options)) policy capture = nothing_but outcomes.Done (demo_text input)
-due_of_command (Ok (Flows names options)) policy capture = due_of_flows (capture_of capture)
+-- graphs are looked at where the words name them; a demo looks at nothing, flows are those of the capture, and no other option changes what
+-- is due
+abbrev pub due_of_command : Result Command UsageFault → List ℕ → List ℕ → List ℕ → Due
+due_of_command (Err fault) policy graph capture = nothing_but (outcomes.Usage fault) (usage_text fault)
+due_of_command (Ok (Run names options)) policy graph capture = due_of_run (prepared names.graph policy graph) capture
+due_of_command (Ok (Plan names)) policy graph capture = due_of_plan (prepared names.graph policy graph)
+due_of_command (Ok (Demo input options)) policy graph capture = nothing_but outcomes.Done (demo_text input)
+due_of_command (Ok (Flows names options)) policy graph capture = due_of_flows (capture_of capture)
 
--- the result of a call with these words, where the policy and the capture have these bytes
-abbrev pub due : List (List ℕ) → List ℕ → List ℕ → Due
-due words policy capture = due_of_command (command_of words) policy capture
+-- the result of a call with these words, where the policy, the graphs and the capture have these bytes
+abbrev pub due : List (List ℕ) → List ℕ → List ℕ → List ℕ → Due
+due words policy graph capture = due_of_command (command_of words) policy graph capture

@@ -16,9 +16,9 @@ use Rattle.nfp_run.specs.Answers.{Leaves, LeavesPrefixes}
 use Rattle.nfp_run.specs.Due.{due_of_body}
 use Rattle.nfp_run.specs.Notes.{flows_text}
 use Rattle.nfp_run.specs.declared.ending.Ending.{Ending}
-use Rattle.nfp_run.specs.declared.ending.Ending.TheVariants.{Completed, Shown, Refused, Stopped}
+use Rattle.nfp_run.specs.declared.ending.Ending.TheVariants.{Completed, Shown, Refused, GraphRefused, Stopped}
 use Rattle.nfp_run.specs.declared.outcome.Outcome.{Outcome}
-use Rattle.nfp_run.specs.declared.outcome.Outcome.TheVariants.{Done, Usage, Policy, Capture, CaptureNg, ReadFault, WriteFault, OutOfMemory}
+use Rattle.nfp_run.specs.declared.outcome.Outcome.TheVariants.{Done, Usage, Policy, Graph, Capture, CaptureNg, ReadFault, WriteFault, OutOfMemory}
 
 -- how a call ends that has exported these lines of so many records, by the fault of the capture
 abbrev pub flows_ending : ℕ → List FlowLine → Option CaptureFault → Ending
@@ -44,6 +44,7 @@ FlowsEndTold (Stopped (Capture fault)) = ¬ IsHeadFault fault
 FlowsEndTold (Stopped outcome) = ⊥
 FlowsEndTold (Completed totals) = ⊥
 FlowsEndTold (Refused refusal) = ⊥
+FlowsEndTold (GraphRefused refusal) = ⊥
 
 -- A classic capture was opened by its name: all of it is left but its head, which has no fault.
 pub record OpensClassic (name : List ℕ) (head : CaptureHead) (reader : ReaderState) (old new : SlotView) : Type 0 where
@@ -59,5 +60,6 @@ RefusedClassic old new OutOfMemory = Unit {0}
 RefusedClassic old new Done = ⊥
 RefusedClassic old new (Usage fault) = ⊥
 RefusedClassic old new (Policy fault) = ⊥
+RefusedClassic old new (Graph fault) = ⊥
 RefusedClassic old new (CaptureNg fault) = ⊥
 RefusedClassic old new (WriteFault s) = ⊥

@@ -5,9 +5,11 @@ pub mod Closing
 pub mod DemoNote
 pub mod Due
 pub mod FlowsRan
+pub mod GraphLines
 pub mod Heads
 pub mod Notes
 pub mod Plan
+pub mod Preparing
 pub mod Ran
 pub mod Reading
 pub mod Status

@@ -2,7 +2,7 @@
 use Rattle.std.specs.Prelude.{ℕ, List, [], ◌∷◌, ◌++◌, length, codes}
 use Rattle.std.specs.Fmt.{decimal}
 use Rattle.nfp_outside.specs.declared.slot.Slot.{Slot}
-use Rattle.nfp_outside.specs.declared.slot.Slot.TheVariants.{Policy, Capture, Out, Report, Note}
+use Rattle.nfp_outside.specs.declared.slot.Slot.TheVariants.{Policy, Capture, Out, Report, Note, Graph}
 use Rattle.text_lines.specs.Texts.{joined}
 use Rattle.capture_report.specs.Report.{total_line}
 use Rattle.flow_export.specs.Exports.{exported, packet_count}
@@ -45,6 +45,7 @@ slot_word Capture = codes "capture"
 slot_word Out = codes "out"
 slot_word Report = codes "report"
 slot_word Note = codes "note"
+slot_word Graph = codes "graph"
 
 unfoldable pub read_fault_text : Slot → List ℕ
 read_fault_text slot = joined (codes "read fault: " ∷ slot_word slot ∷ codes "\n" ∷ [])

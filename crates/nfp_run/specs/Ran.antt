@@ -3,18 +3,19 @@ use Rattle.std.specs.Prelude.{◌≡◌, ◌⊎◌, Result, Err}
 use Rattle.nfp_outside.specs.declared.slot.Slot.{Slot}
 use Rattle.nfp_outside.specs.declared.slot.Slot.TheVariants as slots
 use Rattle.nfp_outside.specs.Outside.{SlotView}
+use Rattle.graph_text.specs.declared.fault.GraphFault.{GraphFault}
 use Rattle.policy_judge.specs.declared.fault.PolicyFault.{PolicyFault}
 use Rattle.nfp_run.specs.declared.ending.Ending.{Ending}
-use Rattle.nfp_run.specs.declared.outcome.Outcome.TheVariants.{Usage, Policy, ReadFault, WriteFault, OutOfMemory}
+use Rattle.nfp_run.specs.declared.outcome.Outcome.TheVariants.{Usage, Policy, Graph, ReadFault, WriteFault, OutOfMemory}
 use Rattle.command_words.specs.declared.usage.UsageFault.{UsageFault}
 use Rattle.command_words.specs.Words.{Command}
 use Rattle.nfp_run.specs.Due.{due_of_command}
 use Rattle.nfp_run.specs.Closing.{outcome_seen, EndsDue, CountsWithin}
-use Rattle.nfp_run.specs.Answers.{IsFinal, WhereRead, LeavesPrefixes, HasNames, AttachesDue, ReachesCapture, PolicyCause, ReadFaultCause, WriteFaultCause}
+use Rattle.nfp_run.specs.Answers.{IsFinal, WhereRead, LeavesPrefixes, HasNames, AttachesDue, ReachesCapture, PolicyCause, GraphCause, ReadFaultCause, WriteFaultCause}
 
 pub record Ran (command : Result Command UsageFault) (old new : Slot → SlotView) (ending : Ending) : Type 0 where
-  pub due : IsFinal (outcome_seen ending) → WhereRead command old (λ p c. EndsDue (due_of_command command p c) old new ending)
-  pub prefixes : WhereRead command old (λ p c. LeavesPrefixes (due_of_command command p c).written old new)
+  pub due : IsFinal (outcome_seen ending) → WhereRead command old (λ p g c. EndsDue (due_of_command command p g c) old new ending)
+  pub prefixes : WhereRead command old (λ p g c. LeavesPrefixes (due_of_command command p g c).written old new)
   pub within : CountsWithin ending
   pub names_are : HasNames command new
   pub attached : AttachesDue command (outcome_seen ending) new
@@ -22,6 +23,7 @@ pub record Ran (command : Result Command UsageFault) (old new : Slot → SlotVie
   pub usage : (fault : UsageFault) → outcome_seen ending ≡ Usage fault → command ≡ Err fault
   pub usage_always : (fault : UsageFault) → command ≡ Err fault → (outcome_seen ending ≡ Usage fault) ⊎ (outcome_seen ending ≡ OutOfMemory)
   pub refused : (fault : PolicyFault) → outcome_seen ending ≡ Policy fault → PolicyCause command old new fault
+  pub graph_refused : (fault : GraphFault) → outcome_seen ending ≡ Graph fault → GraphCause command old new fault
   pub policy : ReachesCapture command (outcome_seen ending) old
   pub read_faults : (s : Slot) → outcome_seen ending ≡ ReadFault s → ReadFaultCause command old new s
   pub write_faults : (s : Slot) → outcome_seen ending ≡ WriteFault s → WriteFaultCause command old new s

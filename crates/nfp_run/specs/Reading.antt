@@ -1,6 +1,7 @@
--- For proofs: how the reading of the policy ends, a demo, and the opening of the capture.
-use Rattle.std.specs.Prelude.{◌≡◌, ◌<◌, ◌⊎◌, ℕ, List, length, Bool, true, false, Option, Some, IfSome, IsSomeAnd, IsOk, Result, Ok, Err}
+-- For proofs: how the reading of the policy and of graphs ends, a demo, and the opening of the capture.
+use Rattle.std.specs.Prelude.{◌≡◌, ◌<◌, ◌≤◌, ◌⊎◌, ℕ, List, length, Bool, true, false, Option, Some, None, IfSome, IsSomeAnd, IsOk, Result, Ok, Err}
 use Rattle.std.specs.Option.{option_map}
+use Rattle.nfp_outside.specs.declared.slot.Slot.{Slot}
 use Rattle.nfp_outside.specs.declared.slot.Slot.TheVariants as slots
 use Rattle.nfp_outside.specs.Outside.{SlotView, IsRisen}
 use Rattle.nfp_outside.specs.declared.slot.DeskFault.{DeskFault}
@@ -22,7 +23,7 @@ use Rattle.policy_judge.specs.Judging.{judged, told}
 use Rattle.policy_judge.specs.Lines.{too_long_line}
 use Rattle.policy_judge.specs.declared.fault.PolicyFault.TheVariants as policies
 use Rattle.nfp_run.specs.declared.ending.Ending.{Ending}
-use Rattle.nfp_run.specs.declared.ending.Ending.TheVariants.{Completed, Shown, Refused, Stopped}
+use Rattle.nfp_run.specs.declared.ending.Ending.TheVariants.{Completed, Shown, Refused, GraphRefused, Stopped}
 use Rattle.command_words.specs.declared.requests.DemoInput.{DemoInput}
 use Rattle.nfp_run.specs.DemoNote.{demo_text}
 use Rattle.nfp_run.specs.Due.{is_ng, is_ng_front}
@@ -31,10 +32,25 @@ use Rattle.nfp_run.specs.Written.{Led, led_pcap}
 use Rattle.nfp_run.specs.declared.read.Opened.{Opened}
 use Rattle.nfp_run.specs.declared.read.Opened.TheVariants.{Pcap, Ng}
 use Rattle.nfp_run.specs.Plan.{plan_text}
-use Rattle.policy_judge.specs.declared.fault.Refusal.{Refusal}
+use Rattle.std.specs.List.{AllZip, zip}
+use Rattle.graph_compile.specs.declared.graph.Graph.{Graph as StagedGraph}
+use Rattle.graph_text.specs.Graphs.{graphs_of}
+use Rattle.graph_text.specs.declared.fault.GraphFault.{GraphFault}
+use Rattle.graph_text.specs.declared.fault.GraphFault.TheVariants as graphs
+use Rattle.plan_text.specs.Putting.{IsShownFor}
+use Rattle.policy_check.specs.declared.fault.Order.{Order}
+use Rattle.policy_judge.specs.Making.{functions_made}
+use Rattle.policy_judge.specs.Orders.{IsOrdered}
+use Rattle.policy_text.specs.declared.policy.ChainPolicy.{ChainPolicy}
+use Rattle.chain_service.specs.Fitting.{FitAll}
+use Rattle.nfp_run.specs.Answers.{HasPolicy, WhereTexts}
+use Rattle.nfp_run.specs.GraphLines.{graph_line}
+use Rattle.nfp_run.specs.Preparing.{ByGraph, Unprepared, chains_prepared, prepared, prepared_with}
+use Rattle.nfp_run.specs.declared.ending.GraphRefusal.{GraphRefusal}
+use Rattle.nfp_run.specs.declared.prepared.Prepared.{Prepared}
 use Rattle.policy_judge.specs.declared.judged.Judged.{Judged}
 use Rattle.nfp_run.specs.declared.outcome.Outcome.{Outcome}
-use Rattle.nfp_run.specs.declared.outcome.Outcome.TheVariants.{Done, Usage, Policy, Capture, CaptureNg, ReadFault, WriteFault, OutOfMemory}
+use Rattle.nfp_run.specs.declared.outcome.Outcome.TheVariants.{Done, Usage, Policy, Graph, Capture, CaptureNg, ReadFault, WriteFault, OutOfMemory}
 use Rattle.nfp_run.specs.declared.read.Unread.{Unread}
 use Rattle.nfp_run.specs.declared.read.Unread.TheVariants.{TooLong, Failed, NoMemory}
 
@@ -63,21 +79,122 @@ EndsAtPolicy old new (Stopped OutOfMemory) = Unit {0}
 EndsAtPolicy old new (Stopped Done) = ⊥
 EndsAtPolicy old new (Stopped (Usage fault)) = ⊥
 EndsAtPolicy old new (Stopped (Policy fault)) = ⊥
+EndsAtPolicy old new (Stopped (Graph fault)) = ⊥
 EndsAtPolicy old new (Stopped (Capture fault)) = ⊥
 EndsAtPolicy old new (Stopped (CaptureNg fault)) = ⊥
 EndsAtPolicy old new (Stopped (WriteFault s)) = ⊥
 EndsAtPolicy old new (Completed totals) = ⊥
 EndsAtPolicy old new (Shown text) = ⊥
+EndsAtPolicy old new (GraphRefused refusal) = ⊥
 
--- this is the plan of a policy that was judged so
-abbrev pub IsPlanOf : List ℕ → Result Judged Refusal → Type 0
-IsPlanOf text (Ok policy) = text ≡ plan_text policy
-IsPlanOf text (Err refusal) = ⊥
+-- how a call ends where graphs of a policy without fault have this fault
+abbrev pub GraphRefusedBy : Judged → GraphFault → Ending → Type 0
+GraphRefusedBy policy fault ending =
+    (ending ≡ GraphRefused (record { fault = fault; line = graph_line policy.policy.chains fault })) ⊎ (ending ≡ Stopped OutOfMemory)
 
--- How a call ends that shows a plan: with the plan, or at the policy.
-abbrev pub PlanEnds : SlotView → SlotView → Ending → Type 0
-PlanEnds old new (Shown text) = IfSome old.bytes (λ bytes. IsPlanOf text (judged bytes))
-PlanEnds old new ending = EndsAtPolicy old new ending
+-- how a call ends whose graphs weren't read
+abbrev pub UnreadGraphEnds : Judged → Unread → Ending → Type 0
+UnreadGraphEnds policy TooLong ending = GraphRefusedBy policy graphs.TooLong ending
+UnreadGraphEnds policy Failed ending = ending ≡ Stopped (ReadFault slots.Graph)
+UnreadGraphEnds policy NoMemory ending = ending ≡ Stopped OutOfMemory
+
+-- Why a call ends at the graphs of a policy without fault: they have a fault, their count rose, or memory ran out.
+abbrev pub EndsAtGraph : Judged → SlotView → SlotView → Ending → Type 0
+EndsAtGraph policy old new (GraphRefused refusal) =
+    IfSome old.bytes (λ text. prepared_with policy (graphs_of text policy.policy.chains policy.orders) ≡ Err (ByGraph refusal))
+EndsAtGraph policy old new (Stopped (ReadFault s)) = (s ≡ slots.Graph) × IsRisen old.faults new.faults
+EndsAtGraph policy old new (Stopped OutOfMemory) = Unit {0}
+EndsAtGraph policy old new (Stopped Done) = ⊥
+EndsAtGraph policy old new (Stopped (Usage fault)) = ⊥
+EndsAtGraph policy old new (Stopped (Policy fault)) = ⊥
+EndsAtGraph policy old new (Stopped (Graph fault)) = ⊥
+EndsAtGraph policy old new (Stopped (Capture fault)) = ⊥
+EndsAtGraph policy old new (Stopped (CaptureNg fault)) = ⊥
+EndsAtGraph policy old new (Stopped (WriteFault s)) = ⊥
+EndsAtGraph policy old new (Refused refusal) = ⊥
+EndsAtGraph policy old new (Completed totals) = ⊥
+EndsAtGraph policy old new (Shown text) = ⊥
+
+-- the graphs that have a name among the words have this fault, behind a policy without fault
+pub record GraphFails (named : Option (List ℕ)) (old : Slot → SlotView) (refusal : GraphRefusal) : Type 0 where
+  pub name : List ℕ
+  pub is : named ≡ Some name
+  pub policy : HasPolicy old
+  pub told : WhereTexts named old (λ policy text. prepared named policy text ≡ Err (ByGraph refusal))
+
+-- they couldn't be read
+pub record GraphUnread (named : Option (List ℕ)) (old new : Slot → SlotView) : Type 0 where
+  pub name : List ℕ
+  pub is : named ≡ Some name
+  pub policy : HasPolicy old
+  pub risen : IsRisen (old slots.Graph).faults (new slots.Graph).faults
+
+-- a slot that is read before the capture couldn't be read
+abbrev pub TextUnread : Option (List ℕ) → (Slot → SlotView) → (Slot → SlotView) → Slot → Type 0
+TextUnread named old new slots.Policy = IsRisen (old slots.Policy).faults (new slots.Policy).faults
+TextUnread named old new slots.Graph = GraphUnread named old new
+TextUnread named old new slots.Capture = ⊥
+TextUnread named old new slots.Out = ⊥
+TextUnread named old new slots.Report = ⊥
+TextUnread named old new slots.Note = ⊥
+
+-- Why a call ends at the policy or at the graphs.
+abbrev pub EndsAtTexts : Option (List ℕ) → (Slot → SlotView) → (Slot → SlotView) → Ending → Type 0
+EndsAtTexts named old new (Refused refusal) = IfSome (old slots.Policy).bytes (λ bytes. judged bytes ≡ Err refusal)
+EndsAtTexts named old new (GraphRefused refusal) = GraphFails named old refusal
+EndsAtTexts named old new (Stopped (ReadFault s)) = TextUnread named old new s
+EndsAtTexts named old new (Stopped OutOfMemory) = Unit {0}
+EndsAtTexts named old new (Stopped Done) = ⊥
+EndsAtTexts named old new (Stopped (Usage fault)) = ⊥
+EndsAtTexts named old new (Stopped (Policy fault)) = ⊥
+EndsAtTexts named old new (Stopped (Graph fault)) = ⊥
+EndsAtTexts named old new (Stopped (Capture fault)) = ⊥
+EndsAtTexts named old new (Stopped (CaptureNg fault)) = ⊥
+EndsAtTexts named old new (Stopped (WriteFault s)) = ⊥
+EndsAtTexts named old new (Completed totals) = ⊥
+EndsAtTexts named old new (Shown text) = ⊥
+
+-- the graph of a chain may be shown
+abbrev pub IsShownIn : ChainPolicy × Order → Option StagedGraph → Type 0
+IsShownIn x graph = IsShownFor x.0.functions x.1.positions graph
+
+-- A policy and its graphs have no fault, and come to this.
+pub record Prepares (named : Option (List ℕ)) (old : Slot → SlotView) (p : Prepared) : Type 0 where
+  pub policy : HasPolicy old
+  pub told : WhereTexts named old (λ policy text. prepared named policy text ≡ Ok p)
+
+-- what may be run and shown of it
+pub record IsReady (p : Prepared) : Type 0 where
+  pub ordered : AllZip IsOrdered p.judged.policy.chains p.judged.orders
+  pub made : p.judged.functions ≡ functions_made p.judged.policy.chains
+  pub few : length p.judged.policy.chains ≤ 16
+  pub fit : FitAll p.judged.policy.chains p.judged.orders p.graphs
+  pub shown : AllZip IsShownIn (zip p.judged.policy.chains p.judged.orders) p.graphs
+
+-- the chains that run, where nothing has a fault
+abbrev pub chains_run : Result Prepared Unprepared → Option Chains
+chains_run (Ok p) = Some (chains_prepared p)
+chains_run (Err fault) = None
+
+-- A policy and its graphs have no fault, and these chains run.
+pub record Serves (named : Option (List ℕ)) (old : Slot → SlotView) (chains : Chains) : Type 0 where
+  pub policy : HasPolicy old
+  pub runs : WhereTexts named old (λ policy text. chains_run (prepared named policy text) ≡ Some chains)
+
+-- this is the plan of a policy and graphs that came to this
+abbrev pub IsPlanOf : List ℕ → Result Prepared Unprepared → Type 0
+IsPlanOf text (Ok p) = text ≡ plan_text p
+IsPlanOf text (Err fault) = ⊥
+
+-- A policy and its graphs have no fault, and this is their plan.
+pub record ShowsPlan (named : Option (List ℕ)) (old : Slot → SlotView) (text : List ℕ) : Type 0 where
+  pub policy : HasPolicy old
+  pub plan : WhereTexts named old (λ policy graph. IsPlanOf text (prepared named policy graph))
+
+-- How a call ends that shows a plan: with the plan, or at the policy or the graphs.
+abbrev pub PlanEnds : Option (List ℕ) → (Slot → SlotView) → (Slot → SlotView) → Ending → Type 0
+PlanEnds named old new (Shown text) = ShowsPlan named old text
+PlanEnds named old new ending = EndsAtTexts named old new ending
 
 -- How a demo ends: with its text, or memory ran out.
 abbrev pub DemoEnds : DemoInput → Ending → Type 0
@@ -86,11 +203,13 @@ DemoEnds input (Stopped OutOfMemory) = Unit {0}
 DemoEnds input (Stopped Done) = ⊥
 DemoEnds input (Stopped (Usage fault)) = ⊥
 DemoEnds input (Stopped (Policy fault)) = ⊥
+DemoEnds input (Stopped (Graph fault)) = ⊥
 DemoEnds input (Stopped (Capture fault)) = ⊥
 DemoEnds input (Stopped (CaptureNg fault)) = ⊥
 DemoEnds input (Stopped (ReadFault s)) = ⊥
 DemoEnds input (Stopped (WriteFault s)) = ⊥
 DemoEnds input (Refused refusal) = ⊥
+DemoEnds input (GraphRefused refusal) = ⊥
 DemoEnds input (Completed totals) = ⊥
 
 -- what chains make of what a source gives of a pcapng capture
@@ -146,6 +265,7 @@ RefusesBehind first old new OutOfMemory = Unit {0}
 RefusesBehind first old new Done = ⊥
 RefusesBehind first old new (Usage fault) = ⊥
 RefusesBehind first old new (Policy fault) = ⊥
+RefusesBehind first old new (Graph fault) = ⊥
 RefusesBehind first old new (WriteFault s) = ⊥
 
 -- the same of a capture that was to be opened by its name
@@ -157,6 +277,7 @@ RefusedOpening old new OutOfMemory = Unit {0}
 RefusedOpening old new Done = ⊥
 RefusedOpening old new (Usage fault) = ⊥
 RefusedOpening old new (Policy fault) = ⊥
+RefusedOpening old new (Graph fault) = ⊥
 RefusedOpening old new (WriteFault s) = ⊥
 
 -- what a capture is answered with that a desk refused to attach or to read

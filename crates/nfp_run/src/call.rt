@@ -2,9 +2,10 @@
 ghost use Rattle.std.specs.Prelude.{◌≡◌, ◌≢◌, ◌⊎◌, ℕ, List, [], map, IfSome, Err, None, string_bytes};
 ghost use Rattle.nfp_outside.specs.declared.slot.Slot.{Slot};
 ghost use Rattle.nfp_outside.specs.Outside.{Appends, AppendsPrefix, IsRisen};
+ghost use Rattle.graph_text.specs.declared.fault.GraphFault.{GraphFault};
 ghost use Rattle.policy_judge.specs.declared.fault.PolicyFault.{PolicyFault};
 ghost use Rattle.command_words.specs.declared.usage.UsageFault.{UsageFault};
-ghost use Rattle.nfp_run.specs.Answers.{IsDue, IsFinal, HasNames, NoneRose, WhereRead, Leaves, LeavesPrefixes, AttachesDue, ReachesCapture, PolicyCause, ReadFaultCause, WriteFaultCause, NotesPrefix, note_due};
+ghost use Rattle.nfp_run.specs.Answers.{IsDue, IsFinal, HasNames, NoneRose, WhereRead, Leaves, LeavesPrefixes, AttachesDue, ReachesCapture, PolicyCause, GraphCause, ReadFaultCause, WriteFaultCause, NotesPrefix, note_due};
 ghost use Rattle.nfp_run.specs.Due.{due};
 ghost use Rattle.command_words.specs.Words.{command_of};
 
@@ -18,10 +19,11 @@ use std::sync::Wait;
 use std::thread::Threads;
 
 /// Runs the chains of a policy over a capture, as the words `run POLICY CAPTURE OUT REPORT` say, shows the plan of a policy, as
-/// the words `plan POLICY` say, runs a demo, as the words `demo SEED COUNT` say, or counts the flows of a capture, as the words
+/// the words `plan POLICY` say, either with graphs that were written by hand, as the words `--graph NAME` say, runs a demo, as the words `demo SEED COUNT` say, or counts the flows of a capture, as the words
 /// `flows CAPTURE OUT` say.
 ///
-/// The policy is checked whole before anything else is touched. `run` leads each packet through the first chain whose clauses
+/// The policy is checked whole before anything else is touched, and the graphs, where the words name them, before the capture is. A chain that
+/// they list runs in its graph, each other in the one that is compiled for it. `run` leads each packet through the first chain whose clauses
 /// it meets, and lets one that no chain takes pass as it was read. It puts the capture of the packets that passed into Out, and
 /// into Report the line of each that was dropped, the totals, the copies that the graphs of each chain made of each field, the
 /// functions of each chain, and the capture's fault where it has one. The capture is read record by record, and written burst
@@ -45,42 +47,42 @@ pub fn nfp<R: Threads + Wait + Clock + Sync, D: Desk, G: Gate + Sync>(
     requires none_attached { (s : Slot) → (D.slots desk.old s).name ≡ None }
     requires note_empty { IfSome (D.slots desk.old Slot.Note).bytes (λ bytes. bytes ≡ []) }
 
-    // All that follows of what is due stands where the desk tells what the words read: the policy and the capture, one of them alone,
-    // or neither. Where no count of the desk rose, the outcome is the one that is due and the slots hold what is due, or memory ran
+    // All that follows of what is due stands where the desk tells what the words read: of the policy, the graphs and the capture all, some
+    // or none. Where no count of the desk rose, the outcome is the one that is due and the slots hold what is due, or memory ran
     // out.
-    ensures answers { NoneRose (D.slots desk.old) (D.slots desk.new) → WhereRead (command_of (map string_bytes words.now)) (D.slots desk.old) (λ p c.
-        (IsDue (due (map string_bytes words.now) p c) (D.slots desk.old) (D.slots desk.new) result
-        × Appends (due (map string_bytes words.now) p c).note (D.slots desk.old Slot.Note) (D.slots desk.new Slot.Note))
+    ensures answers { NoneRose (D.slots desk.old) (D.slots desk.new) → WhereRead (command_of (map string_bytes words.now)) (D.slots desk.old) (λ p g c.
+        (IsDue (due (map string_bytes words.now) p g c) (D.slots desk.old) (D.slots desk.new) result
+        × Appends (due (map string_bytes words.now) p g c).note (D.slots desk.old Slot.Note) (D.slots desk.new Slot.Note))
         ⊎ (result ≡ Outcome.OutOfMemory)) }
     // Whatever the counts did, an outcome other than a fault of a slot or want of memory is the one that is due.
-    ensures exact { IsFinal result → WhereRead (command_of (map string_bytes words.now)) (D.slots desk.old) (λ p c.
-        IsDue (due (map string_bytes words.now) p c) (D.slots desk.old) (D.slots desk.new) result) }
+    ensures exact { IsFinal result → WhereRead (command_of (map string_bytes words.now)) (D.slots desk.old) (λ p g c.
+        IsDue (due (map string_bytes words.now) p g c) (D.slots desk.old) (D.slots desk.new) result) }
     // Whatever the outcome, Out and Report hold a front part of what is due, or were never attached.
-    ensures prefixes { WhereRead (command_of (map string_bytes words.now)) (D.slots desk.old) (λ p c.
-        LeavesPrefixes (due (map string_bytes words.now) p c).written (D.slots desk.old) (D.slots desk.new)) }
+    ensures prefixes { WhereRead (command_of (map string_bytes words.now)) (D.slots desk.old) (λ p g c.
+        LeavesPrefixes (due (map string_bytes words.now) p g c).written (D.slots desk.old) (D.slots desk.new)) }
 
     // Note holds a front part of its line, and the whole of it unless its own count rose.
-    ensures noted { result ≢ Outcome.OutOfMemory → WhereRead (command_of (map string_bytes words.now)) (D.slots desk.old) (λ p c.
-        AppendsPrefix (note_due result (due (map string_bytes words.now) p c).note) (D.slots desk.old Slot.Note) (D.slots desk.new Slot.Note)) }
-    ensures noted_whole { result ≢ Outcome.OutOfMemory → ¬ IsRisen (D.slots desk.old Slot.Note).faults (D.slots desk.new Slot.Note).faults → WhereRead (command_of (map string_bytes words.now)) (D.slots desk.old) (λ p c.
-        Appends (note_due result (due (map string_bytes words.now) p c).note) (D.slots desk.old Slot.Note) (D.slots desk.new Slot.Note)) }
+    ensures noted { result ≢ Outcome.OutOfMemory → WhereRead (command_of (map string_bytes words.now)) (D.slots desk.old) (λ p g c.
+        AppendsPrefix (note_due result (due (map string_bytes words.now) p g c).note) (D.slots desk.old Slot.Note) (D.slots desk.new Slot.Note)) }
+    ensures noted_whole { result ≢ Outcome.OutOfMemory → ¬ IsRisen (D.slots desk.old Slot.Note).faults (D.slots desk.new Slot.Note).faults → WhereRead (command_of (map string_bytes words.now)) (D.slots desk.old) (λ p g c.
+        Appends (note_due result (due (map string_bytes words.now) p g c).note) (D.slots desk.old Slot.Note) (D.slots desk.new Slot.Note)) }
     // Done says that Note holds its line or the plan whole, whatever the counts did.
-    ensures done_noted { result ≡ Outcome.Done → WhereRead (command_of (map string_bytes words.now)) (D.slots desk.old) (λ p c.
-        Appends (due (map string_bytes words.now) p c).note (D.slots desk.old Slot.Note) (D.slots desk.new Slot.Note)) }
+    ensures done_noted { result ≡ Outcome.Done → WhereRead (command_of (map string_bytes words.now)) (D.slots desk.old) (λ p g c.
+        Appends (due (map string_bytes words.now) p g c).note (D.slots desk.old Slot.Note) (D.slots desk.new Slot.Note)) }
     // Where memory ran out, Note holds a front part of what is due, or of the line of a fault of reading or writing a slot whose
     // count rose.
-    ensures noted_short { result ≡ Outcome.OutOfMemory → WhereRead (command_of (map string_bytes words.now)) (D.slots desk.old) (λ p c.
-        NotesPrefix (due (map string_bytes words.now) p c).note (D.slots desk.old) (D.slots desk.new)) }
+    ensures noted_short { result ≡ Outcome.OutOfMemory → WhereRead (command_of (map string_bytes words.now)) (D.slots desk.old) (λ p g c.
+        NotesPrefix (due (map string_bytes words.now) p g c).note (D.slots desk.old) (D.slots desk.new)) }
     // Nothing goes into Note once memory ran out: where something stands there all the same and no slot failed, Out and Report hold
     // what is due whole.
-    ensures noted_late { result ≡ Outcome.OutOfMemory → NoneRose (D.slots desk.old) (D.slots desk.new) → WhereRead (command_of (map string_bytes words.now)) (D.slots desk.old) (λ p c.
-        Leaves (due (map string_bytes words.now) p c).written (D.slots desk.old) (D.slots desk.new)
+    ensures noted_late { result ≡ Outcome.OutOfMemory → NoneRose (D.slots desk.old) (D.slots desk.new) → WhereRead (command_of (map string_bytes words.now)) (D.slots desk.old) (λ p g c.
+        Leaves (due (map string_bytes words.now) p g c).written (D.slots desk.old) (D.slots desk.new)
         ⊎ Appends [] (D.slots desk.old Slot.Note) (D.slots desk.new Slot.Note)) }
     // A fault of Note is told where the work was done, and Out and Report are whole.
-    ensures note_fault { result ≡ Outcome.WriteFault Slot.Note → WhereRead (command_of (map string_bytes words.now)) (D.slots desk.old) (λ p c.
-        IsDue (due (map string_bytes words.now) p c) (D.slots desk.old) (D.slots desk.new) Outcome.Done) }
+    ensures note_fault { result ≡ Outcome.WriteFault Slot.Note → WhereRead (command_of (map string_bytes words.now)) (D.slots desk.old) (λ p g c.
+        IsDue (due (map string_bytes words.now) p g c) (D.slots desk.old) (D.slots desk.new) Outcome.Done) }
 
-    // Each attached slot has the name that the words give it, so a plan attaches the policy alone.
+    // Each attached slot has the name that the words give it, so a plan attaches the policy and the graphs alone.
     ensures names { HasNames (command_of (map string_bytes words.now)) (D.slots desk.new) }
     // Out and Report are attached exactly where the outcome says so, also where the desk tells no bytes.
     ensures attached { AttachesDue (command_of (map string_bytes words.now)) result (D.slots desk.new) }
@@ -91,6 +93,8 @@ pub fn nfp<R: Threads + Wait + Clock + Sync, D: Desk, G: Gate + Sync>(
     // A policy is refused only for its first fault, and taken only where it has none, also where the desk tells the policy
     // alone.
     ensures refused { (f : PolicyFault) → result ≡ Outcome.Policy f → PolicyCause (command_of (map string_bytes words.now)) (D.slots desk.old) (D.slots desk.new) f }
+    // Graphs are refused only for their first fault, behind a policy without fault, and taken only where they have none.
+    ensures graph_refused { (f : GraphFault) → result ≡ Outcome.Graph f → GraphCause (command_of (map string_bytes words.now)) (D.slots desk.old) (D.slots desk.new) f }
     ensures policy { ReachesCapture (command_of (map string_bytes words.now)) result (D.slots desk.old) }
     // Each fault comes only where the count of its own slot rose, and not before the slots that are due earlier were good.
     ensures read_faults { (s : Slot) → result ≡ Outcome.ReadFault s → ReadFaultCause (command_of (map string_bytes words.now)) (D.slots desk.old) (D.slots desk.new) s }

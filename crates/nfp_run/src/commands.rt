@@ -18,7 +18,7 @@ use std::sync::Wait;
 use std::thread::Threads;
 
 /// Does what the words ask for.
-#[tactic(auto, using(crate::proofs::ShownPlans::plan_ran, crate::proofs::ShownPlans::demo_ran, crate::proofs::ShownPlans::usage_ran, crate::proofs::UnreadWords::unread_ran))]
+#[tactic(auto, using(crate::proofs::ShownPlans::demo_ran, crate::proofs::ShownPlans::usage_ran, crate::proofs::UnreadWords::unread_ran))]
 pub fn run_words<R: Threads + Wait + Clock + Sync, D: Desk, G: Gate + Sync>(
     rt: &R,
     alloc: Global,
@@ -31,7 +31,7 @@ pub fn run_words<R: Threads + Wait + Clock + Sync, D: Desk, G: Gate + Sync>(
 {
     match read_command(alloc, words) {
         Ok(Command::Run(names, options)) => run(rt, alloc, &names, options, desk, gate),
-        Ok(Command::Plan(name)) => plan(alloc, name, desk),
+        Ok(Command::Plan(names)) => plan(alloc, &names, desk),
         Ok(Command::Demo(input, options)) => demo(rt, alloc, input, options, gate),
         Ok(Command::Flows(names, options)) => flows(rt, alloc, &names, options, desk),
         Err(WordsFault::Usage(fault)) => Ending::Stopped(Outcome::Usage(fault)),

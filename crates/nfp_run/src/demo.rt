@@ -23,6 +23,7 @@ use capture_run::{RunFault, run_capture};
 use chain_service::{Service, make_service};
 use command_words::{DemoInput, RunOptions};
 use demo_capture::{Summary, Weighed, head, policy, push_summary};
+use graph_text::no_graphs;
 use item_list::Items;
 use nfp_outside::{Desk, Gate, Scales, Slot, Weight, weights_add_up};
 use policy_judge::judge;
@@ -74,7 +75,10 @@ fn demo_service(alloc: Global) -> Result<Service, AllocError>
     ensures opening { IfOk result IsOpening }
 {
     match judge(alloc, policy()) {
-        Ok(judged) => make_service(alloc, judged),
+        Ok(judged) => {
+            let graphs = no_graphs(alloc, judged.policy.chains.as_slice())?;
+            make_service(alloc, judged, graphs)
+        }
         Err(_) => Err(AllocError),
     }
 }

@@ -2,8 +2,16 @@
 
 use crate::outcome::Outcome;
 use capture_report::Totals;
+use graph_text::GraphFault;
 use item_list::Items;
 use policy_judge::Refusal;
+
+/// Why a text of graphs is refused, and the line that tells it.
+#[derive(Debug, Drop)]
+pub struct GraphRefusal {
+    pub fault: GraphFault,
+    pub line: Items<u8>,
+}
 
 /// How the work of a call ended.
 #[derive(Debug, Drop)]
@@ -14,6 +22,8 @@ pub enum Ending {
     Shown(Items<u8>),
     /// The policy has a fault.
     Refused(Refusal),
+    /// The graphs that were written for a policy without fault have one.
+    GraphRefused(GraphRefusal),
     /// Any other end, which its outcome alone tells.
     Stopped(Outcome),
 }

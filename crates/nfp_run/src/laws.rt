@@ -5,26 +5,27 @@ ghost use Rattle.pcap_io.specs.declared.capture.CaptureHead.{CaptureHead};
 ghost use Rattle.capture_bytes.specs.declared.packet.PcapRecord.{PcapRecord};
 ghost use Rattle.pcapng_io.specs.Blocks.{blocks_of, next_of, start};
 ghost use Rattle.pcapng_io.specs.declared.item.NgItem.{NgItem};
-ghost use Rattle.policy_judge.specs.declared.judged.Judged.{Judged};
 ghost use Rattle.policy_judge.specs.Judging.{judged};
 ghost use Rattle.nfp_run.specs.declared.outcome.Outcome.{Outcome};
 ghost use Rattle.demo_capture.specs.DemoCapture.{policy_text};
 ghost use Rattle.nfp_run.specs.Due.{due, is_ng};
+ghost use Rattle.nfp_run.specs.Preparing.{prepared};
+ghost use Rattle.nfp_run.specs.declared.prepared.Prepared.{Prepared};
 ghost use Rattle.command_words.specs.declared.requests.DemoInput.{DemoInput};
 ghost use Rattle.command_words.specs.declared.requests.RunOptions.{RunOptions};
-ghost use Rattle.command_words.specs.Words.{Names, command_of, Run, Plan, Demo};
+ghost use Rattle.command_words.specs.Words.{Names, PlanFiles, command_of, Run, Plan, Demo};
 
-/// A law: words that are a command, a policy without fault, and for `run` a capture without fault
-/// are done; a demo needs neither. With the clause `answers` of [`crate::nfp`], such a call answers Done or want of memory wherever no
+/// A law: words that are a command, a policy and graphs without fault, and for `run` a capture without fault
+/// are done; a demo needs none of them. With the clause `answers` of [`crate::nfp`], such a call answers Done or want of memory wherever no
 /// slot failed.
 #[tactic(auto, using(crate::proofs::GoodCalls::run_is_done, crate::proofs::GoodCalls::ng_run_is_done, crate::proofs::GoodCalls::plan_is_done, crate::proofs::GoodCalls::demo_is_done))]
 pub fn a_good_call_is_done()
-    ensures run { (words : List (List ℕ)) → (names : Names) → (options : RunOptions) → (p c : List ℕ) → (policy : Judged) → (head : CaptureHead) → (records : List PcapRecord) →
-        command_of words ≡ Ok (Run names options) → judged p ≡ Ok policy → capture_of c ≡ Ok (head, record { records = records; fault = None }) → (due words p c).outcome ≡ Outcome.Done }
-    ensures run_ng { (words : List (List ℕ)) → (names : Names) → (options : RunOptions) → (p c : List ℕ) → (policy : Judged) → (items : List NgItem) →
-        command_of words ≡ Ok (Run names options) → judged p ≡ Ok policy → is_ng c ≡ true → IsOk (next_of start c) → blocks_of start c ≡ record { items = items; fault = None } → (due words p c).outcome ≡ Outcome.Done }
-    ensures plan { (words : List (List ℕ)) → (name p c : List ℕ) → (policy : Judged) → command_of words ≡ Ok (Plan name) → judged p ≡ Ok policy → (due words p c).outcome ≡ Outcome.Done }
-    ensures demo { (words : List (List ℕ)) → (input : DemoInput) → (options : RunOptions) → (p c : List ℕ) → command_of words ≡ Ok (Demo input options) → (due words p c).outcome ≡ Outcome.Done }
+    ensures run { (words : List (List ℕ)) → (names : Names) → (options : RunOptions) → (p g c : List ℕ) → (policy : Prepared) → (head : CaptureHead) → (records : List PcapRecord) →
+        command_of words ≡ Ok (Run names options) → prepared names.graph p g ≡ Ok policy → capture_of c ≡ Ok (head, record { records = records; fault = None }) → (due words p g c).outcome ≡ Outcome.Done }
+    ensures run_ng { (words : List (List ℕ)) → (names : Names) → (options : RunOptions) → (p g c : List ℕ) → (policy : Prepared) → (items : List NgItem) →
+        command_of words ≡ Ok (Run names options) → prepared names.graph p g ≡ Ok policy → is_ng c ≡ true → IsOk (next_of start c) → blocks_of start c ≡ record { items = items; fault = None } → (due words p g c).outcome ≡ Outcome.Done }
+    ensures plan { (words : List (List ℕ)) → (names : PlanFiles) → (p g c : List ℕ) → (policy : Prepared) → command_of words ≡ Ok (Plan names) → prepared names.graph p g ≡ Ok policy → (due words p g c).outcome ≡ Outcome.Done }
+    ensures demo { (words : List (List ℕ)) → (input : DemoInput) → (options : RunOptions) → (p g c : List ℕ) → command_of words ≡ Ok (Demo input options) → (due words p g c).outcome ≡ Outcome.Done }
 {}
 
 /// A law: the policy of a demo has no fault, so a demo has chains to run.

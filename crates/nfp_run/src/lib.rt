@@ -1,5 +1,5 @@
-//! The top call of `nfp`, which runs the chains of a policy over a capture, shows the plan of a policy, runs a demo of its own, and
-//! exports the flows of a capture.
+//! The top call of `nfp`, which runs the chains of a policy over a capture, shows the plan of a policy, either with graphs that were written
+//! by hand, runs a demo of its own, and exports the flows of a capture.
 //!
 //! What [`nfp()`] promises is the program's theorem: its contract says it, and `specs/Due.antt` has the result that it is
 //! measured against. [`a_good_call_is_done`] says of that result that words, policy and capture without fault are Done, and
@@ -15,11 +15,14 @@ mod demo;
 mod demo_source;
 mod ending;
 mod flows;
+mod graph_lines;
 mod head;
 mod laws;
 mod note;
 mod outcome;
 mod plan;
+mod prepare;
+mod prepared;
 mod read;
 mod run;
 mod ways;

@@ -4,7 +4,7 @@ ghost use Rattle.nfp_outside.specs.declared.slot.Slot.{Slot};
 ghost use Rattle.nfp_run.specs.Notes.{number_text, usage_text, done_text, slot_word, read_fault_text, write_fault_text};
 ghost use Rattle.nfp_run.specs.Closing.{outcome_seen, stop_text, text_of, untold, CountsWithin, Notes};
 
-use crate::ending::Ending;
+use crate::ending::{Ending, GraphRefusal};
 use crate::outcome::Outcome;
 use capture_report::{Totals, capture_line, ng_line, totals_line};
 use command_words::{Option4, UsageFault};
@@ -68,6 +68,10 @@ fn tell(alloc: Global, ending: Ending) -> Result<Told, AllocError>
             outcome: Outcome::Policy(fault),
             line,
         }),
+        Ending::GraphRefused(GraphRefusal { fault, line }) => Ok(Told {
+            outcome: Outcome::Graph(fault),
+            line,
+        }),
         Ending::Stopped(outcome) => {
             let line = Items::new(stop_text(alloc, &outcome)?);
             Ok(Told { outcome, line })
@@ -85,7 +89,9 @@ fn stop_text(alloc: Global, outcome: &Outcome) -> Result<Vec<u8>, AllocError>
         Outcome::CaptureNg(fault) => ng_line(alloc, *fault),
         Outcome::ReadFault(slot) => read_fault_text(alloc, *slot),
         Outcome::WriteFault(slot) => write_fault_text(alloc, *slot),
-        Outcome::Done | Outcome::Policy(_) | Outcome::OutOfMemory => Ok(Vec::new(alloc)),
+        // The line of these stands elsewhere.
+        Outcome::Done | Outcome::Policy(_) | Outcome::Graph(_) => Ok(Vec::new(alloc)),
+        Outcome::OutOfMemory => Ok(Vec::new(alloc)),
     }
 }
 
@@ -158,5 +164,6 @@ fn slot_word(slot: Slot) -> &'static [u8]
         Slot::Out => b"out",
         Slot::Report => b"report",
         Slot::Note => b"note",
+        Slot::Graph => b"graph",
     }
 }

@@ -5,6 +5,7 @@ ghost use Rattle.nfp_run.specs.Status.{status_of};
 
 use capture_run::RunFault;
 use command_words::UsageFault;
+use graph_text::GraphFault;
 use nfp_outside::Slot;
 use pcap_io::CaptureFault;
 use pcapng_io::NgFault;
@@ -21,6 +22,8 @@ pub enum Outcome {
     Usage(UsageFault),
     /// The policy has this first fault.
     Policy(PolicyFault),
+    /// The graphs that were written for a policy without fault have this first fault.
+    Graph(GraphFault),
     /// The capture, which is a classic one, has this first fault. What stood before it went through the chains.
     Capture(CaptureFault),
     /// The same of a pcapng capture.
@@ -42,6 +45,7 @@ impl Outcome {
             Outcome::Done => 0,
             Outcome::Usage(_) => 1,
             Outcome::Policy(_) => 2,
+            Outcome::Graph(_) => 8,
             Outcome::Capture(_) => 3,
             Outcome::CaptureNg(_) => 3,
             Outcome::ReadFault(_) => 4,

@@ -1,21 +1,19 @@
-//! Reads the policy and the head of the capture, and says why where that is refused.
-ghost use Rattle.std.specs.Prelude.{◌≡◌, ◌≢◌, ◌≤◌, ◌⊎◌, length, All, IfOk, IfErr, IfSome, IsSome, MatchResult, Ok, Some, None};
+//! Reads the policy, the bytes of a text and the head of the capture, and says why where that is refused.
+ghost use Rattle.std.specs.Prelude.{◌≡◌, ◌≢◌, ◌≤◌, ◌⊎◌, length, All, IfOk, IfErr, IfSome, IsSome, IsTrue, MatchResult, Ok, Some, None};
 ghost use Rattle.std.specs.List.{AllZip};
 ghost use Rattle.nfp_outside.specs.declared.slot.Slot.{Slot};
+ghost use Rattle.nfp_outside.specs.Outside.{is_read};
 ghost use Rattle.policy_judge.specs.Judging.{judged};
 ghost use Rattle.policy_judge.specs.Making.{functions_made};
 ghost use Rattle.policy_judge.specs.Orders.{IsOrdered};
 ghost use Rattle.policy_judge.specs.Settings.{IsSettled};
 ghost use Rattle.nfp_run.specs.Reading.{IsUnread, UnreadEnds, refused_by, EndsAtPolicy, Opens, OpensBehind, RefusedOpening, RefusesBehind, unread_capture};
 ghost use Rattle.nfp_run.specs.FlowsRan.{OpensClassic, RefusedClassic};
-ghost use Rattle.chain_service.specs.Opening.{IsOpening, chains_of};
-ghost use Rattle.chain_service.specs.Services.{service_of};
 
 use crate::ending::Ending;
 use crate::outcome::Outcome;
 use capture_bytes::fill;
 use capture_run::NgSource;
-use chain_service::{Service, make_service};
 use nfp_outside::{Desk, DeskFault, OutsideFault, Slot, read_all};
 use pcap_io::{CaptureHead, PcapFault, Reader};
 use pcapng_io::NgReadFault;
@@ -25,11 +23,11 @@ use std::alloc::Global;
 // The first bytes of a pcapng capture: the type of a section header block.
 const NG_FRONT: [u8; 4] = [0x0a, 0x0d, 0x0d, 0x0a];
 
-// The most bytes that a policy has.
-const MAX_POLICY: usize = 1_048_576;
+// The most bytes that a text has.
+const MAX_TEXT: usize = 1_048_576;
 
-// Why the policy wasn't read whole.
-enum Unread {
+/// Why a text wasn't read whole.
+pub enum Unread {
     TooLong,
     Failed,
     NoMemory,
@@ -49,34 +47,13 @@ pub fn read_policy<D: Desk>(alloc: Global, desk: &mut D, name: &str) -> Result<J
     ensures name { ((D.slots desk.new Slot.Policy).name ≡ None) ⊎ ((D.slots desk.new Slot.Policy).name ≡ Some name.now) }
     ensures others { (s : Slot) → s ≢ Slot.Policy → D.slots desk.new s ≡ D.slots desk.old s }
 {
-    let bytes = match read_bytes(alloc, desk, name) {
+    let bytes = match read_bytes(alloc, desk, Slot::Policy, name) {
         Ok(bytes) => bytes,
         Err(unread) => return Err(unread_ending(alloc, unread)),
     };
     match judge(alloc, &bytes) {
         Ok(judged) => Ok(judged),
         Err(fault) => Err(refused_by(fault)),
-    }
-}
-
-/// Reads the policy, judges it, and makes ready the chains that it runs.
-#[tactic(auto, using(crate::proofs::PolicyEnds::served))]
-pub fn read_service<D: Desk>(alloc: Global, desk: &mut D, name: &str) -> Result<Service, Ending>
-    requires { (D.slots desk.old Slot.Policy).name ≡ None }
-    ensures read { MatchResult result
-        (λ s. IfSome (D.slots desk.old Slot.Policy).bytes (λ bytes. service_of (judged bytes) ≡ Some (chains_of s.chains)))
-        (EndsAtPolicy (D.slots desk.old Slot.Policy) (D.slots desk.new Slot.Policy)) }
-    ensures opening { IfOk result IsOpening }
-    ensures name { ((D.slots desk.new Slot.Policy).name ≡ None) ⊎ ((D.slots desk.new Slot.Policy).name ≡ Some name.now) }
-    ensures others { (s : Slot) → s ≢ Slot.Policy → D.slots desk.new s ≡ D.slots desk.old s }
-{
-    let judged = match read_policy(alloc, desk, name) {
-        Ok(judged) => judged,
-        Err(ending) => return Err(ending),
-    };
-    match make_service(alloc, judged) {
-        Ok(service) => Ok(service),
-        Err(_) => Err(Ending::Stopped(Outcome::OutOfMemory)),
     }
 }
 
@@ -167,22 +144,28 @@ fn open_by_format<D: Desk>(alloc: Global, desk: &mut D, first: &[u8]) -> Result<
     }
 }
 
-// Attaches the policy, and reads its bytes.
-fn read_bytes<D: Desk>(alloc: Global, desk: &mut D, name: &str) -> Result<Vec<u8>, Unread>
-    requires { (D.slots desk.old Slot.Policy).name ≡ None }
+/// Attaches a slot that holds a text, and reads its bytes.
+pub fn read_bytes<D: Desk>(
+    alloc: Global,
+    desk: &mut D,
+    slot: Slot,
+    name: &str,
+) -> Result<Vec<u8>, Unread>
+    requires read_slot { IsTrue (is_read slot) }
+    requires free { (D.slots desk.old slot).name ≡ None }
     ensures read { MatchResult result
-        (λ v. IfSome (D.slots desk.old Slot.Policy).bytes (λ bytes. bytes ≡ v.items))
-        (IsUnread MAX_POLICY (D.slots desk.old Slot.Policy) (D.slots desk.new Slot.Policy)) }
-    ensures few { IfOk result (λ v. length v.items ≤ MAX_POLICY) }
-    ensures name { ((D.slots desk.new Slot.Policy).name ≡ None) ⊎ ((D.slots desk.new Slot.Policy).name ≡ Some name.now) }
-    ensures others { (s : Slot) → s ≢ Slot.Policy → D.slots desk.new s ≡ D.slots desk.old s }
+        (λ v. IfSome (D.slots desk.old slot).bytes (λ bytes. bytes ≡ v.items))
+        (IsUnread MAX_TEXT (D.slots desk.old slot) (D.slots desk.new slot)) }
+    ensures few { IfOk result (λ v. length v.items ≤ MAX_TEXT) }
+    ensures name { ((D.slots desk.new slot).name ≡ None) ⊎ ((D.slots desk.new slot).name ≡ Some name.now) }
+    ensures others { (s : Slot) → s ≢ slot → D.slots desk.new s ≡ D.slots desk.old s }
 {
-    match desk.attach(Slot::Policy, name) {
+    match desk.attach(slot, name) {
         Ok(()) => {}
         Err(DeskFault::Failed) => return Err(Unread::Failed),
         Err(DeskFault::NoMemory) => return Err(Unread::NoMemory),
     }
-    match read_all(alloc, desk, Slot::Policy, MAX_POLICY) {
+    match read_all(alloc, desk, slot, MAX_TEXT) {
         Ok(bytes) => Ok(bytes),
         Err(OutsideFault::TooLong) => Err(Unread::TooLong),
         Err(OutsideFault::ReadFault(_)) => Err(Unread::Failed),

@@ -3,10 +3,11 @@ ghost use Rattle.std.specs.Prelude.{◌≡◌, ◌≢◌, ◌≤◌, ◌⊎◌, 
 ghost use Rattle.std.specs.Option.{option_map};
 ghost use Rattle.nfp_outside.specs.declared.slot.Slot.{Slot};
 ghost use Rattle.pcap_io.specs.Reader.{reader_at, body_left};
+ghost use Rattle.graph_text.specs.declared.fault.GraphFault.{GraphFault};
 ghost use Rattle.policy_judge.specs.declared.fault.PolicyFault.{PolicyFault};
 ghost use Rattle.command_words.specs.declared.usage.UsageFault.{UsageFault};
 ghost use Rattle.command_words.specs.Words.{Run};
-ghost use Rattle.nfp_run.specs.Answers.{IsFinal, WhereTold, LeavesPrefixes, HasNames, RunAttaches, ReachesCapture, PolicyCause, ReadFaultCause, WriteFaultCause};
+ghost use Rattle.nfp_run.specs.Answers.{IsFinal, WhereRead, LeavesPrefixes, HasNames, RunAttaches, ReachesCapture, PolicyCause, GraphCause, ReadFaultCause, WriteFaultCause};
 ghost use Rattle.nfp_run.specs.Attached.{RunLeavesAttached};
 ghost use Rattle.nfp_run.specs.Closing.{outcome_seen, closed, ending_of, Left, LedPartly, LedWhole, EndsDue, CountsWithin};
 ghost use Rattle.nfp_run.specs.Reading.{IsBefore, led_stream, opened_led};
@@ -22,7 +23,8 @@ use crate::attach::{attach_sink, put_head};
 use crate::ending::Ending;
 use crate::head::growth;
 use crate::outcome::Outcome;
-use crate::read::{Opened, open_capture, read_service};
+use crate::prepare::read_service;
+use crate::read::{Opened, open_capture};
 use crate::ways::merging_by;
 use capture_bytes::Unit;
 use capture_report::{Ended, FormatFault};
@@ -36,7 +38,7 @@ use std::rt::Clock;
 use std::sync::Wait;
 use std::thread::Threads;
 
-/// Runs the chains of the policy over the capture. The words are accepted, and nothing is put into Note.
+/// Runs the chains of the policy over the capture, in the graphs that were written for them, where the words name them. The words are accepted, and nothing is put into Note.
 pub fn run<R: Threads + Wait + Clock + Sync, D: Desk, G: Gate + Sync>(
     rt: &R,
     alloc: Global,
@@ -47,22 +49,23 @@ pub fn run<R: Threads + Wait + Clock + Sync, D: Desk, G: Gate + Sync>(
 ) -> Ending
     requires ranges { IsInRange options }
     requires free { (s : Slot) → (D.slots desk.old s).name ≡ None }
-    ensures due { IsFinal (outcome_seen result) → WhereTold (D.slots desk.old) (λ p c.
-        EndsDue (due_of_command (Ok (Run (names_seen names.now) options)) p c) (D.slots desk.old) (D.slots desk.new) result) }
-    ensures prefixes { WhereTold (D.slots desk.old) (λ p c.
-        LeavesPrefixes (due_of_command (Ok (Run (names_seen names.now) options)) p c).written (D.slots desk.old) (D.slots desk.new)) }
+    ensures due { IsFinal (outcome_seen result) → WhereRead (Ok (Run (names_seen names.now) options)) (D.slots desk.old) (λ p g c.
+        EndsDue (due_of_command (Ok (Run (names_seen names.now) options)) p g c) (D.slots desk.old) (D.slots desk.new) result) }
+    ensures prefixes { WhereRead (Ok (Run (names_seen names.now) options)) (D.slots desk.old) (λ p g c.
+        LeavesPrefixes (due_of_command (Ok (Run (names_seen names.now) options)) p g c).written (D.slots desk.old) (D.slots desk.new)) }
     ensures within { CountsWithin result }
     ensures names { HasNames (Ok (Run (names_seen names.now) options)) (D.slots desk.new) }
     ensures attached { RunAttaches (outcome_seen result) (D.slots desk.new) }
     ensures note_stays { D.slots desk.new Slot.Note ≡ D.slots desk.old Slot.Note }
     ensures no_usage { (f : UsageFault) → outcome_seen result ≡ Outcome.Usage f → ⊥ }
     ensures refused { (f : PolicyFault) → outcome_seen result ≡ Outcome.Policy f → PolicyCause (Ok (Run (names_seen names.now) options)) (D.slots desk.old) (D.slots desk.new) f }
+    ensures graph_refused { (f : GraphFault) → outcome_seen result ≡ Outcome.Graph f → GraphCause (Ok (Run (names_seen names.now) options)) (D.slots desk.old) (D.slots desk.new) f }
     ensures policy { ReachesCapture (Ok (Run (names_seen names.now) options)) (outcome_seen result) (D.slots desk.old) }
     ensures read_faults { (s : Slot) → outcome_seen result ≡ Outcome.ReadFault s → ReadFaultCause (Ok (Run (names_seen names.now) options)) (D.slots desk.old) (D.slots desk.new) s }
     ensures write_faults { (s : Slot) → outcome_seen result ≡ Outcome.WriteFault s → WriteFaultCause (Ok (Run (names_seen names.now) options)) (D.slots desk.old) (D.slots desk.new) s }
     ensures no_note_fault { outcome_seen result ≡ Outcome.WriteFault Slot.Note → ⊥ }
 {
-    let service = match read_service(alloc, desk, names.policy) {
+    let service = match read_service(alloc, desk, names.policy, names.graph) {
         Ok(service) => service,
         Err(ending) => return ending,
     };

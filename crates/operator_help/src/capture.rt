@@ -7,6 +7,11 @@ use pcap_io::CaptureFault;
 /// The number of Ethernet among the kinds of links.
 const ETHERNET: u32 = 1;
 
+/// The numbers of the headers that stand in the place of Ethernet's where all interfaces are captured at once, by older versions and by newer ones.
+const COOKED: u32 = 113;
+
+const COOKED2: u32 = 276;
+
 /// The bits of the field of the link's kind that number it; the others tell of checksums.
 const LINK_BITS: u32 = 0xffff;
 
@@ -25,6 +30,15 @@ const CHECKSUMS: &str =
 
 const NO_ETHERNET: &str =
     "the packets of {} have no Ethernet header: link type {} is {}\nit is {}\ncapture at one Ethernet interface instead, as by `tcpdump -i eth0 -w FILE`";
+
+const ANY_IN_PART: &str =
+    "what is there already is made readable by this (editcap is one of Wireshark's tools), but the two addresses before each packet are none then:\n  editcap -F pcap -C 2 -L -T ether {} NEW.pcap";
+
+const ANY_LOST: &str =
+    "what is there already can't be made readable: the type stands at another place in its packets";
+
+const PLACE_OF_GRAPHS: &str =
+    "it stands behind `--graph`, as in `nfp run POLICY CAPTURE OUT REPORT --graph NAME`";
 
 const EMPTY: &str = "{} is empty";
 
@@ -143,6 +157,7 @@ fn bad_magic(page: &mut Page, capture: Captured<'_>) {
             tell_of(page, UNPACK, name);
         }
         Sign::Policy => page.tell(place_of_policy(capture.purpose)),
+        Sign::Graphs => page.tell(PLACE_OF_GRAPHS),
         Sign::Bzip2 | Sign::Xz | Sign::Zstandard => tell_of(page, unpacked_by(sign), name),
         sign => page.tell(what_to_do(sign)),
     }
@@ -161,6 +176,7 @@ fn what_it_is(sign: Sign) -> &'static str {
         Sign::Xz => "{} is packed by xz",
         Sign::Zstandard => "{} is packed by zstd",
         Sign::Policy => "{} is a policy, and no capture",
+        Sign::Graphs => "{} is a text of graphs, and no capture",
         Sign::Text | Sign::Utf8 | Sign::Utf16 => "{} is a text, and no capture",
         Sign::Pcap | Sign::Unknown => "{} is no capture in the format pcap or pcapng",
     }
@@ -202,6 +218,16 @@ pub fn bad_link(page: &mut Page, name: &str, kind: u32) {
         page.number(u64::from(kind));
         page.say(link);
         page.say(source);
+        say_any(page, name, kind & LINK_BITS);
+    }
+}
+
+// What becomes of a capture of all interfaces that is there already.
+fn say_any(page: &mut Page, name: &str, link: u32) {
+    match link {
+        COOKED => tell_of(page, ANY_IN_PART, name),
+        COOKED2 => page.tell(ANY_LOST),
+        _ => {}
     }
 }
 
@@ -239,7 +265,7 @@ const LINKS: &[(u32, &str, &str)] = &[
     (105, "IEEE 802.11", RADIO),
     (107, "Frame Relay", SERIAL),
     (108, "OpenBSD loopback", OPENBSD),
-    (113, "Linux cooked v1", ANY),
+    (COOKED, "Linux cooked v1", ANY),
     (119, RADIO_LINK, RADIO),
     (127, RADIO_LINK, RADIO),
     (163, RADIO_LINK, RADIO),
@@ -254,5 +280,5 @@ const LINKS: &[(u32, &str, &str)] = &[
     (230, "IEEE 802.15.4", RADIO),
     (239, "NFLOG", NFLOG),
     (253, "netlink", "what was captured at a netlink monitor"),
-    (276, "Linux cooked v2", ANY),
+    (COOKED2, "Linux cooked v2", ANY),
 ];

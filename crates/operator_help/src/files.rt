@@ -42,6 +42,8 @@ pub enum Sign {
     Utf16,
     /// Lines of a policy.
     Policy,
+    /// Lines of a text of graphs.
+    Graphs,
     Text,
     Unknown,
 }
@@ -64,6 +66,7 @@ const SIGNS: &[(&[u8], Sign)] = &[
     (b"\xff\xfe", Sign::Utf16),
     (b"\xfe\xff", Sign::Utf16),
     (b"nfp 1", Sign::Policy),
+    (b"nfp-graph 1", Sign::Graphs),
 ];
 
 /// What a file is that begins so.

@@ -19,6 +19,9 @@ const TOO_MANY: &str = "`{}` is a name too many: `{}` has {}";
 
 const MISSING: &str = "{} is missing: `{}` has {}";
 
+/// How many options a command has at most.
+const MOST_OPTIONS: usize = 4;
+
 /// What stands behind a command: its names in their order, and its options.
 #[derive(Clone, Copy)]
 struct Form {
@@ -29,20 +32,18 @@ struct Form {
     options: &'static [&'static [u8]],
 }
 
-const LED: &[&[u8]] = &[b"--mergers", b"--burst", b"--merge"];
-
 const RUN: Form = Form {
     command: "run",
     names: &["POLICY", "CAPTURE", "OUT", "REPORT"],
     said: "POLICY CAPTURE OUT REPORT",
-    options: LED,
+    options: &[b"--mergers", b"--burst", b"--merge", b"--graph"],
 };
 
 const PLAN: Form = Form {
     command: "plan",
     names: &["POLICY"],
     said: "POLICY",
-    options: &[],
+    options: &[b"--graph"],
 };
 
 const FLOWS: Form = Form {
@@ -56,7 +57,7 @@ const DEMO: Form = Form {
     command: "demo",
     names: &["SEED", "COUNT"],
     said: "SEED COUNT",
-    options: LED,
+    options: &[b"--mergers", b"--burst", b"--merge"],
 };
 
 /// Tells the first of the words behind a command that doesn't fit, or what is missing.
@@ -92,7 +93,7 @@ struct Reading {
     /// The option whose value comes next.
     waits: Option<&'static [u8]>,
     /// The options that were given.
-    given: [bool; 3],
+    given: [bool; MOST_OPTIONS],
 }
 
 impl Reading {
@@ -102,7 +103,7 @@ impl Reading {
             names: 0,
             behind: false,
             waits: None,
-            given: [false; 3],
+            given: [false; MOST_OPTIONS],
         }
     }
 
@@ -153,10 +154,10 @@ impl Reading {
             return false;
         };
         let option = self.form.options.get(place).copied().unwrap_or(b"");
-        if place < 3 && self.given[place] {
+        if place < MOST_OPTIONS && self.given[place] {
             return tell_word(page, TWICE, option);
         }
-        if place < 3 {
+        if place < MOST_OPTIONS {
             self.given[place] = true;
         }
         if end == word.len() {

@@ -2,7 +2,7 @@
 //!
 //! A [`Page`] is a text for standard error, line by line. The other calls put on a page what belongs to a fault: the forms of the
 //! commands ([`usage`]), the line of a policy with its fault marked, the forms that such a line may have and the word that doesn't
-//! fit ([`policy`]), what is odd in a policy without fault ([`lint`]), what a file is that is no capture, or whose packets have no Ethernet header, and how to get one ([`capture`]),
+//! fit ([`policy`]), the same of a text of graphs ([`graph`]), what is odd in a policy without fault ([`lint`]), what a file is that is no capture, or whose packets have no Ethernet header, and how to get one ([`capture`]),
 //! and why the system refuses a file ([`files`]). The forms stand there as texts, which are both
 //! shown and compared with.
 //!
@@ -15,11 +15,13 @@ pub mod capture_ng;
 pub mod files;
 mod forms;
 mod given;
+pub mod graph;
 mod hints;
 mod lines;
 pub mod lint;
 mod page;
 pub mod policy;
+mod quotes;
 mod release;
 mod settings;
 mod shown;

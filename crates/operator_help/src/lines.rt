@@ -43,6 +43,28 @@ impl<'a> Row<'a> {
         }
     }
 
+    /// The first word from a column on, and the column at which it begins. Behind the last word it is empty.
+    pub fn word_from(&self, column: usize) -> (usize, &'a [u8]) {
+        let (start, end) = next_word(self.said, column);
+        (start, part(self.said, start, end))
+    }
+
+    /// The column of the first word like this behind the first word, or nothing.
+    pub fn column_of(&self, word: &[u8]) -> Option<usize> {
+        let mut column = self.word(0).len().saturating_add(self.column(0));
+        for _ in 0..self.said.len() {
+            let (start, found) = self.word_from(column);
+            if found.is_empty() {
+                return None;
+            }
+            if found == word {
+                return Some(start);
+            }
+            column = start.saturating_add(found.len());
+        }
+        None
+    }
+
     /// The place of the word at a column.
     pub fn place_at(&self, column: usize) -> Option<usize> {
         let mut last = 0;

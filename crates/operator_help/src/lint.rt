@@ -2,7 +2,8 @@
 
 use crate::lines::{place_of, row_at};
 use crate::page::Page;
-use crate::policy::{PolicyText, quote_row};
+use crate::policy::PolicyText;
+use crate::quotes::quote_row;
 use policy_lint::Finding;
 
 /// Tells each finding: its line, what it means, and how to say it otherwise.

@@ -1,9 +1,9 @@
 //! What is wrong with a policy, and what its lines may be.
 
-use crate::files::{Sign, sign_of};
 use crate::forms::{ALL_CLAUSES, forms_of_line};
-use crate::lines::{Row, place_of, row_at, until};
+use crate::lines::{Row, place_of, row_at};
 use crate::page::Page;
+use crate::quotes::{Otherwise, quote_byte, quote_first, quote_row, say_sign, tells_mark};
 pub use crate::settings::bad_setting;
 use crate::settings::{kind_at, say_kind_forms, say_word};
 use action_profile::KINDS;
@@ -18,17 +18,17 @@ const CYCLE: &str =
 const FORBIDDEN: &str =
     "what `{}` does depends on what `{}` did before; write the order that you mean:\n  order {} before {}\n  order {} before {}";
 
-const NOT_UTF8: &str =
-    "a byte here isn't UTF-8; save the file as UTF-8, as by `iconv -f latin1 -t utf-8 OLD >NEW` where it is Latin-1";
-
-const BYTE_ORDER_MARK: &str =
-    "{} begins with a byte order mark (the bytes EF BB BF), which some editors put before a text\nsave it without one, or take it away by: tail -c +4 {} >NEW";
-
-const UTF16: &str =
-    "it begins with a byte order mark of UTF-16: save the file as UTF-8, without a byte order mark";
-
 const CAPTURE: &str =
     "it is a capture: the policy stands first, as in `nfp run POLICY CAPTURE OUT REPORT`";
+
+const GRAPHS: &str =
+    "it is a text of graphs, which stands behind `--graph`; the policy stands first, as in `nfp plan POLICY --graph NAME`";
+
+const OTHERWISE: Otherwise = Otherwise {
+    capture: CAPTURE,
+    policy: "",
+    graphs: GRAPHS,
+};
 
 const IN_FUNCTION: &str =
     "a line `{}` stands behind the line `fn NAME KIND` of its function, in the same chain";
@@ -53,7 +53,8 @@ const RULES: &str = "a function has at most 256 rules";
 
 const VERSION_LINE: &str = "the first line has to be `nfp 1`";
 
-const NAMES: &str = "a NAME has 1 to 32 characters of a to z, 0 to 9, _ and -, a letter first";
+/// What a name is.
+pub const NAMES: &str = "a NAME has 1 to 32 characters of a to z, 0 to 9, _ and -, a letter first";
 
 const UNKNOWN_KIND: &str = "`{}` is no kind";
 
@@ -85,7 +86,10 @@ pub fn text_fault(page: &mut Page, policy: PolicyText<'_>, fault: TextFault) {
         rows: &rows,
     };
     match fault {
-        TextFault::NotUtf8(place) => not_utf8(page, policy, place),
+        TextFault::NotUtf8(place) => {
+            quote_byte(page, policy.name, policy.text, place);
+            say_sign(page, policy.text, OTHERWISE);
+        }
         TextFault::BadVersionLine => bad_version_line(page, policy, lines),
         TextFault::Syntax(line, column) => syntax(page, lines, line, column as usize),
         TextFault::UnknownKind(line) => unknown_kind(page, lines, line),
@@ -102,7 +106,7 @@ pub fn text_fault(page: &mut Page, policy: PolicyText<'_>, fault: TextFault) {
 pub fn too_long(page: &mut Page, policy: PolicyText<'_>) {
     page.tell(LONG);
     page.name(policy.name);
-    say_sign(page, policy);
+    say_sign(page, policy.text, OTHERWISE);
 }
 
 /// A chain, counted from 0, whose statements go round in a circle.
@@ -151,14 +155,6 @@ fn is_statement(row: Row<'_>) -> bool {
 
 const STATEMENTS: &[&[u8]] = &[b"order", b"priority", b"position"];
 
-/// Adds a line of the policy, with its number.
-pub fn quote_row(page: &mut Page, name: &str, row: Row<'_>, mark: Option<usize>) {
-    page.tell("{}, line {}:");
-    page.name(name);
-    page.number(u64::from(row.number));
-    page.quote(row.text, mark);
-}
-
 // A line that is one too many of its kind.
 fn limit(page: &mut Page, lines: Lines<'_>, line: u32, text: &'static str) {
     let row = row_at(lines.rows, place_of(lines.rows, line));
@@ -166,52 +162,12 @@ fn limit(page: &mut Page, lines: Lines<'_>, line: u32, text: &'static str) {
     page.tell(text);
 }
 
-// The byte at a place is no UTF-8.
-fn not_utf8(page: &mut Page, policy: PolicyText<'_>, place: usize) {
-    let mut start = 0;
-    let mut number = 1u32;
-    for (at, byte) in policy.text.iter().enumerate() {
-        if at < place && *byte == b'\n' {
-            start = at.saturating_add(1);
-            number = number.saturating_add(1);
-        }
-    }
-    let rest = &policy.text[start.min(policy.text.len())..];
-    let row = Row::new(number, &rest[..until(rest, b'\n')]);
-    quote_row(page, policy.name, row, Some(place.saturating_sub(start)));
-    page.tell(NOT_UTF8);
-    say_sign(page, policy);
-}
-
-// What else the file is, where that can be told.
-fn say_sign(page: &mut Page, policy: PolicyText<'_>) {
-    match sign_of(policy.text) {
-        Sign::Pcap | Sign::Pcapng => page.tell(CAPTURE),
-        Sign::Utf16 => page.tell(UTF16),
-        _ => {}
-    }
-}
-
 // The first line isn't `nfp 1`.
 fn bad_version_line(page: &mut Page, policy: PolicyText<'_>, lines: Lines<'_>) {
-    if matches!(sign_of(policy.text), Sign::Utf8) {
-        page.tell(BYTE_ORDER_MARK);
-        page.name(policy.name);
-        page.name(policy.name);
-    } else {
-        quote_first(page, lines);
+    if !tells_mark(page, policy.name, policy.text) {
+        quote_first(page, lines.name, lines.rows);
         page.tell(VERSION_LINE);
-        say_sign(page, policy);
-    }
-}
-
-fn quote_first(page: &mut Page, lines: Lines<'_>) {
-    match lines.rows.first() {
-        Some(row) => quote_row(page, lines.name, *row, Some(row.column(0))),
-        None => {
-            page.tell("{} has no line");
-            page.name(lines.name);
-        }
+        say_sign(page, policy.text, OTHERWISE);
     }
 }
 
@@ -336,8 +292,8 @@ fn unknown_name(page: &mut Page, lines: Lines<'_>, line: u32) {
     }
 }
 
-// Of these lines those from the last `chain` on.
-fn since_chain<'r, 'a>(rows: &'r [Row<'a>]) -> &'r [Row<'a>] {
+/// Of these lines those from the last `chain` on.
+pub fn since_chain<'r, 'a>(rows: &'r [Row<'a>]) -> &'r [Row<'a>] {
     let mut start = 0;
     for (at, row) in rows.iter().enumerate() {
         if row.begins_with(b"chain") {
@@ -347,8 +303,8 @@ fn since_chain<'r, 'a>(rows: &'r [Row<'a>]) -> &'r [Row<'a>] {
     &rows[start.min(rows.len())..]
 }
 
-// The first of these lines that declares a function of this name.
-fn declaring<'a>(rows: &[Row<'a>], name: &[u8]) -> Option<Row<'a>> {
+/// The first of these lines that declares a function of this name.
+pub fn declaring<'a>(rows: &[Row<'a>], name: &[u8]) -> Option<Row<'a>> {
     for row in rows {
         if row.declares(name) {
             return Some(*row);

@@ -4,7 +4,8 @@ use crate::forms::{article_of, best_misfit, clauses_of, forms_of, required_of};
 use crate::hints::hint_of;
 use crate::lines::{Row, last_before, place_of, row_at, rows_behind};
 use crate::page::Page;
-use crate::policy::{PolicyText, quote_row, say_forms};
+use crate::policy::{PolicyText, say_forms};
+use crate::quotes::quote_row;
 use action_profile::Kind;
 
 const MISSING: &str = "a line is missing that {} {} can't be without, or it is wrong: it needs {}";

@@ -28,6 +28,7 @@ const ROWS: &[Row<'static>] = &[
     // A flow that comes again keeps its place.
     Row {
         calls: CALLS,
+        graph: b"",
         policy: b"",
         capture: Capture {
             head: &HEAD,
@@ -52,6 +53,7 @@ const ROWS: &[Row<'static>] = &[
     // A flow of IPv6 isn't exported.
     Row {
         calls: CALLS,
+        graph: b"",
         policy: b"",
         capture: Capture {
             head: &HEAD,
@@ -68,6 +70,7 @@ const ROWS: &[Row<'static>] = &[
     },
     Row {
         calls: &[&["flows", "c", "o", "--workers", "17"]],
+        graph: b"",
         policy: b"",
         capture: NOTHING,
         outcome: "Usage(Number(Workers))",

@@ -122,6 +122,7 @@ fn watched(
 ) -> MemDesk {
     let given = Given {
         policy,
+        graph: b"",
         step: 4096,
         fails: &[],
     };

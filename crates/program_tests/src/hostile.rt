@@ -26,6 +26,7 @@ fn failing(
 ) -> (Outcome, MemDesk) {
     let given = Given {
         policy,
+        graph: b"",
         step: 4096,
         fails,
     };

@@ -16,6 +16,7 @@ const CAPTURE: Capture<'static> = Capture {
 
 const COUNTED: Row<'static> = Row {
     calls: WAYS,
+    graph: b"",
     policy: b"nfp 1\nchain main\nfn m monitor\nfn h hop\n",
     capture: CAPTURE,
     outcome: "Done",

@@ -9,6 +9,8 @@ mod flows;
 #[cfg(test)]
 mod gates;
 #[cfg(test)]
+mod graphs;
+#[cfg(test)]
 mod hostile;
 #[cfg(test)]
 mod ipv6;

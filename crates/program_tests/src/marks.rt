@@ -11,6 +11,7 @@ const NINTH: Datagram<'static> = Datagram {
 
 const MARKED: &[Row<'static>] = &[Row {
     calls: WAYS,
+    graph: b"",
     policy: b"nfp 1\nchain main\nfn m1 marker\nrule tos 8\nfn m2 marker\nrule tos 16 src 10.0.0.9\n",
     capture: Capture {
         head: &HEAD,
@@ -50,6 +51,7 @@ const SECRET: Datagram<'static> = Datagram {
 
 const SEARCHED: &[Row<'static>] = &[Row {
     calls: WAYS,
+    graph: b"",
     policy: b"nfp 1\nchain main\nfn sig signature\nrule text worm\nrule text trojan\nrule text botnet\nrule text spy\nrule text root\nrule hex cafebabe\nrule hex 90909090\nrule text evil\nrule text villain\nfn red redactor\nrule text secret\n",
     capture: Capture {
         head: &HEAD,
@@ -83,6 +85,7 @@ fn a_payload_is_searched_and_redacted_side_by_side(rt: HostRuntime) {
 
 const DENIED: &[Row<'static>] = &[Row {
     calls: WAYS,
+    graph: b"",
     policy: b"nfp 1\nchain main\nfn fw firewall\nrule deny src 10.0.0.9\nfn sig signature\nrule text evil\n",
     capture: Capture {
         head: &HEAD,
@@ -127,6 +130,7 @@ const THREE_TAGS: Packet<'static> = Packet::Frame(
 
 const TAGGED: &[Row<'static>] = &[Row {
     calls: WAYS,
+    graph: b"",
     policy: b"nfp 1\nchain main\nfn t tagger\nrule vid 7 pcp 0\n",
     capture: Capture {
         head: &HEAD,
@@ -150,6 +154,7 @@ fn a_tag_is_put_before_the_others(rt: HostRuntime) {
 
 const LIVED: &[Row<'static>] = &[Row {
     calls: WAYS,
+    graph: b"",
     policy: b"nfp 1\nchain main\nfn h hop\n",
     capture: Capture {
         head: &HEAD,

@@ -97,6 +97,7 @@ const ONLY_HEADS: Capture<'static> = Capture {
 
 const PASSED: Row<'static> = Row {
     calls: WAYS,
+    graph: b"",
     policy: b"nfp 1\n",
     capture: BLOCKS,
     outcome: "Done",

@@ -68,6 +68,7 @@ const SLOWED: &[Row<'static>] = &[Row {
             "r",
         ],
     ],
+    graph: b"",
     policy: b"nfp 1\nchain main\nfn lim limiter\nset rate 14\nset burst 28\nfn n nat\nset inside 10.0.0.0/8\nset public 192.0.2.1\nset ports 40000-40004\norder lim before n\n",
     capture: Capture {
         head: &HEAD,
@@ -160,6 +161,7 @@ const NO_CHAINS: &[Row<'static>] = &[Row {
         &["run", "--mergers", "2", "--", "p", "c", "-o", "-r"],
         &["run", "--mergers", "16", "--", "p", "c", "-o", "-r"],
     ],
+    graph: b"",
     policy: b"nfp 1\n",
     capture: THREE,
     outcome: "Done",
@@ -197,6 +199,7 @@ const DEMO: &[Row<'static>] = &[Row {
             "inbox",
         ],
     ],
+    graph: b"",
     policy: b"",
     capture: NOTHING,
     outcome: "Done",

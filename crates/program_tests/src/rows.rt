@@ -63,6 +63,8 @@ pub const WAYS: &[Words<'static>] = &[
 #[derive(Clone, Copy)]
 pub struct Row<'a> {
     pub calls: &'a [Words<'a>],
+    /// The text of graphs, for calls whose words name one.
+    pub graph: &'a [u8],
     pub policy: &'a [u8],
     pub capture: Capture<'a>,
     /// The outcome, as it is printed for programmers.
@@ -95,10 +97,11 @@ fn call<R: Threads + Wait + Clock + Sync, D: Desk, G: Gate + Sync>(
     nfp(rt, alloc, words, desk, gate)
 }
 
-/// What a desk holds and does: its policy, the most bytes that a call moves, and the calls that fail.
+/// What a desk holds and does: its policy and its graphs, the most bytes that a call moves, and the calls that fail.
 #[derive(Clone, Copy)]
 pub struct Given<'a> {
     pub policy: &'a [u8],
+    pub graph: &'a [u8],
     pub step: u16,
     pub fails: &'a [(Slot, u64)],
 }
@@ -115,9 +118,10 @@ pub fn run(
     let alloc = rt.alloc();
     let words = words(rt, alloc, texts);
     let policy = had(rt, given.policy.to_vec(alloc));
+    let graph = had(rt, given.graph.to_vec(alloc));
     let fails = had(rt, given.fails.to_vec(alloc));
     let step = usize::from(given.step).max(1);
-    let mut desk = MemDesk::new(alloc, policy, capture, step, fails);
+    let mut desk = MemDesk::new(alloc, policy, capture, step, fails).with_graph(graph);
     let outcome = call(rt, alloc, &words, &mut desk, gate);
     (outcome, desk)
 }
@@ -140,6 +144,7 @@ fn compare_call(
     let capture = row.capture.bytes(rt, rt.alloc());
     let given = Given {
         policy: row.policy,
+        graph: row.graph,
         step: 7,
         fails: &[],
     };
@@ -194,6 +199,7 @@ fn compare_failing_call(
     let capture = failure.capture.bytes(rt, rt.alloc());
     let given = Given {
         policy: failure.policy,
+        graph: b"",
         step: 4096,
         fails: &[failure.fails],
     };

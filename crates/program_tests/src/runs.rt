@@ -14,6 +14,7 @@ const FIRST_AND_THIRD: Capture<'static> = Capture {
 
 const FILTERED: Row<'static> = Row {
     calls: &[RUN],
+    graph: b"",
     policy: POLICY,
     capture: THREE,
     outcome: "Done",
@@ -111,6 +112,7 @@ fn each_order_and_unit_is_carried(rt: HostRuntime) {
 
 const PLANNED: Row<'static> = Row {
     calls: &[&["plan", "p"]],
+    graph: b"",
     policy: b"nfp 1\nchain main\nfn sig signature\nfn fw firewall\npriority sig > fw\nchain rest match proto tcp\n",
     capture: NOTHING,
     outcome: "Done",
@@ -141,6 +143,7 @@ fn a_plan_shows_each_chain_in_order(rt: HostRuntime) {
 
 const NO_COMMAND: Row<'static> = Row {
     calls: &[&[]],
+    graph: b"",
     policy: POLICY,
     capture: THREE,
     outcome: "Usage(NoCommand)",
@@ -196,6 +199,7 @@ fn words_that_are_no_command_are_told(rt: HostRuntime) {
 
 const NO_VERSION: Row<'static> = Row {
     calls: &[RUN],
+    graph: b"",
     policy: b"",
     capture: THREE,
     outcome: "Policy(Text(BadVersionLine))",

@@ -53,8 +53,10 @@ pub const BESIDE: &[u8] =
 pub const BEHIND: &[u8] =
     b"nfp 1\nchain main\nfn mon monitor\nfn fw firewall\nrule deny src 10.0.0.9\norder fw before mon\n";
 
-const COUNTED: Row<'static> = Row {
+/// The first row of all: a monitor beside a firewall.
+pub const COUNTED: Row<'static> = Row {
     calls: COUNTED_WAYS,
+    graph: b"",
     policy: BESIDE,
     capture: THREE,
     outcome: "Done",
@@ -78,6 +80,7 @@ fn a_monitor_counts_what_comes_to_it(rt: HostRuntime) {
 
 const UNSEEN: &[Row<'static>] = &[Row {
     calls: &[RUN],
+    graph: b"",
     policy: BESIDE,
     capture: NONE,
     outcome: "Done",
@@ -97,8 +100,10 @@ const TO_BACKEND: Packet<'static> = Packet::Udp(Datagram {
     ..FIRST
 });
 
-const BALANCED: &[Row<'static>] = &[Row {
+/// A monitor, a firewall and a balancer, in this order.
+pub const BALANCED: Row<'static> = Row {
     calls: &[RUN, ONE_BY_ONE],
+    graph: b"",
     policy: b"nfp 1\nchain main\nfn m monitor\nfn f firewall\nrule deny src 10.0.0.9\nfn b balancer\nset vip 10.0.0.2\nrule backend 10.9.0.1\nrule backend 10.9.0.2\n",
     capture: THREE,
     outcome: "Done",
@@ -108,12 +113,12 @@ const BALANCED: &[Row<'static>] = &[Row {
     },
     report: b"nfp report 1\ndrop 2 main f\nrecords 3 emitted 2 dropped 1\ncopies main dst 3\nfunction main m monitor\n  flow 17 10.0.0.1 1000 10.0.0.2 53 packets 2 bytes 56\n  flow 17 10.0.0.9 1000 10.0.0.2 53 packets 1 bytes 28\nfunction main f firewall\nfunction main b balancer\n  flow 17 10.0.0.1 1000 backend 10.9.0.1\nend\n",
     note: b"done records 3 emitted 2 dropped 1\n",
-}];
+};
 
 // The balancer writes its own copy of the destination, and the monitor beside it sees the one that was read.
 #[test]
 fn a_balancer_writes_its_own_copy(rt: HostRuntime) {
-    compare(&rt, BALANCED);
+    compare(&rt, &[BALANCED]);
 }
 
 // From the public address, instead of from 10.0.0.1.
@@ -127,6 +132,7 @@ const LED_OUT: Packet<'static> = Packet::Udp(Datagram {
 // A firewall beside a signature, and a translation in a stage of its own behind them.
 const IN_STAGES: Row<'static> = Row {
     calls: &[RUN, ONE_BY_ONE],
+    graph: b"",
     policy: b"nfp 1\nchain main\nfn fw firewall\nrule deny src 10.0.0.9\nfn sig signature\nfn n nat\nset inside 10.0.0.0/8\nset public 192.0.2.1\nset ports 40000-40000\n",
     capture: THREE,
     outcome: "Done",
@@ -172,6 +178,7 @@ const ANSWER: Datagram<'static> = Datagram {
 
 const TRANSLATED: &[Row<'static>] = &[Row {
     calls: &[RUN],
+    graph: b"",
     policy: b"nfp 1\nchain main\nfn n nat\nset inside 10.0.0.0/8\nset public 192.0.2.1\nset ports 40000-40000\n",
     capture: Capture {
         head: &HEAD,
@@ -221,6 +228,7 @@ const NO_PORTS: Capture<'static> = Capture {
 
 const UNTRANSLATED: &[Row<'static>] = &[Row {
     calls: &[RUN],
+    graph: b"",
     policy: b"nfp 1\nchain main\nfn n nat\nset inside 10.0.0.0/8\nset public 192.0.2.1\nset ports 40000-40000\nfn f firewall\nrule deny sport 0-65535\n",
     capture: NO_PORTS,
     outcome: "Done",

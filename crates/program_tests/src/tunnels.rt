@@ -31,6 +31,7 @@ const MARKED: &[u8] = &[
 
 const ENTRY: Row<'static> = Row {
     calls: WAYS,
+    graph: b"",
     policy: b"nfp 1\nchain main\nfn e encap\nset entry 192.0.2.1\nset exit 192.0.2.2\nset ttl 64\n",
     capture: CAPTURE,
     outcome: "Done",

@@ -1,7 +1,8 @@
 use Rattle.std.proofs.Common.{◌∙◌, ap, sym, subst}
 use Rattle.std.specs.Prelude.{Ok}
-use Rattle.command_words.specs.Named.{command_seen}
+use Rattle.command_words.specs.Named.{command_seen, plan_seen}
 use Rattle.nfp_run.specs.Ran.{Ran}
+use Rattle.nfp_run.proofs.ShownPlans.{plan_ran}
 use Rattle.nfp_run.proofs.commands.run_words.Goals as goal
 
 pub returns-in-Ok-Run : goal.returns-in-Ok-Run
@@ -18,9 +19,17 @@ returns-in-Ok-Run g c = record {
         usage = λ fault x. absurd (c.run.ensures.no_usage fault x);
         usage_always = λ fault x. absurd cc;
         refused = c.run.ensures.refused;
+        graph_refused = c.run.ensures.graph_refused;
         policy = c.run.ensures.policy;
         read_faults = c.run.ensures.read_faults;
         write_faults = c.run.ensures.write_faults;
         no_note_fault = c.run.ensures.no_note_fault;
       });
+}
+
+pub returns-in-Ok-Plan : goal.returns-in-Ok-Plan
+returns-in-Ok-Plan g c = record {
+  ran = subst (λ command. Ran command (g.D.Desk.slots c.args.desk.now) (g.D.Desk.slots c.plan.new.desk) c.plan.result)
+      (sym (c.in-Ok-Plan.ensures.reads ∙ ap (λ x. Ok (command_seen x)) c.in-Ok-Plan.field-0-is))
+      (plan_ran (plan_seen c.in-Ok-Plan.names) (g.D.Desk.slots c.args.desk.now) (g.D.Desk.slots c.plan.new.desk) c.plan.result c.requires c.plan.ensures.policy_name c.plan.ensures.graph_name c.plan.ensures.others c.plan.ensures.ends);
 }

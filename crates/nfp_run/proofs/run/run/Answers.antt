@@ -8,18 +8,18 @@ use Rattle.nfp_run.specs.Answers.{RunAttaches}
 use Rattle.nfp_run.specs.Closing.{outcome_seen}
 use Rattle.nfp_run.proofs.Attaching.{refused_attaches, run_attaches}
 use Rattle.nfp_run.proofs.EndedRuns.{IsLed, opens_so, run_ends, run_prefixes, run_write_faults}
-use Rattle.nfp_run.proofs.OtherSlots.{capture_is_not_policy, out_is_not_policy, report_is_not_policy, out_is_not_capture, report_is_not_capture}
+use Rattle.nfp_run.proofs.OtherSlots.{capture_is_not_graph, capture_is_not_policy, out_is_not_graph, out_is_not_policy, report_is_not_graph, report_is_not_policy, out_is_not_capture, report_is_not_capture}
 use Rattle.nfp_run.proofs.run.run.Goals as goal
 
 pub returns-clause-prefixes : goal.returns-clause-prefixes
 returns-clause-prefixes g c = run_prefixes (names_seen c.args.names.now) c.args.options (chains_of c.in-Ok.service.chains) _ c.attach_and_run.result
     (g.D.Desk.slots c.args.desk.now) (g.D.Desk.slots c.open_capture.new.desk) (g.D.Desk.slots c.attach_and_run.new.desk)
     (record {
-      runs = c.in-Ok.ensures.read;
-      told = subst (λ v. IfSome v.bytes (IsLed (chains_of c.in-Ok.service.chains) (opened_led (chains_of c.in-Ok.service.chains) c.in-Ok-open_capture.opened (g.D.Desk.slots c.open_capture.new.desk Capture)))) (c.read_service.ensures.others Capture capture_is_not_policy)
+      serves = c.in-Ok.ensures.serves;
+      told = subst (λ v. IfSome v.bytes (IsLed (chains_of c.in-Ok.service.chains) (opened_led (chains_of c.in-Ok.service.chains) c.in-Ok-open_capture.opened (g.D.Desk.slots c.open_capture.new.desk Capture)))) (c.read_service.ensures.others Capture capture_is_not_policy capture_is_not_graph)
           (opens_so (chains_of c.in-Ok.service.chains) _ c.in-Ok-open_capture.opened _ _ c.in-Ok-open_capture.ensures.ok);
-      same_out = c.open_capture.ensures.others Out out_is_not_capture ∙ c.read_service.ensures.others Out out_is_not_policy;
-      same_report = c.open_capture.ensures.others Report report_is_not_capture ∙ c.read_service.ensures.others Report report_is_not_policy;
+      same_out = c.open_capture.ensures.others Out out_is_not_capture ∙ c.read_service.ensures.others Out out_is_not_policy out_is_not_graph;
+      same_report = c.open_capture.ensures.others Report report_is_not_capture ∙ c.read_service.ensures.others Report report_is_not_policy report_is_not_graph;
     })
     c.attach_and_run.ensures.left
 
@@ -27,11 +27,11 @@ pub returns-clause-write_faults : goal.returns-clause-write_faults
 returns-clause-write_faults g c = run_write_faults (names_seen c.args.names.now) c.args.options (chains_of c.in-Ok.service.chains) _
     (g.D.Desk.slots c.args.desk.now) (g.D.Desk.slots c.open_capture.new.desk) (g.D.Desk.slots c.attach_and_run.new.desk) c.attach_and_run.result c.ending_of.result
     (record {
-      runs = c.in-Ok.ensures.read;
-      told = subst (λ v. IfSome v.bytes (IsLed (chains_of c.in-Ok.service.chains) (opened_led (chains_of c.in-Ok.service.chains) c.in-Ok-open_capture.opened (g.D.Desk.slots c.open_capture.new.desk Capture)))) (c.read_service.ensures.others Capture capture_is_not_policy)
+      serves = c.in-Ok.ensures.serves;
+      told = subst (λ v. IfSome v.bytes (IsLed (chains_of c.in-Ok.service.chains) (opened_led (chains_of c.in-Ok.service.chains) c.in-Ok-open_capture.opened (g.D.Desk.slots c.open_capture.new.desk Capture)))) (c.read_service.ensures.others Capture capture_is_not_policy capture_is_not_graph)
           (opens_so (chains_of c.in-Ok.service.chains) _ c.in-Ok-open_capture.opened _ _ c.in-Ok-open_capture.ensures.ok);
-      same_out = c.open_capture.ensures.others Out out_is_not_capture ∙ c.read_service.ensures.others Out out_is_not_policy;
-      same_report = c.open_capture.ensures.others Report report_is_not_capture ∙ c.read_service.ensures.others Report report_is_not_policy;
+      same_out = c.open_capture.ensures.others Out out_is_not_capture ∙ c.read_service.ensures.others Out out_is_not_policy out_is_not_graph;
+      same_report = c.open_capture.ensures.others Report report_is_not_capture ∙ c.read_service.ensures.others Report report_is_not_policy report_is_not_graph;
     })
     c.attach_and_run.ensures.cause c.ending_of.ensures
 
@@ -39,11 +39,11 @@ pub returns-clause-due : goal.returns-clause-due
 returns-clause-due g c = run_ends (names_seen c.args.names.now) c.args.options (chains_of c.in-Ok.service.chains) _ c.attach_and_run.result c.ending_of.result
     (g.D.Desk.slots c.args.desk.now) (g.D.Desk.slots c.open_capture.new.desk) (g.D.Desk.slots c.attach_and_run.new.desk)
     (record {
-      runs = c.in-Ok.ensures.read;
-      told = subst (λ v. IfSome v.bytes (IsLed (chains_of c.in-Ok.service.chains) (opened_led (chains_of c.in-Ok.service.chains) c.in-Ok-open_capture.opened (g.D.Desk.slots c.open_capture.new.desk Capture)))) (c.read_service.ensures.others Capture capture_is_not_policy)
+      serves = c.in-Ok.ensures.serves;
+      told = subst (λ v. IfSome v.bytes (IsLed (chains_of c.in-Ok.service.chains) (opened_led (chains_of c.in-Ok.service.chains) c.in-Ok-open_capture.opened (g.D.Desk.slots c.open_capture.new.desk Capture)))) (c.read_service.ensures.others Capture capture_is_not_policy capture_is_not_graph)
           (opens_so (chains_of c.in-Ok.service.chains) _ c.in-Ok-open_capture.opened _ _ c.in-Ok-open_capture.ensures.ok);
-      same_out = c.open_capture.ensures.others Out out_is_not_capture ∙ c.read_service.ensures.others Out out_is_not_policy;
-      same_report = c.open_capture.ensures.others Report report_is_not_capture ∙ c.read_service.ensures.others Report report_is_not_policy;
+      same_out = c.open_capture.ensures.others Out out_is_not_capture ∙ c.read_service.ensures.others Out out_is_not_policy out_is_not_graph;
+      same_report = c.open_capture.ensures.others Report report_is_not_capture ∙ c.read_service.ensures.others Report report_is_not_policy report_is_not_graph;
     })
     c.attach_and_run.ensures.left c.ending_of.ensures
 
@@ -56,6 +56,6 @@ returns-clause-attached g c =
 pub returns-in-Err-open_capture-clause-attached : goal.returns-in-Err-open_capture-clause-attached
 returns-in-Err-open_capture-clause-attached g c =
     refused_attaches c.in-Err-open_capture.outcome (g.D.Desk.slots c.read_service.new.desk Capture) (g.D.Desk.slots c.open_capture.new.desk Capture) (g.D.Desk.slots c.open_capture.new.desk) c.in-Err-open_capture.ensures.err (
-      ap (λ v. v.name) (c.open_capture.ensures.others Out out_is_not_capture ∙ c.read_service.ensures.others Out out_is_not_policy) ∙ c.requires.free Out,
-      ap (λ v. v.name) (c.open_capture.ensures.others Report report_is_not_capture ∙ c.read_service.ensures.others Report report_is_not_policy) ∙ c.requires.free Report,
+      ap (λ v. v.name) (c.open_capture.ensures.others Out out_is_not_capture ∙ c.read_service.ensures.others Out out_is_not_policy out_is_not_graph) ∙ c.requires.free Out,
+      ap (λ v. v.name) (c.open_capture.ensures.others Report report_is_not_capture ∙ c.read_service.ensures.others Report report_is_not_policy report_is_not_graph) ∙ c.requires.free Report,
     )

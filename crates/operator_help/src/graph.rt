@@ -1,0 +1,483 @@
+//! What is wrong with a text of graphs, and what its lines may be.
+
+use crate::lines::{Row, last_before, place_of, row_at, rows_behind};
+use crate::page::Page;
+use crate::policy::{NAMES, PolicyText, declaring, since_chain};
+use crate::quotes::{Otherwise, quote_byte, quote_first, quote_row, say_sign, tells_mark};
+use action_profile::{Kind, profile};
+use dependency_table::Action;
+use graph_text::GraphFault;
+use policy_text::is_name;
+
+const LONG: &str = "{}: a text of graphs has at most 1048576 bytes";
+
+const VERSION_LINE: &str = "the first line has to be `nfp-graph 1`";
+
+const OTHERWISE: Otherwise = Otherwise {
+    capture: "it is a capture: behind `--graph` stands a text of graphs",
+    policy: "it is a policy: behind `--graph` stands a text of graphs, whose first line is `nfp-graph 1`",
+    graphs: "",
+};
+
+const PLANNED: &str =
+    "is it what `nfp plan` prints? `tools/plan-to-graph` makes a text of graphs of that";
+
+const FORMS: &str =
+    "the lines of a text of graphs are:\n  nfp-graph 1\n  chain NAME\n  stage\n  branch NAME ..";
+
+const NO_LINE: &str =
+    "no line begins with `{}`: behind the first line each begins with one of: chain stage branch";
+
+const MISFIT: &str = "`{}` doesn't fit here";
+
+const NUMBERS: &str =
+    "`nfp plan` prints numbers behind `stage` and `branch`, and a text of graphs has none";
+
+const NO_CHAIN_YET: &str = "a line `stage` stands behind the line `chain NAME` of its chain";
+
+const NO_STAGE_YET: &str = "a line `branch` stands behind a line `stage`, in its chain";
+
+const NO_BRANCH: &str =
+    "a stage has one or more lines `branch NAME ..`, before the next stage and the next chain";
+
+const NO_CHAIN: &str = "the policy has no chain `{}`; its chains are:{}";
+
+const NO_FUNCTION: &str = "the chain `{}` has no function `{}`; its functions are:{}";
+
+const ELSEWHERE: &str = "the policy declares it in another chain:";
+
+const LISTED: &str = "the chain `{}` is listed before; all its stages stand behind one line:";
+
+const STANDS: &str = "the function `{}` stands already; each function stands once:";
+
+const STANDS_HERE: &str =
+    "the function `{}` stands in this line already; each function stands once";
+
+const WHOLE: &str =
+    "this function of the chain rewrites packets whole, so no graph of the chain can be written:";
+
+const LEFT_OUT: &str = "leave the chain out: one that the text doesn't list is compiled";
+
+const INTO_BRANCH: &str =
+    "write it into a branch, or leave the chain out: one that the text doesn't list is compiled";
+
+const MISSING: &str =
+    "`{}` stands in no branch, and a chain that is listed lists each of its functions:";
+
+const ORDER: &str =
+    "the order of the chain has `{}` before `{}`, so it stands in an earlier stage, or before it in one branch\n`nfp plan POLICY` prints the order; lines `order` of the policy make another one";
+
+const DROPS: &str =
+    "`{}` may drop a packet, and `{}` keeps a state: side by side it would count what is dropped";
+
+const WRITES: &str =
+    "`{}` writes what `{}` reads: side by side it would be read as it came, before it is written";
+
+const BEHIND: &str = "so `{}` stands behind it, in one branch or in a later stage:\n  branch {} {}";
+
+/// A text of graphs that was refused: the name of its file and its text as it was read, and the policy that it is for.
+#[derive(Clone, Copy)]
+pub struct GraphText<'a> {
+    pub name: &'a str,
+    pub text: &'a [u8],
+    pub policy: PolicyText<'a>,
+}
+
+// The name of a file and its lines that aren't blank, or some of them.
+#[derive(Clone, Copy)]
+struct Part<'r> {
+    name: &'r str,
+    rows: &'r [Row<'r>],
+}
+
+/// A text of graphs that isn't taken.
+pub fn fault(page: &mut Page, graph: GraphText<'_>, fault: GraphFault) {
+    let rows = page.rows(graph.text);
+    let declared = page.rows(graph.policy.text);
+    let text = Part {
+        name: graph.name,
+        rows: &rows,
+    };
+    let policy = Part {
+        name: graph.policy.name,
+        rows: &declared,
+    };
+    match fault {
+        GraphFault::TooLong => too_long(page, graph),
+        GraphFault::NotUtf8(place) => {
+            quote_byte(page, graph.name, graph.text, place);
+            say_sign(page, graph.text, OTHERWISE);
+        }
+        GraphFault::BadVersionLine => bad_version_line(page, graph, text),
+        GraphFault::Syntax(line) => syntax(page, text, line),
+        GraphFault::UnknownName(line) => unknown_name(page, text, policy, line),
+        GraphFault::Twice(line) => twice(page, text, line),
+        GraphFault::WholeChain(line) => whole_chain(page, text, policy, line),
+        GraphFault::Missing(chain, function) => missing(page, text, policy, chain, function),
+        GraphFault::OutOfOrder(chain, first, second) => {
+            let pair = pair_of(policy, chain, first, second);
+            quote_pair(page, text, pair);
+            out_of_order(page, pair);
+        }
+        GraphFault::Forbidden(chain, first, second, action, _) => {
+            let pair = pair_of(policy, chain, first, second);
+            quote_pair(page, text, pair);
+            forbidden(page, pair, action);
+        }
+    }
+}
+
+// A text of more than 1,048,576 bytes.
+fn too_long(page: &mut Page, graph: GraphText<'_>) {
+    page.tell(LONG);
+    page.name(graph.name);
+    say_sign(page, graph.text, OTHERWISE);
+}
+
+// The first line isn't `nfp-graph 1`.
+fn bad_version_line(page: &mut Page, graph: GraphText<'_>, text: Part<'_>) {
+    if tells_mark(page, graph.name, graph.text) {
+        return;
+    }
+    quote_first(page, text.name, text.rows);
+    page.tell(VERSION_LINE);
+    say_sign(page, graph.text, OTHERWISE);
+    if row_at(text.rows, 0).begins_with(b"chain") {
+        page.tell(PLANNED);
+    }
+}
+
+// A line that has no form, or stands where it can't.
+fn syntax(page: &mut Page, text: Part<'_>, line: u32) {
+    let place = place_of(text.rows, line);
+    let row = row_at(text.rows, place);
+    match misfit_of(row) {
+        Some(column) => say_misfit(page, text, row, column),
+        None => say_place(page, text, row, place),
+    }
+    page.tell(FORMS);
+}
+
+// The column of the first word that fits no form, or is missing.
+fn misfit_of(row: Row<'_>) -> Option<usize> {
+    match row.word(0) {
+        b"chain" => {
+            let place = if is_name(row.word(1)) { 2 } else { 1 };
+            column_unless(row, place, is_name(row.word(1)) && row.word(2).is_empty())
+        }
+        b"stage" => column_unless(row, 1, row.word(1).is_empty()),
+        b"branch" => column_of_no_name(row),
+        _ => Some(row.column(0)),
+    }
+}
+
+fn column_unless(row: Row<'_>, place: usize, fits: bool) -> Option<usize> {
+    if fits { None } else { Some(row.column(place)) }
+}
+
+// The column of the first word behind the first that is no name, or where one is missing.
+fn column_of_no_name(row: Row<'_>) -> Option<usize> {
+    if row.word(1).is_empty() {
+        return Some(row.column(1));
+    }
+    let mut column = row.column(1);
+    for _ in 0..row.text.len() {
+        let (start, word) = row.word_from(column);
+        if word.is_empty() {
+            return None;
+        }
+        if !is_name(word) {
+            return Some(start);
+        }
+        column = start.saturating_add(word.len());
+    }
+    None
+}
+
+// The word at a column doesn't fit, or is missing.
+fn say_misfit(page: &mut Page, text: Part<'_>, row: Row<'_>, column: usize) {
+    quote_row(page, text.name, row, Some(column));
+    let (start, word) = row.word_from(column);
+    if word.is_empty() {
+        page.tell("a word is missing here");
+        page.tell(NAMES);
+    } else if start == row.column(0) {
+        page.tell(NO_LINE);
+        page.word(word);
+    } else {
+        page.tell(MISFIT);
+        page.word(word);
+        page.tell(if is_number(word) { NUMBERS } else { NAMES });
+    }
+}
+
+fn is_number(word: &[u8]) -> bool {
+    for byte in word {
+        if !byte.is_ascii_digit() {
+            return false;
+        }
+    }
+    true
+}
+
+// A line that has a form stands where it can't. Of a stage without a branch the line behind it may have been meant as one.
+fn say_place(page: &mut Page, text: Part<'_>, row: Row<'_>, place: usize) {
+    quote_row(page, text.name, row, None);
+    if row.begins_with(b"branch") {
+        page.tell(NO_STAGE_YET);
+    } else if last_before(text.rows, place, b"chain").is_none() {
+        page.tell(NO_CHAIN_YET);
+    } else {
+        page.tell(NO_BRANCH);
+        say_next(page, text, row_at(rows_behind(text.rows, place), 0));
+    }
+}
+
+// A line that begins as a branch, and is none.
+fn say_next(page: &mut Page, text: Part<'_>, row: Row<'_>) {
+    if row.begins_with(b"branch")
+        && let Some(column) = column_of_no_name(row)
+    {
+        say_misfit(page, text, row, column);
+    }
+}
+
+// The policy has no such chain, or the chain has no such function.
+fn unknown_name(page: &mut Page, text: Part<'_>, policy: Part<'_>, line: u32) {
+    let place = place_of(text.rows, line);
+    let row = row_at(text.rows, place);
+    if row.begins_with(b"chain") {
+        quote_row(page, text.name, row, Some(row.column(1)));
+        page.tell(NO_CHAIN);
+        page.word(row.word(1));
+        say_names(page, policy.rows, b"chain");
+    } else if let Some(chain) = last_before(text.rows, place, b"chain") {
+        unknown_function(page, text, policy, row, chain.word(1));
+    }
+}
+
+fn unknown_function(page: &mut Page, text: Part<'_>, policy: Part<'_>, row: Row<'_>, chain: &[u8]) {
+    let here = chain_named(policy.rows, chain);
+    let (start, word) = undeclared(row, here);
+    quote_row(page, text.name, row, Some(start));
+    page.tell(NO_FUNCTION);
+    page.word(chain);
+    page.word(word);
+    say_names(page, here, b"fn");
+    if let Some(other) = declaring(policy.rows, word) {
+        page.tell(ELSEWHERE);
+        quote_row(page, policy.name, other, None);
+    }
+}
+
+// The first word behind the first that these lines don't declare as a function.
+fn undeclared<'a>(row: Row<'a>, rows: &[Row<'_>]) -> (usize, &'a [u8]) {
+    let mut column = row.column(1);
+    for _ in 0..row.text.len() {
+        let (start, word) = row.word_from(column);
+        if declaring(rows, word).is_none() {
+            return (start, word);
+        }
+        column = start.saturating_add(word.len());
+    }
+    row.word_from(column)
+}
+
+// The names behind the first word of the lines that begin with it.
+fn say_names(page: &mut Page, rows: &[Row<'_>], first: &[u8]) {
+    for row in rows {
+        if row.begins_with(first) {
+            page.push(b' ');
+            page.put(row.word(1));
+        }
+    }
+    page.go_on();
+}
+
+// A chain is listed again, or a function stands again.
+fn twice(page: &mut Page, text: Part<'_>, line: u32) {
+    let place = place_of(text.rows, line);
+    let row = row_at(text.rows, place);
+    if row.begins_with(b"chain") {
+        quote_row(page, text.name, row, Some(row.column(1)));
+        page.tell(LISTED);
+        page.word(row.word(1));
+        quote_row(page, text.name, line_of_chain(text.rows, row.word(1)), None);
+    } else {
+        stands_twice(page, text.name, row, since_chain(&text.rows[..place]));
+    }
+}
+
+// The first word of a branch that stands in these lines before it, or before it in its own.
+fn stands_twice(page: &mut Page, name: &str, row: Row<'_>, before: &[Row<'_>]) {
+    let mut column = row.column(1);
+    for _ in 0..row.text.len() {
+        let (start, word) = row.word_from(column);
+        if let Some((other, mark)) = holding(before, word) {
+            quote_row(page, name, row, Some(start));
+            page.tell(STANDS);
+            page.word(word);
+            quote_row(page, name, other, Some(mark));
+            return;
+        }
+        if row.column_of(word) != Some(start) {
+            quote_row(page, name, row, Some(start));
+            page.tell(STANDS_HERE);
+            page.word(word);
+            return;
+        }
+        column = start.saturating_add(word.len());
+    }
+}
+
+// The first of these lines that is a branch with a function, and the column of its name.
+fn holding<'a>(rows: &[Row<'a>], name: &[u8]) -> Option<(Row<'a>, usize)> {
+    for row in rows {
+        if row.begins_with(b"branch")
+            && let Some(column) = row.column_of(name)
+        {
+            return Some((*row, column));
+        }
+    }
+    None
+}
+
+// A chain with a function that rewrites packets whole.
+fn whole_chain(page: &mut Page, text: Part<'_>, policy: Part<'_>, line: u32) {
+    let row = row_at(text.rows, place_of(text.rows, line));
+    quote_row(page, text.name, row, Some(row.column(1)));
+    for each in chain_named(policy.rows, row.word(1)) {
+        if each.begins_with(b"fn") && is_whole(each.word(2)) {
+            page.tell(WHOLE);
+            quote_row(page, policy.name, *each, None);
+            page.tell(LEFT_OUT);
+            return;
+        }
+    }
+}
+
+fn is_whole(kind: &[u8]) -> bool {
+    match Kind::named(kind) {
+        Some(kind) => profile(kind).whole,
+        None => false,
+    }
+}
+
+// A function of a chain that is listed stands nowhere.
+fn missing(page: &mut Page, text: Part<'_>, policy: Part<'_>, chain: u32, function: u32) {
+    let here = chain_at(policy.rows, chain);
+    let row = function_at(here, function);
+    let listed = line_of_chain(text.rows, row_at(here, 0).word(1));
+    quote_row(page, text.name, listed, None);
+    page.tell(MISSING);
+    page.word(row.word(1));
+    quote_row(page, policy.name, row, None);
+    page.tell(INTO_BRANCH);
+}
+
+// The names of a chain and of two of its functions.
+#[derive(Clone, Copy)]
+struct Pair<'a> {
+    chain: &'a [u8],
+    first: &'a [u8],
+    second: &'a [u8],
+}
+
+fn pair_of<'a>(policy: Part<'a>, chain: u32, first: u32, second: u32) -> Pair<'a> {
+    let here = chain_at(policy.rows, chain);
+    Pair {
+        chain: row_at(here, 0).word(1),
+        first: function_at(here, first).word(1),
+        second: function_at(here, second).word(1),
+    }
+}
+
+// Quotes the lines in which two functions stand, that of the first in the chain first, or their one line.
+fn quote_pair(page: &mut Page, text: Part<'_>, pair: Pair<'_>) {
+    let here = chain_named(text.rows, pair.chain);
+    if let Some((row, mark)) = holding(here, pair.first) {
+        quote_row(page, text.name, row, Some(mark));
+        quote_other(page, text.name, row, holding(here, pair.second));
+    }
+}
+
+// Quotes another line than this one.
+fn quote_other(page: &mut Page, name: &str, row: Row<'_>, other: Option<(Row<'_>, usize)>) {
+    if let Some((other, mark)) = other
+        && other.number != row.number
+    {
+        quote_row(page, name, other, Some(mark));
+    }
+}
+
+fn out_of_order(page: &mut Page, pair: Pair<'_>) {
+    page.tell(ORDER);
+    page.word(pair.first);
+    page.word(pair.second);
+}
+
+fn forbidden(page: &mut Page, pair: Pair<'_>, action: Action) {
+    page.tell(match action {
+        Action::Drop => DROPS,
+        _ => WRITES,
+    });
+    page.word(pair.first);
+    page.word(pair.second);
+    page.tell(BEHIND);
+    page.word(pair.second);
+    page.word(pair.first);
+    page.word(pair.second);
+}
+
+// The line that lists a chain, or an empty one.
+fn line_of_chain<'a>(rows: &[Row<'a>], name: &[u8]) -> Row<'a> {
+    row_at(chain_named(rows, name), 0)
+}
+
+// The lines of the first chain of this name, with that of the chain.
+fn chain_named<'r, 'a>(rows: &'r [Row<'a>], name: &[u8]) -> &'r [Row<'a>] {
+    for (place, row) in rows.iter().enumerate() {
+        if row.begins_with(b"chain") && row.word(1) == name {
+            return up_to_chain(&rows[place.min(rows.len())..]);
+        }
+    }
+    &rows[rows.len()..]
+}
+
+// The lines of the chain with this number, counted from 0, with that of the chain.
+fn chain_at<'r, 'a>(rows: &'r [Row<'a>], number: u32) -> &'r [Row<'a>] {
+    let mut chains = 0u32;
+    for (place, row) in rows.iter().enumerate() {
+        if row.begins_with(b"chain") {
+            if chains == number {
+                return up_to_chain(&rows[place.min(rows.len())..]);
+            }
+            chains = chains.saturating_add(1);
+        }
+    }
+    &rows[rows.len()..]
+}
+
+// The first of these lines, and those behind it up to the next chain.
+fn up_to_chain<'r, 'a>(rows: &'r [Row<'a>]) -> &'r [Row<'a>] {
+    for (place, row) in rows.iter().enumerate() {
+        if place > 0 && row.begins_with(b"chain") {
+            return &rows[..place.min(rows.len())];
+        }
+    }
+    rows
+}
+
+// The line of the function with this number, counted from 0, or an empty one.
+fn function_at<'a>(rows: &[Row<'a>], number: u32) -> Row<'a> {
+    let mut functions = 0u32;
+    for row in rows {
+        if row.begins_with(b"fn") {
+            if functions == number {
+                return *row;
+            }
+            functions = functions.saturating_add(1);
+        }
+    }
+    Row::new(0, b"")
+}

@@ -1,0 +1,82 @@
+//! Lines of a text that is refused, with what is wrong in them marked.
+
+use crate::files::{Sign, sign_of};
+use crate::lines::{Row, until};
+use crate::page::Page;
+
+const NOT_UTF8: &str =
+    "a byte here isn't UTF-8; save the file as UTF-8, as by `iconv -f latin1 -t utf-8 OLD >NEW` where it is Latin-1";
+
+const BYTE_ORDER_MARK: &str =
+    "{} begins with a byte order mark (the bytes EF BB BF), which some editors put before a text\nsave it without one, or take it away by: tail -c +4 {} >NEW";
+
+const UTF16: &str =
+    "it begins with a byte order mark of UTF-16: save the file as UTF-8, without a byte order mark";
+
+/// What is told of a file that is something else than the text that is due, or nothing.
+#[derive(Clone, Copy)]
+pub struct Otherwise {
+    pub capture: &'static str,
+    pub policy: &'static str,
+    pub graphs: &'static str,
+}
+
+/// Adds a line of a file, with its number.
+pub fn quote_row(page: &mut Page, name: &str, row: Row<'_>, mark: Option<usize>) {
+    page.tell("{}, line {}:");
+    page.name(name);
+    page.number(u64::from(row.number));
+    page.quote(row.text, mark);
+}
+
+/// The byte at a place is no UTF-8.
+pub fn quote_byte(page: &mut Page, name: &str, text: &[u8], place: usize) {
+    let mut start = 0;
+    let mut number = 1u32;
+    for (at, byte) in text.iter().enumerate() {
+        if at < place && *byte == b'\n' {
+            start = at.saturating_add(1);
+            number = number.saturating_add(1);
+        }
+    }
+    let rest = &text[start.min(text.len())..];
+    let row = Row::new(number, &rest[..until(rest, b'\n')]);
+    quote_row(page, name, row, Some(place.saturating_sub(start)));
+    page.tell(NOT_UTF8);
+}
+
+/// Adds the first of these lines, which isn't the one that has to stand there, or tells that there is none.
+pub fn quote_first(page: &mut Page, name: &str, rows: &[Row<'_>]) {
+    match rows.first() {
+        Some(row) => quote_row(page, name, *row, Some(row.column(0))),
+        None => {
+            page.tell("{} has no line");
+            page.name(name);
+        }
+    }
+}
+
+/// Whether a text begins with a byte order mark of UTF-8, which is told then.
+pub fn tells_mark(page: &mut Page, name: &str, text: &[u8]) -> bool {
+    if !matches!(sign_of(text), Sign::Utf8) {
+        return false;
+    }
+    page.tell(BYTE_ORDER_MARK);
+    page.name(name);
+    page.name(name);
+    true
+}
+
+/// What else the file is, where that can be told.
+pub fn say_sign(page: &mut Page, text: &[u8], otherwise: Otherwise) {
+    let said = match sign_of(text) {
+        Sign::Pcap | Sign::Pcapng => otherwise.capture,
+        Sign::Policy => otherwise.policy,
+        Sign::Graphs => otherwise.graphs,
+        Sign::Utf16 => UTF16,
+        _ => "",
+    };
+    if !said.is_empty() {
+        page.tell(said);
+    }
+}
