@@ -1,8 +1,8 @@
-# Completes the words of nfp in bash: commands, options, the ways of --merge, and files. tools/install puts it where bash-completion finds
+# Completes the words of nfp in bash: commands, options, the ways of --merge, and files, that of --graph too. tools/install puts it where bash-completion finds
 # it; without that: source tools/completion.bash
 
 _nfp() {
-    local word=$2 options=' --burst --merge --mergers ' due files=yes
+    local word=$2 options=' --burst --graph --merge --mergers ' due files=yes
     COMPREPLY=()
     if [[ $COMP_CWORD -eq 1 ]]; then
         local first='plan run flows demo'
@@ -11,10 +11,10 @@ _nfp() {
         return
     fi
     case ${COMP_WORDS[1]} in
-        plan) due=1 options= ;;
+        plan) due=1 options=' --graph ' ;;
         run) due=4 ;;
         flows) due=2 options=' --burst --workers ' ;;
-        demo) due=2 files= ;;
+        demo) due=2 files= options=' --burst --merge --mergers ' ;;
         *) return ;;
     esac
 
@@ -36,10 +36,14 @@ _nfp() {
         fi
     done
 
-    if [[ -n $option ]]; then
+    if [[ $option == --graph ]]; then
+        compopt -o default
+    elif [[ -n $option ]]; then
         [[ $option != --merge ]] || COMPREPLY=($(compgen -W 'inbox board' -- "${word#=}"))
     elif [[ -z $named && $word == --merge=* ]]; then
         COMPREPLY=($(compgen -W '--merge=inbox --merge=board' -- "$word"))
+    elif [[ -z $named && $word == --graph=* ]]; then
+        mapfile -t COMPREPLY < <(compgen -f -P --graph= -- "${word#--graph=}")
     elif [[ -z $named && ($word == -* || $names -ge $due) ]]; then
         COMPREPLY=($(compgen -W "$options" -- "$word"))
     elif [[ -n $files && $names -lt $due ]]; then

@@ -333,6 +333,36 @@ def shop():
     ]
 
 
+def farm():
+    """What was seen on the line to the servers of a web shop, and how many bytes of it were captured."""
+    shared, partner, ann, bob, eve, dan = '192.0.2.1', '198.51.100.40', '198.51.100.7', '198.51.100.8', '198.51.100.66', '198.51.100.9'
+
+    def asked(source, text, port=50001, **fields):
+        return plain(source, tcp(port, 443, PUSH_ACK, text), to=shared, **fields)
+
+    page, path = b'GET /index.html HTTP/1.1', b'GET /../../etc/passwd HTTP/1.1'
+    return [
+        ('ARP request of the gateway', arp_request('192.0.2.254', shared), None),
+        ('TCP SYN of a customer', plain(ann, tcp(50001, 443, SYN), to=shared), None),
+        ('the customer asks for a page', asked(ann, page), None),
+        ('TCP SYN of a second customer, with a mark of its own', plain(bob, tcp(50001, 443, SYN), to=shared, tos=184), None),
+        ('TCP SYN of a scanner', plain(SCANNER, tcp(4444, 443, SYN), to=shared), None),
+        ('a scanner asks for a file of the system', asked(SCANNER, path, 4445), None),
+        ('a third customer begins with such a question', asked(eve, path), None),
+        ('TCP SYN of a fourth customer', plain(dan, tcp(50001, 443, SYN), to=shared), None),
+        ('a piece of a partner\'s backup', plain(partner, tcp(50001, 873, PUSH_ACK, b'.' * 400), to='192.0.2.80'), None),
+        ('a question of the partner to a server', asked(partner, page), None),
+        ('the second customer sends a script', asked(bob, b'POST /note <script>alert(1)</script>', tos=184), None),
+        ('the same, ended inside the pattern', asked(bob, b'POST /note <scri'), None),
+        ('what a server answers', plain('10.9.0.1', tcp(443, 50001, SYN | ACK), to=ann), None),
+        ('a question with a quote, cut behind the pattern', asked(ann, b"GET /find?q=x' OR 1=1"), 71),
+        ('the same, cut inside the pattern', asked(ann, b"GET /find?q=x' OR 1=1"), 70),
+        ('the first customer in VLAN 10', asked(ann, page, tags=tag(VLAN_TAG, 10)), None),
+        ('ping of the first customer', plain(ann, echo(1), to=shared), None),
+        ('IPv6 ping', ping6(), None),
+    ]
+
+
 def both_versions():
     """What came to a site by both versions of IP, and how many bytes of it were captured."""
     web, shop = '192.0.2.80', '2001:db8:1::80'
@@ -637,5 +667,6 @@ MADE = {
     'redacted-secret': Capture('<', MICRO, 262144, [(n * 180_503, *record) for n, record in enumerate(logins())]),
     'tunnel': Capture('<', MICRO, 96, [(n * 180_503, *record) for n, record in enumerate(two_sites())]),
     'tenant-tags': Capture('<', MICRO, 96, [(n * 180_503, *record) for n, record in enumerate(provider_edge())]),
+    'hand-written': Capture('<', MICRO, 262144, [(n * 180_503, *record) for n, record in enumerate(farm())]),
     'plan': None,
 }

@@ -78,8 +78,14 @@ class Way(typing.NamedTuple):
     fate: packet_rules.Fate
 
 
+# The fields in their order, and the protocol among them, which rules look at too: that of the header that is outermost.
+SHOWN = [*policy_rules.FIELDS[:5], 'proto', *policy_rules.FIELDS[5:]]
+
+
 def fields_of(packet):
-    return {field: packet.get(field) for field in policy_rules.FIELDS if packet.has(field)}
+    values = {field: packet.get(field) for field in policy_rules.FIELDS if packet.has(field)}
+    values.update({} if packet.proto is None else {'proto': bytes([packet.proto])})
+    return {field: values[field] for field in SHOWN if field in values}
 
 
 def source_of(packet):
@@ -92,8 +98,8 @@ def source_of(packet):
 class Walk:
     """Leads the packets of a capture through the chains of a policy, one after another, and notes what each function does with each."""
 
-    def __init__(self, checked, capture, number=None):
-        self.chains, self.capture, self.records = packet_rules.Chains(checked), capture, capture.records
+    def __init__(self, checked, capture, number=None, graphs=None):
+        self.chains, self.capture, self.records = packet_rules.Chains(checked, graphs), capture, capture.records
         self.functions = {each.name: Function(chain.name, each) for chain, _ in checked for each in chain.functions}
         self.orders = {chain.name: [self.functions[name] for name in order] for chain, order in checked}
         self.fates, self.drops, self.number, self.way = [], [], number, None
@@ -131,7 +137,7 @@ class Walk:
         def look(name, cause, passes, packet):
             self.look(name, cause, passes, packet)
             after = fields_of(packet)
-            changes = [Change(field, before.get(field), after.get(field)) for field in policy_rules.FIELDS if before.get(field) != after.get(field)]
+            changes = [Change(field, before.get(field), after.get(field)) for field in SHOWN if before.get(field) != after.get(field)]
             steps.append(Step(self.functions[name], cause, passes, changes))
             before.clear()
             before.update(after)

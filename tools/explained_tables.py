@@ -3,6 +3,7 @@
 import struct
 import typing
 
+import explained
 import packet_rules
 
 # The columns of each table.
@@ -13,6 +14,7 @@ TABLES = {
     'rules': ('chain', 'function', 'line', 'rule', 'packets'),
     'drops': ('record', 'chain', 'function', 'reason', 'line', 'source'),
     'sources': ('chain', 'function', 'reason', 'line', 'source', 'packets'),
+    'fields': ('record', 'field', 'before', 'after'),
     'steps': ('record', 'step', 'chain', 'function', 'passes', 'reason', 'lines', 'field', 'before', 'after'),
     'differences': ('file', 'record', 'byte', 'is_cut', 'came', 'due'),
 }
@@ -42,6 +44,7 @@ SPELLED = {
     'link-dst': lambda value: value.hex(':'),
     'link-src': lambda value: value.hex(':'),
     'tag': tags_text,
+    'proto': lambda value: {packet_rules.TCP: 'tcp', packet_rules.UDP: 'udp'}.get(value[0], str(value[0])),
     'src': packet_rules.told,
     'dst': packet_rules.told,
     'payload': lambda value: value.hex(),
@@ -49,9 +52,9 @@ SPELLED = {
 
 
 def spelled(field, value):
-    """A value of a field, or an empty text where there is none."""
+    """A value of a field, or None where there is none."""
     if value is None:
-        return ''
+        return None
     return SPELLED[field](value) if field in SPELLED else str(packet_rules.number(value))
 
 
@@ -88,13 +91,23 @@ def dropped_in(walk):
 
 def totals_row(walk):
     dropped = dropped_in(walk)
-    fault = f'capture: {walk.capture.fault}' if walk.capture.fault else ''
+    fault = f'capture: {walk.capture.fault}' if walk.capture.fault else None
     return len(walk.fates), len(walk.fates) - dropped, dropped, walk.taken()[None], fault
+
+
+def field_rows(way):
+    """The fields as they were read and as they go out, where they do."""
+    if not way:
+        return
+    after = {} if way.fate.drop else explained.fields_of(packet_rules.Packet(way.fate.frame, 0))
+    for field in explained.SHOWN:
+        if field in way.fields or field in after:
+            yield way.record, field, spelled(field, way.fields.get(field)), spelled(field, after.get(field))
 
 
 def step_rows(way):
     for at, step in enumerate(way.steps, 1) if way else ():
-        lead = way.record, at, step.function.chain, step.function.name, int(step.passes), step.cause.reason, ' '.join(map(str, step.cause.lines))
+        lead = way.record, at, step.function.chain, step.function.name, int(step.passes), step.cause.reason, ' '.join(map(str, step.cause.lines)) or None
         if not step.changes:
             yield *lead, None, None, None
         for field, before, after in step.changes:
@@ -109,10 +122,11 @@ def rows(walk, differences):
         yield 'functions', (each.chain, each.name, each.kind, each.line, each.seen, each.dropped, each.changed)
         yield from (('rules', (each.chain, each.name, rule.line, rule.text, rule.packets)) for rule in each.rules())
     for record, function, cause, source in walk.drops:
-        yield 'drops', (record, function.chain, function.name, cause.reason, cause.lines[0] if cause.lines else None, source)
+        yield 'drops', (record, function.chain, function.name, cause.reason, cause.lines[0] if cause.lines else None, source or None)
     for function, cause, lot in walk.sources():
         lead = function.chain, function.name, cause.reason, cause.lines[0] if cause.lines else None
-        yield from (('sources', (*lead, source, packets)) for source, packets in lot)
+        yield from (('sources', (*lead, source or None, packets)) for source, packets in lot)
+    yield from (('fields', row) for row in field_rows(walk.way))
     yield from (('steps', row) for row in step_rows(walk.way))
     yield from (('differences', tuple(int(value) if isinstance(value, bool) else value for value in each)) for each in differences)
 

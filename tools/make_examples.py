@@ -3,15 +3,16 @@
 
     tools/make_examples.py                writes the capture, expected/ and plan.svg of each example
     tools/make_examples.py --check        writes nothing, and fails where a file is not what would be written, an example
-                                          of docs/POLICY.md is not what the rules say, or README.md shows a policy or a
-                                          report that is not in its example
+                                          of docs/POLICY.md or docs/GRAPHS.md is not what the rules say, or README.md shows
+                                          a policy or a report that is not in its example
     tools/make_examples.py --list NAME    prints a line for each record of this example: what it is, and what becomes of it
     tools/make_examples.py --page FOLDER  writes a folder like those of the examples for each table of packets in
                                           docs/POLICY.md
 
 The expected files are worked out here, with Python's standard library alone, and never taken from the program's own
 output: two accounts of the same rules that agree say more than one. policy_rules.py has those of the language,
-packet_rules.py those of the functions, and capture_rules.py those of captures. A capture is called in.pcap or in.pcapng by its format, and
+packet_rules.py those of the functions, graph_rules.py those of graphs, and capture_rules.py those of captures. Where an example has a file graphs, it is
+planned and run with these, and once without them, where the plan is another and the report tells other copies. A capture is called in.pcap or in.pcapng by its format, and
 what is written of it out.pcap or out.pcapng.
 """
 
@@ -21,6 +22,7 @@ import sys
 import blocks
 import capture_rules
 import frames
+import graph_rules
 import packet_rules
 import page_examples
 import plan_picture
@@ -28,7 +30,7 @@ import policy_rules
 from example_captures import MADE
 
 EXAMPLES = pathlib.Path(__file__).resolve().parent.parent / 'examples'
-PAGE, README = EXAMPLES.parent / 'docs' / 'POLICY.md', EXAMPLES.parent / 'README.md'
+PAGE, GRAPHS, README = EXAMPLES.parent / 'docs' / 'POLICY.md', EXAMPLES.parent / 'docs' / 'GRAPHS.md', EXAMPLES.parent / 'README.md'
 
 # What README.md shows.
 SHOWN = ['refused-policy/mended/policy', 'refused-policy/mended/expected/report.txt']
@@ -61,7 +63,11 @@ def files_of(folder, policy, capture):
     files = {expected / 'plan': policy_rules.plan(policy)[0].encode('ascii')}
     if capture is None:
         return files
-    due = packet_rules.answer(policy, capture)
+    graphs = graphs_in(folder)
+    due = packet_rules.answer(policy, capture, graphs)
+    if graphs is not None:
+        files[expected / 'graph-plan'] = graph_rules.plan(policy, graphs)[0].encode('ascii')
+        files[expected / 'compiled-report.txt'] = packet_rules.answer(policy, capture).report.encode('ascii')
     files[place_of_capture(folder) / f'in.{ending_of(capture)}'] = capture
     files[expected / 'note'] = f'{due.note}\n'.encode('ascii')
     files[expected / 'status'] = f'{due.status}\n'.encode('ascii')
@@ -71,10 +77,19 @@ def files_of(folder, policy, capture):
     return files
 
 
-def picture_of(policy):
-    """The picture of a policy's plan, or nothing where it is refused."""
-    plan, status = policy_rules.plan(policy)
-    return None if status else plan_picture.svg_of(plan, policy=policy).encode('utf-8')
+def graphs_in(folder):
+    """The text of the graphs of an example, or nothing where they are compiled."""
+    path = folder / 'graphs'
+    return path.read_bytes() if path.is_file() else None
+
+
+def pictures_of(folder, policy):
+    """The picture of a policy's plan, unless it is refused, and that of its graphs where there are any."""
+    graphs = graphs_in(folder)
+    plans = {'plan': policy_rules.plan(policy)} | ({} if graphs is None else {'graph-plan': graph_rules.plan(policy, graphs)})
+    for name, (plan, status) in plans.items():
+        if status == 0:
+            yield folder / f'{name}.svg', plan_picture.svg_of(plan, policy=policy).encode('utf-8')
 
 
 def all_files():
@@ -82,14 +97,12 @@ def all_files():
     for name, capture in MADE.items():
         policy = (EXAMPLES / name / 'policy').read_bytes()
         files.update(files_of(EXAMPLES / name, policy, bytes_of(capture)))
-        picture = picture_of(policy)
-        if picture is not None:
-            files[EXAMPLES / name / 'plan.svg'] = picture
+        files.update(pictures_of(EXAMPLES / name, policy))
     return files
 
 
-def page_examples_told():
-    return list(page_examples.examples_of(PAGE.read_text('ascii')))
+def page_examples_told(page=PAGE):
+    return list(page_examples.examples_of(page.read_text('ascii'), page == GRAPHS))
 
 
 def page_files(folder):
@@ -135,12 +148,12 @@ def check():
     stale = [path for path, data in files.items() if not path.is_file() or path.read_bytes() != data]
     for path in stale:
         print(f'{path.relative_to(EXAMPLES.parent)} is not what tools/make_examples.py writes')
-    faults = [(example, page_examples.untrue(example)) for example in page_examples_told()]
-    for example, due in faults:
+    faults = [(page, example, page_examples.untrue(example)) for page in (PAGE, GRAPHS) for example in page_examples_told(page)]
+    for page, example, due in faults:
         if due:
-            print(f'{PAGE.relative_to(EXAMPLES.parent)} says something else than the rules, for:')
-            print(f'{example.policy.decode()}\nwhich give:\n{due}')
-    return 1 if stale or unshown or any(due for _, due in faults) else 0
+            print(f'{page.relative_to(EXAMPLES.parent)} says something else than the rules, for:')
+            print(f'{example.policy.decode()}{(getattr(example, "graphs", None) or b"")!r}\nwhich give:\n{due}')
+    return 1 if stale or unshown or any(due for _, _, due in faults) else 0
 
 
 def main(words):

@@ -12,6 +12,7 @@ import struct
 import typing
 
 import capture_rules
+import graph_rules
 import policy_rules
 
 TCP, UDP = 6, 17
@@ -81,38 +82,45 @@ def header_of(frame, place):
     return Header(version, begin, size, proto, length, begin + size if has_transport else None, end)
 
 
-def fields_of(frame, behind_tags, header):
-    """The places of the fields that a frame with these tags and headers has, by the words that name them."""
+def data_offset(frame, header):
+    """The byte of a TCP header that tells where its data begin, or None where there is none."""
+    if header is None or header.transport is None or header.proto != TCP or header.transport + 12 >= header.end:
+        return None
+    return frame[header.transport + 12]
+
+
+# Of many frames few differ in where their fields stand.
+@functools.lru_cache(16384)
+def places_of(size, behind_tags, header, offset):
+    """The places of the fields that a frame of this size with these tags and headers has, by the words that name them."""
     places = {}
-    if len(frame) >= 6:
+    if size >= 6:
         places['link-dst'] = 0, 6
-    if len(frame) >= 12:
+    if size >= 12:
         places['link-src'] = 6, 12
     if behind_tags is not None:
         places['tag'] = 12, behind_tags
     if header is None:
         return places
-    for name, (begin, size) in PLACES[header.version].items():
-        if header.begin + begin + size <= len(frame):
-            places[name] = header.begin + begin, header.begin + begin + size
+    for name, (begin, length) in PLACES[header.version].items():
+        if header.begin + begin + length <= size:
+            places[name] = header.begin + begin, header.begin + begin + length
     if header.transport is None:
         return places
     for name, begin in ('sport', header.transport), ('dport', header.transport + 2):
         if begin + 2 <= header.end:
             places[name] = begin, begin + 2
-    payload = payload_place(frame, header)
+    payload = payload_place(header, offset)
     if payload is not None and payload <= header.end:
         places['payload'] = payload, header.end
     return places
 
 
-def payload_place(frame, header):
+def payload_place(header, offset):
     """Where the data behind the header of TCP or UDP begin, or None where the header doesn't say it."""
     if header.proto == UDP:
         return header.transport + 8
-    if header.transport + 12 >= header.end or frame[header.transport + 12] >> 4 < 5:
-        return None
-    return header.transport + 4 * (frame[header.transport + 12] >> 4)
+    return None if offset is None or offset >> 4 < 5 else header.transport + 4 * (offset >> 4)
 
 
 class Packet:
@@ -121,7 +129,7 @@ class Packet:
     def __init__(self, frame, time):
         behind_tags = type_place(frame)
         self.read, self.header, self.time = frame, header_of(frame, behind_tags), time
-        self.places = fields_of(frame, behind_tags, self.header)
+        self.places = places_of(len(frame), behind_tags, self.header, data_offset(frame, self.header))
         self.proto, self.length = (self.header.proto, self.header.length) if self.header else (None, None)
         self.values = {'proto': self.proto}  # of the fields that someone asked for, and of what is asked for like one
         self.written = set()  # the fields that got another value
@@ -628,8 +636,8 @@ class Piece(typing.NamedTuple):
 
 
 class Chain:
-    def __init__(self, policy, order):
-        self.name, self.clauses, self.order = policy.name, policy.clauses, order
+    def __init__(self, policy, order, graph=None):
+        self.name, self.clauses, self.order, self.graph = policy.name, policy.clauses, order, graph
         self.kinds = {each.name: each.kind for each in policy.functions}
         self.functions = {each.name: KINDS[each.kind](policy_rules.read_settings(each)) for each in policy.functions}
         self.copies = dict.fromkeys(policy_rules.FIELDS, 0)
@@ -637,16 +645,20 @@ class Chain:
 
     def piece(self, places):
         kinds = [self.kinds[name] for name in self.order]
-        stages = policy_rules.stages_in(kinds, places)
+        stages = policy_rules.stages_in(kinds, places) if self.graph is None else self.listed()
         copied = [copied_in([[kinds[place] for place in branch] for branch in stage]) for stage in stages]
         names = [{self.order[place] for branch in stage for place in branch} for stage in stages]
         return Piece([self.order[place] for place in places], policy_rules.is_whole(kinds[places[0]]), names, copied)
+
+    def listed(self):
+        """The stages of a graph that is written by hand: there is one piece then."""
+        return [[[self.order.index(name) for name in branch] for branch in stage] for stage in self.graph]
 
     def walk(self, packet, look=None):
         """The name of the function that drops the packet, or None, and the packet as the last piece that it entered left it. Who looks is told what
         each function did."""
         for place, piece in enumerate(self.pieces):
-            if place:
+            if place and packet.written:
                 packet = Packet(frame_of(packet), packet.time)
             if piece.is_whole:
                 packet = self.rewritten(piece, packet, look)
@@ -673,8 +685,8 @@ class Chain:
         (name,) = piece.names
         function = self.functions[name]
         function.step(packet)
-        after = Packet(function.frame, packet.time)
-        after.is_changed = function.frame != packet.read
+        after = packet if function.frame is packet.read else Packet(function.frame, packet.time)
+        after.is_changed = after is not packet
         if look:
             look(name, function.cause, True, after)
         return after
@@ -706,10 +718,10 @@ class Fate(typing.NamedTuple):
 
 
 class Chains:
-    """The chains of a policy, in the order of the text."""
+    """The chains of a policy, in the order of the text, of which some may have graphs that are written by hand."""
 
-    def __init__(self, checked):
-        self.all = [Chain(chain, order) for chain, order in checked]
+    def __init__(self, checked, graphs=None):
+        self.all = [Chain(chain, order, (graphs or {}).get(chain.name)) for chain, order in checked]
         self.first = FirstMet([chain.clauses for chain in self.all])
         kinds = [kind for chain in self.all for kind in chain.kinds.values()]
         self.growth = 4 * kinds.count('tagger') + 20 * kinds.count('encap')  # the most bytes by which frames get longer
@@ -748,17 +760,20 @@ def report_of(chains, fates, total, fault):
     yield f'fault {fault}' if fault else 'end'
 
 
-def answer(policy, data):
-    """What `nfp run` must write for a policy and a capture, whatever their bytes."""
+def answer(policy, data, graphs=None):
+    """What `nfp run` must write for a policy, a capture and a text of graphs, if there is one, whatever their bytes."""
     try:
         checked = policy_rules.check(policy)
+        listed = {} if graphs is None else graph_rules.read(graphs, checked)
     except policy_rules.Refused as refused:
         return nothing_but(f'policy: {refused}', 2)
+    except graph_rules.Refused as refused:
+        return nothing_but(f'graph: {refused}', 8)
     capture = capture_rules.read(data)
     fault = capture.fault and f'capture: {capture.fault}'
     if capture.is_refused:
         return nothing_but(fault, 3)
-    chains = Chains(checked)
+    chains = Chains(checked, listed)
     fates = [chains.fate(record.frame, record.time) for record in capture.records]
     return answered(chains, capture, fates, fault)
 

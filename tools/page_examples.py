@@ -1,6 +1,7 @@
-"""The examples of docs/POLICY.md: what the page says is printed, and what it says becomes of packets.
+"""The examples of docs/POLICY.md and docs/GRAPHS.md: what a page says is printed, and what it says becomes of packets.
 
-Each block of a policy, or of a command that prints one, has behind it what `nfp plan` prints for it. Behind that may stand a table of
+Each block of a policy, or of a command that prints one, has behind it what `nfp plan` prints for it. Behind a block of graphs, or of a command that prints
+them, stands what `nfp plan --graph` prints for it and the last policy before it; a page of graphs has commands for check-looking too. Behind that may stand a table of
 packets with the head `| record | ..`, and a block of the report that they give. A packet is spelled as in `UDP from 10.1.4.20:40000 to
 198.51.100.5:53` or `ping from 2001:db8::7 to 2001:db8::80`, with brackets where a port stands behind an address of IPv6. More stands
 behind it where that counts: `, 500 bytes` for its length with the IP header, `, tos 184`, `, ttl 1` for the hop limit of IPv6 too, `,
@@ -17,10 +18,11 @@ import subprocess
 import typing
 
 import frames
+import graph_rules
 import packet_rules
 import policy_rules
 
-BLOCK, TABLE = r'^```(policy|sh|plan|order|report)\n(.*?)^```$', r'^\| record \|([^\n]*)\n\|[-|]+\n((?:\|[^\n]*\n)+)'
+BLOCK, TABLE = r'^```(policy|sh|graph|graph-sh|plan|order|report)\n(.*?)^```$', r'^\| record \|([^\n]*)\n\|[-|]+\n((?:\|[^\n]*\n)+)'
 PART = re.compile(f'{BLOCK}|{TABLE}', re.MULTILINE | re.DOTALL)
 END = re.compile(r'\[([0-9a-f:]+)\]:(\d+)|([0-9.]+):(\d+)|([0-9.]+|[0-9a-f:]+)')
 PACKET = re.compile(r'(UDP|TCP|ping) from (\S+) to (\S+)')
@@ -45,6 +47,7 @@ class Planned(typing.NamedTuple):
     policy: bytes
     told: str  # what the page says is printed
     orders: bool  # of which these are the lines of the chains and their orders
+    graphs: typing.Optional[bytes] = None
 
 
 class Led(typing.NamedTuple):
@@ -175,19 +178,25 @@ def printed(command):
     return subprocess.run(['bash', '-c', command], capture_output=True, check=True).stdout
 
 
-def examples_of(page):
+def examples_of(page, is_of_graphs=False):
     """All examples of the page, in their order."""
-    policy, answered, table = None, True, None
+    policy, graphs, answered, table = None, None, True, None
     for kind, text, head, rows in PART.findall(page):
+        if kind == 'sh' and is_of_graphs:
+            continue
         if kind in ('policy', 'sh'):
             if not answered or table:
                 raise ValueError(f'an example without what is printed: {policy}')
-            policy, answered = printed(text) if kind == 'sh' else text.encode('ascii'), False
+            policy, graphs, answered = printed(text) if kind == 'sh' else text.encode('ascii'), None, False
+        elif kind in ('graph', 'graph-sh'):
+            if policy is None or graphs is not None and not answered:
+                raise ValueError(f'graphs without a policy, or without what is printed: {text}')
+            graphs, answered = printed(text) if kind == 'graph-sh' else text.encode('ascii'), False
         elif kind in ('plan', 'order'):
             if answered:
                 raise ValueError(f'what is printed without an example: {text}')
             answered = True
-            yield Planned(policy, text, kind == 'order')
+            yield Planned(policy, text, kind == 'order', graphs)
         elif kind == 'report':
             yield led(policy, *table, text)
             table = None
@@ -200,7 +209,7 @@ def examples_of(page):
 def untrue(example):
     """What the rules say in place of what the page says, or nothing where both say the same."""
     if isinstance(example, Planned):
-        due = policy_rules.plan(example.policy)[0]
+        due = (policy_rules.plan(example.policy) if example.graphs is None else graph_rules.plan(example.policy, example.graphs))[0]
         due = policy_rules.order_lines(due) if example.orders else due
         return '' if due == example.told else due
     answer = packet_rules.answer(example.policy, example.capture)

@@ -10,6 +10,7 @@ beside each chain which packets enter, and below the branches of a stage how the
 import typing
 
 import plan_reasons
+import plan_texts
 
 LETTER, LINE = 7.3, 16  # of the type in use, which is of one width
 SMALL = 11  # the size of what is said beside the names, which have 12
@@ -137,7 +138,8 @@ ARROW = '<marker id="head" viewBox="0 0 8 8" refX="8" refY="4" markerWidth="7" m
 def svg_of(plan, label=lambda chain, name: name, policy=None):
     """The picture of a plan. A function is told by what the label says of its chain's name and its own. The policy, where it is
     given, is the text of which this is the plan."""
-    said, left = plan_reasons.told(policy) if policy else ({}, None)
+    graphs = {chain.name: chain.graph() for chain in plan_texts.chains_of(plan.splitlines())}
+    said, left = plan_reasons.told(policy, graphs) if policy else ({}, None)
     parts, right, bottom = [], 0, 0
     chains = [(f'chain {name}' + (f': {said[name].takes}' if name in said else ''), stages) for name, stages in chains_of(plan, label, said)]
     for title, stages in chains + ([(left, [])] if left else []):

@@ -142,6 +142,19 @@ def behind_lines(stage, before, order, kinds):
                 yield from waiting_lines(name, branch[: branch.index(name)], kinds)
 
 
+def behind_by_hand(stage, number, before, order, kinds):
+    """The same of a stage that is written by hand: each of its functions may wait for some of the stage before, or none does."""
+    there = [name for name in order if any(name in branch for branch in before)]
+    here = [name for name in order if any(name in branch for branch in stage)]
+    lines = [line for name in here for line in waiting_lines(name, there, kinds)]
+    yield from lines or ([f'behind stage {number}: so it is written, and none of its functions waits for one there'] if before else [])
+    for name in here:
+        (branch,) = [branch for branch in stage if name in branch]
+        others = branch[: branch.index(name)]
+        alone = [f'{name} behind {listed(others)}: so it is written, and it waits for none of them'] if others else []
+        yield from list(waiting_lines(name, others, kinds)) or alone
+
+
 def touching(stage, field, way, kinds):
     """Which functions of each branch read or write a field."""
     return [[name for name in branch if field in way(kinds[name])] for branch in stage]
@@ -194,20 +207,24 @@ def beside_lines(stage, order, kinds):
         yield 'side by side: no branch has to do with what another one writes'
 
 
-def why_lines(stages, order, kinds):
+def why_lines(stages, order, kinds, by_hand):
     """For each stage the lines that say why its functions stand so."""
     for at, stage in enumerate(stages):
         before = stages[at - 1] if at else []
-        yield list(wrapped([*behind_lines(stage, before, order, kinds), *beside_lines(stage, order, kinds)]))
+        behind = behind_by_hand(stage, at, before, order, kinds) if by_hand else behind_lines(stage, before, order, kinds)
+        yield list(wrapped([*behind, *beside_lines(stage, order, kinds)]))
 
 
-def told(policy):
-    """What is said of each chain of a policy, by its name, and of the packets that no chain takes. Raises Refused."""
+def told(policy, graphs=None):
+    """What is said of each chain of a policy, by its name, and of the packets that no chain takes, where some chains may have these graphs that are
+    written by hand. Raises Refused."""
     checked = policy_rules.check(policy)
     chains = [chain for chain, _ in checked]
     said = {}
     for at, (chain, order) in enumerate(checked):
-        kinds = {function.name: function.kind for function in chain.functions}
-        stages = [[[order[at] for at in branch] for branch in stage] for stage in policy_rules.stages_of([kinds[name] for name in order])]
-        said[chain.name] = Told(takes_text(chains, at), kinds, stages, list(why_lines(stages, order, kinds)))
+        kinds, compiled = policy_rules.kinds_in(chain), policy_rules.compiled(chain, order)
+        stages = (graphs or {}).get(chain.name, compiled)
+        by_hand = stages != compiled
+        takes = takes_text(chains, at) + ('; its graph is written by hand' if by_hand else '')
+        said[chain.name] = Told(takes, kinds, stages, list(why_lines(stages, order, kinds, by_hand)))
     return said, left_text(chains)

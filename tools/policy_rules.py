@@ -548,12 +548,22 @@ def part_of(field, stage):
     return f'copied {writing.count(True) - (touching == writing)}'
 
 
-def plan_lines(chain, order):
-    kinds = {function.name: function.kind for function in chain.functions}
+def kinds_in(chain):
+    return {function.name: function.kind for function in chain.functions}
+
+
+def compiled(chain, order):
+    """The stages of a chain with this order, whose branches are lists of names."""
+    stages = stages_of([kinds_in(chain)[name] for name in order])
+    return [[[order[place] for place in branch] for branch in stage] for stage in stages]
+
+
+def plan_lines(chain, order, stages=None):
+    """The plan of a chain, whose stages are the compiled ones where none are given."""
+    kinds = kinds_in(chain)
     yield f'chain {chain.name}'
     yield ' '.join(['order', *order])
-    for number, places in enumerate(stages_of([kinds[name] for name in order]), 1):
-        stage = [[order[place] for place in branch] for branch in places]
+    for number, stage in enumerate(compiled(chain, order) if stages is None else stages, 1):
         yield f'stage {number}'
         yield from (' '.join([f'branch {at}', *names]) for at, names in enumerate(stage, 1))
         parts = [(field, part_of(field, [[kinds[name] for name in names] for names in stage])) for field in FIELDS]

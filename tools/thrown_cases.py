@@ -215,13 +215,13 @@ def made_frame(rng):
     return frame if rng.randrange(8) else rng.choice(others)
 
 
-def made_capture(rng):
-    """In either format."""
-    return made_classic(rng) if rng.randrange(2) else thrown_blocks.made_capture(rng, made_frame)
+def made_capture(rng, most=8):
+    """In either format, in the classic one of so many records at most."""
+    return made_classic(rng, most) if rng.randrange(2) else thrown_blocks.made_capture(rng, made_frame)
 
 
-def made_classic(rng):
-    records = [(moment * rng.choice([0, 1, 10**5]), '', made_frame(rng), rng.choice([None, None, None, 60, 35])) for moment in range(rng.randrange(9))]
+def made_classic(rng, most=8):
+    records = [(moment * rng.choice([0, 1, 10**5]), '', made_frame(rng), rng.choice([None, None, None, 60, 35])) for moment in range(rng.randrange(most + 1))]
     snaplen = rng.choice([0, 96, 65535, 262144, 2**32 - 1])
     return frames.written(frames.Capture(rng.choice('<>'), rng.choice([frames.MICRO, frames.NANO]), max(snaplen, 96), records))
 

@@ -1,6 +1,6 @@
 """One run of the program under a limit of time, and what is due of it by the rules.
 
-The rules are those of policy_rules.py, packet_rules.py, capture_rules.py and flow_rules.py, which share nothing with the program. Used by tools/throw-mutations
+The rules are those of policy_rules.py, graph_rules.py, packet_rules.py, capture_rules.py and flow_rules.py, which share nothing with the program. Used by tools/throw-mutations
 and tools/refuse-allocations.
 """
 
@@ -13,6 +13,7 @@ import time
 import typing
 
 import flow_rules
+import graph_rules
 import packet_rules
 import policy_rules
 
@@ -24,15 +25,20 @@ FAULT = (
     r'too long|not utf-8 at \d+|bad version line|line \d+ column \d+: syntax|cycle [a-z0-9_-]+( [a-z0-9_-]+)*|line \d+: (unknown kind|'
     r'duplicate name|unknown name|too many functions|too many chains|too many rules|bad setting|priority \S+ over \S+ forbidden: .+)'
 )
+GRAPH_FAULT = (
+    r'too long|not utf-8 at \d+|bad version line|line \d+: (syntax|unknown name|twice|whole chain)|missing \S+|'
+    r'\S+ before \S+ (out of order|forbidden: .+ before .+)'
+)
 NOTES = {
     0: r'(done records \d+ emitted \d+ dropped \d+|flows records \d+ flows \d+ exported \d+ packets \d+)\n',
     1: r'usage: (no command|unknown command|words|number (mergers|burst|workers|seed|count)|merge|same name)\n',
     2: rf'policy: ({FAULT})\n',
     3: r'capture: (bad (magic|version|link \d+|block \d+|resolution \d+)|cut (head|record \d+|block \d+)|(frame|block) too long \d+ \d+|'
     r'no interface \d+|too many (records|blocks))\n',
-    4: r'read fault: (policy|capture)\n',
+    4: r'read fault: (policy|graph|capture)\n',
     5: r'(write fault: (out|report)\n)?',
     6: r'',
+    8: rf'graph: ({GRAPH_FAULT})\n',
 }
 
 
@@ -66,8 +72,8 @@ class Folder:
 
     def __init__(self, path):
         self.path = pathlib.Path(path)
-        self.policy, self.capture, self.out, self.report, self.note, self.told = (
-            str(self.path / name) for name in ('policy', 'capture', 'out', 'report', 'note', 'told')
+        self.policy, self.capture, self.out, self.report, self.note, self.told, self.graphs = (
+            str(self.path / name) for name in ('policy', 'capture', 'out', 'report', 'note', 'told', 'graphs')
         )
 
     def put(self, policy, capture):
@@ -136,15 +142,15 @@ def run(program, words, folder, env, limit, actions=()):
 # What is due.
 
 
-def due_of_run(policy, capture):
+def due_of_run(policy, capture, graphs=None):
     """What `nfp run` has to leave, whatever the bytes."""
-    answer = packet_rules.answer(policy, capture)
+    answer = packet_rules.answer(policy, capture, graphs)
     report = None if answer.report is None else answer.report.encode('ascii')
     return Due(answer.status, answer.note + '\n', answer.out, report)
 
 
-def due_of_plan(policy):
-    note, status = policy_rules.plan(policy)
+def due_of_plan(policy, graphs=None):
+    note, status = policy_rules.plan(policy) if graphs is None else graph_rules.plan(policy, graphs)
     return Due(status, note, None, None)
 
 
