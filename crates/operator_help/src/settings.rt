@@ -120,7 +120,7 @@ pub fn say_word(page: &mut Page, row: Row<'_>, place: usize) {
     } else {
         page.tell("`{}` doesn't fit here");
         page.word(word);
-        say_hint(page, hint_of(word));
+        say_hint(page, hint_of(row, place));
     }
 }
 
