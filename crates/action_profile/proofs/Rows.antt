@@ -31,7 +31,7 @@ untagger_reads_no_address : reads_of (profile_of Untagger) SrcIp ≡ false
 untagger_reads_no_address = refl
 
 -- both ends of a tunnel rewrite a packet whole and tell of no field
-entry_is_whole : profile_of Encap ≡ record { reads = record { 0 = 0 }; writes = record { 0 = 0 }; drops = false; state = false; adds = false; removes = false; whole = true }
+entry_is_whole : profile_of Encap ≡ record { reads = record { 0 = 0 }; writes = record { 0 = 0 }; drops = false; state = false; counts = false; adds = false; removes = false; whole = true }
 entry_is_whole = refl
 
 exit_is_whole : profile_of Decap ≡ profile_of Encap

@@ -26,7 +26,7 @@ writes_of p f = has p.writes f || (is_tag f && handles_tags p)
 
 -- reads and writes these fields, and does nothing else
 abbrev pub plain : List Field → List Field → Profile
-plain reads writes = record { reads = fields reads; writes = fields writes; drops = false; state = false; adds = false; removes = false; whole = false }
+plain reads writes = record { reads = fields reads; writes = fields writes; drops = false; state = false; counts = false; adds = false; removes = false; whole = false }
 
 -- both addresses and both ports
 abbrev pub endpoints : List Field
@@ -38,7 +38,7 @@ profile_of Firewall = record (plain (Tag ∷ endpoints) []) { drops = true }
 profile_of Signature = record (plain (Payload ∷ []) []) { drops = true }
 profile_of Nat = record (plain endpoints endpoints) { drops = true; state = true }
 profile_of Balancer = record (plain (SrcIp ∷ SrcPort ∷ DstIp ∷ []) (DstIp ∷ [])) { state = true }
-profile_of Monitor = record (plain endpoints []) { state = true }
+profile_of Monitor = record (plain endpoints []) { counts = true }
 profile_of Limiter = record (plain (SrcIp ∷ []) []) { drops = true; state = true }
 profile_of Marker = plain endpoints (Tos ∷ [])
 profile_of Nexthop = plain (DstIp ∷ []) (LinkDst ∷ LinkSrc ∷ [])

@@ -1,9 +1,9 @@
 //! What each kind of network function may do to a packet.
 //!
 //! A [`Profile`] declares the fields that a function reads and writes, whether it may drop a
-//! packet, whether it keeps a state, whether it adds or removes a tag (IEEE 802.1Q), and whether it
-//! works on the whole frame. [`profile`] gives the profile of each [`Kind`]. A [`FieldSet`] has a
-//! bit for each field, in the fields' order.
+//! packet, whether it keeps a state, whether it counts what it sees, whether it adds or removes a tag
+//! (IEEE 802.1Q), and whether it works on the whole frame. [`profile`] gives the profile of each
+//! [`Kind`]. A [`FieldSet`] has a bit for each field, in the fields' order.
 //!
 //! All that is said of profiles elsewhere rests on two words, `reads_of` and `writes_of` of
 //! `specs/Profiles.antt`: whether a function reads or writes a field. To add or to remove a tag

@@ -15,8 +15,11 @@ pub struct Profile {
     pub writes: FieldSet,
     /// May it drop the packet?
     pub drops: bool,
-    /// Does it keep a state from one packet to the next?
+    /// Does it keep a state from one packet to the next, which each packet that it sees may change?
     pub state: bool,
+    /// Does it count what it sees? It passes a packet as it is and notes it, and the note changes its
+    /// state where no earlier function drops the packet.
+    pub counts: bool,
     /// May it put a tag before the others?
     pub adds: bool,
     /// May it take the first tag away?

@@ -12,6 +12,7 @@ const NOTHING: Profile = Profile {
     writes: FieldSet::NONE,
     drops: false,
     state: false,
+    counts: false,
     adds: false,
     removes: false,
     whole: false,
@@ -49,7 +50,7 @@ pub fn profile(kind: Kind) -> Profile
         },
         Kind::Monitor => Profile {
             reads: FieldSet::ENDPOINTS,
-            state: true,
+            counts: true,
             ..NOTHING
         },
         Kind::Limiter => Profile {

@@ -3,6 +3,7 @@ use Rattle.std.proofs.Common.{◌≡◌, ◌<◌, ◌≤◌, ◌+◌, ◌-◌, �
 use Rattle.std.specs.Prelude.{◌⊎◌, ◌==◌, slice_get}
 use Rattle.std.specs.List.{cons_option}
 use Rattle.std.proofs.lemmas.List.{length-map}
+use Rattle.chain_walk.specs.Counting.{IsQuiet}
 use Rattle.chain_walk.specs.Laws.{KeepsProfile}
 use Rattle.chain_walk.specs.Step.{Behaviour}
 use Rattle.graph_compile.specs.Facts.{IsLawful, IsFull, positions_of, all_positions, times}
@@ -24,33 +25,33 @@ pub functions_once : {F : Type 0} (b : Behaviour F) (graph : Graph) (fs : List F
 functions_once b graph fs lawful = subst (λ n. AreOnce n (all_positions graph.stages)) (length-map fs b.profile) (lawful_once graph (map b.profile fs) lawful)
 
 -- one packet through all stages, and its walk
-pub message_walks : {F : Type 0} (b : Behaviour F) (graph : Graph) (fs : List F) (m : Message) → Below F → KeepsProfile b → IsLawful graph (map b.profile fs) → IsFull graph →
+pub message_walks : {F : Type 0} (b : Behaviour F) (graph : Graph) (fs : List F) (m : Message) → Below F → KeepsProfile b → IsQuiet b → IsLawful graph (map b.profile fs) → IsFull graph →
     through (stage_turn b) graph.stages (owned_by graph.stages fs) m ≡ record { state = owned_by graph.stages (chain_turn b 1 fs m).state; gives = (chain_turn b 1 fs m).gives }
-message_walks b graph fs (Here fixed values) below law lawful full =
-    turns_flow b fixed graph.stages values fs below (functions_once b graph fs lawful) ∙ ap (flowed_by graph.stages fixed) (below.chain b fixed graph fs values law lawful full)
-message_walks b graph fs (Lost q) below law lawful full = gone_through b graph.stages (owned_by graph.stages fs) q
+message_walks b graph fs (Here fixed values) below law calm lawful full =
+    turns_flow b fixed graph.stages values fs below (functions_once b graph fs lawful) ∙ ap (flowed_by graph.stages fixed) (below.chain b fixed graph fs values law calm lawful full)
+message_walks b graph fs (Lost q) below law calm lawful full = gone_through b graph.stages (owned_by graph.stages fs) q
 
-pub turn_profiles : {F : Type 0} (b : Behaviour F) (graph : Graph) (fs : List F) (m : Message) → Below F → KeepsProfile b → IsLawful graph (map b.profile fs) → IsFull graph → map b.profile (chain_turn b 1 fs m).state ≡ map b.profile fs
-turn_profiles b graph fs (Here fixed values) below law lawful full = ap (λ w. map b.profile w.functions) (sym (below.chain b fixed graph fs values law lawful full)) ∙ below.profiles b fixed graph.stages fs values law
-turn_profiles b graph fs (Lost q) below law lawful full = refl
+pub turn_profiles : {F : Type 0} (b : Behaviour F) (graph : Graph) (fs : List F) (m : Message) → Below F → KeepsProfile b → IsQuiet b → IsLawful graph (map b.profile fs) → IsFull graph → map b.profile (chain_turn b 1 fs m).state ≡ map b.profile fs
+turn_profiles b graph fs (Here fixed values) below law calm lawful full = ap (λ w. map b.profile w.functions) (sym (below.chain b fixed graph fs values law calm lawful full)) ∙ below.profiles b fixed graph.stages fs values law
+turn_profiles b graph fs (Lost q) below law calm lawful full = refl
 
-pub burst_profiles : {F : Type 0} (b : Behaviour F) (graph : Graph) (fs : List F) (ms : List Message) → Below F → KeepsProfile b → IsLawful graph (map b.profile fs) → IsFull graph → map b.profile (chain_burst b fs ms).state ≡ map b.profile fs
+pub burst_profiles : {F : Type 0} (b : Behaviour F) (graph : Graph) (fs : List F) (ms : List Message) → Below F → KeepsProfile b → IsQuiet b → IsLawful graph (map b.profile fs) → IsFull graph → map b.profile (chain_burst b fs ms).state ≡ map b.profile fs
 unfolding one_by_one
-burst_profiles b graph fs [] below law lawful full = refl
-burst_profiles b graph fs (m ∷ ms) below law lawful full =
-    let here : map b.profile (chain_turn b 1 fs m).state ≡ map b.profile fs = turn_profiles b graph fs m below law lawful full in
-    burst_profiles b graph (chain_turn b 1 fs m).state ms below law (subst (IsLawful graph) (sym here) lawful) full ∙ here
+burst_profiles b graph fs [] below law calm lawful full = refl
+burst_profiles b graph fs (m ∷ ms) below law calm lawful full =
+    let here : map b.profile (chain_turn b 1 fs m).state ≡ map b.profile fs = turn_profiles b graph fs m below law calm lawful full in
+    burst_profiles b graph (chain_turn b 1 fs m).state ms below law calm (subst (IsLawful graph) (sym here) lawful) full ∙ here
 
 -- a burst through a lawful graph
-pub burst_walks : {F : Type 0} (b : Behaviour F) (graph : Graph) (functions : List F) (ms : List Message) → Below F → KeepsProfile b → IsLawful graph (map b.profile functions) → IsFull graph →
+pub burst_walks : {F : Type 0} (b : Behaviour F) (graph : Graph) (functions : List F) (ms : List Message) → Below F → KeepsProfile b → IsQuiet b → IsLawful graph (map b.profile functions) → IsFull graph →
     ◌≡◌ {A = Turn (List (List (List F))) (List Message)} (graph_burst b graph.stages (owned_by graph.stages functions) ms)
     (record { state = owned_by graph.stages (chain_burst b functions ms).state; gives = (chain_burst b functions ms).gives })
-burst_walks {F} b graph functions ms below law lawful full =
+burst_walks {F} b graph functions ms below law calm lawful full =
     along_same (stage_burst b) (λ s. one_by_one (stage_turn b s)) graph.stages (owned_by graph.stages functions) ms (burst_is_turns b)
     ∙ (sym (by_stations (stage_turn b) graph.stages (owned_by graph.stages functions) ms)
     ∙ seen_otherwise (λ fs. map b.profile fs ≡ map b.profile functions) (owned_by graph.stages) (chain_turn b 1) (through (stage_turn b) graph.stages) functions ms refl
-    (λ fs m same. turn_profiles b graph fs m below law (subst (IsLawful graph) (sym same) lawful) full ∙ same)
-    (λ fs m same. message_walks b graph fs m below law (subst (IsLawful graph) (sym same) lawful) full))
+    (λ fs m same. turn_profiles b graph fs m below law calm (subst (IsLawful graph) (sym same) lawful) full ∙ same)
+    (λ fs m same. message_walks b graph fs m below law calm (subst (IsLawful graph) (sym same) lawful) full))
 
 -- functions that are split into the same lists are the same
 heads_same : {A : Type 0} {x y : A} {xs ys : List A} → x ∷ xs ≡ y ∷ ys → x ≡ y

@@ -8,3 +8,8 @@ pub mod Bursting
 pub mod Weighing
 pub mod Frames
 pub mod Rows
+pub mod NotedBranches
+pub mod NotedPackets
+pub mod NotedBursts
+pub mod ListedNotes
+pub mod PlacedNotes

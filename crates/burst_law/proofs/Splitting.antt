@@ -10,12 +10,12 @@ use Rattle.burst_law.specs.Stations.{Turn, then_state}
 use Rattle.burst_law.specs.Owned.{owned, turned}
 use Rattle.burst_law.proofs.Positions.{got, AreOnce, times_here, times_later, once_rest, owned_same}
 
-set_here : {F : Type 0} (fs : List F) (i : ℕ) (f y : F) → slice_get fs i ≡ Some f → slice_get (set fs i y) i ≡ Some y
+pub set_here : {F : Type 0} (fs : List F) (i : ℕ) (f y : F) → slice_get fs i ≡ Some f → slice_get (set fs i y) i ≡ Some y
 set_here [] i f y e = absurd cc
 set_here (x ∷ fs) zero f y e = refl
 set_here (x ∷ fs) (suc i) f y e = set_here fs i f y e
 
-set_others : {F : Type 0} (fs : List F) (i j : ℕ) (y : F) → i ≢ j → slice_get (set fs i y) j ≡ slice_get fs j
+pub set_others : {F : Type 0} (fs : List F) (i j : ℕ) (y : F) → i ≢ j → slice_get (set fs i y) j ≡ slice_get fs j
 set_others [] i j y ne = refl
 set_others (x ∷ fs) zero zero y ne = absurd (ne refl)
 set_others (x ∷ fs) zero (suc j) y ne = refl

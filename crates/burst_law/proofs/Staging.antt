@@ -51,7 +51,7 @@ burst_is_turns {F} b stage own (m ∷ ms) =
     next = (beside (branch_turn b) posts own m).state
 
 -- the branches of a stage leave the functions at other positions
-branched_others : {F : Type 0} (b : Behaviour F) (fixed : Fixed) (branches : List Branch) (touches : List Touch) (values : Values) (fs : List F) (r : ℕ) → CountFromOne (positions_of branches) → 1 ≤ r → times r (positions_of branches) ≡ 0 →
+pub branched_others : {F : Type 0} (b : Behaviour F) (fixed : Fixed) (branches : List Branch) (touches : List Touch) (values : Values) (fs : List F) (r : ℕ) → CountFromOne (positions_of branches) → 1 ≤ r → times r (positions_of branches) ≡ 0 →
     slice_get (branched b fixed branches touches values fs).functions (r - 1) ≡ slice_get fs (r - 1)
 unfolding branched
 branched_others b fixed [] touches values fs r low lows none = refl
@@ -61,7 +61,7 @@ branched_others {F} b fixed (x ∷ branches) (t ∷ touches) values fs r low low
     ∙ in_turn_others b fixed x.positions fs (dealt t values) r (λ q some. low q (let s = times-append q x.positions (positions_of branches) in omega arith)) lows (let s = times-append r x.positions (positions_of branches) in omega arith)
 
 -- and so do all stages
-flow_others : {F : Type 0} (b : Behaviour F) (fixed : Fixed) (stages : List Stage) (values : Values) (fs : List F) (r : ℕ) → CountFromOne (all_positions stages) → 1 ≤ r → times r (all_positions stages) ≡ 0 →
+pub flow_others : {F : Type 0} (b : Behaviour F) (fixed : Fixed) (stages : List Stage) (values : Values) (fs : List F) (r : ℕ) → CountFromOne (all_positions stages) → 1 ≤ r → times r (all_positions stages) ≡ 0 →
     slice_get (flow b fixed stages values fs).functions (r - 1) ≡ slice_get fs (r - 1)
 unfolding flow then_flow
 flow_others b fixed [] values fs r low lows none = refl
@@ -77,7 +77,7 @@ flow_others {F} b fixed (s ∷ stages) values fs r low lows none =
     go (Gone q) on = refl
 
 -- the branches of a stage, each with the functions that it owns
-beside_branched : {F : Type 0} (b : Behaviour F) (fixed : Fixed) (branches : List Branch) (touches : List Touch) (values : Values) (fs : List F) → Below F → AreOnce (length fs) (positions_of branches) →
+pub beside_branched : {F : Type 0} (b : Behaviour F) (fixed : Fixed) (branches : List Branch) (touches : List Touch) (values : Values) (fs : List F) → Below F → AreOnce (length fs) (positions_of branches) →
     ◌≡◌ {A = Turn (List (List F)) (List BranchEnd)} (beside (branch_turn b) (zip branches touches) (owned_in branches fs) (Here fixed values))
     (record { state = owned_in branches (branched b fixed branches touches values fs).functions; gives = (branched b fixed branches touches values fs).arrivals })
 unfolding beside branched

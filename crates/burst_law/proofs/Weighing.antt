@@ -6,6 +6,7 @@ use Rattle.std.proofs.lemmas.List.Sums.{sum_by-cons}
 use Rattle.packet_fields.specs.declared.field.Field.{Field}
 use Rattle.action_profile.specs.Modes.{copies}
 use Rattle.chain_walk.specs.FieldWalk.{End, End.Out, End.Gone, Ended}
+use Rattle.chain_walk.specs.Counting.{IsQuiet}
 use Rattle.chain_walk.specs.Laws.{KeepsProfile}
 use Rattle.chain_walk.specs.Shown.{Values}
 use Rattle.chain_walk.specs.Step.{Behaviour}
@@ -166,27 +167,27 @@ turns_weigh {F} b f fixed (s ∷ stages) values fs below law h =
     rest (Out after) on = on after
     rest (Gone q) on = gone_weighs b f stages (owned_by stages done) q
 
-message_weighs : {F : Type 0} (b : Behaviour F) (f : Field) (graph : Graph) (fs : List F) (m : Message) → Below F → KeepsProfile b → IsLawful graph (map b.profile fs) → IsFull graph →
+message_weighs : {F : Type 0} (b : Behaviour F) (f : Field) (graph : Graph) (fs : List F) (m : Message) → Below F → KeepsProfile b → IsQuiet b → IsLawful graph (map b.profile fs) → IsFull graph →
     weight_through (stage_turn b) (due_in f) graph.stages (owned_by graph.stages fs) m ≡ copies_for graph.stages f m (chain_turn b 1 fs m).gives
-message_weighs b f graph fs (Here fixed values) below law lawful full =
+message_weighs b f graph fs (Here fixed values) below law calm lawful full =
     turns_weigh b f fixed graph.stages values fs below law (functions_once b graph fs lawful)
-    ∙ ap (λ w. copies_for graph.stages f (Here fixed values) (ended fixed w.end)) (below.chain b fixed graph fs values law lawful full)
-message_weighs b f graph fs (Lost q) below law lawful full = gone_weighs b f graph.stages (owned_by graph.stages fs) q
+    ∙ ap (λ w. copies_for graph.stages f (Here fixed values) (ended fixed w.end)) (below.chain b fixed graph fs values law calm lawful full)
+message_weighs b f graph fs (Lost q) below law calm lawful full = gone_weighs b f graph.stages (owned_by graph.stages fs) q
 
-burst_weighs : {F : Type 0} (b : Behaviour F) (f : Field) (graph : Graph) (fs : List F) (ms : List Message) → Below F → KeepsProfile b → IsLawful graph (map b.profile fs) → IsFull graph →
+burst_weighs : {F : Type 0} (b : Behaviour F) (f : Field) (graph : Graph) (fs : List F) (ms : List Message) → Below F → KeepsProfile b → IsQuiet b → IsLawful graph (map b.profile fs) → IsFull graph →
     weight_over (stage_turn b) (due_in f) graph.stages (owned_by graph.stages fs) ms ≡ chain_copies b graph.stages f fs ms
 unfolding weight_over one_by_one
-burst_weighs b f graph fs [] below law lawful full = refl
-burst_weighs {F} b f graph fs (m ∷ ms) below law lawful full =
-    (λ i. message_weighs b f graph fs m below law lawful full i + weight_over (stage_turn b) (due_in f) graph.stages (state i) ms)
-    ∙ ap (λ n. copies_for graph.stages f m (chain_turn b 1 fs m).gives + n) (burst_weighs b f graph (chain_turn b 1 fs m).state ms below law (subst (IsLawful graph) (sym (turn_profiles b graph fs m below law lawful full)) lawful) full)
+burst_weighs b f graph fs [] below law calm lawful full = refl
+burst_weighs {F} b f graph fs (m ∷ ms) below law calm lawful full =
+    (λ i. message_weighs b f graph fs m below law calm lawful full i + weight_over (stage_turn b) (due_in f) graph.stages (state i) ms)
+    ∙ ap (λ n. copies_for graph.stages f m (chain_turn b 1 fs m).gives + n) (burst_weighs b f graph (chain_turn b 1 fs m).state ms below law calm (subst (IsLawful graph) (sym (turn_profiles b graph fs m below law calm lawful full)) lawful) full)
     ∙ sym (sum_by-cons (λ x. copies_for graph.stages f x.0 x.1) (m, (chain_turn b 1 fs m).gives) (zip ms (chain_burst b (chain_turn b 1 fs m).state ms).gives))
   where
     state : (through (stage_turn b) graph.stages (owned_by graph.stages fs) m).state ≡ owned_by graph.stages (chain_turn b 1 fs m).state
-    state = ap (λ t. t.state) (message_walks b graph fs m below law lawful full)
+    state = ap (λ t. t.state) (message_walks b graph fs m below law calm lawful full)
 
-pub copies_same : {F : Type 0} (b : Behaviour F) (f : Field) (graph : Graph) (fs : List F) (ms : List Message) → Below F → KeepsProfile b → IsLawful graph (map b.profile fs) → IsFull graph →
+pub copies_same : {F : Type 0} (b : Behaviour F) (f : Field) (graph : Graph) (fs : List F) (ms : List Message) → Below F → KeepsProfile b → IsQuiet b → IsLawful graph (map b.profile fs) → IsFull graph →
     graph_copies b graph.stages f (owned_by graph.stages fs) ms ≡ chain_copies b graph.stages f fs ms
-copies_same b f graph fs ms below law lawful full =
+copies_same b f graph fs ms below law calm lawful full =
     weight_same (stage_burst b) (λ s. one_by_one (stage_turn b s)) (due_in f) graph.stages (owned_by graph.stages fs) ms (burst_is_turns b)
-    ∙ (by_weight (stage_turn b) (due_in f) graph.stages (owned_by graph.stages fs) ms ∙ burst_weighs b f graph fs ms below law lawful full)
+    ∙ (by_weight (stage_turn b) (due_in f) graph.stages (owned_by graph.stages fs) ms ∙ burst_weighs b f graph fs ms below law calm lawful full)

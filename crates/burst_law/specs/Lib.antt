@@ -3,3 +3,5 @@ pub mod Owned
 pub mod Bursts
 pub mod Copies
 pub mod Frames
+pub mod Noting
+pub mod Placed

@@ -1,8 +1,11 @@
 //! The law of bursts, and what belongs to it: functions that are split and put together again, and copies.
 ghost use Rattle.std.specs.Prelude.{◌≡◌, ◌-◌, ℕ, List, length, map, slice_get, Some};
 ghost use Rattle.packet_fields.specs.declared.field.Field.{Field};
+ghost use Rattle.action_profile.specs.declared.parts.Touch.{Touch};
 ghost use Rattle.chain_walk.specs.Step.{Behaviour};
+ghost use Rattle.chain_walk.specs.Counting.{quiet, IsQuiet};
 ghost use Rattle.chain_walk.specs.Laws.{KeepsProfile};
+ghost use Rattle.chain_walk.specs.Notes.{Notes, CountsByNotes};
 ghost use Rattle.chain_walk.specs.Packets.{Packet, fates, functions_after};
 ghost use Rattle.graph_compile.specs.Facts.{IsLawful, IsFull};
 ghost use Rattle.graph_compile.specs.declared.graph.Branch.{Branch};
@@ -11,12 +14,22 @@ ghost use Rattle.graph_compile.specs.declared.graph.Stage.{Stage};
 ghost use Rattle.graph_law.specs.Branches.{BranchEnd};
 ghost use Rattle.burst_law.specs.Stations.{Turn, across};
 ghost use Rattle.burst_law.specs.Owned.{owned, owned_by};
-ghost use Rattle.burst_law.specs.Bursts.{Message, behind, stage_streams, stage_burst, graph_burst, chain_burst};
+ghost use Rattle.burst_law.specs.Bursts.{Message, behind, branch_stream, stage_streams, stage_burst, graph_burst, chain_burst};
 ghost use Rattle.burst_law.specs.Copies.{graph_copies, chain_copies};
 ghost use Rattle.burst_law.specs.Frames.{message_of, fates_of};
+ghost use Rattle.chain_walk.specs.FieldWalk.{walk_fields};
+ghost use Rattle.chain_walk.specs.Shown.{Values};
+ghost use Rattle.chain_walk.specs.declared.fixed.Fixed.{Fixed};
+ghost use Rattle.graph_law.specs.BranchNotes.{flow_notes, gone_before};
+ghost use Rattle.graph_law.specs.Flow.{flow};
+ghost use Rattle.burst_law.specs.Placed.{placed_by, settled_placed};
+ghost use Rattle.burst_law.specs.Noting.{stream_notes, branch_settled, graph_settled, rows_listed, settled_listed};
 
-use chain_walk::frames_walk_as_fields;
-use graph_law::{fields_stay, graph_is_chain, profiles_stay, stage_reached};
+use chain_walk::{frames_walk_as_fields, quiet_functions_keep_to_profiles};
+use graph_law::{
+    branches_note_as_the_walk, fields_stay, graph_is_chain, notes_are_settled_behind,
+    profiles_stay, stage_reached,
+};
 
 /// A burst of packets that goes stage by stage through a lawful graph, each stage with a branch and each
 /// branch with a function, where each branch owns its functions and takes all packets in their order, ends
@@ -24,13 +37,13 @@ use graph_law::{fields_stay, graph_is_chain, profiles_stay, stage_reached};
 /// owns of those that the walks leave.
 pub fn burst_is_chain<F>()
     ensures chain { (b : Behaviour F) (graph : Graph) (functions : List F) (packets : List Message) →
-        KeepsProfile b → IsLawful graph (map b.profile functions) → IsFull graph →
+        KeepsProfile b → IsQuiet b → IsLawful graph (map b.profile functions) → IsFull graph →
         ◌≡◌ {A = Turn (List (List (List F))) (List Message)}
         (graph_burst b graph.stages (owned_by graph.stages functions) packets)
         (record { state = owned_by graph.stages (chain_burst b functions packets).state; gives = (chain_burst b functions packets).gives }) }
     // the same graph is lawful for the functions that the walks leave
     ensures profiles { (b : Behaviour F) (graph : Graph) (functions : List F) (packets : List Message) →
-        KeepsProfile b → IsLawful graph (map b.profile functions) → IsFull graph →
+        KeepsProfile b → IsQuiet b → IsLawful graph (map b.profile functions) → IsFull graph →
         map b.profile (chain_burst b functions packets).state ≡ map b.profile functions }
 {
     graph_is_chain::<F>();
@@ -83,11 +96,63 @@ pub fn owned_is_whole<F>()
 /// packet makes in the stages that it reaches, which its walk through the chain tells.
 pub fn copies_are_same<F>()
     ensures { (b : Behaviour F) (graph : Graph) (f : Field) (functions : List F) (packets : List Message) →
-        KeepsProfile b → IsLawful graph (map b.profile functions) → IsFull graph →
+        KeepsProfile b → IsQuiet b → IsLawful graph (map b.profile functions) → IsFull graph →
         graph_copies b graph.stages f (owned_by graph.stages functions) packets ≡ chain_copies b graph.stages f functions packets }
 {
     graph_is_chain::<F>();
     profiles_stay::<F>();
     fields_stay::<F>();
     stage_reached::<F>();
+}
+
+/// A burst goes through a lawful graph with the counting of its functions left out. Each branch lists what
+/// its functions note of the packets that come to it, and behind the burst, where it is known where each
+/// packet ends, settles those notes of a packet at positions before which the packet wasn't dropped. So it
+/// is left with the functions that it owns of those that packets leave that walk through the chain one
+/// after another.
+pub fn notes_are_settled_behind_bursts<F, N>()
+    // the packets end so, whether functions count or not
+    ensures ends { (b : Behaviour F) (notes : Notes F N) (functions : List F) (packets : List Message) → KeepsProfile b → CountsByNotes b notes →
+        (chain_burst b functions packets).gives ≡ (chain_burst (quiet b) functions packets).gives }
+    // and by these ends the notes are settled
+    ensures functions { (b : Behaviour F) (notes : Notes F N) (graph : Graph) (functions : List F) (packets : List Message) →
+        KeepsProfile b → CountsByNotes b notes → IsLawful graph (map b.profile functions) → IsFull graph →
+        graph_settled (quiet b) notes (chain_burst b functions packets).gives graph.stages (owned_by graph.stages functions) packets
+        ≡ owned_by graph.stages (chain_burst b functions packets).state }
+{
+    graph_is_chain::<F>();
+    profiles_stay::<F>();
+    fields_stay::<F>();
+    stage_reached::<F>();
+    quiet_functions_keep_to_profiles::<F>();
+    notes_are_settled_behind::<F, N>();
+    branches_note_as_the_walk::<F, N>();
+}
+
+/// A branch that lists its notes one behind another, each with the packet's place in the burst and the
+/// function's place in the branch, may settle them one by one, in the order in which it listed them.
+pub fn notes_are_settled_as_listed<F, N>()
+    ensures { (b : Behaviour F) (notes : Notes F N) (ends : List Message) (x : Branch × Touch) (functions : List F) (packets : List Message) →
+        length functions ≡ length x.0.positions → length ends ≡ length packets →
+        settled_listed notes x.0.positions ends (branch_stream b x functions packets).state (rows_listed 0 (stream_notes b notes x functions packets))
+        ≡ branch_settled b notes ends x functions packets }
+{}
+
+/// One packet goes through a lawful graph with the counting of its functions left out. Its notes, each with
+/// the position of its function, are settled among all functions of the chain once it is known where the
+/// packet ends: so the functions are left as its walk leaves them.
+pub fn notes_are_settled_by_position<F, N>()
+    ensures { (b : Behaviour F) (notes : Notes F N) (fixed : Fixed) (graph : Graph) (functions : List F) (values : Values) →
+        KeepsProfile b → CountsByNotes b notes → IsLawful graph (map b.profile functions) → IsFull graph →
+        settled_placed notes (gone_before (flow (quiet b) fixed graph.stages values functions).end) (flow (quiet b) fixed graph.stages values functions).functions
+        (placed_by graph.stages (flow_notes (quiet b) notes fixed graph.stages values functions))
+        ≡ (walk_fields b fixed 1 functions values).functions }
+{
+    graph_is_chain::<F>();
+    profiles_stay::<F>();
+    fields_stay::<F>();
+    stage_reached::<F>();
+    quiet_functions_keep_to_profiles::<F>();
+    notes_are_settled_behind::<F, N>();
+    branches_note_as_the_walk::<F, N>();
 }

@@ -15,6 +15,12 @@
 //! those of the stages that each packet reaches. All this is said of the fields of packets; by
 //! [`frames_walk_in_bursts`] it holds of whole frames.
 //!
+//! Functions that count keep still meanwhile. What they note is settled behind the burst, and
+//! [`notes_are_settled_behind_bursts`] says that each branch is then left with the functions that the walks
+//! leave, counting included. A branch may list its notes one behind another and settle them one by one
+//! ([`notes_are_settled_as_listed`]). Of a packet that goes through all stages by itself the notes are settled by
+//! their positions ([`notes_are_settled_by_position`]).
+//!
 //! In this order no branch of a stage waits for another, and no function is seen by two: so each may run on
 //! a thread of its own. There is no code here: what runs a burst is a crate above.
 #![tactic(auto)]
@@ -22,5 +28,7 @@
 mod laws;
 
 pub use laws::{
-    burst_is_chain, copies_are_same, frames_walk_in_bursts, owned_is_whole, packets_merge_apart,
+    burst_is_chain, copies_are_same, frames_walk_in_bursts, notes_are_settled_as_listed,
+    notes_are_settled_behind_bursts, notes_are_settled_by_position, owned_is_whole,
+    packets_merge_apart,
 };

@@ -2,3 +2,4 @@ pub mod WellFormedFields
 pub mod FrameWalkIsFieldWalk
 pub mod Walking
 pub mod PacketsInRow
+pub mod QuietFunctions

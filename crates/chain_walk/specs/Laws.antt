@@ -17,8 +17,8 @@ pub record KeepsProfile {F : Type 0} (b : Behaviour F) : Type 0 where
   pub writes : (fixed : Fixed) (f : F) (v : Values) (x : Field) → (writes_of (b.profile f) x && is_some (v x)) ≡ false → (stepped b fixed f v).written x ≡ None
   -- only a profile that drops lets a packet be dropped
   pub drops : (fixed : Fixed) (f : F) (v : Values) → (b.profile f).drops ≡ false → is_drop (stepped b fixed f v).verdict ≡ false
-  -- only a function with a state changes
-  pub state : (fixed : Fixed) (f : F) (v : Values) → (b.profile f).state ≡ false → (stepped b fixed f v).after ≡ f
+  -- only a function that keeps a state, or counts, changes
+  pub state : (fixed : Fixed) (f : F) (v : Values) → (b.profile f).state ≡ false → (b.profile f).counts ≡ false → (stepped b fixed f v).after ≡ f
   -- a field keeps its length, but for the tags
   pub lengths : (fixed : Fixed) (f : F) (v : Values) (x : Field) → x ≢ Tag → IfSome (v x) (λ old. IsLengthOf x (length old)) →
       IfSome ((stepped b fixed f v).written x) (λ new. IsSomeAnd (v x) (λ old. length new ≡ length old))

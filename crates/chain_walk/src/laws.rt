@@ -4,6 +4,7 @@ ghost use Rattle.packet_fields.specs.Writing.{AllFit, fields_of, over, rest_of, 
 ghost use Rattle.chain_walk.specs.Shown.{Values, AreWellFormed, fixed_of};
 ghost use Rattle.chain_walk.specs.Step.{Behaviour, stepped};
 ghost use Rattle.chain_walk.specs.Laws.{KeepsProfile};
+ghost use Rattle.chain_walk.specs.Counting.{quiet, IsQuiet};
 ghost use Rattle.chain_walk.specs.Walk.{walk, applied, frame_after, Walked, EndsWithin};
 ghost use Rattle.chain_walk.specs.Packets.{Packet, fates, functions_after};
 ghost use Rattle.chain_walk.specs.FieldWalk.{End.Out, walk_fields, walked_by};
@@ -45,4 +46,10 @@ pub fn packets_walk_in_a_row<F>()
     ensures functions { (b : Behaviour F) (functions : List F) (first later : List Packet) → functions_after b functions (first ++ later) ≡ functions_after b (functions_after b functions first) later }
     ensures count { (b : Behaviour F) (functions : List F) (packets : List Packet) → length (fates b functions packets) ≡ length packets }
     ensures within { (b : Behaviour F) (time : ℕ) (functions : List F) (frame : List ℕ) → EndsWithin (length functions) (walk b time 1 functions frame).fate }
+{}
+
+/// Functions whose counting is left out keep to their profiles, and those that count don't change.
+pub fn quiet_functions_keep_to_profiles<F>()
+    ensures keeps { (b : Behaviour F) → KeepsProfile b → KeepsProfile (quiet b) }
+    ensures still { (b : Behaviour F) → IsQuiet (quiet b) }
 {}

@@ -11,6 +11,11 @@
 //! definition. `KeepsProfile` of `specs/Laws.antt` is what every function keeps to. From it alone,
 //! [`frames_walk_as_fields`] says that a frame walks as its fields do, and [`values_stay_well_formed`] that
 //! a function leaves values in the form that those of a frame have.
+//!
+//! A function that counts is one function like any other, whose step notes a packet and settles the note. Beside the walk
+//! stand, for what runs such a function before it is known whether an earlier one drops the packet, the same functions
+//! with their counting left out (`quiet` of `specs/Counting.antt`, and [`quiet_functions_keep_to_profiles`]), and what
+//! the note of a packet is, and how it is settled (`CountsByNotes` of `specs/Notes.antt`).
 #![tactic(auto)]
 
 mod fixed;
@@ -20,8 +25,8 @@ mod walk;
 
 pub use fixed::Fixed;
 pub use laws::{
-    frames_are_built_again, frames_walk_as_fields, packets_walk_in_a_row, step_is_put_together,
-    values_stay_well_formed,
+    frames_are_built_again, frames_walk_as_fields, packets_walk_in_a_row,
+    quiet_functions_keep_to_profiles, step_is_put_together, values_stay_well_formed,
 };
 pub use verdict::Verdict;
 pub use walk::Fate;

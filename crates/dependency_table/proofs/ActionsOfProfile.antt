@@ -13,7 +13,7 @@ use Rattle.action_profile.specs.Profiles.{reads_of, writes_of}
 use Rattle.dependency_table.specs.Actions.{all_actions, may, has_action, actions}
 use Rattle.dependency_table.specs.Table.{is_same, forbids, pairs, first_forbidden, copied, free_or_copy, pair_of, is_allowed}
 use Rattle.dependency_table.specs.declared.action.Action.{Action}
-use Rattle.dependency_table.specs.declared.action.Action.TheVariants.{Pass, Read, Write, Drop, State, Whole}
+use Rattle.dependency_table.specs.declared.action.Action.TheVariants.{Pass, Read, Write, Drop, State, Count, Whole}
 use Rattle.dependency_table.specs.declared.action.Answer.{Answer}
 use Rattle.dependency_table.specs.declared.action.Answer.TheVariants.{Forbidden}
 use Rattle.dependency_table.proofs.Among.{Among, among_left, among_right, among_map, among_filter, among_filtered, any_passes, find_none, side, among_sides}
@@ -59,14 +59,15 @@ among_fields Payload = inr (inr (inr (inr (inr (inr (inr (inr (inr (inl refl))))
 -- every action stands among all
 among_all : (a : Action) → Among a all_actions
 unfolding all_actions Among
-among_all (Read f) = among_left (Read f) (map (λ f. Read f) all_fields ++ map (λ f. Write f) all_fields) (Drop ∷ State ∷ Whole ∷ Pass ∷ [])
+among_all (Read f) = among_left (Read f) (map (λ f. Read f) all_fields ++ map (λ f. Write f) all_fields) (Drop ∷ State ∷ Count ∷ Whole ∷ Pass ∷ [])
     (among_left (Read f) (map (λ f. Read f) all_fields) (map (λ f. Write f) all_fields) (among_map (λ f. Read f) f all_fields (among_fields f)))
-among_all (Write f) = among_left (Write f) (map (λ f. Read f) all_fields ++ map (λ f. Write f) all_fields) (Drop ∷ State ∷ Whole ∷ Pass ∷ [])
+among_all (Write f) = among_left (Write f) (map (λ f. Read f) all_fields ++ map (λ f. Write f) all_fields) (Drop ∷ State ∷ Count ∷ Whole ∷ Pass ∷ [])
     (among_right (Write f) (map (λ f. Read f) all_fields) (map (λ f. Write f) all_fields) (among_map (λ f. Write f) f all_fields (among_fields f)))
-among_all Drop = among_right Drop (map (λ f. Read f) all_fields ++ map (λ f. Write f) all_fields) (Drop ∷ State ∷ Whole ∷ Pass ∷ []) (inl refl)
-among_all State = among_right State (map (λ f. Read f) all_fields ++ map (λ f. Write f) all_fields) (Drop ∷ State ∷ Whole ∷ Pass ∷ []) (inr (inl refl))
-among_all Whole = among_right Whole (map (λ f. Read f) all_fields ++ map (λ f. Write f) all_fields) (Drop ∷ State ∷ Whole ∷ Pass ∷ []) (inr (inr (inl refl)))
-among_all Pass = among_right Pass (map (λ f. Read f) all_fields ++ map (λ f. Write f) all_fields) (Drop ∷ State ∷ Whole ∷ Pass ∷ []) (inr (inr (inr (inl refl))))
+among_all Drop = among_right Drop (map (λ f. Read f) all_fields ++ map (λ f. Write f) all_fields) (Drop ∷ State ∷ Count ∷ Whole ∷ Pass ∷ []) (inl refl)
+among_all State = among_right State (map (λ f. Read f) all_fields ++ map (λ f. Write f) all_fields) (Drop ∷ State ∷ Count ∷ Whole ∷ Pass ∷ []) (inr (inl refl))
+among_all Count = among_right Count (map (λ f. Read f) all_fields ++ map (λ f. Write f) all_fields) (Drop ∷ State ∷ Count ∷ Whole ∷ Pass ∷ []) (inr (inr (inl refl)))
+among_all Whole = among_right Whole (map (λ f. Read f) all_fields ++ map (λ f. Write f) all_fields) (Drop ∷ State ∷ Count ∷ Whole ∷ Pass ∷ []) (inr (inr (inr (inl refl))))
+among_all Pass = among_right Pass (map (λ f. Read f) all_fields ++ map (λ f. Write f) all_fields) (Drop ∷ State ∷ Count ∷ Whole ∷ Pass ∷ []) (inr (inr (inr (inr (inl refl)))))
 
 pub stands : (p : Profile) (a : Action) → has_action p a ≡ true → Among a (actions p)
 unfolding actions
@@ -81,6 +82,7 @@ may_has p (Read f) h = h
 may_has p (Write f) h = h
 may_has p Drop h = h
 may_has p State h = h
+may_has p Count h = h
 may_has p Whole h = h
 may_has p Pass h = cc
 
@@ -122,6 +124,7 @@ whole_second (Read f) = refl
 whole_second (Write f) = refl
 whole_second Drop = refl
 whole_second State = refl
+whole_second Count = refl
 whole_second Whole = refl
 
 pub second_in_parts : (x y : Profile) → is_allowed (pair_of x y) ≡ true → y.whole ≡ false

@@ -1,12 +1,12 @@
 -- Rows of the table, computed by the definitions.
 use Rattle.std.proofs.Common.{◌≡◌, refl, [], ◌∷◌, true}
-use Rattle.packet_fields.specs.declared.field.Field.TheVariants.{Tag, Tos, Ttl, SrcIp, DstIp, Payload}
+use Rattle.packet_fields.specs.declared.field.Field.TheVariants.{Tag, Tos, Ttl, SrcIp, DstIp, SrcPort, DstPort, Payload}
 use Rattle.action_profile.specs.declared.kind.Kind.TheVariants.{Firewall, Signature, Nat, Balancer, Monitor, Marker, Hop, Redactor, Tagger, Untagger}
 use Rattle.action_profile.specs.FieldSets.{fields}
 use Rattle.action_profile.specs.Profiles.{plain, profile_of}
 use Rattle.dependency_table.specs.Actions.{all_actions, actions}
 use Rattle.dependency_table.specs.Table.{pairs, first_forbidden, is_copied, copied, pair_of}
-use Rattle.dependency_table.specs.declared.action.Action.TheVariants.{Pass, Read, Write, Drop, State, Whole}
+use Rattle.dependency_table.specs.declared.action.Action.TheVariants.{Pass, Read, Write, Drop, State, Count, Whole}
 use Rattle.dependency_table.specs.declared.action.Answer.TheVariants.{Free, Copy, Forbidden}
 
 -- the actions of a tagger, in the fields' order
@@ -21,6 +21,15 @@ idle_actions = refl
 drop_before_state : pair_of (profile_of Firewall) (profile_of Nat) ≡ Forbidden Drop State
 unfolding pair_of first_forbidden pairs actions all_actions copied is_copied
 drop_before_state = refl
+
+-- what a firewall drops, a monitor beside it counts only once it knows
+drop_before_count : pair_of (profile_of Firewall) (profile_of Monitor) ≡ Free
+unfolding pair_of first_forbidden pairs actions all_actions copied is_copied
+drop_before_count = refl
+
+monitor_actions : actions (profile_of Monitor) ≡ Read SrcIp ∷ Read DstIp ∷ Read SrcPort ∷ Read DstPort ∷ Count ∷ []
+unfolding actions all_actions
+monitor_actions = refl
 
 write_before_read : pair_of (profile_of Nat) (profile_of Monitor) ≡ Forbidden (Write SrcIp) (Read SrcIp)
 unfolding pair_of first_forbidden pairs actions all_actions copied is_copied

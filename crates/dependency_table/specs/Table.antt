@@ -9,7 +9,7 @@ use Rattle.action_profile.specs.declared.rights.Profile.{Profile}
 use Rattle.action_profile.specs.declared.field_set.FieldSet.{FieldSet}
 use Rattle.dependency_table.specs.Actions.{actions}
 use Rattle.dependency_table.specs.declared.action.Action.{Action}
-use Rattle.dependency_table.specs.declared.action.Action.TheVariants.{Read, Write, Drop, State, Whole}
+use Rattle.dependency_table.specs.declared.action.Action.TheVariants.{Read, Write, Drop, State, Count, Whole}
 use Rattle.dependency_table.specs.declared.action.Answer.{Answer}
 use Rattle.dependency_table.specs.declared.action.Answer.TheVariants.{Free, Copy, Forbidden}
 
@@ -17,12 +17,14 @@ use Rattle.dependency_table.specs.declared.action.Answer.TheVariants.{Free, Copy
 abbrev pub is_same : Field → Field → Bool
 is_same f g = number_of f == number_of g
 
--- an action of x forbids one of y beside it: y would read what x writes, keep a state of what x drops, or either works on the frame as a whole
+-- An action of x forbids one of y beside it: y would read what x writes, keep a state of what x drops, or either works on the frame as a whole.
+-- What y counts is forbidden by no drop of x: its note of a packet waits until it is known whether x drops it.
 abbrev pub forbids : Action → Action → Bool
 forbids Whole b = true
 forbids a Whole = true
 forbids (Write f) (Read g) = is_same f g
 forbids Drop State = true
+forbids Drop Count = false
 forbids a b = false
 
 -- an action of x and one of y each need a copy of this field: y writes it, and x reads or writes it

@@ -19,6 +19,8 @@ pub enum Action {
     Drop,
     /// Keeps a state from one packet to the next.
     State,
+    /// Notes the packet, whose note is settled once it is known that no earlier function dropped it.
+    Count,
     /// Works on the frame as a whole.
     Whole,
 }
@@ -34,7 +36,7 @@ pub enum Answer {
     Forbidden { first: Action, second: Action },
 }
 
-const ACTIONS: [Action; 24] = [
+const ACTIONS: [Action; 25] = [
     Action::Read(Field::LinkDst),
     Action::Read(Field::LinkSrc),
     Action::Read(Field::Tag),
@@ -57,6 +59,7 @@ const ACTIONS: [Action; 24] = [
     Action::Write(Field::Payload),
     Action::Drop,
     Action::State,
+    Action::Count,
     Action::Whole,
     Action::Pass,
 ];

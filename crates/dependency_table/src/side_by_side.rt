@@ -112,6 +112,7 @@ fn may(profile: &Profile, action: Action) -> bool
         Action::Write(field) => profile.writes_field(field),
         Action::Drop => profile.drops,
         Action::State => profile.state,
+        Action::Count => profile.counts,
         Action::Whole => profile.whole,
     }
 }

@@ -4,6 +4,7 @@ use Rattle.std.proofs.lemmas.List.{length-map, map-append, length-take-le}
 use Rattle.packet_fields.specs.Writing.{over}
 use Rattle.action_profile.specs.declared.rights.Profile.{Profile}
 use Rattle.chain_walk.specs.FieldWalk.{End, End.Out, End.Gone, Ended, walk_fields, then_ended}
+use Rattle.chain_walk.specs.Counting.{IsQuiet}
 use Rattle.chain_walk.specs.Laws.{KeepsProfile}
 use Rattle.chain_walk.specs.Shown.{Values}
 use Rattle.chain_walk.specs.Step.{Behaviour, Step, stepped, is_drop}
@@ -31,14 +32,14 @@ abbrev led : {F : Type 0} → List F → Ended F → Ended F
 led pre w = record { functions = pre ++ w.functions; end = w.end }
 
 -- a walk with the functions before it and behind it
-abbrev between : {F : Type 0} → List F → Ended F → List F → Ended F
+abbrev pub between : {F : Type 0} → List F → Ended F → List F → Ended F
 between pre w post = record { functions = pre ++ (w.functions ++ post); end = w.end }
 
 -- a lawful stage walks its functions
-stage_fits : {F : Type 0} (b : Behaviour F) (fixed : Fixed) (chain : List Profile) (stage : Stage) (p : ℕ) (pre mid post : List F) (values : Values) →
-    KeepsProfile b → Independent → HasOwners chain p stage → chain ≡ map b.profile (pre ++ (mid ++ post)) → suc (length pre) ≡ p → length mid ≡ size stage.branches →
+pub stage_fits : {F : Type 0} (b : Behaviour F) (fixed : Fixed) (chain : List Profile) (stage : Stage) (p : ℕ) (pre mid post : List F) (values : Values) →
+    KeepsProfile b → IsQuiet b → Independent → HasOwners chain p stage → chain ≡ map b.profile (pre ++ (mid ++ post)) → suc (length pre) ≡ p → length mid ≡ size stage.branches →
     staged b fixed stage values (pre ++ (mid ++ post)) ≡ between pre (walk_fields b fixed p mid values) post
-stage_fits {F} b fixed chain stage p pre mid post values law free owners is_chain at_p count =
+stage_fits {F} b fixed chain stage p pre mid post values law calm free owners is_chain at_p count =
     let parted : chain ≡ map b.profile pre ++ (map b.profile mid ++ map b.profile post) = is_chain ∙ map-append b.profile pre (mid ++ post) ∙ ap (λ r. map b.profile pre ++ r) (map-append b.profile mid post) in
     let first : suc (length (map b.profile pre)) ≡ p = ap suc (length-map pre b.profile) ∙ at_p in
     let many : length (map b.profile mid) ≡ size stage.branches = length-map mid b.profile ∙ count in
@@ -48,14 +49,14 @@ stage_fits {F} b fixed chain stage p pre mid post values law free owners is_chai
     branched_is b fixed side 0 p (size stage.branches) stage.branches stage.parts.touches values pre mid post at_p count owners.touches
     (listed_from side 0 p (size stage.branches) stage.branches (λ j x e. owners.listed j x e ∙ ap (λ d. places side d p (size stage.branches)) (omega arith))) in
     let fits : ◌≡◌ {A = Ended F} (record { functions = run.functions; end = merged values run.arrivals }) (walk_fields b fixed p mid values) =
-    sides_fit b fixed side p stage.parts.touches mid values law
+    sides_fit b fixed side p stage.parts.touches mid values law calm
     (owned_apart chain p stage (map b.profile pre) (map b.profile mid) (map b.profile post) free owners parted first many)
     (owned_all_touched chain p stage (map b.profile pre) (map b.profile mid) (map b.profile post) owners parted first many)
     (omega arith) (λ q low high. let l = owners.owned q low (omega arith) in let m = owners.touches in omega arith) in
     (λ i. record { functions = (is i).functions; end = merged values (is i).arrivals }) ∙ ap (λ w. between pre w post) fits
 
 -- what walks behind some functions that have walked, where the packet is still there
-unfoldable then_rest : {F : Type 0} → List F → End → List F → (Values → Ended F) → Ended F
+unfoldable pub then_rest : {F : Type 0} → List F → End → List F → (Values → Ended F) → Ended F
 then_rest done (Gone q) later on = record { functions = done ++ later; end = Gone q }
 then_rest done (Out values) later on = record { functions = done ++ (on values).functions; end = (on values).end }
 
@@ -64,7 +65,7 @@ unfolding then_rest
 rest_more f done (Out values) later on = refl
 rest_more f done (Gone q) later on = refl
 
-walk_append : {F : Type 0} (b : Behaviour F) (fixed : Fixed) (p : ℕ) (xs ys : List F) (values : Values) →
+pub walk_append : {F : Type 0} (b : Behaviour F) (fixed : Fixed) (p : ℕ) (xs ys : List F) (values : Values) →
     walk_fields b fixed p (xs ++ ys) values ≡ then_rest (walk_fields b fixed p xs values).functions (walk_fields b fixed p xs values).end ys (walk_fields b fixed (p + length xs) ys)
 unfolding walk_fields then_rest
 walk_append b fixed p [] ys values = ap (λ q. walk_fields b fixed q ys values) (omega arith)
@@ -108,17 +109,17 @@ flow_more {F} b fixed s stages p pre mid post values law at_p is on =
 
 -- the stages from the one that begins at position p on, with the functions before it
 flow_fits : {F : Type 0} (b : Behaviour F) (fixed : Fixed) (chain : List Profile) (stages : List Stage) (p : ℕ) (pre rest : List F) (values : Values) →
-    KeepsProfile b → Lower → chain ≡ map b.profile (pre ++ rest) → suc (length pre) ≡ p → IsStaged chain p stages (suc (length chain)) →
+    KeepsProfile b → IsQuiet b → Lower → chain ≡ map b.profile (pre ++ rest) → suc (length pre) ≡ p → IsStaged chain p stages (suc (length chain)) →
     flow b fixed stages values (pre ++ rest) ≡ led pre (walk_fields b fixed p rest values)
 unfolding flow IsStaged walk_fields
-flow_fits b fixed chain [] p pre [] values law lower is at_p staged = refl
-flow_fits b fixed chain [] p pre (f ∷ rest) values law lower is at_p staged =
+flow_fits b fixed chain [] p pre [] values law calm lower is at_p staged = refl
+flow_fits b fixed chain [] p pre (f ∷ rest) values law calm lower is at_p staged =
     absurd (let n = ap length is in let m = length-map (pre ++ (f ∷ rest)) b.profile in let k = length-append pre (f ∷ rest) in let s = staged in omega arith)
-flow_fits {F} b fixed chain (s ∷ stages) p pre rest values law lower is at_p staged =
+flow_fits {F} b fixed chain (s ∷ stages) p pre rest values law calm lower is at_p staged =
     ap (λ l. flow b fixed (s ∷ stages) values (pre ++ l)) (sym parts)
     ∙ flow_more b fixed s stages p pre mid post values law at_p
-    (stage_fits b fixed chain s p pre mid post values law lower.independent (lower.owners chain p s staged.0) is_parted at_p many)
-    (λ done after size_kept profiles_kept. flow_fits b fixed chain stages (p + length mid) done post after law lower (is_parted ∙ sym profiles_kept) size_kept later)
+    (stage_fits b fixed chain s p pre mid post values law calm lower.independent (lower.owners chain p s staged.0) is_parted at_p many)
+    (λ done after size_kept profiles_kept. flow_fits b fixed chain stages (p + length mid) done post after law calm lower (is_parted ∙ sym profiles_kept) size_kept later)
     ∙ ap (λ l. led pre (walk_fields b fixed p l values)) parts
   where
     mid : List F
@@ -144,6 +145,6 @@ flow_fits {F} b fixed chain (s ∷ stages) p pre rest values law lower is at_p s
 
 -- a lawful graph
 pub graph_fits : {F : Type 0} (b : Behaviour F) (fixed : Fixed) (graph : Graph) (functions : List F) (values : Values) →
-    KeepsProfile b → Lower → IsStaged (map b.profile functions) 1 graph.stages (suc (length (map b.profile functions))) →
+    KeepsProfile b → IsQuiet b → Lower → IsStaged (map b.profile functions) 1 graph.stages (suc (length (map b.profile functions))) →
     flow b fixed graph.stages values functions ≡ walk_fields b fixed 1 functions values
-graph_fits b fixed graph functions values law lower staged = flow_fits b fixed (map b.profile functions) graph.stages 1 [] functions values law lower refl refl staged
+graph_fits b fixed graph functions values law calm lower staged = flow_fits b fixed (map b.profile functions) graph.stages 1 [] functions values law calm lower refl refl staged

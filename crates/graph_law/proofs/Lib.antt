@@ -12,3 +12,6 @@ pub mod FlowIsWalk
 pub mod KeptProfiles
 pub mod Present
 pub mod Dropping
+pub mod Settling
+pub mod SideNotes
+pub mod FlowNotes

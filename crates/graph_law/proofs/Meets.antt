@@ -4,6 +4,7 @@ use Rattle.std.specs.Prelude.{◌⊎◌}
 use Rattle.packet_fields.specs.Writing.{over}
 use Rattle.packet_fields.specs.declared.field.Field.{Field}
 use Rattle.chain_walk.specs.FieldWalk.{End, End.Out, End.Gone, Ended, walk_fields}
+use Rattle.chain_walk.specs.Counting.{IsQuiet}
 use Rattle.chain_walk.specs.Laws.{KeepsProfile}
 use Rattle.chain_walk.specs.Shown.{Values}
 use Rattle.chain_walk.specs.Step.{Behaviour, Step, stepped, is_drop}
@@ -50,14 +51,14 @@ stateless_agree b side c p (f ∷ fs) [] a h = absurd a
 stateless_agree b side c p (f ∷ fs) (g ∷ gs) a h = (λ e. ap (λ y. (b.profile y).state) (sym (a.0 e)) ∙ h.0 e, stateless_agree b side c (p + 1) fs gs a.1 h.1)
 
 pub meets : {F : Type 0} (b : Behaviour F) (fixed : Fixed) (side : ℕ → ℕ) (c p : ℕ) (fs gs : List F) (values : Values) (last : Field → ℕ) (v : Version) →
-    KeepsProfile b → Apart side p (map b.profile fs) → Agree side c p fs gs → Near side c p (map b.profile fs) values last v →
+    KeepsProfile b → IsQuiet b → Apart side p (map b.profile fs) → Agree side c p fs gs → Near side c p (map b.profile fs) values last v →
     Ends side c p (walk_fields b fixed p fs values) (last_of b fixed p fs values last) (ran b fixed side c p gs (Live v))
 unfolding Agree Apart walk_fields ran last_of Reads Writes moved_function moved_end
-meets b fixed side c p [] [] values last v law apart agree n = record { functions = tt; arrival = n.same }
-meets b fixed side c p [] (g ∷ gs) values last v law apart agree n = absurd agree
-meets b fixed side c p (f ∷ fs) [] values last v law apart agree n = absurd agree
-meets {F} b fixed side c p (f ∷ fs) (g ∷ gs) values last v law apart agree n =
-    go (is_or_not (side p) c) (is_drop t.verdict) refl (λ values' last' v' n'. meets b fixed side c (p + 1) fs gs values' last' v' law apart.1 agree.1 n')
+meets b fixed side c p [] [] values last v law calm apart agree n = record { functions = tt; arrival = n.same }
+meets b fixed side c p [] (g ∷ gs) values last v law calm apart agree n = absurd agree
+meets b fixed side c p (f ∷ fs) [] values last v law calm apart agree n = absurd agree
+meets {F} b fixed side c p (f ∷ fs) (g ∷ gs) values last v law calm apart agree n =
+    go (is_or_not (side p) c) (is_drop t.verdict) refl (λ values' last' v' n'. meets b fixed side c (p + 1) fs gs values' last' v' law calm apart.1 agree.1 n')
   where
     t : Step F
     t = stepped b fixed f values
@@ -69,7 +70,7 @@ meets {F} b fixed side c p (f ∷ fs) (g ∷ gs) values last v law apart agree n
         ((values' : Values) (last' : Field → ℕ) (v' : Version) → Near side c (p + 1) (map b.profile fs) values' last' v' → Ends side c (p + 1) (walk_fields b fixed (p + 1) fs values') (last_of b fixed (p + 1) fs values' last') (ran b fixed side c (p + 1) gs (Live v'))) →
         Ends side c p (walk_fields b fixed p (f ∷ fs) values) (last_of b fixed p (f ∷ fs) values last) (ran b fixed side c p (g ∷ gs) (Live v))
     go (inr ne) true is ih =
-        let q = ran_quiet b fixed side c (p + 1) gs v law (stateless_agree b side c (p + 1) fs gs agree.1 (apart.0.stateless c ne (declared (b.profile f).drops (is_drop t.verdict) (law.drops fixed f values) is))) in
+        let q = ran_quiet b fixed side c (p + 1) gs v law calm (stateless_agree b side c (p + 1) fs gs agree.1 (apart.0.stateless c ne (declared (b.profile f).drops (is_drop t.verdict) (law.drops fixed f values) is))) in
         rw (is, ran_elsewhere b fixed side c p g gs (Live v) ne) (record { functions = ((λ e. absurd (ne e)), agree_trans side c (p + 1) fs gs _ agree.1 q.functions); arrival = late_meets side c p last _ ne q.arrival })
     go (inr ne) false is ih =
         let e = ih (over t.written values) (marks p t.written last) v (near_other b fixed side c p f (map b.profile fs) values last v law ne (λ x. apart.0.unread c x ne) n) in

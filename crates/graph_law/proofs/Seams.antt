@@ -16,17 +16,17 @@ use Rattle.graph_law.proofs.Sides.{ran, ran_here, ran_elsewhere, length_ran, sid
 abbrev pub places : (ℕ → ℕ) → ℕ → ℕ → ℕ → List ℕ
 places side c p n = filter (λ q. side q == c) (range_with_len p n)
 
-places_here : (side : ℕ → ℕ) (c p n : ℕ) → side p ≡ c → places side c p (suc n) ≡ p ∷ places side c (p + 1) n
+pub places_here : (side : ℕ → ℕ) (c p n : ℕ) → side p ≡ c → places side c p (suc n) ≡ p ∷ places side c (p + 1) n
 places_here side c p n e = rw (eq-eqb (side p) c e) refl
 
-places_elsewhere : (side : ℕ → ℕ) (c p n : ℕ) → side p ≢ c → places side c p (suc n) ≡ places side c (p + 1) n
+pub places_elsewhere : (side : ℕ → ℕ) (c p n : ℕ) → side p ≢ c → places side c p (suc n) ≡ places side c (p + 1) n
 places_elsewhere side c p n ne = rw (ne_eqb (side p) c ne) refl
 
-get_seam : {A : Type 0} (pre : List A) (f : A) (post : List A) → slice_get (pre ++ f ∷ post) (length pre) ≡ Some f
+pub get_seam : {A : Type 0} (pre : List A) (f : A) (post : List A) → slice_get (pre ++ f ∷ post) (length pre) ≡ Some f
 get_seam [] f post = refl
 get_seam (x ∷ pre) f post = get_seam pre f post
 
-met_seam : {F : Type 0} (b : Behaviour F) (fixed : Fixed) (p : ℕ) (pre : List F) (f : F) (rest : List F) (a : BranchEnd) → suc (length pre) ≡ p →
+pub met_seam : {F : Type 0} (b : Behaviour F) (fixed : Fixed) (p : ℕ) (pre : List F) (f : F) (rest : List F) (a : BranchEnd) → suc (length pre) ≡ p →
     met b fixed p (slice_get (pre ++ (f ∷ rest)) (p - 1)) (pre ++ (f ∷ rest)) a ≡ record { functions = pre ++ (moved_function b fixed f a ∷ rest); arrival = moved_end b fixed p f a }
 unfolding met
 met_seam {F} b fixed p pre f rest a e =

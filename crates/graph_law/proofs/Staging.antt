@@ -6,6 +6,7 @@ use Rattle.action_profile.specs.Modes.{has_touch}
 use Rattle.action_profile.specs.declared.parts.Touch.{Touch}
 use Rattle.action_profile.specs.declared.rights.Profile.{Profile}
 use Rattle.chain_walk.specs.FieldWalk.{Ended, walk_fields}
+use Rattle.chain_walk.specs.Counting.{IsQuiet}
 use Rattle.chain_walk.specs.Laws.{KeepsProfile}
 use Rattle.chain_walk.specs.Shown.{Values}
 use Rattle.chain_walk.specs.Step.{Behaviour}
@@ -21,7 +22,7 @@ use Rattle.graph_law.proofs.Sides.{ran, sides, is_or_not, Agree, agree_refl, agr
 use Rattle.graph_law.proofs.Walking.{walk_gone, length_walk, last_within, untouched}
 
 -- each branch is dealt what its functions are shown
-near_dealt : (side : ℕ → ℕ) (c p : ℕ) (fs : List Profile) (t : Touch) (values : Values) → 0 < p → Touched side c p fs t →
+pub near_dealt : (side : ℕ → ℕ) (c p : ℕ) (fs : List Profile) (t : Touch) (values : Values) → 0 < p → Touched side c p fs t →
     Near side c p fs values (λ x. 0) (record { values = λ x. if has_touch x t then values x else None; writers = λ x. 0 })
 near_dealt side c p fs t values pos touched = record {
   reads = λ x r. rw (touched.reads x r) refl;
@@ -38,14 +39,14 @@ record AllEnd {F : Type 0} (side : ℕ → ℕ) (c n p : ℕ) (gs : List F) (w :
   before : (d : ℕ) → d < c → Agree side d p gs r.functions
 
 all_end : {F : Type 0} (b : Behaviour F) (fixed : Fixed) (side : ℕ → ℕ) (c p : ℕ) (touches : List Touch) (fs gs : List F) (values : Values) →
-    KeepsProfile b → Apart side p (map b.profile fs) → AllTouched side c p (map b.profile fs) touches → 0 < p → ((d : ℕ) → c ≤ d → Agree side d p fs gs) →
+    KeepsProfile b → IsQuiet b → Apart side p (map b.profile fs) → AllTouched side c p (map b.profile fs) touches → 0 < p → ((d : ℕ) → c ≤ d → Agree side d p fs gs) →
     AllEnd side c (length touches) p gs (walk_fields b fixed p fs values) (last_of b fixed p fs values (λ x. 0)) (sides b fixed side c p touches values gs)
 unfolding sides AllMeet AllTouched
-all_end b fixed side c p [] fs gs values law apart touched pos agree = record { arrivals = tt; count = refl; done = λ d l h. absurd (omega arith); before = λ d l. agree_refl side d p gs }
-all_end {F} b fixed side c p (t ∷ touches) fs gs values law apart touched pos agree =
-    let e = meets b fixed side c p fs gs values (λ x. 0) _ law apart (agree c (omega arith)) (near_dealt side c p (map b.profile fs) t values pos touched.0) in
+all_end b fixed side c p [] fs gs values law calm apart touched pos agree = record { arrivals = tt; count = refl; done = λ d l h. absurd (omega arith); before = λ d l. agree_refl side d p gs }
+all_end {F} b fixed side c p (t ∷ touches) fs gs values law calm apart touched pos agree =
+    let e = meets b fixed side c p fs gs values (λ x. 0) _ law calm apart (agree c (omega arith)) (near_dealt side c p (map b.profile fs) t values pos touched.0) in
     let r : Ran F = ran b fixed side c p gs (dealt t values) in
-    let ih = all_end b fixed side (c + 1) p touches fs r.functions values law apart touched.1 pos (λ d l. agree_trans side d p fs gs _ (agree d (omega arith)) (ran_others b fixed side c d p gs (dealt t values) (λ x. omega arith))) in
+    let ih = all_end b fixed side (c + 1) p touches fs r.functions values law calm apart touched.1 pos (λ d l. agree_trans side d p fs gs _ (agree d (omega arith)) (ran_others b fixed side c d p gs (dealt t values) (λ x. omega arith))) in
     record {
       arrivals = (e.arrival, ih.arrivals);
       count = let n = ih.count in omega arith;
@@ -59,10 +60,10 @@ all_end {F} b fixed side c p (t ∷ touches) fs gs values law apart touched pos 
 
 -- the branches of a stage, merged, are the walk through its functions
 pub sides_fit : {F : Type 0} (b : Behaviour F) (fixed : Fixed) (side : ℕ → ℕ) (p : ℕ) (touches : List Touch) (fs : List F) (values : Values) →
-    KeepsProfile b → Apart side p (map b.profile fs) → AllTouched side 0 p (map b.profile fs) touches → 0 < p → ((q : ℕ) → p ≤ q → q < p + length fs → side q < length touches) →
+    KeepsProfile b → IsQuiet b → Apart side p (map b.profile fs) → AllTouched side 0 p (map b.profile fs) touches → 0 < p → ((q : ℕ) → p ≤ q → q < p + length fs → side q < length touches) →
     ◌≡◌ {A = Ended F} (record { functions = (sides b fixed side 0 p touches values fs).functions; end = merged values (sides b fixed side 0 p touches values fs).arrivals }) (walk_fields b fixed p fs values)
-sides_fit {F} b fixed side p touches fs values law apart touched pos inside =
-    let e = all_end b fixed side 0 p touches fs fs values law apart touched pos (λ d l. agree_refl side d p fs) in
+sides_fit {F} b fixed side p touches fs values law calm apart touched pos inside =
+    let e = all_end b fixed side 0 p touches fs fs values law calm apart touched pos (λ d l. agree_refl side d p fs) in
     let count : length (sides b fixed side 0 p touches values fs).arrivals ≡ length touches = e.count in
     let size : length (walk_fields b fixed p fs values).functions ≡ length fs = length_walk b fixed p fs values in
     let same : (walk_fields b fixed p fs values).functions ≡ (sides b fixed side 0 p touches values fs).functions = agree_all side (length touches) p _ _ (λ q l u. inside q l (omega arith)) (λ d l. e.done d (omega arith) (omega arith)) (size ∙ sym (length_sides b fixed side 0 p touches values fs)) in

@@ -1,11 +1,14 @@
 //! The law of graphs, and what else stays of functions and packets on the way.
-ghost use Rattle.std.specs.Prelude.{◌≡◌, ℕ, List, length, map, is_some, IsTrue};
+ghost use Rattle.std.specs.Prelude.{◌≡◌, ◌++◌, ◌∷◌, ℕ, List, Some, None, length, map, slice_get, is_some, IsTrue};
 ghost use Rattle.std.specs.List.{list_any};
 ghost use Rattle.packet_fields.specs.declared.field.Field.{Field};
 ghost use Rattle.action_profile.specs.declared.parts.Touch.{Touch};
 ghost use Rattle.action_profile.specs.declared.rights.Profile.{Profile};
 ghost use Rattle.chain_walk.specs.Shown.{Values};
 ghost use Rattle.chain_walk.specs.Step.{Behaviour};
+ghost use Rattle.chain_walk.specs.Counting.{quiet, IsQuiet};
+ghost use Rattle.chain_walk.specs.Notes.{Notes, noted, CountsByNotes};
+ghost use Rattle.chain_walk.specs.Packets.{Packet, fates, functions_after};
 ghost use Rattle.chain_walk.specs.Laws.{KeepsProfile};
 ghost use Rattle.chain_walk.specs.FieldWalk.{End.Out, End.Gone, Ended, walk_fields};
 ghost use Rattle.chain_walk.specs.declared.fixed.Fixed.{Fixed};
@@ -15,17 +18,21 @@ ghost use Rattle.graph_compile.specs.declared.graph.Branch.{Branch};
 ghost use Rattle.graph_compile.specs.declared.graph.Graph.{Graph};
 ghost use Rattle.graph_compile.specs.declared.graph.Stage.{Stage};
 ghost use Rattle.graph_law.specs.Branches.{BranchEnd, in_turn};
+ghost use Rattle.graph_law.specs.BranchNotes.{flow_notes, gone_before, kept_by, taken_by};
 ghost use Rattle.graph_law.specs.Flow.{branched, staged, flow};
+ghost use Rattle.graph_law.specs.NotedWalk.{walk_notes, settled_all, packet_notes, settled_in_turn};
 
+use chain_walk::{frames_walk_as_fields, quiet_functions_keep_to_profiles};
 use dependency_table::beside_is_independent;
 use graph_compile::{lawful_graph_is_staged, lawful_stage_has_owners, stages_rise};
 
 /// A packet that goes through the stages of a lawful graph, each with a branch and each branch with a
 /// function, ends as one that walks through the functions of the chain one after another, and the
-/// functions are left in the same states.
+/// functions are left in the same states. No function that counts changes here: what it notes of a packet
+/// is settled behind the graph.
 pub fn graph_is_chain<F>()
     ensures { (b : Behaviour F) (fixed : Fixed) (graph : Graph) (functions : List F) (values : Values) →
-        KeepsProfile b → IsLawful graph (map b.profile functions) → IsFull graph →
+        KeepsProfile b → IsQuiet b → IsLawful graph (map b.profile functions) → IsFull graph →
         ◌≡◌ {A = Ended F} (flow b fixed graph.stages values functions) (walk_fields b fixed 1 functions values) }
 {
     lawful_graph_is_staged();
@@ -75,3 +82,46 @@ pub fn stage_reached<F>()
     ensures graph { (b : Behaviour F) (fixed : Fixed) (stages : List Stage) (functions : List F) (values : Values) (position : ℕ) →
         (flow b fixed stages values functions).end ≡ Gone position → IsTrue (list_any (stands position) stages) }
 {}
+
+/// Packets walk through functions that count as they walk without the counting, and what each of these
+/// functions noted of a packet may be settled behind all of them, packet after packet. It noted what it was
+/// shown where no function before it dropped the packet, and else nothing.
+pub fn notes_are_settled_behind<F, N>()
+    ensures fates { (b : Behaviour F) (notes : Notes F N) (functions : List F) (packets : List Packet) → KeepsProfile b → CountsByNotes b notes →
+        fates b functions packets ≡ fates (quiet b) functions packets }
+    ensures functions { (b : Behaviour F) (notes : Notes F N) (functions : List F) (packets : List Packet) → KeepsProfile b → CountsByNotes b notes →
+        functions_after b functions packets ≡ settled_in_turn notes (functions_after (quiet b) functions packets) (packet_notes (quiet b) notes functions packets) }
+    // of one packet, by its fields
+    ensures fields { (b : Behaviour F) (notes : Notes F N) (fixed : Fixed) (position : ℕ) (functions : List F) (values : Values) → CountsByNotes b notes →
+        ◌≡◌ {A = Ended F} (walk_fields b fixed position functions values)
+        (record { functions = settled_all notes (walk_fields (quiet b) fixed position functions values).functions (walk_notes (quiet b) notes fixed functions values); end = (walk_fields (quiet b) fixed position functions values).end }) }
+    // as many notes, some of them none, as functions
+    ensures count { (b : Behaviour F) (notes : Notes F N) (fixed : Fixed) (functions : List F) (values : Values) →
+        length (walk_notes b notes fixed functions values) ≡ length functions }
+    // what the functions before it let out with these values, it notes by these values
+    ensures reached { (b : Behaviour F) (notes : Notes F N) (fixed : Fixed) (position : ℕ) (first : List F) (f : F) (later : List F) (values after : Values) →
+        (walk_fields b fixed position first values).end ≡ Out after →
+        slice_get (walk_notes b notes fixed (first ++ f ∷ later) values) (length first) ≡ Some (noted b notes fixed f after) }
+    // what one of them drops, it doesn't note
+    ensures dropped { (b : Behaviour F) (notes : Notes F N) (fixed : Fixed) (position : ℕ) (first : List F) (f : F) (later : List F) (values : Values) (dropped : ℕ) →
+        (walk_fields b fixed position first values).end ≡ Gone dropped →
+        slice_get (walk_notes b notes fixed (first ++ f ∷ later) values) (length first) ≡ Some None }
+{
+    frames_walk_as_fields::<F>();
+    quiet_functions_keep_to_profiles::<F>();
+}
+
+/// What functions note of a packet on its way through a lawful graph, each by the version that its branch
+/// has, is what they note of it in the walk, but for the notes at positions before which the packet was
+/// dropped: these are left, and all others are settled.
+pub fn branches_note_as_the_walk<F, N>()
+    ensures { (b : Behaviour F) (notes : Notes F N) (fixed : Fixed) (graph : Graph) (functions : List F) (values : Values) →
+        KeepsProfile b → IsQuiet b → IsLawful graph (map b.profile functions) → IsFull graph →
+        kept_by (gone_before (walk_fields b fixed 1 functions values).end) graph.stages (flow_notes b notes fixed graph.stages values functions)
+        ≡ taken_by graph.stages (walk_notes b notes fixed functions values) }
+{
+    lawful_graph_is_staged();
+    lawful_stage_has_owners();
+    stages_rise();
+    beside_is_independent();
+}

@@ -11,6 +11,10 @@
 //! the same state. It rests on what profiles say, on the law that every function keeps to its profile, and
 //! on lawfulness alone; what one kind of function does never enters.
 //!
+//! A function that counts keeps still meanwhile: it notes the packet, and its note is settled behind the graph,
+//! once it is known that no function before it dropped the packet. [`notes_are_settled_behind`] says that this
+//! is what the walk does, and [`branches_note_as_the_walk`] that each branch notes what the walk would.
+//!
 //! Beside it stands what whoever runs a graph needs between two steps, for any branches and stages,
 //! lawful or not: functions keep their profiles and their number ([`profiles_stay`]), a packet keeps the
 //! fields that it has ([`fields_stay`]), and one that is gone was dropped in the stage that it is gone
@@ -21,4 +25,7 @@
 
 mod laws;
 
-pub use laws::{fields_stay, graph_is_chain, profiles_stay, stage_reached};
+pub use laws::{
+    branches_note_as_the_walk, fields_stay, graph_is_chain, notes_are_settled_behind,
+    profiles_stay, stage_reached,
+};

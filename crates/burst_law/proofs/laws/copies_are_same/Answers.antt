@@ -2,7 +2,7 @@ use Rattle.burst_law.proofs.Weighing.{copies_same}
 use Rattle.burst_law.proofs.laws.copies_are_same.Goals as goal
 
 pub returns : goal.returns
-returns g c = λ b graph f functions packets law lawful full. copies_same b f graph functions packets
+returns g c = λ b graph f functions packets law calm lawful full. copies_same b f graph functions packets
     (record {
       branch_length = c.profiles_stay.ensures.branch_length;
       stage_length = c.profiles_stay.ensures.stage_length;
@@ -11,4 +11,4 @@ returns g c = λ b graph f functions packets law lawful full. copies_same b f gr
       fields = c.fields_stay.ensures.stage;
       dropped_in = c.stage_reached.ensures.stage;
       dropped_behind = c.stage_reached.ensures.graph;
-    }) law lawful full
+    }) law calm lawful full
