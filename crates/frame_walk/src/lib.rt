@@ -10,6 +10,7 @@
 //! memory runs out, so are the first of them, which passed the packet on, and the others are as before.
 #![tactic(auto)]
 
+mod acting;
 mod step;
 mod walk;
 

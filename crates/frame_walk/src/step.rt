@@ -11,6 +11,7 @@ ghost use Rattle.frame_walk.specs.Stopping.{handed_on, MayHaveSeen};
 ghost use Rattle.merge_ops.specs.Behind.{AreArrivals, AreFrom, value_behind};
 ghost use Rattle.merge_ops.specs.declared.arrival.Arrival.TheVariants.{Version as of_version};
 
+use crate::acting::act;
 use action_profile::{Mode, Profile, StageParts, Touch};
 use chain_walk::step_is_put_together;
 use item_list::Items;
@@ -57,7 +58,7 @@ pub fn step_frame<F: Function, R: Wait>(
     };
     let mut view = version.view(rt, &profile, 1);
     view_is_formed(&view);
-    let verdict = function.step(&mut view);
+    let verdict = act(function, &mut view);
     let version = view.end();
     match verdict? {
         Verdict::Drop => Ok(None),

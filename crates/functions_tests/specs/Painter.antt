@@ -11,6 +11,7 @@ use Rattle.action_profile.specs.declared.rights.Profile.{Profile}
 use Rattle.chain_walk.specs.Shown.{Values}
 use Rattle.chain_walk.specs.Step.{Step, Behaviour, nothing}
 use Rattle.chain_walk.specs.Laws.{KeepsProfile}
+use Rattle.chain_walk.specs.Notes.{Notes, CountsByNotes}
 use Rattle.chain_walk.specs.declared.verdict.Verdict.TheVariants.{Pass, Drop}
 
 abbrev pub painter_profile : Profile
@@ -56,9 +57,16 @@ painter_keeps count make = record {
   stays = λ fixed f v. refl;
   writes = λ fixed f v x h. chosen (λ t. t.written x ≡ None) (nat_le 2 (count f)) _ _ refl (unpainted v x (count f) h);
   drops = λ fixed f v h. absurd cc;
-  state = λ fixed f v h. absurd cc;
+  state = λ fixed f v h counted. absurd cc;
   lengths = λ fixed f v x other formed. chosen (λ t. IfSome (t.written x) (λ new. IsSomeAnd (v x) (λ old. length new ≡ length old))) (nat_le 2 (count f)) _ _ tt (painted_length v x (count f) formed);
   tags = λ fixed f v whole. chosen (λ t. IfSome (t.written Tag) (λ new. (is_tag_list new ≡ true) × IsSomeAnd (v Tag) (λ old. length new ≤ length old + 0))) (nat_le 2 (count f)) _ _ tt tt;
   adds = λ fixed f v h. absurd cc;
   removes = λ fixed f v h. absurd cc;
 }
+
+-- nothing is noted, and nothing settled
+abbrev pub no_notes : {F N : Type 0} → Notes F N
+no_notes = record { look = λ f shown. None; settle = λ f note. f }
+
+pub painter_counts : {F N : Type 0} (count : F → ℕ) (make : ℕ → F) → CountsByNotes {N = N} (painter_behaviour count make) no_notes
+painter_counts count make = record { step = λ fixed f v h. absurd cc; stays = λ f note. refl; looks = λ f note shown. refl }

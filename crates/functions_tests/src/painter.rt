@@ -3,7 +3,7 @@
 ghost use Rattle.std.specs.Prelude.{◌∷◌, []};
 
 use action_profile::{FieldSet, Profile};
-use net_functions::Function;
+use net_functions::{FlowNote, Function};
 use packet_fields::Field;
 use packet_version::{Verdict, View, unwritten_stays, view_is_formed};
 use std::alloc::{AllocError, Global};
@@ -14,9 +14,11 @@ pub struct Painter {
 }
 
 impl Function for Painter {
-    ghost use Rattle.functions_tests.specs.Painter.{painter_behaviour, painter_keeps};
+    ghost use Rattle.functions_tests.specs.Painter.{painter_behaviour, painter_keeps, no_notes, painter_counts};
 
     ghost behaviour = { painter_behaviour (λ f. f.count) (λ n. record { count = n }) };
+
+    ghost notes = { no_notes };
 
     ghost lines = { λ f. f.count ∷ [] };
 
@@ -28,6 +30,7 @@ impl Function for Painter {
             writes: FieldSet::TOS,
             drops: true,
             state: true,
+            counts: false,
             adds: false,
             removes: false,
             whole: false,
@@ -49,6 +52,15 @@ impl Function for Painter {
         Ok(Verdict::Pass)
     }
 
+    // It counts nothing.
+    fn look(&self, _view: &View) -> Option<FlowNote> {
+        None
+    }
+
+    fn settle(&mut self, _note: &FlowNote) -> Result<(), AllocError> {
+        Ok(())
+    }
+
     fn state_lines(&self, out: &mut Vec<u8>) -> Result<(), AllocError> {
         Ok(out.push(self.count)?)
     }
@@ -67,4 +79,6 @@ impl Function for Painter {
     }
 
     ghost keeps = { painter_keeps (λ f. f.count) (λ n. record { count = n }) };
+
+    ghost counts = { painter_counts (λ f. f.count) (λ n. record { count = n }) };
 }

@@ -13,6 +13,7 @@ const IDLE: Profile = Profile {
     writes: FieldSet::NONE,
     drops: false,
     state: false,
+    counts: false,
     adds: false,
     removes: false,
     whole: false,

@@ -3,3 +3,4 @@ pub mod NetFunctionLaws
 pub mod Builds
 pub mod Replicas
 pub mod StateRows
+pub mod NetNotes

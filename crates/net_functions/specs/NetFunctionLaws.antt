@@ -49,7 +49,7 @@ record Keeps (f : NetFunction) : Type 0 where
   stays : (fixed : Fixed) (v : Values) → net_behaviour.profile (stepped net_behaviour fixed f v).after ≡ net_behaviour.profile f
   writes : (fixed : Fixed) (v : Values) (x : Field) → (writes_of (net_behaviour.profile f) x && is_some (v x)) ≡ false → (stepped net_behaviour fixed f v).written x ≡ None
   drops : (fixed : Fixed) (v : Values) → (net_behaviour.profile f).drops ≡ false → is_drop (stepped net_behaviour fixed f v).verdict ≡ false
-  state : (fixed : Fixed) (v : Values) → (net_behaviour.profile f).state ≡ false → (stepped net_behaviour fixed f v).after ≡ f
+  state : (fixed : Fixed) (v : Values) → (net_behaviour.profile f).state ≡ false → (net_behaviour.profile f).counts ≡ false → (stepped net_behaviour fixed f v).after ≡ f
   lengths : (fixed : Fixed) (v : Values) (x : Field) → x ≢ Tag → IfSome (v x) (λ old. IsLengthOf x (length old)) →
       IfSome ((stepped net_behaviour fixed f v).written x) (λ new. IsSomeAnd (v x) (λ old. length new ≡ length old))
   tags : (fixed : Fixed) (v : Values) → IfSome (v Tag) (λ old. is_tag_list old ≡ true) →
@@ -67,7 +67,8 @@ kind_keeps {F = F} b make is keeps f = record {
   stays = λ fixed v. ap (λ t. net_behaviour.profile t.after) (same fixed v) ∙ is.profile (stepped b fixed f v).after ∙ keeps.stays fixed f v ∙ sym (is.profile f);
   writes = λ fixed v x h. ap (λ t. t.written x) (same fixed v) ∙ keeps.writes fixed f v x (subst (λ (p : Profile). (writes_of p x && is_some (v x)) ≡ false) (is.profile f) h);
   drops = λ fixed v h. ap (λ t. is_drop t.verdict) (same fixed v) ∙ keeps.drops fixed f v (subst (λ (p : Profile). p.drops ≡ false) (is.profile f) h);
-  state = λ fixed v h. ap (λ t. t.after) (same fixed v) ∙ ap make (keeps.state fixed f v (subst (λ (p : Profile). p.state ≡ false) (is.profile f) h));
+  state = λ fixed v h counted. ap (λ t. t.after) (same fixed v)
+      ∙ ap make (keeps.state fixed f v (subst (λ (p : Profile). p.state ≡ false) (is.profile f) h) (subst (λ (p : Profile). p.counts ≡ false) (is.profile f) counted));
   lengths = λ fixed v x other formed.
       subst (λ (w : Option (List ℕ)). IfSome w (λ new. IsSomeAnd (v x) (λ old. length new ≡ length old))) (sym (ap (λ t. t.written x) (same fixed v))) (keeps.lengths fixed f v x other formed);
   tags = λ fixed v whole.
@@ -152,7 +153,7 @@ net_keeps = record {
   stays = λ fixed f v. (each_keeps f).stays fixed v;
   writes = λ fixed f v x h. (each_keeps f).writes fixed v x h;
   drops = λ fixed f v h. (each_keeps f).drops fixed v h;
-  state = λ fixed f v h. (each_keeps f).state fixed v h;
+  state = λ fixed f v h counted. (each_keeps f).state fixed v h counted;
   lengths = λ fixed f v x other formed. (each_keeps f).lengths fixed v x other formed;
   tags = λ fixed f v whole. (each_keeps f).tags fixed v whole;
   adds = λ fixed f v h. (each_keeps f).adds fixed v h;

@@ -4,10 +4,13 @@ ghost use Rattle.std.specs.List.{flat_map};
 ghost use Rattle.packet_fields.specs.declared.field.Field.{Field};
 ghost use Rattle.chain_walk.specs.Step.{Behaviour};
 ghost use Rattle.chain_walk.specs.Laws.{KeepsProfile};
-ghost use Rattle.packet_version.specs.Views.{seen_parts, viewed, wrote_all, HasTagRoom};
+ghost use Rattle.chain_walk.specs.Notes.{Notes, noted, CountsByNotes};
+ghost use Rattle.nf_observe.specs.declared.note.FlowNote.{FlowNote};
+ghost use Rattle.packet_version.specs.Views.{seen_parts, seen_values, viewed, wrote_all, HasTagRoom};
 ghost use Rattle.net_functions.specs.Replicas.{may_be_several};
 
 use action_profile::Profile;
+use nf_observe::FlowNote;
 use packet_version::{Verdict, View};
 use std::alloc::{AllocError, Global};
 
@@ -15,6 +18,9 @@ use std::alloc::{AllocError, Global};
 pub trait Function: Sized {
     /// What each function may do, and what it does by what it is shown.
     ghost behaviour: { Behaviour Self };
+
+    /// What each function notes of a packet that it counts, and how it settles a note.
+    ghost notes: { Notes Self FlowNote };
 
     /// The lines that show its state.
     ghost lines: { Self → List ℕ };
@@ -27,8 +33,10 @@ pub trait Function: Sized {
         ensures { result ≡ behaviour.profile self.now };
 
     /// Acts on one packet, which it sees through a view of its own profile. A function that may add a tag
-    /// finds room for it, and one that keeps no state wants no memory.
+    /// finds room for it, and one that keeps no state wants no memory. One that counts doesn't step: it looks at a packet,
+    /// and settles what it noted.
     fn step(&mut self, view: &mut View) -> Result<Verdict, AllocError>
+        requires steps { (behaviour.profile self.old).counts ≡ false }
         requires profile { view.old.profile ≡ behaviour.profile self.old }
         requires room { (behaviour.profile self.old).adds ≡ true → IsSome (seen_parts view.old Field.Tag) → HasTagRoom view.old }
         ensures after { OnOk result (self.new ≡ (viewed behaviour self.old view.old).after) }
@@ -40,12 +48,27 @@ pub trait Function: Sized {
         // Memory is for a state alone.
         ensures stateless { (behaviour.profile self.old).state ≡ false → IsOk result };
 
-    /// Appends the lines that show its state. Where memory runs out, it appends nothing. A function that keeps no state wants
-    /// none.
+    /// What a function that counts notes of one packet, which it sees through a view of its own profile; one that doesn't
+    /// count notes nothing. Takes no memory.
+    fn look(&self, view: &View) -> Option<FlowNote>
+        requires profile { view.now.profile ≡ behaviour.profile self.now }
+        ensures noted { result ≡ noted behaviour notes view.now.version.fixed self.now (seen_values view.now) };
+
+    /// Settles what it noted of a packet. One that doesn't count stays as it is.
+    fn settle(&mut self, note: &FlowNote) -> Result<(), AllocError>
+        ensures settled { OnOk result (self.new ≡ notes.settle self.old note.now) }
+        // Where memory runs out, nothing has changed.
+        ensures stays { OnErr result (self.new ≡ self.old) }
+        // Memory is for counts alone.
+        ensures uncounted { (behaviour.profile self.old).counts ≡ false → IsOk result }
+        ensures same { (behaviour.profile self.old).counts ≡ false → self.new ≡ self.old };
+
+    /// Appends the lines that show its state. Where memory runs out, it appends nothing. A function that neither keeps a state
+    /// nor counts wants none.
     fn state_lines(&self, out: &mut Vec<u8>) -> Result<(), AllocError>
         ensures lines { OnOk result (out.new.items ≡ out.old.items ++ lines self.now) }
         ensures stays { OnErr result (out.new.items ≡ out.old.items) }
-        ensures stateless { (behaviour.profile self.now).state ≡ false → IsOk result };
+        ensures stateless { (behaviour.profile self.now).state ≡ false → (behaviour.profile self.now).counts ≡ false → IsOk result };
 
     /// How many lines show its state.
     fn state_count(&self) -> usize
@@ -67,4 +90,7 @@ pub trait Function: Sized {
 
     /// It does what its profile says, and no more.
     ghost keeps: { KeepsProfile behaviour };
+
+    /// Where it counts, its step is to note a packet and to settle the note.
+    ghost counts: { CountsByNotes behaviour notes };
 }

@@ -4,7 +4,7 @@ use crate::function::Function;
 use action_profile::{Kind, Profile, profile};
 use nf_filter::{Firewall, Signature};
 use nf_mark::{Hop, Marker, Nexthop, Redactor, Tagger, Untagger};
-use nf_observe::{Limiter, Monitor};
+use nf_observe::{FlowNote, Limiter, Monitor, look};
 use nf_translate::{Balancer, Nat};
 use packet_version::{Verdict, View};
 use std::alloc::{AllocError, Global};
@@ -41,9 +41,12 @@ pub enum NetFunction {
 impl Function for NetFunction {
     ghost use Rattle.net_functions.specs.NetFunctions.{net_behaviour, lines_of};
     ghost use Rattle.net_functions.specs.NetFunctionLaws.{net_keeps};
+    ghost use Rattle.net_functions.specs.NetNotes.{net_notes, net_counts};
     ghost use Rattle.net_functions.specs.StateRows.{rows_of};
 
     ghost behaviour = { net_behaviour };
+
+    ghost notes = { net_notes };
 
     ghost lines = { lines_of };
 
@@ -73,7 +76,8 @@ impl Function for NetFunction {
             NetFunction::Firewall(firewall) => firewall.step(view),
             NetFunction::Nat(nat) => nat.step(view),
             NetFunction::Balancer(balancer) => balancer.step(view),
-            NetFunction::Monitor(monitor) => monitor.step(view),
+            // It counts, and doesn't step.
+            NetFunction::Monitor(_) => Ok(Verdict::Pass),
             NetFunction::Limiter(limiter) => limiter.step(view),
             NetFunction::Marker(marker) => marker.step(view),
             NetFunction::Hop(hop) => hop.step(view),
@@ -82,6 +86,23 @@ impl Function for NetFunction {
             NetFunction::Signature(signature) => signature.step(view),
             NetFunction::Nexthop(nexthop) => nexthop.step(view),
             NetFunction::Redactor(redactor) => redactor.step(view),
+        }
+    }
+
+    #[tactic(auto, unfolding(crate::specs::NetFunctions::profile_by, crate::specs::NetNotes::look_by))]
+    fn look(&self, view: &View) -> Option<FlowNote> {
+        match self {
+            NetFunction::Monitor(_) => look(view),
+            // The others count nothing.
+            _ => None,
+        }
+    }
+
+    #[tactic(auto, unfolding(crate::specs::NetFunctions::profile_by, crate::specs::NetNotes::settle_by))]
+    fn settle(&mut self, note: &FlowNote) -> Result<(), AllocError> {
+        match self {
+            NetFunction::Monitor(monitor) => monitor.settle(note),
+            _ => Ok(()),
         }
     }
 
@@ -143,7 +164,7 @@ impl Function for NetFunction {
             ))),
             NetFunction::Hop(hop) => Ok(Some(NetFunction::Hop(*hop))),
             NetFunction::Untagger(untagger) => Ok(Some(NetFunction::Untagger(*untagger))),
-            // These keep a state.
+            // These keep a state, and a monitor counts.
             NetFunction::Nat(_)
             | NetFunction::Balancer(_)
             | NetFunction::Monitor(_)
@@ -152,4 +173,6 @@ impl Function for NetFunction {
     }
 
     ghost keeps = { net_keeps };
+
+    ghost counts = { net_counts };
 }

@@ -5,6 +5,7 @@ pub mod LimiterLaws
 pub mod LimiterLines
 pub mod Limiters
 pub mod MonitorLaws
+pub mod MonitorNotes
 pub mod Monitors
 pub mod SameFlow
 pub mod SameFlowLaws

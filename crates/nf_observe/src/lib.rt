@@ -19,6 +19,10 @@
 //! their profiles is `monitor_keeps` of `specs/MonitorLaws.antt` and `limiter_keeps` of
 //! `specs/LimiterLaws.antt`.
 //!
+//! A monitor's step is two that may be taken apart: [`look`] notes the packet, and [`Monitor::settle`] counts what was
+//! noted (`monitor_counts` of `specs/MonitorNotes.antt`). So it may see a packet before it is known whether an earlier
+//! function drops it.
+//!
 //! A state is a list in the order of first sight, and contracts see that list. The code finds a key by its
 //! hash (`first_sight::FirstSeen`), so no step searches through a state. Where memory runs out, function and
 //! packet are as they were; so is the text to which the lines of a state were to be appended.
@@ -33,6 +37,7 @@ mod flow;
 mod laws;
 mod limiter;
 mod monitor;
+mod note;
 mod state_lines;
 
 pub use bucket::TokenBucket;
@@ -42,4 +47,5 @@ pub use laws::{
     sources_have_their_own_buckets,
 };
 pub use limiter::{Limiter, LimiterLine};
-pub use monitor::{Monitor, MonitorLine};
+pub use monitor::{Monitor, MonitorLine, look};
+pub use note::FlowNote;

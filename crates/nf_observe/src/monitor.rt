@@ -3,12 +3,12 @@
 mod build;
 
 use crate::flow::{Endpoint, FiveTuple, FlowCounts};
+use crate::note::FlowNote;
 pub use build::MonitorLine;
-use chain_walk::Verdict;
 use first_sight::FirstSeen;
 use frame_seen::{seen_ip_address, seen_port};
 use packet_fields::Field;
-use packet_version::{View, unwritten_stays};
+use packet_version::View;
 use std::alloc::AllocError;
 
 /// Counts the packets and bytes of each flow.
@@ -19,30 +19,19 @@ pub struct Monitor {
 }
 
 impl Monitor {
-    ghost use Rattle.std.specs.Prelude.{◌≡◌, ◌<◌, ◌++◌, [], length, slice_index_or, OnOk, OnErr, IfOk};
+    ghost use Rattle.std.specs.Prelude.{◌≡◌, ◌<◌, ◌++◌, [], length, slice_index_or, OnOk, OnErr};
     ghost use Rattle.std.specs.List.{flat_map};
-    ghost use Rattle.packet_version.specs.Views.{viewed, wrote_all};
     ghost use Rattle.nf_observe.specs.Flows.{counted};
-    ghost use Rattle.nf_observe.specs.Monitors.{monitor_behaviour, monitor_text};
+    ghost use Rattle.nf_observe.specs.Monitors.{monitor_text};
+    ghost use Rattle.nf_observe.specs.MonitorNotes.{settled_note};
     ghost use Rattle.nf_observe.specs.StateRows.{monitor_rows};
 
-    /// Counts one packet, which it sees through a view of a monitor's profile. It passes every packet and
-    /// writes nothing. Where there is no memory for a new flow, nothing changes.
-    pub fn step(&mut self, view: &mut View) -> Result<Verdict, AllocError>
-        requires profile { view.old.profile ≡ monitor_behaviour.profile self.old }
-        ensures after { OnOk result (self.new ≡ (viewed monitor_behaviour self.old view.old).after) }
-        ensures verdict { IfOk result (λ verdict. verdict ≡ (viewed monitor_behaviour self.old view.old).verdict) }
-        ensures view { OnOk result (view.new ≡ wrote_all (viewed monitor_behaviour self.old view.old).written view.old) }
-        // Where memory runs out, nothing has changed.
-        ensures function_stays { OnErr result (self.new ≡ self.old) }
-        ensures view_stays { OnErr result (view.new ≡ view.old) }
+    /// Counts a packet that was noted so. Where there is no memory for a new flow, nothing changes.
+    pub fn settle(&mut self, note: &FlowNote) -> Result<(), AllocError>
+        ensures settled { OnOk result (self.new ≡ settled_note self.old note.now) }
+        ensures stays { OnErr result (self.new ≡ self.old) }
     {
-        // Nothing is written, so the view is as it was.
-        unwritten_stays(view);
-        if let (Some(flow), Some(bytes)) = (flow_in(view), view.ip_len()) {
-            self.count(flow, bytes)?;
-        }
-        Ok(Verdict::Pass)
+        self.count(note.flow, note.bytes)
     }
 
     /// Appends the lines of its state, one for each flow. Where memory runs out, it appends nothing.
@@ -89,7 +78,20 @@ ghost use Rattle.std.specs.Prelude.{◌≡◌};
 ghost use Rattle.action_profile.specs.Profiles.{profile_of};
 ghost use Rattle.action_profile.specs.declared.kind.Kind.{Kind};
 ghost use Rattle.packet_version.specs.Views.{seen_values};
+ghost use Rattle.chain_walk.specs.Shown.{shown_by};
 ghost use Rattle.nf_observe.specs.Monitors.{flow_of};
+ghost use Rattle.nf_observe.specs.MonitorNotes.{note_of};
+
+/// What a monitor notes of the packet behind a view: its flow and its IP length, where both are known. Takes no memory.
+pub fn look(view: &View) -> Option<FlowNote>
+    requires profile { view.now.profile ≡ profile_of Kind.Monitor }
+    ensures { result ≡ note_of (shown_by (profile_of Kind.Monitor) view.now.version.fixed (seen_values view.now)) }
+{
+    Some(FlowNote {
+        flow: flow_in(view)?,
+        bytes: view.ip_len()?,
+    })
+}
 
 /// The flow of the packet behind a view.
 fn flow_in(view: &View) -> Option<FiveTuple>

@@ -4,7 +4,7 @@ use Rattle.std.specs.Fmt.{decimal}
 use Rattle.text_lines.specs.Texts.{line_of, spaced}
 use Rattle.packet_fields.specs.Fields.{name_of}
 use Rattle.dependency_table.specs.declared.action.Action.{Action}
-use Rattle.dependency_table.specs.declared.action.Action.TheVariants.{Pass, Read, Write, Drop, State, Whole}
+use Rattle.dependency_table.specs.declared.action.Action.TheVariants.{Pass, Read, Write, Drop, State, Count, Whole}
 use Rattle.policy_text.specs.declared.fault.TextFault.{TextFault}
 use Rattle.policy_text.specs.declared.fault.TextFault.TheVariants as texts
 use Rattle.policy_text.specs.declared.policy.FunctionDecl.{FunctionDecl}
@@ -42,6 +42,7 @@ action_text (Read field) = codes "read " ++ name_of field
 action_text (Write field) = codes "write " ++ name_of field
 action_text Drop = codes "drop"
 action_text State = codes "state"
+action_text Count = codes "count"
 action_text Whole = codes "whole"
 action_text Pass = codes "pass"
 

@@ -146,6 +146,7 @@ pub fn action_text(alloc: Global, action: Action) -> Result<Vec<u8>, AllocError>
         Action::Write(field) => join(alloc, &[Text(b"write "), Text(field.name().as_bytes())]),
         Action::Drop => Vec::from_slice(alloc, b"drop".as_slice()),
         Action::State => Vec::from_slice(alloc, b"state".as_slice()),
+        Action::Count => Vec::from_slice(alloc, b"count".as_slice()),
         Action::Whole => Vec::from_slice(alloc, b"whole".as_slice()),
         Action::Pass => Vec::from_slice(alloc, b"pass".as_slice()),
     }

@@ -8,8 +8,8 @@ use Rattle.packet_version.specs.Splitting.{split_parts}
 use Rattle.frame_walk.proofs.FunctionOnFrame.{turn, turn_room, turn_from, turn_made, turn_verdict, on_err}
 use Rattle.frame_walk.proofs.step.step_frame.Goals as goal
 
-pub step-verdict-requires-clause-room : goal.step-verdict-requires-clause-room
-step-verdict-requires-clause-room g c =
+pub act-verdict-requires-clause-room : goal.act-verdict-requires-clause-room
+act-verdict-requires-clause-room g c =
     let t = turn g.F.Function.behaviour c.args.function.now c.in_ok-whole.whole c.touch_of-touch.result c.new.result c.adders.result c.args.time c.args.frame.now c.profile-profile.result c.in_ok-base.versions.items c.pop.new.self.items c.in-Some.version c.view-view.result
     (record { parts = c.in_ok-whole.ensures.parts ∙ ap (λ (xs : List ℕ). split_parts c.adders.result xs) c.bytes.ensures; rest = c.in_ok-whole.ensures.rest ∙ ap rest_of c.bytes.ensures; fixed = c.in_ok-whole.ensures.fixed ∙ ap (fixed_of c.args.time) c.bytes.ensures; fits = c.in_ok-whole.ensures.fits })
     (c.dealt_is_read.ensures.version c.in_ok-whole.whole c.touch_of-touch.result) c.profile-profile.ensures (record { touched = c.touch_of-touch.ensures.touched; written = c.touch_of-touch.ensures.written }) (c.new.ensures ∙ c.in_ok-from_array.ensures.items) c.in_ok-base.ensures.versions c.in-Some.ensures.items c.view-view.ensures in

@@ -1,0 +1,67 @@
+//! Notes of a burst's packets, settled once it is known where each packet ends.
+ghost use Rattle.std.specs.Prelude.{◌≡◌, List, slice_index_or, OnOk};
+ghost use Rattle.burst_law.specs.Bursts.{Message, Message.Lost};
+ghost use Rattle.burst_law.specs.Noting.{lost_before, settled_listed, settled_one};
+ghost use Rattle.settled_notes.specs.Settling.{TellDrops};
+
+use crate::listed::ListedNote;
+use chain_walk::Fate;
+use net_functions::Function;
+use std::alloc::AllocError;
+
+/// Settles what the functions of a branch, which have these positions, noted of a burst whose packets ended so: one note after
+/// another, as they were listed, but those of packets that a function at an earlier position dropped. The one refusal is want of
+/// memory.
+pub fn settle_listed<F: Function>(
+    functions: &mut [F],
+    positions: &[u32],
+    fates: &[Fate],
+    listed: &[ListedNote],
+) -> Result<(), AllocError>
+    ensures { (ends : List Message) → TellDrops fates.now ends → OnOk result (functions.new ≡ settled_listed F.notes positions.now ends functions.old listed.now) }
+{
+    for note in listed {
+        settle_one(functions, positions, fates, note)?;
+    }
+    Ok(())
+}
+
+/// Settles a note, unless its packet was dropped at an earlier position.
+fn settle_one<F: Function>(
+    functions: &mut [F],
+    positions: &[u32],
+    fates: &[Fate],
+    note: &ListedNote,
+) -> Result<(), AllocError>
+    ensures { (ends : List Message) → TellDrops fates.now ends → OnOk result (functions.new ≡ settled_one F.notes positions.now ends functions.old note.now) }
+{
+    let index = note.index;
+    if is_dropped_before(fates, note.packet, position_at(positions, index)) {
+        return Ok(());
+    }
+    if index >= functions.len() {
+        return Ok(());
+    }
+    functions[index].settle(&note.note)
+}
+
+/// The position at this place.
+fn position_at(positions: &[u32], index: usize) -> u32
+    ensures { result ≡ slice_index_or positions.now index 0 }
+{
+    match positions.get(index) {
+        Some(position) => *position,
+        None => 0,
+    }
+}
+
+/// Was the packet with this number in the burst dropped before this position?
+fn is_dropped_before(fates: &[Fate], packet: u32, position: u32) -> bool
+    ensures { (ends : List Message) → TellDrops fates.now ends → result ≡ lost_before (slice_index_or ends packet (Lost 0)) position }
+{
+    match fates.get(packet as usize) {
+        Some(Fate::Gone(at)) => *at < position,
+        Some(Fate::Out(_)) => false,
+        None => 0 < position,
+    }
+}
