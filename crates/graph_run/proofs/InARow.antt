@@ -1,5 +1,5 @@
 -- Functions in a row: where neither graph copies a field, what one of them gives is what the other gives.
-use Rattle.std.proofs.Common.{◌≡◌, ◌∙◌, ◌+◌, ◌≤◌, ℕ, zero, Bool, true, false, ◌&&◌, List, [], ◌∷◌, map, length, sym, ap, refl, subst, arith}
+use Rattle.std.proofs.Common.{◌≡◌, ◌∙◌, ◌≤◌, ℕ, Bool, true, false, List, [], ◌∷◌, map, sym, ap, refl, subst, arith}
 use Rattle.std.specs.Prelude.{◌==◌, if◌then◌else◌, Option, Some, None, is_some}
 use Rattle.std.specs.List.{list_all, sum_by, zip}
 use Rattle.std.specs.Option.{IfSome}
@@ -11,7 +11,7 @@ use Rattle.packet_fields.specs.declared.field.Field.TheVariants.{LinkDst, LinkSr
 use Rattle.action_profile.specs.FieldSets.{all_fields}
 use Rattle.action_profile.specs.Modes.{copies}
 use Rattle.chain_walk.specs.Laws.{KeepsProfile}
-use Rattle.chain_walk.specs.Packets.{Packet, fates, functions_after}
+use Rattle.chain_walk.specs.Packets.{Packet, fates}
 use Rattle.chain_walk.specs.Step.{Behaviour}
 use Rattle.chain_walk.specs.declared.walk.Fate.{Fate}
 use Rattle.chain_walk.specs.declared.walk.Fate.TheVariants.{Out, Gone}

@@ -19,3 +19,7 @@ pub mod Bursting
 pub mod Single
 pub mod InARow
 pub mod LedInPieces
+pub mod Quieted
+pub mod NotedInTurn
+pub mod NotedInStages
+pub mod Settled

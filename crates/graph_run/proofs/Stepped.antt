@@ -13,7 +13,7 @@ use Rattle.graph_run.proofs.Writing.{as_wrote}
 use Rattle.graph_run.proofs.Carried.{only_there}
 
 -- what the function at this position sees of a version
-abbrev seen_at : ℕ → Profile → PlainVersion → PlainView
+abbrev pub seen_at : ℕ → Profile → PlainVersion → PlainView
 seen_at q p v = record { version = v; profile = p; position = q }
 
 pub function_moved : {F : Type 0} (b : Behaviour F) (q : ℕ) (p : Profile) (f after : F) (v : PlainVersion) (view : PlainView) → view ≡ seen_at q p v → after ≡ (viewed b f view).after → after ≡ moved_function b v.fixed f (Live (as_version v))

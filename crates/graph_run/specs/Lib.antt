@@ -6,3 +6,4 @@ pub mod Counting
 pub mod Staging
 pub mod Stages
 pub mod Leading
+pub mod Settling

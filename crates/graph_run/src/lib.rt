@@ -13,10 +13,15 @@
 //! `specs/Counting.antt` counts, which are those of the stages that each packet reaches, and stops at its
 //! type's end. Want of memory is the one refusal.
 //!
+//! A function that counts packets only notes one on its way (`step_on`), and stays as it is: it may stand in a branch beside a
+//! function of an earlier position that drops the packet. Behind the last stage, where it is known where the packet ends, each
+//! note is settled, but for those at positions behind a drop. So a packet that was dropped isn't counted behind its drop.
+//!
 //! Why this is so is told in three steps. A function sees the same through a view of a version as in the
 //! whole packet (`packet_version`); a stage of branches that are not forbidden beside each other gives what
 //! its functions give one after another (`graph_law`); and a whole frame walks as its fields do
-//! (`chain_walk`). Here the code is tied to these laws: a branch (`run_branch`), a stage, a packet, a
+//! (`chain_walk`). All three hold of functions whose counting is left out, and a fourth law, that notes may be settled by their
+//! positions (`burst_law`), puts it back. Here the code is tied to these laws: a branch (`run_branch`), a stage, a packet, a
 //! burst. [`run_gated`] does the same past a gate, and [`run_items`] for a piece of a burst: pieces that are led one after another
 //! are the burst (`pieces_are_led_in_a_row`). [`run_in_a_row`] does it through a graph of one branch, where the own graph copies
 //! nothing.
@@ -26,6 +31,7 @@
 
 mod branch;
 mod laws;
+mod noted;
 mod packet;
 mod pieces;
 mod plain;
@@ -33,7 +39,7 @@ mod row;
 mod running;
 mod stage;
 
-pub use branch::step_on;
+pub use branch::{Acted, step_on};
 pub use chain_walk::Fate;
 pub use laws::{
     branches_hold_what_is_named, dealt_versions_go_on, due_copies_are_counted,

@@ -7,6 +7,7 @@ ghost use Rattle.graph_run.specs.Packets.{is_of, packets_taken};
 ghost use Rattle.graph_run.specs.Rooms.{adders_from};
 ghost use Rattle.graph_run.specs.Running.{IsRunning, profiles_of};
 
+use crate::noted::Noted;
 use crate::packet::run_packet;
 use crate::running::Running;
 use capture_bytes::Unit;
@@ -86,6 +87,8 @@ pub fn run_items<F: Function + Drop, G: Gate, R: Wait>(
     } = run;
     let taggers = count_adders(&functions);
     let mut fates = Vec::with_capacity(alloc, items.len())?;
+    // The notes of one packet at a time, in the room of those before.
+    let mut notes = Vec::new(alloc);
     for item in items {
         run_item(
             rt,
@@ -99,6 +102,7 @@ pub fn run_items<F: Function + Drop, G: Gate, R: Wait>(
             item,
             &mut fates,
             tally,
+            &mut notes,
         )?;
     }
     let run = Running {
@@ -123,13 +127,16 @@ fn run_item<F: Function, G: Gate, R: Wait>(
     item: &Item,
     ended: &mut Vec<Fate>,
     tally: &mut Tally,
+    notes: &mut Vec<Noted>,
 ) -> Result<(), AllocError>
     requires running { IsRunning F.behaviour functions.old graph.now }
     requires taggers { taggers ≡ adders_from (profiles_of F.behaviour functions.old) 1 }
+    requires unnoted { notes.old.items ≡ [] }
     ensures functions { OnOk result (functions.new ≡ functions_after F.behaviour functions.old (packets_taken unit chain (item.now ∷ []))) }
     ensures fates { OnOk result (ended.new.items ≡ ended.old.items ++ fates F.behaviour functions.old (packets_taken unit chain (item.now ∷ []))) }
     ensures counted { OnOk result (RaisesAll (copies_made graph.now.stages (packets_taken unit chain (item.now ∷ [])) (fates F.behaviour functions.old (packets_taken unit chain (item.now ∷ [])))) tally.old tally.new) }
     ensures refused { OnErr result (RaisesUpTo (copies_made graph.now.stages (packets_taken unit chain (item.now ∷ [])) (fates F.behaviour functions.old (packets_taken unit chain (item.now ∷ [])))) tally.old tally.new) }
+    ensures settled { OnOk result (notes.new.items ≡ []) }
 {
     if !is_of(item, chain) {
         return Ok(());
@@ -148,6 +155,7 @@ fn run_item<F: Function, G: Gate, R: Wait>(
         time,
         frame,
         tally,
+        notes,
     )?;
     ended.push(fate)?;
     Ok(())

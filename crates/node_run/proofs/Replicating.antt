@@ -6,22 +6,22 @@ use Rattle.packet_fields.specs.declared.field.Field.{Field}
 use Rattle.packet_version.specs.Versions.{PlainVersion}
 use Rattle.packet_messages.specs.Messages.{PlainMessage, PlainMessage.Live, PlainMessage.Nil, PlainMessage.Short}
 use Rattle.packet_messages.specs.Turns.{share, share_len, shares_from, shares}
-use Rattle.stage_nodes.specs.Streams.{Kit, gave, moved, ran, left}
+use Rattle.stage_nodes.specs.Streams.{Kit, KeepsNothing, gave, moved, ran, left}
 use Rattle.stage_nodes.specs.Flows.{MayTake, MayTakeAll, MayTakeEach}
 use Rattle.stage_nodes.specs.Dues.{BranchDue}
 use Rattle.stage_nodes.specs.declared.branch.Branch.{Branch}
 use Rattle.node_run.specs.declared.node.Node.{Node}
 use Rattle.node_run.specs.declared.node.Node.TheVariants as node
 use Rattle.node_run.specs.Nodes.{AreNodes, branch_ready}
-use Rattle.node_run.specs.Replicas.{AreReplicas, KeepsNothing, ReplicasFit}
+use Rattle.node_run.specs.Replicas.{AreReplicas, ReplicasFit}
 use Rattle.packet_messages.proofs.Turning.{share_long, one_share}
 use Rattle.node_run.proofs.Wiring.{all_head, all_tail, nodes_are, nodes_push, tail_is}
 
 -- its functions stay
 
 moved_same : {F : Type 0} (k : Kit F) (f : F) → KeepsNothing k f → (x : PlainMessage PlainVersion) → moved k f x ≡ f
-moved_same k f h (Live v) = h v
-moved_same k f h (Nil p) = refl
+moved_same k f h (Live v) = h.0 v
+moved_same k f h (Nil p) = h.1
 moved_same k f h Short = refl
 
 pub left_same : {F : Type 0} (k : Kit F) (f : F) → KeepsNothing k f → (xs : List (PlainMessage PlainVersion)) → left k f xs ≡ f

@@ -3,12 +3,8 @@ use Rattle.std.specs.Prelude.{◌≡◌, ℕ, List, length, All}
 use Rattle.packet_version.specs.Versions.{PlainVersion}
 use Rattle.packet_messages.specs.Messages.{PlainMessage}
 use Rattle.packet_messages.specs.Turns.{shares_from}
-use Rattle.stage_nodes.specs.Streams.{Kit, ran}
+use Rattle.stage_nodes.specs.Streams.{Kit, KeepsNothing, ran}
 use Rattle.stage_nodes.specs.Flows.{MayTakeAll}
-
--- its functions are after each version what they were before it
-abbrev pub KeepsNothing : {F : Type 0} → Kit F → F → Type 0
-KeepsNothing k f = (v : PlainVersion) → k.after f v ≡ f
 
 -- these are the same functions, so many times
 pub record AreReplicas {F : Type 0} (k : Kit F) (f : F) (count : ℕ) (replicas : List F) : Type 0 where

@@ -21,7 +21,7 @@ const LIGHT: u64 = 4_000;
 /// The ways of a burst.
 #[derive(Clone, Copy, PartialEq, Eq, Debug)]
 pub enum Lead {
-    /// Its stages' branches run side by side, each on a thread of its own where one can be started, and one without state on one for
+    /// Its stages' branches run side by side, each on a thread of its own where one can be started, and one that keeps and counts nothing on one for
     /// each merger.
     Threads,
     /// All of it runs on the caller's thread.

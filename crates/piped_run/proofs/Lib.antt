@@ -1,4 +1,6 @@
 mod Turns
+mod Noting
+mod Settled
 mod Ending
 mod Passing
 mod Leading

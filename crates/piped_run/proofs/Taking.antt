@@ -5,12 +5,13 @@ use Rattle.std.specs.List.{flat_map, cons_option}
 use Rattle.std.proofs.lemmas.List.{drop_more, drop_all, get_or-set_other, length-set, length-map, map-append}
 use Rattle.std.proofs.lemmas.List.Sums.{sum_by-cons}
 use Rattle.std.proofs.lemmas.Grind.{flat_map-append}
+use Rattle.chain_walk.specs.Step.{Behaviour}
 use Rattle.graph_compile.specs.Facts.{positions_of, all_positions, times}
 use Rattle.graph_compile.specs.declared.graph.Branch.{Branch}
 use Rattle.graph_compile.specs.declared.graph.Stage.{Stage}
 use Rattle.burst_law.specs.Owned.{owned, owned_in, owned_by}
 use Rattle.stage_nodes.specs.Streams.{PlainStage}
-use Rattle.stream_law.specs.Owned.{PlainOwned}
+use Rattle.stream_law.specs.Owned.{PlainOwned, any_counts}
 use Rattle.stream_law.specs.Works.{works_in, works_of}
 use Rattle.piped_run.specs.Places.{AreThere, at_place}
 use Rattle.piped_run.specs.Standing.{EachStands}
@@ -145,53 +146,53 @@ pub list_more : {A : Type 0} (done more rest later all : List A) (x : A) → mor
 list_more done more rest later all x push next is = ap (λ l. l ++ later) push ∙ (append_assoc done (x ∷ []) later ∙ (ap (λ l. done ++ l) (sym next) ∙ is))
 
 -- so many branches of a stage are works with their functions
-pub record TookStage {F : Type 0} (n : ℕ) (first now : List (Option F)) (branches : List Branch) (works : List (PlainOwned F)) (i : ℕ) : Type 0 where
-  pub owns : (functions : List F) (later : List ℕ) → AreThere functions first (positions_of branches ++ later) → works ++ works_in (drop i branches) (owned_in (drop i branches) functions) n ≡ works_in branches (owned_in branches functions) n
+pub record TookStage {F N : Type 0} (by : Behaviour F) (n : ℕ) (first now : List (Option F)) (branches : List Branch) (works : List (PlainOwned F N)) (i : ℕ) : Type 0 where
+  pub owns : (functions : List F) (later : List ℕ) → AreThere functions first (positions_of branches ++ later) → works ++ works_in by (drop i branches) (owned_in (drop i branches) functions) n ≡ works_in by branches (owned_in branches functions) n
   pub left : (functions : List F) (later : List ℕ) → AreThere functions first (positions_of branches ++ later) → AreThere functions now (positions_of (drop i branches) ++ later)
 
-pub stage_none : {F : Type 0} (n : ℕ) (places : List (Option F)) (branches : List Branch) (works : List (PlainOwned F)) → works ≡ [] → TookStage n places places branches works 0
-stage_none n places branches works none = record {
-  owns = λ functions later there. ap (λ l. l ++ works_in branches (owned_in branches functions) n) none;
+pub stage_none : {F N : Type 0} (by : Behaviour F) (n : ℕ) (places : List (Option F)) (branches : List Branch) (works : List (PlainOwned F N)) → works ≡ [] → TookStage by n places places branches works 0
+stage_none by n places branches works none = record {
+  owns = λ functions later there. ap (λ l. l ++ works_in by branches (owned_in branches functions) n) none;
   left = λ functions later there. there;
 }
 
-pub branch_there : {F : Type 0} (n : ℕ) (first now : List (Option F)) (branches : List Branch) (works : List (PlainOwned F)) (i : ℕ) (d : Branch) (functions : List F) (later : List ℕ) → TookStage n first now branches works i → i < length branches → AreThere functions first (positions_of branches ++ later) →
+pub branch_there : {F N : Type 0} (by : Behaviour F) (n : ℕ) (first now : List (Option F)) (branches : List Branch) (works : List (PlainOwned F N)) (i : ℕ) (d : Branch) (functions : List F) (later : List ℕ) → TookStage by n first now branches works i → i < length branches → AreThere functions first (positions_of branches ++ later) →
     AreThere functions now ((get_or branches i d).positions ++ (positions_of (drop (i + 1) branches) ++ later))
-branch_there n first now branches works i d functions later took inside there = subst (AreThere functions now) (branches_left branches i d later inside) (took.left functions later there)
+branch_there by n first now branches works i d functions later took inside there = subst (AreThere functions now) (branches_left branches i d later inside) (took.left functions later there)
 
 -- what taking the functions at these positions gave
 pub record Gave {F : Type 0} (positions : List ℕ) (before after : List (Option F)) (taken : List F) : Type 0 where
   pub own : (functions : List F) (later : List ℕ) → AreThere functions before (positions ++ later) → taken ≡ owned positions functions
   pub left : (functions : List F) (later : List ℕ) → AreThere functions before (positions ++ later) → AreThere functions after later
 
-pub stage_more : {F : Type 0} (n : ℕ) (first now after : List (Option F)) (branches : List Branch) (works more : List (PlainOwned F)) (w : PlainOwned F) (taken : List F) (i : ℕ) (d : Branch) → TookStage n first now branches works i → i < length branches →
-    Gave (get_or branches i d).positions now after taken → w ≡ record { functions = taken; positions = (get_or branches i d).positions; packets = n } → more ≡ works ++ w ∷ [] → TookStage n first after branches more (i + 1)
+pub stage_more : {F N : Type 0} (by : Behaviour F) (n : ℕ) (first now after : List (Option F)) (branches : List Branch) (works more : List (PlainOwned F N)) (w : PlainOwned F N) (taken : List F) (i : ℕ) (d : Branch) → TookStage by n first now branches works i → i < length branches →
+    Gave (get_or branches i d).positions now after taken → w ≡ record { functions = taken; positions = (get_or branches i d).positions; packets = n; counts = any_counts by taken; seen = 0; listed = [] } → more ≡ works ++ w ∷ [] → TookStage by n first after branches more (i + 1)
 unfolding works_in
-stage_more {F} n first now after branches works more w taken i d took inside gave same push = record {
+stage_more {F} {N} by n first now after branches works more w taken i d took inside gave same push = record {
   owns = λ functions later there.
-      let b : Branch = get_or branches i d in
-      let rest : List (PlainOwned F) = works_in (drop (i + 1) branches) (owned_in (drop (i + 1) branches) functions) n in
-      let here = branch_there n first now branches works i d functions later took inside there in
-      list_more works more (works_in (drop i branches) (owned_in (drop i branches) functions) n) rest (works_in branches (owned_in branches functions) n) w push
-      (ap (λ (l : List Branch). works_in l (owned_in l functions) n) (drop_more branches i d inside)
-      ∙ ap (λ (own : List F). record { functions = own; positions = b.positions; packets = n } ∷ rest) (sym (gave.own functions (positions_of (drop (i + 1) branches) ++ later) here))
-      ∙ ap (λ (x : PlainOwned F). x ∷ rest) (sym same))
+      let x : Branch = get_or branches i d in
+      let rest : List (PlainOwned F N) = works_in by (drop (i + 1) branches) (owned_in (drop (i + 1) branches) functions) n in
+      let here = branch_there by n first now branches works i d functions later took inside there in
+      list_more works more (works_in by (drop i branches) (owned_in (drop i branches) functions) n) rest (works_in by branches (owned_in branches functions) n) w push
+      (ap (λ (l : List Branch). works_in by l (owned_in l functions) n) (drop_more branches i d inside)
+      ∙ ap (λ (own : List F). record { functions = own; positions = x.positions; packets = n; counts = any_counts by own; seen = 0; listed = [] } ∷ rest) (sym (gave.own functions (positions_of (drop (i + 1) branches) ++ later) here))
+      ∙ ap (λ (o : PlainOwned F N). o ∷ rest) (sym same))
       (took.owns functions later there);
-  left = λ functions later there. gave.left functions (positions_of (drop (i + 1) branches) ++ later) (branch_there n first now branches works i d functions later took inside there);
+  left = λ functions later there. gave.left functions (positions_of (drop (i + 1) branches) ++ later) (branch_there by n first now branches works i d functions later took inside there);
 }
 
-pub stage_all : {F : Type 0} (n : ℕ) (first now : List (Option F)) (branches : List Branch) (works : List (PlainOwned F)) (i : ℕ) (functions : List F) (later : List ℕ) → TookStage n first now branches works i → length branches ≤ i → AreThere functions first (positions_of branches ++ later) →
-    (works ≡ works_in branches (owned_in branches functions) n) × AreThere functions now later
+pub stage_all : {F N : Type 0} (by : Behaviour F) (n : ℕ) (first now : List (Option F)) (branches : List Branch) (works : List (PlainOwned F N)) (i : ℕ) (functions : List F) (later : List ℕ) → TookStage by n first now branches works i → length branches ≤ i → AreThere functions first (positions_of branches ++ later) →
+    (works ≡ works_in by branches (owned_in branches functions) n) × AreThere functions now later
 unfolding works_in
-stage_all n first now branches works i functions later took past there =
+stage_all by n first now branches works i functions later took past there =
     let none = drop_all i branches past in (
-      sym (append-nil works) ∙ ap (λ (l : List Branch). works ++ works_in l (owned_in l functions) n) (sym none) ∙ took.owns functions later there,
+      sym (append-nil works) ∙ ap (λ (l : List Branch). works ++ works_in by l (owned_in l functions) n) (sym none) ∙ took.owns functions later there,
       subst (λ l. AreThere functions now (positions_of l ++ later)) none (took.left functions later there),
     )
 
 -- so many stages are works with their functions
-pub record TookAll {F V : Type 0} (as_plain : V → PlainStage (PlainOwned F)) (n : ℕ) (functions : List F) (now : List (Option F)) (stages : List Stage) (works : List V) (i : ℕ) : Type 0 where
-  pub owns : map as_plain works ++ works_of (drop i stages) (owned_by (drop i stages) functions) n ≡ works_of stages (owned_by stages functions) n
+pub record TookAll {F N V : Type 0} (by : Behaviour F) (as_plain : V → PlainStage (PlainOwned F N)) (n : ℕ) (functions : List F) (now : List (Option F)) (stages : List Stage) (works : List V) (i : ℕ) : Type 0 where
+  pub owns : map as_plain works ++ works_of by (drop i stages) (owned_by (drop i stages) functions) n ≡ works_of by stages (owned_by stages functions) n
   pub left : AreThere functions now (all_positions (drop i stages))
 
 -- each function stands in its place, and each position of a chain stands once
@@ -233,32 +234,32 @@ all_there functions stages each = record {
         by_count (inl few) = few
         by_count (inr some) = let w = stands_within stages (length functions) each q some in let one = each.each_once q w.0 w.1 in omega arith
 
-pub all_none : {F V : Type 0} (as_plain : V → PlainStage (PlainOwned F)) (n : ℕ) (functions : List F) (places : List (Option F)) (stages : List Stage) (works : List V) → works ≡ [] → places ≡ map (λ f. Some f) functions → EachStands stages (length functions) → TookAll as_plain n functions places stages works 0
-all_none {F} {V} as_plain n functions places stages works none full each = record {
-  owns = ap (λ (l : List V). map as_plain l ++ works_of stages (owned_by stages functions) n) none;
+pub all_none : {F N V : Type 0} (by : Behaviour F) (as_plain : V → PlainStage (PlainOwned F N)) (n : ℕ) (functions : List F) (places : List (Option F)) (stages : List Stage) (works : List V) → works ≡ [] → places ≡ map (λ f. Some f) functions → EachStands stages (length functions) → TookAll by as_plain n functions places stages works 0
+all_none {F} {N} {V} by as_plain n functions places stages works none full each = record {
+  owns = ap (λ (l : List V). map as_plain l ++ works_of by stages (owned_by stages functions) n) none;
   left = subst (λ l. AreThere functions l (all_positions stages)) (sym full) (all_there functions stages each);
 }
 
-pub stage_there : {F V : Type 0} (as_plain : V → PlainStage (PlainOwned F)) (n : ℕ) (functions : List F) (now : List (Option F)) (stages : List Stage) (works : List V) (i : ℕ) (d : Stage) → TookAll as_plain n functions now stages works i → i < length stages →
+pub stage_there : {F N V : Type 0} (by : Behaviour F) (as_plain : V → PlainStage (PlainOwned F N)) (n : ℕ) (functions : List F) (now : List (Option F)) (stages : List Stage) (works : List V) (i : ℕ) (d : Stage) → TookAll by as_plain n functions now stages works i → i < length stages →
     AreThere functions now (positions_of (get_or stages i d).branches ++ all_positions (drop (i + 1) stages))
-stage_there as_plain n functions now stages works i d took inside = subst (AreThere functions now) (stages_left stages i d inside) took.left
+stage_there by as_plain n functions now stages works i d took inside = subst (AreThere functions now) (stages_left stages i d inside) took.left
 
-pub all_more : {F V : Type 0} (as_plain : V → PlainStage (PlainOwned F)) (n : ℕ) (functions : List F) (now after : List (Option F)) (stages : List Stage) (works more : List V) (v : V) (i : ℕ) (d : Stage) → TookAll as_plain n functions now stages works i → i < length stages →
-    as_plain v ≡ record { parts = (get_or stages i d).parts; branches = works_in (get_or stages i d).branches (owned_in (get_or stages i d).branches functions) n } →
-    AreThere functions after (all_positions (drop (i + 1) stages)) → more ≡ works ++ v ∷ [] → TookAll as_plain n functions after stages more (i + 1)
+pub all_more : {F N V : Type 0} (by : Behaviour F) (as_plain : V → PlainStage (PlainOwned F N)) (n : ℕ) (functions : List F) (now after : List (Option F)) (stages : List Stage) (works more : List V) (v : V) (i : ℕ) (d : Stage) → TookAll by as_plain n functions now stages works i → i < length stages →
+    as_plain v ≡ record { parts = (get_or stages i d).parts; branches = works_in by (get_or stages i d).branches (owned_in (get_or stages i d).branches functions) n } →
+    AreThere functions after (all_positions (drop (i + 1) stages)) → more ≡ works ++ v ∷ [] → TookAll by as_plain n functions after stages more (i + 1)
 unfolding works_of
-all_more {F} {V} as_plain n functions now after stages works more v i d took inside own left push = record {
+all_more {F} {N} {V} by as_plain n functions now after stages works more v i d took inside own left push = record {
   owns =
-      let rest : List (PlainStage (PlainOwned F)) = works_of (drop (i + 1) stages) (owned_by (drop (i + 1) stages) functions) n in
-      list_more (map as_plain works) (map as_plain more) (works_of (drop i stages) (owned_by (drop i stages) functions) n) rest (works_of stages (owned_by stages functions) n) (as_plain v)
+      let rest : List (PlainStage (PlainOwned F N)) = works_of by (drop (i + 1) stages) (owned_by (drop (i + 1) stages) functions) n in
+      list_more (map as_plain works) (map as_plain more) (works_of by (drop i stages) (owned_by (drop i stages) functions) n) rest (works_of by stages (owned_by stages functions) n) (as_plain v)
       (ap (map as_plain) push ∙ map-append as_plain works (v ∷ []))
-      (ap (λ (l : List Stage). works_of l (owned_by l functions) n) (drop_more stages i d inside) ∙ ap (λ (x : PlainStage (PlainOwned F)). x ∷ rest) (sym own)) took.owns;
+      (ap (λ (l : List Stage). works_of by l (owned_by l functions) n) (drop_more stages i d inside) ∙ ap (λ (x : PlainStage (PlainOwned F N)). x ∷ rest) (sym own)) took.owns;
   left = left;
 }
 
-pub all_taken : {F V : Type 0} (as_plain : V → PlainStage (PlainOwned F)) (n : ℕ) (functions : List F) (now : List (Option F)) (stages : List Stage) (works : List V) (i : ℕ) → TookAll as_plain n functions now stages works i → length stages ≤ i → map as_plain works ≡ works_of stages (owned_by stages functions) n
+pub all_taken : {F N V : Type 0} (by : Behaviour F) (as_plain : V → PlainStage (PlainOwned F N)) (n : ℕ) (functions : List F) (now : List (Option F)) (stages : List Stage) (works : List V) (i : ℕ) → TookAll by as_plain n functions now stages works i → length stages ≤ i → map as_plain works ≡ works_of by stages (owned_by stages functions) n
 unfolding works_of
-all_taken as_plain n functions now stages works i took past = sym (append-nil (map as_plain works)) ∙ ap (λ (l : List Stage). map as_plain works ++ works_of l (owned_by l functions) n) (sym (drop_all i stages past)) ∙ took.owns
+all_taken by as_plain n functions now stages works i took past = sym (append-nil (map as_plain works)) ∙ ap (λ (l : List Stage). map as_plain works ++ works_of by l (owned_by l functions) n) (sym (drop_all i stages past)) ∙ took.owns
 
 -- the same places, lent, and the same branches
 pub there_in : {F : Type 0} (functions : List F) (places lent : List (Option F)) (branches own : List Branch) (later : List ℕ) → lent ≡ places → branches ≡ own → AreThere functions places (positions_of own ++ later) → AreThere functions lent (positions_of branches ++ later)

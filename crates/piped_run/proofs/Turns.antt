@@ -22,7 +22,6 @@ use Rattle.stream_law.specs.Owned.{IsOwnReady}
 use Rattle.packet_messages.specs.Messages.{PlainMessage, PlainMessage.Live, PlainMessage.Nil, is_short, plain}
 use Rattle.packet_messages.specs.declared.message.Message.{Message}
 use Rattle.packet_messages.specs.declared.message.Message.TheVariants as made
-use Rattle.stage_nodes.specs.Streams.{Kit, gave, moved}
 use Rattle.stream_law.specs.Owned.{moved_by, went_by, ran_by}
 use Rattle.piped_run.specs.Turns.{as_sent}
 
@@ -67,7 +66,7 @@ tested_gone : (t : Bool) (p q : ℕ) (y : Version) (wrote : PlainVersion) → Go
 tested_gone true p q y wrote e = let same : p ≡ q = cc in ap (λ (n : ℕ). Nil n) same
 tested_gone false p q y wrote e = absurd cc
 
-went_same : {F : Type 0} (b : Behaviour F) (q : ℕ) (f : F) (v : PlainVersion) (came : Arrival) → as_branch_end came ≡ moved_end b v.fixed q f (Alive (as_version v)) → IsWhatWasWritten q (stepped b v.fixed f (as_version v).values).written v came →
+pub went_same : {F : Type 0} (b : Behaviour F) (q : ℕ) (f : F) (v : PlainVersion) (came : Arrival) → as_branch_end came ≡ moved_end b v.fixed q f (Alive (as_version v)) → IsWhatWasWritten q (stepped b v.fixed f (as_version v).values).written v came →
     as_sent came ≡ went_by b q f (Live v)
 unfolding moved_end
 went_same b q f v (cames.Version after) e wrote = tested (is_drop (stepped b v.fixed f (as_version v).values).verdict) q _ _ after (wrote_at q (stepped b v.fixed f (as_version v).values).written v) e wrote
@@ -203,6 +202,11 @@ own_passed {F} b positions first now v0 v after i f d came behind keeps turn ins
           (subst (IsCarried turn.chain turn.whole v.touch (q + 1)) (sym wrote) (behind b turn.chain turn.whole v.touch turn.low q was v keeps next.position next.rises mine named turn.carried));
     }
 
+-- its profile stays
+pub profiles_over : {F : Type 0} (b : Behaviour F) (positions : List ℕ) (first now : List F) (v0 v : PlainVersion) (i : ℕ) (f d : F) → KeepsProfile b → OwnTurn b positions first now v0 v i → f ≡ moved_function b v.fixed (get_or now i d) (Alive (as_version v)) →
+    map b.profile (set now i f) ≡ map b.profile first
+profiles_over b positions first now v0 v i f d keeps turn moved = map-set_same b.profile now i f d (ap b.profile (moved ∙ moved_same b (get_or now i d) v) ∙ profile_kept b (get_or now i d) v keeps) ∙ turn.profiles
+
 -- what comes of a branch
 pub record OwnOver {F : Type 0} (b : Behaviour F) (positions : List ℕ) (first now : List F) (v0 : PlainVersion) (came : Arrival) : Type 0 where
   pub functions : now ≡ (ran_by b positions first (Live v0)).state
@@ -265,9 +269,3 @@ passes_on b positions fs (made.Nil p) never = record {
   functions = λ found. ap (λ t. t.state) (sym (ran_gone b positions fs p));
 }
 passes_on b positions fs made.Short never = record { ran = λ found. absurd cc; functions = λ found. absurd cc }
-
--- and the work of its branch stays
-pub stays_so : {F : Type 0} (k : Kit F) (o : F) (message : Message PlainVersion) → ((v : _) → message ≢ made.Live v) → (plain message ≡ gave k o (plain message)) × (o ≡ moved k o (plain message))
-stays_so k o (made.Live v) never = absurd (never v refl)
-stays_so k o (made.Nil p) never = (refl, refl)
-stays_so k o made.Short never = (refl, refl)

@@ -1,5 +1,5 @@
 -- For proofs: what comes of a packet to the functions of a branch.
-use Rattle.std.specs.Prelude.{◌≡◌, ◌<◌, ◌⊎◌, ℕ, List, Bool, true, false, length, slice_index_or}
+use Rattle.std.specs.Prelude.{◌≡◌, ◌<◌, ◌⊎◌, ◌++◌, ℕ, List, Bool, true, false, length, slice_index_or}
 use Rattle.action_profile.specs.declared.rights.Profile.{Profile}
 use Rattle.chain_walk.specs.Shown.{Values}
 use Rattle.chain_walk.specs.Step.{Behaviour, stepped}
@@ -36,3 +36,14 @@ IsOrMoved b was now = (now ≡ was) ⊎ ((fixed : Fixed) × (values : Values) ×
 pub record EachStays {F : Type 0} (b : Behaviour F) (old new : List F) : Type 0 where
   pub count : length new ≡ length old
   pub each : (k : ℕ) (d : F) → k < length old → IsOrMoved b (slice_index_or old k d) (slice_index_or new k d)
+
+-- all of these are added to a list
+abbrev pub AddsAll : {A : Type 0} → List A → List A → List A → Type 0
+AddsAll all old new = new ≡ old ++ all
+
+-- the first of them are
+pub record AddsSome {A : Type 0} (all old new : List A) : Type 0 where
+  pub added : List A
+  pub left : List A
+  pub adds : new ≡ old ++ added
+  pub of : added ++ left ≡ all

@@ -1,46 +1,55 @@
 //! The functions of nodes, by stage and branch again.
 ghost use Rattle.std.specs.Prelude.{◌≡◌, List, length, map, take, drop, IfOk, OnOk};
+ghost use Rattle.burst_law.specs.Bursts.{Message};
+ghost use Rattle.nf_observe.specs.declared.note.FlowNote.{FlowNote};
+ghost use Rattle.piped_run.specs.Settling.{settled_own};
+ghost use Rattle.settled_notes.specs.Settling.{TellDrops};
 ghost use Rattle.std.specs.Vec.Iter.{into_iter_items};
 ghost use Rattle.node_run.specs.Runs.{flat};
 ghost use Rattle.stream_law.specs.Owned.{PlainOwned};
 
 use crate::owned::OwnedFunctions;
+use crate::settling::settle_work;
+use chain_walk::Fate;
 use graph_compile::Stage;
+use net_functions::Function;
 use std::alloc::{AllocError, Global};
 use std::vec::IntoIter;
 
-/// The functions of works, which stand one after another, by the stages and branches that own them. The one
-/// refusal is want of memory.
-pub(crate) fn end_works<F: Drop>(
+/// The functions of works, which stand one after another, by the stages and branches that own them, once what they noted of
+/// packets that ended so is settled. The one refusal is want of memory.
+pub(crate) fn end_works<F: Function + Drop>(
     alloc: Global,
     stages: &[Stage],
     works: Vec<OwnedFunctions<F>>,
+    fates: &[Fate],
 ) -> Result<Vec<Vec<Vec<F>>>, AllocError>
-    ensures { (ends : List (List (PlainOwned F))) → map (λ l. length l) ends ≡ map (λ s. length s.branches) stages.now → works.items ≡ flat ends →
-        IfOk result (λ owned. map (λ own. map (λ v. v.items) own.items) owned.items ≡ map (λ l. map (λ o. o.functions) l) ends) }
+    ensures { (ends : List Message) (left : List (List (PlainOwned F FlowNote))) → TellDrops fates.now ends → map (λ l. length l) left ≡ map (λ s. length s.branches) stages.now → works.items ≡ flat left →
+        IfOk result (λ owned. map (λ own. map (λ v. v.items) own.items) owned.items ≡ map (λ l. map (settled_own F.notes ends) l) left) }
 {
     let mut owned = Vec::with_capacity(alloc, stages.len())?;
     let mut rest = works.into_iter();
     'stages: for stage in stages {
-        let own = end_branches(alloc, stage.branches.as_slice().len(), &mut rest)?;
+        let own = end_branches(alloc, stage.branches.as_slice().len(), &mut rest, fates)?;
         owned.push(own)?;
     }
     Ok(owned)
 }
 
 /// The functions of the next works, which are so many.
-fn end_branches<F: Drop>(
+fn end_branches<F: Function + Drop>(
     alloc: Global,
     count: usize,
     works: &mut IntoIter<OwnedFunctions<F>>,
+    fates: &[Fate],
 ) -> Result<Vec<Vec<F>>, AllocError>
-    ensures own { IfOk result (λ own. map (λ v. v.items) own.items ≡ map (λ o. o.functions) (take count (into_iter_items works.old))) }
+    ensures own { (ends : List Message) → TellDrops fates.now ends → IfOk result (λ own. map (λ v. v.items) own.items ≡ map (settled_own F.notes ends) (take count (into_iter_items works.old))) }
     ensures left { OnOk result (into_iter_items works.new ≡ drop count (into_iter_items works.old)) }
 {
     let mut own = Vec::with_capacity(alloc, count)?;
     'branches: for _branch in 0..count {
         match works.next() {
-            Some(work) => own.push(work.functions)?,
+            Some(work) => own.push(settle_work(work, fates)?)?,
             None => return Ok(own),
         }
     }

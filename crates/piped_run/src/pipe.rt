@@ -14,14 +14,18 @@ use crate::frames::Frames;
 use crate::owned::OwnedFunctions;
 use crate::returning::put_together;
 use crate::works::begin_works;
-use burst_law::burst_is_chain;
-use chain_walk::Fate;
+use burst_law::{
+    burst_is_chain, notes_are_settled_as_listed, notes_are_settled_behind_bursts, owned_is_whole,
+    packets_merge_apart,
+};
+use chain_walk::{Fate, quiet_functions_keep_to_profiles};
 use graph_compile::{Graph, Stage};
 use graph_run::functions_keep_to_profiles;
-use net_functions::Function;
+use net_functions::{FlowNote, Function};
 use nfp_outside::Gate;
 use node_run::{MergeWay, Schedule, most_threads, run_nodes};
 use packet_version::Tally;
+use settled_notes::functions_count_by_notes;
 use std::alloc::{AllocError, Global};
 use std::marker::Brand;
 use std::sync::Wait;
@@ -63,7 +67,13 @@ pub(crate) fn pipe_frames<F: Function + Drop + Send, G: Gate + Sync, R: Threads 
     ensures refused { OnErr result (RaisesUpTo (λ f. chain_copies F.behaviour graph.now.stages f functions.items (map as_message (apart_from frames.entry))) tally.old tally.new) }
 {
     functions_keep_to_profiles::<F>();
+    quiet_functions_keep_to_profiles::<F>();
     burst_is_chain::<F>();
+    owned_is_whole::<F>();
+    packets_merge_apart::<F>();
+    functions_count_by_notes::<F>();
+    notes_are_settled_behind_bursts::<F, FlowNote>();
+    notes_are_settled_as_listed::<F, FlowNote>();
     nodes_walk_the_chain::<F>();
     if numbers.is_empty() {
         return Ok((functions, Vec::new(alloc)));
@@ -76,7 +86,7 @@ pub(crate) fn pipe_frames<F: Function + Drop + Send, G: Gate + Sync, R: Threads 
     let (works, fates, made) = run_nodes::<OwnedFunctions<F>, Frames, Brand, R, G>(
         rt, alloc, gate, works, frames, count, mergers, way, schedule,
     )?;
-    let owned = end_works(alloc, stages, works)?;
+    let owned = end_works(alloc, stages, works, &fates)?;
     let functions = put_together(alloc, stages, owners, owned)?;
     tally.add(&made);
     Ok((functions, fates))

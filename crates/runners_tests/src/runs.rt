@@ -293,6 +293,7 @@ fn behind(rt: &(impl Abort + Wait), alloc: Global, gate: &Passes) -> Option<u32>
     let mut functions = open_and_shut(rt, alloc);
     let positions = [3, 4];
     let functions = functions.as_mut_slice();
+    let mut notes = Vec::new(alloc);
     match branch_turn(
         rt,
         alloc,
@@ -302,8 +303,10 @@ fn behind(rt: &(impl Abort + Wait), alloc: Global, gate: &Passes) -> Option<u32>
         1,
         0,
         gate,
+        0,
+        &mut notes,
     ) {
-        Message::Nil(position) => Some(position),
+        Message::Nil(position) if notes.is_empty() => Some(position),
         _ => None,
     }
 }

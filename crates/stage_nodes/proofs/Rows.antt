@@ -10,11 +10,11 @@ use Rattle.packet_messages.specs.Messages.{PlainMessage, PlainMessage.Live, Plai
 use Rattle.stage_nodes.specs.Streams.{Kit, base_of, ran, left, joined, came_from, merged_rows, dealer_copies}
 
 -- a branch takes two versions, and between them a word that a packet was dropped
-branch_gives : {F : Type 0} (k : Kit F) (f : F) (v w : PlainVersion) → ran k f (Live v ∷ Nil 2 ∷ Live w ∷ []) ≡ k.gives f v ∷ Nil 2 ∷ k.gives (k.after f v) w ∷ []
+branch_gives : {F : Type 0} (k : Kit F) (f : F) (v w : PlainVersion) → ran k f (Live v ∷ Nil 2 ∷ Live w ∷ []) ≡ k.gives f v ∷ Nil 2 ∷ k.gives (k.past (k.after f v)) w ∷ []
 unfolding ran
 branch_gives k f v w = refl
 
-functions_left : {F : Type 0} (k : Kit F) (f : F) (v w : PlainVersion) → left k f (Live v ∷ Nil 2 ∷ Live w ∷ []) ≡ k.after (k.after f v) w
+functions_left : {F : Type 0} (k : Kit F) (f : F) (v w : PlainVersion) → left k f (Live v ∷ Nil 2 ∷ Live w ∷ []) ≡ k.after (k.past (k.after f v)) w
 unfolding left
 functions_left k f v w = refl
 

@@ -1,7 +1,7 @@
 -- For proofs: the messages that are due on each edge of a run (`stream`), as lists of plain data. A run is some stages, one after
 -- another; in each a dealer deals every packet to the branches, each branch takes what it is dealt in the packets' order, and what comes
 -- from the branches is put together packet by packet. To each stage come the packets behind the one before.
-use Rattle.std.specs.Prelude.{ℕ, ◌+◌, List, [], ◌∷◌, map}
+use Rattle.std.specs.Prelude.{◌≡◌, ℕ, ◌+◌, List, [], ◌∷◌, map}
 use Rattle.std.specs.List.{sum_by}
 use Rattle.packet_fields.specs.declared.field.Field.{Field}
 use Rattle.action_profile.specs.declared.parts.StageParts.{StageParts}
@@ -16,10 +16,15 @@ use Rattle.merge_ops.specs.declared.merging.Merged.{Merged}
 use Rattle.merge_ops.specs.declared.merging.Merged.TheVariants as ends
 use Rattle.packet_messages.specs.Messages.{PlainMessage, PlainMessage.Live, PlainMessage.Nil, PlainMessage.Short, first, rest}
 
--- What the functions of a branch make of a version, and the functions after it.
+-- What the functions of a branch make of a version, and the functions after it, and after a packet that is gone.
 pub record Kit (F : Type 0) : Type 0 where
   pub gives : F → PlainVersion → PlainMessage PlainVersion
   pub after : F → PlainVersion → F
+  pub past : F → F
+
+-- such functions are after each packet what they were before it
+abbrev pub KeepsNothing : {F : Type 0} → Kit F → F → Type 0
+KeepsNothing k f = ((v : PlainVersion) → k.after f v ≡ f) × (k.past f ≡ f)
 
 -- The functions of a stage's branches, and what each branch gets of a packet.
 pub record PlainStage (F : Type 0) : Type 0 where
@@ -46,7 +51,7 @@ gave k f Short = Short
 
 abbrev pub moved : {F : Type 0} → Kit F → F → PlainMessage PlainVersion → F
 moved k f (Live v) = k.after f v
-moved k f (Nil p) = f
+moved k f (Nil p) = k.past f
 moved k f Short = f
 
 -- from a branch, and its functions at the end

@@ -5,6 +5,7 @@ use Rattle.packet_fields.specs.declared.field.Field.{Field}
 use Rattle.action_profile.specs.Modes.{modes_of}
 use Rattle.action_profile.specs.declared.parts.Touch.{Touch}
 use Rattle.action_profile.specs.declared.rights.Profile.{Profile}
+use Rattle.chain_walk.specs.Counting.{IsQuiet}
 use Rattle.chain_walk.specs.Laws.{KeepsProfile}
 use Rattle.chain_walk.specs.Step.{Behaviour}
 use Rattle.graph_compile.specs.Lawful.{IsLawfulStage}
@@ -35,6 +36,7 @@ CopiesAreDue = (chain : List Profile) (first : ℕ) (stage : Stage) (whole : Pla
 -- all of them
 pub record AreLaws {F : Type 0} (b : Behaviour F) : Type 0 where
   pub keeps : KeepsProfile b
+  pub calm : IsQuiet b
   pub behind : GoesOnBehind F
   pub later : GoesOnLater
   pub same : DealtIsSame

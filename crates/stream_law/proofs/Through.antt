@@ -1,9 +1,10 @@
 -- A burst through the nodes of all stages, one after another.
-use Rattle.std.proofs.Common.{◌≡◌, ◌∙◌, ◌<◌, ◌≤◌, ◌+◌, ℕ, suc, List, [], ◌∷◌, length, map, ap, refl, sym, subst, arith}
-use Rattle.std.specs.Prelude.{All, Some}
+use Rattle.std.proofs.Common.{◌≡◌, ◌∙◌, ◌≤◌, ◌+◌, ℕ, List, [], ◌∷◌, length, map, ap, refl, sym, subst, arith}
+use Rattle.std.specs.Prelude.{All}
 use Rattle.std.proofs.lemmas.Option.{slice_get_within}
 use Rattle.packet_fields.specs.declared.field.Field.{Field}
 use Rattle.action_profile.specs.declared.rights.Profile.{Profile}
+use Rattle.chain_walk.specs.Notes.{Notes}
 use Rattle.chain_walk.specs.Step.{Behaviour}
 use Rattle.graph_compile.specs.declared.graph.Stage.{Stage}
 use Rattle.packet_version.specs.Splitting.{PlainApart}
@@ -18,6 +19,7 @@ use Rattle.stage_nodes.specs.Streams.{of_merged, as_merged, passed, through, end
 use Rattle.stage_nodes.specs.Flows.{MayPassAll}
 use Rattle.stream_law.specs.Rests.{KeepsRest, KeepsRests}
 use Rattle.stream_law.specs.Messages.{as_message}
+use Rattle.stream_law.specs.Listed.{graph_listed}
 use Rattle.stream_law.specs.Owned.{owned_kit, owned_may}
 use Rattle.stream_law.specs.Ready.{MayEnter, AllEnter, Fits}
 use Rattle.stream_law.specs.Works.{works_of}
@@ -62,47 +64,53 @@ rests_on chain next start packets after keeps leaves = record {
 }
 
 -- What is known of a burst behind the nodes of all stages: these messages came, which are those packets to the law of bursts.
-pub record HasGone {F : Type 0} (b : Behaviour F) (stages : List Stage) (owned : List (List (List F))) (n : ℕ) (start : List Merged) (xs : List (PlainMessage PlainApart)) (ms : List Message) : Type 0 where
-  pub may : MayPassAll (owned_kit b) (owned_may b) (works_of stages owned n) xs
-  pub functions : map (λ l. map (λ o. o.functions) l) (ends_of (owned_kit b) (works_of stages owned n) xs) ≡ (along (stage_burst b) stages owned ms).state
-  pub packets_are : map as_message (map as_merged (through (owned_kit b) (works_of stages owned n) xs)) ≡ (along (stage_burst b) stages owned ms).gives
-  pub rests : KeepsRests start (map as_merged (through (owned_kit b) (works_of stages owned n) xs))
-  pub counted : (f : Field) → copies_along (owned_kit b) (works_of stages owned n) xs f ≡ weight_along (stage_burst b) (due_in f) stages owned ms
+pub record HasGone {F N : Type 0} (b : Behaviour F) (notes : Notes F N) (stages : List Stage) (owned : List (List (List F))) (n : ℕ) (start : List Merged) (xs : List (PlainMessage PlainApart)) (ms : List Message) : Type 0 where
+  pub may : MayPassAll (owned_kit b notes) (owned_may b) (works_of b stages owned n) xs
+  pub functions : map (λ l. map (λ o. o.functions) l) (ends_of (owned_kit b notes) (works_of b stages owned n) xs) ≡ (along (stage_burst b) stages owned ms).state
+  pub positions : map (λ l. map (λ o. o.positions) l) (ends_of (owned_kit b notes) (works_of b stages owned n) xs) ≡ map (λ s. map (λ x. x.positions) s.branches) stages
+  pub listed : map (λ l. map (λ o. o.listed) l) (ends_of (owned_kit b notes) (works_of b stages owned n) xs) ≡ graph_listed b notes stages owned ms
+  pub packets_are : map as_message (map as_merged (through (owned_kit b notes) (works_of b stages owned n) xs)) ≡ (along (stage_burst b) stages owned ms).gives
+  pub rests : KeepsRests start (map as_merged (through (owned_kit b notes) (works_of b stages owned n) xs))
+  pub counted : (f : Field) → copies_along (owned_kit b notes) (works_of b stages owned n) xs f ≡ weight_along (stage_burst b) (due_in f) stages owned ms
 
-none_gone : {F : Type 0} (b : Behaviour F) (n : ℕ) (start packets : List Merged) → KeepsRests start packets → HasGone b [] [] n start (map of_merged packets) (map as_message packets)
-unfolding works_of MayPassAll through ends_of copies_along along weight_along
-none_gone b n start packets rests = record {
+none_gone : {F N : Type 0} (b : Behaviour F) (notes : Notes F N) (n : ℕ) (start packets : List Merged) → KeepsRests start packets → HasGone b notes [] [] n start (map of_merged packets) (map as_message packets)
+unfolding works_of MayPassAll through ends_of copies_along along weight_along graph_listed
+none_gone b notes n start packets rests = record {
   may = tt;
   functions = refl;
+  positions = refl;
+  listed = refl;
   packets_are = ap (map as_message) (all_as_of packets);
   rests = subst (KeepsRests start) (sym (all_as_of packets)) rests;
   counted = λ f. refl;
 }
 
-one_gone : {F : Type 0} (b : Behaviour F) (chain : List Profile) (at : ℕ) (s : Stage) (stages : List Stage) (owns : List (List F)) (owned : List (List (List F))) (n : ℕ) (start packets : List Merged) → HasPassed b chain at s owns n packets →
-    HasGone b stages owned n start (passed (owned_kit b) (owned_stage s owns n) (map of_merged packets)) (stage_burst b s owns (map as_message packets)).gives →
-    HasGone b (s ∷ stages) (owns ∷ owned) n start (map of_merged packets) (map as_message packets)
-unfolding works_of MayPassAll through ends_of copies_along along weight_along
-one_gone b chain at s stages owns owned n start packets here later = record {
+one_gone : {F N : Type 0} (b : Behaviour F) (notes : Notes F N) (chain : List Profile) (at : ℕ) (s : Stage) (stages : List Stage) (owns : List (List F)) (owned : List (List (List F))) (n : ℕ) (start packets : List Merged) → HasPassed b notes chain at s owns n packets →
+    HasGone b notes stages owned n start (passed (owned_kit b notes) (owned_stage b s owns n) (map of_merged packets)) (stage_burst b s owns (map as_message packets)).gives →
+    HasGone b notes (s ∷ stages) (owns ∷ owned) n start (map of_merged packets) (map as_message packets)
+unfolding works_of MayPassAll through ends_of copies_along along weight_along graph_listed
+one_gone b notes chain at s stages owns owned n start packets here later = record {
   may = (here.may, later.may);
   functions = λ i. here.functions i ∷ later.functions i;
+  positions = λ i. here.positions i ∷ later.positions i;
+  listed = λ i. here.listed i ∷ later.listed i;
   packets_are = later.packets_are;
   rests = later.rests;
   counted = λ f i. here.counted f i + later.counted f i;
 }
 
-pub all_gone : {F : Type 0} (b : Behaviour F) (chain : List Profile) (at : ℕ) (stages : List Stage) (owned : List (List (List F))) (n : ℕ) (start packets : List Merged) → AreLaws b → AllReady b chain at stages owned → AllEnter chain at packets → All Fits packets → length packets ≤ n → KeepsRests start packets →
-    HasGone b stages owned n start (map of_merged packets) (map as_message packets)
+pub all_gone : {F N : Type 0} (b : Behaviour F) (notes : Notes F N) (chain : List Profile) (at : ℕ) (stages : List Stage) (owned : List (List (List F))) (n : ℕ) (start packets : List Merged) → AreLaws b → AllReady b chain at stages owned → AllEnter chain at packets → All Fits packets → length packets ≤ n → KeepsRests start packets →
+    HasGone b notes stages owned n start (map of_merged packets) (map as_message packets)
 unfolding AllReady
-all_gone b chain at [] [] n start packets laws ready enter fits many rests = none_gone b n start packets rests
-all_gone {F} b chain at (s ∷ stages) (owns ∷ owned) n start packets laws ready enter fits many rests =
+all_gone b notes chain at [] [] n start packets laws ready enter fits many rests = none_gone b notes n start packets rests
+all_gone {F} {N} b notes chain at (s ∷ stages) (owns ∷ owned) n start packets laws ready enter fits many rests =
     let stage = ready.0 in
-    let here = stage_passed b chain at s owns n packets laws stage enter fits many in
-    let after : List Merged = passed_by b s owns n packets in
+    let here = stage_passed b notes chain at s owns n packets laws stage enter fits many in
+    let after : List Merged = passed_by b notes s owns n packets in
     let count = here.leaves.count in
-    let later = all_gone b chain (end_of at s) stages owned n start after laws ready.1 (next_enter chain (end_of at s) packets after here.leaves) here.fits (omega arith) (rests_on chain (end_of at s) start packets after rests here.leaves) in
-    one_gone b chain at s stages owns owned n start packets here
-    (subst (λ (xs : List (PlainMessage PlainApart)). HasGone b stages owned n start xs (stage_burst b s owns (map as_message packets)).gives) here.same
-    (subst (λ (ms : List Message). HasGone b stages owned n start (map of_merged after) ms) here.packets_are later))
-all_gone b chain at [] (owns ∷ owned) n start packets laws ready enter fits many rests = absurd ready
-all_gone b chain at (s ∷ stages) [] n start packets laws ready enter fits many rests = absurd ready
+    let later = all_gone b notes chain (end_of at s) stages owned n start after laws ready.1 (next_enter chain (end_of at s) packets after here.leaves) here.fits (omega arith) (rests_on chain (end_of at s) start packets after rests here.leaves) in
+    one_gone b notes chain at s stages owns owned n start packets here
+    (subst (λ (xs : List (PlainMessage PlainApart)). HasGone b notes stages owned n start xs (stage_burst b s owns (map as_message packets)).gives) here.same
+    (subst (λ (ms : List Message). HasGone b notes stages owned n start (map of_merged after) ms) here.packets_are later))
+all_gone b notes chain at [] (owns ∷ owned) n start packets laws ready enter fits many rests = absurd ready
+all_gone b notes chain at (s ∷ stages) [] n start packets laws ready enter fits many rests = absurd ready

@@ -1,23 +1,26 @@
 -- The functions that a branch owns, in turn on what comes to it: the law of bursts says the same of them, and a version goes on.
 use Rattle.std.proofs.Common.{◌≡◌, ◌∙◌, ◌≤◌, ◌+◌, ℕ, suc, Bool, true, false, List, [], ◌∷◌, length, map, ap, refl, sym, subst}
-use Rattle.std.specs.Prelude.{Some, if◌then◌else◌}
+use Rattle.std.specs.Prelude.{Option, Some, if◌then◌else◌}
 use Rattle.std.proofs.lemmas.Option.{same_Some}
 use Rattle.action_profile.specs.declared.parts.Touch.{Touch}
 use Rattle.action_profile.specs.declared.rights.Profile.{Profile}
 use Rattle.chain_walk.specs.Laws.{KeepsProfile}
+use Rattle.chain_walk.specs.Notes.{Notes, noted}
 use Rattle.chain_walk.specs.Step.{Behaviour, stepped, is_drop}
 use Rattle.chain_walk.specs.declared.fixed.Fixed.{Fixed}
 use Rattle.graph_compile.specs.Parts.{profile_at}
+use Rattle.graph_law.specs.BranchNotes.{noted_of}
 use Rattle.graph_law.specs.Branches.{BranchEnd, moved_function, moved_end, written_at}
 use Rattle.packet_version.specs.Splitting.{PlainApart}
 use Rattle.packet_version.specs.Versions.{PlainVersion, HoldsNamed}
+use Rattle.burst_law.specs.Noting.{turned_notes}
 use Rattle.burst_law.specs.Owned.{turned}
 use Rattle.burst_law.specs.Stations.{Turn, then_state}
 use Rattle.graph_run.specs.Carrying.{as_version, as_branch_end, wrote_at}
 use Rattle.graph_run.specs.Staging.{Holds, IsCarried, IsCarriedBy}
 use Rattle.packet_messages.specs.Messages.{PlainMessage, PlainMessage.Live, PlainMessage.Nil, PlainMessage.Short}
 use Rattle.stage_nodes.specs.Streams.{as_arrival}
-use Rattle.stream_law.specs.Owned.{moved_by, went_by, ran_by}
+use Rattle.stream_law.specs.Owned.{moved_by, went_by, ran_by, noted_by, notes_by}
 use Rattle.stream_law.proofs.Writes.{wrote_as}
 
 -- the laws of versions that go on, as they are cited
@@ -75,6 +78,21 @@ ran_same b (q ∷ qs) [] x m keeps h = refl
 ran_same b (q ∷ qs) (f ∷ fs) x m keeps h =
     ap (then_state (moved_by b f m)) (ran_same b qs fs x (went_by b q f m) keeps (stays_fixed b q f x m h))
     ∙ (λ i. then_state (moved_same b f x m h i) (turned b x qs fs (went_same b q f x m keeps h i)))
+
+-- and what they note of it
+noted_same : {F N : Type 0} (b : Behaviour F) (notes : Notes F N) (f : F) (x : Fixed) (m : PlainMessage PlainVersion) → HasFixed x m → noted_by b notes f m ≡ noted_of b notes x f (as_end_of m)
+unfolding noted_of
+noted_same b notes f x (Live v) h = ap (λ y. noted b notes y f (as_version v).values) h
+noted_same b notes f x (Nil p) h = refl
+noted_same b notes f x Short h = refl
+
+pub notes_same : {F N : Type 0} (b : Behaviour F) (notes : Notes F N) (qs : List ℕ) (fs : List F) (x : Fixed) (m : PlainMessage PlainVersion) → KeepsProfile b → HasFixed x m → notes_by b notes qs fs m ≡ turned_notes b notes x qs fs (as_end_of m)
+unfolding notes_by turned_notes
+notes_same b notes [] fs x m keeps h = refl
+notes_same b notes (q ∷ qs) [] x m keeps h = refl
+notes_same {F} {N} b notes (q ∷ qs) (f ∷ fs) x m keeps h =
+    ap (λ (l : List (Option N)). noted_by b notes f m ∷ l) (notes_same b notes qs fs x (went_by b q f m) keeps (stays_fixed b q f x m h))
+    ∙ (λ i. noted_same b notes f x m h i ∷ turned_notes b notes x qs fs (went_same b q f x m keeps h i))
 
 -- functions keep their profiles
 moved_profile : {F : Type 0} (b : Behaviour F) (f : F) (m : PlainMessage PlainVersion) → KeepsProfile b → b.profile (moved_by b f m) ≡ b.profile f

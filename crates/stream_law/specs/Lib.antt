@@ -1,5 +1,6 @@
 pub mod Owned
 pub mod Works
+pub mod Listed
 pub mod Ready
 pub mod Messages
 pub mod Rests

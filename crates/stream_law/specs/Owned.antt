@@ -1,11 +1,14 @@
 -- For proofs: the functions that a branch owns, one after another on what comes to it.
-use Rattle.std.specs.Prelude.{◌≡◌, ◌<◌, ℕ, List, [], ◌∷◌, length, map, Some, if◌then◌else◌}
+use Rattle.std.specs.Prelude.{◌≡◌, ◌<◌, ℕ, suc, List, [], ◌∷◌, ◌++◌, length, map, Bool, Option, Some, None, if◌then◌else◌}
+use Rattle.std.specs.List.{list_any}
 use Rattle.action_profile.specs.declared.parts.Touch.{Touch}
 use Rattle.action_profile.specs.declared.rights.Profile.{Profile}
+use Rattle.chain_walk.specs.Notes.{Notes, noted}
 use Rattle.chain_walk.specs.Step.{Behaviour, stepped, is_drop}
 use Rattle.graph_compile.specs.Parts.{profile_at}
 use Rattle.packet_version.specs.Splitting.{PlainApart}
 use Rattle.packet_version.specs.Versions.{PlainVersion}
+use Rattle.burst_law.specs.Noting.{OwnNote, row_listed}
 use Rattle.burst_law.specs.Stations.{Turn, then_state}
 use Rattle.graph_run.specs.Carrying.{as_version, wrote_at}
 use Rattle.graph_run.specs.Running.{profiles_of}
@@ -13,11 +16,19 @@ use Rattle.graph_run.specs.Staging.{Holds, IsCarried}
 use Rattle.packet_messages.specs.Messages.{PlainMessage, PlainMessage.Live, PlainMessage.Nil, PlainMessage.Short}
 use Rattle.stage_nodes.specs.Streams.{Kit}
 
--- Functions of a branch with the chain positions at which they stand, and how many packets a burst has.
-pub record PlainOwned (F : Type 0) : Type 0 where
+-- Functions of a branch with the chain positions at which they stand, and how many packets a burst has. Where one of them counts, the
+-- branch numbers the packets that come, and lists what is noted of them.
+pub record PlainOwned (F N : Type 0) : Type 0 where
   pub functions : List F
   pub positions : List ℕ
   pub packets : ℕ
+  pub counts : Bool
+  pub seen : ℕ
+  pub listed : List (OwnNote N)
+
+-- one of these functions counts
+abbrev pub any_counts : {F : Type 0} → Behaviour F → List F → Bool
+any_counts b functions = list_any (λ f. (b.profile f).counts) functions
 
 -- Functions with these profiles have these positions in a chain, which rise from one bound to another, and a branch with this
 -- touch holds what they name.
@@ -53,14 +64,35 @@ ran_by b [] fs m = record { state = fs; gives = m }
 ran_by b (q ∷ qs) [] m = record { state = []; gives = m }
 ran_by b (q ∷ qs) (f ∷ fs) m = then_state (moved_by b f m) (ran_by b qs fs (went_by b q f m))
 
+-- what a function notes of what comes to it
+abbrev pub noted_by : {F N : Type 0} → Behaviour F → Notes F N → F → PlainMessage PlainVersion → Option N
+noted_by b notes f (Live v) = noted b notes v.fixed f (as_version v).values
+noted_by b notes f (Nil p) = None
+noted_by b notes f Short = None
+
+-- and the functions of a branch, one after another
+unfoldable pub notes_by : {F N : Type 0} → Behaviour F → Notes F N → List ℕ → List F → PlainMessage PlainVersion → List (Option N)
+notes_by b notes [] fs m = []
+notes_by b notes (q ∷ qs) [] m = []
+notes_by b notes (q ∷ qs) (f ∷ fs) m = noted_by b notes f m ∷ notes_by b notes qs fs (went_by b q f m)
+
+-- the number of the packet that comes next
+abbrev pub next_seen : {F N : Type 0} → PlainOwned F N → ℕ
+next_seen o = if o.counts then suc o.seen else o.seen
+
 -- a branch by the functions that it owns
-abbrev pub owned_kit : {F : Type 0} → Behaviour F → Kit (PlainOwned F)
-owned_kit b = record {
+abbrev pub owned_kit : {F N : Type 0} → Behaviour F → Notes F N → Kit (PlainOwned F N)
+owned_kit b notes = record {
   gives = λ o v. (ran_by b o.positions o.functions (Live v)).gives;
-  after = λ o v. record o { functions = (ran_by b o.positions o.functions (Live v)).state };
+  after = λ o v. record o {
+    functions = (ran_by b o.positions o.functions (Live v)).state;
+    seen = next_seen o;
+    listed = o.listed ++ row_listed o.seen 0 (notes_by b notes o.positions o.functions (Live v));
+  };
+  past = λ o. record o { seen = next_seen o };
 }
 
 -- the version of the packet with this number may come: the burst has such a packet, each function has its position, and the version
 -- is ready for them
-abbrev pub owned_may : {F : Type 0} → Behaviour F → PlainOwned F → ℕ → PlainVersion → Type 0
+abbrev pub owned_may : {F N : Type 0} → Behaviour F → PlainOwned F N → ℕ → PlainVersion → Type 0
 owned_may b o p v = (p < o.packets) × (length o.functions ≡ length o.positions) × IsOwnReady (profiles_of b o.functions) o.positions v

@@ -1,6 +1,7 @@
 //! The law of streams: the nodes of a graph's stages lead a burst as packets that walk through the chain.
 ghost use Rattle.std.specs.Prelude.{◌≡◌, List, length, map};
 ghost use Rattle.packet_fields.specs.declared.field.Field.{Field};
+ghost use Rattle.chain_walk.specs.Counting.{quiet};
 ghost use Rattle.graph_compile.specs.declared.graph.Graph.{Graph};
 ghost use Rattle.merge_ops.specs.declared.merging.Merged.{Merged};
 ghost use Rattle.burst_law.specs.Owned.{owned_by};
@@ -12,9 +13,11 @@ ghost use Rattle.stage_nodes.specs.Flows.{MayPassAll};
 ghost use Rattle.stage_nodes.specs.Streams.{of_merged, as_merged, through, ends_of, copies_along};
 ghost use Rattle.stream_law.specs.Owned.{owned_kit, owned_may};
 ghost use Rattle.stream_law.specs.Ready.{IsReadyBurst};
+ghost use Rattle.stream_law.specs.Listed.{graph_listed};
 ghost use Rattle.stream_law.specs.Works.{works_of};
 
 use burst_law::{burst_is_chain, copies_are_same, owned_is_whole};
+use chain_walk::quiet_functions_keep_to_profiles;
 use graph_compile::{lawful_graph_is_staged, lawful_stage_has_owners, stages_rise};
 use graph_run::{
     branches_hold_what_is_named, dealt_versions_go_on, due_copies_are_counted,
@@ -27,38 +30,52 @@ use packet_version::shape_fits;
 /// A burst of packets that is ready for a graph may go through the nodes of its stages, each branch with the
 /// functions that it owns, and what the nodes give each other is the burst that walks: the packets behind
 /// the last stage and the functions that are left are those of packets that walk through the chain one after
-/// another, and the dealers make as many copies as the walks.
+/// another, and the dealers make as many copies as the walks. Functions that count keep still meanwhile: what
+/// they note is settled behind the burst (`notes_are_settled_behind_bursts` of `burst_law`).
 pub fn nodes_walk_the_chain<F: Function>()
     // each dealer, branch and merger may take what is due to it
     ensures pass { (graph : Graph) (functions : List F) (packets : List Merged) →
-        IsReadyBurst F.behaviour graph functions packets →
-        MayPassAll (owned_kit F.behaviour) (owned_may F.behaviour)
-        (works_of graph.stages (owned_by graph.stages functions) (length packets)) (map of_merged packets) }
+        IsReadyBurst (quiet F.behaviour) graph functions packets →
+        MayPassAll (owned_kit (quiet F.behaviour) F.notes) (owned_may (quiet F.behaviour))
+        (works_of (quiet F.behaviour) graph.stages (owned_by graph.stages functions) (length packets)) (map of_merged packets) }
     // each branch is left with the functions that it owns of those that the walks leave
     ensures functions { (graph : Graph) (functions : List F) (packets : List Merged) →
-        IsReadyBurst F.behaviour graph functions packets →
-        map (λ l. map (λ o. o.functions) l) (ends_of (owned_kit F.behaviour)
-        (works_of graph.stages (owned_by graph.stages functions) (length packets)) (map of_merged packets))
-        ≡ owned_by graph.stages (chain_burst F.behaviour functions (map as_message packets)).state }
+        IsReadyBurst (quiet F.behaviour) graph functions packets →
+        map (λ l. map (λ o. o.functions) l) (ends_of (owned_kit (quiet F.behaviour) F.notes)
+        (works_of (quiet F.behaviour) graph.stages (owned_by graph.stages functions) (length packets)) (map of_merged packets))
+        ≡ owned_by graph.stages (chain_burst (quiet F.behaviour) functions (map as_message packets)).state }
+    // which stand at the branch's positions
+    ensures positions { (graph : Graph) (functions : List F) (packets : List Merged) →
+        IsReadyBurst (quiet F.behaviour) graph functions packets →
+        map (λ l. map (λ o. o.positions) l) (ends_of (owned_kit (quiet F.behaviour) F.notes)
+        (works_of (quiet F.behaviour) graph.stages (owned_by graph.stages functions) (length packets)) (map of_merged packets))
+        ≡ map (λ s. map (λ x. x.positions) s.branches) graph.stages }
+    // and with what its functions noted of the packets, as it lists them
+    ensures listed { (graph : Graph) (functions : List F) (packets : List Merged) →
+        IsReadyBurst (quiet F.behaviour) graph functions packets →
+        map (λ l. map (λ o. o.listed) l) (ends_of (owned_kit (quiet F.behaviour) F.notes)
+        (works_of (quiet F.behaviour) graph.stages (owned_by graph.stages functions) (length packets)) (map of_merged packets))
+        ≡ graph_listed (quiet F.behaviour) F.notes graph.stages (owned_by graph.stages functions) (map as_message packets) }
     // the packets end as those that walk
     ensures packets { (graph : Graph) (functions : List F) (packets : List Merged) →
-        IsReadyBurst F.behaviour graph functions packets →
-        map as_message (map as_merged (through (owned_kit F.behaviour)
-        (works_of graph.stages (owned_by graph.stages functions) (length packets)) (map of_merged packets)))
-        ≡ (chain_burst F.behaviour functions (map as_message packets)).gives }
+        IsReadyBurst (quiet F.behaviour) graph functions packets →
+        map as_message (map as_merged (through (owned_kit (quiet F.behaviour) F.notes)
+        (works_of (quiet F.behaviour) graph.stages (owned_by graph.stages functions) (length packets)) (map of_merged packets)))
+        ≡ (chain_burst (quiet F.behaviour) functions (map as_message packets)).gives }
     // there is one for each, none is short, and one that isn't gone has what is left of its frame without its fields
     ensures rests { (graph : Graph) (functions : List F) (packets : List Merged) →
-        IsReadyBurst F.behaviour graph functions packets →
-        KeepsRests packets (map as_merged (through (owned_kit F.behaviour)
-        (works_of graph.stages (owned_by graph.stages functions) (length packets)) (map of_merged packets))) }
+        IsReadyBurst (quiet F.behaviour) graph functions packets →
+        KeepsRests packets (map as_merged (through (owned_kit (quiet F.behaviour) F.notes)
+        (works_of (quiet F.behaviour) graph.stages (owned_by graph.stages functions) (length packets)) (map of_merged packets))) }
     // and the dealers make as many copies as the walks tell
     ensures counted { (graph : Graph) (functions : List F) (packets : List Merged) (f : Field) →
-        IsReadyBurst F.behaviour graph functions packets →
-        copies_along (owned_kit F.behaviour)
-        (works_of graph.stages (owned_by graph.stages functions) (length packets)) (map of_merged packets) f
-        ≡ chain_copies F.behaviour graph.stages f functions (map as_message packets) }
+        IsReadyBurst (quiet F.behaviour) graph functions packets →
+        copies_along (owned_kit (quiet F.behaviour) F.notes)
+        (works_of (quiet F.behaviour) graph.stages (owned_by graph.stages functions) (length packets)) (map of_merged packets) f
+        ≡ chain_copies (quiet F.behaviour) graph.stages f functions (map as_message packets) }
 {
     functions_keep_to_profiles::<F>();
+    quiet_functions_keep_to_profiles::<F>();
     lawful_graph_is_staged();
     stages_rise();
     lawful_stage_has_owners();

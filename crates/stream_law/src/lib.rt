@@ -7,6 +7,8 @@
 //! each node may take all that is due to it; and what comes behind the last stage, and the functions that
 //! the branches are left with, are those of packets that walk through the chain one after another, each as
 //! the packet before left it. The copies that the dealers make are those that the walks tell.
+//! Functions that count keep still meanwhile: each branch lists what its functions note of the packets
+//! (`specs/Listed.antt`), and the law says what each has listed.
 //!
 //! It rests on the law of bursts (`burst_law`). A branch of nodes never sees what another branch gives, so its
 //! stream is the same whether the branches run one after another or side by side; a merger puts each packet

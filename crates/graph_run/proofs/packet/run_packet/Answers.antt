@@ -1,43 +1,34 @@
-use Rattle.std.proofs.Common.{rules, ◌<◌, ◌≤◌, ◌∙◌, length, refl, ap, subst, get_or, arith}
-use Rattle.graph_run.proofs.WayThroughStages.{flow_begins}
-use Rattle.graph_run.proofs.Onward.{is_walk, way_over, all_made}
-use Rattle.graph_run.proofs.Passing.{next_ready, passed, dropped, never_short, failed}
+use Rattle.std.proofs.Common.{rules}
+use Rattle.graph_run.proofs.Settled.{walks_are, fate_so, counted_so, refused_so, unsettled_so, settled_so}
 use Rattle.graph_run.proofs.packet.run_packet.Goals as goal
 
-pub loop-stage-init : goal.loop-stage-init
-loop-stage-init g c = flow_begins g.F.Function.behaviour c.args.graph.now c.args.time c.args.frame.now c.args.functions.now c.args.taggers c.in_ok-whole.whole c.args.tally.now c.lawful_graph_is_staged.ensures.staged c.values_stay_well_formed.ensures.frame c.requires.running c.requires.taggers
-    c.in_ok-whole.ensures.parts c.in_ok-whole.ensures.rest c.in_ok-whole.ensures.fixed
+pub returns-in_err-fate-clause-refused : goal.returns-in_err-fate-clause-refused
+returns-in_err-fate-clause-refused g c =
+    let w = walks_are g.F.Function.behaviour g.F.Function.notes c.args.graph.now c.args.time c.args.frame.now c.args.functions.now c.graph_is_chain.ensures c.quiet_functions_keep_to_profiles.ensures.keeps c.quiet_functions_keep_to_profiles.ensures.still
+    c.frames_walk_as_fields.ensures c.notes_are_settled_behind.ensures.fields c.notes_are_settled_by_position.ensures g.met.F.Function.keeps g.met.F.Function.counts c.requires.running in
+    let within = refused_so g.F.Function.behaviour g.F.Function.notes c.args.graph.now c.args.time c.args.frame.now c.args.functions.now c.args.tally.now c.pass_stages.new.tally w c.in_err-fate.ensures.refused in search rules
 
-pub run_stage-requires : goal.run_stage-requires
-run_stage-requires g c = record { ready = (next_ready g.F.Function.behaviour c.args.graph.now c.args.time c.args.frame.now c.args.functions.now c.loop-stage.functions _ c.loop-stage.whole _ _ c.stage-item.result c.stages_rise.ensures c.requires.running c.loop-stage.invariant (subst (λ l. c.loop-stage.stage-index < length l) c.as_slice-stage-items.ensures c.loop-stage-test.true) (c.stage-item.is ∙ ap (λ l. get_or l c.loop-stage.stage-index c.stage-item.result) c.as_slice-stage-items.ensures)) }
-
-pub returns-in_err-next-clause-refused : goal.returns-in_err-next-clause-refused
-returns-in_err-next-clause-refused g c = let within = failed g.F.Function.behaviour c.args.graph.now c.args.time c.args.frame.now c.args.functions.now c.loop-stage.functions _ c.loop-stage.whole _ _ _ c.stage-item.result c.stage_reached.ensures.graph c.requires.running c.loop-stage.invariant (is_walk g.F.Function.behaviour c.args.graph.now c.args.time c.args.frame.now c.args.functions.now (c.graph_is_chain.ensures g.F.Function.behaviour _ c.args.graph.now c.args.functions.now _ g.met.F.Function.keeps c.requires.running.lawful c.requires.running.full) (c.frames_walk_as_fields.ensures g.F.Function.behaviour c.args.time 1 c.args.functions.now c.args.frame.now g.met.F.Function.keeps)) (subst (λ l. c.loop-stage.stage-index < length l) c.as_slice-stage-items.ensures c.loop-stage-test.true) (c.stage-item.is ∙ ap (λ l. get_or l c.loop-stage.stage-index c.stage-item.result) c.as_slice-stage-items.ensures) c.in_err-next.ensures.refused in search rules
-
-pub returns-in-Gone-clause-functions : goal.returns-in-Gone-clause-functions
-returns-in-Gone-clause-functions g c = (dropped g.F.Function.behaviour c.args.graph.now c.args.time c.args.frame.now c.args.functions.now c.loop-stage.functions _ _ c.in-Gone.position c.loop-stage.whole _ _ _ c.stage-item.result c.in_ok-next.field-0 c.stage_reached.ensures.graph c.stage_reached.ensures.stage c.requires.running c.loop-stage.invariant (is_walk g.F.Function.behaviour c.args.graph.now c.args.time c.args.frame.now c.args.functions.now (c.graph_is_chain.ensures g.F.Function.behaviour _ c.args.graph.now c.args.functions.now _ g.met.F.Function.keeps c.requires.running.lawful c.requires.running.full) (c.frames_walk_as_fields.ensures g.F.Function.behaviour c.args.time 1 c.args.functions.now c.args.frame.now g.met.F.Function.keeps)) (subst (λ l. c.loop-stage.stage-index < length l) c.as_slice-stage-items.ensures c.loop-stage-test.true) (c.stage-item.is ∙ ap (λ l. get_or l c.loop-stage.stage-index c.stage-item.result) c.as_slice-stage-items.ensures) (record { functions = c.in_ok-next.ensures.functions; end = c.in_ok-next.ensures.end; leaves = c.in_ok-next.ensures.leaves; counted = c.in_ok-next.ensures.counted }) c.in-Gone.is).functions
-
-pub returns-in-Gone-clause-fate : goal.returns-in-Gone-clause-fate
-returns-in-Gone-clause-fate g c = (dropped g.F.Function.behaviour c.args.graph.now c.args.time c.args.frame.now c.args.functions.now c.loop-stage.functions _ _ c.in-Gone.position c.loop-stage.whole _ _ _ c.stage-item.result c.in_ok-next.field-0 c.stage_reached.ensures.graph c.stage_reached.ensures.stage c.requires.running c.loop-stage.invariant (is_walk g.F.Function.behaviour c.args.graph.now c.args.time c.args.frame.now c.args.functions.now (c.graph_is_chain.ensures g.F.Function.behaviour _ c.args.graph.now c.args.functions.now _ g.met.F.Function.keeps c.requires.running.lawful c.requires.running.full) (c.frames_walk_as_fields.ensures g.F.Function.behaviour c.args.time 1 c.args.functions.now c.args.frame.now g.met.F.Function.keeps)) (subst (λ l. c.loop-stage.stage-index < length l) c.as_slice-stage-items.ensures c.loop-stage-test.true) (c.stage-item.is ∙ ap (λ l. get_or l c.loop-stage.stage-index c.stage-item.result) c.as_slice-stage-items.ensures) (record { functions = c.in_ok-next.ensures.functions; end = c.in_ok-next.ensures.end; leaves = c.in_ok-next.ensures.leaves; counted = c.in_ok-next.ensures.counted }) c.in-Gone.is).fate
-
-pub returns-in-Gone-clause-counted : goal.returns-in-Gone-clause-counted
-returns-in-Gone-clause-counted g c = (dropped g.F.Function.behaviour c.args.graph.now c.args.time c.args.frame.now c.args.functions.now c.loop-stage.functions _ _ c.in-Gone.position c.loop-stage.whole _ _ _ c.stage-item.result c.in_ok-next.field-0 c.stage_reached.ensures.graph c.stage_reached.ensures.stage c.requires.running c.loop-stage.invariant (is_walk g.F.Function.behaviour c.args.graph.now c.args.time c.args.frame.now c.args.functions.now (c.graph_is_chain.ensures g.F.Function.behaviour _ c.args.graph.now c.args.functions.now _ g.met.F.Function.keeps c.requires.running.lawful c.requires.running.full) (c.frames_walk_as_fields.ensures g.F.Function.behaviour c.args.time 1 c.args.functions.now c.args.frame.now g.met.F.Function.keeps)) (subst (λ l. c.loop-stage.stage-index < length l) c.as_slice-stage-items.ensures c.loop-stage-test.true) (c.stage-item.is ∙ ap (λ l. get_or l c.loop-stage.stage-index c.stage-item.result) c.as_slice-stage-items.ensures) (record { functions = c.in_ok-next.ensures.functions; end = c.in_ok-next.ensures.end; leaves = c.in_ok-next.ensures.leaves; counted = c.in_ok-next.ensures.counted }) c.in-Gone.is).counted
-
-pub returns-in-Short-clause-refused : goal.returns-in-Short-clause-refused
-returns-in-Short-clause-refused g c = absurd (never_short g.F.Function.behaviour c.stage-item.result c.loop-stage.whole c.loop-stage.functions c.run_stage.new.functions c.in_ok-next.field-0 c.loop-stage.tally c.run_stage.new.tally (record { functions = c.in_ok-next.ensures.functions; end = c.in_ok-next.ensures.end; leaves = c.in_ok-next.ensures.leaves; counted = c.in_ok-next.ensures.counted }) (next_ready g.F.Function.behaviour c.args.graph.now c.args.time c.args.frame.now c.args.functions.now c.loop-stage.functions _ c.loop-stage.whole _ _ c.stage-item.result c.stages_rise.ensures c.requires.running c.loop-stage.invariant (subst (λ l. c.loop-stage.stage-index < length l) c.as_slice-stage-items.ensures c.loop-stage-test.true) (c.stage-item.is ∙ ap (λ l. get_or l c.loop-stage.stage-index c.stage-item.result) c.as_slice-stage-items.ensures)) c.in-Short.is)
-
-pub loop-stage-preserved : goal.loop-stage-preserved
-loop-stage-preserved g c = passed g.F.Function.behaviour c.args.graph.now c.args.time c.args.frame.now c.args.functions.now c.loop-stage.functions _ _ c.loop-stage.whole c.in-Whole.next _ _ _ c.stage-item.result c.in_ok-next.field-0 c.stages_rise.ensures c.fields_stay.ensures.stage c.profiles_stay.ensures.stage g.met.F.Function.keeps
-    c.requires.running c.loop-stage.invariant (subst (λ l. c.loop-stage.stage-index < length l) c.as_slice-stage-items.ensures c.loop-stage-test.true) (c.stage-item.is ∙ ap (λ l. get_or l c.loop-stage.stage-index c.stage-item.result) c.as_slice-stage-items.ensures) (record { functions = c.in_ok-next.ensures.functions; end = c.in_ok-next.ensures.end; leaves = c.in_ok-next.ensures.leaves; counted = c.in_ok-next.ensures.counted }) c.in-Whole.is
-
-pub returns-in_err-join-clause-refused : goal.returns-in_err-join-clause-refused
-returns-in_err-join-clause-refused g c = let within = all_made _ _ _ (way_over g.F.Function.behaviour c.args.graph.now c.args.time c.args.frame.now c.args.functions.now c.loop-stage.functions _ c.loop-stage.whole _ _ _ c.stage_reached.ensures.graph (λ after is. c.frames_are_built_again.ensures g.F.Function.behaviour c.args.time 1 c.args.functions.now c.args.frame.now after g.met.F.Function.keeps is) (c.graph_is_chain.ensures g.F.Function.behaviour _ c.args.graph.now c.args.functions.now _ g.met.F.Function.keeps c.requires.running.lawful c.requires.running.full) c.requires.running c.loop-stage.invariant (is_walk g.F.Function.behaviour c.args.graph.now c.args.time c.args.frame.now c.args.functions.now (c.graph_is_chain.ensures g.F.Function.behaviour _ c.args.graph.now c.args.functions.now _ g.met.F.Function.keeps c.requires.running.lawful c.requires.running.full) (c.frames_walk_as_fields.ensures g.F.Function.behaviour c.args.time 1 c.args.functions.now c.args.frame.now g.met.F.Function.keeps)) (subst (λ l. length l ≤ c.loop-stage.stage-index) c.as_slice-stage-items.ensures (omega arith)) refl).counted in search rules
+pub returns-in_err-settle_all-clause-refused : goal.returns-in_err-settle_all-clause-refused
+returns-in_err-settle_all-clause-refused g c =
+    let w = walks_are g.F.Function.behaviour g.F.Function.notes c.args.graph.now c.args.time c.args.frame.now c.args.functions.now c.graph_is_chain.ensures c.quiet_functions_keep_to_profiles.ensures.keeps c.quiet_functions_keep_to_profiles.ensures.still
+    c.frames_walk_as_fields.ensures c.notes_are_settled_behind.ensures.fields c.notes_are_settled_by_position.ensures g.met.F.Function.keeps g.met.F.Function.counts c.requires.running in
+    let within = unsettled_so g.F.Function.behaviour g.F.Function.notes c.args.graph.now c.args.time c.args.frame.now c.args.functions.now c.args.tally.now c.pass_stages.new.tally w c.in_ok-fate.ensures.counted in search rules
 
 pub returns-clause-functions : goal.returns-clause-functions
-returns-clause-functions g c = (way_over g.F.Function.behaviour c.args.graph.now c.args.time c.args.frame.now c.args.functions.now c.loop-stage.functions _ c.loop-stage.whole _ _ _ c.stage_reached.ensures.graph (λ after is. c.frames_are_built_again.ensures g.F.Function.behaviour c.args.time 1 c.args.functions.now c.args.frame.now after g.met.F.Function.keeps is) (c.graph_is_chain.ensures g.F.Function.behaviour _ c.args.graph.now c.args.functions.now _ g.met.F.Function.keeps c.requires.running.lawful c.requires.running.full) c.requires.running c.loop-stage.invariant (is_walk g.F.Function.behaviour c.args.graph.now c.args.time c.args.frame.now c.args.functions.now (c.graph_is_chain.ensures g.F.Function.behaviour _ c.args.graph.now c.args.functions.now _ g.met.F.Function.keeps c.requires.running.lawful c.requires.running.full) (c.frames_walk_as_fields.ensures g.F.Function.behaviour c.args.time 1 c.args.functions.now c.args.frame.now g.met.F.Function.keeps)) (subst (λ l. length l ≤ c.loop-stage.stage-index) c.as_slice-stage-items.ensures (omega arith)) c.in_ok-join.ensures).functions
+returns-clause-functions g c =
+    let w = walks_are g.F.Function.behaviour g.F.Function.notes c.args.graph.now c.args.time c.args.frame.now c.args.functions.now c.graph_is_chain.ensures c.quiet_functions_keep_to_profiles.ensures.keeps c.quiet_functions_keep_to_profiles.ensures.still
+    c.frames_walk_as_fields.ensures c.notes_are_settled_behind.ensures.fields c.notes_are_settled_by_position.ensures g.met.F.Function.keeps g.met.F.Function.counts c.requires.running in
+    settled_so g.F.Function.behaviour g.F.Function.notes c.args.graph.now c.args.time c.args.frame.now c.args.functions.now c.pass_stages.new.functions c.settle_all.new.functions c.in_ok-fate.fate c.args.notes.now.items c.pass_stages.new.notes.items w
+    c.in_ok-fate.ensures.functions c.in_ok-fate.ensures.fate c.requires.unnoted c.in_ok-fate.ensures.noted c.in_ok-settle_all.ensures.functions
 
 pub returns-clause-fate : goal.returns-clause-fate
-returns-clause-fate g c = (way_over g.F.Function.behaviour c.args.graph.now c.args.time c.args.frame.now c.args.functions.now c.loop-stage.functions _ c.loop-stage.whole _ _ _ c.stage_reached.ensures.graph (λ after is. c.frames_are_built_again.ensures g.F.Function.behaviour c.args.time 1 c.args.functions.now c.args.frame.now after g.met.F.Function.keeps is) (c.graph_is_chain.ensures g.F.Function.behaviour _ c.args.graph.now c.args.functions.now _ g.met.F.Function.keeps c.requires.running.lawful c.requires.running.full) c.requires.running c.loop-stage.invariant (is_walk g.F.Function.behaviour c.args.graph.now c.args.time c.args.frame.now c.args.functions.now (c.graph_is_chain.ensures g.F.Function.behaviour _ c.args.graph.now c.args.functions.now _ g.met.F.Function.keeps c.requires.running.lawful c.requires.running.full) (c.frames_walk_as_fields.ensures g.F.Function.behaviour c.args.time 1 c.args.functions.now c.args.frame.now g.met.F.Function.keeps)) (subst (λ l. length l ≤ c.loop-stage.stage-index) c.as_slice-stage-items.ensures (omega arith)) c.in_ok-join.ensures).fate
+returns-clause-fate g c =
+    let w = walks_are g.F.Function.behaviour g.F.Function.notes c.args.graph.now c.args.time c.args.frame.now c.args.functions.now c.graph_is_chain.ensures c.quiet_functions_keep_to_profiles.ensures.keeps c.quiet_functions_keep_to_profiles.ensures.still
+    c.frames_walk_as_fields.ensures c.notes_are_settled_behind.ensures.fields c.notes_are_settled_by_position.ensures g.met.F.Function.keeps g.met.F.Function.counts c.requires.running in
+    fate_so g.F.Function.behaviour g.F.Function.notes c.args.graph.now c.args.time c.args.frame.now c.args.functions.now c.in_ok-fate.fate w c.in_ok-fate.ensures.fate
 
 pub returns-clause-counted : goal.returns-clause-counted
-returns-clause-counted g c = (way_over g.F.Function.behaviour c.args.graph.now c.args.time c.args.frame.now c.args.functions.now c.loop-stage.functions _ c.loop-stage.whole _ _ _ c.stage_reached.ensures.graph (λ after is. c.frames_are_built_again.ensures g.F.Function.behaviour c.args.time 1 c.args.functions.now c.args.frame.now after g.met.F.Function.keeps is) (c.graph_is_chain.ensures g.F.Function.behaviour _ c.args.graph.now c.args.functions.now _ g.met.F.Function.keeps c.requires.running.lawful c.requires.running.full) c.requires.running c.loop-stage.invariant (is_walk g.F.Function.behaviour c.args.graph.now c.args.time c.args.frame.now c.args.functions.now (c.graph_is_chain.ensures g.F.Function.behaviour _ c.args.graph.now c.args.functions.now _ g.met.F.Function.keeps c.requires.running.lawful c.requires.running.full) (c.frames_walk_as_fields.ensures g.F.Function.behaviour c.args.time 1 c.args.functions.now c.args.frame.now g.met.F.Function.keeps)) (subst (λ l. length l ≤ c.loop-stage.stage-index) c.as_slice-stage-items.ensures (omega arith)) c.in_ok-join.ensures).counted
+returns-clause-counted g c =
+    let w = walks_are g.F.Function.behaviour g.F.Function.notes c.args.graph.now c.args.time c.args.frame.now c.args.functions.now c.graph_is_chain.ensures c.quiet_functions_keep_to_profiles.ensures.keeps c.quiet_functions_keep_to_profiles.ensures.still
+    c.frames_walk_as_fields.ensures c.notes_are_settled_behind.ensures.fields c.notes_are_settled_by_position.ensures g.met.F.Function.keeps g.met.F.Function.counts c.requires.running in
+    counted_so g.F.Function.behaviour g.F.Function.notes c.args.graph.now c.args.time c.args.frame.now c.args.functions.now c.args.tally.now c.pass_stages.new.tally w c.in_ok-fate.ensures.counted

@@ -13,6 +13,7 @@ pub loop-item-init : goal.loop-item-init
 loop-item-init g c = record {
   ran = subst (λ r. HasRunItems g.F.Function.behaviour c.run.inside.graph c.args.unit c.args.chain c.args.items.now r.functions c.run.inside.functions.items 0 c.in_ok-fates.fates.items c.args.tally.now c.args.tally.now) c.run.view_is
       (items_begin g.F.Function.behaviour c.run.inside.graph c.args.unit c.args.chain c.args.items.now c.run.inside.functions.items c.in_ok-fates.fates.items c.args.tally.now c.in_ok-fates.ensures.items);
+  unnoted = c.new-notes.ensures.items;
   row = subst (λ r. IfSome c.run.inside.row (IsRow g.F.Function.behaviour r.functions c.run.inside.graph)) c.run.view_is c.run.invariant.1;
 }
 
@@ -24,6 +25,7 @@ pub loop-item-preserved : goal.loop-item-preserved
 loop-item-preserved g c = record {
   ran = item_taken g.F.Function.behaviour c.run.inside.graph c.args.unit c.args.chain c.args.items.now c.args.run.functions c.loop-item.functions.items c.deref_mut.result.now c.run_item.new.functions _ c.loop-item.item-index c.loop-item.fates.items _ c.args.tally.now c.loop-item.tally c.run_item.new.tally c.item-item.result
       c.packets_walk_in_a_row.ensures.fates c.packets_walk_in_a_row.ensures.functions c.packets_walk_in_a_row.ensures.count g.met.F.Function.keeps c.loop-item.invariant.ran c.loop-item-test.true c.item-item.is c.deref_mut.ensures.value (wrote_back _ c.run_item.new.functions _ (c.run_item.auto.functions ∙ c.deref_mut.ensures.len)) c.in_ok-run_item.ensures.functions c.in_ok-run_item.ensures.fates c.in_ok-run_item.ensures.counted;
+  unnoted = c.in_ok-run_item.ensures.settled;
   row = c.loop-item.invariant.row;
 }
 

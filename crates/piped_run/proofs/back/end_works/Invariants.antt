@@ -4,4 +4,4 @@ use Rattle.piped_run.proofs.Ending.{HasGiven}
 use Rattle.piped_run.proofs.back.end_works.Given as goal
 
 abbrev pub invariant-stages : goal.invariant-stages
-invariant-stages g l = HasGiven (λ own. map (λ v. v.items) own.items) l.stages l.fn.works.items (into_iter_items l.rest) l.owned.items l.stage-index
+invariant-stages g l = HasGiven g.F.Function.notes l.fates (λ own. map (λ v. v.items) own.items) l.stages l.fn.works.items (into_iter_items l.rest) l.owned.items l.stage-index

@@ -1,11 +1,13 @@
+use Rattle.chain_walk.specs.Counting.{quiet}
 use Rattle.stream_law.proofs.Cited.{AreLaws}
 use Rattle.stream_law.proofs.Walked.{AreGraphLaws, walked}
 use Rattle.stream_law.proofs.laws.nodes_walk_the_chain.Goals as goal
 
 pub returns : goal.returns
 returns g c =
-    let laws : AreLaws g.F.Function.behaviour = record {
-      keeps = c.functions_keep_to_profiles.ensures;
+    let laws : AreLaws (quiet g.F.Function.behaviour) = record {
+      keeps = c.quiet_functions_keep_to_profiles.ensures.keeps g.F.Function.behaviour c.functions_keep_to_profiles.ensures;
+      calm = c.quiet_functions_keep_to_profiles.ensures.still g.F.Function.behaviour;
       behind = c.versions_go_on.ensures.written;
       later = c.versions_go_on.ensures.later;
       same = c.dealt_versions_go_on.ensures.same;
@@ -32,9 +34,11 @@ returns g c =
       copies = c.copies_are_same.ensures;
     } in
     record {
-      pass = λ graph functions packets ready. (walked g.F.Function.behaviour graph functions packets laws graphs ready).may;
-      functions = λ graph functions packets ready. (walked g.F.Function.behaviour graph functions packets laws graphs ready).functions_are;
-      packets = λ graph functions packets ready. (walked g.F.Function.behaviour graph functions packets laws graphs ready).packets_are;
-      rests = λ graph functions packets ready. (walked g.F.Function.behaviour graph functions packets laws graphs ready).rests;
-      counted = λ graph functions packets f ready. (walked g.F.Function.behaviour graph functions packets laws graphs ready).counted f;
+      pass = λ graph functions packets ready. (walked (quiet g.F.Function.behaviour) g.F.Function.notes graph functions packets laws graphs ready).may;
+      functions = λ graph functions packets ready. (walked (quiet g.F.Function.behaviour) g.F.Function.notes graph functions packets laws graphs ready).functions_are;
+      positions = λ graph functions packets ready. (walked (quiet g.F.Function.behaviour) g.F.Function.notes graph functions packets laws graphs ready).positions_are;
+      listed = λ graph functions packets ready. (walked (quiet g.F.Function.behaviour) g.F.Function.notes graph functions packets laws graphs ready).listed_are;
+      packets = λ graph functions packets ready. (walked (quiet g.F.Function.behaviour) g.F.Function.notes graph functions packets laws graphs ready).packets_are;
+      rests = λ graph functions packets ready. (walked (quiet g.F.Function.behaviour) g.F.Function.notes graph functions packets laws graphs ready).rests;
+      counted = λ graph functions packets f ready. (walked (quiet g.F.Function.behaviour) g.F.Function.notes graph functions packets laws graphs ready).counted f;
     }

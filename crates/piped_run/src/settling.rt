@@ -1,0 +1,32 @@
+//! The functions of a work behind a burst, with what they noted settled.
+ghost use Rattle.std.specs.Prelude.{◌≡◌, List, IfOk};
+ghost use Rattle.burst_law.specs.Bursts.{Message};
+ghost use Rattle.piped_run.specs.Settling.{settled_own};
+ghost use Rattle.settled_notes.specs.Settling.{TellDrops};
+
+use crate::owned::OwnedFunctions;
+use chain_walk::Fate;
+use net_functions::Function;
+use settled_notes::settle_listed;
+use std::alloc::AllocError;
+
+/// The functions of a work behind a burst whose packets ended so: each note that it listed is settled, unless a function at an
+/// earlier position dropped the packet. The one refusal is want of memory.
+pub(crate) fn settle_work<F: Function + Drop>(
+    work: OwnedFunctions<F>,
+    fates: &[Fate],
+) -> Result<Vec<F>, AllocError>
+    ensures { (ends : List Message) → TellDrops fates.now ends → IfOk result (λ functions. functions.items ≡ settled_own F.notes ends work) }
+{
+    let OwnedFunctions {
+        mut functions,
+        positions,
+        numbers: _,
+        chain: _,
+        counts: _,
+        seen: _,
+        listed,
+    } = work;
+    settle_listed(&mut functions, &positions, fates, &listed)?;
+    Ok(functions)
+}
