@@ -9,7 +9,7 @@ named_keeps = record {
   stays = λ fixed f v. net_keeps.stays fixed f.function v;
   writes = λ fixed f v x h. net_keeps.writes fixed f.function v x h;
   drops = λ fixed f v h. net_keeps.drops fixed f.function v h;
-  state = λ fixed f v h. ap (λ function. record f { function = function }) (net_keeps.state fixed f.function v h);
+  state = λ fixed f v h counted. ap (λ function. record f { function = function }) (net_keeps.state fixed f.function v h counted);
   lengths = λ fixed f v x other formed. net_keeps.lengths fixed f.function v x other formed;
   tags = λ fixed f v whole. net_keeps.tags fixed f.function v whole;
   adds = λ fixed f v h. net_keeps.adds fixed f.function v h;

@@ -4,7 +4,7 @@
 //! [`Service`]: each chain as it is declared, the names of its functions in the order in which a packet goes through them, the
 //! pieces into which functions that rewrite packets whole cut it, each with the graph that is compiled for its functions, and the count of
 //! copies; and the table that tells which chain takes a packet.
-//! A [`NamedFunction`] that keeps no state can be had once more, with its name.
+//! A [`NamedFunction`] that neither keeps a state nor counts can be had once more, with its name.
 //! `specs/Services.antt` says what a policy runs.
 //!
 //! How packets are led through the chains is left out.

@@ -1,7 +1,7 @@
 //! A function with its name.
 
 use action_profile::Profile;
-use net_functions::{Function, NetFunction};
+use net_functions::{FlowNote, Function, NetFunction};
 use packet_version::{Verdict, View};
 use policy_text::Name;
 use std::alloc::{AllocError, Global};
@@ -16,9 +16,12 @@ pub struct NamedFunction {
 impl Function for NamedFunction {
     ghost use Rattle.chain_service.specs.NamedFunctions.{named_behaviour, named_lines};
     ghost use Rattle.chain_service.specs.NamedFunctionLaws.{named_keeps};
+    ghost use Rattle.chain_service.specs.NamedNotes.{named_notes, named_counts};
     ghost use Rattle.chain_service.specs.StateRows.{named_rows};
 
     ghost behaviour = { named_behaviour };
+
+    ghost notes = { named_notes };
 
     ghost lines = { named_lines };
 
@@ -30,6 +33,14 @@ impl Function for NamedFunction {
 
     fn step(&mut self, view: &mut View) -> Result<Verdict, AllocError> {
         self.function.step(view)
+    }
+
+    fn look(&self, view: &View) -> Option<FlowNote> {
+        self.function.look(view)
+    }
+
+    fn settle(&mut self, note: &FlowNote) -> Result<(), AllocError> {
+        self.function.settle(note)
     }
 
     fn state_lines(&self, out: &mut Vec<u8>) -> Result<(), AllocError> {
@@ -53,4 +64,6 @@ impl Function for NamedFunction {
     }
 
     ghost keeps = { named_keeps };
+
+    ghost counts = { named_counts };
 }

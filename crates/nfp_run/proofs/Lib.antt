@@ -1,6 +1,7 @@
 pub mod Attaching
 pub mod CallAnswers
 pub mod CallCauses
+mod CountRows
 pub mod DemoRows
 pub mod DemoRuns
 pub mod EndedRuns

@@ -64,22 +64,22 @@ use Rattle.graph_run.specs.Counting.{copies_made}
 use Rattle.capture_report.specs.Report.{report_bytes, drop_text, drop_lines, total_line, copies_due, copies_text, copies_lines, function_text, chain_lines, last_line, summary}
 
 -- version 2.4, snaplen 65535, Ethernet
-head : List ℕ
+unfoldable pub head : List ℕ
 head = 212 ∷ 195 ∷ 178 ∷ 161 ∷ 2 ∷ 0 ∷ 4 ∷ 0 ∷ 0 ∷ 0 ∷ 0 ∷ 0 ∷ 0 ∷ 0 ∷ 0 ∷ 0 ∷ 255 ∷ 255 ∷ 0 ∷ 0 ∷ 1 ∷ 0 ∷ 0 ∷ 0 ∷ []
 
 -- a UDP packet of 42 bytes from 10.0.0.1 to 10.0.0.2, and its record
-first : List ℕ
+unfoldable pub first : List ℕ
 first = 0 ∷ 0 ∷ 0 ∷ 0 ∷ 0 ∷ 0 ∷ 0 ∷ 0 ∷ 42 ∷ 0 ∷ 0 ∷ 0 ∷ 42 ∷ 0 ∷ 0 ∷ 0 ∷ 2 ∷ 0 ∷ 0 ∷ 0 ∷ 0 ∷ 2 ∷ 2 ∷ 0 ∷ 0 ∷ 0 ∷ 0 ∷ 1 ∷ 8 ∷ 0 ∷ 69 ∷ 0 ∷ 0 ∷ 28 ∷ 0 ∷ 0 ∷ 0 ∷ 0 ∷ 64 ∷ 17 ∷ 102 ∷ 207 ∷ 10 ∷ 0 ∷ 0 ∷ 1 ∷ 10 ∷ 0 ∷ 0 ∷ 2 ∷ 3 ∷ 232 ∷ 0 ∷ 53 ∷ 0 ∷ 8 ∷ 0 ∷ 0 ∷ []
 
 -- the same from 10.0.0.9
-ninth : List ℕ
+unfoldable pub ninth : List ℕ
 ninth = 0 ∷ 0 ∷ 0 ∷ 0 ∷ 0 ∷ 0 ∷ 0 ∷ 0 ∷ 42 ∷ 0 ∷ 0 ∷ 0 ∷ 42 ∷ 0 ∷ 0 ∷ 0 ∷ 2 ∷ 0 ∷ 0 ∷ 0 ∷ 0 ∷ 2 ∷ 2 ∷ 0 ∷ 0 ∷ 0 ∷ 0 ∷ 1 ∷ 8 ∷ 0 ∷ 69 ∷ 0 ∷ 0 ∷ 28 ∷ 0 ∷ 0 ∷ 0 ∷ 0 ∷ 64 ∷ 17 ∷ 102 ∷ 199 ∷ 10 ∷ 0 ∷ 0 ∷ 9 ∷ 10 ∷ 0 ∷ 0 ∷ 2 ∷ 3 ∷ 232 ∷ 0 ∷ 53 ∷ 0 ∷ 8 ∷ 0 ∷ 0 ∷ []
 
-capture : List ℕ
+unfoldable pub capture : List ℕ
 capture = head ++ (first ++ (ninth ++ first))
 
 -- what a text of ASCII characters is worth
-worth : List ℕ → Result Prepared Unprepared
+unfoldable pub worth : List ℕ → Result Prepared Unprepared
 worth text = prepared_by None (judged_text (policy_of_utf8 text)) []
 
 deny : List ℕ

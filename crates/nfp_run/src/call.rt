@@ -32,11 +32,11 @@ use std::thread::Threads;
 /// `--workers` says, and puts their packets of NetFlow version 5 into Out. Last, one line goes into Note, or the plan, or the demo's
 /// summary.
 ///
-/// Where a burst goes on threads, the branches of a stage run side by side, each on a thread of its own where one can be started (one
-/// whose functions keep no state on one for each merger), and behind them as many mergers as `--mergers` says, or as there are
-/// packets. What the branches give comes to a merger as `--merge` says: over a link from each, or on a board of its own. A chain
-/// that is one branch takes no thread, and bursts for which threads spare too little by the clock go on the caller's. Each step of
-/// a function passes the gate first. What is due says nothing of any of these.
+/// Where a burst goes on threads, the branches of a stage run side by side, each on a thread of its own where one can be started
+/// (one whose functions keep no state and don't count on one for each merger), and behind them as many mergers as `--mergers` says,
+/// or as there are packets. What the branches give comes to a merger as `--merge` says: over a link from each, or on a board of its
+/// own. A chain that is one branch takes no thread, and bursts for which threads spare too little by the clock go on the caller's.
+/// Each step of a function, and each look of one that counts, passes the gate first. What is due says nothing of any of these.
 pub fn nfp<R: Threads + Wait + Clock + Sync, D: Desk, G: Gate + Sync>(
     rt: &R,
     alloc: Global,

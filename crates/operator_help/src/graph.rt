@@ -68,7 +68,7 @@ const ORDER: &str =
     "the order of the chain has `{}` before `{}`, so it stands in an earlier stage, or before it in one branch\n`nfp plan POLICY` prints the order; lines `order` of the policy make another one";
 
 const DROPS: &str =
-    "`{}` may drop a packet, and `{}` keeps a state: side by side it would count what is dropped";
+    "`{}` may drop a packet, and `{}` keeps a state: side by side it would remember what is dropped";
 
 const WRITES: &str =
     "`{}` writes what `{}` reads: side by side it would be read as it came, before it is written";

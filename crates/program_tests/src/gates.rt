@@ -2,9 +2,9 @@
 
 use crate::packets::{Capture, HEAD, Packet, THREE};
 use crate::plenty::had;
-use crate::rows::{Given, Words, run};
+use crate::rows::{Given, RUN, Words, run};
 use crate::runs::TWO_CHAINS;
-use crate::states::{BEHIND, BESIDE};
+use crate::states::{BEHIND, BESIDE, LIMITED};
 use nfp_outside::{Gate, MemDesk, Slot};
 use nfp_run::Outcome;
 use std::alloc::Global;
@@ -207,26 +207,42 @@ const COUNTED_CALLS: [Words<'static>; 3] = [
     ],
 ];
 
-// Compares what the steps of runs with options add up to.
+// Compares what the steps of a run add up to.
+fn count_call(
+    rt: &(impl Abort + AllocGlobal + Threads + Wait + Clock + Sync),
+    call: Words<'_>,
+    policy: &[u8],
+    sums: [u64; 4],
+) {
+    let watch = Watch::idle();
+    let bytes = THREE.bytes(rt, rt.alloc());
+    watched(rt, call, policy, bytes, &watch);
+    assert_eq!(rt; watch.sums(), sums);
+}
+
+// The same of runs with options.
 fn count_steps(
     rt: &(impl Abort + AllocGlobal + Threads + Wait + Clock + Sync),
     policy: &[u8],
     sums: [u64; 4],
 ) {
     for call in COUNTED_CALLS {
-        let watch = Watch::idle();
-        let bytes = THREE.bytes(rt, rt.alloc());
-        watched(rt, call, policy, bytes, &watch);
-        assert_eq!(rt; watch.sums(), sums);
+        count_call(rt, call, policy, sums);
     }
 }
 
-// A monitor beside a firewall sees all three packets, and behind it the two that pass. Of two chains each sees its own alone.
+// A monitor before a firewall sees all three packets, and a limiter behind it the two that pass. Of two chains each sees its own alone.
 #[test]
 fn each_step_of_the_walk_passes_the_gate_once(rt: HostRuntime) {
     count_steps(&rt, BESIDE, [6, 0, 9, 12]);
-    count_steps(&rt, BEHIND, [5, 0, 7, 10]);
+    count_steps(&rt, LIMITED, [5, 0, 7, 10]);
     count_steps(&rt, TWO_CHAINS, [3, 1, 3, 6]);
+}
+
+// A monitor behind a firewall, and beside it, looks at the packet too that the firewall drops and that isn't counted.
+#[test]
+fn each_look_passes_the_gate_once(rt: HostRuntime) {
+    count_call(&rt, RUN, BEHIND, [6, 0, 9, 12]);
 }
 
 const COUNTED_IN_TURN: &[u8] =

@@ -2,6 +2,7 @@
 
 use crate::packets::{Capture, HEAD, NONE, NOTHING, Packet, THREE};
 use crate::rows::{Failure, RUN, Row, compare, compare_failing};
+use crate::states::{BEHIND, BETWEEN, LIMITED};
 use nfp_outside::Slot;
 
 /// Denies the host 9.
@@ -133,7 +134,34 @@ const MOVING: Row<'static> = Row {
     ..PLANNED
 };
 
-const PLANS: &[Row<'static>] = &[PLANNED, COPYING, MOVING];
+// A monitor that comes behind what drops stands beside it.
+const COUNTING: Row<'static> = Row {
+    policy: BEHIND,
+    note: b"chain main\norder fw mon\nstage 1\nbranch 1 fw\nbranch 2 mon\npart tag shared\npart src shared\npart dst shared\npart sport shared\npart dport shared\n",
+    ..PLANNED
+};
+
+const COUNTING_BETWEEN: Row<'static> = Row {
+    policy: BETWEEN,
+    note: b"chain main\norder f1 m f2\nstage 1\nbranch 1 f1\nbranch 2 m\nbranch 3 f2\npart tag shared\npart src shared\npart dst shared\npart sport shared\npart dport shared\n",
+    ..PLANNED
+};
+
+// A limiter doesn't.
+const LIMITING: Row<'static> = Row {
+    policy: LIMITED,
+    note: b"chain main\norder fw lim\nstage 1\nbranch 1 fw lim\npart tag shared\npart src shared\npart dst shared\npart sport shared\npart dport shared\n",
+    ..PLANNED
+};
+
+const PLANS: &[Row<'static>] = &[
+    PLANNED,
+    COPYING,
+    MOVING,
+    COUNTING,
+    COUNTING_BETWEEN,
+    LIMITING,
+];
 
 // Each chain in its order, and of each stage what is shared, copied and moved.
 #[test]

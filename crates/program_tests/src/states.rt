@@ -45,11 +45,11 @@ const FIRST_AND_THIRD: Capture<'static> = Capture {
     packets: &[Packet::From(1), Packet::From(1)],
 };
 
-/// The monitor stands beside the firewall, and sees what that drops.
+/// The monitor comes before the firewall, and counts what that drops.
 pub const BESIDE: &[u8] =
     b"nfp 1\nchain main\nfn mon monitor\nfn fw firewall\nrule deny src 10.0.0.9\norder mon before fw\n";
 
-/// The monitor stands behind the firewall, and doesn't.
+/// The monitor comes behind the firewall, and doesn't. It stands beside it all the same.
 pub const BEHIND: &[u8] =
     b"nfp 1\nchain main\nfn mon monitor\nfn fw firewall\nrule deny src 10.0.0.9\norder fw before mon\n";
 
@@ -71,10 +71,39 @@ const COUNTED_BEHIND: Row<'static> = Row {
     ..COUNTED
 };
 
-const BESIDE_AND_BEHIND: &[Row<'static>] = &[COUNTED, COUNTED_BEHIND];
+/// A monitor between two firewalls, all three side by side.
+pub const BETWEEN: &[u8] =
+    b"nfp 1\nchain main\nfn f1 firewall\nrule deny src 10.0.0.9\nfn m monitor\nfn f2 firewall\nrule deny src 10.0.0.1\n";
+
+// What the first firewall drops isn't counted, and what the second drops is.
+const COUNTED_BETWEEN: Row<'static> = Row {
+    policy: BETWEEN,
+    out: NONE,
+    report: b"nfp report 1\ndrop 1 main f2\ndrop 2 main f1\ndrop 3 main f2\nrecords 3 emitted 0 dropped 3\nfunction main f1 firewall\nfunction main m monitor\n  flow 17 10.0.0.1 1000 10.0.0.2 53 packets 2 bytes 56\nfunction main f2 firewall\nend\n",
+    note: b"done records 3 emitted 0 dropped 3\n",
+    ..COUNTED
+};
+
+/// A limiter behind a firewall, in its branch: it acts by what it remembers.
+pub const LIMITED: &[u8] =
+    b"nfp 1\nchain main\nfn fw firewall\nrule deny src 10.0.0.9\nfn lim limiter\nset rate 1\nset burst 1000\n";
+
+// It never sees the source of the packet that is dropped.
+const LIMITED_BEHIND: Row<'static> = Row {
+    policy: LIMITED,
+    report: b"nfp report 1\ndrop 2 main fw\nrecords 3 emitted 2 dropped 1\nfunction main fw firewall\nfunction main lim limiter\n  source 10.0.0.1 tokens 944000000000 at 0\nend\n",
+    ..COUNTED
+};
+
+const BESIDE_AND_BEHIND: &[Row<'static>] = &[
+    COUNTED,
+    COUNTED_BEHIND,
+    COUNTED_BETWEEN,
+    LIMITED_BEHIND,
+];
 
 #[test]
-fn a_monitor_counts_what_comes_to_it(rt: HostRuntime) {
+fn functions_remember_what_comes_to_them(rt: HostRuntime) {
     compare(&rt, BESIDE_AND_BEHIND);
 }
 
