@@ -110,8 +110,8 @@ def has(kind, what):
 
 
 def waiting_cause(first, second):
-    """Which fields the first kind writes and the second reads, whether the first drops what the second would count, and which of them rewrites packets
-    whole, the second or else the first."""
+    """Which fields the first kind writes and the second reads, whether the first drops what the second would remember at once, and which of them rewrites
+    packets whole, the second or else the first."""
     fields = [field for field in policy_rules.FIELDS if field in writes(first) and field in reads(second)]
     rewriting = 'second' if has(second, 'whole') else 'first' if has(first, 'whole') else ''
     return ' '.join(fields), has(first, 'drop') and has(second, 'state'), rewriting
@@ -182,14 +182,17 @@ def meeting_lines(fields, readers, writers, several):
 
 
 def counting_lines(stage, order, kinds):
-    """Who counts what one behind it, in another branch, drops."""
+    """Who counts what one before it, in another branch, lets pass, and who remembers what one behind it, in another branch, drops."""
     branch_of = {name: at for at, branch in enumerate(stage) for name in branch}
     for name in order:
-        if name in branch_of and has(kinds[name], 'state'):
-            later = [other for other in order[order.index(name) :] if branch_of.get(other, branch_of[name]) != branch_of[name]]
-            drops = [other for other in later if has(kinds[other], 'drop')]
-            if drops:
-                yield f'{name} beside {listed(drops)}: {name} comes first, and counts what {listed(drops)} {verb(drops, "drops", "drop")} too'
+        if name in branch_of and (has(kinds[name], 'state') or has(kinds[name], 'count')):
+            drops = [other for other in order if branch_of.get(other, branch_of[name]) != branch_of[name] and has(kinds[other], 'drop')]
+            before, later = ([other for other in drops if (order.index(other) < order.index(name)) == is_before] for is_before in (True, False))
+            if before:
+                passed = verb(before, 'it lets pass', 'they let pass')
+                yield f'{name} beside {listed(before)}: {listed(before)} {verb(before, "comes", "come")} first, and {name} counts what {passed}'
+            if later:
+                yield f'{name} beside {listed(later)}: {name} comes first, and counts what {listed(later)} {verb(later, "drops", "drop")} too'
 
 
 def beside_lines(stage, order, kinds):

@@ -19,7 +19,7 @@ KINDS = {
     'signature': ('payload', '', 'drop'),
     'nat': ('src dst sport dport', 'src dst sport dport', 'drop state'),
     'balancer': ('src sport dst', 'dst', 'state'),
-    'monitor': ('src dst sport dport', '', 'state'),
+    'monitor': ('src dst sport dport', '', 'count'),
     'limiter': ('src', '', 'drop state'),
     'marker': ('src dst sport dport', 'tos', ''),
     'nexthop': ('dst', 'link-dst link-src', ''),
