@@ -1,6 +1,7 @@
 pub mod Shares
 pub mod Wiring
 pub mod Replicating
+pub mod Edging
 pub mod Meets
 pub mod Running
 mod Turning

@@ -23,7 +23,7 @@ use Rattle.node_run.specs.declared.node.Node.TheVariants as node
 use Rattle.node_run.specs.declared.first.First.{First}
 use Rattle.node_run.specs.declared.wire.WiredStage.{WiredStage}
 use Rattle.node_run.specs.Firsts.{IsDue, IsFirst}
-use Rattle.node_run.specs.Nodes.{AreNodes, in_turn, copies_by_all, gather, is_ready, no_copies}
+use Rattle.node_run.specs.Nodes.{AreNodes, in_turn, copies_by_all, is_ready, no_copies}
 use Rattle.node_run.specs.Runs.{AreLaid, AreStarted, CanRun, Collects, HasLed, HasRun, IsLaid, MayRun, fates_behind, flat, is_found}
 use Rattle.node_run.specs.Wired.{IsWired}
 use Rattle.node_run.proofs.Crewing.{all_in_crews}

@@ -1,5 +1,5 @@
 -- The links of a stage fit each other.
-use Rattle.std.proofs.Common.{◌≡◌, ◌<◌, ◌≤◌, ◌+◌, ◌-◌, ◌∙◌, ℕ, zero, suc, pred, List, [], ◌∷◌, ◌++◌, length, map, drop, refl, arith, ap, sym, subst, false, All, append_assoc, slice_index_or}
+use Rattle.std.proofs.Common.{◌≡◌, ◌<◌, ◌≤◌, ◌+◌, ◌-◌, ◌∙◌, ℕ, zero, suc, pred, List, [], ◌∷◌, ◌++◌, length, map, drop, refl, arith, ap, sym, subst, false, All, append_assoc, length-append, slice_index_or}
 use Rattle.std.proofs.lemmas.List.{append-nil, drop_more, length-map}
 use Rattle.std.proofs.lemmas.List.Elements.{All-append, All-nil, All-cons}
 use Rattle.packet_fields.specs.declared.field.Field.{Field}
@@ -21,7 +21,8 @@ use Rattle.node_run.specs.declared.node.Node.{Node}
 use Rattle.node_run.specs.declared.node.Node.TheVariants as node
 use Rattle.node_run.specs.declared.wire.WiredStage.{WiredStage}
 use Rattle.node_run.specs.Nodes.{AreNodes, added, in_turn, copies_by, copies_by_all, gather, is_ready, left_by, merger_ready, no_copies}
-use Rattle.node_run.specs.Wired.{AreWired, AreWiring, IsFanned, IsWired, MergersFit}
+use Rattle.node_run.specs.Edges.{branch_ends, branches_ends, ends_at, version_ends, versions_ends}
+use Rattle.node_run.specs.Wired.{AreWired, AreWiring, HasWired, IsFanned, IsWired, MergersFit}
 use Rattle.packet_messages.proofs.Turning.{share_long, one_share}
 use Rattle.node_run.proofs.Shares.{columns_front, columns_rest}
 
@@ -178,11 +179,16 @@ fanned_one m xs fan old new lt e n = (fan, (m, lt, e), n)
 
 pub none_wired : {F : Type 0} (k : Kit F) (may : F → ℕ → PlainVersion → Type 0) (touches : List Touch) (fs : List F) (m : ℕ) (xs : List (PlainMessage PlainApart)) (todo : List F) (given : List (List (List (PlainMessage PlainVersion)))) (w : Branches F)
     → todo ≡ fs → length fs ≡ length touches → AllMayTake k may touches fs xs → given ≡ columns m (came_from k touches fs xs) → w.versions ≡ [] → w.nodes.items ≡ [] → AreWiring k may touches fs m xs 0 todo given w
-none_wired k may touches fs m xs todo given w t owners take g v n = record {
+unfolding branches_ends versions_ends
+none_wired {F} k may touches fs m xs todo given w t owners take g v n = record {
   many = omega (arith, ap length t, owners);
   versions = λ later h. subst (λ y. AreFanned touches xs (y ++ later)) (sym v) h;
   ends = g ∙ ap (λ y. columns m (came_from k touches y xs)) (sym t);
   take = subst (λ y. AllMayTake k may touches y xs) (sym t) take;
+  split = [];
+  each = refl;
+  fans = λ later. ap (λ y. y ++ versions_ends k m xs later touches) v;
+  on = λ later. ap (λ (y : List (Node F)). map ends_at y ++ branches_ends k m xs later touches todo) n ∙ ap (λ y. branches_ends k m xs later touches y) t;
   functions = [];
   nodes = no_nodes k may w.nodes.items n;
   gives = ap (λ y. stayed k touches y xs) t;
@@ -233,20 +239,35 @@ ends_own k may touches m xs j todo f touch given own h e =
 
 pub wired_more : {F : Type 0} (k : Kit F) (may : F → ℕ → PlainVersion → Type 0) (touches : List Touch) (fs : List F) (m : ℕ) (xs : List (PlainMessage PlainApart)) (j : ℕ) (was todo : List F) (f : F) (touch : Touch) (given given' : List (List (List (PlainMessage PlainVersion)))) (w new : Branches F)
     → AreWiring k may touches fs m xs j was given w → was ≡ f ∷ todo → BranchNext k may touches m xs j todo f touch given → given' ≡ map rest given
-    → IsFanned (map (parted touch) xs) w.versions new.versions
-    → ((gs : List F) (c : Field → ℕ) → AreNodes k may w.nodes.items gs c → AreNodes k may new.nodes.items (gs ++ left k f (map (parted touch) xs) ∷ []) c)
+    → HasWired k may touch f m xs w new
     → AreWiring k may touches fs m xs (j + 1) todo given' new
-unfolding stayed AreFanned
-wired_more k may touches fs m xs j was todo f touch given given' w new h t b g v n = record {
+unfolding stayed AreFanned branches_ends versions_ends
+wired_more k may touches fs m xs j was todo f touch given given' w new h t b g e = record {
   many = omega (arith, h.many, ap length t);
   versions = λ later r.
+      let v : IsFanned (map (parted touch) xs) w.versions new.versions = e.versions in
       let both : AreFanned (touch ∷ drop (j + 1) touches) xs (v.0 ∷ later) = (v.1, r) in
       subst (AreFanned touches xs) (sym (ap (λ y. y ++ later) v.2 ∙ append_assoc w.versions (v.0 ∷ []) later))
       (h.versions (v.0 ∷ later) (subst (λ y. AreFanned y xs (v.0 ∷ later)) (sym b.touch_is) both));
   ends = g ∙ ap (map rest) b.ends_are ∙ columns_rest m 0 m (ran k f (map (parted touch) xs)) (came_from k (drop (j + 1) touches) todo xs);
   take = b.take_later;
+  split = h.split ++ e.split ∷ [];
+  each = omega (arith, length-append h.split (e.split ∷ []), h.each);
+  fans = λ later.
+      ap (λ y. y ++ versions_ends k m xs later (drop (j + 1) touches)) e.fan
+      ∙ append_assoc w.versions (version_ends k m xs e.split touch ∷ []) (versions_ends k m xs later (drop (j + 1) touches))
+      ∙ ap (λ y. w.versions ++ versions_ends k m xs (e.split ∷ later) y) (sym b.touch_is)
+      ∙ h.fans (e.split ∷ later)
+      ∙ ap (λ y. versions_ends k m xs y touches) (sym (append_assoc h.split (e.split ∷ []) later));
+  on = λ later.
+      ap (λ y. y ++ branches_ends k m xs later (drop (j + 1) touches) todo) e.joined.all
+      ∙ append_assoc (map ends_at w.nodes.items) (branch_ends k m xs e.split touch f) (branches_ends k m xs later (drop (j + 1) touches) todo)
+      ∙ ap (λ y. map ends_at w.nodes.items ++ branches_ends k m xs (e.split ∷ later) (touch ∷ drop (j + 1) touches) y) (sym t)
+      ∙ ap (λ y. map ends_at w.nodes.items ++ branches_ends k m xs (e.split ∷ later) y was) (sym b.touch_is)
+      ∙ h.on (e.split ∷ later)
+      ∙ ap (λ y. branches_ends k m xs y touches fs) (sym (append_assoc h.split (e.split ∷ []) later));
   functions = h.functions ++ left k f (map (parted touch) xs) ∷ [];
-  nodes = n h.functions no_copies h.nodes;
+  nodes = e.nodes h.functions no_copies h.nodes;
   gives = append_assoc h.functions (left k f (map (parted touch) xs) ∷ []) (stayed k (drop (j + 1) touches) todo xs)
       ∙ ap (λ y. h.functions ++ stayed k (touch ∷ drop (j + 1) touches) y xs) (sym t)
       ∙ ap (λ y. h.functions ++ stayed k y was xs) (sym b.touch_is)
@@ -260,18 +281,22 @@ drop_none (suc n) [] le = refl
 drop_none (suc n) (x ∷ xs) le = drop_none n xs (omega arith)
 
 pub all_wired : {F : Type 0} (k : Kit F) (may : F → ℕ → PlainVersion → Type 0) (touches : List Touch) (fs : List F) (m : ℕ) (xs : List (PlainMessage PlainApart)) (j : ℕ) (todo : List F) (given : List (List (List (PlainMessage PlainVersion)))) (w : Branches F)
-    → AreWiring k may touches fs m xs j todo given w → todo ≡ [] → AreWired k may touches fs xs w
-unfolding stayed AreFanned
+    → AreWiring k may touches fs m xs j todo given w → todo ≡ [] → AreWired k may touches fs m xs w
+unfolding stayed AreFanned branches_ends versions_ends
 all_wired k may touches fs m xs j todo given w h t =
     let none : drop j touches ≡ [] = drop_none j touches (omega (arith, h.many, ap length t)) in record {
       versions = subst (AreFanned touches xs) (append-nil w.versions) (h.versions [] (subst (λ y. AreFanned y xs []) (sym none) tt));
+      split = h.split;
+      each = omega (arith, h.each, h.many, ap length t);
+      fans = sym (append-nil w.versions) ∙ h.fans [] ∙ ap (λ y. versions_ends k m xs y touches) (append-nil h.split);
+      on = sym (append-nil (map ends_at w.nodes.items)) ∙ h.on [] ∙ ap (λ y. branches_ends k m xs y touches fs) (append-nil h.split);
       nodes = nodes_are k may w.nodes.items w.nodes.items h.functions (stayed k touches fs xs) no_copies no_copies h.nodes refl
           (sym (sym (append-nil h.functions) ∙ ap (λ y. h.functions ++ stayed k y todo xs) (sym none) ∙ h.gives)) (λ f. refl);
     }
 
-pub wired_by : {F : Type 0} (k : Kit F) (may : F → ℕ → PlainVersion → Type 0) (touches touches' : List Touch) (fs : List F) (xs : List (PlainMessage PlainApart)) (w : Branches F)
-    → AreWired k may touches fs xs w → touches ≡ touches' → AreWired k may touches' fs xs w
-wired_by k may touches touches' fs xs w h e = subst (λ y. AreWired k may y fs xs w) e h
+pub wired_by : {F : Type 0} (k : Kit F) (may : F → ℕ → PlainVersion → Type 0) (touches touches' : List Touch) (fs : List F) (m : ℕ) (xs : List (PlainMessage PlainApart)) (w : Branches F)
+    → AreWired k may touches fs m xs w → touches ≡ touches' → AreWired k may touches' fs m xs w
+wired_by k may touches touches' fs m xs w h e = subst (λ y. AreWired k may y fs m xs w) e h
 
 -- the mergers
 
@@ -402,7 +427,7 @@ mergers_fit k may m count s xs bases outlets inlets p many b o i =
     }
 
 pub is_wired : {F S : Type 0} (k : Kit F) (may : F → ℕ → PlainVersion → Type 0) (comes : S → List (PlainMessage PlainApart) → Type 0) (m count : ℕ) (s : PlainStage F) (xs : List (PlainMessage PlainApart)) (source : S) (b : Branches F) (w : WiredStage F S)
-    → MayPass k may s xs → 0 < m → length xs ≡ count → comes source xs → AreWired k may s.parts.touches s.branches xs b
+    → MayPass k may s xs → 0 < m → length xs ≡ count → comes source xs → AreWired k may s.parts.touches s.branches m xs b
     → w.dealer.source ≡ source → w.dealer.count ≡ count → w.dealer.to.short ≡ false → ((f : Field) → count_of w.dealer.tally f ≡ 0) → w.dealer.parts ≡ s.parts → w.dealer.to.ends.versions ≡ b.versions → w.dealer.to.ends.bases ≡ shares m (map (base_of s.parts.touches) xs)
     → w.next ≡ shares m (passed k s xs)
     → ((gs : List F) (e : Field → ℕ) → AreNodes k may b.nodes.items gs e → AreNodes k may w.nodes.items gs e)

@@ -3,6 +3,7 @@ pub mod Crews
 pub mod Firsts
 pub mod Starts
 pub mod Stages
+pub mod Edges
 pub mod Wired
 pub mod Runs
 pub mod Replicas

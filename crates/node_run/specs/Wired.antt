@@ -1,5 +1,5 @@
 -- For proofs: how the nodes of a stage hang together.
-use Rattle.std.specs.Prelude.{◌≡◌, ◌<◌, ◌≤◌, ◌+◌, ◌++◌, ℕ, false, List, [], ◌∷◌, length, map, drop, All}
+use Rattle.std.specs.Prelude.{◌≡◌, ◌<◌, ◌≤◌, ◌+◌, ◌++◌, ℕ, Bool, false, List, [], ◌∷◌, length, map, drop, All}
 use Rattle.packet_fields.specs.declared.field.Field.{Field}
 use Rattle.action_profile.specs.declared.parts.Touch.{Touch}
 use Rattle.packet_version.specs.Splitting.{PlainApart}
@@ -11,6 +11,7 @@ use Rattle.stage_nodes.specs.Dues.{AreFanned, AreShared, DealerDue}
 use Rattle.stage_nodes.specs.Streams.{Kit, PlainStage, Edge.Behind, Edge.FromBranch, Edge.ToBranch, came_from, left, merged_rows, parted, stayed, stream}
 use Rattle.stage_nodes.specs.Flows.{AllMayTake, AllBelong, MayTakeAll}
 use Rattle.node_run.specs.Nodes.{AreNodes, no_copies}
+use Rattle.node_run.specs.Edges.{HaveJoined, branch_ends, branches_ends, ends_at, version_ends, versions_ends}
 use Rattle.node_run.specs.declared.branches.Branches.{Branches}
 use Rattle.node_run.specs.declared.meeting.Meeting.{Meeting}
 use Rattle.node_run.specs.declared.wire.WiredStage.{WiredStage}
@@ -48,13 +49,20 @@ pub record MayWire {F : Type 0} (k : Kit F) (may : F → ℕ → PlainVersion �
   pub ends : given ≡ shares m (stream k xs (FromBranch touch f))
 
 -- one branch more is wired: it is given its part of these packets, and gives back the functions that are left after them
-pub record HasWired {F : Type 0} (k : Kit F) (may : F → ℕ → PlainVersion → Type 0) (touch : Touch) (f : F) (xs : List (PlainMessage PlainApart)) (old new : Branches F) : Type 0 where
+pub record HasWired {F : Type 0} (k : Kit F) (may : F → ℕ → PlainVersion → Type 0) (touch : Touch) (f : F) (m : ℕ) (xs : List (PlainMessage PlainApart)) (old new : Branches F) : Type 0 where
   pub versions : IsFanned (stream k xs (ToBranch touch)) old.versions new.versions
+  pub split : Bool
+  pub fan : new.versions ≡ old.versions ++ version_ends k m xs split touch ∷ []
+  pub joined : HaveJoined (branch_ends k m xs split touch f) old.nodes.items new.nodes.items
   pub nodes : (fs : List F) (c : Field → ℕ) → AreNodes k may old.nodes.items fs c → AreNodes k may new.nodes.items (fs ++ left k f (map (parted touch) xs) ∷ []) c
 
 -- the branches of a stage
-pub record AreWired {F : Type 0} (k : Kit F) (may : F → ℕ → PlainVersion → Type 0) (touches : List Touch) (fs : List F) (xs : List (PlainMessage PlainApart)) (w : Branches F) : Type 0 where
+pub record AreWired {F : Type 0} (k : Kit F) (may : F → ℕ → PlainVersion → Type 0) (touches : List Touch) (fs : List F) (m : ℕ) (xs : List (PlainMessage PlainApart)) (w : Branches F) : Type 0 where
   pub versions : AreFanned touches xs w.versions
+  pub split : List Bool
+  pub each : length split ≡ length touches
+  pub fans : w.versions ≡ versions_ends k m xs split touches
+  pub on : map ends_at w.nodes.items ≡ branches_ends k m xs split touches fs
   pub nodes : AreNodes k may w.nodes.items (stayed k touches fs xs) no_copies
 
 -- j branches of a stage; those behind them are still to be wired, and these ends to be given to them
@@ -63,6 +71,10 @@ pub record AreWiring {F : Type 0} (k : Kit F) (may : F → ℕ → PlainVersion 
   pub versions : (later : List (List (List (PlainMessage PlainVersion)))) → AreFanned (drop j touches) xs later → AreFanned touches xs (w.versions ++ later)
   pub ends : given ≡ columns m (came_from k (drop j touches) todo xs)
   pub take : AllMayTake k may (drop j touches) todo xs
+  pub split : List Bool
+  pub each : length split ≡ j
+  pub fans : (later : List Bool) → w.versions ++ versions_ends k m xs later (drop j touches) ≡ versions_ends k m xs (split ++ later) touches
+  pub on : (later : List Bool) → map ends_at w.nodes.items ++ branches_ends k m xs later (drop j touches) todo ≡ branches_ends k m xs (split ++ later) touches fs
   pub functions : List F
   pub nodes : AreNodes k may w.nodes.items functions no_copies
   pub gives : functions ++ stayed k (drop j touches) todo xs ≡ stayed k touches fs xs

@@ -40,7 +40,7 @@ pub(crate) fn wire_branches<F: BranchWork + Drop, D: LinkDue<Parcel<Apart>>>(
     requires owners { length functions.items ≡ length touches.now }
     requires take { AllMayTake F.kit F.may touches.now functions.items D.due }
     requires ends { ends.items ≡ columns mergers (came_from F.kit touches.now functions.items D.due) }
-    ensures { IfOk result (λ w. AreWired F.kit F.may touches.now functions.items D.due w) }
+    ensures { IfOk result (λ w. AreWired F.kit F.may touches.now functions.items mergers D.due w) }
 {
     let mut ends = ends;
     let mut wired = Branches {
@@ -85,7 +85,7 @@ fn wire_branch<F: BranchWork + Drop, D: LinkDue<Parcel<Apart>>>(
     wired: &mut Branches<F>,
 ) -> Result<(), AllocError>
     requires { MayWire F.kit F.may touch work mergers count D.due ends }
-    ensures { OnOk result (HasWired F.kit F.may touch work D.due wired.old wired.new) }
+    ensures { OnOk result (HasWired F.kit F.may touch work mergers D.due wired.old wired.new) }
 {
     if mergers > 1
         && let Some(replicas) = replicas_of(alloc, &work, mergers - 1)?
@@ -106,7 +106,7 @@ fn wire_alone<F: BranchWork + Drop, D: LinkDue<Parcel<Apart>>>(
     wired: &mut Branches<F>,
 ) -> Result<(), AllocError>
     requires { MayWire F.kit F.may touch work mergers count D.due ends }
-    ensures { OnOk result (HasWired F.kit F.may touch work D.due wired.old wired.new) }
+    ensures { OnOk result (HasWired F.kit F.may touch work mergers D.due wired.old wired.new) }
 {
     let (versions, mut inlets) = version_fan::<F, D, Brand>(alloc, touch, 1, count)?;
     wired.versions.push(versions)?;

@@ -3,6 +3,7 @@ ghost use Rattle.std.specs.Prelude.{◌∷◌, ℕ, List, IfOk, OnOk};
 ghost use Rattle.packet_fields.specs.declared.field.Field.{Field};
 ghost use Rattle.node_run.specs.Nodes.{AreNodes};
 ghost use Rattle.node_run.specs.Crews.{AreSorted};
+ghost use Rattle.node_run.specs.Edges.{AreBehind, HaveJoined, as_lead, as_replica, ends_at};
 
 use crate::node::Node;
 use stage_nodes::BranchWork;
@@ -14,7 +15,8 @@ pub(crate) fn replicas_last<F: BranchWork + Drop>(
     alloc: Global,
     nodes: Vec<Node<F>>,
 ) -> Result<Vec<Node<F>>, AllocError>
-    ensures { IfOk result (λ all. (fs : List F) (c : Field → ℕ) → AreNodes F.kit F.may nodes.items fs c → AreNodes F.kit F.may all.items fs c) }
+    ensures nodes { IfOk result (λ all. (fs : List F) (c : Field → ℕ) → AreNodes F.kit F.may nodes.items fs c → AreNodes F.kit F.may all.items fs c) }
+    ensures order { IfOk result (λ all. AreBehind nodes.items all.items) }
 {
     let mut first = Vec::with_capacity(alloc, nodes.len())?;
     let mut others = Vec::new(alloc);
@@ -31,8 +33,10 @@ fn sort<F: BranchWork + Drop>(
     first: &mut Vec<Node<F>>,
     others: &mut Vec<Node<F>>,
 ) -> Result<(), AllocError>
-    ensures { OnOk result ((fs : List F) (c : Field → ℕ) (todo : List (Node F)) →
+    ensures nodes { OnOk result ((fs : List F) (c : Field → ℕ) (todo : List (Node F)) →
         AreSorted F.kit F.may fs c first.old.items others.old.items (node ∷ todo) → AreSorted F.kit F.may fs c first.new.items others.new.items todo) }
+    ensures leads { OnOk result (HaveJoined (as_lead (ends_at node)) first.old.items first.new.items) }
+    ensures replicas { OnOk result (HaveJoined (as_replica (ends_at node)) others.old.items others.new.items) }
 {
     match node {
         Node::Replica(branch) => {

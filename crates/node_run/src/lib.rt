@@ -37,7 +37,9 @@
 //!
 //! What is promised, over all interleavings: each link and each board is made for its share of what is due on its edge
 //! (`stream` of `stage_nodes`' definitions), so what is put there is that or the word that memory is short, which no other word
-//! follows from the same node. What comes of the packets is what the stages make of them one
+//! follows from the same node. [`wire_stage`], which makes the nodes of a stage, says which nodes these are, and of every end of
+//! theirs what is due on it (`edges`); so every message on a link or a board of a stage that runs fits the one due there, since
+//! an end gives and takes no other. What comes of the packets is what the stages make of them one
 //! after another (`through` of `stage_nodes`' definitions), each branch's functions are those after all its
 //! versions (`ends_of`), and the tally has the copies that the dealers made (`copies_along`). Neither the
 //! number of mergers, nor the way in which they meet the branches, nor the number of crews or threads shows in any of
@@ -77,6 +79,8 @@ mod wire;
 
 pub use cut::most_threads;
 pub use meeting::MergeWay;
+pub use node::Node;
 pub use run::run_nodes;
 pub use schedule::Schedule;
 pub use stage::StageWork;
+pub use wire::{WiredStage, wire_stage};

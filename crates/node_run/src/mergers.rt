@@ -1,7 +1,8 @@
 //! The mergers of a stage, with their links and their ends of where the branches meet them.
-ghost use Rattle.std.specs.Prelude.{◌<◌, ℕ, List, OnOk};
+ghost use Rattle.std.specs.Prelude.{◌<◌, ℕ, List, [], ◌∷◌, OnOk};
 ghost use Rattle.packet_fields.specs.declared.field.Field.{Field};
 ghost use Rattle.node_run.specs.Nodes.{AreNodes, merger_ready};
+ghost use Rattle.node_run.specs.Edges.{HaveJoined, NodeEnds.MergerEnds, to_mergers};
 ghost use Rattle.node_run.specs.Wired.{MergersFit};
 
 use crate::fans::share_count;
@@ -24,7 +25,8 @@ pub(crate) fn wire_mergers<F: BranchWork + Drop>(
 ) -> Result<(), AllocError>
     requires some { 0 < mergers }
     requires fits { MergersFit mergers 0 mergers count bases inlets.items outlets }
-    ensures { OnOk result ((fs : List F) (c : Field → ℕ) → AreNodes F.kit F.may nodes.old.items fs c → AreNodes F.kit F.may nodes.new.items fs c) }
+    ensures nodes { OnOk result ((fs : List F) (c : Field → ℕ) → AreNodes F.kit F.may nodes.old.items fs c → AreNodes F.kit F.may nodes.new.items fs c) }
+    ensures joined { OnOk result (HaveJoined (to_mergers bases inlets.items outlets) nodes.old.items nodes.new.items) }
 {
     let mut bases = bases;
     let mut inlets = inlets;
@@ -54,7 +56,8 @@ fn push_merger<F: BranchWork + Drop>(
     nodes: &mut Vec<Node<F>>,
 ) -> Result<(), AllocError>
     requires { merger_ready merger }
-    ensures { OnOk result ((fs : List F) (c : Field → ℕ) → AreNodes F.kit F.may nodes.old.items fs c → AreNodes F.kit F.may nodes.new.items fs c) }
+    ensures nodes { OnOk result ((fs : List F) (c : Field → ℕ) → AreNodes F.kit F.may nodes.old.items fs c → AreNodes F.kit F.may nodes.new.items fs c) }
+    ensures joined { OnOk result (HaveJoined (MergerEnds merger.base merger.inlets merger.to.ends ∷ []) nodes.old.items nodes.new.items) }
 {
     nodes.push(Node::Merger(merger))?;
     Ok(())

@@ -11,7 +11,7 @@ use std::sync::Wait;
 /// A dealer of a stage behind another, a branch, a replica of one that keeps no state, or a merger, with its ends
 /// of links and of boards.
 #[derive(Drop)]
-pub(crate) enum Node<F> {
+pub enum Node<F> {
     Dealer(Dealer<Inlets<Apart>>),
     Branch(Branch<F>),
     Replica(Branch<F>),

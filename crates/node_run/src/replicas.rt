@@ -5,6 +5,7 @@ ghost use Rattle.packet_version.specs.Versions.{PlainVersion};
 ghost use Rattle.packet_messages.specs.Messages.{PlainMessage};
 ghost use Rattle.stage_nodes.specs.Streams.{left};
 ghost use Rattle.node_run.specs.Nodes.{AreNodes, branch_ready};
+ghost use Rattle.node_run.specs.Edges.{HasFirst, HaveJoined, to_split};
 ghost use Rattle.node_run.specs.Wired.{HasWired, MayWire};
 ghost use Rattle.node_run.specs.Replicas.{AreReplicas, ReplicasFit};
 
@@ -52,7 +53,7 @@ pub(crate) fn wire_replicas<F: BranchWork + Drop, D: LinkDue<Parcel<Apart>>>(
 ) -> Result<(), AllocError>
     requires replicas { AreReplicas F.kit work (mergers - 1) replicas.items }
     requires branch { MayWire F.kit F.may touch work mergers count D.due ends }
-    ensures { OnOk result (HasWired F.kit F.may touch work D.due wired.old wired.new) }
+    ensures { OnOk result (HasWired F.kit F.may touch work mergers D.due wired.old wired.new) }
 {
     let (versions, inlets) = version_fan::<F, D, Brand>(alloc, touch, mergers, count)?;
     wired.versions.push(versions)?;
@@ -85,7 +86,8 @@ fn push_replicas<F: BranchWork + Drop>(
     requires few_mergers { mergers ≤ 16 }
     requires few { count < 65537 }
     requires fits { (versions : List (PlainMessage PlainVersion)) × ReplicasFit F.kit F.may work mergers 0 mergers count versions inlets ends }
-    ensures { OnOk result ((fs : List F) (c : Field → ℕ) → AreNodes F.kit F.may nodes.old.items fs c → AreNodes F.kit F.may nodes.new.items (fs ++ work ∷ []) c) }
+    ensures nodes { OnOk result ((fs : List F) (c : Field → ℕ) → AreNodes F.kit F.may nodes.old.items fs c → AreNodes F.kit F.may nodes.new.items (fs ++ work ∷ []) c) }
+    ensures joined { OnOk result (HaveJoined (to_split inlets ends) nodes.old.items nodes.new.items) }
 {
     let mut inlets = inlets;
     let mut ends = ends;
@@ -125,6 +127,7 @@ fn replica_at<F: BranchWork + Drop>(
     requires fits { (versions : List (PlainMessage PlainVersion)) × (c : ℕ) × ReplicasFit F.kit F.may work mergers merger (suc c) count versions inlets.old ends.old }
     ensures ready { IfOk result (λ b. branch_ready F.kit F.may b) }
     ensures work { IfOk result (λ b. left F.kit b.work b.inlet ≡ work) }
+    ensures first { IfOk result (λ b. HasFirst b inlets.old inlets.new ends.old ends.new) }
     ensures on { OnOk result ((versions : List (PlainMessage PlainVersion)) (c : ℕ) → ReplicasFit F.kit F.may work mergers merger (suc c) count versions inlets.old ends.old →
         ReplicasFit F.kit F.may work mergers (merger + 1) c count versions inlets.new ends.new) }
 {

@@ -5,6 +5,7 @@ ghost use Rattle.stage_nodes.specs.Streams.{Edge.Behind, Edge.ToMergers, stream}
 ghost use Rattle.stage_nodes.specs.Flows.{MayPass};
 ghost use Rattle.node_run.specs.Stages.{plain_stage};
 ghost use Rattle.node_run.specs.Wired.{IsWired};
+ghost use Rattle.node_run.specs.Edges.{IsOnEdges};
 
 use crate::branches::{Branches, wire_branches};
 use crate::fans::fan;
@@ -23,14 +24,20 @@ use std::marker::Brand;
 
 /// The nodes of a stage: its dealer, its branches and mergers, and the inlets from its mergers.
 #[derive(Drop)]
-pub(crate) struct WiredStage<F, S> {
-    pub(crate) dealer: Dealer<S>,
-    pub(crate) nodes: Vec<Node<F>>,
-    pub(crate) next: Inlets<Apart>,
+pub struct WiredStage<F, S> {
+    pub dealer: Dealer<S>,
+    pub nodes: Vec<Node<F>>,
+    pub next: Inlets<Apart>,
 }
 
 /// The nodes of a stage, to which so many packets come from the source.
-pub(crate) fn wire_stage<F: BranchWork + Drop, S: Supply + Drop, D: LinkDue<Parcel<Apart>>>(
+///
+/// `D.due` are these packets. `edges` says which nodes the stage has, and of every end of every link and board of the stage
+/// what is due on it: the `stream` of its edge, or the share of it that is one merger's. An end gives and takes no message but
+/// one that fits the first that is due on it (`packet_messages`): that one, or the word that memory is short. So every
+/// message on a link or a board of a stage that runs fits the one due there. Which of the ends belong to one link or board
+/// it doesn't say.
+pub fn wire_stage<F: BranchWork + Drop, S: Supply + Drop, D: LinkDue<Parcel<Apart>>>(
     alloc: Global,
     work: StageWork<F>,
     source: S,
@@ -44,7 +51,8 @@ pub(crate) fn wire_stage<F: BranchWork + Drop, S: Supply + Drop, D: LinkDue<Parc
     requires few { count < 65537 }
     requires many { length D.due ≡ count }
     requires pass { MayPass F.kit F.may (plain_stage work) D.due }
-    ensures { IfOk result (λ w. IsWired F.kit F.may S.comes mergers count (plain_stage work) D.due source w) }
+    ensures wired { IfOk result (λ w. IsWired F.kit F.may S.comes mergers count (plain_stage work) D.due source w) }
+    ensures edges { IfOk result (λ w. IsOnEdges F.kit mergers (plain_stage work) D.due w) }
 {
     let (from_mergers, next) = next_fan::<F, D, Brand>(alloc, &work, mergers, count)?;
     let StageWork { parts, branches } = work;

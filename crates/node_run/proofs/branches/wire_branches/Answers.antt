@@ -29,8 +29,7 @@ wire_branch-requires g c =
 pub loop-work-preserved : goal.loop-work-preserved
 loop-work-preserved g c =
     let b = branch_next g.F.BranchWork.kit g.F.BranchWork.may _ _ _ _ _ _ _ c.in-Some.work no_touch _ _ c.loop-work.invariant.2 c.in-Some.ensures.steps.0 in
-    let e = c.in_ok-wire_branch.ensures in
-    (tt, tt, wired_more g.F.BranchWork.kit g.F.BranchWork.may _ _ _ g.D.LinkDue.due _ _ _ c.in-Some.work _ _ _ _ _ c.loop-work.invariant.2 c.in-Some.ensures.steps.0 b c.in_ok-own.ensures.after e.versions e.nodes)
+    (tt, tt, wired_more g.F.BranchWork.kit g.F.BranchWork.may _ _ _ g.D.LinkDue.due _ _ _ c.in-Some.work _ _ _ _ _ c.loop-work.invariant.2 c.in-Some.ensures.steps.0 b c.in_ok-own.ensures.after c.in_ok-wire_branch.ensures)
 
 pub returns : goal.returns
 returns g c = all_wired g.F.BranchWork.kit g.F.BranchWork.may _ _ _ _ c.loop-work.branch _ _ _ c.loop-work.invariant.2 (none_left _ _ c.in-None.ensures.steps.0 (sym c.loop-work.work-iterator.rest.ok.0))

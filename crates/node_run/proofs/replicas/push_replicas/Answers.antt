@@ -1,5 +1,7 @@
-use Rattle.std.proofs.Common.{◌-◌}
+use Rattle.std.proofs.Common.{◌-◌, sym}
+use Rattle.node_run.proofs.Wiring.{none_left}
 use Rattle.node_run.proofs.Replicating.{all_coming, comes_next, first_added, first_fits, replica_added}
+use Rattle.node_run.proofs.Edging.{split_done, split_first, split_more}
 use Rattle.node_run.proofs.replicas.push_replicas.Goals as goal
 
 pub replica_at-requires-clause-fits : goal.replica_at-requires-clause-fits
@@ -11,6 +13,7 @@ loop-replica-init g c = (
   tt,
   all_coming g.F.BranchWork.kit g.F.BranchWork.may _ c.args.mergers c.args.count c.requires.fits.0 _ _ _ _ _ _ c.requires.some c.requires.replicas c.into_iter-replica-iterator.ensures.into_iter_gives.0 c.requires.fits.1 c.in_ok-first.ensures.on,
   λ fs copies old. first_added g.F.BranchWork.kit g.F.BranchWork.may c.in_ok-first.first _ _ _ fs copies c.in_ok-first.ensures.ready c.in_ok-first.ensures.work c.in_ok-push.ensures.items old,
+  split_first c.in_ok-first.first _ _ _ _ _ _ c.in_ok-push.ensures.items c.in_ok-first.ensures.first,
 )
 
 pub replica_at-requires-in-loop-replica-clause-inside : goal.replica_at-requires-in-loop-replica-clause-inside
@@ -28,7 +31,12 @@ loop-replica-preserved g c =
       tt,
       n.on _ _ c.in_ok-other.ensures.on,
       λ fs copies old. replica_added g.F.BranchWork.kit g.F.BranchWork.may c.in_ok-other.other _ _ _ copies c.in_ok-other.ensures.ready c.in_ok-push-2.ensures.items (c.loop-replica.invariant.3 fs copies old),
+      split_more _ c.in_ok-other.other _ _ _ _ _ _ c.in_ok-push-2.ensures.items c.in_ok-other.ensures.first c.loop-replica.invariant.4,
     )
 
-pub returns : goal.returns
-returns g c = c.loop-replica.invariant.3
+pub returns-clause-nodes : goal.returns-clause-nodes
+returns-clause-nodes g c = c.loop-replica.invariant.3
+
+pub returns-clause-joined : goal.returns-clause-joined
+returns-clause-joined g c =
+    split_done g.F.BranchWork.kit g.F.BranchWork.may _ _ _ _ _ _ _ _ _ _ c.loop-replica.invariant.2 (none_left _ _ c.in-None.ensures.steps.0 (sym c.loop-replica.replica-iterator.rest.ok.0)) c.loop-replica.invariant.4

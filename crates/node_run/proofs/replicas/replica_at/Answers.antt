@@ -19,3 +19,11 @@ returns-clause-work g c = left_same g.F.BranchWork.kit c.args.work c.requires.fi
 
 pub returns-clause-on : goal.returns-clause-on
 returns-clause-on g c versions n fits = replicas_on g.F.BranchWork.kit g.F.BranchWork.may _ _ _ n _ versions _ _ _ _ _ _ fits c.take_first-inlet.ensures c.take_first.ensures
+
+pub returns-clause-first : goal.returns-clause-first
+returns-clause-first g c = record {
+  takes = c.take_first-inlet.ensures;
+  end = c.take_first.result;
+  first = c.take_first.ensures;
+  gives = c.new-to.ensures.ends ∙ c.in_ok-push.ensures ∙ ap (λ y. y ++ c.take_first.result ∷ []) c.new-outlets.ensures;
+}

@@ -1,6 +1,7 @@
-use Rattle.std.proofs.Common.{refl}
+use Rattle.std.proofs.Common.{◌∙◌, ◌++◌, ◌∷◌, [], ap, refl, true}
 use Rattle.node_run.proofs.Wiring.{fanned_one, parted_many}
 use Rattle.node_run.proofs.Replicating.{replicas_added, replicas_fit}
+use Rattle.node_run.proofs.Edging.{split_joined}
 use Rattle.node_run.proofs.replicas.wire_replicas.Goals as goal
 
 pub version_fan-requires-clause-some : goal.version_fan-requires-clause-some
@@ -31,5 +32,8 @@ push_replicas-requires-clause-fits g c = (
 pub returns : goal.returns
 returns g c = record {
   versions = fanned_one c.args.mergers _ _ _ _ c.requires.branch.some c.in_ok-versions.ensures.0 c.in_ok-push.ensures;
-  nodes = replicas_added g.F.BranchWork.kit g.F.BranchWork.may _ _ _ _ c.requires.replicas.nothing c.in_ok-push_replicas.ensures;
+  split = true;
+  fan = c.in_ok-push.ensures ∙ ap (λ y. c.args.wired.now.versions ++ y ∷ []) c.in_ok-versions.ensures.0;
+  joined = split_joined g.F.BranchWork.kit c.args.mergers g.D.LinkDue.due c.args.touch c.args.work _ _ _ _ c.requires.branch.some c.in_ok-versions.ensures.1 c.requires.branch.ends c.in_ok-push_replicas.ensures.joined;
+  nodes = replicas_added g.F.BranchWork.kit g.F.BranchWork.may _ _ _ _ c.requires.replicas.nothing c.in_ok-push_replicas.ensures.nodes;
 }

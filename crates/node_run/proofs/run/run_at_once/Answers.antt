@@ -1,4 +1,4 @@
-use Rattle.std.proofs.Common.{arith, ap}
+use Rattle.std.proofs.Common.{arith}
 use Rattle.node_run.specs.Runs.{HasRun, flat}
 use Rattle.node_run.proofs.Running.{can_run, ok_so, ran_so}
 use Rattle.node_run.proofs.run.run_at_once.Goals as goal

@@ -35,8 +35,8 @@ loop-work-preserved g c =
     let row = ap (map plain_stage) c.in-Some.ensures.steps.0 in (
       tt,
       tt,
-      (i.2.0, i.2.1, i.2.2, pushed_more g.F.BranchWork.kit g.F.BranchWork.may c.args.mergers c.args.count i.2.0 i.2.1 i.2.2 _ _ (plain_stage c.in-Some.work) _ w.wired _ _ _ c.requires.some i.2.3 row w.ensures p.next p.nodes),
-      λ packets functions copies h. pushed_more g.F.BranchWork.kit g.F.BranchWork.may c.args.mergers c.args.count packets functions copies _ _ (plain_stage c.in-Some.work) _ w.wired _ _ _ c.requires.some (i.3 packets functions copies h) row w.ensures p.next p.nodes,
+      (i.2.0, i.2.1, i.2.2, pushed_more g.F.BranchWork.kit g.F.BranchWork.may c.args.mergers c.args.count i.2.0 i.2.1 i.2.2 _ _ (plain_stage c.in-Some.work) _ w.wired _ _ _ c.requires.some i.2.3 row w.ensures.wired p.next p.nodes),
+      λ packets functions copies h. pushed_more g.F.BranchWork.kit g.F.BranchWork.may c.args.mergers c.args.count packets functions copies _ _ (plain_stage c.in-Some.work) _ w.wired _ _ _ c.requires.some (i.3 packets functions copies h) row w.ensures.wired p.next p.nodes,
     )
 
 pub returns : goal.returns
