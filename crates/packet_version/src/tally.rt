@@ -55,7 +55,8 @@ impl Tally {
         self.raise(field, 1);
     }
 
-    fn raise(&mut self, field: Field, by: u64)
+    /// Counts so many copies of this field's parts.
+    pub fn raise(&mut self, field: Field, by: u64)
         ensures { RaisesBy by field self.old self.new }
     {
         let number = field.number();
