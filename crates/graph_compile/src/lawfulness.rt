@@ -188,7 +188,8 @@ fn joins(profiles: &[Profile], branches: &[Branch], branch: &Branch, position: u
     })
 }
 
-fn stands(branches: &[Branch], position: usize) -> bool
+/// Does the function at this position, from 1, stand in one of the branches? Takes no memory.
+pub fn stands(branches: &[Branch], position: usize) -> bool
     ensures { result ≡ list_any (holds position) branches.now }
 {
     branches.iter().any(|branch| holds(branch, position))

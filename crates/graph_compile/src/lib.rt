@@ -5,8 +5,8 @@
 //! one after another. [`compile`] makes the stages by one greedy pass over the chain: a function
 //! joins the branch that must come before it, opens a branch where none must, and closes the stage
 //! where two must. [`lawful`] tells of any graph whether it may stand for the chain. [`in_a_row`] makes the graph of one
-//! branch in which all functions come one after another, for a burst that one thread leads: where a graph copies nothing
-//! ([`copies_nothing`]), a packet ends the same way and as few copies are made by either.
+//! branch in which all functions come one after another, for a burst that one thread leads: a packet ends the same way by
+//! either, and the row copies nothing ([`copies_nothing`]).
 //!
 //! Each field of a packet is shared by the branches that only read it, moved to the one branch that
 //! touches it, or copied for those that write it. [`parts`] tells that of any branches. [`copies`] counts the copies, and
@@ -35,7 +35,7 @@ mod touching;
 pub use copying::{copies, copies_nothing};
 pub use graph::{Branch, Graph, Stage};
 pub use handing::parts;
-pub use lawfulness::lawful;
+pub use lawfulness::{lawful, stands};
 pub use laws::{
     fields_are_handed_on_by_rule, functions_are_placed_for_cause, lawful_graph_is_staged,
     lawful_stage_has_owners, no_copy_is_spared, stages_rise, unwritten_is_not_copied,
