@@ -1,5 +1,5 @@
--- Functions in a row: where neither graph copies a field, what one of them gives is what the other gives.
-use Rattle.std.proofs.Common.{◌≡◌, ◌∙◌, ◌≤◌, ℕ, Bool, true, false, List, [], ◌∷◌, map, sym, ap, refl, subst, arith}
+-- Functions in a row: what is led through a graph that copies nothing, with the copies counted that another graph makes, is led through that other.
+use Rattle.std.proofs.Common.{◌≡◌, ◌∙◌, ℕ, Bool, true, false, List, [], ◌∷◌, map, sym, ap, refl, subst, arith}
 use Rattle.std.specs.Prelude.{◌==◌, if◌then◌else◌, Option, Some, None, is_some}
 use Rattle.std.specs.List.{list_all, sum_by, zip}
 use Rattle.std.specs.Option.{IfSome}
@@ -19,8 +19,8 @@ use Rattle.graph_compile.specs.InARow.{copies_nothing, stage_copies_nothing}
 use Rattle.graph_compile.specs.Positions.{stands}
 use Rattle.graph_compile.specs.declared.graph.Graph.{Graph}
 use Rattle.graph_compile.specs.declared.graph.Stage.{Stage}
-use Rattle.packet_version.specs.Tallies.{count_of, raised}
-use Rattle.graph_run.specs.Counting.{reached, copies_in, copies_of, copies_made, RaisesUpTo}
+use Rattle.packet_version.specs.Tallies.{raised}
+use Rattle.graph_run.specs.Counting.{reached, copies_in, copies_of, copies_made, RaisesAll, RaisesUpTo}
 use Rattle.graph_run.specs.Leading.{Leads}
 use Rattle.graph_run.specs.Running.{PlainRunning, IsRunning, IsRow}
 use Rattle.graph_run.proofs.Bursting.{after_profiles, runs_on}
@@ -68,66 +68,73 @@ sum_none g none [] = refl
 sum_none g none (x ∷ xs) = let here = none x in let rest = sum_none g none xs in let all = sum_by-cons g x xs in omega (arith, here, rest, all)
 
 -- a graph that copies nothing makes no copies of any packets
-made_none : (stages : List Stage) (packets : List Packet) (ended : List Fate) (f : Field) → copies_nothing stages ≡ true → copies_made stages packets ended f ≡ 0
+pub made_none : (stages : List Stage) (packets : List Packet) (ended : List Fate) (f : Field) → copies_nothing stages ≡ true → copies_made stages packets ended f ≡ 0
 unfolding copies_made
 made_none stages packets ended f h = sum_none (λ (x : Packet × Fate). copies_of stages x.0.frame x.1 f) (λ x. packet_none stages x.0.frame x.1 f h) (zip packets ended)
 
-same_copies : (own row : List Stage) (packets : List Packet) (ended : List Fate) (f : Field) → copies_nothing own ≡ true → copies_nothing row ≡ true → copies_made row packets ended f ≡ copies_made own packets ended f
-same_copies own row packets ended f x y = made_none row packets ended f y ∙ sym (made_none own packets ended f x)
+pub none_counted : (stages : List Stage) (packets : List Packet) (ended : List Fate) (tally : List ℕ) → copies_nothing stages ≡ true → RaisesAll (copies_made stages packets ended) tally tally
+none_counted stages packets ended tally h f = let none = made_none stages packets ended f h in omega (arith, none)
 
-pub led_in_a_row : {F : Type 0} (b : Behaviour F) (run : PlainRunning F) (row : Graph) (packets : List Packet) (old new : List ℕ) (after : PlainRunning F) (ended : List Fate) → IsRow b run.functions run.graph row →
-    Leads b (record { functions = run.functions; graph = row }) packets old new after ended → Leads b run packets old new (record { functions = after.functions; graph = run.graph }) ended
-led_in_a_row b run row packets old new after ended is led = record {
+-- the functions that were left run in it too
+row_stays : {F : Type 0} (b : Behaviour F) (functions after : List F) (row : Graph) → map b.profile after ≡ map b.profile functions → IsRow b functions row → IsRow b after row
+row_stays b functions after row same is = record { runs = runs_on b row functions after is.runs same; copies = is.copies }
+
+pub row_left : {F : Type 0} (b : Behaviour F) (functions after : List F) (beside : Option Graph) → map b.profile after ≡ map b.profile functions → IfSome beside (IsRow b functions) → IfSome beside (IsRow b after)
+row_left b functions after (Some row) same is = row_stays b functions after row same is
+row_left b functions after None same is = tt
+
+-- what was led through the row, and counted behind it
+led_in_a_row : {F : Type 0} (b : Behaviour F) (run : PlainRunning F) (row : Graph) (packets : List Packet) (old mid new : List ℕ) (after : PlainRunning F) (ended : List Fate) → IsRow b run.functions row →
+    Leads b (record { functions = run.functions; graph = row }) packets old mid after ended → RaisesAll (copies_made run.graph.stages packets ended) mid new → Leads b run packets old new (record { functions = after.functions; graph = run.graph }) ended
+led_in_a_row b run row packets old mid new after ended is led counted = record {
   fates = led.fates;
   functions = led.functions;
   graph = refl;
   within = led.within;
-  counted = λ f. led.counted f ∙ ap (raised (count_of old f)) (same_copies run.graph.stages row.stages packets (fates b run.functions packets) f is.own_copies is.row_copies);
+  counted = λ f.
+      let walked : List Fate = fates b run.functions packets in
+      let none = made_none row.stages packets walked f is.copies in
+      let before = led.counted f in
+      let behind = counted f in
+      let same : copies_made run.graph.stages packets ended f ≡ copies_made run.graph.stages packets walked f = ap (λ (l : List Fate). copies_made run.graph.stages packets l f) led.fates in
+      both _ _ _ _ _ _ before none behind same;
 }
+  where
+    both : (c m n none made due : ℕ) → m ≡ raised c none → none ≡ 0 → n ≡ raised m made → made ≡ due → n ≡ raised c due
+    both c m n none made due x y z e = omega arith
 
-pub refused_in_a_row : {F : Type 0} (b : Behaviour F) (run : PlainRunning F) (row : Graph) (packets : List Packet) (old new : List ℕ) → IsRow b run.functions run.graph row →
-    RaisesUpTo (copies_made row.stages packets (fates b run.functions packets)) old new → RaisesUpTo (copies_made run.graph.stages packets (fates b run.functions packets)) old new
-refused_in_a_row b run row packets old new is within = λ f.
-    ((within f).0, subst (λ (n : ℕ). count_of new f ≤ raised (count_of old f) n) (same_copies run.graph.stages row.stages packets (fates b run.functions packets) f is.own_copies is.row_copies) (within f).1)
-
--- the functions that were left run in both
-row_stays : {F : Type 0} (b : Behaviour F) (functions after : List F) (graph row : Graph) → map b.profile after ≡ map b.profile functions → IsRow b functions graph row → IsRow b after graph row
-row_stays b functions after graph row same is = record { runs = runs_on b row functions after is.runs same; own_copies = is.own_copies; row_copies = is.row_copies }
-
-pub row_left : {F : Type 0} (b : Behaviour F) (functions after : List F) (graph : Graph) (beside : Option Graph) → map b.profile after ≡ map b.profile functions → IfSome beside (IsRow b functions graph) → IfSome beside (IsRow b after graph)
-row_left b functions after graph (Some row) same is = row_stays b functions after graph row same is
-row_left b functions after graph None same is = tt
-
--- the row that is there
-pub row_there : {F : Type 0} (b : Behaviour F) (shown functions : List F) (graph : Graph) (beside : Option Graph) (row : Graph) → beside ≡ Some row → shown ≡ functions → IfSome beside (IsRow b shown graph) → IsRow b functions graph row
-row_there {F} b shown functions graph beside row there same is =
-    subst (λ (fs : List F). IsRow b fs graph row) same (subst (λ (o : Option Graph). IfSome o (IsRow b shown graph)) there is)
-
--- what was led through the row
-pub led_back : {F : Type 0} (b : Behaviour F) (run shown : PlainRunning F) (functions left : List F) (graph row : Graph) (packets : List Packet) (old new : List ℕ) (after : PlainRunning F) (ended : List Fate) →
-    ◌≡◌ {A = PlainRunning F} (record { functions = functions; graph = graph }) run → shown ≡ record { functions = functions; graph = row } → left ≡ after.functions → IsRow b functions graph row → Leads b shown packets old new after ended →
-    Leads b run packets old new (record { functions = left; graph = graph }) ended
-led_back {F} b run shown functions left graph row packets old new after ended whole through back is led =
+pub led_back : {F : Type 0} (b : Behaviour F) (run shown : PlainRunning F) (functions left : List F) (graph row : Graph) (packets : List Packet) (old mid new : List ℕ) (after : PlainRunning F) (ended : List Fate) →
+    ◌≡◌ {A = PlainRunning F} (record { functions = functions; graph = graph }) run → shown ≡ record { functions = functions; graph = row } → left ≡ after.functions → IsRow b functions row → Leads b shown packets old mid after ended →
+    RaisesAll (copies_made graph.stages packets ended) mid new → Leads b run packets old new (record { functions = left; graph = graph }) ended
+led_back {F} b run shown functions left graph row packets old mid new after ended whole through back is led counted =
     subst (λ (r : PlainRunning F). Leads b r packets old new (record { functions = left; graph = graph }) ended) whole
     (subst (λ (fs : List F). Leads b (record { functions = functions; graph = graph }) packets old new (record { functions = fs; graph = graph }) ended) (sym back)
-    (led_in_a_row b (record { functions = functions; graph = graph }) row packets old new after ended is
-    (subst (λ (r : PlainRunning F). Leads b r packets old new after ended) through led)))
+    (led_in_a_row b (record { functions = functions; graph = graph }) row packets old mid new after ended is
+    (subst (λ (r : PlainRunning F). Leads b r packets old mid after ended) through led) counted))
 
+-- where memory ran out in the row, nothing was counted
 pub refused_back : {F : Type 0} (b : Behaviour F) (run shown : PlainRunning F) (functions : List F) (graph row : Graph) (packets : List Packet) (old new : List ℕ) →
-    ◌≡◌ {A = PlainRunning F} (record { functions = functions; graph = graph }) run → shown ≡ record { functions = functions; graph = row } → IsRow b functions graph row →
+    ◌≡◌ {A = PlainRunning F} (record { functions = functions; graph = graph }) run → shown ≡ record { functions = functions; graph = row } → IsRow b functions row →
     RaisesUpTo (copies_made shown.graph.stages packets (fates b shown.functions packets)) old new → RaisesUpTo (copies_made run.graph.stages packets (fates b run.functions packets)) old new
-refused_back {F} b run shown functions graph row packets old new whole through is within =
-    subst (λ (r : PlainRunning F). RaisesUpTo (copies_made r.graph.stages packets (fates b r.functions packets)) old new) whole
-    (refused_in_a_row b (record { functions = functions; graph = graph }) row packets old new is
-    (subst (λ (r : PlainRunning F). RaisesUpTo (copies_made r.graph.stages packets (fates b r.functions packets)) old new) through within))
+refused_back {F} b run shown functions graph row packets old new whole through is within = λ f.
+    let none : copies_made shown.graph.stages packets (fates b shown.functions packets) f ≡ 0 =
+    ap (λ (r : PlainRunning F). copies_made r.graph.stages packets (fates b r.functions packets) f) through ∙ made_none row.stages packets (fates b functions packets) f is.copies in
+    let up = within f in
+    let low = up.0 in
+    let high = up.1 in
+    (low, omega (arith, none, high))
+
+-- the row that is there
+pub row_there : {F : Type 0} (b : Behaviour F) (shown functions : List F) (row : Graph) → shown ≡ functions → IsRow b shown row → IsRow b functions row
+row_there {F} b shown functions row same is = subst (λ (fs : List F). IsRow b fs row) same is
 
 -- the functions that came back run in their own graph, with the row beside it
 pub row_back : {F : Type 0} (b : Behaviour F) (shown : PlainRunning F) (functions left : List F) (graph row back : Graph) (packets : List Packet) (old new : List ℕ) (after : PlainRunning F) (ended : List Fate) → KeepsProfile b →
-    shown ≡ record { functions = functions; graph = row } → left ≡ after.functions → back ≡ after.graph → IsRunning b functions graph → IsRow b functions graph row → IsRunning b left back → Leads b shown packets old new after ended →
-    IsRunning b left graph × IsRow b left graph back
+    shown ≡ record { functions = functions; graph = row } → left ≡ after.functions → back ≡ after.graph → IsRunning b functions graph → IsRow b functions row → IsRunning b left back → Leads b shown packets old new after ended →
+    IsRunning b left graph × IsRow b left back
 row_back {F} b shown functions left graph row back packets old new after ended keeps through is_left is_back running is runs led =
     let same : map b.profile left ≡ map b.profile functions = ap (map b.profile) (is_left ∙ led.functions) ∙ after_profiles b shown.functions packets keeps ∙ ap (λ (r : PlainRunning F). map b.profile r.functions) through in
     let last : back ≡ row = is_back ∙ led.graph ∙ ap (λ (r : PlainRunning F). r.graph) through in (
       runs_on b graph functions left running same,
-      record { runs = runs; own_copies = is.own_copies; row_copies = subst (λ (g : Graph). copies_nothing g.stages ≡ true) (sym last) is.row_copies },
+      record { runs = runs; copies = subst (λ (g : Graph). copies_nothing g.stages ≡ true) (sym last) is.copies },
     )

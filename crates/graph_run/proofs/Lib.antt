@@ -18,6 +18,7 @@ pub mod Passing
 pub mod Bursting
 pub mod Single
 pub mod InARow
+pub mod Counted
 pub mod LedInPieces
 pub mod Quieted
 pub mod NotedInTurn

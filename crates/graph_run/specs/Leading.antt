@@ -8,8 +8,8 @@ use Rattle.graph_run.specs.Counting.{RaisesAll, copies_made}
 use Rattle.graph_run.specs.Running.{PlainRunning}
 
 -- Packets ended as if each walked through the functions of a chain, as the packet before left them; so the functions were left, and
--- their graph stays. A function that is named as one that dropped a packet stands in the chain. The counts rose by the copies that
--- were made.
+-- their graph stays. A function that is named as one that dropped a packet stands in the chain. The counts rose by the copies that the
+-- graph makes of them.
 pub record Leads {F : Type 0} (b : Behaviour F) (run : PlainRunning F) (packets : List Packet) (old new : List ℕ) (after : PlainRunning F) (ended : List Fate) : Type 0 where
   pub fates : ended ≡ walked_fates b run.functions packets
   pub functions : after.functions ≡ functions_after b run.functions packets

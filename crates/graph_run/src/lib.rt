@@ -23,13 +23,14 @@
 //! (`chain_walk`). All three hold of functions whose counting is left out, and a fourth law, that notes may be settled by their
 //! positions (`burst_law`), puts it back. Here the code is tied to these laws: a branch (`run_branch`), a stage, a packet, a
 //! burst. [`run_gated`] does the same past a gate, and [`run_items`] for a piece of a burst: pieces that are led one after another
-//! are the burst (`pieces_are_led_in_a_row`). [`run_in_a_row`] does it through a graph of one branch, where the own graph copies
-//! nothing.
+//! are the burst (`pieces_are_led_in_a_row`). [`run_in_a_row`] does it through a graph of one branch, which copies nothing, and counts
+//! what the own graph copies.
 //!
 //! Checksums are left out (frames that go out are not sealed), and so are threads.
 #![tactic(auto)]
 
 mod branch;
+mod copies;
 mod laws;
 mod noted;
 mod packet;

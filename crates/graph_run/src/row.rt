@@ -4,23 +4,25 @@ ghost use Rattle.chain_walk.specs.Packets.{fates};
 ghost use Rattle.graph_run.specs.Counting.{RaisesUpTo, copies_made};
 ghost use Rattle.graph_run.specs.Leading.{Leads};
 ghost use Rattle.graph_run.specs.Packets.{packets_taken};
-ghost use Rattle.graph_run.specs.Running.{IsRow, IsRunning, profiles_of};
+ghost use Rattle.graph_run.specs.Running.{IsRow, profiles_of};
 
+use crate::copies::count_copies;
 use crate::plain::run_items;
 use crate::running::Running;
 use action_profile::Profile;
 use capture_bytes::Unit;
 use chain_walk::Fate;
 use classifier::Item;
-use graph_compile::{Graph, copies_nothing, in_a_row};
+use graph_compile::{Graph, in_a_row};
 use net_functions::Function;
 use nfp_outside::Gate;
 use packet_version::Tally;
 use std::alloc::{AllocError, Global};
 use std::sync::Wait;
 
-/// The same as [`run_items`] does. Where no stage of the graph copies a field, the functions run in a row, one after another on a
-/// packet that is dealt once and whole: on one thread that is all that a graph of branches gives, and takes half its time.
+/// The same as [`run_items`] does, by the functions in a row, one after another on a packet that is dealt once and whole: on one
+/// thread that is all that a graph of branches gives, and takes half its time. No copy is made; those that the graph makes are
+/// counted of each packet by how it ended.
 pub fn run_in_a_row<F: Function + Drop, G: Gate, R: Wait>(
     rt: &R,
     alloc: Global,
@@ -41,17 +43,10 @@ pub fn run_in_a_row<F: Function + Drop, G: Gate, R: Wait>(
         row,
         pace,
     } = run;
-    let Some(row) = row_beside(alloc, &functions, &graph, row)? else {
-        let run = Running {
-            functions,
-            graph,
-            row: None,
-            pace,
-        };
-        return run_items(rt, alloc, run, items, unit, chain, tally, gate);
-    };
+    let row = row_beside(alloc, &functions, row)?;
     let run = Running::new(functions, row);
     let (run, fates) = run_items(rt, alloc, run, items, unit, chain, tally, gate)?;
+    count_copies(&graph, items, chain, &fates, tally);
     let (functions, row) = run.into_parts();
     let run = Running {
         functions,
@@ -62,23 +57,21 @@ pub fn run_in_a_row<F: Function + Drop, G: Gate, R: Wait>(
     Ok((run, fates))
 }
 
-/// The graph of the functions in a row, beside one that copies nothing: the row that is there, or a new one.
+/// The graph of the functions in a row: the one that is there, or a new one.
 fn row_beside<F: Function>(
     alloc: Global,
     functions: &[F],
-    graph: &Graph,
     row: Option<Graph>,
-) -> Result<Option<Graph>, AllocError>
-    requires running { IsRunning F.behaviour functions.now graph.now }
-    requires row { IfSome row (IsRow F.behaviour functions.now graph.now) }
-    ensures { IfOk result (λ row. IfSome row (IsRow F.behaviour functions.now graph.now)) }
+) -> Result<Graph, AllocError>
+    requires few { length functions.now ≤ 64 }
+    requires row { IfSome row (IsRow F.behaviour functions.now) }
+    ensures { IfOk result (IsRow F.behaviour functions.now) }
 {
-    if row.is_some() || !copies_nothing(graph) {
+    if let Some(row) = row {
         return Ok(row);
     }
     let profiles = profiles_of(alloc, functions)?;
-    let row = in_a_row(alloc, &profiles)?;
-    Ok(Some(row))
+    in_a_row(alloc, &profiles)
 }
 
 fn profiles_of<F: Function>(alloc: Global, functions: &[F]) -> Result<Vec<Profile>, AllocError>

@@ -11,8 +11,7 @@ use std::marker::Model;
 pub struct Running<F: Function> {
     pub(crate) functions: Vec<F>,
     pub(crate) graph: Graph,
-    // The functions in a row, for bursts that go on one thread: none where a stage copies a field, or none went so yet.
-    // Contracts don't see it.
+    // The functions in a row, for bursts that go on one thread, once one went so. Contracts don't see it.
     pub(crate) row: Option<Graph>,
     // By which way its bursts go. Contracts don't see it.
     pub(crate) pace: Pace,
@@ -26,7 +25,7 @@ impl<F: Function> Model for Running<F> {
 
     ghost view = { λ r. record { functions = r.functions.items; graph = r.graph } };
 
-    ghost invariant = { λ r. IsRunning F.behaviour r.functions.items r.graph × IfSome r.row (IsRow F.behaviour r.functions.items r.graph) };
+    ghost invariant = { λ r. IsRunning F.behaviour r.functions.items r.graph × IfSome r.row (IsRow F.behaviour r.functions.items) };
 }
 
 impl<F: Function> Running<F> {

@@ -16,8 +16,7 @@
 //! waits for the stage before it, so a packet may be in the first stage while the one before it is in the last. Where a
 //! graph has one stage of one branch, or no stage, nothing could run beside it, and where steps are so light that threads
 //! cost more than they save, which the clock tells of the packets before (`pace`), threads don't pay: such packets go
-//! through the graph on the caller's thread, or, where no stage copies a field, through the functions in a row
-//! (`run_in_a_row` of `graph_run`). A long burst goes in pieces, so that no trial of a way is longer than it has to be. Under [`run_joined`] all packets go through one
+//! through the functions in a row on the caller's thread (`run_in_a_row` of `graph_run`), and the copies that the graph makes are counted. A long burst goes in pieces, so that no trial of a way is longer than it has to be. Under [`run_joined`] all packets go through one
 //! stage before the next begins: its branches side by side, then its mergers. Where every stage has one branch it runs as
 //! `run_gated` too. A burst without packets starts no thread.
 //!

@@ -35,14 +35,14 @@ use std::time::Instant;
 /// are joined before the call returns. Where the graph has no stage but one of one branch, nothing could run
 /// beside it, and all runs in the caller's thread. So does what goes alone by the pace of the run (`pace`):
 /// where packets are light or threads spared too little of the time of one for those before, by the clock, or where
-/// one thread is tried. The functions run in a row then, where no stage copies a field. A burst that is longer than the pace
+/// one thread is tried. The functions run in a row then. A burst that is longer than the pace
 /// tries a way with goes in pieces, each by its own way. The first packets of a run go on threads. Each step of a function passes
 /// the gate first. Frames that go out are not sealed yet.
 ///
 /// Every packet ends as if it walked through the functions of the chain one after another, each as the
-/// packet before left it, and so do the functions' states. The tally rises by the copies that were made.
-/// The one refusal is want of memory: the functions are gone then, and the tally may have risen by copies
-/// that were made.
+/// packet before left it, and so do the functions' states. The tally rises by the copies that the graph makes of them;
+/// functions in a row make none, and those of the graph are counted. The one refusal is want of memory: the functions are
+/// gone then, and the tally may have risen by some of them.
 pub fn run_piped<F: Function + Drop + Send, G: Gate + Sync, R: Threads + Wait + Clock + Sync>(
     rt: &R,
     alloc: Global,

@@ -14,7 +14,7 @@ loop-item-init g c = record {
   ran = subst (λ r. HasRunItems g.F.Function.behaviour c.run.inside.graph c.args.unit c.args.chain c.args.items.now r.functions c.run.inside.functions.items 0 c.in_ok-fates.fates.items c.args.tally.now c.args.tally.now) c.run.view_is
       (items_begin g.F.Function.behaviour c.run.inside.graph c.args.unit c.args.chain c.args.items.now c.run.inside.functions.items c.in_ok-fates.fates.items c.args.tally.now c.in_ok-fates.ensures.items);
   unnoted = c.new-notes.ensures.items;
-  row = subst (λ r. IfSome c.run.inside.row (IsRow g.F.Function.behaviour r.functions c.run.inside.graph)) c.run.view_is c.run.invariant.1;
+  row = subst (λ r. IfSome c.run.inside.row (IsRow g.F.Function.behaviour r.functions)) c.run.view_is c.run.invariant.1;
 }
 
 pub returns-in_err-run_item-clause-refused : goal.returns-in_err-run_item-clause-refused
@@ -38,5 +38,5 @@ invariant_of-run g c =
     let same = c.loop-item.invariant.ran.profiles in
     let first = subst (λ r. IsRunning g.F.Function.behaviour r.functions c.run.inside.graph) c.run.view_is c.run.invariant.0 in (
       runs_on g.F.Function.behaviour c.run.inside.graph c.args.run.functions c.loop-item.functions.items first same,
-      row_left g.F.Function.behaviour c.args.run.functions c.loop-item.functions.items c.run.inside.graph _ same c.loop-item.invariant.row,
+      row_left g.F.Function.behaviour c.args.run.functions c.loop-item.functions.items _ same c.loop-item.invariant.row,
     )

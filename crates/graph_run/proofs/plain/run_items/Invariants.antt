@@ -8,5 +8,5 @@ abbrev pub invariant-loop-item : goal.invariant-loop-item
 invariant-loop-item g l = record {
   ran : HasRunItems g.F.Function.behaviour l.graph l.unit l.chain l.items l.fn.run.functions l.functions.items l.item-index l.fates.items l.fn.tally l.tally;
   unnoted : l.notes.items ≡ [];
-  row : IfSome l.beside (IsRow g.F.Function.behaviour l.fn.run.functions l.graph);
+  row : IfSome l.beside (IsRow g.F.Function.behaviour l.fn.run.functions);
 }
