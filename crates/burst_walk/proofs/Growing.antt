@@ -10,7 +10,7 @@ use Rattle.chain_walk.specs.declared.walk.Fate.TheVariants.{Out, Gone}
 use Rattle.piece_walk.specs.Kinds.{GrowsLittle, IsNoLonger}
 use Rattle.piece_walk.specs.PiecePackets.{long_fates}
 use Rattle.piece_walk.specs.Pieces.{Piece}
-use Rattle.segment_run.specs.Segments.{functions_count}
+use Rattle.chain_service.specs.SegmentRunProofs.{functions_count}
 use Rattle.chain_service.specs.NamedFunctions.{named_behaviour}
 use Rattle.chain_service.specs.NamedFunctionLaws.{named_keeps}
 use Rattle.chain_service.specs.declared.named.NamedFunction.{NamedFunction}

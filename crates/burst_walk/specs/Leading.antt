@@ -11,9 +11,9 @@ use Rattle.service_walk.specs.Service.{Classed, packets_in}
 use Rattle.packet_version.specs.Tallies.{count_of, raised}
 use Rattle.classifier.specs.Classes.{class_of}
 use Rattle.classifier.specs.declared.burst.Item.{Item}
-use Rattle.graph_run.specs.Packets.{packet_of}
+use Rattle.chain_service.specs.GraphRun.{packet_of}
 use Rattle.piece_walk.specs.PiecePackets.{pieces_after}
-use Rattle.segment_run.specs.Counting.{copies_through}
+use Rattle.chain_service.specs.SegmentRun.{copies_through}
 use Rattle.chain_service.specs.NamedFunctions.{named_behaviour}
 use Rattle.chain_service.specs.Opening.{pieces_in}
 use Rattle.chain_service.specs.declared.service.ServiceChain.{ServiceChain}

@@ -1,3 +1,9 @@
 pub mod Fates
 pub mod Leading
 pub mod Mergers
+pub mod ChainService
+pub mod ChainServiceProofs
+pub mod GraphRun
+pub mod NetFunctions
+pub mod SegmentRun
+pub mod SegmentRunProofs

@@ -11,13 +11,12 @@ ghost use Rattle.burst_walk.specs.Leading.{IsWritable, LeadsChain, LeadsEach, cl
 use crate::merging::Merging;
 use crate::tunnels::pieces_grow_little;
 use capture_bytes::Unit;
-use chain_service::{ChainPieces, NamedFunction, ServiceChain};
+use chain_service::{ChainPieces, NamedFunction, ServiceChain, run_pieces};
 use chain_walk::Fate;
 use classifier::Burst;
 use item_list::Items;
 use nfp_outside::Gate;
 use piece_walk::{frames_grow_little, pieces_keep_their_kind};
-use segment_run::run_pieces;
 use std::alloc::{AllocError, Global};
 use std::rt::Clock;
 use std::sync::Wait;

@@ -14,5 +14,10 @@ mod walk;
 mod weave;
 
 pub use merging::{Mergers, Merging};
-pub use piped_run::MergeWay;
 pub use walk::walk_burst;
+
+// What a service is, for the crates above.
+pub use chain_service::{
+    Function, MergeWay, NamedFunction, Piece, Service, ServiceChain, bursts_are_counted_in_a_row,
+    make_service,
+};

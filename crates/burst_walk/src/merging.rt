@@ -2,7 +2,7 @@
 ghost use Rattle.std.specs.Prelude.{◌≡◌, ◌≤◌};
 ghost use Rattle.burst_walk.specs.Mergers.{number_of};
 
-use piped_run::MergeWay;
+use chain_service::MergeWay;
 
 /// How many mergers a stage has at most: 1 to 16, and no other number can be said.
 #[derive(Clone, Copy, Debug, PartialEq, Eq)]

@@ -7,8 +7,7 @@ use Rattle.std.proofs.lemmas.Option.{slice_get-map}
 use Rattle.chain_walk.specs.declared.walk.Fate.{Fate}
 use Rattle.chain_walk.specs.declared.walk.Fate.TheVariants.{Gone}
 use Rattle.classifier.specs.declared.burst.Item.{Item}
-use Rattle.chain_service.specs.Opening.{chains_of}
-use Rattle.chain_service.specs.declared.service.ServiceChain.{ServiceChain}
+use Rattle.burst_walk.specs.ChainServiceProofs.{ServiceChain, chains_of}
 use Rattle.burst_walk.specs.Leading.{all_ended, ended}
 use Rattle.capture_report.specs.Report.{ChainNames, drop_line, drop_lines, dropped_by, names_among}
 use Rattle.capture_report.specs.Telling.{names_in}

@@ -7,9 +7,8 @@ use Rattle.std.proofs.lemmas.List.{append-nil, map-append, take-append-drop, tak
 use Rattle.std.proofs.lemmas.List.Concat.{flat_map-append}
 use Rattle.std.proofs.lemmas.List.Folds.{find-append}
 use Rattle.piece_walk.specs.Pieces.{functions_in, functions_of}
-use Rattle.segment_run.specs.Segments.{piece_of, pieces_of}
-use Rattle.segment_run.specs.declared.piece.Piece.{Piece}
-use Rattle.chain_service.specs.declared.named.NamedFunction.{NamedFunction}
+use Rattle.burst_walk.specs.SegmentRunProofs.{Piece, piece_of, pieces_of}
+use Rattle.burst_walk.specs.ChainService.{NamedFunction}
 
 -- the functions of pieces that run
 abbrev pub running_in : List (Piece NamedFunction) → List NamedFunction

@@ -1,3 +1,10 @@
 pub mod FaultLines
 pub mod Report
 pub mod Telling
+pub mod BurstWalk
+pub mod BurstWalkProofs
+pub mod ChainService
+pub mod ChainServiceProofs
+pub mod GraphRun
+pub mod NetFunctions
+pub mod SegmentRun

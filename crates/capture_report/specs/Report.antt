@@ -16,13 +16,11 @@ use Rattle.chain_walk.specs.declared.walk.Fate.TheVariants.{Out, Gone}
 use Rattle.service_walk.specs.Service.{Classed, at_chain, packets_in}
 use Rattle.packet_version.specs.Tallies.{raised}
 use Rattle.piece_walk.specs.Pieces.{Piece, functions_in}
-use Rattle.segment_run.specs.Counting.{copies_through}
+use Rattle.burst_walk.specs.SegmentRun.{copies_through}
 use Rattle.policy_text.specs.declared.policy.ChainPolicy.{ChainPolicy}
 use Rattle.policy_text.specs.declared.policy.FunctionDecl.{FunctionDecl}
 use Rattle.text_lines.specs.Texts.{joined}
-use Rattle.chain_service.specs.NamedFunctions.{named_behaviour, named_lines}
-use Rattle.chain_service.specs.Services.{Chains}
-use Rattle.chain_service.specs.declared.named.NamedFunction.{NamedFunction}
+use Rattle.burst_walk.specs.ChainService.{Chains, NamedFunction, named_behaviour, named_lines}
 use Rattle.burst_walk.specs.Fates.{all_classed, chains_behind, fates_of}
 use Rattle.capture_report.specs.FaultLines.{fault_text}
 use Rattle.capture_report.specs.declared.fault.FormatFault.{FormatFault}

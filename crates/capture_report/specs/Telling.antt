@@ -3,8 +3,7 @@ use Rattle.std.specs.Prelude.{ℕ, List, ◌++◌}
 use Rattle.std.specs.List.{flat_map}
 use Rattle.packet_version.specs.Tallies.{count_of}
 use Rattle.piece_walk.specs.Pieces.{functions_in}
-use Rattle.chain_service.specs.Opening.{pieces_in}
-use Rattle.chain_service.specs.declared.service.ServiceChain.{ServiceChain}
+use Rattle.burst_walk.specs.ChainServiceProofs.{ServiceChain, pieces_in}
 use Rattle.capture_report.specs.Report.{ChainNames, chain_lines, copies_lines, last_line, total_line}
 use Rattle.capture_report.specs.declared.ended.Ended.{Ended}
 

@@ -24,3 +24,9 @@ pub use named::function_named;
 pub use report::{
     TITLE, burst_lines, push_copies_lines, push_function_line, push_last_line, push_totals_line,
 };
+
+// What a service is and how a burst walks through it, for the crates above.
+pub use burst_walk::{
+    Function, MergeWay, Mergers, Merging, NamedFunction, Piece, Service, ServiceChain,
+    bursts_are_counted_in_a_row, make_service, walk_burst,
+};

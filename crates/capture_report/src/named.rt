@@ -4,10 +4,9 @@ ghost use Rattle.std.specs.List.{find};
 ghost use Rattle.std.specs.Option.{option_copied};
 ghost use Rattle.std.specs.Str.{bytes_eq};
 ghost use Rattle.piece_walk.specs.Pieces.{functions_in, functions_of};
-ghost use Rattle.segment_run.specs.Segments.{piece_of, pieces_of};
+ghost use Rattle.burst_walk.specs.SegmentRunProofs.{piece_of, pieces_of};
 
-use chain_service::NamedFunction;
-use segment_run::Piece;
+use burst_walk::{NamedFunction, Piece};
 
 /// The function with this name among those of a chain's pieces, where there is one.
 pub fn function_named<'a>(

@@ -1,7 +1,7 @@
 //! The texts of the report.
 ghost use Rattle.std.specs.Prelude.{◌≡◌, ◌≤◌, ◌<◌, ◌+◌, ◌^◌, ◌++◌, IfOk, OnOk, Some, length, map};
 ghost use Rattle.packet_version.specs.Tallies.{count_of};
-ghost use Rattle.chain_service.specs.Opening.{chains_of};
+ghost use Rattle.burst_walk.specs.ChainServiceProofs.{chains_of};
 ghost use Rattle.burst_walk.specs.Leading.{all_ended, ended};
 ghost use Rattle.action_profile.specs.Kinds.{kind_name};
 ghost use Rattle.capture_report.specs.Report.{dropped_by, drop_text, drop_line, drop_lines, names_among, total_line, copies_text, copies_line, copies_lines, function_text, last_line};
@@ -11,7 +11,7 @@ use crate::ended::Totals;
 use crate::fault::FormatFault;
 use crate::lines::{fault_line, totals_line};
 use action_profile::all_fields;
-use chain_service::ServiceChain;
+use burst_walk::ServiceChain;
 use chain_walk::Fate;
 use classifier::Item;
 use packet_fields::Field;

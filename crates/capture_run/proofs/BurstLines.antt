@@ -7,9 +7,8 @@ use Rattle.nfp_outside.specs.Outside.{SlotView}
 use Rattle.chain_walk.specs.declared.walk.Fate.{Fate}
 use Rattle.service_walk.specs.Service.{Classed}
 use Rattle.classifier.specs.declared.burst.Item.{Item}
-use Rattle.chain_service.specs.Opening.{chains_of}
-use Rattle.chain_service.specs.declared.service.ServiceChain.{ServiceChain}
-use Rattle.burst_walk.specs.Leading.{LeadsEach, all_ended, records_of}
+use Rattle.capture_report.specs.ChainServiceProofs.{ServiceChain, chains_of}
+use Rattle.capture_report.specs.BurstWalkProofs.{LeadsEach, all_ended, records_of}
 use Rattle.capture_run.specs.Passing.{Advances, PassBreaks, fates_next, lines_next, next_number, out_next, packets_next}
 use Rattle.capture_report.specs.Report.{drop_lines, names_among}
 use Rattle.capture_run.specs.Slots.{Breaks, Puts}

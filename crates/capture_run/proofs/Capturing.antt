@@ -4,10 +4,9 @@ use Rattle.std.specs.Prelude.{count_by, Option}
 use Rattle.nfp_outside.specs.declared.slot.Slot.{Slot}
 use Rattle.nfp_outside.specs.Outside.{SlotView}
 use Rattle.capture_bytes.specs.declared.packet.Unit.{Unit as TimeUnit}
-use Rattle.chain_service.specs.Opening.{IsOpening, chains_of}
-use Rattle.chain_service.specs.Services.{Chains}
-use Rattle.chain_service.specs.declared.service.Service.{Service}
-use Rattle.burst_walk.specs.Fates.{all_classed, fates_of}
+use Rattle.capture_report.specs.ChainServiceProofs.{IsOpening, Service, chains_of}
+use Rattle.capture_report.specs.ChainService.{Chains}
+use Rattle.capture_report.specs.BurstWalk.{all_classed, fates_of}
 use Rattle.capture_run.specs.Passing.{IsFresh}
 use Rattle.capture_report.specs.Report.{copies_due, is_gone, summary, title}
 use Rattle.capture_run.specs.Running.{Goes, PassesStream, RunBreaks, RunsAll, WriteBreaks, WritesAll, fates_given}

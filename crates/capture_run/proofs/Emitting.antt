@@ -11,7 +11,7 @@ use Rattle.chain_walk.specs.declared.walk.Fate.{Fate}
 use Rattle.chain_walk.specs.declared.walk.Fate.TheVariants.{Out}
 use Rattle.classifier.specs.declared.burst.Item.{Item}
 use Rattle.capture_run.specs.Emitted.{emitted, wire_after}
-use Rattle.burst_walk.specs.Leading.{IsWritable, all_ended, ended}
+use Rattle.capture_report.specs.BurstWalkProofs.{IsWritable, all_ended, ended}
 use Rattle.capture_run.specs.Slots.{Puts, Breaks}
 use Rattle.capture_run.specs.Streams.{emitted_among, held_in, spelled_with}
 use Rattle.capture_run.specs.declared.fault.RunFault.{RunFault}

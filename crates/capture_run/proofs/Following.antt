@@ -7,13 +7,11 @@ use Rattle.piece_walk.specs.PiecePackets.{passed, pieces_after}
 use Rattle.piece_walk.specs.Pieces.{Piece, Graph, Whole}
 use Rattle.service_walk.specs.Service.{Classed, packets_in}
 use Rattle.packet_version.specs.Tallies.{count_of, raised}
-use Rattle.graph_run.specs.Counting.{copies_made}
-use Rattle.segment_run.specs.Counting.{copies_through}
-use Rattle.chain_service.specs.NamedFunctions.{named_behaviour}
-use Rattle.chain_service.specs.Opening.{chains_of, fits_of, pieces_in}
-use Rattle.chain_service.specs.declared.named.NamedFunction.{NamedFunction}
-use Rattle.chain_service.specs.declared.service.ServiceChain.{ServiceChain}
-use Rattle.burst_walk.specs.Leading.{LeadsChain, LeadsEach}
+use Rattle.capture_report.specs.GraphRun.{copies_made}
+use Rattle.capture_report.specs.SegmentRun.{copies_through}
+use Rattle.capture_report.specs.ChainService.{named_behaviour}
+use Rattle.capture_report.specs.ChainServiceProofs.{NamedFunction, ServiceChain, chains_of, fits_of, pieces_in}
+use Rattle.capture_report.specs.BurstWalkProofs.{LeadsChain, LeadsEach}
 use Rattle.capture_report.specs.Report.{names_among}
 use Rattle.capture_run.proofs.Walking.{packets-append, pieces_more}
 

@@ -13,10 +13,8 @@ use Rattle.piece_walk.specs.Pieces.{functions_in}
 use Rattle.packet_version.specs.Tallies.{count_of}
 use Rattle.policy_text.specs.declared.policy.ChainPolicy.{ChainPolicy}
 use Rattle.policy_text.specs.declared.policy.FunctionDecl.{FunctionDecl}
-use Rattle.chain_service.specs.NamedFunctions.{named_lines}
-use Rattle.chain_service.specs.Opening.{pieces_in}
-use Rattle.chain_service.specs.declared.named.NamedFunction.{NamedFunction}
-use Rattle.chain_service.specs.declared.service.ServiceChain.{ServiceChain}
+use Rattle.capture_report.specs.ChainService.{named_lines}
+use Rattle.capture_report.specs.ChainServiceProofs.{NamedFunction, ServiceChain, pieces_in}
 use Rattle.capture_report.specs.Report.{chain_lines, copies_lines, function_lines, last_line, state_text, total_line}
 use Rattle.capture_report.specs.Telling.{told_text}
 use Rattle.capture_report.specs.declared.ended.Ended.{Ended}

@@ -6,8 +6,8 @@ use Rattle.nfp_outside.specs.declared.slot.Slot.{Slot}
 use Rattle.nfp_outside.specs.Outside.{SlotView}
 use Rattle.capture_bytes.specs.declared.packet.PcapRecord.{PcapRecord}
 use Rattle.service_walk.specs.Service.{Classed}
-use Rattle.burst_walk.specs.Fates.{all_classed, chains_behind, fates_of}
-use Rattle.burst_walk.specs.Leading.{LeadsEach}
+use Rattle.capture_report.specs.BurstWalk.{all_classed, chains_behind, fates_of}
+use Rattle.capture_report.specs.BurstWalkProofs.{LeadsEach}
 use Rattle.capture_run.specs.Passing.{Advances, IsTold, PassBreaks, Passes, chains_in, fates_next, lines_next, next_number, out_next, packets_next}
 use Rattle.capture_report.specs.Report.{drop_lines, is_gone, names_among}
 use Rattle.capture_run.specs.Slots.{Breaks, Puts}

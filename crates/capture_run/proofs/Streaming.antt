@@ -3,7 +3,7 @@ use Rattle.std.proofs.Common.{◌≡◌, ◌+◌, ◌∙◌, ℕ, suc, List, [],
 use Rattle.capture_bytes.specs.declared.packet.PcapRecord.{PcapRecord}
 use Rattle.chain_walk.specs.declared.walk.Fate.{Fate}
 use Rattle.classifier.specs.declared.burst.Item.{Item}
-use Rattle.burst_walk.specs.Leading.{records_of}
+use Rattle.capture_report.specs.BurstWalkProofs.{records_of}
 use Rattle.capture_run.specs.Emitted.{emitted}
 use Rattle.capture_run.specs.Streams.{emitted_among, held_in, records_in, spelled_with}
 use Rattle.capture_run.specs.declared.given.Given.{Given}

@@ -7,12 +7,10 @@ use Rattle.packet_fields.specs.declared.field.Field.{Field}
 use Rattle.piece_walk.specs.Pieces.{Piece, functions_in}
 use Rattle.service_walk.specs.Service.{Classed, at_chain, packets_in}
 use Rattle.packet_version.specs.Tallies.{count_of, raised}
-use Rattle.segment_run.specs.Counting.{copies_through}
-use Rattle.chain_service.specs.NamedFunctions.{named_behaviour}
-use Rattle.chain_service.specs.Opening.{IsOpeningChain, chains_of, pieces_in}
-use Rattle.chain_service.specs.declared.named.NamedFunction.{NamedFunction}
-use Rattle.chain_service.specs.declared.service.ServiceChain.{ServiceChain}
-use Rattle.burst_walk.specs.Leading.{LeadsChain, LeadsEach}
+use Rattle.capture_report.specs.SegmentRun.{copies_through}
+use Rattle.capture_report.specs.ChainService.{named_behaviour}
+use Rattle.capture_report.specs.ChainServiceProofs.{IsOpeningChain, NamedFunction, ServiceChain, chains_of, pieces_in}
+use Rattle.capture_report.specs.BurstWalkProofs.{LeadsChain, LeadsEach}
 use Rattle.capture_report.specs.Report.{chain_lines, copies_due, copies_lines, last_line, summary, total_line}
 use Rattle.capture_report.specs.Telling.{told_text}
 use Rattle.capture_report.specs.declared.ended.Ended.{Ended}

@@ -15,7 +15,7 @@ use Rattle.policy_text.specs.declared.clause.Match.{Match}
 use Rattle.classifier.specs.Classes.{class_of}
 use Rattle.classifier.specs.Cutting.{Cutting, with_packet, closes, closed_now, after}
 use Rattle.classifier.specs.declared.burst.Item.{Item}
-use Rattle.burst_walk.specs.Leading.{IsClassed}
+use Rattle.capture_report.specs.BurstWalkProofs.{IsClassed}
 use Rattle.capture_report.specs.declared.fault.FormatFault.{FormatFault}
 use Rattle.capture_run.specs.Passing.{Ends, IsFresh, IsTold, PassBreaks, Passes, StopBreaks, StopEnds, TakeBreaks, Takes, chains_in, fates_next}
 use Rattle.capture_report.specs.Report.{is_gone}

@@ -11,9 +11,8 @@ use Rattle.chain_walk.specs.Packets.{Packet}
 use Rattle.piece_walk.specs.PiecePackets.{pieces_after}
 use Rattle.piece_walk.specs.Pieces.{Piece, long}
 use Rattle.service_walk.specs.Service.{Classed, chains_after, fates_among, is_of, packets_in, served}
-use Rattle.chain_service.specs.NamedFunctions.{named_behaviour}
-use Rattle.chain_service.specs.Services.{Chains}
-use Rattle.burst_walk.specs.Fates.{all_classed, chains_behind, classed, fates_of}
+use Rattle.capture_report.specs.ChainService.{Chains, named_behaviour}
+use Rattle.capture_report.specs.BurstWalk.{all_classed, chains_behind, classed, fates_of}
 
 -- more packets go through the pieces as those before them left them
 pub pieces_more : {F : Type 0} (b : Behaviour F) (pieces : List (Piece F)) (xs ys : List Packet) → pieces_after b pieces (xs ++ ys) ≡ pieces_after b (pieces_after b pieces xs) ys

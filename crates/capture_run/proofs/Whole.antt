@@ -7,8 +7,8 @@ use Rattle.nfp_outside.specs.Outside.{SlotView}
 use Rattle.capture_report.specs.declared.fault.FormatFault.{FormatFault}
 use Rattle.capture_bytes.specs.declared.packet.PcapRecord.{PcapRecord}
 use Rattle.capture_bytes.specs.declared.packet.Unit.{Unit as TimeUnit}
-use Rattle.chain_service.specs.Services.{Chains}
-use Rattle.burst_walk.specs.Fates.{all_classed, chains_behind, fates_of}
+use Rattle.capture_report.specs.ChainService.{Chains}
+use Rattle.capture_report.specs.BurstWalk.{all_classed, chains_behind, fates_of}
 use Rattle.capture_report.specs.Report.{copies_due, drop_lines, is_gone, names_among, report_bytes, report_of, summary, title}
 use Rattle.capture_run.specs.Slots.{Breaks, Puts}
 use Rattle.capture_run.specs.declared.fault.RunFault.{RunFault}

@@ -7,3 +7,13 @@ pub mod Running
 pub mod Slots
 pub mod Sources
 pub mod Streams
+pub mod BurstWalk
+pub mod BurstWalkProofs
+pub mod CaptureReport
+pub mod CaptureReportProofs
+pub mod ChainService
+pub mod ChainServiceProofs
+pub mod FormatFaultVariants
+pub mod GraphRun
+pub mod NetFunctions
+pub mod SegmentRun

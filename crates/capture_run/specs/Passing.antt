@@ -7,10 +7,10 @@ use Rattle.chain_walk.specs.declared.walk.Fate.{Fate}
 use Rattle.service_walk.specs.Service.{Classed}
 use Rattle.classifier.specs.Cutting.{Cutting}
 use Rattle.classifier.specs.declared.burst.Item.{Item}
-use Rattle.chain_service.specs.Opening.{chains_of, fits_of, IsOpeningChain}
-use Rattle.chain_service.specs.Services.{Chains}
-use Rattle.burst_walk.specs.Fates.{all_classed, chains_behind, fates_of}
-use Rattle.burst_walk.specs.Leading.{IsClassed, LeadsEach}
+use Rattle.capture_report.specs.ChainServiceProofs.{IsOpeningChain, chains_of, fits_of}
+use Rattle.capture_report.specs.ChainService.{Chains}
+use Rattle.capture_report.specs.BurstWalk.{all_classed, chains_behind, fates_of}
+use Rattle.capture_report.specs.BurstWalkProofs.{IsClassed, LeadsEach}
 use Rattle.capture_report.specs.Report.{drop_lines, is_gone, names_among}
 use Rattle.capture_report.specs.declared.fault.FormatFault.{FormatFault}
 use Rattle.capture_run.specs.Slots.{Puts, Breaks}

@@ -5,8 +5,8 @@ use Rattle.nfp_outside.specs.declared.slot.Slot.TheVariants.{Out, Report}
 use Rattle.nfp_outside.specs.Outside.{SlotView}
 use Rattle.capture_bytes.specs.declared.packet.Unit.{Unit as TimeUnit}
 use Rattle.chain_walk.specs.declared.walk.Fate.{Fate}
-use Rattle.chain_service.specs.Services.{Chains}
-use Rattle.burst_walk.specs.Fates.{fates_of}
+use Rattle.capture_report.specs.ChainService.{Chains}
+use Rattle.capture_report.specs.BurstWalk.{fates_of}
 use Rattle.capture_run.specs.Passing.{Passes, out_next, lines_next}
 use Rattle.capture_report.specs.Report.{is_gone, report_of}
 use Rattle.capture_run.specs.Slots.{IsLater, Puts, PutsPrefixes, IsBroken}

@@ -3,7 +3,7 @@ ghost use Rattle.std.specs.Prelude.{◌≡◌, ◌≢◌, ◌<◌, ◌^◌, [], 
 ghost use Rattle.nfp_outside.specs.declared.slot.Slot.{Slot};
 ghost use Rattle.chain_walk.specs.declared.walk.Fate.TheVariants.{Out};
 ghost use Rattle.capture_run.specs.Emitted.{emitted, emitted_record, wire_after};
-ghost use Rattle.burst_walk.specs.Leading.{IsWritable, ended, all_ended};
+ghost use Rattle.capture_report.specs.BurstWalkProofs.{IsWritable, all_ended, ended};
 ghost use Rattle.capture_run.specs.Slots.{Puts, Breaks};
 ghost use Rattle.capture_run.specs.Streams.{emitted_among, held_in, spelled_with};
 

@@ -27,7 +27,6 @@ mod source;
 mod summary;
 mod write;
 
-pub use burst_walk::{MergeWay, Mergers, Merging};
 pub use fault::{RunFault, SourceFault};
 pub use given::Given;
 pub use ng::{Beside, NgSource, NgWriter, OtherBlock};
@@ -35,3 +34,9 @@ pub use pcap::NoBlock;
 pub use run::run_capture;
 pub use sink::Sink;
 pub use source::Source;
+
+// What a service is, how a burst walks through it and what is told of it, for the crates above.
+pub use capture_report::{
+    Ended, FormatFault, MergeWay, Mergers, Merging, Service, ServiceChain, Totals, capture_line,
+    make_service, ng_line, totals_line,
+};

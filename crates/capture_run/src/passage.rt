@@ -1,7 +1,7 @@
 //! The way of a capture through the chains of a service, burst by burst.
 ghost use Rattle.std.specs.Prelude.{◌≡◌, ◌≢◌, ◌≤◌, ◌<◌, ◌+◌, ◌^◌, All, IfErr, IfOk, IsSome, length};
 ghost use Rattle.nfp_outside.specs.declared.slot.Slot.{Slot};
-ghost use Rattle.burst_walk.specs.Leading.{IsClassed};
+ghost use Rattle.capture_report.specs.BurstWalkProofs.{IsClassed};
 ghost use Rattle.capture_run.specs.Passing.{IsTold, PassBreaks, Passes};
 ghost use Rattle.capture_run.specs.Streams.{held_in};
 
@@ -9,10 +9,8 @@ use crate::emit::put_emitted;
 use crate::fault::RunFault;
 use crate::sink::Sink;
 use crate::write::put_text;
-use burst_walk::{Merging, walk_burst};
 use capture_bytes::Unit;
-use capture_report::{Totals, burst_lines, count_gone};
-use chain_service::Service;
+use capture_report::{Merging, Service, Totals, burst_lines, count_gone, walk_burst};
 use classifier::Burst;
 use nfp_outside::{Desk, Gate};
 use std::alloc::Global;

@@ -1,7 +1,7 @@
 //! Runs a capture through the chains of a service.
 ghost use Rattle.std.specs.Prelude.{◌≡◌, ◌≢◌, ◌≤◌, ◌<◌, true, IfErr, IfOk, IsSome};
 ghost use Rattle.nfp_outside.specs.declared.slot.Slot.{Slot};
-ghost use Rattle.chain_service.specs.Opening.{IsOpening, chains_of};
+ghost use Rattle.capture_report.specs.ChainServiceProofs.{IsOpening, chains_of};
 ghost use Rattle.capture_run.specs.Running.{WritesAll, WriteBreaks};
 
 use crate::fault::RunFault;
@@ -11,10 +11,8 @@ use crate::sink::Sink;
 use crate::source::Source;
 use crate::summary::put_summary;
 use crate::write::put_text;
-use burst_walk::Merging;
 use capture_bytes::Unit;
-use capture_report::{Ended, TITLE, Totals};
-use chain_service::Service;
+use capture_report::{Ended, Merging, Service, TITLE, Totals};
 use nfp_outside::{Desk, Gate};
 use std::alloc::Global;
 use std::rt::Clock;

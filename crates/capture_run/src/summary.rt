@@ -4,10 +4,9 @@ ghost use Rattle.std.specs.List.{flat_map};
 ghost use Rattle.nfp_outside.specs.declared.slot.Slot.{Slot};
 ghost use Rattle.piece_walk.specs.Pieces.{functions_in};
 ghost use Rattle.packet_version.specs.Tallies.{count_of};
-ghost use Rattle.segment_run.specs.Segments.{pieces_of};
-ghost use Rattle.chain_service.specs.Opening.{pieces_in};
-ghost use Rattle.chain_service.specs.StateRows.{named_rows};
-ghost use Rattle.chain_service.specs.NamedFunctions.{named_lines};
+ghost use Rattle.capture_report.specs.SegmentRun.{pieces_of};
+ghost use Rattle.capture_report.specs.ChainServiceProofs.{named_rows, pieces_in};
+ghost use Rattle.capture_report.specs.ChainService.{named_lines};
 ghost use Rattle.capture_report.specs.Report.{chain_lines, copies_lines, function_lines, state_text, total_line};
 ghost use Rattle.capture_report.specs.Telling.{told_text};
 ghost use Rattle.capture_run.specs.Slots.{Breaks, Gathers, Puts};
@@ -15,14 +14,11 @@ ghost use Rattle.capture_run.specs.Slots.{Breaks, Gathers, Puts};
 use crate::fault::RunFault;
 use crate::write::put_text;
 use capture_report::{
-    Ended, Totals, function_named, push_copies_lines, push_function_line, push_last_line,
-    push_totals_line,
+    Ended, Function, NamedFunction, Piece, ServiceChain, Totals, function_named, push_copies_lines,
+    push_function_line, push_last_line, push_totals_line,
 };
-use chain_service::{NamedFunction, ServiceChain};
-use net_functions::Function;
 use nfp_outside::Desk;
 use policy_text::{ChainPolicy, FunctionDecl};
-use segment_run::Piece;
 use std::alloc::{AllocError, Global};
 
 /// From how many bytes on it is put what was gathered, and how many more may come meanwhile without more memory.

@@ -5,7 +5,7 @@ use Rattle.std.specs.List.{flat_map}
 use Rattle.std.specs.Option.{option_map_or}
 use Rattle.std.proofs.lemmas.List.{drop_all, drop_more}
 use Rattle.policy_text.specs.declared.policy.FunctionDecl.{FunctionDecl}
-use Rattle.net_functions.specs.Builds.{function_of}
+use Rattle.segment_run.specs.NetFunctions.{function_of}
 use Rattle.segment_run.specs.Segments.{pieces_of}
 use Rattle.chain_service.specs.Cutting.{GoesOn, closed, cut_with, with_all, with_declared}
 use Rattle.chain_service.specs.Services.{cut, declared_at, pieces_at, with_made}

@@ -2,7 +2,7 @@
 use Rattle.std.specs.Prelude.{◌≡◌, ◌≤◌, ◌+◌, ℕ, List, [], ◌∷◌, ◌++◌, length, slice_get}
 use Rattle.std.specs.Option.{option_map_or}
 use Rattle.policy_text.specs.declared.policy.FunctionDecl.{FunctionDecl}
-use Rattle.net_functions.specs.Builds.{function_of}
+use Rattle.segment_run.specs.NetFunctions.{function_of}
 use Rattle.piece_walk.specs.Pieces.{Piece}
 use Rattle.segment_run.specs.Segments.{pieces_of}
 use Rattle.chain_service.specs.Services.{compiled, with_first, with_made}

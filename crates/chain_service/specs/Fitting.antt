@@ -3,7 +3,7 @@ use Rattle.std.specs.Prelude.{List, [], ◌∷◌, Option, Some, None}
 use Rattle.std.specs.List.{AllZip, zip}
 use Rattle.graph_compile.specs.Facts.{IsFull, IsLawful}
 use Rattle.graph_compile.specs.declared.graph.Graph.{Graph as StagedGraph}
-use Rattle.graph_run.specs.Running.{profiles_of}
+use Rattle.segment_run.specs.GraphRun.{profiles_of}
 use Rattle.graph_text.specs.Chains.{profiles_in}
 use Rattle.piece_walk.specs.Pieces.{Piece, Graph, Whole}
 use Rattle.policy_check.specs.declared.fault.Order.{Order}

@@ -7,3 +7,7 @@ pub mod Opening
 pub mod Services
 pub mod StateRows
 pub mod Taking
+pub mod GraphRun
+pub mod NetFunctions
+pub mod SegmentRun
+pub mod SegmentRunProofs

@@ -1,15 +1,13 @@
 //! A chain that is being cut into pieces, from its first function on.
 ghost use Rattle.std.specs.Prelude.{◌≡◌, ◌≤◌, length, IfOk};
-ghost use Rattle.graph_run.specs.Running.{profiles_of};
+ghost use Rattle.segment_run.specs.GraphRun.{profiles_of};
 ghost use Rattle.chain_service.specs.Services.{stages_of};
 
 use crate::named::NamedFunction;
 use action_profile::Profile;
 use graph_compile::compile;
-use graph_run::Running;
-use net_functions::{Function, Made};
 use policy_text::Name;
-use segment_run::Piece;
+use segment_run::{Function, Made, Piece, Running};
 use std::alloc::{AllocError, Global};
 
 /// A chain that is cut so far: the pieces that are whole, and the functions behind them, which stand in the next one.

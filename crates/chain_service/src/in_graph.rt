@@ -6,8 +6,7 @@ ghost use Rattle.chain_service.specs.Services.{by_graph, in_graph};
 
 use crate::named::NamedFunction;
 use graph_compile::Graph;
-use graph_run::Running;
-use segment_run::Piece;
+use segment_run::{Piece, Running};
 use std::alloc::AllocError;
 
 /// The pieces of a chain. One of a single piece runs in the graph that was written for it, if one was.

@@ -19,3 +19,8 @@ mod service;
 pub use named::NamedFunction;
 pub use pieces::ChainPieces;
 pub use service::{Service, ServiceChain, make_service};
+
+// What a chain's pieces are and how they run, for the crates above.
+pub use segment_run::{
+    Function, MergeWay, Piece, bursts_are_counted_in_a_row, piece_grows_little, run_pieces,
+};

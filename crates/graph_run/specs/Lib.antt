@@ -7,3 +7,4 @@ pub mod Staging
 pub mod Stages
 pub mod Leading
 pub mod Settling
+pub mod NfObserve

@@ -7,10 +7,9 @@ use Rattle.nfp_outside.specs.Outside.{SlotView}
 use Rattle.pcap_io.specs.declared.capture.CaptureFault.{CaptureFault}
 use Rattle.pcap_io.specs.declared.capture.CaptureFault.TheVariants.{BadMagic, BadVersion, BadLink, CutHead, CutRecord, FrameTooLong, TooManyRecords}
 use Rattle.pcapng_io.specs.Blocks.{is_of_first_block}
-use Rattle.capture_report.specs.declared.ended.Ended.{Ended}
-use Rattle.capture_report.specs.declared.ended.Totals.{Totals}
-use Rattle.capture_report.specs.declared.fault.FormatFault.{FormatFault}
-use Rattle.capture_report.specs.declared.fault.FormatFault.TheVariants as formats
+use Rattle.capture_run.specs.CaptureReportProofs.{Ended, Totals}
+use Rattle.capture_run.specs.CaptureReport.{FormatFault}
+use Rattle.capture_run.specs.FormatFaultVariants as formats
 use Rattle.capture_run.specs.Slots.{IsBroken}
 use Rattle.capture_run.specs.Sources.{IsOpeningFault}
 use Rattle.capture_run.specs.declared.fault.RunFault.{RunFault}

@@ -16,11 +16,11 @@ use Rattle.graph_text.specs.Graphs.{no_graph}
 use Rattle.policy_judge.specs.declared.judged.Judged.{Judged}
 use Rattle.policy_judge.specs.Judging.{judged}
 use Rattle.command_words.specs.declared.requests.DemoInput.{DemoInput}
-use Rattle.chain_service.specs.Services.{Chains, service_among, service_of}
+use Rattle.capture_run.specs.ChainService.{Chains, service_among, service_of}
 use Rattle.demo_capture.specs.declared.summary.Summary.{Summary}
 use Rattle.demo_capture.specs.DemoCapture.{policy_text, policy_lines, demo_head, demo_records, whole_body}
-use Rattle.burst_walk.specs.Fates.{fates_of}
-use Rattle.capture_report.specs.declared.ended.Ended.{Ended}
+use Rattle.capture_run.specs.BurstWalk.{fates_of}
+use Rattle.capture_run.specs.CaptureReportProofs.{Ended}
 use Rattle.capture_run.specs.Formats.{pcap_spelled, pcap_stream}
 use Rattle.capture_run.specs.Running.{Counts, WritesAll}
 use Rattle.capture_run.specs.Slots.{Puts}

@@ -16,13 +16,12 @@ use Rattle.pcapng_io.specs.declared.place.Place.{Place}
 use Rattle.chain_walk.specs.declared.walk.Fate.{Fate}
 use Rattle.command_words.specs.declared.requests.RunOptions.{RunOptions}
 use Rattle.command_words.specs.Words.{Names, Run}
-use Rattle.chain_service.specs.Services.{Chains}
-use Rattle.capture_report.specs.declared.ended.Ended.{Ended}
-use Rattle.capture_report.specs.declared.ended.Totals.{Totals}
+use Rattle.capture_run.specs.ChainService.{Chains}
+use Rattle.capture_run.specs.CaptureReportProofs.{Ended, Totals}
 use Rattle.capture_run.specs.declared.fault.RunFault.{RunFault}
 use Rattle.capture_run.specs.declared.fault.RunFault.TheVariants as faults
-use Rattle.capture_report.specs.declared.fault.FormatFault.{FormatFault}
-use Rattle.capture_report.specs.declared.fault.FormatFault.TheVariants as formats
+use Rattle.capture_run.specs.CaptureReport.{FormatFault, is_gone}
+use Rattle.capture_run.specs.FormatFaultVariants as formats
 use Rattle.capture_run.specs.Formats.{PacketBeside, ng_left, ng_stream}
 use Rattle.capture_run.specs.Running.{Counts}
 use Rattle.capture_run.specs.Streams.{Stream}
@@ -36,7 +35,6 @@ use Rattle.nfp_run.specs.Preparing.{Unprepared, chains_prepared, prepared}
 use Rattle.nfp_run.specs.Reading.{IsOfFormat, LeavesAll, Opens, Serves, chains_run, led_stream, opened_led}
 use Rattle.nfp_run.specs.declared.prepared.Prepared.{Prepared}
 use Rattle.nfp_run.specs.Notes.{done_text}
-use Rattle.capture_report.specs.Report.{is_gone}
 use Rattle.nfp_run.specs.Written.{both, Led, led_ng, led_pcap, Written}
 use Rattle.nfp_run.specs.declared.read.Opened.{Opened}
 use Rattle.nfp_run.specs.declared.read.Opened.TheVariants.{Pcap, Ng}

@@ -16,11 +16,11 @@ use Rattle.pcapng_io.specs.declared.item.NgItem.{NgItem}
 use Rattle.pcapng_io.specs.declared.item.NgItem.TheVariants.{Packet, Section, Interface, Carried}
 use Rattle.chain_walk.specs.declared.walk.Fate.{Fate}
 use Rattle.chain_walk.specs.declared.walk.Fate.TheVariants.{Out, Gone}
-use Rattle.chain_service.specs.Services.{Chains}
-use Rattle.burst_walk.specs.Fates.{fates_of}
-use Rattle.capture_report.specs.Report.{is_gone, report_of}
-use Rattle.capture_report.specs.declared.ended.Ended.{Ended}
-use Rattle.capture_report.specs.declared.fault.FormatFault.TheVariants as formats
+use Rattle.capture_run.specs.ChainService.{Chains}
+use Rattle.capture_run.specs.BurstWalk.{fates_of}
+use Rattle.capture_run.specs.CaptureReport.{is_gone, report_of}
+use Rattle.capture_run.specs.CaptureReportProofs.{Ended}
+use Rattle.capture_run.specs.FormatFaultVariants as formats
 use Rattle.capture_run.specs.Emitted.{emitted, emitted_all, emitted_record, out_bytes}
 use Rattle.capture_run.specs.EmittedNg.{ng_out_bytes, records_among}
 use Rattle.capture_run.specs.Formats.{PacketBeside, ng_given, ng_spelled, ng_stream, pcap_given, pcap_spelled, pcap_stream}

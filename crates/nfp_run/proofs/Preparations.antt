@@ -20,8 +20,8 @@ use Rattle.policy_judge.specs.Orders.{IsOrdered}
 use Rattle.policy_judge.specs.declared.fault.Refusal.{Refusal}
 use Rattle.policy_judge.specs.declared.judged.Judged.{Judged}
 use Rattle.policy_text.specs.declared.policy.ChainPolicy.{ChainPolicy}
-use Rattle.chain_service.specs.Fitting.{FitAll}
-use Rattle.chain_service.specs.Services.{Chains}
+use Rattle.capture_run.specs.ChainServiceProofs.{FitAll}
+use Rattle.capture_run.specs.ChainService.{Chains}
 use Rattle.nfp_run.specs.Answers.{HasPolicy, WhereTexts}
 use Rattle.nfp_run.specs.Plan.{plan_text}
 use Rattle.nfp_run.specs.Preparing.{Unprepared, chains_prepared, prepared, prepared_by, prepared_with}

@@ -4,14 +4,13 @@ use Rattle.std.specs.Prelude.{false, true, Option, Some, None, IfErr, IfSome, Re
 use Rattle.nfp_outside.specs.declared.slot.Slot.{Slot}
 use Rattle.nfp_outside.specs.declared.slot.Slot.TheVariants as slots
 use Rattle.nfp_outside.specs.Outside.{SlotView}
-use Rattle.capture_report.specs.FaultLines.{capture_text, ng_text}
-use Rattle.capture_report.specs.declared.ended.Ended.{Ended}
-use Rattle.capture_report.specs.declared.fault.FormatFault.{FormatFault}
-use Rattle.capture_report.specs.declared.fault.FormatFault.TheVariants as formats
+use Rattle.capture_run.specs.CaptureReport.{FormatFault, capture_text, ng_text}
+use Rattle.capture_run.specs.CaptureReportProofs.{Ended}
+use Rattle.capture_run.specs.FormatFaultVariants as formats
 use Rattle.capture_run.specs.Slots.{IsBroken}
 use Rattle.capture_run.specs.declared.fault.RunFault.{RunFault}
 use Rattle.capture_run.specs.declared.fault.RunFault.TheVariants as faults
-use Rattle.chain_service.specs.Services.{Chains}
+use Rattle.capture_run.specs.ChainService.{Chains}
 use Rattle.command_words.specs.declared.requests.RunOptions.{RunOptions}
 use Rattle.command_words.specs.Words.{Names, Run}
 use Rattle.graph_text.specs.declared.fault.GraphFault.{GraphFault}

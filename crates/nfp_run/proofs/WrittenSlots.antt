@@ -4,7 +4,7 @@ use Rattle.std.specs.Prelude.{Option, Some, None, IfOk, IfErr, IfSome, IsErrAnd,
 use Rattle.nfp_outside.specs.declared.slot.Slot.{Slot}
 use Rattle.nfp_outside.specs.declared.slot.Slot.TheVariants as slots
 use Rattle.nfp_outside.specs.Outside.{SlotView, Attaches, KeepsSlot}
-use Rattle.capture_report.specs.declared.ended.Ended.{Ended}
+use Rattle.capture_run.specs.CaptureReportProofs.{Ended}
 use Rattle.capture_run.specs.declared.fault.RunFault.{RunFault}
 use Rattle.capture_run.specs.Slots.{Puts, PutsPrefixes}
 use Rattle.nfp_run.specs.Answers.{Leaves, LeavesPrefixes}

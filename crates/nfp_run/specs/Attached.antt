@@ -3,7 +3,7 @@ use Rattle.std.specs.Prelude.{◌≡◌, IsSome, Result, Ok, Err}
 use Rattle.nfp_outside.specs.declared.slot.Slot.{Slot}
 use Rattle.nfp_outside.specs.declared.slot.Slot.TheVariants as slots
 use Rattle.nfp_outside.specs.Outside.{SlotView, IsRisen, KeepsSlot}
-use Rattle.capture_report.specs.declared.ended.Ended.{Ended}
+use Rattle.capture_run.specs.CaptureReportProofs.{Ended}
 use Rattle.capture_run.specs.declared.fault.RunFault.{RunFault}
 use Rattle.capture_run.specs.declared.fault.RunFault.TheVariants.{ReadFault, WriteFault, OutOfMemory}
 use Rattle.nfp_run.specs.Answers.{BothAttached}

@@ -7,12 +7,10 @@ use Rattle.nfp_run.specs.declared.outcome.Outcome.{Outcome}
 use Rattle.nfp_run.specs.declared.outcome.Outcome.TheVariants.{Done, Usage, Policy, Graph, Capture, CaptureNg, ReadFault, WriteFault, OutOfMemory}
 use Rattle.nfp_run.specs.declared.ending.Ending.{Ending}
 use Rattle.nfp_run.specs.declared.ending.Ending.TheVariants.{Completed, Shown, Refused, GraphRefused, Stopped}
-use Rattle.capture_report.specs.declared.ended.Totals.{Totals}
-use Rattle.capture_report.specs.declared.ended.Ended.{Ended}
+use Rattle.capture_run.specs.CaptureReportProofs.{Ended, Totals}
 use Rattle.capture_run.specs.declared.fault.RunFault.{RunFault}
-use Rattle.capture_report.specs.FaultLines.{capture_text, ng_text}
-use Rattle.capture_report.specs.declared.fault.FormatFault.{FormatFault}
-use Rattle.capture_report.specs.declared.fault.FormatFault.TheVariants.{Pcap, Ng}
+use Rattle.capture_run.specs.CaptureReport.{FormatFault, capture_text, ng_text}
+use Rattle.capture_run.specs.FormatFaultVariants.{Ng, Pcap}
 use Rattle.capture_run.specs.Running.{Counts, Goes}
 use Rattle.capture_run.specs.Slots.{IsBroken, Puts, PutsPrefixes}
 use Rattle.capture_run.specs.Sources.{IsOpeningFault}

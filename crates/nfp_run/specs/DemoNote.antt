@@ -4,13 +4,13 @@ use Rattle.nfp_outside.specs.Weights.{weight_of}
 use Rattle.chain_walk.specs.declared.walk.Fate.{Fate}
 use Rattle.command_words.specs.declared.requests.DemoInput.{DemoInput}
 use Rattle.policy_judge.specs.Judging.{judged}
-use Rattle.chain_service.specs.Services.{Chains, service_of}
+use Rattle.capture_run.specs.ChainService.{Chains, service_of}
 use Rattle.demo_capture.specs.declared.summary.Weighed.{Weighed}
 use Rattle.demo_capture.specs.declared.summary.Summary.{Summary}
 use Rattle.demo_capture.specs.DemoCapture.{policy_text, demo_head, demo_records, whole_body}
 use Rattle.demo_capture.specs.Summary.{summary_text}
-use Rattle.burst_walk.specs.Fates.{fates_of}
-use Rattle.capture_report.specs.Report.{is_gone}
+use Rattle.capture_run.specs.BurstWalk.{fates_of}
+use Rattle.capture_run.specs.CaptureReport.{is_gone}
 use Rattle.nfp_run.specs.Written.{Written, written_of}
 
 abbrev pub weighed : List ℕ → Weighed

@@ -16,11 +16,9 @@ use Rattle.nfp_run.specs.declared.outcome.Outcome.{Outcome}
 use Rattle.nfp_run.specs.declared.outcome.Outcome.TheVariants as outcomes
 use Rattle.command_words.specs.declared.usage.UsageFault.{UsageFault}
 use Rattle.command_words.specs.Words.{Command, Run, Plan, Demo, Flows, command_of}
-use Rattle.chain_service.specs.Services.{Chains}
-use Rattle.capture_report.specs.FaultLines.{capture_text, fault_text, ng_text}
-use Rattle.capture_report.specs.Report.{is_gone}
-use Rattle.capture_report.specs.declared.fault.FormatFault.{FormatFault}
-use Rattle.capture_report.specs.declared.fault.FormatFault.TheVariants.{Pcap, Ng}
+use Rattle.capture_run.specs.ChainService.{Chains}
+use Rattle.capture_run.specs.CaptureReport.{FormatFault, capture_text, fault_text, is_gone, ng_text}
+use Rattle.capture_run.specs.FormatFaultVariants.{Ng, Pcap}
 use Rattle.nfp_run.specs.Written.{Files, Led, both, led_ng, led_pcap, neither, out_alone}
 use Rattle.nfp_run.specs.DemoNote.{demo_text}
 use Rattle.nfp_run.specs.Notes.{usage_text, done_text, flows_text}

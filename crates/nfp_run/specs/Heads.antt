@@ -6,7 +6,7 @@ use Rattle.action_profile.specs.declared.kind.Kind.{Kind}
 use Rattle.action_profile.specs.declared.kind.Kind.TheVariants.{Encap}
 use Rattle.pcap_io.specs.declared.capture.CaptureHead.{CaptureHead}
 use Rattle.policy_text.specs.declared.policy.ChainPolicy.{ChainPolicy}
-use Rattle.chain_service.specs.Services.{Chains}
+use Rattle.capture_run.specs.ChainService.{Chains}
 
 -- how many bytes longer a function of this kind may make a frame: a tag has four (IEEE 802.1Q, 9.3), an outer header twenty (RFC 2003, 3.1)
 abbrev pub growth_by : Kind → ℕ

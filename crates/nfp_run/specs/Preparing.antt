@@ -6,7 +6,7 @@ use Rattle.graph_text.specs.declared.fault.GraphFault.{GraphFault}
 use Rattle.policy_judge.specs.Judging.{judged}
 use Rattle.policy_judge.specs.declared.fault.Refusal.{Refusal}
 use Rattle.policy_judge.specs.declared.judged.Judged.{Judged}
-use Rattle.chain_service.specs.Services.{Chains, service_among}
+use Rattle.capture_run.specs.ChainService.{Chains, service_among}
 use Rattle.nfp_run.specs.GraphLines.{graph_line}
 use Rattle.nfp_run.specs.declared.ending.GraphRefusal.{GraphRefusal}
 use Rattle.nfp_run.specs.declared.prepared.Prepared.{Prepared}

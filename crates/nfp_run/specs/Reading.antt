@@ -12,9 +12,9 @@ use Rattle.pcap_io.specs.Capture.{capture_of, IsHeadFault}
 use Rattle.pcap_io.specs.Reader.{reader_at, body_left}
 use Rattle.pcapng_io.specs.Blocks.{blocks_of, is_of_first_block, next_of, start}
 use Rattle.pcapng_io.specs.declared.item.NgItem.{NgItem}
-use Rattle.chain_service.specs.Services.{Chains}
-use Rattle.burst_walk.specs.Fates.{fates_of}
-use Rattle.capture_report.specs.Report.{report_of}
+use Rattle.capture_run.specs.ChainService.{Chains}
+use Rattle.capture_run.specs.BurstWalk.{fates_of}
+use Rattle.capture_run.specs.CaptureReport.{report_of}
 use Rattle.capture_run.specs.Formats.{PacketBeside, is_asked, ng_left, ng_packets, ng_spelled, ng_stream}
 use Rattle.capture_run.specs.Streams.{Stream, emitted_among, records_in}
 use Rattle.policy_judge.specs.declared.fault.JudgeFault.{JudgeFault}
@@ -42,7 +42,7 @@ use Rattle.policy_check.specs.declared.fault.Order.{Order}
 use Rattle.policy_judge.specs.Making.{functions_made}
 use Rattle.policy_judge.specs.Orders.{IsOrdered}
 use Rattle.policy_text.specs.declared.policy.ChainPolicy.{ChainPolicy}
-use Rattle.chain_service.specs.Fitting.{FitAll}
+use Rattle.capture_run.specs.ChainServiceProofs.{FitAll}
 use Rattle.nfp_run.specs.Answers.{HasPolicy, WhereTexts}
 use Rattle.nfp_run.specs.GraphLines.{graph_line}
 use Rattle.nfp_run.specs.Preparing.{ByGraph, Unprepared, chains_prepared, prepared, prepared_with}

@@ -6,13 +6,12 @@ use Rattle.pcap_io.specs.Capture.{Body}
 use Rattle.pcap_io.specs.declared.capture.CaptureHead.{CaptureHead}
 use Rattle.pcapng_io.specs.Blocks.{Blocks}
 use Rattle.chain_walk.specs.declared.walk.Fate.{Fate}
-use Rattle.chain_service.specs.Services.{Chains}
-use Rattle.burst_walk.specs.Fates.{fates_of}
+use Rattle.capture_run.specs.ChainService.{Chains}
+use Rattle.capture_run.specs.BurstWalk.{fates_of}
 use Rattle.capture_run.specs.Emitted.{out_bytes}
 use Rattle.capture_run.specs.EmittedNg.{ng_out_bytes, records_among}
-use Rattle.capture_report.specs.Report.{report_of}
-use Rattle.capture_report.specs.declared.fault.FormatFault.{FormatFault}
-use Rattle.capture_report.specs.declared.fault.FormatFault.TheVariants.{Pcap, Ng}
+use Rattle.capture_run.specs.CaptureReport.{FormatFault, report_of}
+use Rattle.capture_run.specs.FormatFaultVariants.{Ng, Pcap}
 use Rattle.nfp_run.specs.Heads.{growth_of, written_head}
 
 -- What chains write: the bytes of Out and of Report.

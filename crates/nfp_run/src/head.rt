@@ -1,11 +1,11 @@
 //! The head of the capture that is written.
 ghost use Rattle.std.specs.Prelude.{◌≡◌, ◌+◌, min};
 ghost use Rattle.std.specs.List.{sum_by};
-ghost use Rattle.chain_service.specs.Opening.{chains_of};
+ghost use Rattle.capture_run.specs.ChainServiceProofs.{chains_of};
 ghost use Rattle.nfp_run.specs.Heads.{growth_by, growth_in, growth_of, written_head};
 
 use action_profile::{Kind, profile};
-use chain_service::{Service, ServiceChain};
+use capture_run::{Service, ServiceChain};
 use pcap_io::CaptureHead;
 use policy_text::FunctionDecl;
 

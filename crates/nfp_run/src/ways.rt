@@ -1,7 +1,7 @@
 //! How what the branches of a stage give comes together, from the words to the runner.
 ghost use Rattle.std.specs.Prelude.{◌≡◌};
 ghost use Rattle.command_words.specs.Named.{IsInRange};
-ghost use Rattle.burst_walk.specs.Mergers.{number_of};
+ghost use Rattle.capture_run.specs.BurstWalkProofs.{number_of};
 
 use capture_run::{MergeWay, Mergers, Merging};
 use command_words::{RunOptions, Way};

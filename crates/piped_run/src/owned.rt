@@ -3,8 +3,7 @@ ghost use Rattle.std.specs.Prelude.{◌≡◌, suc, [], false, All, IfOk, IfSome
 
 use crate::turn::branch_turn;
 use chain_walk::quiet_functions_keep_to_profiles;
-use graph_run::functions_keep_to_profiles;
-use net_functions::Function;
+use graph_run::{Function, functions_keep_to_profiles};
 use nfp_outside::Gate;
 use packet_messages::Message;
 use packet_version::Version;
@@ -30,7 +29,7 @@ pub(crate) struct OwnedFunctions<F> {
 
 impl<F> Model for OwnedFunctions<F> {
     ghost use Rattle.std.specs.Prelude.{length};
-    ghost use Rattle.nf_observe.specs.declared.note.FlowNote.{FlowNote};
+    ghost use Rattle.graph_run.specs.NfObserve.{FlowNote};
     ghost use Rattle.stream_law.specs.Owned.{PlainOwned};
 
     ghost Value = { PlainOwned F FlowNote };

@@ -20,8 +20,7 @@ use burst_law::{
 };
 use chain_walk::{Fate, quiet_functions_keep_to_profiles};
 use graph_compile::{Graph, Stage};
-use graph_run::functions_keep_to_profiles;
-use net_functions::{FlowNote, Function};
+use graph_run::{FlowNote, Function, functions_keep_to_profiles};
 use nfp_outside::Gate;
 use node_run::{MergeWay, Schedule, most_threads, run_nodes};
 use packet_version::Tally;

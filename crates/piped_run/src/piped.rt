@@ -11,9 +11,8 @@ use chain_walk::Fate;
 use classifier::{Burst, Item};
 use graph_compile::Graph;
 use graph_run::{
-    Running, functions_keep_to_profiles, pieces_are_led_in_a_row, run_gated, run_in_a_row,
+    Function, Running, functions_keep_to_profiles, pieces_are_led_in_a_row, run_gated, run_in_a_row,
 };
-use net_functions::Function;
 use nfp_outside::Gate;
 use node_run::{MergeWay, Schedule};
 use pace::{Lead, Pace};

@@ -13,8 +13,8 @@ use crate::owned::OwnedFunctions;
 use crate::splitting::{places_of, split_branch};
 use action_profile::StageParts;
 use graph_compile::{Branch, Stage};
+use graph_run::Function;
 use item_list::Items;
-use net_functions::Function;
 use node_run::StageWork;
 use std::alloc::{AllocError, Global};
 

@@ -16,3 +16,8 @@ mod sealing;
 pub use laws::{bursts_are_counted_in_a_row, piece_grows_little};
 pub use piece::Piece;
 pub use run::run_pieces;
+
+// What pieces are made of and how they run, for the crates above.
+pub use graph_run::Running;
+pub use net_functions::{FlowNote, Function, Made, NetFunction};
+pub use piped_run::MergeWay;

@@ -2,9 +2,9 @@ use Rattle.std.proofs.Common.{◌∙◌, All, ap, arith, refl, subst, sym}
 use Rattle.packet_version.specs.Tallies.{count_of, raised}
 use Rattle.piece_walk.specs.Kinds.{GrowsLittle}
 use Rattle.piece_walk.specs.PiecePackets.{long_fates, pieces_after}
-use Rattle.segment_run.specs.Counting.{copies_through}
-use Rattle.segment_run.specs.Segments.{functions_count, pieces_of}
-use Rattle.graph_run.specs.Packets.{packets_taken}
+use Rattle.chain_service.specs.SegmentRun.{copies_through}
+use Rattle.chain_service.specs.SegmentRunProofs.{functions_count, pieces_of}
+use Rattle.chain_service.specs.GraphRun.{packets_taken}
 use Rattle.service_walk.specs.Service.{packets_in}
 use Rattle.chain_service.specs.NamedFunctions.{named_behaviour}
 use Rattle.burst_walk.specs.Leading.{IsWritable, classed_items}

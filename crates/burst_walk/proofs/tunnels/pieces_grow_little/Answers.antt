@@ -2,7 +2,7 @@ use Rattle.std.proofs.Common.{All, subst}
 use Rattle.std.proofs.lemmas.List.{take_all}
 use Rattle.std.proofs.lemmas.List.Elements.{All-map, All-more, All-nil}
 use Rattle.piece_walk.specs.Kinds.{GrowsLittle}
-use Rattle.segment_run.specs.Segments.{piece_of}
+use Rattle.chain_service.specs.SegmentRunProofs.{piece_of}
 use Rattle.burst_walk.proofs.tunnels.pieces_grow_little.Goals as goal
 
 pub pieces-init : goal.pieces-init

@@ -1,6 +1,6 @@
 use Rattle.std.proofs.Common.{All, take}
 use Rattle.piece_walk.specs.Kinds.{GrowsLittle}
-use Rattle.segment_run.specs.Segments.{piece_of}
+use Rattle.chain_service.specs.SegmentRunProofs.{piece_of}
 use Rattle.burst_walk.proofs.tunnels.pieces_grow_little.Given as goal
 
 abbrev pub invariant-pieces : goal.invariant-pieces

@@ -3,7 +3,7 @@ use Rattle.std.specs.Prelude.{Some, None}
 use Rattle.std.specs.List.{find}
 use Rattle.std.specs.Option.{option_copied}
 use Rattle.std.specs.Str.{bytes_eq}
-use Rattle.chain_service.specs.declared.named.NamedFunction.{NamedFunction}
+use Rattle.burst_walk.specs.ChainService.{NamedFunction}
 use Rattle.capture_report.proofs.Naming.{found_among, found_so_far, running_in}
 use Rattle.capture_report.proofs.named.function_named.Goals as goal
 

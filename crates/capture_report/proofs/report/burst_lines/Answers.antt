@@ -1,5 +1,5 @@
 use Rattle.std.proofs.Common.{◌+◌, ◌∙◌, ◌++◌, refl, ap, sym, arith}
-use Rattle.chain_service.specs.Opening.{chains_of}
+use Rattle.burst_walk.specs.ChainServiceProofs.{chains_of}
 use Rattle.burst_walk.specs.Leading.{ended}
 use Rattle.capture_report.specs.Report.{drop_line, names_among}
 use Rattle.capture_report.proofs.Dropping.{lines_up_to, no_lines}

@@ -1,5 +1,5 @@
 use Rattle.std.proofs.Common.{◌≡◌, map, take}
-use Rattle.chain_service.specs.Opening.{chains_of}
+use Rattle.burst_walk.specs.ChainServiceProofs.{chains_of}
 use Rattle.burst_walk.specs.Leading.{all_ended}
 use Rattle.capture_report.specs.Report.{drop_lines, names_among}
 use Rattle.capture_report.proofs.report.burst_lines.Given as goal

@@ -1,7 +1,7 @@
 use Rattle.std.proofs.Common.{◌≡◌, [], ◌∷◌, arith, sym, subst}
 use Rattle.std.specs.Prelude.{IsSome}
 use Rattle.capture_run.specs.Emitted.{emitted}
-use Rattle.burst_walk.specs.Leading.{ended}
+use Rattle.capture_report.specs.BurstWalkProofs.{ended}
 use Rattle.capture_run.specs.Slots.{Puts, Breaks}
 use Rattle.capture_run.specs.Streams.{spelled_with}
 use Rattle.capture_run.proofs.Emitting.{emitting_begins, emitting_breaks, emitting_ends, emitting_goes_on}

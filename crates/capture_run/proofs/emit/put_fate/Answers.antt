@@ -1,6 +1,6 @@
 use Rattle.std.proofs.Common.{◌∙◌, [], ap, subst, sym}
 use Rattle.std.specs.Prelude.{Some}
-use Rattle.burst_walk.specs.Leading.{ended}
+use Rattle.capture_report.specs.BurstWalkProofs.{ended}
 use Rattle.capture_run.specs.Emitted.{emitted}
 use Rattle.capture_run.specs.Slots.{Puts}
 use Rattle.capture_run.specs.Streams.{spelled_with}

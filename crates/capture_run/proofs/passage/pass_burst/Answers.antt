@@ -2,7 +2,7 @@ use Rattle.std.proofs.Common.{◌≡◌, ◌+◌, ◌∙◌, [], length, ap, sub
 use Rattle.std.specs.Prelude.{count_by}
 use Rattle.std.proofs.lemmas.List.{length-map}
 use Rattle.std.proofs.lemmas.List.Sums.{count_by-le-length}
-use Rattle.burst_walk.specs.Leading.{all_ended, records_of}
+use Rattle.capture_report.specs.BurstWalkProofs.{all_ended, records_of}
 use Rattle.capture_run.specs.Passing.{packets_next}
 use Rattle.capture_report.specs.Report.{is_gone}
 use Rattle.capture_run.specs.Slots.{Puts, Breaks}

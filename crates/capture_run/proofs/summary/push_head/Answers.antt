@@ -2,7 +2,7 @@ use Rattle.std.proofs.Common.{◌∙◌, ◌++◌, List, ℕ, append_assoc, ap, 
 use Rattle.std.specs.List.{flat_map}
 use Rattle.std.proofs.lemmas.List.{take_all}
 use Rattle.packet_version.specs.Tallies.{count_of}
-use Rattle.chain_service.specs.declared.service.ServiceChain.{ServiceChain}
+use Rattle.capture_report.specs.ChainServiceProofs.{ServiceChain}
 use Rattle.capture_report.specs.Report.{copies_lines}
 use Rattle.capture_run.proofs.Gathering.{up_to}
 use Rattle.capture_run.proofs.summary.push_head.Goals as goal

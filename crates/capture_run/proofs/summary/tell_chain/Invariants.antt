@@ -1,5 +1,5 @@
 use Rattle.piece_walk.specs.Pieces.{functions_in}
-use Rattle.segment_run.specs.Segments.{pieces_of}
+use Rattle.capture_report.specs.SegmentRun.{pieces_of}
 use Rattle.capture_report.specs.Report.{function_lines}
 use Rattle.capture_run.proofs.Gathering.{IsTelling}
 use Rattle.capture_run.proofs.summary.tell_chain.Given as goal

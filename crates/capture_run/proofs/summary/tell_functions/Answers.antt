@@ -1,7 +1,7 @@
 use Rattle.std.proofs.Common.{◌<◌, [], ◌++◌, length, subst, arith}
 use Rattle.piece_walk.specs.Pieces.{functions_in}
-use Rattle.segment_run.specs.Segments.{pieces_of}
-use Rattle.chain_service.specs.Opening.{pieces_in}
+use Rattle.capture_report.specs.SegmentRun.{pieces_of}
+use Rattle.capture_report.specs.ChainServiceProofs.{pieces_in}
 use Rattle.capture_report.specs.Report.{chain_lines}
 use Rattle.capture_run.specs.Slots.{Breaks, Gathers}
 use Rattle.capture_run.proofs.Gathering.{telling_begins, telling_breaks, telling_goes_on}

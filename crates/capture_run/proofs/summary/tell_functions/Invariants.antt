@@ -1,5 +1,5 @@
 use Rattle.piece_walk.specs.Pieces.{functions_in}
-use Rattle.chain_service.specs.Opening.{pieces_in}
+use Rattle.capture_report.specs.ChainServiceProofs.{pieces_in}
 use Rattle.capture_report.specs.Report.{chain_lines}
 use Rattle.capture_run.proofs.Gathering.{IsTelling}
 use Rattle.capture_run.proofs.summary.tell_functions.Given as goal

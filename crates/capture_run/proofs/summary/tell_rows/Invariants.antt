@@ -1,4 +1,4 @@
-use Rattle.chain_service.specs.StateRows.{named_rows}
+use Rattle.capture_report.specs.ChainServiceProofs.{named_rows}
 use Rattle.capture_run.proofs.Gathering.{IsTelling}
 use Rattle.capture_run.proofs.summary.tell_rows.Given as goal
 

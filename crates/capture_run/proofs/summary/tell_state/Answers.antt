@@ -2,8 +2,8 @@ use Rattle.std.proofs.Common.{◌≡◌, ◌∙◌, [], ◌++◌, Some, None, ap
 use Rattle.std.specs.Prelude.{IfErr, OnOk}
 use Rattle.std.specs.Option.{option_copied}
 use Rattle.piece_walk.specs.Pieces.{functions_in}
-use Rattle.segment_run.specs.Segments.{pieces_of}
-use Rattle.chain_service.specs.NamedFunctions.{named_lines}
+use Rattle.capture_report.specs.SegmentRun.{pieces_of}
+use Rattle.capture_report.specs.ChainService.{named_lines}
 use Rattle.capture_report.specs.Report.{state_text}
 use Rattle.capture_run.specs.Slots.{Breaks, Gathers}
 use Rattle.capture_run.proofs.Gathering.{gathers_none, state_found}

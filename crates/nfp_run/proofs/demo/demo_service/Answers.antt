@@ -1,5 +1,5 @@
 use Rattle.std.proofs.Common.{◌≤◌, ◌∙◌, ap, length, map, subst, sym}
-use Rattle.chain_service.specs.Fitting.{FitAll}
+use Rattle.capture_run.specs.ChainServiceProofs.{FitAll}
 use Rattle.graph_text.specs.Graphs.{no_graph}
 use Rattle.nfp_run.proofs.DemoRuns.{policy_short}
 use Rattle.nfp_run.proofs.Preparations.{none_fit}

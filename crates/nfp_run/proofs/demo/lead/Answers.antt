@@ -1,5 +1,5 @@
 use Rattle.std.proofs.lemmas.Result.{IfOk-weaker}
-use Rattle.chain_service.specs.Opening.{chains_of}
+use Rattle.capture_run.specs.ChainServiceProofs.{chains_of}
 use Rattle.nfp_run.proofs.DemoRuns.{demo_put}
 use Rattle.nfp_run.proofs.demo.lead.Goals as goal
 

@@ -1,7 +1,7 @@
 use Rattle.std.proofs.Common.{◌∙◌, ap, sym, subst}
 use Rattle.std.specs.Prelude.{IfSome}
 use Rattle.nfp_outside.specs.declared.slot.Slot.TheVariants.{Capture, Out, Report}
-use Rattle.chain_service.specs.Opening.{chains_of}
+use Rattle.capture_run.specs.ChainServiceProofs.{chains_of}
 use Rattle.nfp_run.specs.Closing.{Left}
 use Rattle.nfp_run.specs.Reading.{opened_led}
 use Rattle.nfp_run.proofs.OtherSlots.{out_is_not_report, report_is_not_out, capture_is_not_out, capture_is_not_report}

@@ -2,7 +2,7 @@ use Rattle.std.proofs.Common.{◌∙◌, ap, subst, sym}
 use Rattle.std.specs.Prelude.{IfSome}
 use Rattle.nfp_outside.specs.declared.slot.Slot.TheVariants.{Capture, Out, Report}
 use Rattle.command_words.specs.Named.{names_seen}
-use Rattle.chain_service.specs.Opening.{chains_of}
+use Rattle.capture_run.specs.ChainServiceProofs.{chains_of}
 use Rattle.nfp_run.specs.Reading.{opened_led}
 use Rattle.nfp_run.specs.Answers.{RunAttaches}
 use Rattle.nfp_run.specs.Closing.{outcome_seen}

@@ -3,7 +3,7 @@ use Rattle.std.specs.Prelude.{IfErr, IsErrAnd, Result, Ok, Err}
 use Rattle.std.proofs.lemmas.Result.{IfErr-weaker, IfOk-weaker}
 use Rattle.nfp_outside.specs.declared.slot.Slot.TheVariants.{Capture}
 use Rattle.pcap_io.specs.Reader.{body_left}
-use Rattle.chain_service.specs.Opening.{chains_of}
+use Rattle.capture_run.specs.ChainServiceProofs.{chains_of}
 use Rattle.capture_run.specs.Formats.{pcap_left, pcap_spelled}
 use Rattle.capture_run.specs.Running.{WriteBreaks, WritesAll}
 use Rattle.capture_run.specs.declared.fault.RunFault.{RunFault}

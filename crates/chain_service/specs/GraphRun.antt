@@ -1,0 +1,3 @@
+-- For proofs: words of graph_run, for the crates above.
+unfoldable pub use Rattle.segment_run.specs.GraphRun.{copies_made}
+pub use Rattle.segment_run.specs.GraphRun.{is_of, packet_of, packets_taken}

@@ -1,0 +1,3 @@
+-- For proofs: words of segment_run, for the crates above.
+pub use Rattle.segment_run.specs.Segments.{functions_count, piece_of, pieces_of}
+pub use Rattle.segment_run.specs.declared.piece.Piece.{Piece}
