@@ -3,7 +3,6 @@ use Rattle.std.proofs.Common.{◌≡◌, ◌<◌, ◌∙◌, ℕ, suc, List, [],
 use Rattle.std.specs.Prelude.{All, IfSome, Option, Some, None}
 use Rattle.std.proofs.lemmas.List.{length-map}
 use Rattle.std.proofs.lemmas.List.Elements.{All-nil, All-cons, All-head, All-tail}
-use Rattle.capture_bytes.specs.Packets.{IsShort}
 use Rattle.capture_bytes.specs.declared.packet.Unit.{Unit as TimeUnit}
 use Rattle.policy_text.specs.declared.clause.Match.{Match}
 use Rattle.policy_text.specs.declared.policy.ChainPolicy.{ChainPolicy}
@@ -33,10 +32,6 @@ packets_told fits chains unit (i ∷ items) told held =
     let own : fits ≡ map (λ (c : ChainPolicy). c.fit) (chains_of chains).declared = told ∙ sym (fits_twice chains) in
     let class : i.class ≡ class_of (map (λ (c : ChainPolicy). c.fit) (chains_of chains).declared) i.packet.frame = (All-head (IsClassed fits) i items held).class ∙ ap (λ l. class_of l i.packet.frame) own in
     λ j. record { class = class j; packet = (classed_item unit i).packet } ∷ packets_told fits chains unit items told (All-tail (IsClassed fits) i items held) j
-
-pub short_items : (fits : List Match) (items : List Item) → All (IsClassed fits) items → All (λ i. IsShort i.packet) items
-short_items fits [] held = All-nil (λ (i : Item). IsShort i.packet)
-short_items fits (i ∷ items) held = All-cons (λ (x : Item). IsShort x.packet) i items (All-head (IsClassed fits) i items held).short (short_items fits items (All-tail (IsClassed fits) i items held))
 
 -- the chain that takes a packet is one of those that are asked
 abbrev pub AreWithin : Type 0

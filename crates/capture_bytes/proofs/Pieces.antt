@@ -5,7 +5,7 @@ use Rattle.std.proofs.Math.Seq.{take-add, take-append-add}
 use Rattle.std.proofs.lemmas.List.{length-take-le, drop-drop}
 use Rattle.nfp_outside.specs.declared.slot.Slot.{Slot}
 use Rattle.nfp_outside.specs.declared.slot.Slot.TheVariants.{Capture}
-use Rattle.nfp_outside.specs.Outside.{SlotView, Reads, Takes, TakesFront}
+use Rattle.nfp_outside.specs.Outside.{SlotView, Reads, Takes}
 use Rattle.capture_bytes.specs.Filling.{Fills, FillsFrom}
 
 -- so many of the bytes that were left are at the front of the buffer
@@ -72,12 +72,3 @@ fills_end slots buffer piece done old mid new so_far room some reads = record {
   same_name = reads.same_name ∙ so_far.same_name;
   told = told_end buffer piece done (slots old Capture).bytes (slots mid Capture) (slots new Capture) so_far.within some reads so_far.told;
 }
-
--- at most as many bytes were taken as the buffer has
-front_taken : (buffer : List ℕ) (done : ℕ) (before : Option (List ℕ)) (new : SlotView) → done ≤ length buffer → MatchOption before (new.bytes ≡ None) (λ bytes. IsFront done bytes buffer new.bytes) →
-    MatchOption before (new.bytes ≡ None) (λ bytes. (k : ℕ) × (k ≤ length buffer) × (new.bytes ≡ Some (drop k bytes)))
-front_taken buffer done None new within told = told
-front_taken buffer done (Some bytes) new within told = (done, within, told.rest)
-
-pub filled_taken : {D : Type 0} (slots : D → Slot → SlotView) (buffer : List ℕ) (done : ℕ) (old new : D) → HasFilled slots buffer done old new → TakesFront (length buffer) (slots old Capture) (slots new Capture)
-filled_taken slots buffer done old new so_far = record { same_name = so_far.same_name; told = front_taken buffer done (slots old Capture).bytes (slots new Capture) so_far.within so_far.told }

@@ -1,5 +1,5 @@
 -- A whole capture is written: the report's first line, the records, and what stands behind the lines.
-use Rattle.std.proofs.Common.{◌≡◌, ◌∙◌, ℕ, List, [], length, refl, subst, arith}
+use Rattle.std.proofs.Common.{◌≡◌, ◌∙◌, ℕ, List, [], length, subst, arith}
 use Rattle.std.specs.Prelude.{count_by, Option}
 use Rattle.nfp_outside.specs.declared.slot.Slot.{Slot}
 use Rattle.nfp_outside.specs.Outside.{SlotView}
@@ -7,7 +7,6 @@ use Rattle.capture_bytes.specs.declared.packet.Unit.{Unit as TimeUnit}
 use Rattle.capture_report.specs.ChainServiceProofs.{IsOpening, Service, chains_of}
 use Rattle.capture_report.specs.ChainService.{Chains}
 use Rattle.capture_report.specs.BurstWalk.{all_classed, fates_of}
-use Rattle.capture_run.specs.Passing.{IsFresh}
 use Rattle.capture_report.specs.Report.{copies_due, is_gone, summary, title}
 use Rattle.capture_run.specs.Running.{Goes, PassesStream, RunBreaks, RunsAll, WriteBreaks, WritesAll, fates_given}
 use Rattle.capture_run.specs.Slots.{Breaks, Puts}
@@ -30,9 +29,6 @@ goes_more old mid new a b = record { out_name = b.out_name ∙ a.out_name; repor
 -- a passage before its first packet
 abbrev pub started : {W : Type 0} → Service → TimeUnit → W → Passage W
 started service unit sink = record { service = service; unit = unit; writer = sink; totals = record { records = 0; dropped = 0 } }
-
-pub fresh_so : {W : Type 0} (service : Service) (unit : TimeUnit) (sink : W) → IsOpening service → IsFresh (started service unit sink)
-fresh_so service unit sink opening = record { records = refl; dropped = refl; opening = opening.chains; told = opening.classes }
 
 -- how a run ended
 abbrev pub ended_so : {W : Type 0} → Passage W × Option FormatFault → Ended

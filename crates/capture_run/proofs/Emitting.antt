@@ -67,13 +67,6 @@ still_left spelled spelled' items beside fates left left' fate index old now at 
     let n : length left ≡ suc (length left') = ap length next in
     omega arith
 
-pub still_beside : {X B : Type 0} (spelled spelled' : Given X B → List ℕ) (items : List Item) (beside : List X) (fates left left' : List (Option Fate)) (fate : Option Fate) (index : ℕ) (old now : Slot → SlotView) →
-    IsEmitting spelled spelled' items beside fates left index old now → left ≡ fate ∷ left' → index < length beside
-still_beside spelled spelled' items beside fates left left' fate index old now at next =
-    let inside = still_left spelled spelled' items beside fates left left' fate index old now at next in
-    let many = at.as_many in
-    omega arith
-
 pub next_writable : {X B : Type 0} (spelled spelled' : Given X B → List ℕ) (items : List Item) (beside : List X) (fates left left' : List (Option Fate)) (fate : Option Fate) (index : ℕ) (old now : Slot → SlotView) →
     IsEmitting spelled spelled' items beside fates left index old now → left ≡ fate ∷ left' → IfSome fate IsWritable
 next_writable spelled spelled' items beside fates left left' fate index old now at next =

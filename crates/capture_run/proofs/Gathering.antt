@@ -29,14 +29,6 @@ gathers_none h old = record { put = []; puts = puts_none old; parts = sym (appen
 pub gathers_pushed : (a h m : List ℕ) (old : Slot → SlotView) → m ≡ h ++ a → Gathers a h m old old
 gathers_pushed a h m old is = record { put = []; puts = puts_none old; parts = is }
 
--- the buffer was put
-pub gathers_put : (h m : List ℕ) (old new : Slot → SlotView) → Puts [] h old new → m ≡ [] → Gathers [] h m old new
-gathers_put h m old new put none = record { put = h; puts = put; parts = ap (λ l. h ++ l) none }
-
--- a text was added, and the buffer was put where it was full
-pub gathers_row : (a h m n : List ℕ) (old new : Slot → SlotView) → m ≡ h ++ a → Gathers [] m n old new → Gathers a h n old new
-gathers_row a h m n old new is handed = record { put = handed.put; puts = handed.puts; parts = handed.parts ∙ append-nil m ∙ is }
-
 pub gathers_more : (a b h m n : List ℕ) (old mid new : Slot → SlotView) → Gathers a h m old mid → Gathers b m n mid new → Gathers (a ++ b) h n old new
 gathers_more a b h m n old mid new first second = record {
   put = first.put ++ second.put;

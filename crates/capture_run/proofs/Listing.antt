@@ -4,9 +4,7 @@ use Rattle.std.specs.Prelude.{count_by, cond, Option}
 use Rattle.std.specs.List.{flat_map, zip, enumerate_from}
 use Rattle.std.proofs.lemmas.Grind.{flat_map-append}
 use Rattle.std.proofs.lemmas.List.Sums.{sum_by-append}
-use Rattle.capture_bytes.specs.declared.packet.PcapRecord.{PcapRecord}
 use Rattle.chain_walk.specs.declared.walk.Fate.{Fate}
-use Rattle.capture_run.specs.Emitted.{emitted, emitted_all}
 use Rattle.capture_report.specs.Report.{ChainNames, drop_line, drop_lines, is_gone}
 
 zip-append : {X Y : Type 0} (xs xs' : List X) (ys ys' : List Y) → length ys ≡ length xs → zip (xs ++ xs') (ys ++ ys') ≡ zip xs ys ++ zip xs' ys'
@@ -25,10 +23,6 @@ enumerate-append : {X : Type 0} (n : ℕ) (xs ys : List X) → enumerate_from n 
 enumerate-append n [] ys = ap (λ m. enumerate_from m ys) (omega arith)
 enumerate-append n (x ∷ xs) ys = ap (λ l. (n, x) ∷ l) (enumerate-append (n + 1) xs ys) ∙ ap (λ m. (n, x) ∷ enumerate_from (n + 1) xs ++ enumerate_from m ys) (omega arith)
 
-pub emitted-append : (spelled : PcapRecord → List ℕ) (xs ys : List PcapRecord) (fs gs : List Fate) → length fs ≡ length xs → emitted_all spelled (xs ++ ys) (fs ++ gs) ≡ emitted_all spelled xs fs ++ emitted_all spelled ys gs
-unfolding emitted_all
-emitted-append spelled xs ys fs gs many = ap (flat_map (λ x. emitted spelled x.0 x.1)) (zip-append xs ys fs gs many) ∙ flat_map-append (λ x. emitted spelled x.0 x.1) (zip xs fs) (zip ys gs)
-
 -- the line of a packet with its number, its chain and where it ended
 abbrev line_at : List ChainNames → ℕ × (Option ℕ × Fate) → List ℕ
 line_at names x = drop_line names x.0 x.1.0 x.1.1
@@ -44,11 +38,6 @@ lines-append names first cs ds fs gs many =
 
 pub gone-append : (fs gs : List Fate) → count_by is_gone (fs ++ gs) ≡ count_by is_gone fs + count_by is_gone gs
 gone-append fs gs = sum_by-append (λ x. cond (is_gone x) 1 0) fs gs
-
--- nothing is put of no records
-pub none_emitted : (spelled : PcapRecord → List ℕ) → emitted_all spelled [] [] ≡ []
-unfolding emitted_all
-none_emitted spelled = refl
 
 pub no_lines : (names : List ChainNames) (first : ℕ) → drop_lines names first [] [] ≡ []
 unfolding drop_lines

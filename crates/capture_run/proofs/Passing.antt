@@ -8,7 +8,7 @@ use Rattle.capture_bytes.specs.declared.packet.PcapRecord.{PcapRecord}
 use Rattle.service_walk.specs.Service.{Classed}
 use Rattle.capture_report.specs.BurstWalk.{all_classed, chains_behind, fates_of}
 use Rattle.capture_report.specs.BurstWalkProofs.{LeadsEach}
-use Rattle.capture_run.specs.Passing.{Advances, IsTold, PassBreaks, Passes, chains_in, fates_next, lines_next, next_number, out_next, packets_next}
+use Rattle.capture_run.specs.Passing.{Advances, PassBreaks, Passes, chains_in, fates_next, lines_next, next_number, out_next, packets_next}
 use Rattle.capture_report.specs.Report.{drop_lines, is_gone, names_among}
 use Rattle.capture_run.specs.Slots.{Breaks, Puts}
 use Rattle.capture_run.specs.Streams.{emitted_among, records_in}
@@ -17,7 +17,7 @@ use Rattle.capture_run.specs.declared.given.Given.{Given}
 use Rattle.capture_run.specs.declared.given.Given.TheVariants.{Block}
 use Rattle.capture_run.specs.declared.passage.Passage.{Passage}
 use Rattle.capture_run.specs.Putting.{breaks_is, breaks_longer, breaks_more, puts_is, puts_more, puts_none}
-use Rattle.capture_run.proofs.Following.{CountsInARow, each_fits, each_more, each_names, each_none}
+use Rattle.capture_run.proofs.Following.{CountsInARow, each_more, each_names, each_none}
 use Rattle.capture_run.proofs.Listing.{gone-append, lines-append, no_lines}
 use Rattle.capture_run.proofs.Streaming.{among-append, none_among, records-append}
 use Rattle.capture_run.proofs.Walking.{chains_behind-append, classed-append, declared_behind, fates_of-append, length-fates_of, no_fates, none_behind}
@@ -147,10 +147,6 @@ longer spelled xs ys p old new e broken =
     (sym ((λ i. drop_lines (names_among (chains_in p)) (next_number p) (classes i) (fates i))
     ∙ lines-append (names_among (chains_in p)) (next_number p) (classes_of (packets_next p front)) (classes_of (packets_next p back)) (fates_next p front) behind (as_many_next p front)))
     (breaks_longer _ _ (emitted_among (spelled p.writer) ys behind) (drop_lines (names_among (chains_in p)) (next_number p + length (fates_next p front)) (classes_of (packets_next p back)) behind) old new e broken)
-
--- the chains' own clauses stay
-pub still_told : {W X B : Type 0} (spelled : W → Given X B → List ℕ) (xs : List PcapRecord) (a b : Passage W) → IsTold a → Advances spelled xs a b → IsTold b
-still_told spelled xs a b told went = went.same_classes ∙ told ∙ sym (each_fits (packets_next a xs) 0 a.service.chains b.service.chains went.led)
 
 -- the records of a burst are put before its lines
 pub records_refused : (out lines : List ℕ) (old new : Slot → SlotView) (e : RunFault) → Breaks out [] old new e → Breaks out lines old new e

@@ -1,6 +1,5 @@
 -- What is given in a row, and what is written of it, is that of each part.
-use Rattle.std.proofs.Common.{◌≡◌, ◌+◌, ◌∙◌, ℕ, suc, List, [], ◌∷◌, ◌++◌, length, refl, ap, sym, append_assoc, arith}
-use Rattle.capture_bytes.specs.declared.packet.PcapRecord.{PcapRecord}
+use Rattle.std.proofs.Common.{◌≡◌, ◌+◌, ◌∙◌, ℕ, List, [], ◌∷◌, ◌++◌, length, refl, ap, sym, append_assoc, arith}
 use Rattle.chain_walk.specs.declared.walk.Fate.{Fate}
 use Rattle.classifier.specs.declared.burst.Item.{Item}
 use Rattle.capture_report.specs.BurstWalkProofs.{records_of}
@@ -40,8 +39,3 @@ among-append spelled (Packet r x ∷ xs) ys (f ∷ fs) gs many =
 pub none_among : {X B : Type 0} (spelled : Given X B → List ℕ) (fs : List Fate) → emitted_among spelled [] fs ≡ []
 unfolding emitted_among
 none_among spelled fs = refl
-
--- a block is written as it is
-pub block_among : {X B : Type 0} (spelled : Given X B → List ℕ) (b : B) (fs : List Fate) → emitted_among spelled (Block b ∷ []) fs ≡ spelled (Block b) ++ []
-unfolding emitted_among
-block_among spelled b fs = refl

@@ -6,13 +6,13 @@ use Rattle.std.specs.Str.{bytes_eq}
 use Rattle.std.proofs.lemmas.Slice.Eq.{bytes_eq-Decides}
 use Rattle.clap.specs.Lexer.{usize_max}
 use Rattle.clap.specs.Walk.{Row, Rule, Text, arg_by_id, arg_by_index, arg_by_long, arg_by_short, has_row, with_default}
-use Rattle.clap.specs.Simple.{App, Shape, new_rule, new_shape, built}
+use Rattle.clap.specs.Simple.{App, Shape, new_rule, new_shape}
 use Rattle.clap.specs.Faults.{defaults_fault}
 use Rattle.clap.specs.Takes.{is_given}
 use Rattle.clap.specs.declared.builder.action.ArgAction.TheVariants.{Set}
 use Rattle.clap.specs.declared.builder.range.ValueRange.{ValueRange}
 use Rattle.clap.specs.declared.builder.value_parser.ValueParser.TheVariants as vp
-use Rattle.command_words.specs.Apps.{run_app, plan_app, demo_app, flows_app, run_names, plan_names, demo_names, flows_names}
+use Rattle.command_words.specs.Apps.{run_names, plan_names, demo_names, flows_names}
 use Rattle.command_words.specs.Given.{contains}
 use Rattle.command_words.specs.Words.{demo_options, flows_options, plan_options, run_options}
 
@@ -47,18 +47,6 @@ shape name rules = record (new_shape name) {
 
 abbrev pub app_with : Text → List Rule → App
 app_with name rules = record { top = shape name rules; subs = [] }
-
-pub run_built : built run_app ≡ app_with run_app.top.name (table run_names run_options)
-run_built = refl
-
-pub plan_built : built plan_app ≡ app_with plan_app.top.name (table plan_names plan_options)
-plan_built = refl
-
-pub demo_built : built demo_app ≡ app_with demo_app.top.name (table demo_names demo_options)
-demo_built = refl
-
-pub flows_built : built flows_app ≡ app_with flows_app.top.name (table flows_names flows_options)
-flows_built = refl
 
 -- ---- the searches
 

@@ -2,8 +2,8 @@
 use Rattle.std.proofs.Common.{◌≡◌, ◌∙◌, ◌<◌, ◌≤◌, ◌+◌, ℕ, zero, suc, Bool, true, false, List, [], ◌∷◌, ◌++◌, map, length, take, drop, get_or, sym, ap, refl, subst, arith, take-append-drop}
 use Rattle.std.specs.Prelude.{if◌then◌else◌, filter, All, count_by}
 use Rattle.std.specs.List.{sum_by, zip}
-use Rattle.std.proofs.lemmas.List.{drop_more, take_more, take_all, length-map, map-append}
-use Rattle.std.proofs.lemmas.List.Sums.{sum_by-cons, count_by-le-length}
+use Rattle.std.proofs.lemmas.List.{drop_more, take_more, length-map, map-append}
+use Rattle.std.proofs.lemmas.List.Sums.{sum_by-cons}
 use Rattle.packet_fields.specs.declared.field.Field.{Field}
 use Rattle.action_profile.specs.declared.rights.Profile.{Profile}
 use Rattle.capture_bytes.specs.declared.packet.Unit.{Unit as TimeUnit}
@@ -19,7 +19,6 @@ use Rattle.graph_compile.specs.declared.graph.Stage.{Stage}
 use Rattle.packet_version.specs.Tallies.{count_of, raised}
 use Rattle.graph_run.specs.Counting.{copies_of, copies_made, RaisesAll, RaisesUpTo}
 use Rattle.graph_run.specs.Packets.{is_of, packet_of, packets_taken}
-use Rattle.graph_run.specs.Rooms.{adders_from}
 use Rattle.graph_run.specs.Running.{IsRunning}
 
 -- packets that walk in a row
@@ -175,24 +174,3 @@ runs_on b graph first now running same = record {
 -- how many of the first functions add a tag
 abbrev pub adders_among : {F : Type 0} → Behaviour F → List F → ℕ → ℕ
 adders_among b fs i = count_by (λ p. p.adds) (map b.profile (take i fs))
-
-pub adders_more : {F : Type 0} (b : Behaviour F) (fs : List F) (i : ℕ) (d : F) → i < length fs → adders_among b fs (i + 1) ≡ adders_among b fs i + (if (b.profile (get_or fs i d)).adds then 1 else 0)
-adders_more b fs i d inside =
-    ap (λ l. count_by (λ p. p.adds) (map b.profile l)) (take_more fs i d inside)
-    ∙ ap (count_by (λ p. p.adds)) (map-append b.profile (take i fs) (get_or fs i d ∷ []))
-    ∙ sum_append (λ p. if p.adds then 1 else 0) (map b.profile (take i fs)) (b.profile (get_or fs i d) ∷ [])
-    ∙ ap (λ n. adders_among b fs i + n) (sum_by-cons (λ p. if p.adds then 1 else 0) (b.profile (get_or fs i d)) [] ∙ no_more (if (b.profile (get_or fs i d)).adds then 1 else 0))
-  where
-    no_more : (n : ℕ) → n + 0 ≡ n
-    no_more n = omega arith
-
-pub adders_few : {F : Type 0} (b : Behaviour F) (fs : List F) (i : ℕ) → adders_among b fs i ≤ i
-adders_few b fs i = let few = count_by-le-length (λ (p : Profile). p.adds) (map b.profile (take i fs)) in let count = length-map (take i fs) b.profile in let short = length-take_le i fs in omega arith
-  where
-    length-take_le : {A : Type 0} (n : ℕ) (xs : List A) → length (take n xs) ≤ n
-    length-take_le zero xs = omega arith
-    length-take_le (suc n) [] = omega arith
-    length-take_le (suc n) (x ∷ xs) = let rest = length-take_le n xs in omega arith
-
-pub adders_all : {F : Type 0} (b : Behaviour F) (fs : List F) (i : ℕ) → length fs ≤ i → adders_among b fs i ≡ adders_from (map b.profile fs) 1
-adders_all b fs i past = ap (λ l. count_by (λ p. p.adds) (map b.profile l)) (take_all i fs past)

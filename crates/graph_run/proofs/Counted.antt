@@ -57,10 +57,6 @@ reached_end stages p is =
     let over : length stages ≤ n = past n (length stages) (nat_lt n (length stages)) refl is in
     sym (take_all (suc n) stages (omega arith)) ∙ sym (reached_drop stages p)
 
--- a stage more
-pub copies_begin : (f : Field) (stages : List Stage) → 0 ≡ min (copies_in (take 0 stages) f) (2 ^ 64 - 1)
-copies_begin f stages = refl
-
 copies_front : (f : Field) (stages : List Stage) (i : ℕ) (d : Stage) → i < length stages → copies_in (take (suc i) stages) f ≡ copies_in (take i stages) f + copies (get_or stages i d).parts f
 copies_front f [] i d inside = absurd (omega arith)
 copies_front f (s ∷ later) zero d inside = let one = sum_by-cons (λ (t : Stage). copies t.parts f) s [] in omega (arith, one)
@@ -80,19 +76,9 @@ copies_next f stages i made more d inside was is =
     let here : min (made + more) (2 ^ 64 - 1) ≡ min (copies_in (take (suc i) stages) f) (2 ^ 64 - 1) = omega (arith, front, was, is) in
     here ∙ ap (λ (k : ℕ). min (copies_in (take k stages) f) (2 ^ 64 - 1)) (sym (behind i))
 
-pub copies_all : (f : Field) (stages : List Stage) (i made : ℕ) → length stages ≤ i → made ≡ min (copies_in (take i stages) f) (2 ^ 64 - 1) → made ≡ min (copies_in stages f) (2 ^ 64 - 1)
-copies_all f stages i made over was = was ∙ ap (λ (l : List Stage). min (copies_in l f) (2 ^ 64 - 1)) (take_all i stages over)
-
--- a count that stops at its end rises as by the whole number
-pub raised_to_end : (c n : ℕ) → raised c (min n (2 ^ 64 - 1)) ≡ raised c n
-raised_to_end c n = omega arith
-
 -- what a packet makes, up to what a count holds
 abbrev pub most_of : List Stage → List ℕ → Fate → Field → ℕ
 most_of stages frame fate f = min (copies_of stages frame fate f) (2 ^ 64 - 1)
-
-pub all_of : (stages : List Stage) (frame : List ℕ) (fate : Fate) (old new : List ℕ) → RaisesAll (most_of stages frame fate) old new → RaisesAll (copies_of stages frame fate) old new
-all_of stages frame fate old new was f = was f ∙ raised_to_end (count_of old f) (copies_of stages frame fate f)
 
 -- a packet more, and those behind it
 zip_none : {A B : Type 0} (xs : List A) → zip {K = A} {X = B} xs [] ≡ []

@@ -188,8 +188,5 @@ stage_fails b graph time frame first now i whole old new newer d gone running wa
     (subst (λ (t : Bool). count_of newer f ≤ raised (count_of new f) (if t then copies s.parts f else 0)) (sym (part_there (packet_parts whole f)) ∙ way.there f) (within f).1)
     all (first_reached s (drop (i + 1) graph.stages) fate f)
 
-pub nothing_made : (by : Field → ℕ) (tally : List ℕ) → RaisesUpTo by tally tally
-nothing_made by tally = λ f. (omega arith, omega arith)
-
 pub all_made : (by : Field → ℕ) (old new : List ℕ) → RaisesAll by old new → RaisesUpTo by old new
 all_made by old new all = λ f. let is = all f in (omega arith, omega arith)

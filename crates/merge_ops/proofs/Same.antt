@@ -53,9 +53,6 @@ same_taken f g arrivals b new d apart is = record {
 pub same_on : (f : Field) (first old new : List Arrival) → SameIn f first old → SameIn f old new → SameIn f first new
 same_on f first old new s t = record { parts = t.parts ∙ s.parts; writes = t.writes ∙ s.writes }
 
-pub same_self : (f : Field) (arrivals : List Arrival) → SameIn f arrivals arrivals
-same_self f arrivals = record { parts = refl; writes = refl }
-
 turned : (b : Bool) (n : ℕ) → (if not b then n else 0) ≡ (if b then 0 else n)
 turned true n = refl
 turned false n = refl
@@ -148,27 +145,6 @@ way_next f i done left part g is here = by_test (is_field f g) refl
     by_test false e =
         ap (λ (b : Bool). if b then part else way i done left g) e
         ∙ sym (way_by (i + 1) done left g (nat_lt (number_of g) i) (lt_other (number_of g) i (λ s. (let t : is_field f g ≡ true = (Decides-eqb (number_of f) (number_of g)).1 (is ∙ sym s) in cc))))
-
-pub way_none : (done left : Parts) → way 0 done left ≡ left
-way_none done left = fun_ext none
-  where
-    none : (g : Field) → way 0 done left g ≡ left g
-    none g = way_by 0 done left g false (grind (arith, nat_tests))
-
-pub way_all : (done left : Parts) → way 10 done left ≡ done
-way_all done left = fun_ext all
-  where
-    all : (g : Field) → way 10 done left g ≡ done g
-    all LinkDst = refl
-    all LinkSrc = refl
-    all Tag = refl
-    all Tos = refl
-    all Ttl = refl
-    all SrcIp = refl
-    all DstIp = refl
-    all SrcPort = refl
-    all DstPort = refl
-    all Payload = refl
 
 abbrev pub on_way : ℕ → PlainApart → List Arrival → PlainApart
 on_way i first arrivals = with_parts first (way i (merged_parts first arrivals) (packet_parts first))

@@ -1,8 +1,7 @@
 -- What a packet with an IPv4 header has, by the tests that it meets.
-use Rattle.std.proofs.Common.{◌≡◌, ◌≤◌, ◌+◌, ◌∙◌, ℕ, List, length, length-drop, Bool, true, false, ◌&&◌, sym, ap, refl, arith}
+use Rattle.std.proofs.Common.{◌≡◌, ◌≤◌, ◌+◌, ◌∙◌, ℕ, List, length, Bool, true, false, ◌&&◌, sym, ap, refl, arith}
 use Rattle.std.specs.Prelude.{Option, Some, None, if◌then◌else◌, nat_le}
 use Rattle.std.proofs.lemmas.Option.{none-some}
-use Rattle.packet_fields.specs.Frames.{packet_at, packet}
 use Rattle.std.proofs.lemmas.Bool.{and_parts, and_from, leb-true, le-leb, cond-false}
 use Rattle.packet_fields.specs.Packets.{header_word, is_ipv4, is_ipv6, header_len, datagram_len, segment_at}
 use Rattle.packet_fields.specs.declared.plan.Span.{Span}
@@ -30,10 +29,6 @@ header_there p test =
 
 pub header_test : (p : List ℕ) → HasHeader p → has_ipv4_header p ≡ true
 header_test p h = and_from (is_ipv4 p) (nat_le (segment_at p) (length p)) h.there (le-leb (segment_at p) (length p) h.captured)
-
--- where a frame has an IPv4 header, twenty bytes of it are captured
-pub room_inside : (frame : List ℕ) (start : ℕ) → start ≡ packet_at frame → HasHeader (packet frame) → start + 22 ≤ length frame
-room_inside frame start begins h = let room = h.room in omega (arith, length-drop (packet_at frame) frame)
 
 pub no_some : (b : Bool) (x : ℕ) → (if b then Some x else None) ≡ None → b ≡ false
 no_some false x none = refl

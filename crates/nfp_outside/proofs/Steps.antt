@@ -4,7 +4,7 @@ use Rattle.std.specs.Prelude.{Option, Some, None, MatchOption}
 use Rattle.std.proofs.Math.Seq.{drop-append_seam}
 use Rattle.std.proofs.lemmas.List.{length-take-le, take-append-drop}
 use Rattle.nfp_outside.specs.declared.slot.Slot.{Slot}
-use Rattle.nfp_outside.specs.Outside.{SlotView, Appends, AppendsPrefix, TakesFront, Reads, Takes, Writes, KeepsSlot}
+use Rattle.nfp_outside.specs.Outside.{SlotView, Appends, TakesFront, Reads, Takes, Writes, KeepsSlot}
 use Rattle.nfp_outside.specs.Adding.{appends_none, appends_more}
 
 -- what a run of calls that append to one slot keeps: these bytes were put there, and all else stays
@@ -63,20 +63,6 @@ pub record HasRead {D : Type 0} (slots : D → Slot → SlotView) (slot : Slot) 
   pub same_name : (slots new slot).name ≡ (slots old slot).name
   pub later : (slots old slot).faults ≤ (slots new slot).faults
   pub others : (s : Slot) → s ≢ slot → slots new s ≡ slots old s
-
-pub taken_none : (o : Option (List ℕ)) → Taken [] o o
-taken_none None = refl
-taken_none (Some bytes) = (bytes, refl, refl)
-
--- where a write was refused, what was put before it is a front part of the whole
-pub has_prefix : {D : Type 0} (slots : D → Slot → SlotView) (slot : Slot) (bytes rest : List ℕ) (old mid new : D) →
-    HasWritten slots slot bytes rest old mid → KeepsSlot (slots mid slot) (slots new slot) → AppendsPrefix bytes (slots old slot) (slots new slot)
-has_prefix slots slot bytes rest old mid new so_far keeps = record {
-  done = so_far.done;
-  rest = rest;
-  parts = so_far.parts;
-  appended = record { same_name = keeps.same_name ∙ so_far.puts.appended.same_name; content = keeps.same_bytes ∙ so_far.puts.appended.content; weighs = keeps.same_weight ∙ so_far.puts.appended.weighs };
-}
 
 taken_more : (all buffer : List ℕ) (k : ℕ) (before : Option (List ℕ)) (mid new : SlotView) → Taken all before mid.bytes → Reads k buffer mid new → Taken (all ++ take k buffer) before new.bytes
 taken_more all buffer k None mid new taken reads = subst (λ o. MatchOption o (new.bytes ≡ None) (λ bytes. Takes k bytes buffer new)) taken reads.told

@@ -1,6 +1,6 @@
 -- A capture of which the first bytes were read before is opened, or refused, as it is by all its bytes.
 use Rattle.std.proofs.Common.{◌≡◌, ◌≤◌, ◌<◌, ◌∙◌, ℕ, zero, suc, List, ◌++◌, length, take, drop, refl, ap, sym, subst, arith}
-use Rattle.std.specs.Prelude.{Bool, true, false, Option, Some, None, IfSome, IsSomeAnd, IsOk, MatchOption, Ok, Err}
+use Rattle.std.specs.Prelude.{Bool, true, false, Option, Some, None, IfSome, IsSomeAnd, MatchOption, Ok, Err}
 use Rattle.std.specs.Option.{option_map}
 use Rattle.std.proofs.lemmas.List.{take-append-drop, take_all}
 use Rattle.nfp_outside.specs.Outside.{SlotView}
@@ -8,9 +8,8 @@ use Rattle.capture_bytes.specs.Filling.{Fills, FillsFrom, unread}
 use Rattle.pcap_io.specs.Capture.{Body, capture_of}
 use Rattle.pcap_io.specs.Reader as pcap
 use Rattle.pcap_io.specs.declared.capture.CaptureHead.{CaptureHead}
-use Rattle.pcapng_io.specs.Blocks.{blocks_of, next_of, start}
+use Rattle.pcapng_io.specs.Blocks.{next_of, start}
 use Rattle.pcapng_io.specs.Reader as ng
-use Rattle.capture_run.specs.Formats.{SourceState, ng_left, ng_stream}
 use Rattle.capture_run.specs.Putting.{risen_earlier}
 use Rattle.nfp_run.specs.declared.outcome.Outcome.{Outcome}
 use Rattle.nfp_run.specs.declared.outcome.Outcome.TheVariants.{Done, Usage, Policy, Graph, Capture, CaptureNg, ReadFault, WriteFault, OutOfMemory}
@@ -92,14 +91,6 @@ head_read head reader old new reads = go old.bytes (pcap.body_left reader new) r
     go None o whole = tt
     go (Some bytes) None whole = absurd cc
     go (Some bytes) (Some body) whole = cc
-
--- a pcapng capture whose first block was read has all its blocks left
-pub block_read : (source : SourceState) (old new : SlotView) → ng_left source new ≡ option_map ng_stream (ng.blocks_left start old) → IfSome (ng.next_left start old) IsOk → IfSome old.bytes (λ bytes. (ng_left source new ≡ Some (ng_stream (blocks_of start bytes))) × IsOk (next_of start bytes))
-block_read source old new whole good = go old.bytes whole good
-  where
-    go : (c : Option (List ℕ)) → ng_left source new ≡ option_map ng_stream (option_map (blocks_of start) c) → IfSome (option_map (next_of start) c) IsOk → IfSome c (λ bytes. (ng_left source new ≡ Some (ng_stream (blocks_of start bytes))) × IsOk (next_of start bytes))
-    go None whole good = tt
-    go (Some bytes) whole good = (whole, good)
 
 -- a fact of what is made of a value is one of the value
 pub of_made : {T U : Type 0} (f : T → U) (o : Option T) (P : U → Type 0) → IfSome (option_map f o) P → IfSome o (λ x. P (f x))

@@ -41,20 +41,5 @@ report_is_not_graph h = cc
 pub note_is_not_graph : Note ≢ Graph
 note_is_not_graph h = cc
 
-pub policy_is_not_graph : Policy ≢ Graph
-policy_is_not_graph h = cc
-
-pub graph_is_not_policy : Graph ≢ Policy
-graph_is_not_policy h = cc
-
-pub graph_is_not_capture : Graph ≢ Capture
-graph_is_not_capture h = cc
-
-pub graph_is_not_out : Graph ≢ Out
-graph_is_not_out h = cc
-
-pub graph_is_not_report : Graph ≢ Report
-graph_is_not_report h = cc
-
 pub note_is_not_policy : Note ≢ Policy
 note_is_not_policy h = cc

@@ -1,38 +1,32 @@
 -- What a call leaves that was to run a capture, and ended before it went through chains.
-use Rattle.std.proofs.Common.{◌≡◌, ◌≢◌, ◌≤◌, ◌⊎◌, ◌∙◌, inl, ℕ, List, refl, ap, sym, subst}
-use Rattle.std.specs.Prelude.{false, true, Option, Some, None, IfErr, IfSome, Result, Ok, Err}
+use Rattle.std.proofs.Common.{◌≡◌, ◌⊎◌, ◌∙◌, inl, ℕ, List, refl, ap, sym, subst}
+use Rattle.std.specs.Prelude.{false, true, Some, None, IfSome, Ok, Err}
 use Rattle.nfp_outside.specs.declared.slot.Slot.{Slot}
 use Rattle.nfp_outside.specs.declared.slot.Slot.TheVariants as slots
 use Rattle.nfp_outside.specs.Outside.{SlotView}
-use Rattle.capture_run.specs.CaptureReport.{FormatFault, capture_text, ng_text}
-use Rattle.capture_run.specs.CaptureReportProofs.{Ended}
+use Rattle.capture_run.specs.CaptureReport.{capture_text, ng_text}
 use Rattle.capture_run.specs.FormatFaultVariants as formats
-use Rattle.capture_run.specs.Slots.{IsBroken}
-use Rattle.capture_run.specs.declared.fault.RunFault.{RunFault}
 use Rattle.capture_run.specs.declared.fault.RunFault.TheVariants as faults
 use Rattle.capture_run.specs.ChainService.{Chains}
 use Rattle.command_words.specs.declared.requests.RunOptions.{RunOptions}
 use Rattle.command_words.specs.Words.{Names, Run}
-use Rattle.graph_text.specs.declared.fault.GraphFault.{GraphFault}
 use Rattle.pcap_io.specs.Capture.{capture_of}
 use Rattle.pcap_io.specs.declared.capture.CaptureFault.{CaptureFault}
 use Rattle.pcapng_io.specs.Blocks.{next_of, start}
 use Rattle.pcapng_io.specs.declared.fault.NgFault.{NgFault}
-use Rattle.nfp_run.specs.Answers.{AttachesDue, HasNames, IsFinal, IsUntouched, LeavesPrefixes, NoneAttached, ReachesCapture, ReadFaultCause, WhereRead}
-use Rattle.nfp_run.specs.Closing.{EndsDue, closed, ending_of, outcome_seen}
-use Rattle.nfp_run.specs.Due.{Due, due_by_format, due_of_capture, due_of_command, due_of_ng, due_of_pcap, due_of_run, is_ng, nothing_but}
+use Rattle.nfp_run.specs.Answers.{AttachesDue, HasNames, IsFinal, IsUntouched, NoneAttached, ReachesCapture, ReadFaultCause, WhereRead}
+use Rattle.nfp_run.specs.Closing.{EndsDue, outcome_seen}
+use Rattle.nfp_run.specs.Due.{Due, due_by_format, due_of_capture, due_of_command, due_of_ng, due_of_pcap, is_ng, nothing_but}
 use Rattle.nfp_run.specs.Preparing.{prepared}
-use Rattle.nfp_run.specs.Ran.{Ran}
 use Rattle.nfp_run.specs.Reading.{EndsAtTexts, RefusedOpening, Serves}
 use Rattle.nfp_run.specs.declared.ending.Ending.{Ending}
 use Rattle.nfp_run.specs.declared.ending.Ending.TheVariants.{Completed, Shown, Refused, GraphRefused, Stopped}
 use Rattle.nfp_run.specs.declared.outcome.Outcome.{Outcome}
 use Rattle.nfp_run.specs.declared.outcome.Outcome.TheVariants.{Done, Usage, Policy, Graph, Capture, CaptureNg, ReadFault, WriteFault, OutOfMemory}
 use Rattle.nfp_run.proofs.EndedRuns.{has_texts, run_due}
-use Rattle.nfp_run.proofs.FlowRuns.{risen_from}
 use Rattle.nfp_run.proofs.OtherSlots.{capture_is_not_graph, capture_is_not_policy, note_is_not_graph, note_is_not_policy, out_is_not_graph, out_is_not_policy, report_is_not_graph, report_is_not_policy}
-use Rattle.nfp_run.proofs.TextEnds.{Beside, beside_name, none_attached, texts_ran, untouched_prefixes}
-use Rattle.nfp_run.proofs.TextsTold.{if_texts, if_told, read_always, told_always}
+use Rattle.nfp_run.proofs.TextEnds.{Beside, beside_name}
+use Rattle.nfp_run.proofs.TextsTold.{if_texts, if_told}
 
 -- ---- at the policy or at the graphs
 
@@ -69,23 +63,6 @@ early names options old new (Stopped (CaptureNg fault)) none h = absurd h
 early names options old new (Stopped (WriteFault s)) none h = absurd h
 early names options old new (Completed totals) none h = absurd h
 early names options old new (Shown text) none h = absurd h
-
-pub refused_run : (names : Names) (options : RunOptions) (old new : Slot → SlotView) (ending : Ending) → ((s : Slot) → (old s).name ≡ None) → ((new slots.Policy).name ≡ None) ⊎ ((new slots.Policy).name ≡ Some names.policy) →
-    ((new slots.Graph).name ≡ None) ⊎ ((new slots.Graph).name ≡ names.graph) → ((s : Slot) → s ≢ slots.Policy → s ≢ slots.Graph → new s ≡ old s) → EndsAtTexts names.graph old new ending → Ran (Ok (Run names options)) old new ending
-refused_run names options old new ending free policy graph others ends =
-    let b : Beside old new = record { free = free; others = others } in
-    texts_ran (Ok (Run names options)) names.graph old new ending
-    (record {
-      accepted = λ fault x. absurd cc;
-      policy = tt;
-      graph = λ name is. is;
-      names = run_names names options old new b policy graph;
-      attaches = λ e h. (early names options old new e (none_attached old new b) h).attaches;
-      reaches = λ e h. (early names options old new e (none_attached old new b) h).reaches;
-      due = λ e h. if_texts names.graph old _ _
-          (λ p g is. told_always (old slots.Capture).bytes _ (λ c. subst (λ r. EndsDue (due_of_run r c) old new e) (sym is.is) is.ends)) h;
-    })
-    b ends
 
 -- ---- at the head or at the first block of the capture
 
@@ -133,10 +110,6 @@ unopened_due names options chains outcome old new left serves refused final = if
     (opening_due chains outcome old new final refused))
     serves.runs
 
-pub unopened_prefixes : (names : Names) (options : RunOptions) (old new : Slot → SlotView) → IsUntouched (old slots.Out) (new slots.Out) × IsUntouched (old slots.Report) (new slots.Report) →
-    WhereRead (Ok (Run names options)) old (λ p g c. LeavesPrefixes (due_of_command (Ok (Run names options)) p g c).written old new)
-unopened_prefixes names options old new left = read_always (Ok (Run names options)) old _ (λ p g c. untouched_prefixes (due_of_command (Ok (Run names options)) p g c).written old new left)
-
 pub unopened_reaches : (names : Names) (options : RunOptions) (chains : Chains) (outcome : Outcome) (old new : Slot → SlotView) → Serves names.graph old chains → RefusedOpening (old slots.Capture) (new slots.Capture) outcome →
     ReachesCapture (Ok (Run names options)) outcome old
 unopened_reaches names options chains (Capture fault) old new serves refused = has_texts names.graph old chains serves
@@ -159,39 +132,3 @@ unopened_read names options chains outcome old new s serves refused is =
     subst (ReadFaultCause (Ok (Run names options)) old new) (sym here.0) (has_texts names.graph old chains serves, here.1)
 
 -- ---- where the capture went through chains, or was broken off there
-
-pub ran_reaches : (names : Names) (options : RunOptions) (chains : Chains) (r : Result Ended RunFault) (old : Slot → SlotView) → Serves names.graph old chains → ReachesCapture (Ok (Run names options)) (outcome_seen (ending_of r)) old
-ran_reaches names options chains (Ok ended) old serves = go ended.fault
-  where
-    go : (fault : Option FormatFault) → ReachesCapture (Ok (Run names options)) (outcome_seen (closed ended.totals fault)) old
-    go None = has_texts names.graph old chains serves
-    go (Some (formats.Pcap fault)) = has_texts names.graph old chains serves
-    go (Some (formats.Ng fault)) = has_texts names.graph old chains serves
-ran_reaches names options chains (Err faults.ReadFault) old serves = tt
-ran_reaches names options chains (Err (faults.WriteFault s)) old serves = tt
-ran_reaches names options chains (Err faults.OutOfMemory) old serves = tt
-
-pub ran_no_graph : (r : Result Ended RunFault) (fault : GraphFault) → outcome_seen (ending_of r) ≡ Graph fault → ⊥
-ran_no_graph (Ok ended) fault e = go ended.fault e
-  where
-    go : (f : Option FormatFault) → outcome_seen (closed ended.totals f) ≡ Graph fault → ⊥
-    go None is = cc
-    go (Some (formats.Pcap x)) is = cc
-    go (Some (formats.Ng x)) is = cc
-ran_no_graph (Err faults.ReadFault) fault e = cc
-ran_no_graph (Err (faults.WriteFault s)) fault e = cc
-ran_no_graph (Err faults.OutOfMemory) fault e = cc
-
-pub ran_read : (names : Names) (options : RunOptions) (chains : Chains) (r : Result Ended RunFault) (old mid new : Slot → SlotView) (s : Slot) → Serves names.graph old chains →
-    (old slots.Capture).faults ≤ (mid slots.Capture).faults → IfErr r (IsBroken mid new) → outcome_seen (ending_of r) ≡ ReadFault s → ReadFaultCause (Ok (Run names options)) old new s
-ran_read names options chains (Ok ended) old mid new s serves later cause e = absurd (go ended.fault e)
-  where
-    go : (f : Option FormatFault) → outcome_seen (closed ended.totals f) ≡ ReadFault s → ⊥
-    go None is = cc
-    go (Some (formats.Pcap x)) is = cc
-    go (Some (formats.Ng x)) is = cc
-ran_read names options chains (Err faults.ReadFault) old mid new s serves later cause e =
-    subst (ReadFaultCause (Ok (Run names options)) old new) (same_slot slots.Capture s e)
-    (has_texts names.graph old chains serves, risen_from (old slots.Capture).faults (mid slots.Capture).faults (new slots.Capture).faults later cause)
-ran_read names options chains (Err (faults.WriteFault x)) old mid new s serves later cause e = absurd cc
-ran_read names options chains (Err faults.OutOfMemory) old mid new s serves later cause e = absurd cc

@@ -30,14 +30,6 @@ due_by : (f : Field) (o : Option PlainPart) (vs : List PlainVersion) (m : Mode) 
 due_by f None vs m n mode is = refl
 due_by f (Some p) vs m n mode is = is ∙ ap (λ (k : Mode). copies_by_mode k (touches_in vs) f) mode
 
--- where no branch writes the field no copy is due
-pub shared_due : (f : Field) (o : Option PlainPart) (vs : List PlainVersion) (m : Mode) → m ≡ Shared → m ≡ mode_of (touches_in vs) f → 0 ≡ copies_due (touches_in vs) f o
-shared_due f o vs m shared mode = sym (none_of o) ∙ due_by f o vs m 0 mode (sym (ap (λ (k : Mode). copies_by_mode k (touches_in vs) f) shared))
-  where
-    none_of : (p : Option PlainPart) → copies_of p 0 ≡ 0
-    none_of None = refl
-    none_of (Some q) = refl
-
 writers_are : (f : Field) (vs : List PlainVersion) → count_by (has_write f) (touches_in vs) ≡ writers_in f vs
 writers_are f vs = count-map (has_write f) (λ v. v.touch) vs
 
@@ -149,10 +141,6 @@ all_dealt parts kept fixed [] are = refl
 all_dealt parts kept fixed (t ∷ ts) are =
     ap (λ (x : PlainVersion). x ∷ map (lent_to kept) (map (with_own parts) (map (λ t. nothing t fixed) ts))) (lent_dealt parts kept (nothing t fixed) refl (λ f e. are f (first_any f t ts e)))
     ∙ ap (λ (xs : List PlainVersion). dealt_version parts fixed t ∷ xs) (all_dealt parts kept fixed ts (λ f e. are f (later_any f t ts e)))
-
-touches_empty : (ts : List Touch) (fixed : Fixed) → touches_in (map (λ t. nothing t fixed) ts) ≡ ts
-touches_empty [] fixed = refl
-touches_empty (t ∷ ts) fixed = ap (λ (us : List Touch). t ∷ us) (touches_empty ts fixed)
 
 -- and so are those of a stage
 pub stage_dealt : (ts : List Touch) (parts : Parts) (fixed : Fixed) (vs owned lent : List PlainVersion) → vs ≡ map (λ t. nothing t fixed) ts → owned ≡ map (with_own parts) vs → lent ≡ map (lent_to (kept_parts ts parts)) owned → lent ≡ map (dealt_version parts fixed) ts

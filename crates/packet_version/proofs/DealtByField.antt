@@ -167,17 +167,6 @@ pub versions_next : (f : Field) (i : ℕ) (parts : Parts) (part : Option PlainPa
 versions_next f i parts part vs now new is own was made =
     made ∙ (ap (λ (xs : List PlainVersion). map (copied_some f part) xs) was ∙ (ap (λ (o : Option PlainPart). map (copied_some f o) (map (first_own i parts) vs)) own ∙ all_step f i parts vs is))
 
--- before the first field
-pub versions_begin : (parts : Parts) (vs : List PlainVersion) → vs ≡ map without_fields vs → vs ≡ map (first_own 0 parts) vs
-versions_begin parts vs empty = empty ∙ same vs
-  where
-    one : (v : PlainVersion) → without_fields v ≡ first_own 0 parts v
-    one v = ap (λ (ps : Parts). with_parts v ps) (fun_ext (λ g. sym (before_none (own_parts v.touch parts) g)))
-
-    same : (ws : List PlainVersion) → map without_fields ws ≡ map (first_own 0 parts) ws
-    same [] = refl
-    same (w ∷ ws) = ap (λ (x : PlainVersion). x ∷ map without_fields ws) (one w) ∙ ap (λ (xs : List PlainVersion). first_own 0 parts w ∷ xs) (same ws)
-
 -- behind the last field
 pub versions_over : (i : ℕ) (parts : Parts) (vs now : List PlainVersion) → i ≡ 10 → now ≡ map (first_own i parts) vs → now ≡ map (with_own parts) vs
 versions_over i parts vs now over was = was ∙ (ap (λ (n : ℕ). map (first_own n parts) vs) over ∙ same vs)
@@ -249,14 +238,6 @@ before_less due i g = by_test (nat_lt (number_of g) i)
     by_test true = omega arith
     by_test false = omega arith
 
--- so they rose by no more than all that are due
-pub counted_within : (due : Field → ℕ) (i : ℕ) (t u : List ℕ) → RaisesBefore due i t u → (g : Field) → (count_of t g ≤ count_of u g) × (count_of u g ≤ raised (count_of t g) (due g))
-counted_within due i t u was g =
-    let e = was g in
-    let up = raised_up (count_of t g) (before 0 i due g) in
-    let more = raised_more (count_of t g) (before 0 i due g) (due g) (before_less due i g) in
-    (omega arith, omega arith)
-
 -- counts that rose by all that are due rose within them
 pub raised_within : (due : Field → ℕ) (t u : List ℕ) → ((g : Field) → count_of u g ≡ raised (count_of t g) (due g)) → (g : Field) → (count_of t g ≤ count_of u g) × (count_of u g ≤ raised (count_of t g) (due g))
 raised_within due t u was g =
@@ -280,22 +261,6 @@ counted_refused due f i most t u v is all was more g =
 -- what is kept of the fields before an index, and the parts of the others
 abbrev pub first_kept : ℕ → List Touch → Parts → Parts
 first_kept i ts parts g = if nat_lt (number_of g) i then kept_parts ts parts g else parts g
-
--- no field was dealt yet
-pub kept_begin : (ts : List Touch) (parts : Parts) → parts ≡ first_kept 0 ts parts
-kept_begin ts parts = fun_ext (λ g. none g)
-  where
-    none : (h : Field) → parts h ≡ first_kept 0 ts parts h
-    none LinkDst = refl
-    none LinkSrc = refl
-    none Tag = refl
-    none Tos = refl
-    none Ttl = refl
-    none SrcIp = refl
-    none DstIp = refl
-    none SrcPort = refl
-    none DstPort = refl
-    none Payload = refl
 
 -- the part of the next field is the packet's
 pub part_next : (f : Field) (i : ℕ) (ts : List Touch) (parts now : Parts) → number_of f ≡ i → now ≡ first_kept i ts parts → now f ≡ parts f

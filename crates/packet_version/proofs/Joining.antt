@@ -8,7 +8,7 @@ use Rattle.packet_fields.specs.Fields.{value}
 use Rattle.packet_fields.specs.Writing.{put, put_some, Fits, written_in, written, all_fields, AllFit, fields_of, blank, rest_of}
 use Rattle.packet_fields.specs.declared.field.Field.{Field}
 use Rattle.packet_fields.proofs.Walk.{all_fit_after, written-written, written-own, written-rest, blanks, blanks_fit, fields_fit}
-use Rattle.packet_version.specs.Parts.{PlainPart, Parts, values_of, writer_in, by_writer}
+use Rattle.packet_version.specs.Parts.{PlainPart, Parts, values_of, by_writer}
 use Rattle.packet_version.specs.Splitting.{IsWhole, split_parts, fresh, spare_room}
 use Rattle.packet_version.specs.Places.{place_of, part_in, parts_in, parts_within, writer_at, beside, parts_beside}
 use Rattle.packet_version.specs.declared.place.Place.{Place}
@@ -84,14 +84,6 @@ split_whole taggers frame = record {
 -- a frame that came apart goes together again
 pub joined_again : (taggers : ℕ) (frame : List ℕ) → written (values_of (split_parts taggers frame)) (rest_of frame) ≡ frame
 joined_again taggers frame = ap (λ (v : Field → Option (List ℕ)). written v (rest_of frame)) (values-split taggers frame) ∙ written-rest frame
-
-fresh_writer : (spare : ℕ) (o : Option (List ℕ)) → writer_in (option_map (fresh spare) o) ≡ 0
-fresh_writer spare None = refl
-fresh_writer spare (Some v) = refl
-
--- nobody wrote the parts of a frame
-pub split_unwritten : (taggers : ℕ) (frame : List ℕ) (f : Field) → writer_in (split_parts taggers frame f) ≡ 0
-split_unwritten taggers frame f = fresh_writer (spare_room taggers f) (value f frame)
 
 -- one turn at a field whose part is there
 pub turn_some : (parts : Parts) (fields : List Field) (i : ℕ) (bytes next whole new : List ℕ) (p : PlainPart) → i < length fields → parts (get_or fields i LinkDst) ≡ Some p → new ≡ p.bytes → next ≡ put (get_or fields i LinkDst) new bytes → IsJoining (values_of parts) (drop i fields) bytes whole → IsJoining (values_of parts) (drop (i + 1) fields) next whole

@@ -3,7 +3,7 @@ use Rattle.std.proofs.Common.{◌≡◌, ◌≢◌, ◌∙◌, ◌<◌, ◌+◌,
 use mathlib.Core.Path.{fun_ext}
 use Rattle.std.specs.Prelude.{Option, Some, None, IfSome, is_some, if◌then◌else◌, ◌==◌, option_map}
 use Rattle.std.proofs.lemmas.Bool.Decides.{Decides-eqb}
-use Rattle.std.proofs.lemmas.List.{get_or_read_under, length-map}
+use Rattle.std.proofs.lemmas.List.{get_or_read_under}
 use Rattle.std.proofs.Math.ListN.{get_or-map}
 use Rattle.packet_fields.specs.Fields.{number_of, value}
 use Rattle.packet_fields.specs.Writing.{rest_of, written}
@@ -24,10 +24,6 @@ use Rattle.packet_version.proofs.Joining.{split_whole, joined_again, within_agai
 abbrev pub held_of : ℕ → List ℕ → List ℕ → List Place → PlainHeld
 held_of taggers frame writers places = record { parts = as_list (parts_in taggers frame writers places); frame = frame }
 
--- what is held where every part is in the frame
-abbrev pub held_within : ℕ → List ℕ → List ℕ → PlainHeld
-held_within taggers frame writers = record { parts = as_list (parts_within taggers frame writers); frame = frame }
-
 -- the parts of what is held
 pub parts_held : (taggers : ℕ) (frame writers : List ℕ) (places : List Place) (old : PlainHeld) → held_of taggers frame writers places ≡ old → as_map old.parts ≡ parts_in taggers frame writers places
 parts_held taggers frame writers places old old_is = sym (ap (λ (h : PlainHeld). as_map h.parts) old_is) ∙ as_map-listed (parts_in taggers frame writers places)
@@ -35,10 +31,6 @@ parts_held taggers frame writers places old old_is = sym (ap (λ (h : PlainHeld)
 -- the place that was read in a field's place
 pub place_read : (places : List Place) (n : ℕ) (f : Field) (p : Place) → p ≡ get_or places n p → n ≡ number_of f → n < 10 → length places ≡ 10 → place_of places f ≡ p
 place_read places n f p read is below ten = sym (get_or_read_under places n 10 p Inside read below (sym ten) ∙ ap (λ (k : ℕ). get_or places k Inside) is)
-
--- the writer that was read in a field's place
-pub writer_read : (writers : List ℕ) (n : ℕ) (f : Field) (w : ℕ) → w ≡ get_or writers n w → n ≡ number_of f → n < 10 → length writers ≡ 10 → writer_at writers f ≡ w
-writer_read writers n f w read is below ten = sym (get_or_read_under writers n 10 w 0 read below (sym ten) ∙ ap (λ (k : ℕ). get_or writers k 0) is)
 
 -- the part of a field whose place was read
 pub part_read : (taggers : ℕ) (frame writers : List ℕ) (places : List Place) (n : ℕ) (f : Field) (p : Place) (old : PlainHeld) → p ≡ get_or places n p → n ≡ number_of f → n < 10 → length places ≡ 10 → held_of taggers frame writers places ≡ old → as_map old.parts f ≡ part_in taggers frame writers f p
@@ -182,9 +174,6 @@ closed_place (p ∷ ps) f none = absurd (omega arith)
 pub closed_parts : (taggers : ℕ) (frame writers : List ℕ) (places : List Place) → length places ≡ 0 → parts_in taggers frame writers places ≡ parts_within taggers frame writers
 closed_parts taggers frame writers places none = fun_ext (λ f. ap (λ (p : Place). part_in taggers frame writers f p) (closed_place places f none))
 
-pub closed_held : (taggers : ℕ) (frame writers : List ℕ) (places : List Place) (old : PlainHeld) → length places ≡ 0 → held_of taggers frame writers places ≡ old → old ≡ held_within taggers frame writers
-closed_held taggers frame writers places old none old_is = sym old_is ∙ ap (λ (m : Parts). let h : PlainHeld = record { parts = as_list m; frame = frame } in h) (closed_parts taggers frame writers places none)
-
 -- the part of a field where no place is listed
 pub closed_part : (taggers : ℕ) (frame writers : List ℕ) (places : List Place) (f : Field) (old : PlainHeld) → length places ≡ 0 → held_of taggers frame writers places ≡ old → as_map old.parts f ≡ parts_within taggers frame writers f
 closed_part taggers frame writers places f old none old_is =
@@ -244,10 +233,6 @@ held_forgotten taggers frame writers places old old_is =
     ∙ sym (ap (λ (m : Parts). option_map unwritten (m f)) (as_map-listed (parts_in taggers frame writers places))))))
     ∙ ap (λ (h : PlainHeld). let next : PlainHeld = record h { parts = as_list (λ f. option_map unwritten (as_map h.parts f)) } in next) old_is
 
-pub forgotten_ten : (places : List Place) → length (opened places) ≡ 10 → length (opened (map unwritten_place places)) ≡ 10
-forgotten_ten [] ten = ten
-forgotten_ten (p ∷ ps) ten = length-map (p ∷ ps) unwritten_place ∙ ten
-
 some_writer : (spare writer : ℕ) (o : Option (List ℕ)) → writer_in (option_map (by_writer writer) (option_map (fresh spare) o)) ≡ (if is_some o then writer else 0)
 some_writer spare writer None = refl
 some_writer spare writer (Some v) = refl
@@ -271,7 +256,3 @@ is_listed places b is e = λ none. (let t : (length places == 0) ≡ true = (Dec
 pub listed_ten : (places : List Place) → length places ≢ 0 → length (opened places) ≡ 10 → length places ≡ 10
 listed_ten [] some ten = absurd (some refl)
 listed_ten (p ∷ ps) some ten = ten
-
-pub ten_opened : (places : List Place) → length places ≡ 10 → length (opened places) ≡ 10
-ten_opened [] ten = absurd (omega arith)
-ten_opened (p ∷ ps) ten = ten

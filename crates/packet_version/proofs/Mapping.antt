@@ -38,15 +38,6 @@ append_nil (x ∷ xs) = ap (λ zs. x ∷ zs) (append_nil xs)
 pub changed_all : {A : Type 0} (g : A → A) (xs now : List A) (k : ℕ) → length xs ≤ k → now ≡ changed_first g k xs → now ≡ map g xs
 changed_all g xs now k past is = is ∙ (ap (λ zs. map g zs ++ drop k xs) (take_all k xs past) ∙ (ap (λ zs. map g xs ++ zs) (drop_of_length-le xs past) ∙ append_nil (map g xs)))
 
-length_first : {A : Type 0} (g : A → A) (xs : List A) (k : ℕ) → length (changed_first g k xs) ≡ length xs
-length_first g [] zero = refl
-length_first g [] (suc k) = refl
-length_first g (x ∷ xs) zero = refl
-length_first g (x ∷ xs) (suc k) = ap suc (length_first g xs k)
-
-pub changed_len : {A : Type 0} (g : A → A) (xs now : List A) (k : ℕ) → now ≡ changed_first g k xs → length now ≡ length xs
-changed_len g xs now k is = ap (λ zs. length zs) is ∙ length_first g xs k
-
 -- a count over the first items
 pub count_next : {A : Type 0} (p : A → Bool) (xs : List A) (k : ℕ) (d : A) (b : Bool) → k < length xs → p (get_or xs k d) ≡ b → count_by p (take (k + 1) xs) ≡ count_by p (take k xs) + (if b then 1 else 0)
 count_next p xs k d true below is = count_by_more_yes p xs k d below is

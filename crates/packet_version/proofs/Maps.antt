@@ -1,6 +1,6 @@
 -- Lists of ten parts, read as maps.
-use Rattle.std.proofs.Common.{◌≡◌, ◌∙◌, ◌<◌, ◌≤◌, ◌+◌, ℕ, List, [], ◌∷◌, ◌++◌, map, take, sym, ap, refl, get_or, length, drop, drop-cons, add-one, arith}
-use Rattle.std.proofs.lemmas.List.{get_or_read_under, take_more, take_all, map-append}
+use Rattle.std.proofs.Common.{◌≡◌, ◌∙◌, ◌<◌, ◌≤◌, ◌+◌, ℕ, List, [], ◌∷◌, ◌++◌, map, take, ap, refl, get_or, length, drop, drop-cons, add-one, arith}
+use Rattle.std.proofs.lemmas.List.{take_more, take_all, map-append}
 use mathlib.Core.Path.{fun_ext}
 use Rattle.std.specs.Prelude.{Option, None}
 use Rattle.packet_fields.specs.Fields.{number_of}
@@ -25,10 +25,6 @@ listed_at g d Payload = refl
 -- a list made field by field is the map that it was made from
 pub as_map-listed : (g : Parts) → as_map (map g all_fields) ≡ g
 as_map-listed g = fun_ext (λ f. listed_at g None f)
-
--- what is read of a list at a field's place
-pub part_at : (parts : List (Option PlainPart)) (n : ℕ) (f : Field) (o : Option PlainPart) → o ≡ get_or parts n o → n ≡ number_of f → n < 10 → length parts ≡ 10 → as_map parts f ≡ o
-part_at parts n f o read is below len = sym (get_or_read_under parts n 10 o None read below (sym len) ∙ ap (λ (k : ℕ). get_or parts k None) is)
 
 -- the field at an index, and those behind it
 pub left_at : (fields : List Field) (i : ℕ) → i < length fields → drop i fields ≡ get_or fields i LinkDst ∷ drop (i + 1) fields

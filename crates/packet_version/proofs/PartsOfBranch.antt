@@ -26,11 +26,6 @@ use Rattle.packet_version.proofs.Maps.{as_map-listed, listed_at}
 use Rattle.packet_version.proofs.Placing.{map_put}
 use Rattle.packet_version.proofs.DealtByField.{by_field}
 
--- only the tags have their number
-pub number-tag : (f : Field) → (number_of f == number_of Tag) ≡ true → f ≡ Tag
-number-tag Tag e = refl
-number-tag f e = absurd (cc)
-
 -- of a field that it writes a branch has its own part
 pub had_own : (touch : Touch) (own lent : Parts) (f : Field) → has_write f touch ≡ true → had_by touch own lent f ≡ own f
 had_own touch own lent f w = ap (λ (b : Bool). if b then own f else (if only_reads f touch then lent f else None)) w
@@ -284,32 +279,6 @@ no_place DstIp = refl
 no_place SrcPort = refl
 no_place DstPort = refl
 no_place Payload = refl
-
--- a branch that has nothing yet
-pub empty_had : (touch : Touch) (own : List (Option PlainPart)) → own ≡ (if is_none touch.writes then [] else no_parts) → IsHad touch None own None
-empty_had touch own is = subst (λ (xs : List (Option PlainPart)). IsHad touch None xs None) (sym is) (by_test (is_none touch.writes) refl)
-  where
-    none_had : (ps : List (Option PlainPart)) (f : Field) → as_map ps f ≡ None → had_by touch (as_map ps) (lent_parts None) f ≡ None
-    none_had ps f none = by_tests (has_write f touch) (only_reads f touch)
-      where
-        by_tests : (b c : Bool) → (if b then as_map ps f else (if c then lent_parts None f else None)) ≡ None
-        by_tests true c = none
-        by_tests false true = refl
-        by_tests false false = refl
-
-    by_test : (b : Bool) → is_none touch.writes ≡ b → IsHad touch None (if b then [] else no_parts) None
-    by_test true e = record {
-      there = λ n f w. absurd (some_field touch.writes f w e);
-      unwritten = λ f w. ap writer_in (none_had [] f (no_place f));
-      formed = λ f. subst (IsPartOf f) (sym (none_had [] f (no_place f))) tt;
-      few = tt;
-    }
-    by_test false e = record {
-      there = λ n f w. refl;
-      unwritten = λ f w. ap writer_in (none_had no_parts f (no_part f));
-      formed = λ f. subst (IsPartOf f) (sym (none_had no_parts f (no_part f))) tt;
-      few = tt;
-    }
 
 pub empty_is : (touch : Touch) (own : List (Option PlainPart)) (fixed : Fixed) → own ≡ (if is_none touch.writes then [] else no_parts) → version_of None own None touch fixed ≡ nothing touch fixed
 empty_is touch own fixed is =

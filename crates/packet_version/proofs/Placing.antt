@@ -1,14 +1,12 @@
 -- Parts that are put into the places of a list.
-use Rattle.std.proofs.Common.{◌≡◌, ◌≢◌, ◌∙◌, ◌<◌, ℕ, Bool, true, false, List, sym, ap, get_or, length, set, arith, refl, lit<}
+use Rattle.std.proofs.Common.{◌≡◌, ◌≢◌, ◌∙◌, ◌<◌, ℕ, Bool, true, false, List, sym, ap, get_or, length, set, refl}
 use mathlib.Core.Path.{fun_ext}
 use Rattle.std.specs.Prelude.{Option, None, if◌then◌else◌, ◌==◌}
 use Rattle.std.proofs.lemmas.Bool.Decides.{Decides-eqb}
-use Rattle.std.proofs.lemmas.List.{get_or-set_same, get_or-set_other, length-set}
+use Rattle.std.proofs.lemmas.List.{get_or-set_same, get_or-set_other}
 use Rattle.packet_fields.specs.Fields.{number_of}
 use Rattle.packet_fields.specs.declared.field.Field.{Field}
-use Rattle.packet_fields.specs.declared.field.Field.TheVariants.{LinkDst, LinkSrc, Tag, Tos, Ttl, SrcIp, DstIp, SrcPort, DstPort, Payload}
-use Rattle.packet_version.specs.Parts.{PlainPart, as_map, as_list, changed}
-use Rattle.packet_version.proofs.Maps.{as_list-again}
+use Rattle.packet_version.specs.Parts.{PlainPart, as_map, changed}
 
 -- what is read of a list once an item was put into a place
 pub read_set : {A : Type 0} (xs : List A) (n k : ℕ) (o d : A) → n < length xs → get_or (set xs n o) k d ≡ (if n == k then o else get_or xs k d)
@@ -19,25 +17,6 @@ read_set {A = A} xs n k o d inside = by_test (n == k) refl
     by_test false e =
         let apart : k ≢ n = λ same. (let t : (n == k) ≡ true = (Decides-eqb n k).1 (sym same) in cc) in
         get_or-set_other xs n k o d apart
-
--- a list of ten once a part was put into a field's place
-pub list_put : (parts : List (Option PlainPart)) (n : ℕ) (f : Field) (o : Option PlainPart) → n ≡ number_of f → n < 10 → length parts ≡ 10 → set parts n o ≡ as_list (changed f o (as_map parts))
-list_put parts n f o is below ten =
-    sym (as_list-again (set parts n o) (length-set parts n o ∙ ten))
-    ∙ ap as_list (fun_ext (λ g. read_set parts n (number_of g) o None (omega arith) ∙ ap (λ (k : ℕ). if k == number_of g then o else get_or parts (number_of g) None) is))
-
--- a field has its number below ten
-pub number_below : (f : Field) → number_of f < 10
-number_below LinkDst = lit< tt
-number_below LinkSrc = lit< tt
-number_below Tag = lit< tt
-number_below Tos = lit< tt
-number_below Ttl = lit< tt
-number_below SrcIp = lit< tt
-number_below DstIp = lit< tt
-number_below SrcPort = lit< tt
-number_below DstPort = lit< tt
-number_below Payload = lit< tt
 
 -- the map of a list of ten once a part was put into a field's place
 pub map_put : (parts : List (Option PlainPart)) (n : ℕ) (f : Field) (o : Option PlainPart) → n ≡ number_of f → n < length parts → as_map (set parts n o) ≡ changed f o (as_map parts)

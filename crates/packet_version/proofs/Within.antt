@@ -1,13 +1,13 @@
 -- A part that is written in its frame.
 use Rattle.std.proofs.Common.{◌≡◌, ◌≢◌, ◌∙◌, ◌<◌, ◌+◌, ℕ, zero, suc, true, false, List, [], ◌∷◌, sym, ap, refl, subst, get_or, length, set, arith}
-use Rattle.std.specs.Prelude.{Option, Some, None, IfSome, IsSomeAnd, option_map}
+use Rattle.std.specs.Prelude.{Option, Some, None, IsSomeAnd, option_map}
 use Rattle.std.proofs.lemmas.Bool.{false≢true}
 use Rattle.packet_fields.specs.Fields.{number_of, value}
 use Rattle.packet_fields.specs.Writing.{Fits}
 use Rattle.packet_fields.specs.declared.field.Field.{Field}
 use Rattle.packet_fields.specs.declared.field.Field.TheVariants.{LinkDst, LinkSrc, Tag, Tos, Ttl, SrcIp, DstIp, SrcPort, DstPort, Payload}
 use Rattle.packet_version.specs.Parts.{PlainPart, PlainHeld, Parts, as_map, as_list, changed, rewritten, by_writer}
-use Rattle.packet_version.specs.Places.{place_of, part_in, parts_in, parts_within, writer_at, beside, is_outside, opened, rewritten_place}
+use Rattle.packet_version.specs.Places.{place_of, part_in, parts_in, parts_within, writer_at, is_outside, opened, rewritten_place}
 use Rattle.packet_version.specs.Splitting.{split_parts, fresh, spare_room}
 use Rattle.packet_version.specs.declared.place.Place.{Place}
 use Rattle.packet_version.specs.declared.place.Place.TheVariants.{Inside, Gone, Outside}
@@ -101,9 +101,3 @@ pub place_rewritten : (taggers : ℕ) (frame writers : List ℕ) (f : Field) (p 
 place_rewritten taggers frame writers f Inside new w is = absurd (false≢true is)
 place_rewritten taggers frame writers f Gone new w is = refl
 place_rewritten taggers frame writers f (Outside part) new w is = refl
-
--- new bytes for a part beside the frame
-pub fits_beside : (taggers : ℕ) (frame writers : List ℕ) (f : Field) (p : Place) (new : List ℕ) → IsSomeAnd (part_in taggers frame writers f p) (λ part. length new ≡ length part.bytes) → IfSome (beside p) (λ part. length new ≡ length part.bytes)
-fits_beside taggers frame writers f Inside new fits = tt
-fits_beside taggers frame writers f Gone new fits = tt
-fits_beside taggers frame writers f (Outside part) new fits = fits

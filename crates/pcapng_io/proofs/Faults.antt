@@ -1,11 +1,11 @@
 -- What a table of faults tells of its tests.
 use Rattle.std.proofs.Common.{◌≡◌, ◌≤◌, ◌<◌, ◌+◌, ℕ, List, [], ◌∷◌, length, refl, arith, Bool, true, false}
-use Rattle.std.specs.Prelude.{Option, Some, None, nat_lt, nat_le, ◌==◌, ◌||◌, ◌&&◌, not, is_none, is_some}
+use Rattle.std.specs.Prelude.{None, nat_lt, nat_le, ◌==◌, ◌||◌, ◌&&◌, not, is_none, is_some}
 use Rattle.std.proofs.lemmas.Bool.{ltb-false, eqb-false}
 use Rattle.std.proofs.lemmas.Bool.Decides.{nat_tests}
 use Rattle.capture_bytes.specs.declared.order.Endian.{Endian}
 use Rattle.pcapng_io.specs.declared.block_kind.BlockKind.{BlockKind}
-use Rattle.pcapng_io.specs.declared.block_kind.BlockKind.TheVariants.{InterfaceDescription, EnhancedPacket}
+use Rattle.pcapng_io.specs.declared.block_kind.BlockKind.TheVariants.{EnhancedPacket}
 use Rattle.pcapng_io.specs.declared.fault.NgFault.{NgFault}
 use Rattle.pcapng_io.specs.declared.place.Place.{Place}
 use Rattle.pcapng_io.specs.Options.{padded}
@@ -23,11 +23,6 @@ none_stands [] none = tt
 none_stands ((true, fault) ∷ more) none = absurd cc
 none_stands ((false, fault) ∷ more) none = (refl, none_stands more none)
 
--- the first row of a table stands, or the others tell
-pub first_stands : (b : Bool) (f : NgFault) (more : List (Bool × NgFault)) → b ≡ true → first_fault ((b, f) ∷ more) ≡ Some f
-first_stands true f more is = refl
-first_stands false f more is = absurd cc
-
 pub first_passes : (b : Bool) (f : NgFault) (more : List (Bool × NgFault)) → b ≡ false → first_fault ((b, f) ∷ more) ≡ first_fault more
 first_passes true f more is = absurd cc
 first_passes false f more is = refl
@@ -43,10 +38,6 @@ or_right false b h = h
 pub not_false : (b : Bool) → not b ≡ false → b ≡ true
 not_false true h = refl
 not_false false h = absurd cc
-
-none_false : {X : Type 0} (o : Option X) → is_none o ≡ false → is_some o ≡ true
-none_false None h = absurd cc
-none_false (Some x) h = refl
 
 -- a packet without a fault
 pub record PacketFacts (place : Place) (order : Endian) (block : List ℕ) : Type 0 where
@@ -78,21 +69,6 @@ pub record InterfaceFacts (place : Place) (order : Endian) (block : List ℕ) : 
   pub told : is_some (options_in order block) ≡ true
   pub accepted : is_resolution (resolution_in order block) ≡ true
   pub counted : place.blocks + 1 ≡ 1099511627776 → ⊥
-
-pub interface_facts : (place : Place) (order : Endian) (block : List ℕ) → first_fault (content_faults place order InterfaceDescription block) ≡ None → InterfaceFacts place order block
-interface_facts place order block none =
-    let tests : NoneStands (content_faults place order InterfaceDescription block) = none_stands (content_faults place order InterfaceDescription block) none in
-    let bad : ((has_bad_lengths order InterfaceDescription block || false) || is_none (options_in order block)) ≡ false = tests.0 in
-    let lengths : has_bad_lengths order InterfaceDescription block ≡ false = or_left (has_bad_lengths order InterfaceDescription block) false (or_left (has_bad_lengths order InterfaceDescription block || false) (is_none (options_in order block)) bad) in
-    let cut : nat_lt (length block) 20 ≡ false = or_right _ (nat_lt (length block) 20) lengths in
-    let accepted : not (is_resolution (resolution_in order block)) ≡ false = tests.1.1.0 in
-    let counted : (place.blocks + 1 == 1099511627776) ≡ false = tests.1.1.1.1.1.1.1.0 in
-    record {
-      least = ltb-false (length block) 20 cut;
-      told = none_false (options_in order block) (or_right (has_bad_lengths order InterfaceDescription block || false) (is_none (options_in order block)) bad);
-      accepted = not_false (is_resolution (resolution_in order block)) accepted;
-      counted = eqb-false (place.blocks + 1) 1099511627776 counted;
-    }
 
 -- any block without a fault
 pub last_counted : (place : Place) (order : Endian) (kind : BlockKind) (block : List ℕ) → first_fault (content_faults place order kind block) ≡ None → place.blocks + 1 ≡ 1099511627776 → ⊥

@@ -67,9 +67,6 @@ pub record Searching (order : Endian) (bytes : List ℕ) (at : ℕ) (found : Opt
   pub aligned : at % 4 ≡ 0
   pub same : option_map resolution_among (options_of order bytes) ≡ option_map (known found) (options_of order (drop at bytes))
 
-pub searching_begins : (order : Endian) (bytes : List ℕ) → Searching order bytes 0 None
-searching_begins order bytes = record { within = omega arith; aligned = refl; same = refl }
-
 code_at : (order : Endian) (at : ℕ) (bytes : List ℕ) → number_at order 2 at bytes ≡ number_at order 2 0 (drop at bytes)
 code_at Big at bytes = refl
 code_at Little at bytes = refl

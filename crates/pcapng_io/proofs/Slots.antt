@@ -1,9 +1,8 @@
 -- What reading a block says of the slot that it came from.
-use Rattle.std.proofs.Common.{◌≡◌, ◌≤◌, ◌<◌, ◌+◌, ◌∙◌, ℕ, List, [], ◌∷◌, ◌++◌, length, take, drop, refl, ap, sym, subst, length-append, arith, Bool, false}
-use Rattle.std.specs.Prelude.{◌%◌, Option, Some, None, IfSome, IfOk, MatchOption, Result, Ok, Err, IsErrOf, nat_lt, ◌==◌, ◌||◌, ◌&&◌, not}
+use Rattle.std.proofs.Common.{◌≡◌, ◌≤◌, ◌<◌, ◌+◌, ◌∙◌, ℕ, List, [], ◌∷◌, ◌++◌, length, take, drop, refl, ap, sym, subst, length-append, arith}
+use Rattle.std.specs.Prelude.{◌%◌, Option, Some, None, IfSome, IfOk, MatchOption, Result, Ok, Err, IsErrOf}
 use Rattle.std.specs.Option.{option_map}
 use Rattle.std.proofs.Math.Seq.{take-length, take-append_seam}
-use Rattle.std.proofs.lemmas.Bool.{ltb-false, eqb-true}
 use Rattle.std.proofs.lemmas.List.{take-append-drop}
 use Rattle.nfp_outside.specs.Outside.{SlotView}
 use Rattle.capture_bytes.specs.declared.order.Endian.{Endian}
@@ -16,12 +15,10 @@ use Rattle.pcapng_io.specs.declared.fault.NgFault.TheVariants.{CutBlock}
 use Rattle.pcapng_io.specs.declared.fault.NgReadFault.{NgReadFault}
 use Rattle.pcapng_io.specs.declared.fault.NgReadFault.TheVariants.{Ng}
 use Rattle.pcapng_io.specs.declared.place.Place.{Place}
-use Rattle.pcapng_io.specs.Blocks.{next_of, blocks_of, and_rest, with_item, first_fault, content_faults, is_section, is_unread, kind_in, length_in, order_in, item_of, after}
+use Rattle.pcapng_io.specs.Blocks.{next_of, blocks_of, and_rest, with_item, first_fault, content_faults, kind_in, length_in, order_in, item_of, after}
 use Rattle.pcapng_io.specs.Reader.{Opens, IsAtEnd, RefusesBlock, next_left, blocks_left, head_faults, head_length, Says, Closes}
 use Rattle.pcapng_io.proofs.Heads.{Begins, Known, few_left, few_of_section, head_refused, block_cut, block_refused, block_given}
 use Rattle.pcapng_io.proofs.Sequence.{blocks_next}
-use Rattle.pcapng_io.proofs.Faults.{NoneStands, none_stands, or_left, or_right, not_false}
-use Rattle.capture_bytes.specs.Numbers.{number_at}
 
 -- the fault of a block that is cut
 abbrev pub cut_of : Place → NgFault
@@ -182,17 +179,6 @@ pub record Length (size : ℕ) : Type 0 where
   pub least : 12 ≤ size
   pub most : size ≤ 16777216
   pub multiple : size % 4 ≡ 0
-
-pub length_told : (n : ℕ) (order : Endian) (kind : BlockKind) (head : List ℕ) → first_fault (head_faults n order kind head) ≡ None → Length (length_in order head)
-length_told n order kind head none =
-    let tests : NoneStands (head_faults n order kind head) = none_stands (head_faults n order kind head) none in
-    let magic : Bool = is_section kind && not (number_at order 4 8 head == 0x1a2b3c4d) in
-    let size : ℕ = length_in order head in
-    let bad : (((magic || nat_lt size 12) || not (size % 4 == 0)) || is_unread kind) ≡ false = tests.0 in
-    let lengths : ((magic || nat_lt size 12) || not (size % 4 == 0)) ≡ false = or_left ((magic || nat_lt size 12) || not (size % 4 == 0)) (is_unread kind) bad in
-    let short : nat_lt size 12 ≡ false = or_right magic (nat_lt size 12) (or_left (magic || nat_lt size 12) (not (size % 4 == 0)) lengths) in
-    let multiple : not (size % 4 == 0) ≡ false = or_right (magic || nat_lt size 12) (not (size % 4 == 0)) lengths in
-    record { least = ltb-false size 12 short; most = ltb-false 16777216 size tests.1.0; multiple = eqb-true (size % 4) 0 (not_false (size % 4 == 0) multiple) }
 
 -- a buffer that was filled whole
 pub full : (k n : ℕ) (buffer : List ℕ) (x new : SlotView) → length buffer ≡ n → n ≤ k → Fills k buffer x new → Fills n buffer x new

@@ -1,7 +1,7 @@
 -- The functions of works, by stage and branch again: how far they have come.
 use Rattle.std.proofs.Common.{◌≡◌, ◌∙◌, ◌<◌, ◌≤◌, ◌+◌, ℕ, zero, suc, List, [], ◌∷◌, ◌++◌, map, length, take, drop, get_or, sym, ap, refl, arith}
 use Rattle.std.proofs.Math.Seq.{take-append_seam, drop-append_seam}
-use Rattle.std.proofs.lemmas.List.{map-append, drop_more, drop_all, take_more, take_all, length-map}
+use Rattle.std.proofs.lemmas.List.{map-append, drop_more, take_more, take_all, length-map}
 use Rattle.chain_walk.specs.Notes.{Notes}
 use Rattle.chain_walk.specs.declared.walk.Fate.{Fate}
 use Rattle.graph_compile.specs.declared.graph.Stage.{Stage}
@@ -54,9 +54,6 @@ one_taken {A} all was rest x i left is =
 pub all_given : {A B : Type 0} (f : A → B) (all was : List A) (done : List B) (i count : ℕ) → done ≡ map f (take i all) → was ≡ drop i all → was ≡ [] → i ≤ count → done ≡ map f (take count all)
 all_given f all was done i count is left none most =
     let few = none_left all i (sym left ∙ none) in is ∙ ap (map f) (take_all i all few ∙ sym (take_all count all (omega arith)))
-
-pub none_follow : {A : Type 0} (all was : List A) (i count : ℕ) → was ≡ drop i all → was ≡ [] → i ≤ count → was ≡ drop count all
-none_follow all was i count left none most = let few = none_left all i (sym left ∙ none) in none ∙ sym (drop_all count all (omega arith))
 
 -- those of the works of so many stages were given back, and the works of the others are left
 pub record IsGiven {F W V : Type 0} (settled : W → List F) (items : V → List (List F)) (works : List (List W)) (rest : List W) (owned : List V) (i : ℕ) : Type 0 where

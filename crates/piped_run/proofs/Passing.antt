@@ -9,7 +9,7 @@ use Rattle.chain_walk.specs.Counting.{quiet, IsQuiet}
 use Rattle.chain_walk.specs.Laws.{KeepsProfile}
 use Rattle.chain_walk.specs.Notes.{Notes, CountsByNotes}
 use Rattle.chain_walk.specs.Step.{Behaviour}
-use Rattle.graph_compile.specs.Facts.{IsLawful, IsFull}
+use Rattle.graph_compile.specs.Facts.{IsLawful}
 use Rattle.graph_compile.specs.declared.graph.Graph.{Graph}
 use Rattle.graph_compile.specs.declared.graph.Stage.{Stage}
 use Rattle.graph_law.proofs.Walking.{walk_keeps}
@@ -34,10 +34,6 @@ use Rattle.piped_run.specs.Frames.{EndsAs}
 use Rattle.settled_notes.specs.Settling.{TellDrops}
 use Rattle.piped_run.specs.Settling.{settled_own}
 use Rattle.piped_run.proofs.Settled.{AreNoteLaws, EndsAlike, LeftWith, drops_told, settled_back}
-
--- the laws that are cited
-abbrev pub ProfilesInBursts : Type 0 → Type 0
-ProfilesInBursts F = (b : Behaviour F) (graph : Graph) (functions : List F) (packets : List Message) → KeepsProfile b → IsQuiet b → IsLawful graph (map b.profile functions) → IsFull graph → map b.profile (chain_burst b functions packets).state ≡ map b.profile functions
 
 -- the works of a graph for a burst of so many packets
 abbrev pub works_for : {F N : Type 0} → Behaviour F → Graph → List F → ℕ → List (PlainStage (PlainOwned F N))

@@ -18,12 +18,6 @@ pub put_gone : (before position : ℕ) (rest later : List Fate) → put_back (Go
 unfolding put_back
 put_gone before position rest later = refl
 
-pub put_out : (before : ℕ) (frame : List ℕ) (rest later later' : List Fate) (next put : Fate) → later ≡ next ∷ later' → put ≡ moved before next →
-    put_back (Out frame ∷ rest) (map (moved before) later) ≡ then_put (Some put) (put_back rest (map (moved before) later'))
-unfolding put_back
-put_out before frame rest later later' next put row is =
-    ap (λ l. put_back (Out frame ∷ rest) (map (moved before) l)) row ∙ ap (λ x. x ∷ put_back rest (map (moved before) later')) (sym is)
-
 pub put_none : (before : ℕ) (frame : List ℕ) (rest later later' : List Fate) → later ≡ [] → put_back (Out frame ∷ rest) (map (moved before) later) ≡ then_put None (put_back rest (map (moved before) later'))
 unfolding put_back
 put_none before frame rest later later' none = ap (λ l. put_back (Out frame ∷ rest) (map (moved before) l)) none

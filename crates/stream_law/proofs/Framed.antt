@@ -97,11 +97,6 @@ walk_many b time position (f ∷ later) frame = by_test (is_drop (applied b time
     by_test true e = refl
     by_test false e = ap suc e
 
-as_many_after : {F : Type 0} (b : Behaviour F) (functions : List F) (packets : List Packet) → length (functions_after b functions packets) ≡ length functions
-unfolding functions_after
-as_many_after b functions [] = refl
-as_many_after b functions (p ∷ packets) = as_many_after b (walk b p.time 1 functions p.frame).functions packets ∙ walk_many b p.time 1 functions p.frame
-
 -- every packet that is gone was dropped within the chain
 all_within : {F : Type 0} (b : Behaviour F) (functions : List F) (packets : List Packet) → WalksWithin F → All (EndsWithin (length functions)) (fates b functions packets)
 unfolding fates
