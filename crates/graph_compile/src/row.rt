@@ -16,6 +16,7 @@ use std::alloc::{AllocError, Global};
 /// want of memory.
 pub fn in_a_row(alloc: Global, profiles: &[Profile]) -> Result<Graph, AllocError>
     requires { length profiles.now ≤ 64 }
+    ensures is { IfOk result (λ graph. graph ≡ graph_in_a_row profiles.now) }
     ensures lawful { IfOk result (λ graph. IsLawful graph profiles.now) }
     ensures full { IfOk result IsFull }
     ensures uncopied { IfOk result (λ graph. copies_nothing graph.stages ≡ true) }

@@ -1,6 +1,6 @@
 //! A policy text as numbered lines of words.
 
-ghost use Rattle.std.specs.Prelude.{◌≡◌, ◌+◌, ◌-◌, ◌*◌, ◌^◌, ◌<◌, ◌≤◌, ◌++◌, [], ◌∷◌, length, map, drop, slice_index_or, IfOk, OnOk, MatchOption, position, filter};
+ghost use Rattle.std.specs.Prelude.{◌≡◌, ◌+◌, ◌-◌, ◌*◌, ◌^◌, ◌<◌, ◌≤◌, ◌++◌, [], ◌∷◌, length, map, drop, slice_index_or, IfOk, IfNone, OnOk, OnErr, MatchOption, position, filter};
 ghost use Rattle.std.specs.List.{slice_split, before_first};
 ghost use Rattle.std.specs.Str.Lines.{strip_carriage_return};
 ghost use Rattle.policy_text.specs.Lines.{IsCut, IsShared, spoken, telling, is_line_feed, is_blank, is_comment_sign, content, words_of, words_from, lines_from, word_at, column_of};
@@ -198,19 +198,21 @@ pub struct Lines<'a> {
 }
 
 impl<'a> Lines<'a> {
-    /// Takes the first line that isn't blank, and the blank ones before it.
+    /// Takes the first line that isn't blank, and the blank ones before it. Where there is no memory, none that has a word is taken.
     #[tactic(auto, using(crate::proofs::Splitting::after_blank, crate::proofs::Splitting::after_telling))]
     pub fn next(&mut self, alloc: Global) -> Result<Option<Line<'a>>, AllocError>
         requires { self.old.number + length self.old.rest.now < 2 ^ 31 }
         ensures room { self.new.number + length self.new.rest.now < 2 ^ 31 }
         ensures taken { IfOk result (λ o. MatchOption o (lines_from self.old.number self.old.rest.now ≡ []) (λ line. lines_from self.old.number self.old.rest.now ≡ line ∷ lines_from self.new.number self.new.rest.now)) }
+        ensures over { IfOk result (λ o. IfNone o (lines_from self.new.number self.new.rest.now ≡ [])) }
+        ensures stays { OnErr result (lines_from self.new.number self.new.rest.now ≡ lines_from self.old.number self.old.rest.now) }
     {
         'lines: while !self.rest.is_empty() {
             let number = self.number;
             let (line, rest) = cut_line(self.rest);
+            let words = words_of(alloc, line)?;
             self.number = number + 1;
             self.rest = rest;
-            let words = words_of(alloc, line)?;
             if !words.is_empty() {
                 return Ok(Some(Line { number, words }));
             }
