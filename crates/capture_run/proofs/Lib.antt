@@ -1,5 +1,6 @@
 pub mod BurstLines
 pub mod Capturing
+pub mod Draining
 pub mod Emitting
 pub mod Following
 pub mod Gathering

@@ -9,6 +9,7 @@ ghost use Rattle.pcapng_io.specs.Reader.{IsShortItem, IsWritable, ReaderCause, R
 ghost use Rattle.pcapng_io.specs.declared.fault.NgFault.{NgFault};
 ghost use Rattle.capture_report.specs.declared.fault.FormatFault.{FormatFault};
 ghost use Rattle.capture_run.specs.Formats.{is_asked, ng_behind, ng_given, ng_left, ng_packets, ng_spelled, ng_stream, ng_taken};
+ghost use Rattle.capture_run.specs.Slots.{IsDrained};
 ghost use Rattle.capture_run.specs.Sources.{GivesNext, RefusesNext};
 
 use crate::fault::SourceFault;
@@ -156,6 +157,8 @@ impl Source<Beside, OtherBlock> for NgSource {
 
     ghost is_open = { is_asked };
 
+    ghost is_drained = { IsDrained };
+
     #[inline(always)]
     fn next<D: Desk>(
         &mut self,
@@ -170,7 +173,7 @@ impl Source<Beside, OtherBlock> for NgSource {
 }
 
 // What stands behind the first block.
-#[tactic(auto, using(crate::proofs::Refusing::refuses_block))]
+#[tactic(auto, using(crate::proofs::Refusing::refuses_block, crate::proofs::Draining::ng_at_end))]
 #[inline(always)]
 fn read_on<D: Desk>(
     alloc: Global,
@@ -181,6 +184,7 @@ fn read_on<D: Desk>(
     requires unspent { reader.old.spent ≡ false }
     ensures given { IfOk result (λ o. IfSome o (λ x. GivesNext ng_behind (λ r. r.place.packets) (λ r. r.place.blocks) x reader.old reader.new (D.slots desk.old Slot.Capture) (D.slots desk.new Slot.Capture))) }
     ensures end { IfOk result (λ o. IfNone o (IfSome (ng_behind reader.old (D.slots desk.old Slot.Capture)) (λ s. s ≡ record { given = []; fault = None }))) }
+    ensures drained { IfOk result (λ o. IfNone o (IsDrained (D.slots desk.new Slot.Capture))) }
     ensures refused { (fault : FormatFault) → IsErrOf result (SourceFault.Format fault) → RefusesNext ng_behind fault reader.old (D.slots desk.old Slot.Capture) }
     ensures unspent { OnOk result (reader.new.spent ≡ false) }
     ensures later { (D.slots desk.old Slot.Capture).faults ≤ (D.slots desk.new Slot.Capture).faults }

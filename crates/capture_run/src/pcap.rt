@@ -1,6 +1,7 @@
 //! Classic captures: records, and nothing beside them.
 ghost use Rattle.std.specs.Prelude.{not};
 ghost use Rattle.capture_run.specs.Formats.{pcap_left, pcap_spelled};
+ghost use Rattle.capture_run.specs.Slots.{IsDrained};
 
 use crate::fault::SourceFault;
 use crate::given::Given;
@@ -25,6 +26,9 @@ impl Source<(), NoBlock> for Reader {
 
     ghost is_open = { λ r. not r.spent };
 
+    ghost is_drained = { IsDrained };
+
+    #[tactic(auto, using(crate::proofs::Draining::pcap_at_end))]
     fn next<D: Desk>(
         &mut self,
         alloc: Global,

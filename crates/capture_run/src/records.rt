@@ -1,5 +1,5 @@
 //! Takes what a capture gives, and runs each burst where its last packet was read, or a block stands that is no packet.
-ghost use Rattle.std.specs.Prelude.{◌≡◌, ◌≢◌, ◌≤◌, ◌<◌, ◌+◌, ◌-◌, ◌^◌, [], true, All, IfOk, IfErr, IsSome, OnOk, length};
+ghost use Rattle.std.specs.Prelude.{◌≡◌, ◌≢◌, ◌≤◌, ◌<◌, ◌+◌, ◌-◌, ◌^◌, [], true, All, IfNone, IfOk, IfErr, IsSome, OnOk, length};
 ghost use Rattle.nfp_outside.specs.declared.slot.Slot.{Slot};
 ghost use Rattle.capture_bytes.specs.Packets.{IsShort};
 ghost use Rattle.capture_run.specs.Passing.{Ends, IsFresh, IsReady, IsTold, PassBreaks, Passes, StopBreaks, StopEnds, TakeBreaks, Takes};
@@ -53,6 +53,7 @@ pub fn run_records<
     requires open { S.is_open source ≡ true }
     ensures ok { IfOk result (RunsAll W.spelled passage (S.left source (D.slots desk.old Slot.Capture)) (D.slots desk.old) (D.slots desk.new)) }
     ensures err { IfErr result (RunBreaks W.spelled passage (S.left source (D.slots desk.old Slot.Capture)) (D.slots desk.old) (D.slots desk.new)) }
+    ensures drained { IfOk result (λ run. IfNone run.1 (S.is_drained (D.slots desk.new Slot.Capture))) }
     ensures capture_name { (D.slots desk.new Slot.Capture).name ≡ (D.slots desk.old Slot.Capture).name }
     ensures others { (s : Slot) → s ≢ Slot.Out → s ≢ Slot.Report → s ≢ Slot.Capture → D.slots desk.new s ≡ D.slots desk.old s }
 {

@@ -1,5 +1,5 @@
 //! Runs a capture through the chains of a service.
-ghost use Rattle.std.specs.Prelude.{◌≡◌, ◌≢◌, ◌≤◌, ◌<◌, true, IfErr, IfOk, IsSome};
+ghost use Rattle.std.specs.Prelude.{◌≡◌, ◌≢◌, ◌≤◌, ◌<◌, true, IfErr, IfNone, IfOk, IsSome};
 ghost use Rattle.nfp_outside.specs.declared.slot.Slot.{Slot};
 ghost use Rattle.capture_report.specs.ChainServiceProofs.{IsOpening, chains_of};
 ghost use Rattle.capture_run.specs.Running.{WritesAll, WriteBreaks};
@@ -59,6 +59,7 @@ pub fn run_capture<
     requires open { S.is_open source ≡ true }
     ensures ok { IfOk result (WritesAll (W.spelled sink) (chains_of service.chains) unit (S.left source (D.slots desk.old Slot.Capture)) (D.slots desk.old) (D.slots desk.new)) }
     ensures err { IfErr result (WriteBreaks (W.spelled sink) (chains_of service.chains) unit (S.left source (D.slots desk.old Slot.Capture)) (D.slots desk.old) (D.slots desk.new)) }
+    ensures drained { IfOk result (λ ended. IfNone ended.fault (S.is_drained (D.slots desk.new Slot.Capture))) }
     ensures capture_name { (D.slots desk.new Slot.Capture).name ≡ (D.slots desk.old Slot.Capture).name }
     ensures others { (s : Slot) → s ≢ Slot.Out → s ≢ Slot.Report → s ≢ Slot.Capture → D.slots desk.new s ≡ D.slots desk.old s }
 {

@@ -26,6 +26,9 @@ pub trait Source<X, B> {
     /// It may be asked: it wasn't refused before.
     ghost is_open: { Self → Bool };
 
+    /// What holds of the slot once nothing is left: a source that reads it has read it to its end.
+    ghost is_drained: { SlotView → Type 0 };
+
     /// What stands next; `None` exactly where nothing is left. After an `Err` it isn't asked again.
     fn next<D: Desk>(
         &mut self,
@@ -36,6 +39,7 @@ pub trait Source<X, B> {
         requires open { is_open self.old ≡ true }
         ensures given { IfOk result (λ o. IfSome o (λ x. GivesNext left packets taken x self.old self.new (D.slots desk.old Slot.Capture) (D.slots desk.new Slot.Capture))) }
         ensures end { IfOk result (λ o. IfNone o (IfSome (left self.old (D.slots desk.old Slot.Capture)) (λ s. s ≡ record { given = []; fault = None }))) }
+        ensures drained { IfOk result (λ o. IfNone o (is_drained (D.slots desk.new Slot.Capture))) }
         ensures refused { (fault : FormatFault) → IsErrOf result (SourceFault.Format fault) → RefusesNext left fault self.old (D.slots desk.old Slot.Capture) }
         ensures stays_open { OnOk result (is_open self.new ≡ true) }
         ensures later { (D.slots desk.old Slot.Capture).faults ≤ (D.slots desk.new Slot.Capture).faults }

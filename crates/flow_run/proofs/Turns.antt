@@ -1,6 +1,6 @@
 -- A capture read record by record: what is counted so far and what is left come to what all of it comes to.
 use Rattle.std.proofs.Common.{◌≡◌, ◌≢◌, ◌≤◌, ◌∙◌, ℕ, [], false, refl, sym, ap, subst}
-use Rattle.std.specs.Prelude.{Option, Some, None, IfOk, IfSome, Result, Ok, Err, unwrap_or}
+use Rattle.std.specs.Prelude.{Option, Some, None, IfNone, IfOk, IfSome, Result, Ok, Err, unwrap_or}
 use Rattle.std.specs.Option.{option_map}
 use Rattle.nfp_outside.specs.declared.slot.Slot.{Slot}
 use Rattle.nfp_outside.specs.declared.slot.Slot.TheVariants as slots
@@ -9,7 +9,7 @@ use Rattle.nfp_outside.specs.declared.slot.DeskFault.{DeskFault}
 use Rattle.capture_bytes.specs.declared.packet.PcapRecord.{PcapRecord}
 use Rattle.capture_bytes.specs.declared.packet.Unit.{Unit as TimeUnit}
 use Rattle.pcap_io.specs.Capture.{Body, with_record as before_others}
-use Rattle.pcap_io.specs.Reader.{IsHeadFault, IsRecordFault, ReaderState, body_left}
+use Rattle.pcap_io.specs.Reader.{IsAtEnd, IsHeadFault, IsRecordFault, ReaderState, body_left}
 use Rattle.pcap_io.specs.declared.capture.CaptureFault.{CaptureFault}
 use Rattle.pcap_io.specs.declared.capture.CaptureFault.TheVariants.{BadMagic, BadVersion, BadLink, CutHead, CutRecord, FrameTooLong, TooManyRecords}
 use Rattle.pcap_io.specs.declared.fault.PcapFault.{PcapFault}
@@ -38,6 +38,14 @@ one_counted c r before after same = ap (option_map (ends c)) same ∙ by after
     by : (o : Option Body) → option_map (ends c) (option_map (before_others r) o) ≡ option_map (ends (with_record c r)) o
     by None = refl
     by (Some body) = refl
+
+-- nothing was left, and so nothing is
+pub drained : (before after : ReaderState) (old new : SlotView) → IsAtEnd before after old new → IfSome new.bytes (λ bytes. bytes ≡ [])
+drained before after old new end = subst (λ o. IfSome o (λ bytes. bytes ≡ [])) (sym end.left) end.empty
+
+pub if_none : {T : Type 0} (o : Option T) (P : Type 0) → P → IfNone o P
+if_none None P h = h
+if_none (Some x) P h = tt
 
 -- nothing is left but this fault, or none
 pub ended : (unit : TimeUnit) (c : CountingView) (fault : Option CaptureFault) (counted : Counted) (all left : Option Body) → option_map (ends (nothing_counted unit)) all ≡ option_map (ends c) left →

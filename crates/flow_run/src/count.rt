@@ -1,5 +1,5 @@
 //! A capture whose flows are counted.
-ghost use Rattle.std.specs.Prelude.{◌≡◌, ◌≢◌, ◌≤◌, ◌<◌, ◌^◌, All, IfOk, IfSome, IsErrOf, IsSome, length};
+ghost use Rattle.std.specs.Prelude.{◌≡◌, ◌≢◌, ◌≤◌, ◌<◌, ◌^◌, [], All, IfNone, IfOk, IfSome, IsErrOf, IsSome, length};
 ghost use Rattle.nfp_outside.specs.declared.slot.Slot.{Slot};
 ghost use Rattle.nfp_outside.specs.Outside.{IsRisen};
 ghost use Rattle.pcap_io.specs.Capture.{IsHeadFault};
@@ -50,6 +50,7 @@ pub fn count_flows<R: Threads + Sync, D: Desk>(
     requires fresh { reader ≡ reader_at head.now.order 0 }
     ensures counted { IfOk result (λ counted. IfSome (body_left reader (D.slots desk.old Slot.Capture)) (λ body. IsCountOf head.now.unit body counted)) }
     ensures kind { IfOk result (λ counted. IfSome counted.fault (λ fault. ¬ IsHeadFault fault)) }
+    ensures drained { IfOk result (λ counted. IfNone counted.fault (IfSome (D.slots desk.new Slot.Capture).bytes (λ bytes. bytes ≡ []))) }
     ensures span { IfOk result (λ counted. FitsSpan counted.span) }
     ensures fits { IfOk result (λ counted. All HasFittingKey counted.lines) }
     ensures few { IfOk result (λ counted. length counted.lines < 2 ^ 32) }

@@ -16,7 +16,8 @@ use Rattle.command_words.specs.declared.usage.UsageFault.{UsageFault}
 use Rattle.command_words.specs.Words.{Command, Run, Plan, Demo, Flows}
 use Rattle.nfp_run.specs.Closing.{outcome_seen, untold, Notes}
 use Rattle.nfp_run.specs.Due.{due_of_command}
-use Rattle.nfp_run.specs.Answers.{IsDue, WhereRead, HasNames, name_of, BothAttached, NoneAttached, OutAttached, FaultAttaches, FaultAttachesOut, FlowsAttach, AttachedUnless, RunAttaches, AttachesDue, ReachesCapture, PolicyCause, GraphCause, ReadFaultCause, WriteFaultCause}
+use Rattle.nfp_run.specs.Answers.{IsDue, WhereRead, HasNames, name_of, BothAttached, NoneAttached, OutAttached, FaultAttaches, FaultAttachesOut, FlowsAttach, AttachedUnless, RunAttaches, AttachesDue, ReachesCapture, ReadsToEnd, PolicyCause, GraphCause, ReadFaultCause, WriteFaultCause}
+use Rattle.nfp_run.proofs.ReadToEnd.{to_end}
 use Rattle.nfp_run.proofs.CallAnswers.{Called, called_done, policy_beside, capture_beside, graph_beside, out_beside, report_beside}
 
 -- the names of Out and Report stay while the line is put into Note
@@ -236,6 +237,10 @@ called_usage_always command old mid new ended result called fault e = by_notes c
     by_notes (inl (is, a)) = elim seen [ inl u ↦ inl (is ∙ u) | inr m ↦ inr (is ∙ m) ]
     by_notes (inr (inl (is, a))) = inr is
     by_notes (inr (inr (is, r, a))) = elim seen [ inl u ↦ inl (is ∙ ap untold u) | inr m ↦ inr (is ∙ ap untold m) ]
+
+pub called_read_whole : (command : Result Command UsageFault) (old mid new : Slot → SlotView) (ended : Ending) (result : Outcome) → Called command old mid new ended result → result ≡ Done → ReadsToEnd command new
+called_read_whole command old mid new ended result called e = to_end command mid new (called.beside slots.Capture capture_beside)
+    (called.ran.drained (seen_before ended result Done (mid slots.Note) (new slots.Note) called.notes e (λ h. cc) (λ h. cc)))
 
 capture_name : (mid new : Slot → SlotView) → new slots.Capture ≡ mid slots.Capture → (mid slots.Capture).name ≡ None → (new slots.Capture).name ≡ None
 capture_name mid new p h = ap (λ v. v.name) p ∙ h

@@ -20,7 +20,7 @@ use Rattle.command_words.specs.declared.requests.FlowOptions.{FlowOptions}
 use Rattle.command_words.specs.declared.usage.UsageFault.{UsageFault}
 use Rattle.command_words.specs.Words.{Command, FlowFiles, Flows}
 use Rattle.flow_run.specs.FlowsOut.{flow_lines}
-use Rattle.nfp_run.specs.Answers.{AttachesDue, IsFinal, IsUntouched, Leaves, LeavesPrefix, LeavesPrefixes, LeavesSlot, ReachesCapture, ReadFaultCause, WriteFaultCause, name_of}
+use Rattle.nfp_run.specs.Answers.{AttachesDue, IsFinal, IsReadWhole, IsUntouched, Leaves, LeavesPrefix, LeavesPrefixes, LeavesSlot, ReachesCapture, ReadFaultCause, WriteFaultCause, name_of}
 use Rattle.nfp_run.specs.Broken.{broken_by}
 use Rattle.nfp_run.specs.Closing.{CountsWithin, EndsDue, outcome_seen, text_of}
 use Rattle.nfp_run.specs.Due.{Due, due_of_body, due_of_command, due_of_flows, flows_note, outcome_of}
@@ -167,6 +167,7 @@ unopened names options old new outcome refused stays same =
       refused = λ fault is. absurd (unopened_policy (old slots.Capture) (new slots.Capture) outcome fault refused is);
       graph_refused = λ fault is. absurd (unopened_graph (old slots.Capture) (new slots.Capture) outcome fault refused is);
       policy = unopened_reaches names options old new outcome refused;
+      drained = λ is. absurd (subst (RefusedClassic (old slots.Capture) (new slots.Capture)) is refused);
       read_faults = λ s is. unopened_read names options old new outcome s refused is;
       write_faults = λ s is. absurd (unopened_write (old slots.Capture) (new slots.Capture) outcome s refused is);
       no_note_fault = unopened_write (old slots.Capture) (new slots.Capture) outcome slots.Note refused;
@@ -289,8 +290,8 @@ counted_reaches names options old (WriteFault s) is = absurd is
 counted_reaches names options old OutOfMemory is = absurd is
 
 pub exported : (names : FlowFiles) (options : FlowOptions) (head : CaptureHead) (reader : ReaderState) (old mid new : Slot → SlotView) (ending : Ending) → Stands head reader old mid → Stays names old new → FlowsEndTold ending → IsSome (new slots.Out).name →
-    IfSome (body_left reader (mid slots.Capture)) (λ body. FlowsEnd head.unit body mid new (Ok ending)) → Ran (asked names options) old new ending
-exported names options head reader old mid new ending stands stays told out left =
+    (outcome_seen ending ≡ Done → IsReadWhole (new slots.Capture)) → IfSome (body_left reader (mid slots.Capture)) (λ body. FlowsEnd head.unit body mid new (Ok ending)) → Ran (asked names options) old new ending
+exported names options head reader old mid new ending stands stays told out drained left =
     let counted : IsCounted (outcome_seen ending) = told_counted ending told in
     record {
       due = λ final. counted_due names options head reader old mid new ending stands left;
@@ -304,6 +305,7 @@ exported names options head reader old mid new ending stands stays told out left
       refused = λ fault is. absurd (subst IsCounted is counted);
       graph_refused = λ fault is. absurd (subst IsCounted is counted);
       policy = counted_reaches names options old (outcome_seen ending) counted;
+      drained = drained;
       read_faults = λ s is. absurd (subst IsCounted is counted);
       write_faults = λ s is. absurd (subst IsCounted is counted);
       no_note_fault = λ is. subst IsCounted is counted;
@@ -392,6 +394,7 @@ broken names options head reader old mid new fault stands stays cause left =
       refused = λ f is. absurd (subst IsCutOff is cut);
       graph_refused = λ f is. absurd (subst IsCutOff is cut);
       policy = cut_reaches names options old fault;
+      drained = λ is. absurd (subst IsCutOff is cut);
       read_faults = λ s is. broken_read names options old mid new fault s stands.later cause is;
       write_faults = λ s is. broken_write names options head reader old mid new fault s stands cause is;
       no_note_fault = λ is. subst IsCutOff is cut;

@@ -14,12 +14,13 @@ use Rattle.pcapng_io.specs.declared.place.Place.{Place}
 use Rattle.nfp_run.specs.Preparing.{chains_prepared, prepared}
 use Rattle.nfp_run.specs.declared.prepared.Prepared.{Prepared}
 use Rattle.nfp_run.specs.declared.outcome.Outcome.TheVariants.{Done}
-use Rattle.nfp_run.specs.Due.{due, due_by_format, due_of_command, due_of_ng, due_of_pcap, due_of_plan, due_of_run, is_ng, outcome_of}
+use Rattle.nfp_run.specs.Due.{due, due_by_format, due_of_command, due_of_flows, due_of_ng, due_of_pcap, due_of_plan, due_of_run, is_ng, outcome_of}
 use Rattle.capture_run.specs.FormatFaultVariants.{Ng}
 use Rattle.capture_run.specs.ChainService.{Chains}
 use Rattle.command_words.specs.declared.requests.DemoInput.{DemoInput}
+use Rattle.command_words.specs.declared.requests.FlowOptions.{FlowOptions}
 use Rattle.command_words.specs.declared.requests.RunOptions.{RunOptions}
-use Rattle.command_words.specs.Words.{Names, PlanFiles, command_of, Run, Plan, Demo}
+use Rattle.command_words.specs.Words.{Names, FlowFiles, PlanFiles, command_of, Run, Plan, Demo, Flows}
 
 -- no head begins with the type of a section header block
 no_head : (rest : List ℕ) (x : CaptureHead × Body) → capture_of (0x0a ∷ 0x0d ∷ 0x0d ∷ 0x0a ∷ rest) ≡ Ok x → ⊥
@@ -69,3 +70,7 @@ plan_is_done words names p g c policy is good = ap (λ command. (due_of_command 
 
 pub demo_is_done : (words : List (List ℕ)) (input : DemoInput) (options : RunOptions) (p g c : List ℕ) → command_of words ≡ Ok (Demo input options) → (due words p g c).outcome ≡ Done
 demo_is_done words input options p g c is = ap (λ command. (due_of_command command p g c).outcome) is
+
+pub flows_are_done : (words : List (List ℕ)) (names : FlowFiles) (options : FlowOptions) (p g c : List ℕ) (head : CaptureHead) (records : List PcapRecord) →
+    command_of words ≡ Ok (Flows names options) → capture_of c ≡ Ok (head, record { records = records; fault = None }) → (due words p g c).outcome ≡ Done
+flows_are_done words names options p g c head records is whole = ap (λ command. (due_of_command command p g c).outcome) is ∙ ap (λ r. (due_of_flows r).outcome) whole

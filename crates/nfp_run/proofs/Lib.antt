@@ -17,6 +17,7 @@ pub mod OtherSlots
 pub mod PolicyEnds
 pub mod Preparations
 pub mod PutInSteps
+pub mod ReadToEnd
 mod Rows
 pub mod RunEnds
 pub mod ShownPlans

@@ -25,7 +25,7 @@ use Rattle.nfp_run.specs.declared.outcome.Outcome.TheVariants.{Done, Usage, Poli
 use Rattle.nfp_run.specs.declared.prepared.Prepared.{Prepared}
 use Rattle.nfp_run.proofs.HeldBytes.{untouched_same}
 use Rattle.nfp_run.proofs.OtherSlots.{capture_is_not_graph, capture_is_not_policy, note_is_not_graph, note_is_not_policy, out_is_not_graph, out_is_not_policy, report_is_not_graph, report_is_not_policy}
-use Rattle.nfp_run.proofs.TextsTold.{if_texts, if_told, read_always, texts_by_policy}
+use Rattle.nfp_run.proofs.TextsTold.{if_of, if_texts, read_always, texts_by_policy, told_of}
 
 -- Out, Report, Note and the capture were not touched: only the policy and the graphs were.
 pub record Beside (old new : Slot → SlotView) : Type 0 where
@@ -127,7 +127,7 @@ texts_ran command named old new ending t b ends = go ending ends
 
     go : (e : Ending) → EndsAtTexts named old new e → Ran command old new e
     go (Refused refusal) h = record {
-      due = λ final. t.due (Refused refusal) (texts_by_policy named old _ (IsFaultDue named old new (Refused refusal)) (λ p g is. refusal_due named old new refusal p g b is) h);
+      due = λ final. t.due (Refused refusal) (texts_by_policy named old _ (IsFaultDue named old new (Refused refusal)) (λ p g is. refusal_due named old new refusal p g b is) (told_of (old slots.Policy).bytes _ h));
       prefixes = prefixes;
       within = tt;
       names_are = t.names;
@@ -135,9 +135,10 @@ texts_ran command named old new ending t b ends = go ending ends
       note_stays = note_stays;
       usage = λ fault x. absurd cc;
       usage_always = λ fault x. absurd (t.accepted fault x);
-      refused = λ fault x. (t.policy, if_told (old slots.Policy).bytes _ _ (λ p is. told_fault fault refusal (judged p) is (same_fault refusal.fault fault x)) h, no_capture old new b);
+      refused = λ fault x. (t.policy, if_of (old slots.Policy).bytes _ _ (λ p is. told_fault fault refusal (judged p) is (same_fault refusal.fault fault x)) h, no_capture old new b);
       graph_refused = λ fault x. absurd cc;
       policy = t.reaches (Refused refusal) h;
+      drained = λ x. absurd cc;
       read_faults = λ s x. absurd cc;
       write_faults = λ s x. absurd cc;
       no_note_fault = λ x. cc;
@@ -154,6 +155,7 @@ texts_ran command named old new ending t b ends = go ending ends
       refused = λ fault x. absurd cc;
       graph_refused = λ fault x. graph_cause command named old new refusal fault t b h (same_graph_fault refusal.fault fault x);
       policy = t.reaches (GraphRefused refusal) h;
+      drained = λ x. absurd cc;
       read_faults = λ s x. absurd cc;
       write_faults = λ s x. absurd cc;
       no_note_fault = λ x. cc;
@@ -170,6 +172,7 @@ texts_ran command named old new ending t b ends = go ending ends
       refused = λ fault x. absurd cc;
       graph_refused = λ fault x. absurd cc;
       policy = t.reaches (Stopped (ReadFault s)) h;
+      drained = λ x. absurd cc;
       read_faults = λ u x. subst (ReadFaultCause command old new) (same_slot s u x) (text_cause command named old new s t b h);
       write_faults = λ u x. absurd cc;
       no_note_fault = λ x. cc;
@@ -186,6 +189,7 @@ texts_ran command named old new ending t b ends = go ending ends
       refused = λ fault x. absurd cc;
       graph_refused = λ fault x. absurd cc;
       policy = t.reaches (Stopped OutOfMemory) h;
+      drained = λ x. absurd cc;
       read_faults = λ u x. absurd cc;
       write_faults = λ u x. absurd cc;
       no_note_fault = λ x. cc;

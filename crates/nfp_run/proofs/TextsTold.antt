@@ -1,12 +1,12 @@
 -- Facts of the bytes of the texts and of the capture, where the desk tells what the words read.
-use Rattle.std.proofs.Common.{ℕ, List}
+use Rattle.std.proofs.Common.{◌≡◌, ℕ, List, sym, subst}
 use Rattle.std.specs.Prelude.{Option, Some, None, IfSome, Result, Ok, Err}
 use Rattle.nfp_outside.specs.declared.slot.Slot.{Slot}
 use Rattle.nfp_outside.specs.declared.slot.Slot.TheVariants as slots
 use Rattle.nfp_outside.specs.Outside.{SlotView}
 use Rattle.command_words.specs.declared.usage.UsageFault.{UsageFault}
 use Rattle.command_words.specs.Words.{Command, Run, Plan, Demo, Flows}
-use Rattle.nfp_run.specs.Answers.{WhereNamed, WhereRead, WhereTexts}
+use Rattle.nfp_run.specs.Answers.{OfBytes, WhereNamed, WhereRead, WhereTexts}
 
 -- what one fact gives another for all bytes, it gives it for those that are told
 pub if_told : (o : Option (List ℕ)) (P Q : List ℕ → Type 0) → ((bytes : List ℕ) → P bytes → Q bytes) → IfSome o P → IfSome o Q
@@ -16,6 +16,25 @@ if_told (Some bytes) P Q f h = f bytes h
 pub told_always : (o : Option (List ℕ)) (P : List ℕ → Type 0) → ((bytes : List ℕ) → P bytes) → IfSome o P
 told_always None P f = tt
 told_always (Some bytes) P f = f bytes
+
+-- ---- of the bytes that are told, or of some
+
+-- a fact of what was read
+pub of_read : (o : Option (List ℕ)) (read : List ℕ) (P : List ℕ → Type 0) → IfSome o (λ bytes. bytes ≡ read) → P read → OfBytes o P
+of_read None read P is here = (read, here)
+of_read (Some bytes) read P is here = subst P (sym is) here
+
+-- what one fact gives another for all bytes, it gives it here too
+pub if_of : (o : Option (List ℕ)) (P Q : List ℕ → Type 0) → ((bytes : List ℕ) → P bytes → Q bytes) → OfBytes o P → OfBytes o Q
+if_of None P Q f h = (h.0, f h.0 h.1)
+if_of (Some bytes) P Q f h = f bytes h
+
+-- it is a fact of those that are told
+pub told_of : (o : Option (List ℕ)) (P : List ℕ → Type 0) → OfBytes o P → IfSome o P
+told_of None P h = tt
+told_of (Some bytes) P h = h
+
+-- ---- premises
 
 -- what is due of the bytes under a premise
 told_under : (o : Option (List ℕ)) (F : Type 0) (P : List ℕ → Type 0) → (F → IfSome o P) → IfSome o (λ bytes. F → P bytes)

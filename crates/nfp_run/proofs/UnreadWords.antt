@@ -47,6 +47,7 @@ unread_ran command old free = record {
   refused = λ fault x. absurd cc;
   graph_refused = λ fault x. absurd cc;
   policy = reaches_unmade command old;
+  drained = λ x. absurd cc;
   read_faults = λ s x. absurd cc;
   write_faults = λ s x. absurd cc;
   no_note_fault = λ x. cc;

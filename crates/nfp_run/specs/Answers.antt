@@ -1,5 +1,5 @@
 -- Believed: what an outcome says of the slots.
-use Rattle.std.specs.Prelude.{◌≡◌, ◌⊎◌, ℕ, List, ◌++◌, Option, Some, None, IfSome, IsSome, IsOk, Bool, true, false, Result, Ok, Err}
+use Rattle.std.specs.Prelude.{◌≡◌, ◌⊎◌, ℕ, List, [], ◌++◌, Option, Some, None, IfSome, IsSome, IsOk, Bool, true, false, Result, Ok, Err}
 use Rattle.std.specs.Option.{option_map}
 use Rattle.nfp_outside.specs.declared.slot.Slot.{Slot}
 use Rattle.nfp_outside.specs.declared.slot.Slot.TheVariants as slots
@@ -132,6 +132,11 @@ abbrev pub HasNames : Result Command UsageFault → (Slot → SlotView) → Type
 HasNames (Err fault) new = (s : Slot) → (new s).name ≡ None
 HasNames (Ok command) new = (s : Slot) → ((new s).name ≡ None) ⊎ ((new s).name ≡ name_of command s)
 
+-- a fact of the bytes of a slot that was read: of those that the desk tells, or of some bytes where it tells none
+abbrev pub OfBytes : Option (List ℕ) → (List ℕ → Type 0) → Type 0
+OfBytes None P = (bytes : List ℕ) × P bytes
+OfBytes (Some bytes) P = P bytes
+
 -- the policy has no fault, where the desk tells it
 abbrev pub HasPolicy : (Slot → SlotView) → Type 0
 HasPolicy old = IfSome (old slots.Policy).bytes (λ bytes. IsOk (judged bytes))
@@ -225,6 +230,18 @@ AttachesDue (Ok (Demo input options)) outcome new = NoneAttached new
 AttachesDue (Ok (Flows names options)) outcome new = FlowsAttach outcome new
 AttachesDue (Err fault) outcome new = NoneAttached new
 
+-- nothing is left of a slot that is read, where the desk tells it
+abbrev pub IsReadWhole : SlotView → Type 0
+IsReadWhole slot = IfSome slot.bytes (λ bytes. bytes ≡ [])
+
+-- the capture was read to its end, where the words are a command that takes one
+abbrev pub ReadsToEnd : Result Command UsageFault → (Slot → SlotView) → Type 0
+ReadsToEnd (Ok (Run names options)) new = IsReadWhole (new slots.Capture)
+ReadsToEnd (Ok (Plan names)) new = Unit {0}
+ReadsToEnd (Ok (Demo input options)) new = Unit {0}
+ReadsToEnd (Ok (Flows names options)) new = IsReadWhole (new slots.Capture)
+ReadsToEnd (Err fault) new = Unit {0}
+
 -- what is known of the words, the policy and the graphs where work was done, or a slot was written: `run` and `plan` need both without fault,
 -- and `run` and `flows` alone tell a fault of a capture
 abbrev pub ReachesCapture : Result Command UsageFault → Outcome → (Slot → SlotView) → Type 0
@@ -253,9 +270,10 @@ ReadsPolicy (Ok (Demo input options)) = ⊥
 ReadsPolicy (Ok (Flows names options)) = ⊥
 ReadsPolicy (Err fault) = ⊥
 
--- why a policy was refused: the words are a command that reads one, its first fault is this, and the capture wasn't attached
+-- why a policy was refused: the words are a command that reads one, its first fault is this, and the capture wasn't attached; where the desk
+-- doesn't tell the policy, this is the first fault of some policy
 abbrev pub PolicyCause : Result Command UsageFault → (Slot → SlotView) → (Slot → SlotView) → PolicyFault → Type 0
-PolicyCause command old new fault = ReadsPolicy command × IfSome (old slots.Policy).bytes (λ bytes. IsFaultOf fault (judged bytes)) × ((new slots.Capture).name ≡ None)
+PolicyCause command old new fault = ReadsPolicy command × OfBytes (old slots.Policy).bytes (λ bytes. IsFaultOf fault (judged bytes)) × ((new slots.Capture).name ≡ None)
 
 -- the words are a command that reads graphs of this name
 abbrev pub ReadsGraph : Result Command UsageFault → Option (List ℕ) → Type 0

@@ -6,12 +6,12 @@ use Rattle.nfp_outside.specs.Outside.{SlotView}
 use Rattle.graph_text.specs.declared.fault.GraphFault.{GraphFault}
 use Rattle.policy_judge.specs.declared.fault.PolicyFault.{PolicyFault}
 use Rattle.nfp_run.specs.declared.ending.Ending.{Ending}
-use Rattle.nfp_run.specs.declared.outcome.Outcome.TheVariants.{Usage, Policy, Graph, ReadFault, WriteFault, OutOfMemory}
+use Rattle.nfp_run.specs.declared.outcome.Outcome.TheVariants.{Done, Usage, Policy, Graph, ReadFault, WriteFault, OutOfMemory}
 use Rattle.command_words.specs.declared.usage.UsageFault.{UsageFault}
 use Rattle.command_words.specs.Words.{Command}
 use Rattle.nfp_run.specs.Due.{due_of_command}
 use Rattle.nfp_run.specs.Closing.{outcome_seen, EndsDue, CountsWithin}
-use Rattle.nfp_run.specs.Answers.{IsFinal, WhereRead, LeavesPrefixes, HasNames, AttachesDue, ReachesCapture, PolicyCause, GraphCause, ReadFaultCause, WriteFaultCause}
+use Rattle.nfp_run.specs.Answers.{IsFinal, WhereRead, LeavesPrefixes, HasNames, AttachesDue, ReachesCapture, ReadsToEnd, PolicyCause, GraphCause, ReadFaultCause, WriteFaultCause}
 
 pub record Ran (command : Result Command UsageFault) (old new : Slot → SlotView) (ending : Ending) : Type 0 where
   pub due : IsFinal (outcome_seen ending) → WhereRead command old (λ p g c. EndsDue (due_of_command command p g c) old new ending)
@@ -25,6 +25,7 @@ pub record Ran (command : Result Command UsageFault) (old new : Slot → SlotVie
   pub refused : (fault : PolicyFault) → outcome_seen ending ≡ Policy fault → PolicyCause command old new fault
   pub graph_refused : (fault : GraphFault) → outcome_seen ending ≡ Graph fault → GraphCause command old new fault
   pub policy : ReachesCapture command (outcome_seen ending) old
+  pub drained : outcome_seen ending ≡ Done → ReadsToEnd command new
   pub read_faults : (s : Slot) → outcome_seen ending ≡ ReadFault s → ReadFaultCause command old new s
   pub write_faults : (s : Slot) → outcome_seen ending ≡ WriteFault s → WriteFaultCause command old new s
   pub no_note_fault : outcome_seen ending ≡ WriteFault slots.Note → ⊥

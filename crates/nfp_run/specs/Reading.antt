@@ -43,7 +43,7 @@ use Rattle.policy_judge.specs.Making.{functions_made}
 use Rattle.policy_judge.specs.Orders.{IsOrdered}
 use Rattle.policy_text.specs.declared.policy.ChainPolicy.{ChainPolicy}
 use Rattle.capture_run.specs.ChainServiceProofs.{FitAll}
-use Rattle.nfp_run.specs.Answers.{HasPolicy, WhereTexts}
+use Rattle.nfp_run.specs.Answers.{HasPolicy, OfBytes, WhereTexts}
 use Rattle.nfp_run.specs.GraphLines.{graph_line}
 use Rattle.nfp_run.specs.Preparing.{ByGraph, Unprepared, chains_prepared, prepared, prepared_with}
 use Rattle.nfp_run.specs.declared.ending.GraphRefusal.{GraphRefusal}
@@ -73,7 +73,7 @@ UnreadEnds NoMemory ending = ending ≡ Stopped OutOfMemory
 
 -- Why a call ends at the policy: it has a fault, its count rose, or memory ran out.
 abbrev pub EndsAtPolicy : SlotView → SlotView → Ending → Type 0
-EndsAtPolicy old new (Refused refusal) = IfSome old.bytes (λ bytes. judged bytes ≡ Err refusal)
+EndsAtPolicy old new (Refused refusal) = OfBytes old.bytes (λ bytes. judged bytes ≡ Err refusal)
 EndsAtPolicy old new (Stopped (ReadFault s)) = (s ≡ slots.Policy) × IsRisen old.faults new.faults
 EndsAtPolicy old new (Stopped OutOfMemory) = Unit {0}
 EndsAtPolicy old new (Stopped Done) = ⊥
@@ -140,7 +140,7 @@ TextUnread named old new slots.Note = ⊥
 
 -- Why a call ends at the policy or at the graphs.
 abbrev pub EndsAtTexts : Option (List ℕ) → (Slot → SlotView) → (Slot → SlotView) → Ending → Type 0
-EndsAtTexts named old new (Refused refusal) = IfSome (old slots.Policy).bytes (λ bytes. judged bytes ≡ Err refusal)
+EndsAtTexts named old new (Refused refusal) = OfBytes (old slots.Policy).bytes (λ bytes. judged bytes ≡ Err refusal)
 EndsAtTexts named old new (GraphRefused refusal) = GraphFails named old refusal
 EndsAtTexts named old new (Stopped (ReadFault s)) = TextUnread named old new s
 EndsAtTexts named old new (Stopped OutOfMemory) = Unit {0}

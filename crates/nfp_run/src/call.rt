@@ -5,7 +5,7 @@ ghost use Rattle.nfp_outside.specs.Outside.{Appends, AppendsPrefix, IsRisen};
 ghost use Rattle.graph_text.specs.declared.fault.GraphFault.{GraphFault};
 ghost use Rattle.policy_judge.specs.declared.fault.PolicyFault.{PolicyFault};
 ghost use Rattle.command_words.specs.declared.usage.UsageFault.{UsageFault};
-ghost use Rattle.nfp_run.specs.Answers.{IsDue, IsFinal, HasNames, NoneRose, WhereRead, Leaves, LeavesPrefixes, AttachesDue, ReachesCapture, PolicyCause, GraphCause, ReadFaultCause, WriteFaultCause, NotesPrefix, note_due};
+ghost use Rattle.nfp_run.specs.Answers.{IsDue, IsFinal, HasNames, NoneRose, WhereRead, Leaves, LeavesPrefixes, AttachesDue, ReachesCapture, ReadsToEnd, PolicyCause, GraphCause, ReadFaultCause, WriteFaultCause, NotesPrefix, note_due};
 ghost use Rattle.nfp_run.specs.Due.{due};
 ghost use Rattle.command_words.specs.Words.{command_of};
 
@@ -32,10 +32,10 @@ use std::thread::Threads;
 /// `--workers` says, and puts their packets of NetFlow version 5 into Out. Last, one line goes into Note, or the plan, or the demo's
 /// summary.
 ///
-/// Where a burst goes on threads, the branches of a stage run side by side, each on a thread of its own where one can be started
-/// (one whose functions keep no state and don't count on one for each merger), and behind them as many mergers as `--mergers` says,
-/// or as there are packets. What the branches give comes to a merger as `--merge` says: over a link from each, or on a board of its
-/// own. A chain that is one branch takes no thread, and bursts for which threads spare too little by the clock go on the caller's.
+/// Where a burst goes on threads, the branches of a stage run side by side, on as many threads as fit the machine (one whose functions
+/// keep no state and don't count in a place for each merger), and behind them as many mergers as `--mergers` says, or fewer where there
+/// are fewer packets or more don't pay. What the branches give comes to a merger as `--merge` says: over a link from each, or on a board
+/// of its own. A chain that is one branch takes no thread, and bursts for which threads spare too little by the clock go on the caller's.
 /// Each step of a function, and each look of one that counts, passes the gate first. What is due says nothing of any of these.
 pub fn nfp<R: Threads + Wait + Clock + Sync, D: Desk, G: Gate + Sync>(
     rt: &R,
@@ -81,6 +81,9 @@ pub fn nfp<R: Threads + Wait + Clock + Sync, D: Desk, G: Gate + Sync>(
     // A fault of Note is told where the work was done, and Out and Report are whole.
     ensures note_fault { result ≡ Outcome.WriteFault Slot.Note → WhereRead (command_of (map string_bytes words.now)) (D.slots desk.old) (λ p g c.
         IsDue (due (map string_bytes words.now) p g c) (D.slots desk.old) (D.slots desk.new) Outcome.Done) }
+
+    // Done says that a capture that the words name was read to its end, whatever the counts did.
+    ensures read_whole { result ≡ Outcome.Done → ReadsToEnd (command_of (map string_bytes words.now)) (D.slots desk.new) }
 
     // Each attached slot has the name that the words give it, so a plan attaches the policy and the graphs alone.
     ensures names { HasNames (command_of (map string_bytes words.now)) (D.slots desk.new) }

@@ -1,5 +1,5 @@
 //! The records of a demo, as those of a capture.
-ghost use Rattle.std.specs.Prelude.{◌≡◌, Some, true};
+ghost use Rattle.std.specs.Prelude.{◌≡◌, Some, true, ⊤};
 ghost use Rattle.demo_capture.specs.DemoCapture.{demo_records, whole_body};
 ghost use Rattle.capture_run.specs.Formats.{pcap_stream};
 
@@ -35,6 +35,8 @@ impl Source<(), NoBlock> for DemoSource {
     ghost taken = { λ source. source.records.given };
 
     ghost is_open = { λ source. true };
+
+    ghost is_drained = { λ slot. ⊤ };
 
     fn next<D: Desk>(
         &mut self,

@@ -1,11 +1,14 @@
 //! Counts the flows of a capture and exports them, up to the line in Note.
-ghost use Rattle.std.specs.Prelude.{◌≡◌, ◌≢◌, ◌≤◌, ◌<◌, ◌^◌, ◌⊎◌, All, IfErr, IfOk, IfSome, IsSome, Ok, Some, None, length};
+ghost use Rattle.std.specs.Prelude.{◌≡◌, ◌≢◌, ◌≤◌, ◌<◌, ◌^◌, ◌⊎◌, All, IfErr, IfNone, IfOk, IfSome, IsSome, Ok, Some, None, length};
 ghost use Rattle.nfp_outside.specs.declared.slot.Slot.{Slot};
 ghost use Rattle.pcap_io.specs.Reader.{body_left, reader_at};
 ghost use Rattle.command_words.specs.Named.{IsFlowRange, files_seen};
 ghost use Rattle.command_words.specs.Words.{Flows};
 ghost use Rattle.flow_export.specs.Exports.{exported, packet_count};
+ghost use Rattle.nfp_run.specs.Answers.{IsReadWhole};
+ghost use Rattle.nfp_run.specs.Closing.{outcome_seen};
 ghost use Rattle.nfp_run.specs.FlowsRan.{FlowsBroken, FlowsEnd, FlowsEndTold};
+ghost use Rattle.nfp_run.specs.declared.outcome.Outcome.{Outcome};
 ghost use Rattle.nfp_run.specs.Notes.{flows_text};
 ghost use Rattle.nfp_run.specs.Ran.{Ran};
 
@@ -66,6 +69,7 @@ fn count_and_export<R: Threads + Sync, D: Desk>(
     ensures left { IfSome (body_left reader (D.slots desk.old Slot.Capture)) (λ body. FlowsEnd head.now.unit body (D.slots desk.old) (D.slots desk.new) result) }
     ensures told { IfOk result FlowsEndTold }
     ensures attached { IfOk result (λ ending. IsSome (D.slots desk.new Slot.Out).name) }
+    ensures drained { IfOk result (λ ending. outcome_seen ending ≡ Outcome.Done → IsReadWhole (D.slots desk.new Slot.Capture)) }
     ensures cause { IfErr result (FlowsBroken (D.slots desk.old) (D.slots desk.new)) }
     ensures out_name { ((D.slots desk.new Slot.Out).name ≡ None) ⊎ ((D.slots desk.new Slot.Out).name ≡ Some out.now) }
     ensures capture_name { (D.slots desk.new Slot.Capture).name ≡ (D.slots desk.old Slot.Capture).name }
@@ -98,6 +102,7 @@ fn count<R: Threads + Sync, D: Desk>(
     requires fresh { reader ≡ reader_at head.now.order 0 }
     ensures counted { IfOk result (λ counted. IfSome (body_left reader (D.slots desk.old Slot.Capture)) (λ body. IsCountOf head.now.unit body counted)) }
     ensures kind { IfOk result (λ counted. IfSome counted.fault (λ fault. ¬ IsHeadFault fault)) }
+    ensures drained { IfOk result (λ counted. IfNone counted.fault (IsReadWhole (D.slots desk.new Slot.Capture))) }
     ensures span { IfOk result (λ counted. FitsSpan counted.span) }
     ensures fits { IfOk result (λ counted. All HasFittingKey counted.lines) }
     ensures few { IfOk result (λ counted. length counted.lines < 2 ^ 32) }

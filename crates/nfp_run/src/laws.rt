@@ -12,13 +12,14 @@ ghost use Rattle.nfp_run.specs.Due.{due, is_ng};
 ghost use Rattle.nfp_run.specs.Preparing.{prepared};
 ghost use Rattle.nfp_run.specs.declared.prepared.Prepared.{Prepared};
 ghost use Rattle.command_words.specs.declared.requests.DemoInput.{DemoInput};
+ghost use Rattle.command_words.specs.declared.requests.FlowOptions.{FlowOptions};
 ghost use Rattle.command_words.specs.declared.requests.RunOptions.{RunOptions};
-ghost use Rattle.command_words.specs.Words.{Names, PlanFiles, command_of, Run, Plan, Demo};
+ghost use Rattle.command_words.specs.Words.{Names, FlowFiles, PlanFiles, command_of, Run, Plan, Demo, Flows};
 
 /// A law: words that are a command, a policy and graphs without fault, and for `run` a capture without fault
-/// are done; a demo needs none of them. With the clause `answers` of [`crate::nfp`], such a call answers Done or want of memory wherever no
+/// are done; `flows` needs the capture alone, and a demo none of them. With the clause `answers` of [`crate::nfp`], such a call answers Done or want of memory wherever no
 /// slot failed.
-#[tactic(auto, using(crate::proofs::GoodCalls::run_is_done, crate::proofs::GoodCalls::ng_run_is_done, crate::proofs::GoodCalls::plan_is_done, crate::proofs::GoodCalls::demo_is_done))]
+#[tactic(auto, using(crate::proofs::GoodCalls::run_is_done, crate::proofs::GoodCalls::ng_run_is_done, crate::proofs::GoodCalls::plan_is_done, crate::proofs::GoodCalls::demo_is_done, crate::proofs::GoodCalls::flows_are_done))]
 pub fn a_good_call_is_done()
     ensures run { (words : List (List ℕ)) → (names : Names) → (options : RunOptions) → (p g c : List ℕ) → (policy : Prepared) → (head : CaptureHead) → (records : List PcapRecord) →
         command_of words ≡ Ok (Run names options) → prepared names.graph p g ≡ Ok policy → capture_of c ≡ Ok (head, record { records = records; fault = None }) → (due words p g c).outcome ≡ Outcome.Done }
@@ -26,6 +27,8 @@ pub fn a_good_call_is_done()
         command_of words ≡ Ok (Run names options) → prepared names.graph p g ≡ Ok policy → is_ng c ≡ true → IsOk (next_of start c) → blocks_of start c ≡ record { items = items; fault = None } → (due words p g c).outcome ≡ Outcome.Done }
     ensures plan { (words : List (List ℕ)) → (names : PlanFiles) → (p g c : List ℕ) → (policy : Prepared) → command_of words ≡ Ok (Plan names) → prepared names.graph p g ≡ Ok policy → (due words p g c).outcome ≡ Outcome.Done }
     ensures demo { (words : List (List ℕ)) → (input : DemoInput) → (options : RunOptions) → (p g c : List ℕ) → command_of words ≡ Ok (Demo input options) → (due words p g c).outcome ≡ Outcome.Done }
+    ensures flows { (words : List (List ℕ)) → (names : FlowFiles) → (options : FlowOptions) → (p g c : List ℕ) → (head : CaptureHead) → (records : List PcapRecord) →
+        command_of words ≡ Ok (Flows names options) → capture_of c ≡ Ok (head, record { records = records; fault = None }) → (due words p g c).outcome ≡ Outcome.Done }
 {}
 
 /// A law: the policy of a demo has no fault, so a demo has chains to run.

@@ -1,5 +1,5 @@
 //! Runs the chains of a policy over a capture, up to the line in Note.
-ghost use Rattle.std.specs.Prelude.{◌≡◌, ◌≢◌, ◌≤◌, ◌⊎◌, true, IfErr, IfOk, IfSome, IsSome, Ok, Some, None};
+ghost use Rattle.std.specs.Prelude.{◌≡◌, ◌≢◌, ◌≤◌, ◌⊎◌, true, IfErr, IfNone, IfOk, IfSome, IsSome, Ok, Some, None};
 ghost use Rattle.std.specs.Option.{option_map};
 ghost use Rattle.nfp_outside.specs.declared.slot.Slot.{Slot};
 ghost use Rattle.pcap_io.specs.Reader.{reader_at, body_left};
@@ -7,7 +7,7 @@ ghost use Rattle.graph_text.specs.declared.fault.GraphFault.{GraphFault};
 ghost use Rattle.policy_judge.specs.declared.fault.PolicyFault.{PolicyFault};
 ghost use Rattle.command_words.specs.declared.usage.UsageFault.{UsageFault};
 ghost use Rattle.command_words.specs.Words.{Run};
-ghost use Rattle.nfp_run.specs.Answers.{IsFinal, WhereRead, LeavesPrefixes, HasNames, RunAttaches, ReachesCapture, PolicyCause, GraphCause, ReadFaultCause, WriteFaultCause};
+ghost use Rattle.nfp_run.specs.Answers.{IsFinal, WhereRead, LeavesPrefixes, HasNames, RunAttaches, ReachesCapture, IsReadWhole, PolicyCause, GraphCause, ReadFaultCause, WriteFaultCause};
 ghost use Rattle.nfp_run.specs.Attached.{RunLeavesAttached};
 ghost use Rattle.nfp_run.specs.Closing.{outcome_seen, closed, ending_of, Left, LedPartly, LedWhole, EndsDue, CountsWithin};
 ghost use Rattle.nfp_run.specs.Reading.{IsBefore, led_stream, opened_led};
@@ -59,6 +59,7 @@ pub fn run<R: Threads + Wait + Clock + Sync, D: Desk, G: Gate + Sync>(
     ensures refused { (f : PolicyFault) → outcome_seen result ≡ Outcome.Policy f → PolicyCause (Ok (Run (names_seen names.now) options)) (D.slots desk.old) (D.slots desk.new) f }
     ensures graph_refused { (f : GraphFault) → outcome_seen result ≡ Outcome.Graph f → GraphCause (Ok (Run (names_seen names.now) options)) (D.slots desk.old) (D.slots desk.new) f }
     ensures policy { ReachesCapture (Ok (Run (names_seen names.now) options)) (outcome_seen result) (D.slots desk.old) }
+    ensures drained { outcome_seen result ≡ Outcome.Done → IsReadWhole (D.slots desk.new Slot.Capture) }
     ensures read_faults { (s : Slot) → outcome_seen result ≡ Outcome.ReadFault s → ReadFaultCause (Ok (Run (names_seen names.now) options)) (D.slots desk.old) (D.slots desk.new) s }
     ensures write_faults { (s : Slot) → outcome_seen result ≡ Outcome.WriteFault s → WriteFaultCause (Ok (Run (names_seen names.now) options)) (D.slots desk.old) (D.slots desk.new) s }
     ensures no_note_fault { outcome_seen result ≡ Outcome.WriteFault Slot.Note → ⊥ }
@@ -116,6 +117,7 @@ fn attach_and_run<R: Threads + Wait + Clock + Sync, D: Desk, G: Gate + Sync>(
     ensures cause { IfErr result (IsBroken (D.slots desk.old) (D.slots desk.new)) }
     ensures within { IfOk result (λ ended. ended.totals.dropped ≤ ended.totals.records) }
     ensures kind { IfOk result (λ ended. IfSome ended.fault (λ fault. ¬ IsOpeningFault fault)) }
+    ensures drained { IfOk result (λ ended. IfNone ended.fault (IsReadWhole (D.slots desk.new Slot.Capture))) }
     ensures attached { RunLeavesAttached result (D.slots desk.new) }
     ensures out_name { ((D.slots desk.new Slot.Out).name ≡ None) ⊎ ((D.slots desk.new Slot.Out).name ≡ Some names.now.out.now) }
     ensures report_name { ((D.slots desk.new Slot.Report).name ≡ None) ⊎ ((D.slots desk.new Slot.Report).name ≡ Some names.now.report.now) }
@@ -149,6 +151,7 @@ fn run_pcap<R: Threads + Wait + Clock + Sync, D: Desk, G: Gate + Sync>(
     requires opening { IsOpening service }
     requires ranges { IsInRange options }
     requires fresh { reader ≡ reader_at head.now.order 0 }
+    ensures drained { IfOk result (λ ended. IfNone ended.fault (IsReadWhole (D.slots desk.new Slot.Capture))) }
     ensures ok { IfOk result (LedWhole (option_map (led_pcap (chains_of service.chains) head.now) (body_left reader (D.slots desk.old Slot.Capture))) (D.slots desk.old) (D.slots desk.new)) }
     ensures err { IfErr result (LedPartly (option_map (led_pcap (chains_of service.chains) head.now) (body_left reader (D.slots desk.old Slot.Capture))) (D.slots desk.old) (D.slots desk.new)) }
     ensures capture_name { (D.slots desk.new Slot.Capture).name ≡ (D.slots desk.old Slot.Capture).name }
@@ -186,6 +189,7 @@ fn run_ng<R: Threads + Wait + Clock + Sync, D: Desk, G: Gate + Sync>(
     requires ranges { IsInRange options }
     requires fresh { ng_packets source ≡ 0 }
     requires open { is_asked source ≡ true }
+    ensures drained { IfOk result (λ ended. IfNone ended.fault (IsReadWhole (D.slots desk.new Slot.Capture))) }
     ensures ok { IfOk result (LedWhole (option_map (led_stream (chains_of service.chains)) (ng_left source (D.slots desk.old Slot.Capture))) (D.slots desk.old) (D.slots desk.new)) }
     ensures err { IfErr result (LedPartly (option_map (led_stream (chains_of service.chains)) (ng_left source (D.slots desk.old Slot.Capture))) (D.slots desk.old) (D.slots desk.new)) }
     ensures capture_name { (D.slots desk.new Slot.Capture).name ≡ (D.slots desk.old Slot.Capture).name }

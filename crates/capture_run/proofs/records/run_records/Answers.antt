@@ -1,6 +1,9 @@
 use Rattle.std.proofs.Common.{ap, Err}
 use Rattle.std.proofs.lemmas.Result.{IfOk-weaker, IfErr-weaker}
+use Rattle.nfp_outside.specs.declared.slot.Slot.TheVariants.{Capture}
 use Rattle.capture_run.specs.declared.fault.RunFault.TheVariants.{OutOfMemory}
+use Rattle.capture_run.specs.Putting.{capture_is_not_out, capture_is_not_report}
+use Rattle.capture_run.proofs.Draining.{drained_at_end, drained_at_stop}
 use Rattle.capture_run.proofs.HandingOn.{handed_on}
 use Rattle.capture_run.proofs.Running.{no_run}
 use Rattle.capture_run.proofs.Turns.{at_begins, at_goes_on, at_end, at_stop, at_end_break, at_stop_break, at_take_break}
@@ -39,3 +42,9 @@ returns-in-Err-clause-err g c = IfErr-weaker c.stop.result _ _
 
 pub returns-in_err-cutter-clause-err : goal.returns-in_err-cutter-clause-err
 returns-in_err-cutter-clause-err g c = handed_on c.from_residual.result OutOfMemory _ c.from_residual.ensures.1 (no_run _ c.args.passage _ (g.D.Desk.slots c.args.desk.now))
+
+pub returns-in-Ok-None-clause-drained : goal.returns-in-Ok-None-clause-drained
+returns-in-Ok-None-clause-drained g c = drained_at_end g.S.Source.is_drained c.end.result (g.D.Desk.slots c.next.new.desk Capture) _ (c.end.ensures.others Capture capture_is_not_out capture_is_not_report) (rw c.in-Ok-None.field-0-is at c.in-Ok-None.ensures.drained)
+
+pub returns-in-Err-clause-drained : goal.returns-in-Err-clause-drained
+returns-in-Err-clause-drained g c = drained_at_stop _ _ _ c.in-Err.refusal _ _ c.stop.result _ c.stop.ensures.ok

@@ -5,6 +5,7 @@ use Rattle.capture_run.specs.Slots.{Breaks, Puts}
 use Rattle.capture_run.specs.Putting.{capture_is_not_report}
 use Rattle.capture_report.specs.Telling.{told_text}
 use Rattle.capture_run.proofs.Capturing.{breaks_at_records, breaks_at_summary, breaks_at_title, ended_so, started, writes_all}
+use Rattle.capture_run.proofs.Draining.{still_drained}
 use Rattle.capture_run.proofs.HandingOn.{handed_on}
 use Rattle.capture_run.proofs.run.run_capture.Goals as goal
 
@@ -34,3 +35,6 @@ returns-clause-ok g c =
     (c.put_text.ensures.others Capture capture_is_not_report) c.in_ok-passage.ensures.ok)
     (subst (λ l. Puts [] (told_text l (ended_so (c.in_ok-passage.passage, c.in_ok-passage.fault))) (g.D.Desk.slots c.run_records.new.desk) (g.D.Desk.slots c.put_summary.new.desk))
     c.as_slice.ensures c.in_ok-put_summary.ensures.ok)
+
+pub returns-clause-drained : goal.returns-clause-drained
+returns-clause-drained g c = still_drained g.S.Source.is_drained c.in_ok-passage.fault _ _ (c.put_summary.ensures.others Capture capture_is_not_report) c.in_ok-passage.ensures.drained

@@ -21,6 +21,7 @@ returns-in-Ok-Run g c = record {
         refused = c.run.ensures.refused;
         graph_refused = c.run.ensures.graph_refused;
         policy = c.run.ensures.policy;
+        drained = c.run.ensures.drained;
         read_faults = c.run.ensures.read_faults;
         write_faults = c.run.ensures.write_faults;
         no_note_fault = c.run.ensures.no_note_fault;

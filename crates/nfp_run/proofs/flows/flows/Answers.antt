@@ -37,7 +37,7 @@ returns-in-Ok-count_and_export g c =
     } in
     record {
       ran = exported (files_seen c.args.names.now) c.args.options c.in-Ok.opened.0 c.in-Ok.opened.1 (g.D.Desk.slots c.args.desk.now) (g.D.Desk.slots c.open_classic.new.desk) (g.D.Desk.slots c.count_and_export.new.desk) c.in-Ok-count_and_export.ending
-          stands stays c.in-Ok-count_and_export.ensures.told c.in-Ok-count_and_export.ensures.attached c.in-Ok-count_and_export.ensures.left;
+          stands stays c.in-Ok-count_and_export.ensures.told c.in-Ok-count_and_export.ensures.attached c.in-Ok-count_and_export.ensures.drained c.in-Ok-count_and_export.ensures.left;
     }
 
 pub returns-in-Err-count_and_export : goal.returns-in-Err-count_and_export

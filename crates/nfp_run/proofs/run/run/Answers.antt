@@ -8,6 +8,7 @@ use Rattle.nfp_run.specs.Answers.{RunAttaches}
 use Rattle.nfp_run.specs.Closing.{outcome_seen}
 use Rattle.nfp_run.proofs.Attaching.{refused_attaches, run_attaches}
 use Rattle.nfp_run.proofs.EndedRuns.{IsLed, opens_so, run_ends, run_prefixes, run_write_faults}
+use Rattle.nfp_run.proofs.ReadToEnd.{ended_drained, refused_early, texts_early}
 use Rattle.nfp_run.proofs.OtherSlots.{capture_is_not_graph, capture_is_not_policy, out_is_not_graph, out_is_not_policy, report_is_not_graph, report_is_not_policy, out_is_not_capture, report_is_not_capture}
 use Rattle.nfp_run.proofs.run.run.Goals as goal
 
@@ -59,3 +60,12 @@ returns-in-Err-open_capture-clause-attached g c =
       ap (λ v. v.name) (c.open_capture.ensures.others Out out_is_not_capture ∙ c.read_service.ensures.others Out out_is_not_policy out_is_not_graph) ∙ c.requires.free Out,
       ap (λ v. v.name) (c.open_capture.ensures.others Report report_is_not_capture ∙ c.read_service.ensures.others Report report_is_not_policy report_is_not_graph) ∙ c.requires.free Report,
     )
+
+pub returns-clause-drained : goal.returns-clause-drained
+returns-clause-drained g c = λ done. ended_drained c.attach_and_run.result (g.D.Desk.slots c.attach_and_run.new.desk Capture) c.attach_and_run.ensures.drained (ap outcome_seen (sym c.ending_of.ensures) ∙ done)
+
+pub returns-in-Err-clause-drained : goal.returns-in-Err-clause-drained
+returns-in-Err-clause-drained g c = λ done. absurd (texts_early (names_seen c.args.names.now).graph (g.D.Desk.slots c.args.desk.now) (g.D.Desk.slots c.read_service.new.desk) c.in-Err.ending c.in-Err.ensures.serves done)
+
+pub returns-in-Err-open_capture-clause-drained : goal.returns-in-Err-open_capture-clause-drained
+returns-in-Err-open_capture-clause-drained g c = λ done. absurd (refused_early (g.D.Desk.slots c.read_service.new.desk Capture) (g.D.Desk.slots c.open_capture.new.desk Capture) c.in-Err-open_capture.outcome c.in-Err-open_capture.ensures.err done)

@@ -1,0 +1,45 @@
+-- A capture that was read to its end, so that nothing is left of it.
+use Rattle.std.proofs.Common.{◌≡◌, ℕ, List, [], sym, subst}
+use Rattle.std.specs.Prelude.{Option, Some, None, IfNone, IfOk, IfSome, Result, Ok, Err}
+use Rattle.nfp_outside.specs.declared.slot.Slot.{Slot}
+use Rattle.nfp_outside.specs.Outside.{SlotView}
+use Rattle.pcap_io.specs.Reader as pcap
+use Rattle.pcapng_io.specs.Reader as ng
+use Rattle.pcapng_io.specs.declared.place.Place.{Place}
+use Rattle.capture_report.specs.declared.fault.FormatFault.{FormatFault}
+use Rattle.capture_run.specs.Passing.{StopEnds}
+use Rattle.capture_run.specs.Slots.{IsDrained}
+use Rattle.capture_run.specs.declared.fault.RunFault.{RunFault}
+use Rattle.capture_run.specs.declared.fault.SourceFault.{SourceFault}
+use Rattle.capture_run.specs.declared.fault.SourceFault.TheVariants as refusals
+use Rattle.capture_run.specs.declared.given.Given.{Given}
+use Rattle.capture_run.specs.declared.passage.Passage.{Passage}
+
+-- nothing was left, and so nothing is
+pub pcap_at_end : (before after : pcap.ReaderState) (old new : SlotView) → pcap.IsAtEnd before after old new → IsDrained new
+pcap_at_end before after old new end = subst (λ o. IfSome o (λ bytes. bytes ≡ [])) (sym end.left) end.empty
+
+pub ng_at_end : (before : Place) (old new : SlotView) → ng.IsAtEnd before old new → IsDrained new
+ng_at_end before old new end = subst (λ o. IfSome o (λ bytes. bytes ≡ [])) (sym end.left) end.empty
+
+if_none : {T : Type 0} (o : Option T) (P : Type 0) → P → IfNone o P
+if_none None P h = h
+if_none (Some x) P h = tt
+
+-- what ran behind the end of a capture leaves it as it is
+pub drained_at_end : {W : Type 0} (P : SlotView → Type 0) (r : Result (Passage W × Option FormatFault) RunFault) (mid new : SlotView) → new ≡ mid → P mid → IfOk r (λ run. IfNone run.1 (P new))
+drained_at_end P (Ok run) mid new same drained = if_none run.1 (P new) (subst P (sym same) drained)
+drained_at_end P (Err fault) mid new same drained = tt
+
+-- what ends with a fault of the capture needn't have read it to its end
+pub drained_at_stop : {W X B : Type 0} (spelled : W → Given X B → List ℕ) (held : List (Given X B)) (p : Passage W) (refusal : SourceFault) (old new : Slot → SlotView) (r : Result (Passage W × Option FormatFault) RunFault) (P : Type 0) →
+    IfOk r (StopEnds spelled held p refusal old new) → IfOk r (λ run. IfNone run.1 P)
+drained_at_stop spelled held p refusal old new (Err fault) P ends = tt
+drained_at_stop spelled held p (refusals.Format fault) old new (Ok run) P ends = subst (λ o. IfNone o P) (sym ends.told) tt
+drained_at_stop spelled held p refusals.ReadFault old new (Ok run) P ends = absurd ends
+drained_at_stop spelled held p refusals.OutOfMemory old new (Ok run) P ends = absurd ends
+
+-- and so does what is told behind it
+pub still_drained : (P : SlotView → Type 0) (fault : Option FormatFault) (mid new : SlotView) → new ≡ mid → IfNone fault (P mid) → IfNone fault (P new)
+still_drained P None mid new same drained = subst P (sym same) drained
+still_drained P (Some fault) mid new same drained = tt
