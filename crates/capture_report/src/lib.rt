@@ -6,7 +6,8 @@
 //! lines of its state ([`function_named`]), and the end or the capture's fault ([`push_last_line`]). `specs/Report.antt` has every
 //! line.
 //!
-//! The texts are ASCII, and each line ends with a line feed. Where they go is left out.
+//! The texts are ASCII, and each line ends with a line feed. Where they go is left out. The one error is want of memory, behind which
+//! nothing is said of a text that was to be added to.
 #![tactic(auto)]
 
 mod ended;

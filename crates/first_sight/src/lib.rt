@@ -9,7 +9,7 @@
 //! A function that tells its state line by line says what the line of an entry is, by its [`EntryLines`];
 //! [`FirstSeen::push_lines`] appends them all, or nothing where memory runs out. [`push_address`] appends an IPv4
 //! address as four decimal numbers (RFC 791, 3.1), and [`push_ip_address`] one of either version, that of IPv6 as
-//! eight hexadecimal groups (RFC 4291, 2.2). [`same_address`] says when two are the same,
+//! eight hexadecimal groups (RFC 4291, 2.2); where memory runs out, nothing is said of what these two were to add to. [`same_address`] says when two are the same,
 //! and [`hash_endpoint`] is how one is hashed that is part of a key.
 //!
 //! In other words than the definitions: [`noted_is_found`] and [`lines_of_keys`].

@@ -8,7 +8,7 @@
 //!
 //! Each graph that it gives may stand for its chain: it is lawful, its stages follow each other, and no stage and no branch of it is
 //! empty. That is what a graph that is compiled has too, so whatever runs the one runs the other. [`lawful_stages_have_no_fault`] is
-//! the other way round: of the stages of a lawful graph none is refused.
+//! the other way round: of the stages of a lawful graph, of which none and no branch is empty, none is refused.
 //! `specs/Graphs.antt` says what a text gives, `specs/Listing.antt` line by line, and `specs/Faults.antt` what is wrong with stages.
 #![tactic(auto)]
 

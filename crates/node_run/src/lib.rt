@@ -13,7 +13,7 @@
 //! turn: the branches of a stage with all packets, then its mergers, then the dealer of the next stage, each such group
 //! side by side and joined before the next begins. The nodes, their links and what is proved of each are the same.
 //!
-//! A branch whose functions keep no state has a node for each merger, its replicas: each has the versions of its
+//! A branch whose functions neither keep a state nor count has a node for each merger, its replicas: each has the versions of its
 //! merger's packets, which the dealer gives in turn, and gives what its functions make of them to that merger. Such
 //! functions make of a share of some versions what is that share of what they make of all. The first node has the
 //! branch's functions and gives them back, and each other has the same functions once more, which it drops.

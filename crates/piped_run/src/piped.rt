@@ -27,7 +27,7 @@ use std::time::Instant;
 /// of each, in their order. In each stage one dealer deals the packets, each branch takes what it is dealt
 /// of them in their order, and so many mergers, of which there may be 1 to 16, put together in this way what
 /// the branches give: merger `i` has the packets whose number among those of the chain, counted from 0,
-/// leaves `i` when divided by their count. A branch whose functions keep no state has a node for each merger,
+/// leaves `i` when divided by their count. A branch whose functions neither keep a state nor count has a node for each merger,
 /// which takes that merger's packets, and every other branch has one for all. There are fewer mergers where fewer packets
 /// come or more don't pay. Dealers, branches and mergers of all stages run side by side, the first dealer in the caller's
 /// thread and the others on as many more as fit the machine, where these can be started; the threads

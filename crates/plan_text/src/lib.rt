@@ -5,7 +5,8 @@
 //! that a branch touches: whether it is shared, moved to one branch, or copied, and how often. A chain
 //! is cut before and behind each function that rewrites packets whole, as the ends of tunnels do: each
 //! such function is a stage by itself, and what stands between two cuts is staged as a chain would be.
-//! For a chain whose graph an operator wrote by hand, its stages are shown.
+//! For a chain whose graph an operator wrote by hand, its stages are shown. The one error is want of
+//! memory, behind which nothing is said of the text that was to be added to.
 //! `specs/Plan.antt` has the text.
 #![tactic(auto)]
 

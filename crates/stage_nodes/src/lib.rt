@@ -3,7 +3,7 @@
 //! A [`Dealer`] takes packets one after another from its [`Supply`], which may be the mergers of the stage
 //! before, and deals each: a version goes to each branch, and what stays of the packet to the mergers in turn.
 //! A [`Branch`] leads the versions that it is dealt through its functions ([`BranchWork`]), in the packets' order,
-//! and gives what comes of each to its mergers in turn. Where functions keep no state, a branch may have several
+//! and gives what comes of each to its mergers in turn. Where functions neither keep a state nor count, a branch may have several
 //! nodes with the same functions ([`BranchWork::try_clone`]), to which the dealer gives versions in turn. A
 //! [`Merger`] takes of each of its packets what the branches made of it and what stayed of it, puts it together
 //! again (`merge_ops`), and gives it to the dealer behind. Branches and mergers meet in one of two ways, and
