@@ -56,11 +56,11 @@ impl Function for NamedFunction {
     }
 
     fn try_clone(&self, alloc: Global) -> Result<Option<NamedFunction>, AllocError> {
-        let Some(function) = self.function.try_clone(alloc)? else {
-            return Ok(None);
-        };
         let name = Name::new(self.name.bytes().to_vec(alloc)?);
-        Ok(Some(NamedFunction { name, function }))
+        match self.function.try_clone(alloc)? {
+            Some(function) => Ok(Some(NamedFunction { name, function })),
+            None => Ok(None),
+        }
     }
 
     ghost keeps = { named_keeps };

@@ -179,11 +179,9 @@ fn with_place(
     ensures goes_on { IfOk result (λ new. GoesOn cutting new (with_declared declared.now place)) }
     ensures taken { OnOk result (made.new ≡ without made.old place) }
 {
+    let name = Name::new(declared[place].name.bytes().to_vec(alloc)?);
     match made[place].take() {
-        Some(function) => {
-            let name = Name::new(declared[place].name.bytes().to_vec(alloc)?);
-            cutting.with(alloc, name, function)
-        }
+        Some(function) => cutting.with(alloc, name, function),
         None => unreachable!(),
     }
 }
