@@ -239,7 +239,7 @@ called_usage_always command old mid new ended result called fault e = by_notes c
     by_notes (inr (inr (is, r, a))) = elim seen [ inl u ↦ inl (is ∙ ap untold u) | inr m ↦ inr (is ∙ ap untold m) ]
 
 pub called_read_whole : (command : Result Command UsageFault) (old mid new : Slot → SlotView) (ended : Ending) (result : Outcome) → Called command old mid new ended result → result ≡ Done → ReadsToEnd command new
-called_read_whole command old mid new ended result called e = to_end command mid new (called.beside slots.Capture capture_beside)
+called_read_whole command old mid new ended result called e = to_end command mid new (called.beside slots.Policy policy_beside) (called.beside slots.Graph graph_beside) (called.beside slots.Capture capture_beside)
     (called.ran.drained (seen_before ended result Done (mid slots.Note) (new slots.Note) called.notes e (λ h. cc) (λ h. cc)))
 
 capture_name : (mid new : Slot → SlotView) → new slots.Capture ≡ mid slots.Capture → (mid slots.Capture).name ≡ None → (new slots.Capture).name ≡ None

@@ -38,6 +38,24 @@ out_is_not_graph h = cc
 pub report_is_not_graph : Report ≢ Graph
 report_is_not_graph h = cc
 
+pub policy_is_not_capture : Policy ≢ Capture
+policy_is_not_capture h = cc
+
+pub policy_is_not_out : Policy ≢ Out
+policy_is_not_out h = cc
+
+pub policy_is_not_report : Policy ≢ Report
+policy_is_not_report h = cc
+
+pub graph_is_not_capture : Graph ≢ Capture
+graph_is_not_capture h = cc
+
+pub graph_is_not_out : Graph ≢ Out
+graph_is_not_out h = cc
+
+pub graph_is_not_report : Graph ≢ Report
+graph_is_not_report h = cc
+
 pub note_is_not_graph : Note ≢ Graph
 note_is_not_graph h = cc
 

@@ -1,9 +1,9 @@
--- Done is answered where the capture was read to its end.
-use Rattle.std.proofs.Common.{◌≡◌, ◌∙◌, ℕ, List, ap, sym, subst}
-use Rattle.std.specs.Prelude.{Option, Some, None, IfNone, IfOk, Result, Ok, Err}
+-- Done is answered where the policy, the graphs and the capture were read to their ends.
+use Rattle.std.proofs.Common.{◌≡◌, ◌∙◌, ℕ, List, [], ap, refl, sym, subst}
+use Rattle.std.specs.Prelude.{Option, Some, None, IfNone, IfOk, IfSome, MatchOption, Result, Ok, Err}
 use Rattle.nfp_outside.specs.declared.slot.Slot.{Slot}
 use Rattle.nfp_outside.specs.declared.slot.Slot.TheVariants as slots
-use Rattle.nfp_outside.specs.Outside.{SlotView}
+use Rattle.nfp_outside.specs.Outside.{ReadsAll, SlotView}
 use Rattle.pcap_io.specs.declared.capture.CaptureFault.{CaptureFault}
 use Rattle.capture_run.specs.CaptureReportProofs.{Ended}
 use Rattle.capture_run.specs.CaptureReport.{FormatFault}
@@ -13,14 +13,39 @@ use Rattle.capture_run.specs.declared.fault.RunFault.TheVariants as faults
 use Rattle.command_words.specs.declared.usage.UsageFault.{UsageFault}
 use Rattle.command_words.specs.Words.{Command, Demo, Flows, Plan, Run}
 use Rattle.flow_line.specs.declared.line.FlowLine.{FlowLine}
-use Rattle.nfp_run.specs.Answers.{IsReadWhole, ReadsToEnd}
+use Rattle.nfp_run.specs.Answers.{AreTextsReadWhole, IsReadWhole, ReadsToEnd}
 use Rattle.nfp_run.specs.Closing.{closed, ending_of, outcome_seen}
 use Rattle.nfp_run.specs.FlowsRan.{flows_ending}
 use Rattle.nfp_run.specs.Reading.{EndsAtTexts, RefusedOpening}
 use Rattle.nfp_run.specs.declared.ending.Ending.{Ending}
 use Rattle.nfp_run.specs.declared.ending.Ending.TheVariants.{Completed, Shown, Refused, GraphRefused, Stopped}
+use Rattle.nfp_run.specs.declared.prepared.Prepared.{Prepared}
 use Rattle.nfp_run.specs.declared.outcome.Outcome.{Outcome}
 use Rattle.nfp_run.specs.declared.outcome.Outcome.TheVariants.{Done, Usage, Policy, Graph, Capture, CaptureNg, ReadFault, WriteFault, OutOfMemory}
+
+-- ---- the policy and the graphs
+
+-- nothing is left of a text of which all bytes were read
+pub all_read : (all : List ℕ) (max : ℕ) (old new : SlotView) → ReadsAll all max old new → IsReadWhole new
+all_read all max old new reads = go old.bytes reads.told
+  where
+    go : (o : Option (List ℕ)) → MatchOption o (new.bytes ≡ None) (λ bytes. (bytes ≡ all) × (new.bytes ≡ Some [])) → IsReadWhole new
+    go None left = subst (λ o. IfSome o (λ bytes. bytes ≡ [])) (sym left) tt
+    go (Some bytes) (is, left) = subst (λ o. IfSome o (λ bytes. bytes ≡ [])) (sym left) refl
+
+pub policy_whole : (new : Slot → SlotView) (r : Result Prepared Ending) → IsReadWhole (new slots.Policy) → IfOk r (λ p. AreTextsReadWhole None new)
+policy_whole new (Ok p) policy = policy
+policy_whole new (Err ending) policy = tt
+
+pub texts_whole : (name : List ℕ) (mid new : Slot → SlotView) (r : Result Prepared Ending) → new slots.Policy ≡ mid slots.Policy → IsReadWhole (mid slots.Policy) → IfOk r (λ p. IsReadWhole (new slots.Graph)) →
+    IfOk r (λ p. AreTextsReadWhole (Some name) new)
+texts_whole name mid new (Ok p) same policy graph = (subst IsReadWhole (sym same) policy, graph)
+texts_whole name mid new (Err ending) same policy graph = tt
+
+-- both stay as they were read
+pub texts_to : (named : Option (List ℕ)) (mid new : Slot → SlotView) → new slots.Policy ≡ mid slots.Policy → new slots.Graph ≡ mid slots.Graph → AreTextsReadWhole named mid → AreTextsReadWhole named new
+texts_to None mid new policy graph h = subst IsReadWhole (sym policy) h
+texts_to (Some name) mid new policy graph (p, g) = (subst IsReadWhole (sym policy) p, subst IsReadWhole (sym graph) g)
 
 -- a call that ends at the policy or at the graphs isn't done
 pub texts_early : (named : Option (List ℕ)) (old new : Slot → SlotView) (e : Ending) → EndsAtTexts named old new e → outcome_seen e ≡ Done → ⊥
@@ -37,6 +62,8 @@ texts_early named old new (Stopped (CaptureNg fault)) ends done = ends
 texts_early named old new (Stopped (WriteFault s)) ends done = ends
 texts_early named old new (Completed totals) ends done = ends
 texts_early named old new (Shown text) ends done = ends
+
+-- ---- the capture
 
 -- nor is one whose capture isn't opened
 pub refused_early : (old new : SlotView) (outcome : Outcome) → RefusedOpening old new outcome → outcome ≡ Done → ⊥
@@ -64,10 +91,12 @@ pub exported_drained : (records : ℕ) (lines : List FlowLine) (fault : Option C
 exported_drained records lines fault mid new (Ok ending) same drained is = λ done. subst IsReadWhole (sym same) (flows_drained records lines fault mid drained (ap outcome_seen (sym is) ∙ done))
 exported_drained records lines fault mid new (Err e) same drained is = tt
 
--- the line in Note doesn't touch the capture
-pub to_end : (command : Result Command UsageFault) (mid new : Slot → SlotView) → new slots.Capture ≡ mid slots.Capture → ReadsToEnd command mid → ReadsToEnd command new
-to_end (Ok (Run names options)) mid new same h = subst IsReadWhole (sym same) h
-to_end (Ok (Plan names)) mid new same h = tt
-to_end (Ok (Demo input options)) mid new same h = tt
-to_end (Ok (Flows names options)) mid new same h = subst IsReadWhole (sym same) h
-to_end (Err fault) mid new same h = tt
+-- ---- all three
+
+-- the line in Note touches none of them
+pub to_end : (command : Result Command UsageFault) (mid new : Slot → SlotView) → new slots.Policy ≡ mid slots.Policy → new slots.Graph ≡ mid slots.Graph → new slots.Capture ≡ mid slots.Capture → ReadsToEnd command mid → ReadsToEnd command new
+to_end (Ok (Run names options)) mid new policy graph capture (texts, whole) = (texts_to names.graph mid new policy graph texts, subst IsReadWhole (sym capture) whole)
+to_end (Ok (Plan names)) mid new policy graph capture texts = texts_to names.graph mid new policy graph texts
+to_end (Ok (Demo input options)) mid new policy graph capture h = tt
+to_end (Ok (Flows names options)) mid new policy graph capture whole = subst IsReadWhole (sym capture) whole
+to_end (Err fault) mid new policy graph capture h = tt

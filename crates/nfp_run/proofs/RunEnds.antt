@@ -5,8 +5,6 @@ use Rattle.nfp_outside.specs.declared.slot.Slot.{Slot}
 use Rattle.nfp_outside.specs.declared.slot.Slot.TheVariants as slots
 use Rattle.nfp_outside.specs.Outside.{SlotView}
 use Rattle.capture_run.specs.CaptureReport.{capture_text, ng_text}
-use Rattle.capture_run.specs.FormatFaultVariants as formats
-use Rattle.capture_run.specs.declared.fault.RunFault.TheVariants as faults
 use Rattle.capture_run.specs.ChainService.{Chains}
 use Rattle.command_words.specs.declared.requests.RunOptions.{RunOptions}
 use Rattle.command_words.specs.Words.{Names, Run}

@@ -23,7 +23,7 @@ use Rattle.command_words.specs.declared.requests.DemoInput.{DemoInput}
 use Rattle.command_words.specs.declared.requests.RunOptions.{RunOptions}
 use Rattle.command_words.specs.Words.{Command, Plan, PlanFiles, Demo}
 use Rattle.nfp_run.specs.Due.{due_of_plan, due_of_command}
-use Rattle.nfp_run.specs.Answers.{HasNames, IsUntouched, ReachesCapture}
+use Rattle.nfp_run.specs.Answers.{HasNames, IsUntouched, ReachesCapture, ReadsToEnd}
 use Rattle.nfp_run.specs.Closing.{EndsDue, outcome_seen}
 use Rattle.plan_text.specs.Plan.{chain_plan}
 use Rattle.nfp_run.specs.Preparing.{Unprepared, prepared}
@@ -69,8 +69,9 @@ plan_reaches names old new (Shown text) h = absurd h
 
 -- what stands after a plan
 pub plan_ran : (names : PlanFiles) (old new : Slot → SlotView) (ending : Ending) → ((s : Slot) → (old s).name ≡ None) → ((new slots.Policy).name ≡ None) ⊎ ((new slots.Policy).name ≡ Some names.policy) →
-    ((new slots.Graph).name ≡ None) ⊎ ((new slots.Graph).name ≡ names.graph) → ((s : Slot) → s ≢ slots.Policy → s ≢ slots.Graph → new s ≡ old s) → PlanEnds names.graph old new ending → Ran (Ok (Plan names)) old new ending
-plan_ran names old new ending free policy graph others ends = go ending ends
+    ((new slots.Graph).name ≡ None) ⊎ ((new slots.Graph).name ≡ names.graph) → ((s : Slot) → s ≢ slots.Policy → s ≢ slots.Graph → new s ≡ old s) → PlanEnds names.graph old new ending →
+    (outcome_seen ending ≡ Done → ReadsToEnd (Ok (Plan names)) new) → Ran (Ok (Plan names)) old new ending
+plan_ran names old new ending free policy graph others ends whole = go ending ends whole
   where
     b : Beside old new
     b = record { free = free; others = others }
@@ -86,8 +87,8 @@ plan_ran names old new ending free policy graph others ends = go ending ends
       due = λ e h. if_texts names.graph old _ _ (λ p g is c. subst (λ r. EndsDue (due_of_plan r) old new e) (sym is.is) is.ends) h;
     }
 
-    go : (e : Ending) → PlanEnds names.graph old new e → Ran (Ok (Plan names)) old new e
-    go (Shown text) h = record {
+    go : (e : Ending) → PlanEnds names.graph old new e → (outcome_seen e ≡ Done → ReadsToEnd (Ok (Plan names)) new) → Ran (Ok (Plan names)) old new e
+    go (Shown text) h drained = record {
       due = λ f. if_texts names.graph old _ _ (λ p g is c. plan_due text (prepared names.graph p g) old new b is) h.plan;
       prefixes = read_always (Ok (Plan names)) old _ (λ p g c. untouched_prefixes (due_of_command (Ok (Plan names)) p g c).written old new (leaves_both old new b));
       within = tt;
@@ -98,16 +99,16 @@ plan_ran names old new ending free policy graph others ends = go ending ends
       usage_always = λ fault x. absurd cc;
       refused = λ fault x. absurd cc;
       graph_refused = λ fault x. absurd cc;
-      drained = λ x. tt;
+      drained = drained;
       policy = (h.policy, if_texts names.graph old _ _ (λ p g is. planned_ok text (prepared names.graph p g) is) h.plan);
       read_faults = λ s x. absurd cc;
       write_faults = λ s x. absurd cc;
       no_note_fault = λ x. cc;
     }
-    go (Refused refusal) h = texts_ran (Ok (Plan names)) names.graph old new (Refused refusal) t b h
-    go (GraphRefused refusal) h = texts_ran (Ok (Plan names)) names.graph old new (GraphRefused refusal) t b h
-    go (Stopped outcome) h = texts_ran (Ok (Plan names)) names.graph old new (Stopped outcome) t b h
-    go (Completed totals) h = absurd h
+    go (Refused refusal) h drained = texts_ran (Ok (Plan names)) names.graph old new (Refused refusal) t b h
+    go (GraphRefused refusal) h drained = texts_ran (Ok (Plan names)) names.graph old new (GraphRefused refusal) t b h
+    go (Stopped outcome) h drained = texts_ran (Ok (Plan names)) names.graph old new (Stopped outcome) t b h
+    go (Completed totals) h drained = absurd h
 
 -- what stands after a demo
 pub demo_ran : (input : DemoInput) (options : RunOptions) (old : Slot → SlotView) (ending : Ending) → ((s : Slot) → (old s).name ≡ None) → DemoEnds input ending → Ran (Ok (Demo input options)) old old ending

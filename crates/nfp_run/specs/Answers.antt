@@ -234,10 +234,15 @@ AttachesDue (Err fault) outcome new = NoneAttached new
 abbrev pub IsReadWhole : SlotView → Type 0
 IsReadWhole slot = IfSome slot.bytes (λ bytes. bytes ≡ [])
 
--- the capture was read to its end, where the words are a command that takes one
+-- the same of the policy, and of the graphs where they have a name among the words
+abbrev pub AreTextsReadWhole : Option (List ℕ) → (Slot → SlotView) → Type 0
+AreTextsReadWhole None new = IsReadWhole (new slots.Policy)
+AreTextsReadWhole (Some name) new = IsReadWhole (new slots.Policy) × IsReadWhole (new slots.Graph)
+
+-- what the words name to be read was read to its end
 abbrev pub ReadsToEnd : Result Command UsageFault → (Slot → SlotView) → Type 0
-ReadsToEnd (Ok (Run names options)) new = IsReadWhole (new slots.Capture)
-ReadsToEnd (Ok (Plan names)) new = Unit {0}
+ReadsToEnd (Ok (Run names options)) new = AreTextsReadWhole names.graph new × IsReadWhole (new slots.Capture)
+ReadsToEnd (Ok (Plan names)) new = AreTextsReadWhole names.graph new
 ReadsToEnd (Ok (Demo input options)) new = Unit {0}
 ReadsToEnd (Ok (Flows names options)) new = IsReadWhole (new slots.Capture)
 ReadsToEnd (Err fault) new = Unit {0}

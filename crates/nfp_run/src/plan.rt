@@ -5,6 +5,8 @@ ghost use Rattle.command_words.specs.Named.{word_in};
 ghost use Rattle.plan_text.specs.Plan.{chain_plan};
 ghost use Rattle.plan_text.specs.Putting.{IsShownFor};
 ghost use Rattle.policy_judge.specs.Orders.{IsOrdered};
+ghost use Rattle.nfp_run.specs.Answers.{AreTextsReadWhole};
+ghost use Rattle.nfp_run.specs.Closing.{outcome_seen};
 ghost use Rattle.nfp_run.specs.Plan.{plan_text};
 ghost use Rattle.nfp_run.specs.Reading.{IsReady, PlanEnds};
 
@@ -22,11 +24,12 @@ use policy_text::ChainPolicy;
 use std::alloc::{AllocError, Global};
 
 /// Shows the plan of a policy without fault, and of the graphs that were written for its chains, where the words name them.
-#[tactic(auto, using(crate::proofs::Preparations::plan_shown, crate::proofs::Preparations::plan_ends))]
+#[tactic(auto, using(crate::proofs::Preparations::plan_shown, crate::proofs::Preparations::plan_ends, crate::proofs::ReadToEnd::texts_early))]
 pub fn plan<D: Desk>(alloc: Global, names: &PlanNames<'_>, desk: &mut D) -> Ending
     requires policy_free { (D.slots desk.old Slot.Policy).name ≡ None }
     requires graph_free { (D.slots desk.old Slot.Graph).name ≡ None }
     ensures ends { PlanEnds (word_in names.now.graph) (D.slots desk.old) (D.slots desk.new) result }
+    ensures drained { outcome_seen result ≡ Outcome.Done → AreTextsReadWhole (word_in names.now.graph) (D.slots desk.new) }
     ensures policy_name { ((D.slots desk.new Slot.Policy).name ≡ None) ⊎ ((D.slots desk.new Slot.Policy).name ≡ Some names.now.policy.now) }
     ensures graph_name { ((D.slots desk.new Slot.Graph).name ≡ None) ⊎ ((D.slots desk.new Slot.Graph).name ≡ word_in names.now.graph) }
     ensures others { (s : Slot) → s ≢ Slot.Policy → s ≢ Slot.Graph → D.slots desk.new s ≡ D.slots desk.old s }

@@ -9,6 +9,7 @@ ghost use Rattle.policy_judge.specs.Orders.{IsOrdered};
 ghost use Rattle.capture_run.specs.ChainServiceProofs.{IsOpening, chains_of};
 ghost use Rattle.nfp_run.specs.declared.ending.Ending.{Ending};
 ghost use Rattle.nfp_run.specs.declared.outcome.Outcome.{Outcome};
+ghost use Rattle.nfp_run.specs.Answers.{AreTextsReadWhole, IsReadWhole};
 ghost use Rattle.nfp_run.specs.Preparing.{prepared_with};
 ghost use Rattle.nfp_run.specs.Reading.{EndsAtGraph, EndsAtTexts, GraphRefusedBy, IsReady, Prepares, Serves, UnreadGraphEnds};
 
@@ -25,7 +26,7 @@ use policy_judge::Judged;
 use std::alloc::Global;
 
 /// Reads the policy and judges it, and then reads the graphs that were written for its chains, where the words name them.
-#[tactic(auto, using(crate::proofs::Preparations::policy_ends, crate::proofs::Preparations::none_prepares, crate::proofs::Preparations::named_prepares))]
+#[tactic(auto, using(crate::proofs::Preparations::policy_ends, crate::proofs::Preparations::none_prepares, crate::proofs::Preparations::named_prepares, crate::proofs::ReadToEnd::policy_whole, crate::proofs::ReadToEnd::texts_whole))]
 pub fn prepare<D: Desk>(
     alloc: Global,
     desk: &mut D,
@@ -36,6 +37,7 @@ pub fn prepare<D: Desk>(
     requires graph_free { (D.slots desk.old Slot.Graph).name ≡ None }
     ensures prepares { MatchResult result (Prepares (word_in graph.entry) (D.slots desk.old)) (EndsAtTexts (word_in graph.entry) (D.slots desk.old) (D.slots desk.new)) }
     ensures ready { IfOk result IsReady }
+    ensures whole { IfOk result (λ p. AreTextsReadWhole (word_in graph.entry) (D.slots desk.new)) }
     ensures policy_name { ((D.slots desk.new Slot.Policy).name ≡ None) ⊎ ((D.slots desk.new Slot.Policy).name ≡ Some policy.now) }
     ensures graph_name { ((D.slots desk.new Slot.Graph).name ≡ None) ⊎ ((D.slots desk.new Slot.Graph).name ≡ word_in graph.entry) }
     ensures others { (s : Slot) → s ≢ Slot.Policy → s ≢ Slot.Graph → D.slots desk.new s ≡ D.slots desk.old s }
@@ -84,6 +86,7 @@ fn with_graphs<D: Desk>(
         (λ p. IfSome (D.slots desk.old Slot.Graph).bytes (λ text. prepared_with judged (graphs_of text judged.policy.chains judged.orders) ≡ Ok p))
         (EndsAtGraph judged (D.slots desk.old Slot.Graph) (D.slots desk.new Slot.Graph)) }
     ensures ready { IfOk result IsReady }
+    ensures whole { IfOk result (λ p. IsReadWhole (D.slots desk.new Slot.Graph)) }
     ensures name { ((D.slots desk.new Slot.Graph).name ≡ None) ⊎ ((D.slots desk.new Slot.Graph).name ≡ Some name.now) }
     ensures others { (s : Slot) → s ≢ Slot.Graph → D.slots desk.new s ≡ D.slots desk.old s }
 {
@@ -139,6 +142,7 @@ pub fn read_service<D: Desk>(
         (λ s. Serves (word_in graph.entry) (D.slots desk.old) (chains_of s.chains))
         (EndsAtTexts (word_in graph.entry) (D.slots desk.old) (D.slots desk.new)) }
     ensures opening { IfOk result IsOpening }
+    ensures whole { IfOk result (λ s. AreTextsReadWhole (word_in graph.entry) (D.slots desk.new)) }
     ensures policy_name { ((D.slots desk.new Slot.Policy).name ≡ None) ⊎ ((D.slots desk.new Slot.Policy).name ≡ Some policy.now) }
     ensures graph_name { ((D.slots desk.new Slot.Graph).name ≡ None) ⊎ ((D.slots desk.new Slot.Graph).name ≡ word_in graph.entry) }
     ensures others { (s : Slot) → s ≢ Slot.Policy → s ≢ Slot.Graph → D.slots desk.new s ≡ D.slots desk.old s }

@@ -7,6 +7,7 @@ ghost use Rattle.policy_judge.specs.Judging.{judged};
 ghost use Rattle.policy_judge.specs.Making.{functions_made};
 ghost use Rattle.policy_judge.specs.Orders.{IsOrdered};
 ghost use Rattle.policy_judge.specs.Settings.{IsSettled};
+ghost use Rattle.nfp_run.specs.Answers.{IsReadWhole};
 ghost use Rattle.nfp_run.specs.Reading.{IsUnread, UnreadEnds, refused_by, EndsAtPolicy, Opens, OpensBehind, RefusedOpening, RefusesBehind, unread_capture};
 ghost use Rattle.nfp_run.specs.FlowsRan.{OpensClassic, RefusedClassic};
 
@@ -44,6 +45,7 @@ pub fn read_policy<D: Desk>(alloc: Global, desk: &mut D, name: &str) -> Result<J
     ensures ordered { IfOk result (λ policy. AllZip IsOrdered policy.policy.chains policy.orders) }
     ensures made { IfOk result (λ policy. policy.functions ≡ functions_made policy.policy.chains) }
     ensures few { IfOk result (λ policy. length policy.policy.chains ≤ 16) }
+    ensures whole { IfOk result (λ policy. IsReadWhole (D.slots desk.new Slot.Policy)) }
     ensures name { ((D.slots desk.new Slot.Policy).name ≡ None) ⊎ ((D.slots desk.new Slot.Policy).name ≡ Some name.now) }
     ensures others { (s : Slot) → s ≢ Slot.Policy → D.slots desk.new s ≡ D.slots desk.old s }
 {
@@ -145,6 +147,7 @@ fn open_by_format<D: Desk>(alloc: Global, desk: &mut D, first: &[u8]) -> Result<
 }
 
 /// Attaches a slot that holds a text, and reads its bytes.
+#[tactic(auto, using(crate::proofs::ReadToEnd::all_read))]
 pub fn read_bytes<D: Desk>(
     alloc: Global,
     desk: &mut D,
@@ -157,6 +160,7 @@ pub fn read_bytes<D: Desk>(
         (λ v. IfSome (D.slots desk.old slot).bytes (λ bytes. bytes ≡ v.items))
         (IsUnread MAX_TEXT (D.slots desk.old slot) (D.slots desk.new slot)) }
     ensures few { IfOk result (λ v. length v.items ≤ MAX_TEXT) }
+    ensures whole { IfOk result (λ v. IsReadWhole (D.slots desk.new slot)) }
     ensures name { ((D.slots desk.new slot).name ≡ None) ⊎ ((D.slots desk.new slot).name ≡ Some name.now) }
     ensures others { (s : Slot) → s ≢ slot → D.slots desk.new s ≡ D.slots desk.old s }
 {

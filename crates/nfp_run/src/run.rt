@@ -7,7 +7,7 @@ ghost use Rattle.graph_text.specs.declared.fault.GraphFault.{GraphFault};
 ghost use Rattle.policy_judge.specs.declared.fault.PolicyFault.{PolicyFault};
 ghost use Rattle.command_words.specs.declared.usage.UsageFault.{UsageFault};
 ghost use Rattle.command_words.specs.Words.{Run};
-ghost use Rattle.nfp_run.specs.Answers.{IsFinal, WhereRead, LeavesPrefixes, HasNames, RunAttaches, ReachesCapture, IsReadWhole, PolicyCause, GraphCause, ReadFaultCause, WriteFaultCause};
+ghost use Rattle.nfp_run.specs.Answers.{IsFinal, WhereRead, LeavesPrefixes, HasNames, RunAttaches, ReachesCapture, IsReadWhole, ReadsToEnd, PolicyCause, GraphCause, ReadFaultCause, WriteFaultCause};
 ghost use Rattle.nfp_run.specs.Attached.{RunLeavesAttached};
 ghost use Rattle.nfp_run.specs.Closing.{outcome_seen, closed, ending_of, Left, LedPartly, LedWhole, EndsDue, CountsWithin};
 ghost use Rattle.nfp_run.specs.Reading.{IsBefore, led_stream, opened_led};
@@ -59,7 +59,7 @@ pub fn run<R: Threads + Wait + Clock + Sync, D: Desk, G: Gate + Sync>(
     ensures refused { (f : PolicyFault) → outcome_seen result ≡ Outcome.Policy f → PolicyCause (Ok (Run (names_seen names.now) options)) (D.slots desk.old) (D.slots desk.new) f }
     ensures graph_refused { (f : GraphFault) → outcome_seen result ≡ Outcome.Graph f → GraphCause (Ok (Run (names_seen names.now) options)) (D.slots desk.old) (D.slots desk.new) f }
     ensures policy { ReachesCapture (Ok (Run (names_seen names.now) options)) (outcome_seen result) (D.slots desk.old) }
-    ensures drained { outcome_seen result ≡ Outcome.Done → IsReadWhole (D.slots desk.new Slot.Capture) }
+    ensures drained { outcome_seen result ≡ Outcome.Done → ReadsToEnd (Ok (Run (names_seen names.now) options)) (D.slots desk.new) }
     ensures read_faults { (s : Slot) → outcome_seen result ≡ Outcome.ReadFault s → ReadFaultCause (Ok (Run (names_seen names.now) options)) (D.slots desk.old) (D.slots desk.new) s }
     ensures write_faults { (s : Slot) → outcome_seen result ≡ Outcome.WriteFault s → WriteFaultCause (Ok (Run (names_seen names.now) options)) (D.slots desk.old) (D.slots desk.new) s }
     ensures no_note_fault { outcome_seen result ≡ Outcome.WriteFault Slot.Note → ⊥ }

@@ -32,5 +32,5 @@ pub returns-in-Ok-Plan : goal.returns-in-Ok-Plan
 returns-in-Ok-Plan g c = record {
   ran = subst (λ command. Ran command (g.D.Desk.slots c.args.desk.now) (g.D.Desk.slots c.plan.new.desk) c.plan.result)
       (sym (c.in-Ok-Plan.ensures.reads ∙ ap (λ x. Ok (command_seen x)) c.in-Ok-Plan.field-0-is))
-      (plan_ran (plan_seen c.in-Ok-Plan.names) (g.D.Desk.slots c.args.desk.now) (g.D.Desk.slots c.plan.new.desk) c.plan.result c.requires c.plan.ensures.policy_name c.plan.ensures.graph_name c.plan.ensures.others c.plan.ensures.ends);
+      (plan_ran (plan_seen c.in-Ok-Plan.names) (g.D.Desk.slots c.args.desk.now) (g.D.Desk.slots c.plan.new.desk) c.plan.result c.requires c.plan.ensures.policy_name c.plan.ensures.graph_name c.plan.ensures.others c.plan.ensures.ends c.plan.ensures.drained);
 }

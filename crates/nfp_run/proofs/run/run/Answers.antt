@@ -1,6 +1,6 @@
 use Rattle.std.proofs.Common.{◌∙◌, ap, subst, sym}
 use Rattle.std.specs.Prelude.{IfSome}
-use Rattle.nfp_outside.specs.declared.slot.Slot.TheVariants.{Capture, Out, Report}
+use Rattle.nfp_outside.specs.declared.slot.Slot.TheVariants.{Capture, Graph, Out, Policy, Report}
 use Rattle.command_words.specs.Named.{names_seen}
 use Rattle.capture_run.specs.ChainServiceProofs.{chains_of}
 use Rattle.nfp_run.specs.Reading.{opened_led}
@@ -8,8 +8,8 @@ use Rattle.nfp_run.specs.Answers.{RunAttaches}
 use Rattle.nfp_run.specs.Closing.{outcome_seen}
 use Rattle.nfp_run.proofs.Attaching.{refused_attaches, run_attaches}
 use Rattle.nfp_run.proofs.EndedRuns.{IsLed, opens_so, run_ends, run_prefixes, run_write_faults}
-use Rattle.nfp_run.proofs.ReadToEnd.{ended_drained, refused_early, texts_early}
-use Rattle.nfp_run.proofs.OtherSlots.{capture_is_not_graph, capture_is_not_policy, out_is_not_graph, out_is_not_policy, report_is_not_graph, report_is_not_policy, out_is_not_capture, report_is_not_capture}
+use Rattle.nfp_run.proofs.ReadToEnd.{ended_drained, refused_early, texts_early, texts_to}
+use Rattle.nfp_run.proofs.OtherSlots.{capture_is_not_graph, capture_is_not_policy, graph_is_not_capture, graph_is_not_out, graph_is_not_report, policy_is_not_capture, policy_is_not_out, policy_is_not_report, out_is_not_graph, out_is_not_policy, report_is_not_graph, report_is_not_policy, out_is_not_capture, report_is_not_capture}
 use Rattle.nfp_run.proofs.run.run.Goals as goal
 
 pub returns-clause-prefixes : goal.returns-clause-prefixes
@@ -62,7 +62,13 @@ returns-in-Err-open_capture-clause-attached g c =
     )
 
 pub returns-clause-drained : goal.returns-clause-drained
-returns-clause-drained g c = λ done. ended_drained c.attach_and_run.result (g.D.Desk.slots c.attach_and_run.new.desk Capture) c.attach_and_run.ensures.drained (ap outcome_seen (sym c.ending_of.ensures) ∙ done)
+returns-clause-drained g c = λ done. (
+  texts_to (names_seen c.args.names.now).graph (g.D.Desk.slots c.read_service.new.desk) (g.D.Desk.slots c.attach_and_run.new.desk)
+      (c.attach_and_run.ensures.others Policy policy_is_not_out policy_is_not_report policy_is_not_capture ∙ c.open_capture.ensures.others Policy policy_is_not_capture)
+      (c.attach_and_run.ensures.others Graph graph_is_not_out graph_is_not_report graph_is_not_capture ∙ c.open_capture.ensures.others Graph graph_is_not_capture)
+      c.in-Ok.ensures.whole,
+  ended_drained c.attach_and_run.result (g.D.Desk.slots c.attach_and_run.new.desk Capture) c.attach_and_run.ensures.drained (ap outcome_seen (sym c.ending_of.ensures) ∙ done),
+)
 
 pub returns-in-Err-clause-drained : goal.returns-in-Err-clause-drained
 returns-in-Err-clause-drained g c = λ done. absurd (texts_early (names_seen c.args.names.now).graph (g.D.Desk.slots c.args.desk.now) (g.D.Desk.slots c.read_service.new.desk) c.in-Err.ending c.in-Err.ensures.serves done)
