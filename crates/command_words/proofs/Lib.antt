@@ -6,5 +6,6 @@ mod Looks
 mod Matching
 mod Placing
 mod Rows
+mod Rules
 mod Table
 mod Walking

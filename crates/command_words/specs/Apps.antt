@@ -1,7 +1,7 @@
 -- For proofs: what `clap` is told of the commands.
 use Rattle.std.specs.Prelude.{List, [], ◌∷◌, ◌++◌, map, Some, true, codes}
 use Rattle.clap.specs.declared.builder.action.ArgAction.TheVariants.{Set}
-use Rattle.clap.specs.Simple.{App, new_rule, new_shape}
+use Rattle.clap.specs.Simple.{App, new_rule, new_shape, on_top}
 use Rattle.clap.specs.Walk.{Rule, Text}
 use Rattle.command_words.specs.Words.{demo_options, flows_options, plan_options, run_options}
 
@@ -24,6 +24,10 @@ app name names options = record {
   };
   subs = [];
 }
+
+-- a command with these arguments more
+abbrev pub with_rules : App → List Rule → App
+with_rules a rules = on_top (λ s. record s { rules = s.rules ++ rules }) a
 
 abbrev pub run_names : List Text
 run_names = codes "policy" ∷ codes "capture" ∷ codes "out" ∷ codes "report" ∷ []

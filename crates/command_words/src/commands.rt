@@ -1,7 +1,8 @@
 //! The commands as `clap` is told of them: names that have to be there, and options with a value.
-ghost use Rattle.std.specs.Prelude.{◌≡◌, IfOk, false, [], codes};
-ghost use Rattle.clap.specs.Words.{app_of, rule_of, with_rule};
-ghost use Rattle.command_words.specs.Apps.{app, demo_app, flows_app, name_rule, option_rule, plan_app, run_app};
+ghost use Rattle.std.specs.Prelude.{◌≡◌, IfOk, false, [], map};
+ghost use Rattle.clap.specs.Walk.{texts};
+ghost use Rattle.clap.specs.Words.{app_of, rule_of};
+ghost use Rattle.command_words.specs.Apps.{app, demo_app, flows_app, name_rule, option_rule, plan_app, run_app, with_rules};
 
 use clap::{Arg, ArgAction, Command};
 use std::alloc::{AllocError, Global};
@@ -20,26 +21,6 @@ fn option<'a>(alloc: Global, id: &'a str) -> Arg<'a>
     Arg::new(alloc, id).long(id).action(ArgAction::Set)
 }
 
-fn with_name<'a>(
-    alloc: Global,
-    command: Command<'a>,
-    id: &'a str,
-) -> Result<Command<'a>, AllocError>
-    ensures { IfOk result (λ c. app_of c ≡ with_rule (app_of command.entry) (name_rule id.entry.now)) }
-{
-    command.arg(name(alloc, id))
-}
-
-fn with_option<'a>(
-    alloc: Global,
-    command: Command<'a>,
-    id: &'a str,
-) -> Result<Command<'a>, AllocError>
-    ensures { IfOk result (λ c. app_of c ≡ with_rule (app_of command.entry) (option_rule id.entry.now)) }
-{
-    command.arg(option(alloc, id))
-}
-
 // A command to which no name and no option was added.
 fn without_arguments<'a>(alloc: Global, name: &'a str) -> Command<'a>
     ensures { app_of result ≡ app name.entry.now [] [] }
@@ -50,55 +31,79 @@ fn without_arguments<'a>(alloc: Global, name: &'a str) -> Command<'a>
         .disable_version_flag(true)
 }
 
-// The options of `demo`, which `run` has too.
-fn with_run_options<'a>(alloc: Global, command: Command<'a>) -> Result<Command<'a>, AllocError>
-    ensures { IfOk result (λ c. app_of c ≡ with_rule (with_rule (with_rule (app_of command.entry)
-        (option_rule (codes "mergers"))) (option_rule (codes "burst"))) (option_rule (codes "merge"))) }
+fn with_names<'a>(
+    alloc: Global,
+    mut command: Command<'a>,
+    names: &[&'a str],
+) -> Result<Command<'a>, AllocError>
+    ensures { IfOk result (λ c. app_of c ≡ with_rules (app_of command.entry) (map name_rule (texts names.now))) }
 {
-    let command = with_option(alloc, command, "mergers")?;
-    let command = with_option(alloc, command, "burst")?;
-    with_option(alloc, command, "merge")
+    for id in names {
+        command = command.arg(name(alloc, id))?;
+    }
+    Ok(command)
+}
+
+fn with_options<'a>(
+    alloc: Global,
+    mut command: Command<'a>,
+    options: &[&'a str],
+) -> Result<Command<'a>, AllocError>
+    ensures { IfOk result (λ c. app_of c ≡ with_rules (app_of command.entry) (map option_rule (texts options.now))) }
+{
+    for id in options {
+        command = command.arg(option(alloc, id))?;
+    }
+    Ok(command)
+}
+
+// A command with these names and options.
+fn command_with<'a>(
+    alloc: Global,
+    name: &'a str,
+    names: &[&'a str],
+    options: &[&'a str],
+) -> Result<Command<'a>, AllocError>
+    ensures { IfOk result (λ c. app_of c ≡ app name.entry.now (texts names.now) (texts options.now)) }
+{
+    let command = with_names(alloc, without_arguments(alloc, name), names)?;
+    with_options(alloc, command, options)
 }
 
 /// `run POLICY CAPTURE OUT REPORT` with its options.
 pub fn run_command<'a>(alloc: Global) -> Result<Command<'a>, AllocError>
     ensures { IfOk result (λ c. app_of c ≡ run_app) }
 {
-    let command = without_arguments(alloc, "run");
-    let command = with_name(alloc, command, "policy")?;
-    let command = with_name(alloc, command, "capture")?;
-    let command = with_name(alloc, command, "out")?;
-    let command = with_name(alloc, command, "report")?;
-    let command = with_run_options(alloc, command)?;
-    with_option(alloc, command, "graph")
+    command_with(
+        alloc,
+        "run",
+        &["policy", "capture", "out", "report"],
+        &["mergers", "burst", "merge", "graph"],
+    )
 }
 
 /// `plan POLICY` with its option.
 pub fn plan_command<'a>(alloc: Global) -> Result<Command<'a>, AllocError>
     ensures { IfOk result (λ c. app_of c ≡ plan_app) }
 {
-    let command = without_arguments(alloc, "plan");
-    let command = with_name(alloc, command, "policy")?;
-    with_option(alloc, command, "graph")
+    command_with(alloc, "plan", &["policy"], &["graph"])
 }
 
 /// `demo SEED COUNT` with its options.
 pub fn demo_command<'a>(alloc: Global) -> Result<Command<'a>, AllocError>
     ensures { IfOk result (λ c. app_of c ≡ demo_app) }
 {
-    let command = without_arguments(alloc, "demo");
-    let command = with_name(alloc, command, "seed")?;
-    let command = with_name(alloc, command, "count")?;
-    with_run_options(alloc, command)
+    command_with(
+        alloc,
+        "demo",
+        &["seed", "count"],
+        &["mergers", "burst", "merge"],
+    )
 }
 
 /// `flows CAPTURE OUT` with its options.
 pub fn flows_command<'a>(alloc: Global) -> Result<Command<'a>, AllocError>
     ensures { IfOk result (λ c. app_of c ≡ flows_app) }
 {
-    let command = without_arguments(alloc, "flows");
-    let command = with_name(alloc, command, "capture")?;
-    let command = with_name(alloc, command, "out")?;
-    let command = with_option(alloc, command, "workers")?;
-    with_option(alloc, command, "burst")
+    command_with(alloc, "flows", &["capture", "out"], &["workers", "burst"])
 }

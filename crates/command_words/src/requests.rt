@@ -1,7 +1,7 @@
 //! What the words of a command line ask for.
 
 /// The names of the files of `run`.
-#[derive(Clone, Copy, Debug)]
+#[derive(Clone, Copy)]
 pub struct FileNames<'a> {
     pub policy: &'a str,
     pub capture: &'a str,
@@ -12,7 +12,7 @@ pub struct FileNames<'a> {
 }
 
 /// The names of the files of `plan`.
-#[derive(Clone, Copy, Debug)]
+#[derive(Clone, Copy)]
 pub struct PlanNames<'a> {
     pub policy: &'a str,
     /// `--graph`: the text of graphs that were written by hand, where there is one.
@@ -20,14 +20,14 @@ pub struct PlanNames<'a> {
 }
 
 /// The names of the two files of `flows`.
-#[derive(Clone, Copy, Debug)]
+#[derive(Clone, Copy)]
 pub struct FlowNames<'a> {
     pub capture: &'a str,
     pub out: &'a str,
 }
 
 /// How what the branches of a stage give comes together. What comes out is the same either way.
-#[derive(Clone, Copy, Debug, PartialEq, Eq)]
+#[derive(Clone, Copy)]
 pub enum Way {
     /// `inbox`: over links, which the mergers ask.
     Inbox,
@@ -36,7 +36,7 @@ pub enum Way {
 }
 
 /// How a capture is to be run. Where an option isn't given, its field has the value that stands for it.
-#[derive(Clone, Copy, Debug, PartialEq, Eq)]
+#[derive(Clone, Copy)]
 pub struct RunOptions {
     /// `--mergers`: how many mergers put packets together again, 1 to 16, else 2.
     pub mergers: u32,
@@ -47,7 +47,7 @@ pub struct RunOptions {
 }
 
 /// What the capture of the demonstration is made from.
-#[derive(Clone, Copy, Debug, PartialEq, Eq)]
+#[derive(Clone, Copy)]
 pub struct DemoInput {
     /// What its draws begin with.
     pub seed: u64,
@@ -56,7 +56,7 @@ pub struct DemoInput {
 }
 
 /// How the flows of a capture are to be counted. Where an option isn't given, its field has the value that stands for it.
-#[derive(Clone, Copy, Debug, PartialEq, Eq)]
+#[derive(Clone, Copy)]
 pub struct FlowOptions {
     /// `--workers`: how many workers count, each its own flows, 1 to 16, else 2.
     pub workers: u32,
@@ -65,7 +65,7 @@ pub struct FlowOptions {
 }
 
 /// What is asked for.
-#[derive(Clone, Copy, Debug)]
+#[derive(Clone, Copy)]
 pub enum Command<'a> {
     /// `run POLICY CAPTURE OUT REPORT [--mergers N] [--burst N] [--merge WAY] [--graph NAME]`
     Run(FileNames<'a>, RunOptions),

@@ -5,7 +5,7 @@ ghost use Rattle.command_words.specs.declared.usage.WordsFault.TheVariants.{OutO
 use std::alloc::AllocError;
 
 /// A number among the words of a command.
-#[derive(Clone, Copy, Debug, PartialEq, Eq)]
+#[derive(Clone, Copy, Debug)]
 pub enum Option4 {
     /// The value of `--mergers`.
     Mergers,
@@ -20,7 +20,7 @@ pub enum Option4 {
 }
 
 /// Why the words of the command line are refused: the first fault, in this order.
-#[derive(Clone, Copy, Debug, PartialEq, Eq)]
+#[derive(Clone, Copy, Debug)]
 pub enum UsageFault {
     /// There is no word.
     NoCommand,
@@ -38,7 +38,7 @@ pub enum UsageFault {
 }
 
 /// Why no command was read.
-#[derive(Clone, Copy, Debug, PartialEq, Eq)]
+#[derive(Clone, Copy)]
 pub enum WordsFault {
     /// The words are refused.
     Usage(UsageFault),
