@@ -1,5 +1,6 @@
 -- From what `clap` ensures of a parse to the parts of the words.
 use Rattle.std.proofs.Common.{◌≡◌, ◌≢◌, ◌∙◌, ◌⊎◌, Bool, true, false, refl, sym, ap, subst, List, [], ◌∷◌, map, length, string_bytes, String, inl, inr, ⊎_elim, true≢false}
+use Rattle.std.specs.Prelude.{Result, Ok, Err, MatchResult}
 use Rattle.std.proofs.lemmas.Str.{IsUtf8-had}
 use Rattle.clap.specs.Kinds.{HasKind, IsAmong}
 use Rattle.clap.specs.Words.{App, HasMatchesOf, Row, Text, fault_of, first_of, first_value, found_of, is_simple, is_simple_and_free, kind_of, matches_of, rows_of}
@@ -10,7 +11,7 @@ use Rattle.clap.specs.declared.parser.matches.ArgMatches.{ArgMatches}
 use Rattle.command_words.specs.declared.usage.WordsFault.{WordsFault}
 use Rattle.command_words.specs.declared.usage.WordsFault.TheVariants as error
 use Rattle.command_words.specs.declared.usage.UsageFault.TheVariants.{Words}
-use Rattle.command_words.specs.Matched.{IsUnfit, Matches}
+use Rattle.command_words.specs.Matched.{IsFaulty, IsMatched, IsUnfit, Matches}
 use Rattle.command_words.specs.Roles.{anything, is_whole, roles}
 use Rattle.command_words.proofs.Walking.{AllUtf8, fails}
 use Rattle.command_words.proofs.Agreement.{Reads}
@@ -42,27 +43,34 @@ matched app names options words m h none rows = go (is_whole (length names) (rol
     }
     go false e r = absurd (true≢false (sym r ∙ ap fails none))
 
--- an error is want of memory, or the words do not fit
-pub unmatched : (app : App) (names options words : List Text) (e : Error) → ReadsAs app names options words → HasKind (fault_of app words) e
-    → (kind_of e ≡ OutOfMemory) ⊎ IsUnfit names options words
-unmatched app names options words e h kind = go (is_whole (length names) (roles options anything words)) refl h
+-- words with a fault do not fit
+unmatched : (app : App) (names options words : List Text) → ReadsAs app names options words → fault_of app words ≢ [] → IsUnfit names options words
+unmatched app names options words h faulty = go (is_whole (length names) (roles options anything words)) refl h
   where
     go : (b : Bool) → is_whole (length names) (roles options anything words) ≡ b → Reads names options (fault_of app words) (matches_of app words) (roles options anything words) b
-        → (kind_of e ≡ OutOfMemory) ⊎ (is_whole (length names) (roles options anything words) ≡ false)
-    go false f r = inr f
-    go true f r = ⊎_elim (λ k. inl k) (λ among. absurd (subst (IsAmong (kind_of e)) r.0 among)) kind
+        → IsUnfit names options words
+    go false f r = f
+    go true f r = absurd (faulty r.0)
+
+-- an error is want of memory, or the words have a fault
+pub refused : (made : App) (words : List Text) (e : Error) (r : WordsFault) → (is_simple_and_free made ≡ true → HasKind (fault_of made words) e)
+    → (r ≡ error.OutOfMemory) ⊎ ((r ≡ error.Usage Words) × (kind_of e ≢ OutOfMemory))
+    → (r ≡ error.OutOfMemory) ⊎ ((r ≡ error.Usage Words) × IsFaulty made words)
+refused made words e r kinds told = ⊎_elim (λ memory. inl memory)
+    (λ other. inr (other.0, λ simple none. ⊎_elim other.1 (λ among. subst (IsAmong (kind_of e)) none among) (kinds simple))) told
 
 -- a command's words, by what a parse of it ensures
-pub ok_matches : (made app : App) (names options words : List Text) (m : ArgMatches) → made ≡ app → (is_simple app ≡ true) × (is_simple_and_free app ≡ true) → ReadsAs app names options words
-    → (is_simple_and_free made ≡ true → fault_of made words ≡ []) → HasMatchesOf made words m → Matches names options words m
-ok_matches made app names options words m e simple h kinds rows =
-    matched app names options words m h (ap (λ a. fault_of a words) (sym e) ∙ kinds (ap is_simple_and_free e ∙ simple.1))
-    ((rows (ap is_simple e ∙ simple.0)).0 ∙ ap (λ a. matches_of a words) e)
-
-pub err_matches : (made app : App) (names options words : List Text) (e : Error) (r : WordsFault) → made ≡ app → (is_simple app ≡ true) × (is_simple_and_free app ≡ true)
-    → ReadsAs app names options words → (is_simple_and_free made ≡ true → HasKind (fault_of made words) e)
-    → (r ≡ error.OutOfMemory) ⊎ ((r ≡ error.Usage Words) × (kind_of e ≢ OutOfMemory))
-    → (r ≡ error.OutOfMemory) ⊎ ((r ≡ error.Usage Words) × IsUnfit names options words)
-err_matches made app names options words e r is simple h kinds refused =
-    ⊎_elim (λ memory. inl memory) (λ other. ⊎_elim (λ k. absurd (other.1 k)) (λ unfit. inr (other.0, unfit))
-    (unmatched app names options words e h (subst (λ a. HasKind (fault_of a words) e) is (kinds (ap is_simple_and_free is ∙ simple.1))))) refused
+pub matches_fit : (made app : App) (names options words : List Text) (r : Result ArgMatches WordsFault) → made ≡ app
+    → (is_simple app ≡ true) × (is_simple_and_free app ≡ true) → ReadsAs app names options words
+    → MatchResult r (IsMatched made words) (λ e. (e ≡ error.OutOfMemory) ⊎ ((e ≡ error.Usage Words) × IsFaulty made words))
+    → MatchResult r (Matches names options words) (λ e. (e ≡ error.OutOfMemory) ⊎ ((e ≡ error.Usage Words) × IsUnfit names options words))
+matches_fit made app names options words (Ok m) e simple h read =
+    matched app names options words m h (ap (λ a. fault_of a words) (sym e) ∙ read.faultless (ap is_simple_and_free e ∙ simple.1))
+    ((read.matches (ap is_simple e ∙ simple.0)).0 ∙ ap (λ a. matches_of a words) e)
+matches_fit made app names options words (Err fault) e simple h read =
+    ⊎_elim (λ memory. inl memory)
+    (λ other. inr (
+      other.0,
+      unmatched app names options words h
+          (λ none. other.1 (ap is_simple_and_free e ∙ simple.1) (ap (λ a. fault_of a words) e ∙ none)),
+    )) read

@@ -3,6 +3,8 @@ use Rattle.std.specs.Prelude.{List, [], ◌∷◌, ◌++◌, map, Some, true, co
 use Rattle.clap.specs.declared.builder.action.ArgAction.TheVariants.{Set}
 use Rattle.clap.specs.Simple.{App, new_rule, new_shape, on_top}
 use Rattle.clap.specs.Walk.{Rule, Text}
+use Rattle.command_words.specs.declared.commands.Argument.{Argument}
+use Rattle.command_words.specs.declared.commands.Argument.TheVariants as argument
 use Rattle.command_words.specs.Words.{demo_options, flows_options, plan_options, run_options}
 
 -- a name that has to be there
@@ -12,6 +14,10 @@ name_rule id = record (new_rule id) { required = true; action = Some Set }
 -- an option with a value
 abbrev pub option_rule : Text → Rule
 option_rule id = record (new_rule id) { long = Some id; action = Some Set }
+
+abbrev pub rule_for : Argument → Rule
+rule_for (argument.Name id) = name_rule id.now
+rule_for (argument.Option id) = option_rule id.now
 
 -- a command with these names and options, and with no flags of `clap`'s own
 abbrev pub app : Text → List Text → List Text → App
@@ -25,7 +31,7 @@ app name names options = record {
   subs = [];
 }
 
--- a command with these arguments more
+-- a command with these rules behind its own
 abbrev pub with_rules : App → List Rule → App
 with_rules a rules = on_top (λ s. record s { rules = s.rules ++ rules }) a
 

@@ -1,11 +1,18 @@
 //! The commands as `clap` is told of them: names that have to be there, and options with a value.
 ghost use Rattle.std.specs.Prelude.{◌≡◌, IfOk, false, [], map};
-ghost use Rattle.clap.specs.Walk.{texts};
 ghost use Rattle.clap.specs.Words.{app_of, rule_of};
-ghost use Rattle.command_words.specs.Apps.{app, demo_app, flows_app, name_rule, option_rule, plan_app, run_app, with_rules};
+ghost use Rattle.command_words.specs.Apps.{app, demo_app, flows_app, name_rule, option_rule, plan_app, rule_for, run_app, with_rules};
 
 use clap::{Arg, ArgAction, Command};
 use std::alloc::{AllocError, Global};
+
+// What may stand behind a command.
+enum Argument<'a> {
+    // A name that has to be there.
+    Name(&'a str),
+    // An option with a value.
+    Option(&'a str),
+}
 
 fn name<'a>(alloc: Global, id: &'a str) -> Arg<'a>
     ensures rule { rule_of result ≡ name_rule id.entry.now }
@@ -21,6 +28,16 @@ fn option<'a>(alloc: Global, id: &'a str) -> Arg<'a>
     Arg::new(alloc, id).long(id).action(ArgAction::Set)
 }
 
+fn told<'a>(alloc: Global, argument: &Argument<'a>) -> Arg<'a>
+    ensures rule { rule_of result ≡ rule_for argument.now }
+    ensures local { result.global ≡ false }
+{
+    match argument {
+        Argument::Name(id) => name(alloc, id),
+        Argument::Option(id) => option(alloc, id),
+    }
+}
+
 // A command to which no name and no option was added.
 fn without_arguments<'a>(alloc: Global, name: &'a str) -> Command<'a>
     ensures { app_of result ≡ app name.entry.now [] [] }
@@ -31,54 +48,37 @@ fn without_arguments<'a>(alloc: Global, name: &'a str) -> Command<'a>
         .disable_version_flag(true)
 }
 
-fn with_names<'a>(
-    alloc: Global,
-    mut command: Command<'a>,
-    names: &[&'a str],
-) -> Result<Command<'a>, AllocError>
-    ensures { IfOk result (λ c. app_of c ≡ with_rules (app_of command.entry) (map name_rule (texts names.now))) }
-{
-    for id in names {
-        command = command.arg(name(alloc, id))?;
-    }
-    Ok(command)
-}
-
-fn with_options<'a>(
-    alloc: Global,
-    mut command: Command<'a>,
-    options: &[&'a str],
-) -> Result<Command<'a>, AllocError>
-    ensures { IfOk result (λ c. app_of c ≡ with_rules (app_of command.entry) (map option_rule (texts options.now))) }
-{
-    for id in options {
-        command = command.arg(option(alloc, id))?;
-    }
-    Ok(command)
-}
-
-// A command with these names and options.
-fn command_with<'a>(
+fn with_arguments<'a>(
     alloc: Global,
     name: &'a str,
-    names: &[&'a str],
-    options: &[&'a str],
+    arguments: &[Argument<'a>],
 ) -> Result<Command<'a>, AllocError>
-    ensures { IfOk result (λ c. app_of c ≡ app name.entry.now (texts names.now) (texts options.now)) }
+    ensures { IfOk result (λ c. app_of c ≡ with_rules (app name.entry.now [] []) (map rule_for arguments.now)) }
 {
-    let command = with_names(alloc, without_arguments(alloc, name), names)?;
-    with_options(alloc, command, options)
+    let mut command = without_arguments(alloc, name);
+    for argument in arguments {
+        command = command.arg(told(alloc, argument))?;
+    }
+    Ok(command)
 }
 
 /// `run POLICY CAPTURE OUT REPORT` with its options.
 pub fn run_command<'a>(alloc: Global) -> Result<Command<'a>, AllocError>
     ensures { IfOk result (λ c. app_of c ≡ run_app) }
 {
-    command_with(
+    with_arguments(
         alloc,
         "run",
-        &["policy", "capture", "out", "report"],
-        &["mergers", "burst", "merge", "graph"],
+        &[
+            Argument::Name("policy"),
+            Argument::Name("capture"),
+            Argument::Name("out"),
+            Argument::Name("report"),
+            Argument::Option("mergers"),
+            Argument::Option("burst"),
+            Argument::Option("merge"),
+            Argument::Option("graph"),
+        ],
     )
 }
 
@@ -86,18 +86,27 @@ pub fn run_command<'a>(alloc: Global) -> Result<Command<'a>, AllocError>
 pub fn plan_command<'a>(alloc: Global) -> Result<Command<'a>, AllocError>
     ensures { IfOk result (λ c. app_of c ≡ plan_app) }
 {
-    command_with(alloc, "plan", &["policy"], &["graph"])
+    with_arguments(
+        alloc,
+        "plan",
+        &[Argument::Name("policy"), Argument::Option("graph")],
+    )
 }
 
 /// `demo SEED COUNT` with its options.
 pub fn demo_command<'a>(alloc: Global) -> Result<Command<'a>, AllocError>
     ensures { IfOk result (λ c. app_of c ≡ demo_app) }
 {
-    command_with(
+    with_arguments(
         alloc,
         "demo",
-        &["seed", "count"],
-        &["mergers", "burst", "merge"],
+        &[
+            Argument::Name("seed"),
+            Argument::Name("count"),
+            Argument::Option("mergers"),
+            Argument::Option("burst"),
+            Argument::Option("merge"),
+        ],
     )
 }
 
@@ -105,5 +114,14 @@ pub fn demo_command<'a>(alloc: Global) -> Result<Command<'a>, AllocError>
 pub fn flows_command<'a>(alloc: Global) -> Result<Command<'a>, AllocError>
     ensures { IfOk result (λ c. app_of c ≡ flows_app) }
 {
-    command_with(alloc, "flows", &["capture", "out"], &["workers", "burst"])
+    with_arguments(
+        alloc,
+        "flows",
+        &[
+            Argument::Name("capture"),
+            Argument::Name("out"),
+            Argument::Option("workers"),
+            Argument::Option("burst"),
+        ],
+    )
 }

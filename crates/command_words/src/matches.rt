@@ -1,14 +1,14 @@
 //! The words behind each command, matched by `clap`.
 ghost use Rattle.std.specs.Prelude.{◌≡◌, ◌≢◌, ◌⊎◌, MatchResult, map, string_bytes};
-ghost use Rattle.clap.specs.Words.{kind_of};
+ghost use Rattle.clap.specs.Words.{app_of, kind_of};
 ghost use Rattle.command_words.specs.Apps.{demo_names, flows_names, plan_names, run_names};
-ghost use Rattle.command_words.specs.Matched.{IsUnfit, Matches};
+ghost use Rattle.command_words.specs.Matched.{IsFaulty, IsMatched, IsUnfit, Matches};
 ghost use Rattle.command_words.specs.Words.{demo_options, flows_options, plan_options, run_options};
 
 use crate::commands::{demo_command, flows_command, plan_command, run_command};
 use crate::usage::{UsageFault, WordsFault};
 use clap::error::ErrorKind;
-use clap::{ArgMatches, Error};
+use clap::{ArgMatches, Command, Error};
 use std::alloc::Global;
 
 // Whatever `clap` has against the words is one fault.
@@ -23,16 +23,25 @@ fn refusal(error: Error) -> WordsFault
     }
 }
 
+// The words as `clap` matches them to the command.
+fn matches_of<'a>(command: Command<'a>, words: &'a [String]) -> Result<ArgMatches<'a>, WordsFault>
+    ensures { MatchResult result (IsMatched (app_of command.entry) (map string_bytes words.entry.now))
+        (λ e. (e ≡ WordsFault.OutOfMemory) ⊎ ((e ≡ WordsFault.Usage UsageFault.Words)
+        × IsFaulty (app_of command.entry) (map string_bytes words.entry.now))) }
+{
+    match command.try_get_matches_from(words) {
+        Ok(matches) => Ok(matches),
+        Err(error) => Err(refusal(error)),
+    }
+}
+
 pub fn run_matches<'a>(alloc: Global, words: &'a [String]) -> Result<ArgMatches<'a>, WordsFault>
     ensures { MatchResult result (Matches run_names run_options (map string_bytes words.entry.now))
         (λ e. (e ≡ WordsFault.OutOfMemory) ⊎ ((e ≡ WordsFault.Usage UsageFault.Words)
         × IsUnfit run_names run_options (map string_bytes words.entry.now))) }
 {
     let command = run_command(alloc)?;
-    match command.try_get_matches_from(words) {
-        Ok(matches) => Ok(matches),
-        Err(error) => Err(refusal(error)),
-    }
+    matches_of(command, words)
 }
 
 pub fn plan_matches<'a>(alloc: Global, words: &'a [String]) -> Result<ArgMatches<'a>, WordsFault>
@@ -41,10 +50,7 @@ pub fn plan_matches<'a>(alloc: Global, words: &'a [String]) -> Result<ArgMatches
         × IsUnfit plan_names plan_options (map string_bytes words.entry.now))) }
 {
     let command = plan_command(alloc)?;
-    match command.try_get_matches_from(words) {
-        Ok(matches) => Ok(matches),
-        Err(error) => Err(refusal(error)),
-    }
+    matches_of(command, words)
 }
 
 pub fn demo_matches<'a>(alloc: Global, words: &'a [String]) -> Result<ArgMatches<'a>, WordsFault>
@@ -53,10 +59,7 @@ pub fn demo_matches<'a>(alloc: Global, words: &'a [String]) -> Result<ArgMatches
         × IsUnfit demo_names demo_options (map string_bytes words.entry.now))) }
 {
     let command = demo_command(alloc)?;
-    match command.try_get_matches_from(words) {
-        Ok(matches) => Ok(matches),
-        Err(error) => Err(refusal(error)),
-    }
+    matches_of(command, words)
 }
 
 pub fn flows_matches<'a>(alloc: Global, words: &'a [String]) -> Result<ArgMatches<'a>, WordsFault>
@@ -65,8 +68,5 @@ pub fn flows_matches<'a>(alloc: Global, words: &'a [String]) -> Result<ArgMatche
         × IsUnfit flows_names flows_options (map string_bytes words.entry.now))) }
 {
     let command = flows_command(alloc)?;
-    match command.try_get_matches_from(words) {
-        Ok(matches) => Ok(matches),
-        Err(error) => Err(refusal(error)),
-    }
+    matches_of(command, words)
 }

@@ -1,6 +1,6 @@
 //! The words of the command line.
 ghost use Rattle.std.specs.Prelude.{IfOk, map, string_bytes};
-ghost use Rattle.command_words.specs.Named.{HasRanges, ReadsWords};
+ghost use Rattle.command_words.specs.Named.{HasRanges, ReadsWords, answer_seen};
 ghost use Rattle.command_words.specs.Words.{command_of, demo_of, flows_of, plan_of, run_of};
 
 use crate::answers::{demo_answer, flows_answer, plan_answer, run_answer};
@@ -28,15 +28,23 @@ pub fn read_command<'a>(alloc: Global, words: &'a [String]) -> Result<Command<'a
     }
 }
 
+// The command that words which were matched ask for, or their fault.
+fn settled<'a>(answer: Result<Command<'a>, UsageFault>) -> Result<Command<'a>, WordsFault>
+    ensures reads { ReadsWords result (answer_seen answer.entry) }
+    ensures ranges { IfOk answer.entry HasRanges → IfOk result HasRanges }
+{
+    match answer {
+        Ok(command) => Ok(command),
+        Err(fault) => Err(WordsFault::Usage(fault)),
+    }
+}
+
 fn read_run<'a>(alloc: Global, words: &'a [String]) -> Result<Command<'a>, WordsFault>
     ensures reads { ReadsWords result (run_of (map string_bytes words.entry.now)) }
     ensures ranges { IfOk result HasRanges }
 {
     let matches = run_matches(alloc, words)?;
-    match run_answer(&matches) {
-        Ok(command) => Ok(command),
-        Err(fault) => Err(WordsFault::Usage(fault)),
-    }
+    settled(run_answer(&matches))
 }
 
 fn read_plan<'a>(alloc: Global, words: &'a [String]) -> Result<Command<'a>, WordsFault>
@@ -44,10 +52,7 @@ fn read_plan<'a>(alloc: Global, words: &'a [String]) -> Result<Command<'a>, Word
     ensures ranges { IfOk result HasRanges }
 {
     let matches = plan_matches(alloc, words)?;
-    match plan_answer(&matches) {
-        Ok(command) => Ok(command),
-        Err(fault) => Err(WordsFault::Usage(fault)),
-    }
+    settled(plan_answer(&matches))
 }
 
 fn read_demo<'a>(alloc: Global, words: &'a [String]) -> Result<Command<'a>, WordsFault>
@@ -55,10 +60,7 @@ fn read_demo<'a>(alloc: Global, words: &'a [String]) -> Result<Command<'a>, Word
     ensures ranges { IfOk result HasRanges }
 {
     let matches = demo_matches(alloc, words)?;
-    match demo_answer(&matches) {
-        Ok(command) => Ok(command),
-        Err(fault) => Err(WordsFault::Usage(fault)),
-    }
+    settled(demo_answer(&matches))
 }
 
 fn read_flows<'a>(alloc: Global, words: &'a [String]) -> Result<Command<'a>, WordsFault>
@@ -66,8 +68,5 @@ fn read_flows<'a>(alloc: Global, words: &'a [String]) -> Result<Command<'a>, Wor
     ensures ranges { IfOk result HasRanges }
 {
     let matches = flows_matches(alloc, words)?;
-    match flows_answer(&matches) {
-        Ok(command) => Ok(command),
-        Err(fault) => Err(WordsFault::Usage(fault)),
-    }
+    settled(flows_answer(&matches))
 }

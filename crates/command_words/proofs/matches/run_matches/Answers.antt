@@ -3,17 +3,11 @@ use Rattle.clap.specs.Words.{app_of}
 use Rattle.command_words.specs.Apps.{run_app, run_names}
 use Rattle.command_words.specs.Words.{run_options}
 use Rattle.command_words.proofs.Agreement.{run_is_simple, run_reads}
-use Rattle.command_words.proofs.Matching.{all_text, err_matches, ok_matches}
+use Rattle.command_words.proofs.Matching.{all_text, matches_fit}
 use Rattle.command_words.proofs.matches.run_matches.Goals as goal
 
-pub returns-in-Ok : goal.returns-in-Ok
-returns-in-Ok c =
+pub returns : goal.returns
+returns c =
     let words = map string_bytes c.args.words.now in
-    ok_matches (app_of c.in_ok-command.command) run_app run_names run_options words c.in-Ok.matches c.in_ok-command.ensures run_is_simple
-    (run_reads words (all_text c.args.words.now)) c.in-Ok.ensures.kinds c.in-Ok.ensures.matches
-
-pub returns-in-Err : goal.returns-in-Err
-returns-in-Err c =
-    let words = map string_bytes c.args.words.now in
-    err_matches (app_of c.in_ok-command.command) run_app run_names run_options words c.in-Err.error c.refusal.result c.in_ok-command.ensures run_is_simple
-    (run_reads words (all_text c.args.words.now)) c.in-Err.ensures.kinds c.refusal.ensures
+    matches_fit (app_of c.in_ok-command.command) run_app run_names run_options words c.matches_of.result c.in_ok-command.ensures run_is_simple
+    (run_reads words (all_text c.args.words.now)) c.matches_of.ensures
