@@ -1,5 +1,5 @@
 -- The answer by the words that `clap` matched is the answer by the definitions.
-use Rattle.std.proofs.Common.{◌≡◌, ◌∙◌, ◌⊎◌, ◌==◌, ◌&&◌, ℕ, Bool, cond, true, false, not, refl, sym, ap, subst, List, [], ◌∷◌, map, length, Option, Some, None, Ok, Err, codes, ⊎_elim, true≢false}
+use Rattle.std.proofs.Common.{◌≡◌, ◌∙◌, ◌⊎◌, ◌==◌, ◌&&◌, ℕ, Bool, cond, true, false, not, refl, sym, ap, subst, List, [], ◌∷◌, map, length, Option, Some, None, Err, codes, ⊎_elim, true≢false}
 use Rattle.std.specs.Prelude.{⊤}
 use Rattle.std.specs.List.{list_all}
 use Rattle.std.specs.Str.{bytes_eq}
@@ -13,7 +13,7 @@ use Rattle.command_words.specs.Matched.{Matches, demo_read, flow_options_have_te
 use Rattle.command_words.specs.Named.{ReadsWords}
 use Rattle.command_words.specs.Roles.{Role, anything, gives, is_fit, is_whole, name, names_in, opens, option_names, options_in, roles, separator, unfit}
 use Rattle.command_words.specs.Given.{Given, Word, all_differ, contains, given_by, has_text, value_given}
-use Rattle.command_words.specs.Words.{Answer, PlanFiles, answer_by, demo_by, demo_of, demo_options, flows_by, flows_of, flows_options, plan_by, plan_of, plan_options, plan_with, run_by, run_of, run_options}
+use Rattle.command_words.specs.Words.{Answer, answer_by, demo_by, demo_of, demo_options, flows_by, flows_of, flows_options, plan_by, plan_of, plan_options, run_by, run_of, run_options}
 use Rattle.command_words.proofs.Givens.{fit_given, given_of, same_given, sieved, texts}
 use Rattle.command_words.proofs.Placing.{GivesOnly, eq_sym, roles_give}
 use Rattle.command_words.proofs.Table.{same_text}

@@ -53,24 +53,28 @@ unmatched app names options words h faulty = go (is_whole (length names) (roles 
     go true f r = absurd (faulty r.0)
 
 -- an error is want of memory, or the words have a fault
-pub refused : (made : App) (words : List Text) (e : Error) (r : WordsFault) → (is_simple_and_free made ≡ true → HasKind (fault_of made words) e)
+refused : (made : App) (words : List Text) (e : Error) (r : WordsFault) → (is_simple_and_free made ≡ true → HasKind (fault_of made words) e)
     → (r ≡ error.OutOfMemory) ⊎ ((r ≡ error.Usage Words) × (kind_of e ≢ OutOfMemory))
     → (r ≡ error.OutOfMemory) ⊎ ((r ≡ error.Usage Words) × IsFaulty made words)
 refused made words e r kinds told = ⊎_elim (λ memory. inl memory)
     (λ other. inr (other.0, λ simple none. ⊎_elim other.1 (λ among. subst (IsAmong (kind_of e)) none among) (kinds simple))) told
 
 -- a command's words, by what a parse of it ensures
-pub matches_fit : (made app : App) (names options words : List Text) (r : Result ArgMatches WordsFault) → made ≡ app
-    → (is_simple app ≡ true) × (is_simple_and_free app ≡ true) → ReadsAs app names options words
-    → MatchResult r (IsMatched made words) (λ e. (e ≡ error.OutOfMemory) ⊎ ((e ≡ error.Usage Words) × IsFaulty made words))
+pub matches_fit : (app : App) (names options words : List Text) (r : Result ArgMatches WordsFault) → (is_simple app ≡ true) × (is_simple_and_free app ≡ true)
+    → ReadsAs app names options words
+    → MatchResult r (IsMatched app words) (λ e. (e ≡ error.OutOfMemory) ⊎ ((e ≡ error.Usage Words) × IsFaulty app words))
     → MatchResult r (Matches names options words) (λ e. (e ≡ error.OutOfMemory) ⊎ ((e ≡ error.Usage Words) × IsUnfit names options words))
-matches_fit made app names options words (Ok m) e simple h read =
-    matched app names options words m h (ap (λ a. fault_of a words) (sym e) ∙ read.faultless (ap is_simple_and_free e ∙ simple.1))
-    ((read.matches (ap is_simple e ∙ simple.0)).0 ∙ ap (λ a. matches_of a words) e)
-matches_fit made app names options words (Err fault) e simple h read =
-    ⊎_elim (λ memory. inl memory)
-    (λ other. inr (
-      other.0,
-      unmatched app names options words h
-          (λ none. other.1 (ap is_simple_and_free e ∙ simple.1) (ap (λ a. fault_of a words) e ∙ none)),
-    )) read
+matches_fit app names options words (Ok m) simple h read =
+    matched app names options words m h (read.faultless simple.1) (read.matches simple.0).0
+matches_fit app names options words (Err fault) simple h read =
+    ⊎_elim (λ memory. inl memory) (λ other. inr (other.0, unmatched app names options words h (other.1 simple.1))) read
+
+-- the same words, of a command that was made so
+pub matched_to : (made app : App) (words : List Text) (m : ArgMatches) → made ≡ app → (is_simple_and_free made ≡ true → fault_of made words ≡ []) → HasMatchesOf made words m
+    → IsMatched app words m
+matched_to made app words m e kinds rows = subst (λ a. IsMatched a words m) e (record { faultless = kinds; matches = rows })
+
+pub refused_to : (made app : App) (words : List Text) (e : Error) (r : WordsFault) → made ≡ app → (is_simple_and_free made ≡ true → HasKind (fault_of made words) e)
+    → (r ≡ error.OutOfMemory) ⊎ ((r ≡ error.Usage Words) × (kind_of e ≢ OutOfMemory))
+    → (r ≡ error.OutOfMemory) ⊎ ((r ≡ error.Usage Words) × IsFaulty app words)
+refused_to made app words e r is kinds told = subst (λ a. (r ≡ error.OutOfMemory) ⊎ ((r ≡ error.Usage Words) × IsFaulty a words)) is (refused made words e r kinds told)

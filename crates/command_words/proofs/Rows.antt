@@ -1,7 +1,6 @@
 -- Worked rows, computed by the definitions.
 use Rattle.std.specs.Prelude.{◌≡◌, ℕ, List, [], refl, ◌==◌, Some, None, Ok, Err, codes}
 use Rattle.std.specs.List.{slice_split}
-use Rattle.command_words.specs.declared.requests.FlowOptions.{FlowOptions}
 use Rattle.command_words.specs.declared.requests.RunOptions.{RunOptions}
 use Rattle.command_words.specs.declared.requests.Way.{Way}
 use Rattle.command_words.specs.declared.requests.Way.TheVariants.{Inbox, Board}

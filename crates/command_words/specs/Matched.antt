@@ -1,13 +1,13 @@
 -- For proofs: what `clap` makes of the words behind a command, and the answer by it.
 use Rattle.std.specs.Prelude.{◌≡◌, ◌≢◌, ◌&&◌, Bool, true, false, List, [], ◌∷◌, map, length, Option, Some}
-use Rattle.std.specs.Prelude.{None, Ok, Err, if◌then◌else◌}
+use Rattle.std.specs.Prelude.{None, Err, if◌then◌else◌}
 use Rattle.std.specs.List.{list_all}
 use Rattle.clap.specs.declared.parser.matches.ArgMatches.{ArgMatches}
 use Rattle.clap.specs.Words.{App, HasMatchesOf, Text, fault_of, first_value, found_of, is_simple_and_free}
 use Rattle.command_words.specs.declared.usage.UsageFault.TheVariants as fault
 use Rattle.command_words.specs.Roles.{Role, anything, is_whole, names_in, options_in, roles}
 use Rattle.command_words.specs.Given.{Word, contains, has_text, value_given}
-use Rattle.command_words.specs.Words.{Answer, Names, PlanFiles, demo_with, flows_with, plan_with, run_with}
+use Rattle.command_words.specs.Words.{Answer, Names, demo_with, flows_with, plan_with, run_with}
 
 -- there is no fault of the words behind this command, and these are their matches
 pub record IsMatched (a : App) (words : List Text) (m : ArgMatches) : Type 0 where

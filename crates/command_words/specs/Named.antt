@@ -36,18 +36,6 @@ abbrev pub answer_seen : Result Asked UsageFault → Answer
 answer_seen (Ok command) = Ok (command_seen command)
 answer_seen (Err fault) = Err fault
 
-abbrev pub distinct_seen : Result FileNames UsageFault → Result Names UsageFault
-distinct_seen (Ok names) = Ok (names_seen names)
-distinct_seen (Err fault) = Err fault
-
-abbrev pub distinct_plan_seen : Result PlanNames UsageFault → Result PlanFiles UsageFault
-distinct_plan_seen (Ok names) = Ok (plan_seen names)
-distinct_plan_seen (Err fault) = Err fault
-
-abbrev pub distinct_files_seen : Result FlowNames UsageFault → Result FlowFiles UsageFault
-distinct_files_seen (Ok names) = Ok (files_seen names)
-distinct_files_seen (Err fault) = Err fault
-
 -- the words were read to this, or memory ran out
 abbrev pub ReadsWords : Result Asked WordsFault → Answer → Type 0
 ReadsWords (Ok command) due = due ≡ Ok (command_seen command)

@@ -3,9 +3,9 @@ ghost use Rattle.std.specs.Prelude.{◌≡◌, IfOk, codes, option_map};
 ghost use Rattle.std.specs.List.{list_all};
 ghost use Rattle.clap.specs.Words.{first_value, found_of};
 ghost use Rattle.command_words.specs.Matched.{demo_read, flow_options_have_text as flow_options_spell, flows_read, four_names, given_has_text as given_spells, names_of, options_have_text as options_spell, plan_read, run_options_have_text as run_options_spell, run_read};
-ghost use Rattle.command_words.specs.Named.{HasRanges, answer_seen, distinct_files_seen, distinct_plan_seen, distinct_seen, files_seen, names_seen, plan_seen, word_in};
+ghost use Rattle.command_words.specs.Named.{HasRanges, answer_seen, files_seen, names_seen, plan_seen, word_in};
 ghost use Rattle.command_words.specs.Given.{all_differ, contains, has_text as spells};
-ghost use Rattle.command_words.specs.Words.{demo_with, distinct as distinct_names, distinct_files, distinct_plan as distinct_plan_files, flows_with, plan_with, run_with, with_graph};
+ghost use Rattle.command_words.specs.Words.{demo_with, flows_with, plan_with, run_with, with_graph};
 
 use crate::numbers::{burst, count, mergers, seed, workers};
 use crate::requests::{
@@ -91,16 +91,6 @@ fn are_distinct(names: &FileNames<'_>) -> bool
     }
 }
 
-fn distinct<'a>(names: FileNames<'a>) -> Result<FileNames<'a>, UsageFault>
-    ensures { distinct_seen result ≡ distinct_names (names_seen names.entry) }
-{
-    if are_distinct(&names) {
-        Ok(names)
-    } else {
-        Err(UsageFault::SameName)
-    }
-}
-
 fn run_from<'a>(names: FileNames<'a>, options: &OptionWords<'_>) -> Result<Command<'a>, UsageFault>
     ensures answer { answer_seen result ≡ run_with (names_seen names.entry) (word_in options.now.mergers) (word_in options.now.burst)
         (word_in options.now.merge) }
@@ -109,15 +99,18 @@ fn run_from<'a>(names: FileNames<'a>, options: &OptionWords<'_>) -> Result<Comma
     let mergers = mergers(options.mergers)?;
     let burst = burst(options.burst)?;
     let way = merge_way(options.merge)?;
-    let names = distinct(names)?;
-    Ok(Command::Run(
-        names,
-        RunOptions {
-            mergers,
-            burst,
-            way,
-        },
-    ))
+    if are_distinct(&names) {
+        Ok(Command::Run(
+            names,
+            RunOptions {
+                mergers,
+                burst,
+                way,
+            },
+        ))
+    } else {
+        Err(UsageFault::SameName)
+    }
 }
 
 fn demo_from<'a>(
@@ -194,21 +187,14 @@ pub fn run_answer<'a>(matches: &ArgMatches<'a>) -> Result<Command<'a>, UsageFaul
     }
 }
 
-fn distinct_plan<'a>(names: PlanNames<'a>) -> Result<PlanNames<'a>, UsageFault>
-    ensures { distinct_plan_seen result ≡ distinct_plan_files (plan_seen names.entry) }
-{
-    match names.graph {
-        Some(graph) if names.policy == graph => Err(UsageFault::SameName),
-        _ => Ok(names),
-    }
-}
-
 fn plan_from<'a>(names: PlanNames<'a>) -> Result<Command<'a>, UsageFault>
     ensures answer { answer_seen result ≡ plan_with (plan_seen names.entry) }
     ensures ranges { IfOk result HasRanges }
 {
-    let names = distinct_plan(names)?;
-    Ok(Command::Plan(names))
+    match names.graph {
+        Some(graph) if names.policy == graph => Err(UsageFault::SameName),
+        _ => Ok(Command::Plan(names)),
+    }
 }
 
 /// The command `plan` of words that `clap` matched.
@@ -255,16 +241,6 @@ fn flow_options_have_text(workers: Option<&str>, burst: Option<&str>) -> bool
     given_has_text(workers) && given_has_text(burst)
 }
 
-fn distinct_flow_names<'a>(names: FlowNames<'a>) -> Result<FlowNames<'a>, UsageFault>
-    ensures { distinct_files_seen result ≡ distinct_files (files_seen names.entry) }
-{
-    if names.out == names.capture {
-        Err(UsageFault::SameName)
-    } else {
-        Ok(names)
-    }
-}
-
 fn flows_from<'a>(
     names: FlowNames<'a>,
     workers_word: Option<&str>,
@@ -275,8 +251,11 @@ fn flows_from<'a>(
 {
     let burst = burst(burst_word)?;
     let workers = workers(workers_word)?;
-    let names = distinct_flow_names(names)?;
-    Ok(Command::Flows(names, FlowOptions { workers, burst }))
+    if names.out == names.capture {
+        Err(UsageFault::SameName)
+    } else {
+        Ok(Command::Flows(names, FlowOptions { workers, burst }))
+    }
 }
 
 /// The command `flows` of words that `clap` matched.

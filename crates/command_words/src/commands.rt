@@ -1,16 +1,16 @@
-//! The commands as `clap` is told of them: names that have to be there, and options with a value.
+//! A command as `clap` is told of it: names that have to be there, and options with a value.
 ghost use Rattle.std.specs.Prelude.{◌≡◌, IfOk, false, [], map};
 ghost use Rattle.clap.specs.Words.{app_of, rule_of};
-ghost use Rattle.command_words.specs.Apps.{app, demo_app, flows_app, name_rule, option_rule, plan_app, rule_for, run_app, with_rules};
+ghost use Rattle.command_words.specs.Apps.{app, name_rule, option_rule, rule_for, with_rules};
 
 use clap::{Arg, ArgAction, Command};
 use std::alloc::{AllocError, Global};
 
-// What may stand behind a command.
-enum Argument<'a> {
-    // A name that has to be there.
+/// What may stand behind a command.
+pub enum Argument<'a> {
+    /// A name that has to be there.
     Name(&'a str),
-    // An option with a value.
+    /// An option with a value.
     Option(&'a str),
 }
 
@@ -48,7 +48,8 @@ fn without_arguments<'a>(alloc: Global, name: &'a str) -> Command<'a>
         .disable_version_flag(true)
 }
 
-fn with_arguments<'a>(
+/// A command with these names and options, the names in their order.
+pub fn command<'a>(
     alloc: Global,
     name: &'a str,
     arguments: &[Argument<'a>],
@@ -60,68 +61,4 @@ fn with_arguments<'a>(
         command = command.arg(told(alloc, argument))?;
     }
     Ok(command)
-}
-
-/// `run POLICY CAPTURE OUT REPORT` with its options.
-pub fn run_command<'a>(alloc: Global) -> Result<Command<'a>, AllocError>
-    ensures { IfOk result (λ c. app_of c ≡ run_app) }
-{
-    with_arguments(
-        alloc,
-        "run",
-        &[
-            Argument::Name("policy"),
-            Argument::Name("capture"),
-            Argument::Name("out"),
-            Argument::Name("report"),
-            Argument::Option("mergers"),
-            Argument::Option("burst"),
-            Argument::Option("merge"),
-            Argument::Option("graph"),
-        ],
-    )
-}
-
-/// `plan POLICY` with its option.
-pub fn plan_command<'a>(alloc: Global) -> Result<Command<'a>, AllocError>
-    ensures { IfOk result (λ c. app_of c ≡ plan_app) }
-{
-    with_arguments(
-        alloc,
-        "plan",
-        &[Argument::Name("policy"), Argument::Option("graph")],
-    )
-}
-
-/// `demo SEED COUNT` with its options.
-pub fn demo_command<'a>(alloc: Global) -> Result<Command<'a>, AllocError>
-    ensures { IfOk result (λ c. app_of c ≡ demo_app) }
-{
-    with_arguments(
-        alloc,
-        "demo",
-        &[
-            Argument::Name("seed"),
-            Argument::Name("count"),
-            Argument::Option("mergers"),
-            Argument::Option("burst"),
-            Argument::Option("merge"),
-        ],
-    )
-}
-
-/// `flows CAPTURE OUT` with its options.
-pub fn flows_command<'a>(alloc: Global) -> Result<Command<'a>, AllocError>
-    ensures { IfOk result (λ c. app_of c ≡ flows_app) }
-{
-    with_arguments(
-        alloc,
-        "flows",
-        &[
-            Argument::Name("capture"),
-            Argument::Name("out"),
-            Argument::Option("workers"),
-            Argument::Option("burst"),
-        ],
-    )
 }

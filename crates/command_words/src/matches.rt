@@ -1,14 +1,14 @@
 //! The words behind each command, matched by `clap`.
-ghost use Rattle.std.specs.Prelude.{◌≡◌, ◌≢◌, ◌⊎◌, MatchResult, map, string_bytes};
-ghost use Rattle.clap.specs.Words.{app_of, kind_of};
-ghost use Rattle.command_words.specs.Apps.{demo_names, flows_names, plan_names, run_names};
+ghost use Rattle.std.specs.Prelude.{◌≡◌, ◌≢◌, ◌⊎◌, [], MatchResult, map, string_bytes};
+ghost use Rattle.clap.specs.Words.{kind_of};
+ghost use Rattle.command_words.specs.Apps.{app, demo_names, flows_names, plan_names, rule_for, run_names, with_rules};
 ghost use Rattle.command_words.specs.Matched.{IsFaulty, IsMatched, IsUnfit, Matches};
 ghost use Rattle.command_words.specs.Words.{demo_options, flows_options, plan_options, run_options};
 
-use crate::commands::{demo_command, flows_command, plan_command, run_command};
+use crate::commands::{Argument, command};
 use crate::usage::{UsageFault, WordsFault};
 use clap::error::ErrorKind;
-use clap::{ArgMatches, Command, Error};
+use clap::{ArgMatches, Error};
 use std::alloc::Global;
 
 // Whatever `clap` has against the words is one fault.
@@ -23,50 +23,96 @@ fn refusal(error: Error) -> WordsFault
     }
 }
 
-// The words as `clap` matches them to the command.
-fn matches_of<'a>(command: Command<'a>, words: &'a [String]) -> Result<ArgMatches<'a>, WordsFault>
-    ensures { MatchResult result (IsMatched (app_of command.entry) (map string_bytes words.entry.now))
+// The words as `clap` matches them to a command with these names and options.
+fn matches_of<'a>(
+    alloc: Global,
+    name: &'a str,
+    arguments: &[Argument<'a>],
+    words: &'a [String],
+) -> Result<ArgMatches<'a>, WordsFault>
+    ensures { MatchResult result (IsMatched (with_rules (app name.entry.now [] []) (map rule_for arguments.now)) (map string_bytes words.entry.now))
         (λ e. (e ≡ WordsFault.OutOfMemory) ⊎ ((e ≡ WordsFault.Usage UsageFault.Words)
-        × IsFaulty (app_of command.entry) (map string_bytes words.entry.now))) }
+        × IsFaulty (with_rules (app name.entry.now [] []) (map rule_for arguments.now)) (map string_bytes words.entry.now))) }
 {
+    let command = command(alloc, name, arguments)?;
     match command.try_get_matches_from(words) {
         Ok(matches) => Ok(matches),
         Err(error) => Err(refusal(error)),
     }
 }
 
+/// The words of `run POLICY CAPTURE OUT REPORT` with its options.
 pub fn run_matches<'a>(alloc: Global, words: &'a [String]) -> Result<ArgMatches<'a>, WordsFault>
     ensures { MatchResult result (Matches run_names run_options (map string_bytes words.entry.now))
         (λ e. (e ≡ WordsFault.OutOfMemory) ⊎ ((e ≡ WordsFault.Usage UsageFault.Words)
         × IsUnfit run_names run_options (map string_bytes words.entry.now))) }
 {
-    let command = run_command(alloc)?;
-    matches_of(command, words)
+    matches_of(
+        alloc,
+        "run",
+        &[
+            Argument::Name("policy"),
+            Argument::Name("capture"),
+            Argument::Name("out"),
+            Argument::Name("report"),
+            Argument::Option("mergers"),
+            Argument::Option("burst"),
+            Argument::Option("merge"),
+            Argument::Option("graph"),
+        ],
+        words,
+    )
 }
 
+/// The words of `plan POLICY` with its option.
 pub fn plan_matches<'a>(alloc: Global, words: &'a [String]) -> Result<ArgMatches<'a>, WordsFault>
     ensures { MatchResult result (Matches plan_names plan_options (map string_bytes words.entry.now))
         (λ e. (e ≡ WordsFault.OutOfMemory) ⊎ ((e ≡ WordsFault.Usage UsageFault.Words)
         × IsUnfit plan_names plan_options (map string_bytes words.entry.now))) }
 {
-    let command = plan_command(alloc)?;
-    matches_of(command, words)
+    matches_of(
+        alloc,
+        "plan",
+        &[Argument::Name("policy"), Argument::Option("graph")],
+        words,
+    )
 }
 
+/// The words of `demo SEED COUNT` with its options.
 pub fn demo_matches<'a>(alloc: Global, words: &'a [String]) -> Result<ArgMatches<'a>, WordsFault>
     ensures { MatchResult result (Matches demo_names demo_options (map string_bytes words.entry.now))
         (λ e. (e ≡ WordsFault.OutOfMemory) ⊎ ((e ≡ WordsFault.Usage UsageFault.Words)
         × IsUnfit demo_names demo_options (map string_bytes words.entry.now))) }
 {
-    let command = demo_command(alloc)?;
-    matches_of(command, words)
+    matches_of(
+        alloc,
+        "demo",
+        &[
+            Argument::Name("seed"),
+            Argument::Name("count"),
+            Argument::Option("mergers"),
+            Argument::Option("burst"),
+            Argument::Option("merge"),
+        ],
+        words,
+    )
 }
 
+/// The words of `flows CAPTURE OUT` with its options.
 pub fn flows_matches<'a>(alloc: Global, words: &'a [String]) -> Result<ArgMatches<'a>, WordsFault>
     ensures { MatchResult result (Matches flows_names flows_options (map string_bytes words.entry.now))
         (λ e. (e ≡ WordsFault.OutOfMemory) ⊎ ((e ≡ WordsFault.Usage UsageFault.Words)
         × IsUnfit flows_names flows_options (map string_bytes words.entry.now))) }
 {
-    let command = flows_command(alloc)?;
-    matches_of(command, words)
+    matches_of(
+        alloc,
+        "flows",
+        &[
+            Argument::Name("capture"),
+            Argument::Name("out"),
+            Argument::Option("workers"),
+            Argument::Option("burst"),
+        ],
+        words,
+    )
 }

@@ -1,5 +1,4 @@
 use Rattle.std.proofs.Common.{map, string_bytes}
-use Rattle.clap.specs.Words.{app_of}
 use Rattle.command_words.specs.Apps.{demo_app, demo_names}
 use Rattle.command_words.specs.Words.{demo_options}
 use Rattle.command_words.proofs.Agreement.{demo_is_simple, demo_reads}
@@ -9,5 +8,4 @@ use Rattle.command_words.proofs.matches.demo_matches.Goals as goal
 pub returns : goal.returns
 returns c =
     let words = map string_bytes c.args.words.now in
-    matches_fit (app_of c.in_ok-command.command) demo_app demo_names demo_options words c.matches_of.result c.in_ok-command.ensures demo_is_simple
-    (demo_reads words (all_text c.args.words.now)) c.matches_of.ensures
+    matches_fit demo_app demo_names demo_options words c.matches_of.result demo_is_simple (demo_reads words (all_text c.args.words.now)) c.matches_of.ensures

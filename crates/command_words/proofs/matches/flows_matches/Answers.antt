@@ -1,5 +1,4 @@
 use Rattle.std.proofs.Common.{map, string_bytes}
-use Rattle.clap.specs.Words.{app_of}
 use Rattle.command_words.specs.Apps.{flows_app, flows_names}
 use Rattle.command_words.specs.Words.{flows_options}
 use Rattle.command_words.proofs.Agreement.{flows_is_simple, flows_reads}
@@ -9,5 +8,4 @@ use Rattle.command_words.proofs.matches.flows_matches.Goals as goal
 pub returns : goal.returns
 returns c =
     let words = map string_bytes c.args.words.now in
-    matches_fit (app_of c.in_ok-command.command) flows_app flows_names flows_options words c.matches_of.result c.in_ok-command.ensures flows_is_simple
-    (flows_reads words (all_text c.args.words.now)) c.matches_of.ensures
+    matches_fit flows_app flows_names flows_options words c.matches_of.result flows_is_simple (flows_reads words (all_text c.args.words.now)) c.matches_of.ensures

@@ -1,5 +1,4 @@
 use Rattle.std.proofs.Common.{map, string_bytes}
-use Rattle.clap.specs.Words.{app_of}
 use Rattle.command_words.specs.Apps.{run_app, run_names}
 use Rattle.command_words.specs.Words.{run_options}
 use Rattle.command_words.proofs.Agreement.{run_is_simple, run_reads}
@@ -9,5 +8,4 @@ use Rattle.command_words.proofs.matches.run_matches.Goals as goal
 pub returns : goal.returns
 returns c =
     let words = map string_bytes c.args.words.now in
-    matches_fit (app_of c.in_ok-command.command) run_app run_names run_options words c.matches_of.result c.in_ok-command.ensures run_is_simple
-    (run_reads words (all_text c.args.words.now)) c.matches_of.ensures
+    matches_fit run_app run_names run_options words c.matches_of.result run_is_simple (run_reads words (all_text c.args.words.now)) c.matches_of.ensures

@@ -1,7 +1,7 @@
 use Rattle.std.proofs.Common.{◌≡◌, [], map, take}
 use Rattle.clap.specs.Words.{app_of}
 use Rattle.command_words.specs.Apps.{app, rule_for, with_rules}
-use Rattle.command_words.proofs.commands.with_arguments.Given as goal
+use Rattle.command_words.proofs.commands.command.Given as goal
 
 -- the arguments so far
 abbrev pub invariant-loop-argument : goal.invariant-loop-argument

@@ -2,7 +2,7 @@ use Rattle.std.proofs.Common.{◌∙◌, []}
 use Rattle.clap.specs.Words.{with_rule}
 use Rattle.command_words.specs.Apps.{app}
 use Rattle.command_words.proofs.Rules.{one_more}
-use Rattle.command_words.proofs.commands.with_arguments.Goals as goal
+use Rattle.command_words.proofs.commands.command.Goals as goal
 
 pub loop-argument-preserved : goal.loop-argument-preserved
 loop-argument-preserved c =
