@@ -154,17 +154,21 @@ fn file_names<'a>(matches: &ArgMatches<'a>) -> Option<FileNames<'a>>
         (first_value (found_of matches.now) (codes "capture")) (first_value (found_of matches.now) (codes "out"))
         (first_value (found_of matches.now) (codes "report")) (first_value (found_of matches.now) (codes "graph")) }
 {
-    let policy = matches.get_str("policy")?;
-    let capture = matches.get_str("capture")?;
-    let out = matches.get_str("out")?;
-    let report = matches.get_str("report")?;
-    Some(FileNames {
-        policy,
-        capture,
-        out,
-        report,
-        graph: matches.get_str("graph"),
-    })
+    match (
+        matches.get_str("policy"),
+        matches.get_str("capture"),
+        matches.get_str("out"),
+        matches.get_str("report"),
+    ) {
+        (Some(policy), Some(capture), Some(out), Some(report)) => Some(FileNames {
+            policy,
+            capture,
+            out,
+            report,
+            graph: matches.get_str("graph"),
+        }),
+        _ => None,
+    }
 }
 
 /// The command `run` of words that `clap` matched.
@@ -222,10 +226,7 @@ pub fn demo_answer<'a>(matches: &ArgMatches<'a>) -> Result<Command<'a>, UsageFau
     ensures ranges { IfOk result HasRanges }
 {
     let options = option_words(matches);
-    let Some(seed) = matches.get_str("seed") else {
-        return Err(UsageFault::Words);
-    };
-    let Some(count) = matches.get_str("count") else {
+    let (Some(seed), Some(count)) = (matches.get_str("seed"), matches.get_str("count")) else {
         return Err(UsageFault::Words);
     };
     if has_text(seed) && has_text(count) && options_have_text(&options) {
@@ -265,10 +266,7 @@ pub fn flows_answer<'a>(matches: &ArgMatches<'a>) -> Result<Command<'a>, UsageFa
         (first_value (found_of matches.now) (codes "burst")) }
     ensures ranges { IfOk result HasRanges }
 {
-    let Some(capture) = matches.get_str("capture") else {
-        return Err(UsageFault::Words);
-    };
-    let Some(out) = matches.get_str("out") else {
+    let (Some(capture), Some(out)) = (matches.get_str("capture"), matches.get_str("out")) else {
         return Err(UsageFault::Words);
     };
     let workers = matches.get_str("workers");
