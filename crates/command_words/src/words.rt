@@ -15,11 +15,10 @@ pub fn read_command<'a>(alloc: Global, words: &'a [String]) -> Result<Command<'a
     // Each number lies in its range.
     ensures ranges { IfOk result HasRanges }
 {
-    if words.is_empty() {
+    let Some((command, rest)) = words.split_first() else {
         return Err(WordsFault::Usage(UsageFault::NoCommand));
-    }
-    let rest = &words[1..];
-    match words[0].as_str() {
+    };
+    match command.as_str() {
         "run" => read_run(alloc, rest),
         "plan" => read_plan(alloc, rest),
         "demo" => read_demo(alloc, rest),
