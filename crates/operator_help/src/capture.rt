@@ -100,23 +100,11 @@ pub fn fault(page: &mut Page, capture: Captured<'_>, fault: CaptureFault) {
     let name = capture.name;
     match fault {
         CaptureFault::BadMagic => bad_magic(page, capture),
-        CaptureFault::BadVersion => {
-            tell_of(page, VERSION, name);
-            convert(page, name);
-        }
+        CaptureFault::BadVersion => bad_version(page, name),
         CaptureFault::BadLink(kind) => bad_link(page, name, kind),
         CaptureFault::CutHead => cut_head(page, name, capture.front),
-        CaptureFault::CutRecord(record) => {
-            tell_of(page, CUT_RECORD, name);
-            page.number(u64::from(record));
-            page.tell(done_of(capture.purpose));
-        }
-        CaptureFault::FrameTooLong(record, length) => {
-            tell_of(page, TOO_LONG, name);
-            page.number(u64::from(record));
-            page.number(u64::from(length));
-            page.tell(done_of(capture.purpose));
-        }
+        CaptureFault::CutRecord(record) => cut_record(page, capture, record),
+        CaptureFault::FrameTooLong(record, length) => too_long(page, capture, record, length),
         CaptureFault::TooManyRecords => tell_twice(page, MANY, name),
     }
 }
@@ -127,14 +115,32 @@ fn tell_of(page: &mut Page, text: &'static str, name: &str) {
     page.name(name);
 }
 
-// The same where its name goes into the second place too.
-fn tell_twice(page: &mut Page, text: &'static str, name: &str) {
+/// Tells of a file whose name goes into the first two places.
+pub(crate) fn tell_twice(page: &mut Page, text: &'static str, name: &str) {
     tell_of(page, text, name);
     page.name(name);
 }
 
 fn convert(page: &mut Page, name: &str) {
     tell_twice(page, CONVERT, name);
+}
+
+fn bad_version(page: &mut Page, name: &str) {
+    tell_of(page, VERSION, name);
+    convert(page, name);
+}
+
+fn cut_record(page: &mut Page, capture: Captured<'_>, record: u32) {
+    tell_of(page, CUT_RECORD, capture.name);
+    page.number(u64::from(record));
+    page.tell(done_of(capture.purpose));
+}
+
+fn too_long(page: &mut Page, capture: Captured<'_>, record: u32, length: u32) {
+    tell_of(page, TOO_LONG, capture.name);
+    page.number(u64::from(record));
+    page.number(u64::from(length));
+    page.tell(done_of(capture.purpose));
 }
 
 // What became of the records before a fault.

@@ -1,6 +1,6 @@
 //! What is wrong with a pcapng capture, and how to get one that is read.
 
-use crate::capture::{Captured, bad_link};
+use crate::capture::{Captured, bad_link, tell_twice};
 use crate::page::Page;
 use pcapng_io::NgFault;
 
@@ -32,26 +32,14 @@ pub fn fault(page: &mut Page, capture: Captured<'_>, fault: NgFault) {
     match fault {
         NgFault::CutBlock(block) => tell_of(page, CUT, name, block),
         NgFault::BadBlock(block) => tell_block(page, BAD, name, block),
-        NgFault::BlockTooLong(block, length) => {
-            tell_of(page, BLOCK_LONG, name, block);
-            page.number(u64::from(length));
-        }
+        NgFault::BlockTooLong(block, length) => tell_long(page, BLOCK_LONG, name, block, length),
         NgFault::BadLink(kind) => bad_link(page, name, kind),
         NgFault::BadResolution(block) => tell_block(page, RESOLUTION, name, block),
-        NgFault::NoInterface(block) => {
-            page.tell(NO_INTERFACE);
-            page.number(block);
-            page.name(name);
-        }
+        NgFault::NoInterface(block) => no_interface(page, name, block),
         NgFault::FrameTooLong(packet, length) => {
-            tell_of(page, FRAME_LONG, name, u64::from(packet));
-            page.number(u64::from(length));
+            tell_long(page, FRAME_LONG, name, u64::from(packet), length);
         }
-        NgFault::TooManyRecords | NgFault::TooManyBlocks => {
-            page.tell(MANY);
-            page.name(name);
-            page.name(name);
-        }
+        NgFault::TooManyRecords | NgFault::TooManyBlocks => tell_twice(page, MANY, name),
     }
     if has_done(&fault) {
         page.tell(DONE);
@@ -63,6 +51,18 @@ fn tell_of(page: &mut Page, text: &'static str, name: &str, number: u64) {
     page.tell(text);
     page.name(name);
     page.number(number);
+}
+
+// The same, and of how many bytes it says that it has.
+fn tell_long(page: &mut Page, text: &'static str, name: &str, number: u64, length: u32) {
+    tell_of(page, text, name, number);
+    page.number(u64::from(length));
+}
+
+fn no_interface(page: &mut Page, name: &str, block: u64) {
+    page.tell(NO_INTERFACE);
+    page.number(block);
+    page.name(name);
 }
 
 // Tells of a block of a file, whose name goes into the second and the third place.

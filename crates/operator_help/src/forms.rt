@@ -1,7 +1,7 @@
 //! The kinds of functions, the forms of their lines, and which word of a line doesn't fit them. The forms and the clauses that words
 //! are compared with are those that are shown.
 
-use crate::lines::{Row, part, until};
+use crate::lines::{Row, part, text_beside, until};
 use crate::page::Page;
 use action_profile::Kind;
 use policy_text::{address, address6, mac, number, prefix, prefix6, range};
@@ -70,12 +70,7 @@ pub fn required_of(kind: Kind) -> &'static str {
 
 /// The forms of the lines that begin with this word, one a line.
 pub fn forms_of_line(first: &[u8]) -> &'static str {
-    for (word, forms) in LINE_FORMS {
-        if *word == first {
-            return *forms;
-        }
-    }
-    ""
+    text_beside(LINE_FORMS, first)
 }
 
 const LINE_FORMS: &[(&[u8], &str)] = &[
@@ -171,25 +166,59 @@ fn fits(wanted: &[u8], word: &[u8]) -> bool {
 }
 
 fn fits_one(wanted: &[u8], word: &[u8]) -> bool {
-    if wanted == b"PREFIX".as_slice() {
-        prefix(word).is_some() || prefix6(word).is_some()
-    } else if wanted == b"ADDRESS".as_slice() {
-        address(word).is_some() || address6(word).is_some()
-    } else if wanted == b"IPV4-PREFIX".as_slice() {
-        prefix(word).is_some()
-    } else if wanted == b"IPV4-ADDRESS".as_slice() {
-        address(word).is_some()
-    } else if wanted == b"PORTS".as_slice() {
-        range(word).is_some()
-    } else if wanted == b"LO-HI".as_slice() {
-        are_ports(word)
-    } else if wanted == b"MAC".as_slice() {
-        mac(word).is_some()
-    } else if wanted == b"WORD".as_slice() {
-        word.len() <= MAX_PATTERN
-    } else if wanted == b"DIGITS".as_slice() {
-        are_digits(word)
-    } else if until(wanted, b'-') < wanted.len() {
+    match value_of(wanted) {
+        Value::Prefix => prefix(word).is_some() || prefix6(word).is_some(),
+        Value::Address => address(word).is_some() || address6(word).is_some(),
+        Value::Ipv4Prefix => prefix(word).is_some(),
+        Value::Ipv4Address => address(word).is_some(),
+        Value::Ports => range(word).is_some(),
+        Value::PairOfPorts => are_ports(word),
+        Value::Mac => mac(word).is_some(),
+        Value::Pattern => word.len() <= MAX_PATTERN,
+        Value::Digits => are_digits(word),
+        Value::Other => fits_other(wanted, word),
+    }
+}
+
+/// What a word of a form stands for.
+#[derive(Clone, Copy)]
+enum Value {
+    Prefix,
+    Address,
+    Ipv4Prefix,
+    Ipv4Address,
+    Ports,
+    PairOfPorts,
+    Mac,
+    Pattern,
+    Digits,
+    /// The numbers of a range, or the word itself.
+    Other,
+}
+
+const VALUES: &[(&[u8], Value)] = &[
+    (b"PREFIX", Value::Prefix),
+    (b"ADDRESS", Value::Address),
+    (b"IPV4-PREFIX", Value::Ipv4Prefix),
+    (b"IPV4-ADDRESS", Value::Ipv4Address),
+    (b"PORTS", Value::Ports),
+    (b"LO-HI", Value::PairOfPorts),
+    (b"MAC", Value::Mac),
+    (b"WORD", Value::Pattern),
+    (b"DIGITS", Value::Digits),
+];
+
+fn value_of(wanted: &[u8]) -> Value {
+    for (word, value) in VALUES {
+        if *word == wanted {
+            return *value;
+        }
+    }
+    Value::Other
+}
+
+fn fits_other(wanted: &[u8], word: &[u8]) -> bool {
+    if until(wanted, b'-') < wanted.len() {
         is_within(wanted, word)
     } else {
         wanted == word

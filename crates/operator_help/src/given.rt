@@ -60,6 +60,8 @@ const DEMO: Form = Form {
     options: &[b"--mergers", b"--burst", b"--merge"],
 };
 
+const FORMS: &[Form] = &[RUN, PLAN, FLOWS, DEMO];
+
 /// Tells the first of the words behind a command that doesn't fit, or what is missing.
 pub fn misfit(page: &mut Page, words: &[String]) {
     let mut reading = Reading::new(form_of(words));
@@ -73,14 +75,18 @@ pub fn misfit(page: &mut Page, words: &[String]) {
 
 fn form_of(words: &[String]) -> Form {
     match words.first() {
-        Some(word) => match word.as_str() {
-            "run" => RUN,
-            "flows" => FLOWS,
-            "demo" => DEMO,
-            _ => PLAN,
-        },
+        Some(word) => form_named(word.as_str()),
         None => PLAN,
     }
+}
+
+fn form_named(command: &str) -> Form {
+    for form in FORMS {
+        if form.command == command {
+            return *form;
+        }
+    }
+    PLAN
 }
 
 /// How far the words are read.
@@ -109,20 +115,23 @@ impl Reading {
 
     // Whether the next word fits. Where it doesn't, it is told.
     fn takes(&mut self, page: &mut Page, word: &[u8]) -> bool {
-        if let Some(option) = self.waits {
-            self.waits = None;
-            return self.takes_value(page, option, word);
+        match self.waits.take() {
+            Some(option) => self.takes_value(page, option, word),
+            None => self.takes_free(page, word),
         }
+    }
+
+    // The same of a word that is no value of an option before it.
+    fn takes_free(&mut self, page: &mut Page, word: &[u8]) -> bool {
         if self.behind || !word.starts_with(b"-") {
-            return self.takes_name(page, word);
-        }
-        match word {
-            b"-" => tell(page, DASH),
-            b"--" => {
-                self.behind = true;
-                true
-            }
-            _ => self.takes_option(page, word),
+            self.takes_name(page, word)
+        } else if word == b"-".as_slice() {
+            tell(page, DASH)
+        } else if word == b"--".as_slice() {
+            self.behind = true;
+            true
+        } else {
+            self.takes_option(page, word)
         }
     }
 
@@ -146,25 +155,44 @@ impl Reading {
     }
 
     fn takes_option(&mut self, page: &mut Page, word: &[u8]) -> bool {
-        let end = until(word, b'=');
-        let option = part(word, 0, end);
-        let Some(place) = place_in(self.form.options, option) else {
-            tell_word(page, NO_OPTION, option);
-            page.say(self.form.command);
-            return false;
-        };
-        let option = self.form.options.get(place).copied().unwrap_or(b"");
-        if place < MOST_OPTIONS && self.given[place] {
-            return tell_word(page, TWICE, option);
+        let option = &word[..until(word, b'=')];
+        match place_in(self.form.options, option) {
+            Some((place, option)) => self.takes_once(page, word, place, option),
+            None => self.no_option(page, option),
         }
-        if place < MOST_OPTIONS {
-            self.given[place] = true;
-        }
-        if end == word.len() {
+    }
+
+    fn no_option(&self, page: &mut Page, option: &[u8]) -> bool {
+        tell_word(page, NO_OPTION, option);
+        page.say(self.form.command);
+        false
+    }
+
+    // Whether the option at this place of the form, with which a word begins, wasn't given before, and has a value where one stands behind it.
+    fn takes_once(
+        &mut self,
+        page: &mut Page,
+        word: &[u8],
+        place: usize,
+        option: &'static [u8],
+    ) -> bool {
+        if self.is_given(place) {
+            tell_word(page, TWICE, option)
+        } else if option.len() < word.len() {
+            let value = part(word, option.len().saturating_add(1), word.len());
+            self.takes_value(page, option, value)
+        } else {
             self.waits = Some(option);
-            return true;
+            true
         }
-        self.takes_value(page, option, part(word, end.saturating_add(1), word.len()))
+    }
+
+    // Whether the option at this place of the form was given before. It is given from now on.
+    fn is_given(&mut self, place: usize) -> bool {
+        let place = place.min(MOST_OPTIONS - 1);
+        let before = self.given[place];
+        self.given[place] = true;
+        before
     }
 
     // What is missing behind the last word.
@@ -196,10 +224,11 @@ fn tell_word(page: &mut Page, text: &'static str, word: &[u8]) -> bool {
     false
 }
 
-fn place_in(options: &[&[u8]], option: &[u8]) -> Option<usize> {
+// The place of an option among these, and its own text.
+fn place_in(options: &[&'static [u8]], option: &[u8]) -> Option<(usize, &'static [u8])> {
     for (place, each) in options.iter().enumerate() {
         if *each == option {
-            return Some(place);
+            return Some((place, *each));
         }
     }
     None

@@ -102,12 +102,20 @@ pub fn fault(page: &mut Page, graph: GraphText<'_>, fault: GraphFault) {
         name: graph.policy.name,
         rows: &declared,
     };
+    tell_fault(page, graph, text, policy, fault);
+}
+
+// The same with the lines of the text and those of the policy.
+fn tell_fault(
+    page: &mut Page,
+    graph: GraphText<'_>,
+    text: Part<'_>,
+    policy: Part<'_>,
+    fault: GraphFault,
+) {
     match fault {
         GraphFault::TooLong => too_long(page, graph),
-        GraphFault::NotUtf8(place) => {
-            quote_byte(page, graph.name, graph.text, place);
-            say_sign(page, graph.text, OTHERWISE);
-        }
+        GraphFault::NotUtf8(place) => not_utf8(page, graph, place),
         GraphFault::BadVersionLine => bad_version_line(page, graph, text),
         GraphFault::Syntax(line) => syntax(page, text, line),
         GraphFault::UnknownName(line) => unknown_name(page, text, policy, line),
@@ -115,14 +123,10 @@ pub fn fault(page: &mut Page, graph: GraphText<'_>, fault: GraphFault) {
         GraphFault::WholeChain(line) => whole_chain(page, text, policy, line),
         GraphFault::Missing(chain, function) => missing(page, text, policy, chain, function),
         GraphFault::OutOfOrder(chain, first, second) => {
-            let pair = pair_of(policy, chain, first, second);
-            quote_pair(page, text, pair);
-            out_of_order(page, pair);
+            out_of_order(page, text, pair_of(policy, chain, first, second));
         }
         GraphFault::Forbidden(chain, first, second, action, _) => {
-            let pair = pair_of(policy, chain, first, second);
-            quote_pair(page, text, pair);
-            forbidden(page, pair, action);
+            forbidden(page, text, pair_of(policy, chain, first, second), action);
         }
     }
 }
@@ -134,15 +138,25 @@ fn too_long(page: &mut Page, graph: GraphText<'_>) {
     say_sign(page, graph.text, OTHERWISE);
 }
 
+// The byte at this place is no UTF-8.
+fn not_utf8(page: &mut Page, graph: GraphText<'_>, place: usize) {
+    quote_byte(page, graph.name, graph.text, place);
+    say_sign(page, graph.text, OTHERWISE);
+}
+
 // The first line isn't `nfp-graph 1`.
 fn bad_version_line(page: &mut Page, graph: GraphText<'_>, text: Part<'_>) {
-    if tells_mark(page, graph.name, graph.text) {
-        return;
+    if !tells_mark(page, graph.name, graph.text) {
+        quote_first(page, text.name, text.rows);
+        page.tell(VERSION_LINE);
+        say_sign(page, graph.text, OTHERWISE);
+        say_planned(page, text.rows);
     }
-    quote_first(page, text.name, text.rows);
-    page.tell(VERSION_LINE);
-    say_sign(page, graph.text, OTHERWISE);
-    if row_at(text.rows, 0).begins_with(b"chain") {
+}
+
+// Lines that begin as `nfp plan` prints them.
+fn say_planned(page: &mut Page, rows: &[Row<'_>]) {
+    if row_at(rows, 0).begins_with(b"chain") {
         page.tell(PLANNED);
     }
 }
@@ -160,14 +174,23 @@ fn syntax(page: &mut Page, text: Part<'_>, line: u32) {
 
 // The column of the first word that fits no form, or is missing.
 fn misfit_of(row: Row<'_>) -> Option<usize> {
-    match row.word(0) {
-        b"chain" => {
-            let place = if is_name(row.word(1)) { 2 } else { 1 };
-            column_unless(row, place, is_name(row.word(1)) && row.word(2).is_empty())
-        }
-        b"stage" => column_unless(row, 1, row.word(1).is_empty()),
-        b"branch" => column_of_no_name(row),
-        _ => Some(row.column(0)),
+    if row.begins_with(b"chain") {
+        chain_misfit(row)
+    } else if row.begins_with(b"stage") {
+        column_unless(row, 1, row.word(1).is_empty())
+    } else if row.begins_with(b"branch") {
+        column_of_no_name(row)
+    } else {
+        Some(row.column(0))
+    }
+}
+
+// The same of a line that begins with `chain`, which has one name.
+fn chain_misfit(row: Row<'_>) -> Option<usize> {
+    if is_name(row.word(1)) {
+        column_unless(row, 2, row.word(2).is_empty())
+    } else {
+        Some(row.column(1))
     }
 }
 
@@ -247,13 +270,17 @@ fn unknown_name(page: &mut Page, text: Part<'_>, policy: Part<'_>, line: u32) {
     let place = place_of(text.rows, line);
     let row = row_at(text.rows, place);
     if row.begins_with(b"chain") {
-        quote_row(page, text.name, row, Some(row.column(1)));
-        page.tell(NO_CHAIN);
-        page.word(row.word(1));
-        say_names(page, policy.rows, b"chain");
+        unknown_chain(page, text, policy, row);
     } else if let Some(chain) = last_before(text.rows, place, b"chain") {
         unknown_function(page, text, policy, row, chain.word(1));
     }
+}
+
+fn unknown_chain(page: &mut Page, text: Part<'_>, policy: Part<'_>, row: Row<'_>) {
+    quote_row(page, text.name, row, Some(row.column(1)));
+    page.tell(NO_CHAIN);
+    page.word(row.word(1));
+    say_names(page, policy.rows, b"chain");
 }
 
 fn unknown_function(page: &mut Page, text: Part<'_>, policy: Part<'_>, row: Row<'_>, chain: &[u8]) {
@@ -264,9 +291,14 @@ fn unknown_function(page: &mut Page, text: Part<'_>, policy: Part<'_>, row: Row<
     page.word(chain);
     page.word(word);
     say_names(page, here, b"fn");
-    if let Some(other) = declaring(policy.rows, word) {
+    say_elsewhere(page, policy, word);
+}
+
+// The line of another chain that declares a function of this name, where there is one.
+fn say_elsewhere(page: &mut Page, policy: Part<'_>, function: &[u8]) {
+    if let Some(row) = declaring(policy.rows, function) {
         page.tell(ELSEWHERE);
-        quote_row(page, policy.name, other, None);
+        quote_row(page, policy.name, row, None);
     }
 }
 
@@ -299,35 +331,47 @@ fn twice(page: &mut Page, text: Part<'_>, line: u32) {
     let place = place_of(text.rows, line);
     let row = row_at(text.rows, place);
     if row.begins_with(b"chain") {
-        quote_row(page, text.name, row, Some(row.column(1)));
-        page.tell(LISTED);
-        page.word(row.word(1));
-        quote_row(page, text.name, line_of_chain(text.rows, row.word(1)), None);
+        listed_twice(page, text, row);
     } else {
         stands_twice(page, text.name, row, since_chain(&text.rows[..place]));
     }
 }
 
+fn listed_twice(page: &mut Page, text: Part<'_>, row: Row<'_>) {
+    quote_row(page, text.name, row, Some(row.column(1)));
+    page.tell(LISTED);
+    page.word(row.word(1));
+    quote_row(page, text.name, line_of_chain(text.rows, row.word(1)), None);
+}
+
 // The first word of a branch that stands in these lines before it, or before it in its own.
 fn stands_twice(page: &mut Page, name: &str, row: Row<'_>, before: &[Row<'_>]) {
-    let mut column = row.column(1);
-    for _ in 0..row.text.len() {
-        let (start, word) = row.word_from(column);
-        if let Some((other, mark)) = holding(before, word) {
-            quote_row(page, name, row, Some(start));
+    let (start, word) = row.word_from(column_of_repeated(row, before));
+    quote_row(page, name, row, Some(start));
+    match holding(before, word) {
+        Some((other, mark)) => {
             page.tell(STANDS);
             page.word(word);
             quote_row(page, name, other, Some(mark));
-            return;
         }
-        if row.column_of(word) != Some(start) {
-            quote_row(page, name, row, Some(start));
+        None => {
             page.tell(STANDS_HERE);
             page.word(word);
-            return;
+        }
+    }
+}
+
+// The column of that word.
+fn column_of_repeated(row: Row<'_>, before: &[Row<'_>]) -> usize {
+    let mut column = row.column(1);
+    for _ in 0..row.text.len() {
+        let (start, word) = row.word_from(column);
+        if holding(before, word).is_some() || row.column_of(word) != Some(start) {
+            return start;
         }
         column = start.saturating_add(word.len());
     }
+    column
 }
 
 // The first of these lines that is a branch with a function, and the column of its name.
@@ -346,14 +390,21 @@ fn holding<'a>(rows: &[Row<'a>], name: &[u8]) -> Option<(Row<'a>, usize)> {
 fn whole_chain(page: &mut Page, text: Part<'_>, policy: Part<'_>, line: u32) {
     let row = row_at(text.rows, place_of(text.rows, line));
     quote_row(page, text.name, row, Some(row.column(1)));
-    for each in chain_named(policy.rows, row.word(1)) {
-        if each.begins_with(b"fn") && is_whole(each.word(2)) {
-            page.tell(WHOLE);
-            quote_row(page, policy.name, *each, None);
-            page.tell(LEFT_OUT);
-            return;
+    if let Some(function) = whole_function(chain_named(policy.rows, row.word(1))) {
+        page.tell(WHOLE);
+        quote_row(page, policy.name, function, None);
+        page.tell(LEFT_OUT);
+    }
+}
+
+// The first of these lines that declares a function that rewrites packets whole.
+fn whole_function<'a>(rows: &[Row<'a>]) -> Option<Row<'a>> {
+    for row in rows {
+        if row.begins_with(b"fn") && is_whole(row.word(2)) {
+            return Some(*row);
         }
     }
+    None
 }
 
 fn is_whole(kind: &[u8]) -> bool {
@@ -410,13 +461,15 @@ fn quote_other(page: &mut Page, name: &str, row: Row<'_>, other: Option<(Row<'_>
     }
 }
 
-fn out_of_order(page: &mut Page, pair: Pair<'_>) {
+fn out_of_order(page: &mut Page, text: Part<'_>, pair: Pair<'_>) {
+    quote_pair(page, text, pair);
     page.tell(ORDER);
     page.word(pair.first);
     page.word(pair.second);
 }
 
-fn forbidden(page: &mut Page, pair: Pair<'_>, action: Action) {
+fn forbidden(page: &mut Page, text: Part<'_>, pair: Pair<'_>, action: Action) {
+    quote_pair(page, text, pair);
     page.tell(match action {
         Action::Drop => DROPS,
         _ => WRITES,

@@ -1,6 +1,6 @@
 //! What is meant by words that a policy doesn't know.
 
-use crate::lines::{Row, until};
+use crate::lines::{Row, text_beside, until};
 use policy_text::{address6, prefix6};
 
 /// What is told of words that lines of one sort don't know.
@@ -44,71 +44,82 @@ const OF_ANOTHER: Hints = Hints {
     twice: "",
 };
 
+// The first words of lines, and what is told of words in each.
+const HINTS: &[(&[u8], Hints)] = &[
+    (b"rule", OF_A_RULE),
+    (b"chain", OF_A_CHAIN),
+    (b"set", OF_A_SETTING),
+];
+
 const IPV4: &str =
     "it is of IPv6, and a function of this kind is set for IPv4: write an address or a prefix of IPv4";
 
 const ICMP: &str = "ICMP has the number 1, so write `proto 1`";
 
-const IGMP: &str = "IGMP has the number 2, so write `proto 2`";
-
 const IPIP: &str = "IP in IP has the number 4, so write `proto 4`";
-
-const GRE: &str = "GRE has the number 47, so write `proto 47`";
-
-const ESP: &str = "ESP has the number 50, so write `proto 50`";
 
 const ICMP6: &str = "ICMPv6 has the number 58, so write `proto 58`";
 
-const SCTP: &str = "SCTP has the number 132, so write `proto 132`";
+// The names of protocols, and what is told of each.
+const PROTOCOLS: &[(&[u8], &str)] = &[
+    (b"icmp", ICMP),
+    (b"ICMP", ICMP),
+    (b"igmp", "IGMP has the number 2, so write `proto 2`"),
+    (b"ipip", IPIP),
+    (b"ipencap", IPIP),
+    (b"gre", "GRE has the number 47, so write `proto 47`"),
+    (b"esp", "ESP has the number 50, so write `proto 50`"),
+    (b"icmp6", ICMP6),
+    (b"icmpv6", ICMP6),
+    (b"ipv6-icmp", ICMP6),
+    (b"sctp", "SCTP has the number 132, so write `proto 132`"),
+];
+
+// The words that begin clauses.
+const CLAUSES: &[&[u8]] = &[b"src", b"dst", b"sport", b"dport", b"proto", b"tag"];
+
+// The settings that are addresses or prefixes of IPv4.
+const IPV4_SETTINGS: &[&[u8]] = &[b"inside", b"public", b"entry", b"exit"];
+
+// Words that turn something round.
+const NEGATIONS: &[&[u8]] = &[b"not", b"!", b"except"];
+
+// Words for everything.
+const WHOLES: &[&[u8]] = &[b"any", b"all", b"*"];
 
 /// How to say what the word at a place of a line seems to mean, or nothing.
 pub fn hint_of(row: Row<'_>, place: usize) -> &'static str {
     let word = row.word(place);
     let hints = hints_of(row.word(0));
     if until(word, b',') < word.len() {
-        return hints.list;
-    }
-    if is_clause(word) && !matches!(row.word(1), b"text") && stands_before(row, place) {
-        return hints.twice;
-    }
-    if wants_ipv4(row) && (address6(word).is_some() || prefix6(word).is_some()) {
-        return IPV4;
-    }
-    match word {
-        b"not" | b"!" | b"except" => hints.not,
-        b"any" | b"all" | b"*" => hints.any,
-        _ => protocol_hint(word),
-    }
-}
-
-// The number of a protocol that is named, or nothing.
-fn protocol_hint(word: &[u8]) -> &'static str {
-    match word {
-        b"icmp" | b"ICMP" => ICMP,
-        b"igmp" => IGMP,
-        b"ipip" | b"ipencap" => IPIP,
-        b"gre" => GRE,
-        b"esp" => ESP,
-        b"icmp6" | b"icmpv6" | b"ipv6-icmp" => ICMP6,
-        b"sctp" => SCTP,
-        _ => "",
+        hints.list
+    } else if is_second_clause(row, place) {
+        hints.twice
+    } else if wants_ipv4(row) && is_of_ipv6(word) {
+        IPV4
+    } else if NEGATIONS.contains(&word) {
+        hints.not
+    } else if WHOLES.contains(&word) {
+        hints.any
+    } else {
+        text_beside(PROTOCOLS, word)
     }
 }
 
 fn hints_of(first: &[u8]) -> Hints {
-    match first {
-        b"rule" => OF_A_RULE,
-        b"chain" => OF_A_CHAIN,
-        b"set" => OF_A_SETTING,
-        _ => OF_ANOTHER,
+    for (word, hints) in HINTS {
+        if *word == first {
+            return *hints;
+        }
     }
+    OF_ANOTHER
 }
 
-fn is_clause(word: &[u8]) -> bool {
-    matches!(
-        word,
-        b"src" | b"dst" | b"sport" | b"dport" | b"proto" | b"tag"
-    )
+// Does a clause begin here that stands before in its line? A rule of a pattern has none.
+fn is_second_clause(row: Row<'_>, place: usize) -> bool {
+    CLAUSES.contains(&row.word(place))
+        && row.word(1) != b"text".as_slice()
+        && stands_before(row, place)
 }
 
 // Does the word at this place stand before it, behind the first?
@@ -123,5 +134,9 @@ fn stands_before(row: Row<'_>, place: usize) -> bool {
 
 // Is it a line that sets an address or a prefix of IPv4?
 fn wants_ipv4(row: Row<'_>) -> bool {
-    row.begins_with(b"set") && matches!(row.word(1), b"inside" | b"public" | b"entry" | b"exit")
+    row.begins_with(b"set") && IPV4_SETTINGS.contains(&row.word(1))
+}
+
+fn is_of_ipv6(word: &[u8]) -> bool {
+    address6(word).is_some() || prefix6(word).is_some()
 }

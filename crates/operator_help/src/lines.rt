@@ -108,6 +108,16 @@ pub fn until(text: &[u8], byte: u8) -> usize
     text.len()
 }
 
+/// The text that stands beside a word in a table, or nothing.
+pub fn text_beside(table: &[(&[u8], &'static str)], word: &[u8]) -> &'static str {
+    for (each, text) in table {
+        if *each == word {
+            return *text;
+        }
+    }
+    ""
+}
+
 /// The bytes of a text between two places.
 pub fn part(text: &[u8], start: usize, end: usize) -> &[u8] {
     let end = end.min(text.len());

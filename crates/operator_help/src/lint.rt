@@ -1,6 +1,6 @@
 //! What is odd in a policy without fault.
 
-use crate::lines::{place_of, row_at};
+use crate::lines::{Row, place_of, row_at};
 use crate::page::Page;
 use crate::policy::PolicyText;
 use crate::quotes::quote_row;
@@ -10,16 +10,19 @@ use policy_lint::Finding;
 pub fn findings(page: &mut Page, policy: PolicyText<'_>, found: &[Finding]) {
     let rows = page.rows(policy.text);
     for finding in found {
-        let row = row_at(&rows, place_of(&rows, finding.line()));
-        quote_row(page, policy.name, row, None);
-        page.tell(finding.text());
-        say_other(page, finding.other());
+        tell_finding(page, policy.name, &rows, finding);
     }
 }
 
-// Puts the other line into its place, where there is one.
-fn say_other(page: &mut Page, other: Option<u32>) {
-    if let Some(line) = other {
+fn tell_finding(page: &mut Page, name: &str, rows: &[Row<'_>], finding: &Finding) {
+    quote_row(
+        page,
+        name,
+        row_at(rows, place_of(rows, finding.line())),
+        None,
+    );
+    page.tell(finding.text());
+    if let Some(line) = finding.other() {
         page.number(u64::from(line));
     }
 }

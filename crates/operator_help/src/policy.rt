@@ -85,11 +85,13 @@ pub fn text_fault(page: &mut Page, policy: PolicyText<'_>, fault: TextFault) {
         name: policy.name,
         rows: &rows,
     };
+    tell_fault(page, policy, lines, fault);
+}
+
+// The same with the lines of the text.
+fn tell_fault(page: &mut Page, policy: PolicyText<'_>, lines: Lines<'_>, fault: TextFault) {
     match fault {
-        TextFault::NotUtf8(place) => {
-            quote_byte(page, policy.name, policy.text, place);
-            say_sign(page, policy.text, OTHERWISE);
-        }
+        TextFault::NotUtf8(place) => not_utf8(page, policy, place),
         TextFault::BadVersionLine => bad_version_line(page, policy, lines),
         TextFault::Syntax(line, column) => syntax(page, lines, line, column as usize),
         TextFault::UnknownKind(line) => unknown_kind(page, lines, line),
@@ -102,6 +104,12 @@ pub fn text_fault(page: &mut Page, policy: PolicyText<'_>, fault: TextFault) {
     }
 }
 
+// The byte at this place is no UTF-8.
+fn not_utf8(page: &mut Page, policy: PolicyText<'_>, place: usize) {
+    quote_byte(page, policy.name, policy.text, place);
+    say_sign(page, policy.text, OTHERWISE);
+}
+
 /// A text of more than 1,048,576 bytes.
 pub fn too_long(page: &mut Page, policy: PolicyText<'_>) {
     page.tell(LONG);
@@ -112,18 +120,23 @@ pub fn too_long(page: &mut Page, policy: PolicyText<'_>) {
 /// A chain, counted from 0, whose statements go round in a circle.
 pub fn cycle(page: &mut Page, policy: PolicyText<'_>, chain: u32) {
     let rows = page.rows(policy.text);
+    page.tell(CYCLE);
+    quote_statements(page, policy.name, &rows, chain);
+    page.tell(REVERSED);
+}
+
+// The first statements of a chain, counted from 0.
+fn quote_statements(page: &mut Page, name: &str, rows: &[Row<'_>], chain: u32) {
     let mut chains = 0u32;
     let mut left = MAX_STATEMENTS;
-    page.tell(CYCLE);
-    for row in &rows {
+    for row in rows {
         if row.begins_with(b"chain") {
             chains = chains.saturating_add(1);
         } else if chains == chain.saturating_add(1) && left > 0 && is_statement(*row) {
             left -= 1;
-            quote_row(page, policy.name, *row, None);
+            quote_row(page, name, *row, None);
         }
     }
-    page.tell(REVERSED);
 }
 
 /// A priority that is forbidden.
@@ -145,12 +158,7 @@ fn say_forbidden(page: &mut Page, high: &[u8], low: &[u8]) {
 }
 
 fn is_statement(row: Row<'_>) -> bool {
-    for word in STATEMENTS {
-        if row.begins_with(word) {
-            return true;
-        }
-    }
-    false
+    STATEMENTS.contains(&row.word(0))
 }
 
 const STATEMENTS: &[&[u8]] = &[b"order", b"priority", b"position"];

@@ -24,14 +24,19 @@ pub fn bad_setting(page: &mut Page, policy: PolicyText<'_>, line: u32) {
     let rows = page.rows(policy.text);
     let place = place_of(&rows, line);
     if let Some(kind) = kind_at(&rows, place.saturating_add(1)) {
-        let row = row_at(&rows, place);
-        if row.begins_with(b"fn") {
-            bad_function(page, policy.name, row, rows_behind(&rows, place), kind);
-        } else {
-            bad_line(page, policy.name, row, &rows[..place], kind);
-        }
-        say_kind_forms(page, kind);
+        bad_row(page, policy.name, &rows, place, kind);
     }
+}
+
+// The line at this place is refused by a function of this kind.
+fn bad_row(page: &mut Page, name: &str, rows: &[Row<'_>], place: usize, kind: Kind) {
+    let row = row_at(rows, place);
+    if row.begins_with(b"fn") {
+        bad_function(page, name, row, rows_behind(rows, place), kind);
+    } else {
+        bad_line(page, name, row, &rows[..place.min(rows.len())], kind);
+    }
+    say_kind_forms(page, kind);
 }
 
 /// The kind of the last function that these lines declare before a place.
