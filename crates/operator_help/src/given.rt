@@ -32,35 +32,35 @@ struct Form {
     options: &'static [&'static [u8]],
 }
 
-const RUN: Form = Form {
+const RUN: &Form = &Form {
     command: "run",
     names: &["POLICY", "CAPTURE", "OUT", "REPORT"],
     said: "POLICY CAPTURE OUT REPORT",
     options: &[b"--mergers", b"--burst", b"--merge", b"--graph"],
 };
 
-const PLAN: Form = Form {
+const PLAN: &Form = &Form {
     command: "plan",
     names: &["POLICY"],
     said: "POLICY",
     options: &[b"--graph"],
 };
 
-const FLOWS: Form = Form {
+const FLOWS: &Form = &Form {
     command: "flows",
     names: &["CAPTURE", "OUT"],
     said: "CAPTURE OUT",
     options: &[b"--workers", b"--burst"],
 };
 
-const DEMO: Form = Form {
+const DEMO: &Form = &Form {
     command: "demo",
     names: &["SEED", "COUNT"],
     said: "SEED COUNT",
     options: &[b"--mergers", b"--burst", b"--merge"],
 };
 
-const FORMS: &[Form] = &[RUN, PLAN, FLOWS, DEMO];
+const FORMS: &[&Form] = &[RUN, PLAN, FLOWS, DEMO];
 
 /// Tells the first of the words behind a command that doesn't fit, or what is missing.
 pub fn misfit(page: &mut Page, words: &[String]) {
@@ -73,14 +73,14 @@ pub fn misfit(page: &mut Page, words: &[String]) {
     reading.end(page);
 }
 
-fn form_of(words: &[String]) -> Form {
+fn form_of(words: &[String]) -> &'static Form {
     match words.first() {
         Some(word) => form_named(word.as_str()),
         None => PLAN,
     }
 }
 
-fn form_named(command: &str) -> Form {
+fn form_named(command: &str) -> &'static Form {
     for form in FORMS {
         if form.command == command {
             return *form;
@@ -92,7 +92,7 @@ fn form_named(command: &str) -> Form {
 /// How far the words are read.
 #[derive(Clone, Copy)]
 struct Reading {
-    form: Form,
+    form: &'static Form,
     names: usize,
     /// Whether each word is a name now.
     behind: bool,
@@ -103,7 +103,7 @@ struct Reading {
 }
 
 impl Reading {
-    fn new(form: Form) -> Self {
+    fn new(form: &'static Form) -> Self {
         Reading {
             form,
             names: 0,

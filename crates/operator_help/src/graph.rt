@@ -1,9 +1,11 @@
 //! What is wrong with a text of graphs, and what its lines may be.
 
-use crate::lines::{Row, last_before, place_of, row_at, rows_behind};
+use crate::lines::{
+    Row, chain_at, last_before, place_of, row_at, row_of, rows_behind, up_to_chain,
+};
 use crate::page::Page;
 use crate::policy::{NAMES, PolicyText, declaring, since_chain};
-use crate::quotes::{Otherwise, quote_byte, quote_first, quote_row, say_sign, tells_mark};
+use crate::quotes::{Lines, Otherwise, bad_first_line, not_utf8, quote_row, say_sign};
 use action_profile::{Kind, profile};
 use dependency_table::Action;
 use graph_text::GraphFault;
@@ -83,40 +85,29 @@ pub struct GraphText<'a> {
     pub policy: PolicyText<'a>,
 }
 
-// The name of a file and its lines that aren't blank, or some of them.
-#[derive(Clone, Copy)]
-struct Part<'r> {
-    name: &'r str,
-    rows: &'r [Row<'r>],
-}
-
 /// A text of graphs that isn't taken.
 pub fn fault(page: &mut Page, graph: GraphText<'_>, fault: GraphFault) {
     let rows = page.rows(graph.text);
     let declared = page.rows(graph.policy.text);
-    let text = Part {
+    let text = Lines {
         name: graph.name,
+        text: graph.text,
         rows: &rows,
     };
-    let policy = Part {
+    let policy = Lines {
         name: graph.policy.name,
+        text: graph.policy.text,
         rows: &declared,
     };
-    tell_fault(page, graph, text, policy, fault);
+    tell_fault(page, &text, &policy, fault);
 }
 
 // The same with the lines of the text and those of the policy.
-fn tell_fault(
-    page: &mut Page,
-    graph: GraphText<'_>,
-    text: Part<'_>,
-    policy: Part<'_>,
-    fault: GraphFault,
-) {
+fn tell_fault(page: &mut Page, text: &Lines<'_>, policy: &Lines<'_>, fault: GraphFault) {
     match fault {
-        GraphFault::TooLong => too_long(page, graph),
-        GraphFault::NotUtf8(place) => not_utf8(page, graph, place),
-        GraphFault::BadVersionLine => bad_version_line(page, graph, text),
+        GraphFault::TooLong => too_long(page, text),
+        GraphFault::NotUtf8(place) => not_utf8(page, text, place, OTHERWISE),
+        GraphFault::BadVersionLine => bad_version_line(page, text),
         GraphFault::Syntax(line) => syntax(page, text, line),
         GraphFault::UnknownName(line) => unknown_name(page, text, policy, line),
         GraphFault::Twice(line) => twice(page, text, line),
@@ -132,26 +123,16 @@ fn tell_fault(
 }
 
 // A text of more than 1,048,576 bytes.
-fn too_long(page: &mut Page, graph: GraphText<'_>) {
+fn too_long(page: &mut Page, text: &Lines<'_>) {
     page.tell(LONG);
-    page.name(graph.name);
-    say_sign(page, graph.text, OTHERWISE);
-}
-
-// The byte at this place is no UTF-8.
-fn not_utf8(page: &mut Page, graph: GraphText<'_>, place: usize) {
-    quote_byte(page, graph.name, graph.text, place);
-    say_sign(page, graph.text, OTHERWISE);
+    page.name(text.name);
+    say_sign(page, text.text, OTHERWISE);
 }
 
 // The first line isn't `nfp-graph 1`.
-fn bad_version_line(page: &mut Page, graph: GraphText<'_>, text: Part<'_>) {
-    if !tells_mark(page, graph.name, graph.text) {
-        quote_first(page, text.name, text.rows);
-        page.tell(VERSION_LINE);
-        say_sign(page, graph.text, OTHERWISE);
-        say_planned(page, text.rows);
-    }
+fn bad_version_line(page: &mut Page, text: &Lines<'_>) {
+    bad_first_line(page, text, VERSION_LINE, OTHERWISE);
+    say_planned(page, text.rows);
 }
 
 // Lines that begin as `nfp plan` prints them.
@@ -162,7 +143,7 @@ fn say_planned(page: &mut Page, rows: &[Row<'_>]) {
 }
 
 // A line that has no form, or stands where it can't.
-fn syntax(page: &mut Page, text: Part<'_>, line: u32) {
+fn syntax(page: &mut Page, text: &Lines<'_>, line: u32) {
     let place = place_of(text.rows, line);
     let row = row_at(text.rows, place);
     match misfit_of(row) {
@@ -218,7 +199,7 @@ fn column_of_no_name(row: Row<'_>) -> Option<usize> {
 }
 
 // The word at a column doesn't fit, or is missing.
-fn say_misfit(page: &mut Page, text: Part<'_>, row: Row<'_>, column: usize) {
+fn say_misfit(page: &mut Page, text: &Lines<'_>, row: Row<'_>, column: usize) {
     quote_row(page, text.name, row, Some(column));
     let (start, word) = row.word_from(column);
     if word.is_empty() {
@@ -244,7 +225,7 @@ fn is_number(word: &[u8]) -> bool {
 }
 
 // A line that has a form stands where it can't. Of a stage without a branch the line behind it may have been meant as one.
-fn say_place(page: &mut Page, text: Part<'_>, row: Row<'_>, place: usize) {
+fn say_place(page: &mut Page, text: &Lines<'_>, row: Row<'_>, place: usize) {
     quote_row(page, text.name, row, None);
     if row.begins_with(b"branch") {
         page.tell(NO_STAGE_YET);
@@ -257,7 +238,7 @@ fn say_place(page: &mut Page, text: Part<'_>, row: Row<'_>, place: usize) {
 }
 
 // A line that begins as a branch, and is none.
-fn say_next(page: &mut Page, text: Part<'_>, row: Row<'_>) {
+fn say_next(page: &mut Page, text: &Lines<'_>, row: Row<'_>) {
     if row.begins_with(b"branch")
         && let Some(column) = column_of_no_name(row)
     {
@@ -266,7 +247,7 @@ fn say_next(page: &mut Page, text: Part<'_>, row: Row<'_>) {
 }
 
 // The policy has no such chain, or the chain has no such function.
-fn unknown_name(page: &mut Page, text: Part<'_>, policy: Part<'_>, line: u32) {
+fn unknown_name(page: &mut Page, text: &Lines<'_>, policy: &Lines<'_>, line: u32) {
     let place = place_of(text.rows, line);
     let row = row_at(text.rows, place);
     if row.begins_with(b"chain") {
@@ -276,14 +257,20 @@ fn unknown_name(page: &mut Page, text: Part<'_>, policy: Part<'_>, line: u32) {
     }
 }
 
-fn unknown_chain(page: &mut Page, text: Part<'_>, policy: Part<'_>, row: Row<'_>) {
+fn unknown_chain(page: &mut Page, text: &Lines<'_>, policy: &Lines<'_>, row: Row<'_>) {
     quote_row(page, text.name, row, Some(row.column(1)));
     page.tell(NO_CHAIN);
     page.word(row.word(1));
     say_names(page, policy.rows, b"chain");
 }
 
-fn unknown_function(page: &mut Page, text: Part<'_>, policy: Part<'_>, row: Row<'_>, chain: &[u8]) {
+fn unknown_function(
+    page: &mut Page,
+    text: &Lines<'_>,
+    policy: &Lines<'_>,
+    row: Row<'_>,
+    chain: &[u8],
+) {
     let here = chain_named(policy.rows, chain);
     let (start, word) = undeclared(row, here);
     quote_row(page, text.name, row, Some(start));
@@ -295,7 +282,7 @@ fn unknown_function(page: &mut Page, text: Part<'_>, policy: Part<'_>, row: Row<
 }
 
 // The line of another chain that declares a function of this name, where there is one.
-fn say_elsewhere(page: &mut Page, policy: Part<'_>, function: &[u8]) {
+fn say_elsewhere(page: &mut Page, policy: &Lines<'_>, function: &[u8]) {
     if let Some(row) = declaring(policy.rows, function) {
         page.tell(ELSEWHERE);
         quote_row(page, policy.name, row, None);
@@ -327,7 +314,7 @@ fn say_names(page: &mut Page, rows: &[Row<'_>], first: &[u8]) {
 }
 
 // A chain is listed again, or a function stands again.
-fn twice(page: &mut Page, text: Part<'_>, line: u32) {
+fn twice(page: &mut Page, text: &Lines<'_>, line: u32) {
     let place = place_of(text.rows, line);
     let row = row_at(text.rows, place);
     if row.begins_with(b"chain") {
@@ -337,7 +324,7 @@ fn twice(page: &mut Page, text: Part<'_>, line: u32) {
     }
 }
 
-fn listed_twice(page: &mut Page, text: Part<'_>, row: Row<'_>) {
+fn listed_twice(page: &mut Page, text: &Lines<'_>, row: Row<'_>) {
     quote_row(page, text.name, row, Some(row.column(1)));
     page.tell(LISTED);
     page.word(row.word(1));
@@ -387,8 +374,8 @@ fn holding<'a>(rows: &[Row<'a>], name: &[u8]) -> Option<(Row<'a>, usize)> {
 }
 
 // A chain with a function that rewrites packets whole.
-fn whole_chain(page: &mut Page, text: Part<'_>, policy: Part<'_>, line: u32) {
-    let row = row_at(text.rows, place_of(text.rows, line));
+fn whole_chain(page: &mut Page, text: &Lines<'_>, policy: &Lines<'_>, line: u32) {
+    let row = row_of(text.rows, line);
     quote_row(page, text.name, row, Some(row.column(1)));
     if let Some(function) = whole_function(chain_named(policy.rows, row.word(1))) {
         page.tell(WHOLE);
@@ -415,7 +402,7 @@ fn is_whole(kind: &[u8]) -> bool {
 }
 
 // A function of a chain that is listed stands nowhere.
-fn missing(page: &mut Page, text: Part<'_>, policy: Part<'_>, chain: u32, function: u32) {
+fn missing(page: &mut Page, text: &Lines<'_>, policy: &Lines<'_>, chain: u32, function: u32) {
     let here = chain_at(policy.rows, chain);
     let row = function_at(here, function);
     let listed = line_of_chain(text.rows, row_at(here, 0).word(1));
@@ -434,7 +421,7 @@ struct Pair<'a> {
     second: &'a [u8],
 }
 
-fn pair_of<'a>(policy: Part<'a>, chain: u32, first: u32, second: u32) -> Pair<'a> {
+fn pair_of<'a>(policy: &Lines<'a>, chain: u32, first: u32, second: u32) -> Pair<'a> {
     let here = chain_at(policy.rows, chain);
     Pair {
         chain: row_at(here, 0).word(1),
@@ -444,7 +431,7 @@ fn pair_of<'a>(policy: Part<'a>, chain: u32, first: u32, second: u32) -> Pair<'a
 }
 
 // Quotes the lines in which two functions stand, that of the first in the chain first, or their one line.
-fn quote_pair(page: &mut Page, text: Part<'_>, pair: Pair<'_>) {
+fn quote_pair(page: &mut Page, text: &Lines<'_>, pair: Pair<'_>) {
     let here = chain_named(text.rows, pair.chain);
     if let Some((row, mark)) = holding(here, pair.first) {
         quote_row(page, text.name, row, Some(mark));
@@ -461,14 +448,14 @@ fn quote_other(page: &mut Page, name: &str, row: Row<'_>, other: Option<(Row<'_>
     }
 }
 
-fn out_of_order(page: &mut Page, text: Part<'_>, pair: Pair<'_>) {
+fn out_of_order(page: &mut Page, text: &Lines<'_>, pair: Pair<'_>) {
     quote_pair(page, text, pair);
     page.tell(ORDER);
     page.word(pair.first);
     page.word(pair.second);
 }
 
-fn forbidden(page: &mut Page, text: Part<'_>, pair: Pair<'_>, action: Action) {
+fn forbidden(page: &mut Page, text: &Lines<'_>, pair: Pair<'_>, action: Action) {
     quote_pair(page, text, pair);
     page.tell(match action {
         Action::Drop => DROPS,
@@ -490,35 +477,11 @@ fn line_of_chain<'a>(rows: &[Row<'a>], name: &[u8]) -> Row<'a> {
 // The lines of the first chain of this name, with that of the chain.
 fn chain_named<'r, 'a>(rows: &'r [Row<'a>], name: &[u8]) -> &'r [Row<'a>] {
     for (place, row) in rows.iter().enumerate() {
-        if row.begins_with(b"chain") && row.word(1) == name {
+        if row.names(b"chain", name) {
             return up_to_chain(&rows[place.min(rows.len())..]);
         }
     }
     &rows[rows.len()..]
-}
-
-// The lines of the chain with this number, counted from 0, with that of the chain.
-fn chain_at<'r, 'a>(rows: &'r [Row<'a>], number: u32) -> &'r [Row<'a>] {
-    let mut chains = 0u32;
-    for (place, row) in rows.iter().enumerate() {
-        if row.begins_with(b"chain") {
-            if chains == number {
-                return up_to_chain(&rows[place.min(rows.len())..]);
-            }
-            chains = chains.saturating_add(1);
-        }
-    }
-    &rows[rows.len()..]
-}
-
-// The first of these lines, and those behind it up to the next chain.
-fn up_to_chain<'r, 'a>(rows: &'r [Row<'a>]) -> &'r [Row<'a>] {
-    for (place, row) in rows.iter().enumerate() {
-        if place > 0 && row.begins_with(b"chain") {
-            return &rows[..place.min(rows.len())];
-        }
-    }
-    rows
 }
 
 // The line of the function with this number, counted from 0, or an empty one.

@@ -1,6 +1,6 @@
 //! What is meant by words that a policy doesn't know.
 
-use crate::lines::{Row, text_beside, until};
+use crate::lines::{Row, is_one_of, text_beside, until};
 use policy_text::{address6, prefix6};
 
 /// What is told of words that lines of one sort don't know.
@@ -16,28 +16,28 @@ struct Hints {
     twice: &'static str,
 }
 
-const OF_A_RULE: Hints = Hints {
+const OF_A_RULE: &Hints = &Hints {
     not: "there is no `not`: the first rule that is met decides, so write the exception as a rule before this one",
     any: "a rule without a clause is met by each packet: leave the clause out",
     list: "a value is one number, range or prefix: write a rule for each",
     twice: "each clause stands once in a rule: write two rules",
 };
 
-const OF_A_CHAIN: Hints = Hints {
+const OF_A_CHAIN: &Hints = &Hints {
     not: "there is no `not`: a packet goes through the first chain that takes it, so write a chain for the exception before this one",
     any: "a chain without `match` takes each packet: leave the clause out",
     list: "a value is one number, range or prefix: write a chain for each",
     twice: "each clause stands once: write two chains",
 };
 
-const OF_A_SETTING: Hints = Hints {
+const OF_A_SETTING: &Hints = &Hints {
     not: "",
     any: "",
     list: "a setting has one value: write one, for ports one range",
     twice: "",
 };
 
-const OF_ANOTHER: Hints = Hints {
+const OF_ANOTHER: &Hints = &Hints {
     not: "",
     any: "",
     list: "",
@@ -45,7 +45,7 @@ const OF_ANOTHER: Hints = Hints {
 };
 
 // The first words of lines, and what is told of words in each.
-const HINTS: &[(&[u8], Hints)] = &[
+const HINTS: &[(&[u8], &Hints)] = &[
     (b"rule", OF_A_RULE),
     (b"chain", OF_A_CHAIN),
     (b"set", OF_A_SETTING),
@@ -97,16 +97,23 @@ pub fn hint_of(row: Row<'_>, place: usize) -> &'static str {
         hints.twice
     } else if wants_ipv4(row) && is_of_ipv6(word) {
         IPV4
-    } else if NEGATIONS.contains(&word) {
+    } else {
+        meaning_of(word, hints)
+    }
+}
+
+// What a word of itself seems to mean.
+fn meaning_of(word: &[u8], hints: &Hints) -> &'static str {
+    if is_one_of(word, NEGATIONS) {
         hints.not
-    } else if WHOLES.contains(&word) {
+    } else if is_one_of(word, WHOLES) {
         hints.any
     } else {
         text_beside(PROTOCOLS, word)
     }
 }
 
-fn hints_of(first: &[u8]) -> Hints {
+fn hints_of(first: &[u8]) -> &'static Hints {
     for (word, hints) in HINTS {
         if *word == first {
             return *hints;
@@ -117,7 +124,7 @@ fn hints_of(first: &[u8]) -> Hints {
 
 // Does a clause begin here that stands before in its line? A rule of a pattern has none.
 fn is_second_clause(row: Row<'_>, place: usize) -> bool {
-    CLAUSES.contains(&row.word(place))
+    is_one_of(row.word(place), CLAUSES)
         && row.word(1) != b"text".as_slice()
         && stands_before(row, place)
 }
@@ -134,7 +141,7 @@ fn stands_before(row: Row<'_>, place: usize) -> bool {
 
 // Is it a line that sets an address or a prefix of IPv4?
 fn wants_ipv4(row: Row<'_>) -> bool {
-    row.begins_with(b"set") && IPV4_SETTINGS.contains(&row.word(1))
+    row.begins_with(b"set") && is_one_of(row.word(1), IPV4_SETTINGS)
 }
 
 fn is_of_ipv6(word: &[u8]) -> bool {

@@ -90,10 +90,15 @@ impl<'a> Row<'a> {
         self.begins_with(b"set") || self.begins_with(b"rule")
     }
 
-    /// Does it declare a function of this name?
-    pub fn declares(&self, name: &[u8]) -> bool {
-        self.begins_with(b"fn") && self.word(1) == name
+    /// Does it begin with a word, and have this name behind it?
+    pub fn names(&self, word: &[u8], name: &[u8]) -> bool {
+        self.begins_with(word) && self.word(1) == name
     }
+}
+
+/// Is a word one of these?
+pub fn is_one_of(word: &[u8], words: &[&[u8]]) -> bool {
+    words.contains(&word)
 }
 
 /// How many bytes stand before the first one like this.
@@ -164,6 +169,45 @@ pub fn row_at<'a>(rows: &[Row<'a>], place: usize) -> Row<'a> {
         Some(row) => *row,
         None => Row::new(0, b""),
     }
+}
+
+/// The first of these lines that begins with a word and has this name behind it.
+pub fn first_naming<'a>(rows: &[Row<'a>], word: &[u8], name: &[u8]) -> Option<Row<'a>> {
+    for row in rows {
+        if row.names(word, name) {
+            return Some(*row);
+        }
+    }
+    None
+}
+
+/// The line with a number among the lines, or an empty one.
+pub fn row_of<'a>(rows: &[Row<'a>], number: u32) -> Row<'a> {
+    row_at(rows, place_of(rows, number))
+}
+
+/// The lines of the chain with this number, counted from 0, with that of the chain.
+pub fn chain_at<'r, 'a>(rows: &'r [Row<'a>], number: u32) -> &'r [Row<'a>] {
+    let mut chains = 0u32;
+    for (place, row) in rows.iter().enumerate() {
+        if row.begins_with(b"chain") {
+            if chains == number {
+                return up_to_chain(&rows[place.min(rows.len())..]);
+            }
+            chains = chains.saturating_add(1);
+        }
+    }
+    &rows[rows.len()..]
+}
+
+/// The first of these lines, and those behind it up to the next chain.
+pub fn up_to_chain<'r, 'a>(rows: &'r [Row<'a>]) -> &'r [Row<'a>] {
+    for (place, row) in rows.iter().enumerate() {
+        if place > 0 && row.begins_with(b"chain") {
+            return &rows[..place.min(rows.len())];
+        }
+    }
+    rows
 }
 
 /// The lines behind a place.

@@ -1,6 +1,6 @@
 //! What is odd in a policy without fault.
 
-use crate::lines::{Row, place_of, row_at};
+use crate::lines::{Row, row_of};
 use crate::page::Page;
 use crate::policy::PolicyText;
 use crate::quotes::quote_row;
@@ -9,20 +9,20 @@ use policy_lint::Finding;
 /// Tells each finding: its line, what it means, and how to say it otherwise.
 pub fn findings(page: &mut Page, policy: PolicyText<'_>, found: &[Finding]) {
     let rows = page.rows(policy.text);
+    tell_findings(page, policy.name, &rows, found);
+}
+
+fn tell_findings(page: &mut Page, name: &str, rows: &[Row<'_>], found: &[Finding]) {
     for finding in found {
-        tell_finding(page, policy.name, &rows, finding);
+        quote_row(page, name, row_of(rows, finding.line()), None);
+        page.tell(finding.text());
+        say_other(page, finding.other());
     }
 }
 
-fn tell_finding(page: &mut Page, name: &str, rows: &[Row<'_>], finding: &Finding) {
-    quote_row(
-        page,
-        name,
-        row_at(rows, place_of(rows, finding.line())),
-        None,
-    );
-    page.tell(finding.text());
-    if let Some(line) = finding.other() {
+// Puts the other line into its place, where there is one.
+fn say_other(page: &mut Page, other: Option<u32>) {
+    if let Some(line) = other {
         page.number(u64::from(line));
     }
 }

@@ -1,9 +1,9 @@
 //! What is wrong with a policy, and what its lines may be.
 
 use crate::forms::{ALL_CLAUSES, forms_of_line};
-use crate::lines::{Row, place_of, row_at};
+use crate::lines::{Row, chain_at, first_naming, is_one_of, place_of, row_at, row_of};
 use crate::page::Page;
-use crate::quotes::{Otherwise, quote_byte, quote_first, quote_row, say_sign, tells_mark};
+use crate::quotes::{Lines, Otherwise, bad_first_line, not_utf8, quote_row, say_sign};
 pub use crate::settings::bad_setting;
 use crate::settings::{kind_at, say_kind_forms, say_word};
 use action_profile::KINDS;
@@ -71,28 +71,22 @@ pub struct PolicyText<'a> {
     pub text: &'a [u8],
 }
 
-/// The same as its lines that aren't blank.
-#[derive(Clone, Copy)]
-pub struct Lines<'r> {
-    pub name: &'r str,
-    pub rows: &'r [Row<'r>],
-}
-
 /// A text that isn't a policy.
 pub fn text_fault(page: &mut Page, policy: PolicyText<'_>, fault: TextFault) {
     let rows = page.rows(policy.text);
     let lines = Lines {
         name: policy.name,
+        text: policy.text,
         rows: &rows,
     };
-    tell_fault(page, policy, lines, fault);
+    tell_fault(page, &lines, fault);
 }
 
 // The same with the lines of the text.
-fn tell_fault(page: &mut Page, policy: PolicyText<'_>, lines: Lines<'_>, fault: TextFault) {
+fn tell_fault(page: &mut Page, lines: &Lines<'_>, fault: TextFault) {
     match fault {
-        TextFault::NotUtf8(place) => not_utf8(page, policy, place),
-        TextFault::BadVersionLine => bad_version_line(page, policy, lines),
+        TextFault::NotUtf8(place) => not_utf8(page, lines, place, OTHERWISE),
+        TextFault::BadVersionLine => bad_first_line(page, lines, VERSION_LINE, OTHERWISE),
         TextFault::Syntax(line, column) => syntax(page, lines, line, column as usize),
         TextFault::UnknownKind(line) => unknown_kind(page, lines, line),
         TextFault::DuplicateName(line) => duplicate_name(page, lines, line),
@@ -102,12 +96,6 @@ fn tell_fault(page: &mut Page, policy: PolicyText<'_>, lines: Lines<'_>, fault: 
         TextFault::TooManyRules(line) => limit(page, lines, line, RULES),
         TextFault::OutOfMemory => {}
     }
-}
-
-// The byte at this place is no UTF-8.
-fn not_utf8(page: &mut Page, policy: PolicyText<'_>, place: usize) {
-    quote_byte(page, policy.name, policy.text, place);
-    say_sign(page, policy.text, OTHERWISE);
 }
 
 /// A text of more than 1,048,576 bytes.
@@ -121,18 +109,15 @@ pub fn too_long(page: &mut Page, policy: PolicyText<'_>) {
 pub fn cycle(page: &mut Page, policy: PolicyText<'_>, chain: u32) {
     let rows = page.rows(policy.text);
     page.tell(CYCLE);
-    quote_statements(page, policy.name, &rows, chain);
+    quote_statements(page, policy.name, chain_at(&rows, chain));
     page.tell(REVERSED);
 }
 
-// The first statements of a chain, counted from 0.
-fn quote_statements(page: &mut Page, name: &str, rows: &[Row<'_>], chain: u32) {
-    let mut chains = 0u32;
+// The first statements of these lines.
+fn quote_statements(page: &mut Page, name: &str, rows: &[Row<'_>]) {
     let mut left = MAX_STATEMENTS;
     for row in rows {
-        if row.begins_with(b"chain") {
-            chains = chains.saturating_add(1);
-        } else if chains == chain.saturating_add(1) && left > 0 && is_statement(*row) {
+        if left > 0 && is_statement(*row) {
             left -= 1;
             quote_row(page, name, *row, None);
         }
@@ -142,7 +127,7 @@ fn quote_statements(page: &mut Page, name: &str, rows: &[Row<'_>], chain: u32) {
 /// A priority that is forbidden.
 pub fn forbidden(page: &mut Page, policy: PolicyText<'_>, line: u32) {
     let rows = page.rows(policy.text);
-    let row = row_at(&rows, place_of(&rows, line));
+    let row = row_of(&rows, line);
     quote_row(page, policy.name, row, None);
     say_forbidden(page, row.word(1), row.word(3));
 }
@@ -158,29 +143,20 @@ fn say_forbidden(page: &mut Page, high: &[u8], low: &[u8]) {
 }
 
 fn is_statement(row: Row<'_>) -> bool {
-    STATEMENTS.contains(&row.word(0))
+    is_one_of(row.word(0), STATEMENTS)
 }
 
 const STATEMENTS: &[&[u8]] = &[b"order", b"priority", b"position"];
 
 // A line that is one too many of its kind.
-fn limit(page: &mut Page, lines: Lines<'_>, line: u32, text: &'static str) {
-    let row = row_at(lines.rows, place_of(lines.rows, line));
+fn limit(page: &mut Page, lines: &Lines<'_>, line: u32, text: &'static str) {
+    let row = row_of(lines.rows, line);
     quote_row(page, lines.name, row, None);
     page.tell(text);
 }
 
-// The first line isn't `nfp 1`.
-fn bad_version_line(page: &mut Page, policy: PolicyText<'_>, lines: Lines<'_>) {
-    if !tells_mark(page, policy.name, policy.text) {
-        quote_first(page, lines.name, lines.rows);
-        page.tell(VERSION_LINE);
-        say_sign(page, policy.text, OTHERWISE);
-    }
-}
-
 // A word doesn't fit, or is missing.
-fn syntax(page: &mut Page, lines: Lines<'_>, line: u32, column: usize) {
+fn syntax(page: &mut Page, lines: &Lines<'_>, line: u32, column: usize) {
     let place = place_of(lines.rows, line);
     let row = row_at(lines.rows, place);
     let mark = column.saturating_sub(1);
@@ -241,8 +217,8 @@ pub fn say_forms(page: &mut Page, forms: &'static str, clauses: &str) {
 }
 
 // There is no such kind.
-fn unknown_kind(page: &mut Page, lines: Lines<'_>, line: u32) {
-    let row = row_at(lines.rows, place_of(lines.rows, line));
+fn unknown_kind(page: &mut Page, lines: &Lines<'_>, line: u32) {
+    let row = row_of(lines.rows, line);
     quote_row(page, lines.name, row, Some(row.column(2)));
     page.tell(UNKNOWN_KIND);
     page.word(row.word(2));
@@ -259,45 +235,43 @@ fn say_kinds(page: &mut Page) {
 }
 
 // A chain or a function before has the same name.
-fn duplicate_name(page: &mut Page, lines: Lines<'_>, line: u32) {
-    let row = row_at(lines.rows, place_of(lines.rows, line));
+fn duplicate_name(page: &mut Page, lines: &Lines<'_>, line: u32) {
+    let row = row_of(lines.rows, line);
     quote_row(page, lines.name, row, Some(row.column(1)));
     page.tell(TAKEN);
     page.word(row.word(1));
-    let other = first_alike(lines.rows, row);
+    let other = first_naming(lines.rows, row.word(0), row.word(1)).unwrap_or(row);
     quote_row(page, lines.name, other, Some(other.column(1)));
 }
 
-// The first of these lines with the same two first words as one of them.
-fn first_alike<'a>(rows: &[Row<'a>], row: Row<'a>) -> Row<'a> {
-    for other in rows {
-        if other.word(0) == row.word(0) && other.word(1) == row.word(1) {
-            return *other;
-        }
-    }
-    row
-}
-
 // A statement names what isn't declared before it in its chain.
-fn unknown_name(page: &mut Page, lines: Lines<'_>, line: u32) {
+fn unknown_name(page: &mut Page, lines: &Lines<'_>, line: u32) {
     let place = place_of(lines.rows, line);
     let row = row_at(lines.rows, place);
     let here = since_chain(&lines.rows[..place]);
-    let at = if declaring(here, row.word(1)).is_some() {
-        3
-    } else {
-        1
-    };
+    let at = place_of_undeclared(here, row);
     quote_row(page, lines.name, row, Some(row.column(at)));
     page.tell(UNDECLARED);
     page.word(row.word(at));
     match declaring(lines.rows, row.word(at)) {
-        Some(other) => {
-            page.tell(ELSEWHERE);
-            quote_row(page, lines.name, other, None);
-        }
+        Some(other) => say_elsewhere(page, lines.name, other),
         None => say_declared(page, here),
     }
+}
+
+// The place of the first name of a statement that these lines don't declare.
+fn place_of_undeclared(rows: &[Row<'_>], row: Row<'_>) -> usize {
+    if declaring(rows, row.word(1)).is_some() {
+        3
+    } else {
+        1
+    }
+}
+
+// The line further down or of another chain that declares what is named.
+fn say_elsewhere(page: &mut Page, name: &str, row: Row<'_>) {
+    page.tell(ELSEWHERE);
+    quote_row(page, name, row, None);
 }
 
 /// Of these lines those from the last `chain` on.
@@ -313,12 +287,7 @@ pub fn since_chain<'r, 'a>(rows: &'r [Row<'a>]) -> &'r [Row<'a>] {
 
 /// The first of these lines that declares a function of this name.
 pub fn declaring<'a>(rows: &[Row<'a>], name: &[u8]) -> Option<Row<'a>> {
-    for row in rows {
-        if row.declares(name) {
-            return Some(*row);
-        }
-    }
-    None
+    first_naming(rows, b"fn", name)
 }
 
 // The functions that these lines declare.

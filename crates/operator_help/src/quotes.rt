@@ -21,6 +21,14 @@ pub struct Otherwise {
     pub graphs: &'static str,
 }
 
+/// A text that is refused: the name of its file, its bytes, and its lines that aren't blank.
+#[derive(Clone, Copy)]
+pub struct Lines<'r> {
+    pub name: &'r str,
+    pub text: &'r [u8],
+    pub rows: &'r [Row<'r>],
+}
+
 /// Adds a line of a file, with its number.
 pub fn quote_row(page: &mut Page, name: &str, row: Row<'_>, mark: Option<usize>) {
     page.tell("{}, line {}:");
@@ -29,8 +37,23 @@ pub fn quote_row(page: &mut Page, name: &str, row: Row<'_>, mark: Option<usize>)
     page.quote(row.text, mark);
 }
 
-/// The byte at a place is no UTF-8.
-pub fn quote_byte(page: &mut Page, name: &str, text: &[u8], place: usize) {
+/// The byte at a place is no UTF-8. The text may be something else than what is due.
+pub fn not_utf8(page: &mut Page, lines: &Lines<'_>, place: usize, otherwise: Otherwise) {
+    quote_byte(page, lines.name, lines.text, place);
+    say_sign(page, lines.text, otherwise);
+}
+
+/// The first line isn't the one that is due, as is told.
+pub fn bad_first_line(page: &mut Page, lines: &Lines<'_>, due: &'static str, otherwise: Otherwise) {
+    if !tells_mark(page, lines.name, lines.text) {
+        quote_first(page, lines.name, lines.rows);
+        page.tell(due);
+        say_sign(page, lines.text, otherwise);
+    }
+}
+
+// Adds the line of the byte at a place, which is no UTF-8.
+fn quote_byte(page: &mut Page, name: &str, text: &[u8], place: usize) {
     let mut start = 0;
     let mut number = 1u32;
     for (at, byte) in text.iter().enumerate() {
@@ -45,8 +68,8 @@ pub fn quote_byte(page: &mut Page, name: &str, text: &[u8], place: usize) {
     page.tell(NOT_UTF8);
 }
 
-/// Adds the first of these lines, which isn't the one that has to stand there, or tells that there is none.
-pub fn quote_first(page: &mut Page, name: &str, rows: &[Row<'_>]) {
+// Adds the first of these lines, which isn't the one that has to stand there, or tells that there is none.
+fn quote_first(page: &mut Page, name: &str, rows: &[Row<'_>]) {
     match rows.first() {
         Some(row) => quote_row(page, name, *row, Some(row.column(0))),
         None => {
@@ -56,8 +79,8 @@ pub fn quote_first(page: &mut Page, name: &str, rows: &[Row<'_>]) {
     }
 }
 
-/// Whether a text begins with a byte order mark of UTF-8, which is told then.
-pub fn tells_mark(page: &mut Page, name: &str, text: &[u8]) -> bool {
+// Whether a text begins with a byte order mark of UTF-8, which is told then.
+fn tells_mark(page: &mut Page, name: &str, text: &[u8]) -> bool {
     if !matches!(sign_of(text), Sign::Utf8) {
         return false;
     }

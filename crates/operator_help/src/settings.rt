@@ -22,9 +22,14 @@ const TWICE: &str = "it is set already, in line {}; take one of the two lines aw
 /// A line that a function refuses among its settings.
 pub fn bad_setting(page: &mut Page, policy: PolicyText<'_>, line: u32) {
     let rows = page.rows(policy.text);
-    let place = place_of(&rows, line);
-    if let Some(kind) = kind_at(&rows, place.saturating_add(1)) {
-        bad_row(page, policy.name, &rows, place, kind);
+    tell_setting(page, policy.name, &rows, place_of(&rows, line));
+}
+
+// The line at this place is refused by its function.
+fn tell_setting(page: &mut Page, name: &str, rows: &[Row<'_>], place: usize) {
+    if let Some(kind) = kind_at(rows, place.saturating_add(1)) {
+        bad_row(page, name, rows, place, kind);
+        say_kind_forms(page, kind);
     }
 }
 
@@ -36,7 +41,6 @@ fn bad_row(page: &mut Page, name: &str, rows: &[Row<'_>], place: usize, kind: Ki
     } else {
         bad_line(page, name, row, &rows[..place.min(rows.len())], kind);
     }
-    say_kind_forms(page, kind);
 }
 
 /// The kind of the last function that these lines declare before a place.
@@ -110,7 +114,7 @@ fn setting_before<'a>(rows: &[Row<'a>], key: &[u8]) -> Option<Row<'a>> {
     for row in rows {
         if !row.is_setting() {
             last = None;
-        } else if row.begins_with(b"set") && row.word(1) == key {
+        } else if row.names(b"set", key) {
             last = Some(*row);
         }
     }

@@ -9,6 +9,12 @@ const FORMS: &str =
 
 const SAME_NAME: &str = "two of the files have the same name, and each is to be a file of its own";
 
+// Words that ask for the version.
+const VERSION_WORDS: &[&str] = &["--version", "-V", "version"];
+
+// Words that ask for the forms.
+const HELP_WORDS: &[&str] = &["--help", "-h", "help"];
+
 /// The forms of the commands.
 pub fn forms(page: &mut Page) {
     page.tell(FORMS);
@@ -16,16 +22,12 @@ pub fn forms(page: &mut Page) {
 
 /// The first word is no command. It may ask for the version, or for the forms.
 pub fn no_command(page: &mut Page, word: &str) {
-    match word {
-        "--version" | "-V" | "version" => {
-            page.tell("version {}");
-            page.say(VERSION);
-        }
-        "--help" | "-h" | "help" => {}
-        _ => {
-            page.tell("`{}` is no command");
-            page.word(word.as_bytes());
-        }
+    if VERSION_WORDS.contains(&word) {
+        page.tell("version {}");
+        page.say(VERSION);
+    } else if !HELP_WORDS.contains(&word) {
+        page.tell("`{}` is no command");
+        page.word(word.as_bytes());
     }
 }
 
