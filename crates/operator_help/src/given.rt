@@ -219,8 +219,7 @@ fn tell(page: &mut Page, text: &'static str) -> bool {
 }
 
 fn tell_word(page: &mut Page, text: &'static str, word: &[u8]) -> bool {
-    page.tell(text);
-    page.word(word);
+    page.tell_word(text, word);
     false
 }
 

@@ -5,7 +5,7 @@ use crate::lines::{
 };
 use crate::page::Page;
 use crate::policy::{NAMES, PolicyText, declaring, since_chain};
-use crate::quotes::{Lines, Otherwise, bad_first_line, not_utf8, quote_row, say_sign};
+use crate::quotes::{Lines, Otherwise, bad_first_line, not_utf8, quote_row, quote_word, say_sign};
 use action_profile::{Kind, profile};
 use dependency_table::Action;
 use graph_text::GraphFault;
@@ -99,11 +99,11 @@ pub fn fault(page: &mut Page, graph: GraphText<'_>, fault: GraphFault) {
         text: graph.policy.text,
         rows: &declared,
     };
-    tell_fault(page, &text, &policy, fault);
+    tell_fault(page, text, policy, fault);
 }
 
 // The same with the lines of the text and those of the policy.
-fn tell_fault(page: &mut Page, text: &Lines<'_>, policy: &Lines<'_>, fault: GraphFault) {
+fn tell_fault(page: &mut Page, text: Lines<'_>, policy: Lines<'_>, fault: GraphFault) {
     match fault {
         GraphFault::TooLong => too_long(page, text),
         GraphFault::NotUtf8(place) => not_utf8(page, text, place, OTHERWISE),
@@ -123,14 +123,14 @@ fn tell_fault(page: &mut Page, text: &Lines<'_>, policy: &Lines<'_>, fault: Grap
 }
 
 // A text of more than 1,048,576 bytes.
-fn too_long(page: &mut Page, text: &Lines<'_>) {
+fn too_long(page: &mut Page, text: Lines<'_>) {
     page.tell(LONG);
     page.name(text.name);
     say_sign(page, text.text, OTHERWISE);
 }
 
 // The first line isn't `nfp-graph 1`.
-fn bad_version_line(page: &mut Page, text: &Lines<'_>) {
+fn bad_version_line(page: &mut Page, text: Lines<'_>) {
     bad_first_line(page, text, VERSION_LINE, OTHERWISE);
     say_planned(page, text.rows);
 }
@@ -143,11 +143,11 @@ fn say_planned(page: &mut Page, rows: &[Row<'_>]) {
 }
 
 // A line that has no form, or stands where it can't.
-fn syntax(page: &mut Page, text: &Lines<'_>, line: u32) {
+fn syntax(page: &mut Page, text: Lines<'_>, line: u32) {
     let place = place_of(text.rows, line);
     let row = row_at(text.rows, place);
     match misfit_of(row) {
-        Some(column) => say_misfit(page, text, row, column),
+        Some(column) => say_misfit(page, text.name, row, column),
         None => say_place(page, text, row, place),
     }
     page.tell(FORMS);
@@ -199,20 +199,26 @@ fn column_of_no_name(row: Row<'_>) -> Option<usize> {
 }
 
 // The word at a column doesn't fit, or is missing.
-fn say_misfit(page: &mut Page, text: &Lines<'_>, row: Row<'_>, column: usize) {
-    quote_row(page, text.name, row, Some(column));
+fn say_misfit(page: &mut Page, name: &str, row: Row<'_>, column: usize) {
+    quote_row(page, name, row, Some(column));
     let (start, word) = row.word_from(column);
     if word.is_empty() {
-        page.tell("a word is missing here");
-        page.tell(NAMES);
+        say_missing(page);
     } else if start == row.column(0) {
-        page.tell(NO_LINE);
-        page.word(word);
+        page.tell_word(NO_LINE, word);
     } else {
-        page.tell(MISFIT);
-        page.word(word);
-        page.tell(if is_number(word) { NUMBERS } else { NAMES });
+        say_no_name(page, word);
     }
+}
+
+fn say_missing(page: &mut Page) {
+    page.tell("a word is missing here");
+    page.tell(NAMES);
+}
+
+fn say_no_name(page: &mut Page, word: &[u8]) {
+    page.tell_word(MISFIT, word);
+    page.tell(if is_number(word) { NUMBERS } else { NAMES });
 }
 
 fn is_number(word: &[u8]) -> bool {
@@ -224,30 +230,31 @@ fn is_number(word: &[u8]) -> bool {
     true
 }
 
-// A line that has a form stands where it can't. Of a stage without a branch the line behind it may have been meant as one.
-fn say_place(page: &mut Page, text: &Lines<'_>, row: Row<'_>, place: usize) {
+// A line that has a form stands where it can't.
+fn say_place(page: &mut Page, text: Lines<'_>, row: Row<'_>, place: usize) {
     quote_row(page, text.name, row, None);
     if row.begins_with(b"branch") {
         page.tell(NO_STAGE_YET);
     } else if last_before(text.rows, place, b"chain").is_none() {
         page.tell(NO_CHAIN_YET);
     } else {
-        page.tell(NO_BRANCH);
-        say_next(page, text, row_at(rows_behind(text.rows, place), 0));
+        say_no_branch(page, text, place);
     }
 }
 
-// A line that begins as a branch, and is none.
-fn say_next(page: &mut Page, text: &Lines<'_>, row: Row<'_>) {
+// A stage without a branch. The line behind it may begin as one, and be none.
+fn say_no_branch(page: &mut Page, text: Lines<'_>, place: usize) {
+    page.tell(NO_BRANCH);
+    let row = row_at(rows_behind(text.rows, place), 0);
     if row.begins_with(b"branch")
         && let Some(column) = column_of_no_name(row)
     {
-        say_misfit(page, text, row, column);
+        say_misfit(page, text.name, row, column);
     }
 }
 
 // The policy has no such chain, or the chain has no such function.
-fn unknown_name(page: &mut Page, text: &Lines<'_>, policy: &Lines<'_>, line: u32) {
+fn unknown_name(page: &mut Page, text: Lines<'_>, policy: Lines<'_>, line: u32) {
     let place = place_of(text.rows, line);
     let row = row_at(text.rows, place);
     if row.begins_with(b"chain") {
@@ -257,32 +264,29 @@ fn unknown_name(page: &mut Page, text: &Lines<'_>, policy: &Lines<'_>, line: u32
     }
 }
 
-fn unknown_chain(page: &mut Page, text: &Lines<'_>, policy: &Lines<'_>, row: Row<'_>) {
-    quote_row(page, text.name, row, Some(row.column(1)));
-    page.tell(NO_CHAIN);
-    page.word(row.word(1));
+fn unknown_chain(page: &mut Page, text: Lines<'_>, policy: Lines<'_>, row: Row<'_>) {
+    quote_word(page, text.name, row, 1, NO_CHAIN);
     say_names(page, policy.rows, b"chain");
 }
 
 fn unknown_function(
     page: &mut Page,
-    text: &Lines<'_>,
-    policy: &Lines<'_>,
+    text: Lines<'_>,
+    policy: Lines<'_>,
     row: Row<'_>,
     chain: &[u8],
 ) {
     let here = chain_named(policy.rows, chain);
     let (start, word) = undeclared(row, here);
     quote_row(page, text.name, row, Some(start));
-    page.tell(NO_FUNCTION);
-    page.word(chain);
+    page.tell_word(NO_FUNCTION, chain);
     page.word(word);
     say_names(page, here, b"fn");
     say_elsewhere(page, policy, word);
 }
 
 // The line of another chain that declares a function of this name, where there is one.
-fn say_elsewhere(page: &mut Page, policy: &Lines<'_>, function: &[u8]) {
+fn say_elsewhere(page: &mut Page, policy: Lines<'_>, function: &[u8]) {
     if let Some(row) = declaring(policy.rows, function) {
         page.tell(ELSEWHERE);
         quote_row(page, policy.name, row, None);
@@ -314,7 +318,7 @@ fn say_names(page: &mut Page, rows: &[Row<'_>], first: &[u8]) {
 }
 
 // A chain is listed again, or a function stands again.
-fn twice(page: &mut Page, text: &Lines<'_>, line: u32) {
+fn twice(page: &mut Page, text: Lines<'_>, line: u32) {
     let place = place_of(text.rows, line);
     let row = row_at(text.rows, place);
     if row.begins_with(b"chain") {
@@ -324,10 +328,8 @@ fn twice(page: &mut Page, text: &Lines<'_>, line: u32) {
     }
 }
 
-fn listed_twice(page: &mut Page, text: &Lines<'_>, row: Row<'_>) {
-    quote_row(page, text.name, row, Some(row.column(1)));
-    page.tell(LISTED);
-    page.word(row.word(1));
+fn listed_twice(page: &mut Page, text: Lines<'_>, row: Row<'_>) {
+    quote_word(page, text.name, row, 1, LISTED);
     quote_row(page, text.name, line_of_chain(text.rows, row.word(1)), None);
 }
 
@@ -337,14 +339,10 @@ fn stands_twice(page: &mut Page, name: &str, row: Row<'_>, before: &[Row<'_>]) {
     quote_row(page, name, row, Some(start));
     match holding(before, word) {
         Some((other, mark)) => {
-            page.tell(STANDS);
-            page.word(word);
+            page.tell_word(STANDS, word);
             quote_row(page, name, other, Some(mark));
         }
-        None => {
-            page.tell(STANDS_HERE);
-            page.word(word);
-        }
+        None => page.tell_word(STANDS_HERE, word),
     }
 }
 
@@ -374,7 +372,7 @@ fn holding<'a>(rows: &[Row<'a>], name: &[u8]) -> Option<(Row<'a>, usize)> {
 }
 
 // A chain with a function that rewrites packets whole.
-fn whole_chain(page: &mut Page, text: &Lines<'_>, policy: &Lines<'_>, line: u32) {
+fn whole_chain(page: &mut Page, text: Lines<'_>, policy: Lines<'_>, line: u32) {
     let row = row_of(text.rows, line);
     quote_row(page, text.name, row, Some(row.column(1)));
     if let Some(function) = whole_function(chain_named(policy.rows, row.word(1))) {
@@ -402,13 +400,12 @@ fn is_whole(kind: &[u8]) -> bool {
 }
 
 // A function of a chain that is listed stands nowhere.
-fn missing(page: &mut Page, text: &Lines<'_>, policy: &Lines<'_>, chain: u32, function: u32) {
+fn missing(page: &mut Page, text: Lines<'_>, policy: Lines<'_>, chain: u32, function: u32) {
     let here = chain_at(policy.rows, chain);
     let row = function_at(here, function);
     let listed = line_of_chain(text.rows, row_at(here, 0).word(1));
     quote_row(page, text.name, listed, None);
-    page.tell(MISSING);
-    page.word(row.word(1));
+    page.tell_word(MISSING, row.word(1));
     quote_row(page, policy.name, row, None);
     page.tell(INTO_BRANCH);
 }
@@ -421,7 +418,7 @@ struct Pair<'a> {
     second: &'a [u8],
 }
 
-fn pair_of<'a>(policy: &Lines<'a>, chain: u32, first: u32, second: u32) -> Pair<'a> {
+fn pair_of<'a>(policy: Lines<'a>, chain: u32, first: u32, second: u32) -> Pair<'a> {
     let here = chain_at(policy.rows, chain);
     Pair {
         chain: row_at(here, 0).word(1),
@@ -431,7 +428,7 @@ fn pair_of<'a>(policy: &Lines<'a>, chain: u32, first: u32, second: u32) -> Pair<
 }
 
 // Quotes the lines in which two functions stand, that of the first in the chain first, or their one line.
-fn quote_pair(page: &mut Page, text: &Lines<'_>, pair: Pair<'_>) {
+fn quote_pair(page: &mut Page, text: Lines<'_>, pair: Pair<'_>) {
     let here = chain_named(text.rows, pair.chain);
     if let Some((row, mark)) = holding(here, pair.first) {
         quote_row(page, text.name, row, Some(mark));
@@ -448,23 +445,21 @@ fn quote_other(page: &mut Page, name: &str, row: Row<'_>, other: Option<(Row<'_>
     }
 }
 
-fn out_of_order(page: &mut Page, text: &Lines<'_>, pair: Pair<'_>) {
+fn out_of_order(page: &mut Page, text: Lines<'_>, pair: Pair<'_>) {
     quote_pair(page, text, pair);
-    page.tell(ORDER);
-    page.word(pair.first);
+    page.tell_word(ORDER, pair.first);
     page.word(pair.second);
 }
 
-fn forbidden(page: &mut Page, text: &Lines<'_>, pair: Pair<'_>, action: Action) {
+fn forbidden(page: &mut Page, text: Lines<'_>, pair: Pair<'_>, action: Action) {
     quote_pair(page, text, pair);
-    page.tell(match action {
+    let told = match action {
         Action::Drop => DROPS,
         _ => WRITES,
-    });
-    page.word(pair.first);
+    };
+    page.tell_word(told, pair.first);
     page.word(pair.second);
-    page.tell(BEHIND);
-    page.word(pair.second);
+    page.tell_word(BEHIND, pair.second);
     page.word(pair.first);
     page.word(pair.second);
 }

@@ -53,6 +53,19 @@ impl Page {
         self.go_on();
     }
 
+    /// The same, unless there is nothing to add.
+    pub(crate) fn tell_some(&mut self, lines: &'static str) {
+        if !lines.is_empty() {
+            self.tell(lines);
+        }
+    }
+
+    /// Adds lines with a word of a file in their first place.
+    pub(crate) fn tell_word(&mut self, lines: &'static str, word: &[u8]) {
+        self.tell(lines);
+        self.word(word);
+    }
+
     /// Goes on up to the next place of the text, or to the end of its last line.
     pub(crate) fn go_on(&mut self) {
         let rest = self.rest;

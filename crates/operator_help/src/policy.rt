@@ -3,7 +3,7 @@
 use crate::forms::{ALL_CLAUSES, forms_of_line};
 use crate::lines::{Row, chain_at, first_naming, is_one_of, place_of, row_at, row_of};
 use crate::page::Page;
-use crate::quotes::{Lines, Otherwise, bad_first_line, not_utf8, quote_row, say_sign};
+use crate::quotes::{Lines, Otherwise, bad_first_line, not_utf8, quote_row, quote_word, say_sign};
 pub use crate::settings::bad_setting;
 use crate::settings::{kind_at, say_kind_forms, say_word};
 use action_profile::KINDS;
@@ -79,11 +79,11 @@ pub fn text_fault(page: &mut Page, policy: PolicyText<'_>, fault: TextFault) {
         text: policy.text,
         rows: &rows,
     };
-    tell_fault(page, &lines, fault);
+    tell_fault(page, lines, fault);
 }
 
 // The same with the lines of the text.
-fn tell_fault(page: &mut Page, lines: &Lines<'_>, fault: TextFault) {
+fn tell_fault(page: &mut Page, lines: Lines<'_>, fault: TextFault) {
     match fault {
         TextFault::NotUtf8(place) => not_utf8(page, lines, place, OTHERWISE),
         TextFault::BadVersionLine => bad_first_line(page, lines, VERSION_LINE, OTHERWISE),
@@ -149,14 +149,14 @@ fn is_statement(row: Row<'_>) -> bool {
 const STATEMENTS: &[&[u8]] = &[b"order", b"priority", b"position"];
 
 // A line that is one too many of its kind.
-fn limit(page: &mut Page, lines: &Lines<'_>, line: u32, text: &'static str) {
+fn limit(page: &mut Page, lines: Lines<'_>, line: u32, text: &'static str) {
     let row = row_of(lines.rows, line);
     quote_row(page, lines.name, row, None);
     page.tell(text);
 }
 
 // A word doesn't fit, or is missing.
-fn syntax(page: &mut Page, lines: &Lines<'_>, line: u32, column: usize) {
+fn syntax(page: &mut Page, lines: Lines<'_>, line: u32, column: usize) {
     let place = place_of(lines.rows, line);
     let row = row_at(lines.rows, place);
     let mark = column.saturating_sub(1);
@@ -172,8 +172,7 @@ fn syntax(page: &mut Page, lines: &Lines<'_>, line: u32, column: usize) {
 
 // The first word of a line doesn't fit.
 fn say_first(page: &mut Page, row: Row<'_>) {
-    page.tell(place_of_line(row));
-    page.word(row.word(0));
+    page.tell_word(place_of_line(row), row.word(0));
 }
 
 // Where such a line stands, if there is such a line.
@@ -201,9 +200,7 @@ fn say_line_forms(page: &mut Page, rows: &[Row<'_>], place: usize) {
 
 /// Adds forms, and what the words in capitals stand for.
 pub fn say_forms(page: &mut Page, forms: &'static str, clauses: &str) {
-    if !forms.is_empty() {
-        page.tell(forms);
-    }
+    page.tell_some(forms);
     if forms.contains("NAME") {
         page.tell(NAMES);
     }
@@ -217,11 +214,9 @@ pub fn say_forms(page: &mut Page, forms: &'static str, clauses: &str) {
 }
 
 // There is no such kind.
-fn unknown_kind(page: &mut Page, lines: &Lines<'_>, line: u32) {
+fn unknown_kind(page: &mut Page, lines: Lines<'_>, line: u32) {
     let row = row_of(lines.rows, line);
-    quote_row(page, lines.name, row, Some(row.column(2)));
-    page.tell(UNKNOWN_KIND);
-    page.word(row.word(2));
+    quote_word(page, lines.name, row, 2, UNKNOWN_KIND);
     say_kinds(page);
 }
 
@@ -235,24 +230,20 @@ fn say_kinds(page: &mut Page) {
 }
 
 // A chain or a function before has the same name.
-fn duplicate_name(page: &mut Page, lines: &Lines<'_>, line: u32) {
+fn duplicate_name(page: &mut Page, lines: Lines<'_>, line: u32) {
     let row = row_of(lines.rows, line);
-    quote_row(page, lines.name, row, Some(row.column(1)));
-    page.tell(TAKEN);
-    page.word(row.word(1));
+    quote_word(page, lines.name, row, 1, TAKEN);
     let other = first_naming(lines.rows, row.word(0), row.word(1)).unwrap_or(row);
     quote_row(page, lines.name, other, Some(other.column(1)));
 }
 
 // A statement names what isn't declared before it in its chain.
-fn unknown_name(page: &mut Page, lines: &Lines<'_>, line: u32) {
+fn unknown_name(page: &mut Page, lines: Lines<'_>, line: u32) {
     let place = place_of(lines.rows, line);
     let row = row_at(lines.rows, place);
     let here = since_chain(&lines.rows[..place]);
     let at = place_of_undeclared(here, row);
-    quote_row(page, lines.name, row, Some(row.column(at)));
-    page.tell(UNDECLARED);
-    page.word(row.word(at));
+    quote_word(page, lines.name, row, at, UNDECLARED);
     match declaring(lines.rows, row.word(at)) {
         Some(other) => say_elsewhere(page, lines.name, other),
         None => say_declared(page, here),

@@ -38,18 +38,24 @@ pub fn quote_row(page: &mut Page, name: &str, row: Row<'_>, mark: Option<usize>)
 }
 
 /// The byte at a place is no UTF-8. The text may be something else than what is due.
-pub fn not_utf8(page: &mut Page, lines: &Lines<'_>, place: usize, otherwise: Otherwise) {
+pub fn not_utf8(page: &mut Page, lines: Lines<'_>, place: usize, otherwise: Otherwise) {
     quote_byte(page, lines.name, lines.text, place);
     say_sign(page, lines.text, otherwise);
 }
 
 /// The first line isn't the one that is due, as is told.
-pub fn bad_first_line(page: &mut Page, lines: &Lines<'_>, due: &'static str, otherwise: Otherwise) {
+pub fn bad_first_line(page: &mut Page, lines: Lines<'_>, due: &'static str, otherwise: Otherwise) {
     if !tells_mark(page, lines.name, lines.text) {
         quote_first(page, lines.name, lines.rows);
         page.tell(due);
         say_sign(page, lines.text, otherwise);
     }
+}
+
+/// Adds a line with a mark under the word at a place, and tells this of the word.
+pub fn quote_word(page: &mut Page, name: &str, row: Row<'_>, place: usize, told: &'static str) {
+    quote_row(page, name, row, Some(row.column(place)));
+    page.tell_word(told, row.word(place));
 }
 
 // Adds the line of the byte at a place, which is no UTF-8.
@@ -99,7 +105,5 @@ pub fn say_sign(page: &mut Page, text: &[u8], otherwise: Otherwise) {
         Sign::Utf16 => UTF16,
         _ => "",
     };
-    if !said.is_empty() {
-        page.tell(said);
-    }
+    page.tell_some(said);
 }

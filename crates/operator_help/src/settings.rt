@@ -54,23 +54,33 @@ pub fn kind_at(rows: &[Row<'_>], place: usize) -> Option<Kind> {
 /// The forms that the lines of this kind may have.
 pub fn say_kind_forms(page: &mut Page, kind: Kind) {
     let forms = forms_of(kind);
-    page.tell(if forms.is_empty() { NO_LINES } else { LINES });
-    page.say(article_of(kind));
-    page.say(kind.name());
-    if !forms.is_empty() {
+    if forms.is_empty() {
+        tell_kind(page, NO_LINES, kind);
+    } else {
+        tell_kind(page, LINES, kind);
         say_forms(page, forms, clauses_of(kind));
     }
+}
+
+// Tells of a kind, whose article goes into the first place and whose name goes into the second.
+fn tell_kind(page: &mut Page, text: &'static str, kind: Kind) {
+    page.tell(text);
+    page.say(article_of(kind));
+    page.say(kind.name());
 }
 
 // A line that is required of a function is missing, or can't be read. Quotes the first of the lines behind that of the function
 // that fits no form of its kind.
 fn bad_function(page: &mut Page, name: &str, row: Row<'_>, behind: &[Row<'_>], kind: Kind) {
     quote_row(page, name, row, None);
-    page.tell(MISSING);
-    page.say(article_of(kind));
-    page.say(kind.name());
+    tell_kind(page, MISSING, kind);
     page.say(required_of(kind));
-    for row in behind {
+    quote_first_misfit(page, name, behind, kind);
+}
+
+// The first line of a function of this kind that fits no form, where these lines begin with its lines.
+fn quote_first_misfit(page: &mut Page, name: &str, rows: &[Row<'_>], kind: Kind) {
+    for row in rows {
         if !row.is_setting() || quote_misfit(page, name, *row, kind) {
             return;
         }
@@ -102,10 +112,15 @@ fn say_clash(page: &mut Page, name: &str, row: Row<'_>, before: &[Row<'_>]) {
     if row.begins_with(b"rule") {
         page.tell(OTHER_VERSION);
     } else if let Some(other) = setting_before(before, row.word(1)) {
-        page.tell(TWICE);
-        page.number(u64::from(other.number));
-        quote_row(page, name, other, None);
+        set_twice(page, name, other);
     }
+}
+
+// This line sets the same.
+fn set_twice(page: &mut Page, name: &str, row: Row<'_>) {
+    page.tell(TWICE);
+    page.number(u64::from(row.number));
+    quote_row(page, name, row, None);
 }
 
 // The last of these lines that sets this, behind the line of their function.
@@ -127,15 +142,7 @@ pub fn say_word(page: &mut Page, row: Row<'_>, place: usize) {
     if word.is_empty() {
         page.tell("a word is missing here");
     } else {
-        page.tell("`{}` doesn't fit here");
-        page.word(word);
-        say_hint(page, hint_of(row, place));
-    }
-}
-
-// How to say what was meant, where that is known.
-fn say_hint(page: &mut Page, hint: &'static str) {
-    if !hint.is_empty() {
-        page.tell(hint);
+        page.tell_word("`{}` doesn't fit here", word);
+        page.tell_some(hint_of(row, place));
     }
 }

@@ -26,8 +26,7 @@ pub fn no_command(page: &mut Page, word: &str) {
         page.tell("version {}");
         page.say(VERSION);
     } else if !HELP_WORDS.contains(&word) {
-        page.tell("`{}` is no command");
-        page.word(word.as_bytes());
+        page.tell_word("`{}` is no command", word.as_bytes());
     }
 }
 
