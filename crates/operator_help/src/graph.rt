@@ -5,7 +5,9 @@ use crate::lines::{
 };
 use crate::page::Page;
 use crate::policy::{NAMES, PolicyText, declaring, since_chain};
-use crate::quotes::{Lines, Otherwise, bad_first_line, not_utf8, quote_row, quote_word, say_sign};
+use crate::quotes::{
+    Lines, Otherwise, bad_first_line, not_utf8, quote_row, quote_word, say_names, say_sign,
+};
 use action_profile::{Kind, profile};
 use dependency_table::Action;
 use graph_text::GraphFault;
@@ -304,17 +306,6 @@ fn undeclared<'a>(row: Row<'a>, rows: &[Row<'_>]) -> (usize, &'a [u8]) {
         column = start.saturating_add(word.len());
     }
     row.word_from(column)
-}
-
-// The names behind the first word of the lines that begin with it.
-fn say_names(page: &mut Page, rows: &[Row<'_>], first: &[u8]) {
-    for row in rows {
-        if row.begins_with(first) {
-            page.push(b' ');
-            page.put(row.word(1));
-        }
-    }
-    page.go_on();
 }
 
 // A chain is listed again, or a function stands again.

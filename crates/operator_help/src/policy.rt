@@ -3,7 +3,9 @@
 use crate::forms::{ALL_CLAUSES, forms_of_line};
 use crate::lines::{Row, chain_at, first_naming, is_one_of, place_of, row_at, row_of};
 use crate::page::Page;
-use crate::quotes::{Lines, Otherwise, bad_first_line, not_utf8, quote_row, quote_word, say_sign};
+use crate::quotes::{
+    Lines, Otherwise, bad_first_line, not_utf8, quote_row, quote_word, say_names, say_sign,
+};
 pub use crate::settings::bad_setting;
 use crate::settings::{kind_at, say_kind_forms, say_word};
 use action_profile::KINDS;
@@ -284,11 +286,5 @@ pub fn declaring<'a>(rows: &[Row<'a>], name: &[u8]) -> Option<Row<'a>> {
 // The functions that these lines declare.
 fn say_declared(page: &mut Page, rows: &[Row<'_>]) {
     page.tell("declared are:{}");
-    for row in rows {
-        if row.begins_with(b"fn") {
-            page.push(b' ');
-            page.put(row.word(1));
-        }
-    }
-    page.go_on();
+    say_names(page, rows, b"fn");
 }

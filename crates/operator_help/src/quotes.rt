@@ -58,6 +58,17 @@ pub fn quote_word(page: &mut Page, name: &str, row: Row<'_>, place: usize, told:
     page.tell_word(told, row.word(place));
 }
 
+/// Puts into their place the names of the lines that begin with this word.
+pub fn say_names(page: &mut Page, rows: &[Row<'_>], first: &[u8]) {
+    for row in rows {
+        if row.begins_with(first) {
+            page.push(b' ');
+            page.put(row.word(1));
+        }
+    }
+    page.go_on();
+}
+
 // Adds the line of the byte at a place, which is no UTF-8.
 fn quote_byte(page: &mut Page, name: &str, text: &[u8], place: usize) {
     let mut start = 0;

@@ -112,15 +112,10 @@ fn say_clash(page: &mut Page, name: &str, row: Row<'_>, before: &[Row<'_>]) {
     if row.begins_with(b"rule") {
         page.tell(OTHER_VERSION);
     } else if let Some(other) = setting_before(before, row.word(1)) {
-        set_twice(page, name, other);
+        page.tell(TWICE);
+        page.number(u64::from(other.number));
+        quote_row(page, name, other, None);
     }
-}
-
-// This line sets the same.
-fn set_twice(page: &mut Page, name: &str, row: Row<'_>) {
-    page.tell(TWICE);
-    page.number(u64::from(row.number));
-    quote_row(page, name, row, None);
 }
 
 // The last of these lines that sets this, behind the line of their function.
