@@ -1,19 +1,19 @@
-//! What has come of packets from the branches of a stage, kept until each branch has given its part.
+//! The results of packets from the branches of a stage, kept until each branch has returned its part.
 //!
-//! A stage's branches work side by side, so a packet's results come from them in any order, and
-//! results of many packets come mixed. An [`AccTable`] keeps them by the packet's number and the
-//! branch: [`AccTable::arrive`] puts one in, and tells when it was the packet's last. Then it hands
-//! over the values in branch order and forgets the packet.
+//! A stage's branches work side by side, so a packet's results come from them in any order, and the results of many
+//! packets are mixed. An [`AccTable`] keeps them by the packet's number and the branch: [`AccTable::arrive`] puts one
+//! in, and reports if it was the packet's last. Then it moves the values out in branch order and forgets the packet.
 //!
-//! Contracts see a table as a finite map from a packet's number to what has come of it, by branch.
-//! All memory is taken by [`AccTable::with_room`].
+//! Contracts see a table as a finite map from a packet's number to its results, by branch. Only [`AccTable::with_room`]
+//! allocates memory.
 //!
-//! A packet's row is found in the bucket of its number: the rows of numbers that leave the same rest by the number of
-//! buckets, the least power of two that is at least the table's entries. As many numbers in a row as the table has entries
-//! stand each alone. An arrival looks at no row outside its bucket, and [`AccTable::chain_len`] tells how many there are. A
-//! row is taken from the list of the free, and put back into it, without a search.
+//! A packet's row is found in the bucket of its number. A bucket has the rows of numbers with the same remainder by the
+//! number of buckets, which is the least power of two that is at least the table's number of entries. As many
+//! consecutive numbers as the table has entries are each in a bucket of their own. An arrival looks at no row outside
+//! its bucket, and [`AccTable::chain_len`] returns the number of rows in it. A row is taken from the list of free rows,
+//! and put back into it, without a search.
 //!
-//! What is left out: no clause says how long a call takes, or which of the free rows a packet gets.
+//! Left out: no clause says how long a call takes, or which of the free rows a packet gets.
 #![tactic(auto)]
 
 mod laws;

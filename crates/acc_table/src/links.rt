@@ -1,5 +1,5 @@
-//! How the rows of a table are linked, by their places: the free rows in one list, and in each
-//! bucket of numbers the rows of its packets.
+//! How the rows of a table are linked, by their places: the free rows in one list, and in each bucket of numbers the
+//! rows of its packets.
 ghost use Rattle.std.specs.Prelude.{ℕ, ◌≡◌, ◌≢◌, ◌<◌, ◌≤◌, ◌+◌, ◌-◌, ◌%◌, ◌^◌, List, IfOk, IfSome, IsNone, None, Some, Option, length, replicate, slice_index_or, slice_set, sum_by};
 ghost use Rattle.std.specs.List.{HoldsAt};
 ghost use Rattle.acc_table.specs.Arrivals.{heads_for};
@@ -10,11 +10,11 @@ use crate::row::Row;
 use std::alloc::{AllocError, Global};
 use std::marker::Model;
 
-/// Where no place follows.
+/// The end of a list: no place follows.
 const NONE: u32 = u32::MAX;
 
-/// The place behind each place, the first place of each bucket, the first free place, and the
-/// number of places that aren't free.
+/// The place after each place, the first place of each bucket, the first free place, and the number of places that
+/// aren't free.
 #[derive(Drop)]
 pub struct Links {
     nexts: Vec<u32>,
@@ -32,7 +32,7 @@ impl Model for Links {
 }
 
 impl Links {
-    /// So many places, all free.
+    /// This number of places, all free.
     pub fn all_free(alloc: Global, places: usize) -> Result<Links, AllocError>
         requires { places ≤ 65536 }
         ensures { IfOk result (λ l. AreLinked (heads_for places) (replicate places None) l) }
@@ -138,7 +138,7 @@ impl Links {
         self.taken -= 1;
     }
 
-    /// The place of the bucket behind which this one comes.
+    /// The place of the bucket after which this one comes.
     fn before(&self, bucket: usize, place: usize) -> Option<usize>
         requires bucket { bucket < length self.now.heads }
         requires is_in { IsIn self.now bucket place }
@@ -158,7 +158,7 @@ impl Links {
         unreachable!()
     }
 
-    /// Takes the place out of its bucket.
+    /// Takes the place out of its bucket. `before` is the one in front of it.
     fn unlink(&mut self, bucket: usize, place: usize, before: Option<usize>)
         requires bucket { bucket < length self.old.heads }
         requires place { place < length self.old.nexts }
@@ -173,7 +173,7 @@ impl Links {
     }
 }
 
-/// The least power of two that is at least so many.
+/// The least power of two that is at least `entries`.
 fn head_count(entries: usize) -> usize
     requires { entries ≤ 65536 }
     ensures heads { result ≡ heads_for entries }
@@ -189,7 +189,7 @@ fn head_count(entries: usize) -> usize
     heads
 }
 
-/// So many buckets without rows.
+/// This number of buckets, without rows.
 fn empty_heads(alloc: Global, count: usize) -> Result<Vec<u32>, AllocError>
     ensures { IfOk result (λ v. v.items ≡ replicate count none) }
 {

@@ -8,7 +8,7 @@ use crate::links::Links;
 use crate::row::Row;
 use std::alloc::{AllocError, Global};
 
-/// So many free rows.
+/// This number of free rows.
 pub fn free_rows<T: Drop>(
     alloc: Global,
     count: usize,
@@ -23,7 +23,7 @@ pub fn free_rows<T: Drop>(
     Ok(rows)
 }
 
-/// The packet's row, or else a free one, which is put into the packet's bucket.
+/// The packet's row, or a free one, which is then put into the packet's bucket.
 pub fn place_for<T: Drop>(rows: &[Row<T>], links: &mut Links, pid: u32) -> usize
     requires linked { AreLinked (heads_for (length rows.now)) (owners rows.now) links.old }
     requires room { Absent pid rows.now → length (opened rows.now) < length rows.now }

@@ -1,4 +1,4 @@
-//! A row of a table: whose it is, and what has come of that packet, by branch.
+//! A row of a table: its packet, and the results of that packet, by branch.
 ghost use Rattle.std.specs.Prelude.{◌≡◌, ◌↔◌, ◌<◌, ◌≤◌, ◌+◌, ◌++◌, ◌∷◌, [], IsTrue, IfOk, IsNone, IsSome, All, None, Some, length, map, replicate, slice_set};
 ghost use Rattle.std.specs.Vec.{vec_capacity, vec_len};
 ghost use Rattle.acc_table.specs.Arrivals.{nothing};
@@ -22,7 +22,7 @@ impl<T> Model for Row<T> {
 }
 
 impl<T: Drop> Row<T> {
-    /// A free row for so many branches.
+    /// A free row for this number of branches.
     pub fn free(alloc: Global, branches: usize) -> Result<Row<T>, AllocError>
         ensures { IfOk result (λ r. r ≡ record { pid = None; arrived = nothing branches }) }
     {
@@ -54,14 +54,14 @@ impl<T: Drop> Row<T> {
         self.arrived[branch] = Some(value);
     }
 
-    /// Whether every branch has given its value.
+    /// Whether every branch has returned its value.
     pub fn is_whole(&self) -> bool
         ensures { IsTrue result ↔ All (λ a. IsSome a) self.now.arrived }
     {
         self.arrived.iter().all(|a| a.is_some())
     }
 
-    /// Hands the values over in branch order, and is free.
+    /// Moves the values out in branch order, and is free.
     pub fn hand_over(&mut self, into: &mut Vec<T>)
         requires whole { All (λ a. IsSome a) self.old.arrived }
         requires empty { into.old.items ≡ [] }

@@ -1,4 +1,4 @@
-//! The table of what has come, and its calls.
+//! The table of results, and its calls.
 ghost use Rattle.std.specs.Prelude.{◌≡◌, ◌≢◌, ◌↔◌, ◌<◌, ◌≤◌, ℕ, [], IfOk, IfSome, IsNone, IsSome, All, None, Some, length, map, slice_index_or};
 ghost use Rattle.std.specs.Vec.{vec_capacity};
 ghost use Rattle.std.specs.FinMap as finite;
@@ -10,20 +10,20 @@ use crate::row::Row;
 use std::alloc::{AllocError, Global};
 use std::marker::Model;
 
-/// The most packets that a table has room for.
+/// The greatest number of packets of a table.
 pub const MOST_ENTRIES: u32 = 65_536;
 
-/// The most branches of a stage.
+/// The greatest number of branches of a stage.
 pub const MOST_BRANCHES: u32 = 64;
 
-/// The packet of this number has come from every branch.
+/// Every branch has returned its value for the packet of this number.
 #[derive(Clone, Copy, PartialEq, Eq, Debug)]
 pub struct Complete {
     pub pid: u32,
 }
 
-/// What has come of packets so far. A contract sees a finite map: `arrivals` of a packet's number
-/// is what has come of it, by branch.
+/// The results of packets so far. A contract sees a finite map: `arrivals` of a packet's number are its results, by
+/// branch.
 #[derive(Drop)]
 pub struct AccTable<T> {
     branches: u32,
@@ -48,7 +48,7 @@ impl<T> Model for AccTable<T> {
 }
 
 impl<T: Drop> AccTable<T> {
-    /// An empty table with room for so many packets at a time, each of so many branches.
+    /// An empty table with room for `entries` packets at a time, each with `branches` branches.
     pub fn with_room(alloc: Global, entries: u32, branches: u32) -> Result<AccTable<T>, AllocError>
         requires some_entries { 0 < entries }
         requires few_entries { entries ≤ 65536 }
@@ -65,9 +65,9 @@ impl<T: Drop> AccTable<T> {
         })
     }
 
-    /// The value of one branch has come for the packet of this number. Where it was the last, the
-    /// packet is complete: the values of all its branches stand in `into`, in branch order, and the
-    /// table forgets the packet. It takes no memory.
+    /// Takes the value of one branch for the packet of this number. If it was the last, the packet is complete: the
+    /// values of all its branches are in `into`, in branch order, and the table forgets the packet. It allocates
+    /// nothing.
     pub fn arrive(&mut self, pid: u32, branch: u32, value: T, into: &mut Vec<T>) -> Option<Complete>
         requires branch { branch < self.old.branches }
         requires first { slice_index_or (arrivals self.old pid) branch None ≡ None }
@@ -75,13 +75,13 @@ impl<T: Drop> AccTable<T> {
         requires empty { into.old.items ≡ [] }
         requires into_room { self.old.branches ≤ vec_capacity into.old }
 
-        // Complete exactly where every branch has arrived now, with the values in branch order.
+        // Complete exactly if every branch has arrived now, with the values in branch order.
         ensures complete { IsSome result ↔ All (λ a. IsSome a) (with_arrival self.old pid branch value) }
         ensures number { IfSome result (λ c. c.pid ≡ pid) }
         ensures values { IsSome result → map Some into.new.items ≡ with_arrival self.old pid branch value }
         ensures no_values { IsNone result → into.new.items ≡ [] }
 
-        // A packet that is complete is forgotten, and of any other the value is kept.
+        // A packet that is complete is forgotten, and the value of any other packet is kept.
         ensures forgotten { IsSome result → self.new ≡ forgetting self.old pid }
         ensures kept { IsNone result → self.new ≡ keeping self.old pid (with_arrival self.old pid branch value) }
 
@@ -107,14 +107,14 @@ impl<T: Drop> AccTable<T> {
         Some(Complete { pid })
     }
 
-    /// The number of packets of which something has come, and not all.
+    /// The number of packets of which some values have come, but not all.
     pub fn open_count(&self) -> u32
         ensures { result ≡ open_count self.now }
     {
         self.links.taken()
     }
-    /// The number of open packets in this packet's bucket: those whose numbers leave the same rest
-    /// by the least power of two that is at least the table's entries. The most that `arrive` looks at.
+    /// The number of open packets in this packet's bucket: those whose numbers have the same remainder by the least
+    /// power of two that is at least the table's number of entries. It is the most that `arrive` looks at.
     pub fn chain_len(&self, pid: u32) -> u32
         ensures { result ≡ bucket_len self.now pid }
     {

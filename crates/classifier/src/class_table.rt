@@ -1,4 +1,4 @@
-//! The table that says which chain takes a packet.
+//! The table that decides which chain takes a packet.
 ghost use Rattle.std.specs.Prelude.{◌≡◌, ◌<◌, ◌^◌, List, ℕ, IfOk, IfSome, IsTrue, Some, length, map, position};
 ghost use Rattle.policy_text.specs.Meeting.{is_fitting};
 ghost use Rattle.classifier.specs.Classes.{class_of};
@@ -9,7 +9,7 @@ use policy_text::{ChainPolicy, Match, Policy, Seen, fits};
 use std::alloc::{AllocError, Global};
 use std::marker::Model;
 
-/// What each chain of a policy asks of a packet, in the order of the text. A contract sees it as a list.
+/// The clauses of each chain of a policy, in the order of the text. A contract sees it as a list.
 #[derive(Drop)]
 pub struct ClassTable {
     fits: Items<Match>,
@@ -28,7 +28,7 @@ impl Model for ClassTable {
 }
 
 impl ClassTable {
-    /// The table of a policy's chains. It copies their clauses, and takes the room for that.
+    /// The table of a policy's chains. It copies their clauses, and allocates the memory for that.
     pub fn new(alloc: Global, policy: &Policy) -> Result<ClassTable, AllocError>
         requires few { length policy.now.chains < 2 ^ 32 }
         ensures { IfOk result (λ table. table ≡ map (λ c. c.fit) policy.now.chains) }
@@ -39,13 +39,13 @@ impl ClassTable {
         })
     }
 
-    /// The chain that takes a packet with this frame, counted from 0: the first whose clauses the frame meets as it was read.
-    /// `None` where no chain takes it. Takes no memory.
+    /// The chain that takes a packet with this frame, counted from 0: the first whose clauses the frame meets, as it
+    /// was read. `None` if no chain takes it. Allocates nothing.
     pub fn class(&self, frame: &[u8]) -> Option<u32>
         ensures { result ≡ class_of self.now frame.now }
     {
         let chains = self.fits.as_slice();
-        // Of the frame nothing is looked at where that is of no account.
+        // The frame isn't read if that can't change the result.
         if chains.is_empty() {
             return None;
         }

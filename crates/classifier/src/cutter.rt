@@ -9,13 +9,13 @@ use std::alloc::{AllocError, Global};
 use std::marker::Model;
 use std::mem;
 
-/// The most packets of a burst.
+/// The greatest number of packets of a burst.
 pub const BURST_LIMIT: u32 = 65_536;
 
-/// The captured bytes that close a burst.
+/// The number of captured bytes at which a burst is closed.
 pub const BURST_BYTES: usize = 67_108_864;
 
-/// What cuts packets into bursts. A contract sees its limit, the number of packets added, and the
+/// Cuts packets into bursts. A contract sees its limit, the number of packets added, and the
 /// items of its open burst.
 #[derive(Drop)]
 pub struct Cutter {
@@ -38,7 +38,7 @@ impl Model for Cutter {
 }
 
 impl Cutter {
-    /// A cutter into bursts of so many packets, to which none was added. It takes the room of a burst.
+    /// A cutter into bursts of `limit` packets, to which none was added. It allocates the room of a burst.
     pub fn new(alloc: Global, limit: u32) -> Result<Cutter, AllocError>
         requires some { 0 < limit }
         requires few { limit ≤ 65536 }
@@ -53,8 +53,8 @@ impl Cutter {
         })
     }
 
-    /// Adds a packet of this class to the open burst, under the next number, and gives the whole
-    /// burst where this packet closes it. On want of memory the packet is lost.
+    /// Adds a packet of this class to the open burst, under the next number, and returns the whole burst if this packet
+    /// closes it. If memory runs out the packet is lost.
     pub fn add(
         &mut self,
         packet: PcapRecord,
@@ -91,8 +91,8 @@ impl Cutter {
         }))
     }
 
-    /// Closes the open burst, which may be empty, and gives it; what is added next goes on with the numbers. On want of memory
-    /// nothing changes.
+    /// Closes the open burst, which may be empty, and returns it; the numbers continue with the next packet. If memory
+    /// runs out nothing changes.
     pub fn cut_now(&mut self) -> Result<Burst, AllocError>
         ensures burst { IfOk result (λ b. b.items ≡ self.old.held) }
         ensures few { IfOk result (λ b. length b.items ≤ 65536) }

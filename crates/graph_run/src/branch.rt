@@ -1,4 +1,4 @@
-//! The functions of a branch, in turn.
+//! Runs the functions of a branch in turn.
 ghost use Rattle.std.specs.Prelude.{◌≡◌, ◌≤◌, ◌+◌, ◌++◌, ℕ, true, length, IfOk, OnOk, OnErr, IfSome};
 ghost use Rattle.packet_fields.specs.declared.field.Field.{Field};
 ghost use Rattle.packet_version.specs.Versions.{version_parts, HoldsNamed};
@@ -22,8 +22,7 @@ use packet_version::{Verdict, Version, unwritten_stays};
 use std::alloc::AllocError;
 use std::sync::Wait;
 
-/// What came of a version at one function: its drop, or the version that goes on, and what the function noted
-/// of it.
+/// The outcome of one function on a version: its drop, or the version that goes on, and what the function noted of it.
 #[derive(Drop)]
 pub struct Acted {
     pub arrival: Arrival,
@@ -32,8 +31,8 @@ pub struct Acted {
     pub note: Option<FlowNote>,
 }
 
-/// One function on a version of a packet: the version with what it wrote, or its drop. One that counts only
-/// notes what it sees, and stays as it is.
+/// Runs one function on a version of a packet: returns the version with what it wrote, or its drop. A function that
+/// counts only notes what it sees, and doesn't change.
 #[inline(always)]
 pub fn step_on<F: Function, R: Wait>(
     rt: &R,
@@ -48,7 +47,7 @@ pub fn step_on<F: Function, R: Wait>(
     ensures arrival { IfOk result (λ acted. as_branch_end acted.arrival ≡ moved_end (quiet F.behaviour) version.fixed position function.old (Live (as_version version))) }
     ensures written { IfOk result (λ acted. IsWhatWasWritten position (stepped (quiet F.behaviour) version.fixed function.old (as_version version).values).written version acted.arrival) }
     ensures noted { IfOk result (λ acted. acted.note ≡ noted F.behaviour F.notes version.fixed function.old (as_version version).values) }
-    // Where there is no memory for its step, the function hasn't changed.
+    // If there is no memory for its step, the function hasn't changed.
     ensures stays { OnErr result (function.new ≡ function.old) }
 {
     quiet_functions_keep_to_profiles::<F>();
@@ -77,8 +76,8 @@ pub fn step_on<F: Function, R: Wait>(
     }
 }
 
-/// The functions of a branch at these chain positions, one after another on a version of a packet, until one
-/// drops it. Each passes the gate before its step. What they note of it is added to the notes of the packet.
+/// Runs the functions of a branch at these chain positions, one after another on a version of a packet, until one drops
+/// it. Each passes the gate before its step. What they note of it is added to the notes of the packet.
 #[inline(always)]
 pub(crate) fn run_branch<F: Function, G: Gate, R: Wait>(
     rt: &R,
@@ -94,7 +93,7 @@ pub(crate) fn run_branch<F: Function, G: Gate, R: Wait>(
     ensures functions { OnOk result (functions.new ≡ (in_turn (quiet F.behaviour) version.fixed positions.now functions.old (Live (as_version version))).functions) }
     ensures arrival { IfOk result (λ arrival. as_branch_end arrival ≡ (in_turn (quiet F.behaviour) version.fixed positions.now functions.old (Live (as_version version))).arrival) }
     ensures kept { IfOk result (KeepsPacket version) }
-    // What comes may be merged, and has room for the functions that follow.
+    // The result may be merged, and has room for the functions that follow.
     ensures carried { (whole : PlainApart) (low high : ℕ) → Holds (profiles_of F.behaviour functions.old) version.touch low high positions.now → IsCarried (profiles_of F.behaviour functions.old) whole version.touch low version →
         IfOk result (IsCarriedBy (profiles_of F.behaviour functions.old) whole version.touch high) }
     ensures noted { OnOk result (notes.new.items ≡ notes.old.items ++ placed positions.now (in_turn_notes (quiet F.behaviour) F.notes version.fixed positions.now functions.old (Live (as_version version)))) }

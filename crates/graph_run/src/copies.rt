@@ -1,4 +1,4 @@
-//! Copies of packets that ran in a row, where none was made: how many the graph makes of each.
+//! The number of copies that the graph would make of packets that ran in a row, where none was made.
 ghost use Rattle.std.specs.Prelude.{◌≡◌, ◌-◌, ◌^◌, ◌<◌, min, drop, [], ◌∷◌, length, is_some, IfSome, if◌then◌else◌};
 ghost use Rattle.std.specs.List.{position};
 ghost use Rattle.packet_fields.specs.Fields.{value};
@@ -17,7 +17,7 @@ use graph_compile::{Graph, Stage, copies, copies_nothing, stands};
 use packet_fields::{Field, Outline};
 use packet_version::Tally;
 
-/// Counts the copies that the graph makes of the packets of its chain among these items, which ended so.
+/// Counts the copies that the graph makes of the packets of its chain among these items, by their fates.
 pub(crate) fn count_copies(
     graph: &Graph,
     items: &[Item],
@@ -36,8 +36,8 @@ pub(crate) fn count_copies(
     }
 }
 
-/// Counts the copies of an item's packet where it is of the chain, which ended as the first of these fates says, and gives the
-/// fates of the packets behind it.
+/// Counts the copies of an item's packet if it is of the chain. The first of these fates is that of the packet. Returns
+/// the fates of the packets after it.
 fn count_item<'a>(
     graph: &Graph,
     item: &Item,
@@ -63,7 +63,7 @@ fn count_item<'a>(
     left
 }
 
-/// Counts the copies that the stages make of a packet with this frame that ends so.
+/// Counts the copies that the stages make of a packet with this frame and fate.
 fn count_packet(stages: &[Stage], frame: &[u8], fate: &Fate, tally: &mut Tally)
     ensures { RaisesAll (copies_of stages.now frame.now fate.now) tally.old tally.new }
 {
@@ -77,7 +77,8 @@ fn count_packet(stages: &[Stage], frame: &[u8], fate: &Fate, tally: &mut Tally)
     }
 }
 
-/// The copies of a field that these stages make of a packet with this frame and outline; at most the most that a count holds.
+/// The copies of a field that these stages make of a packet with this frame and outline; at most the maximum of a
+/// count.
 fn copies_where_present(stages: &[Stage], outline: &Outline, frame: &[u8], field: Field) -> u64
     requires own { outline.now ≡ outline_of frame.now }
     ensures { result ≡ min (if is_some (value field frame.now) then copies_in stages.now field else 0) (2 ^ 64 - 1) }
@@ -90,7 +91,7 @@ fn copies_where_present(stages: &[Stage], outline: &Outline, frame: &[u8], field
     }
 }
 
-/// The copies of a field that these stages make of a packet that has it; at most the most that a count holds.
+/// The copies of a field that these stages make of a packet that has it; at most the maximum of a count.
 fn copies_in(stages: &[Stage], field: Field) -> u64
     ensures { result ≡ min (copies_in stages.now field) (2 ^ 64 - 1) }
 {
@@ -101,7 +102,7 @@ fn copies_in(stages: &[Stage], field: Field) -> u64
     made
 }
 
-/// The stages that a packet reaches which ends so.
+/// The stages that a packet with this fate reaches.
 fn reached<'a>(stages: &'a [Stage], fate: &Fate) -> &'a [Stage]
     ensures { result.now ≡ reached stages.now fate.now }
 {
@@ -111,7 +112,7 @@ fn reached<'a>(stages: &'a [Stage], fate: &Fate) -> &'a [Stage]
     }
 }
 
-/// The stages up to the one in which the function at this position stands.
+/// The stages up to the one with the function at this position.
 fn reached_up_to(stages: &[Stage], dropper: u32) -> &[Stage]
     ensures { result.now ≡ reached stages.now (Gone dropper) }
 {
@@ -121,7 +122,7 @@ fn reached_up_to(stages: &[Stage], dropper: u32) -> &[Stage]
     }
 }
 
-/// The place of the stage in which the function at this position stands.
+/// The place of the stage with the function at this position.
 fn stage_of(stages: &[Stage], dropper: u32) -> Option<usize>
     ensures found { result ≡ position (stands dropper) stages.now }
     ensures within { IfSome result (λ place. place < length stages.now) }

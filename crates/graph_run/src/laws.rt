@@ -1,4 +1,4 @@
-//! Laws of a stage and of its branches, for what stands on it.
+//! Laws of a stage and of its branches, for the crates above.
 ghost use Rattle.std.specs.Prelude.{◌≡◌, ◌≤◌, ◌+◌, ◌*◌, ℕ, suc, true, List, Some, IfSome, length, map, slice_get};
 ghost use Rattle.packet_fields.specs.declared.field.Field.{Field};
 ghost use Rattle.action_profile.specs.Modes.{modes_of};
@@ -32,8 +32,8 @@ pub fn functions_keep_to_profiles<F: Function>()
     ensures { KeepsProfile F.behaviour }
 {}
 
-/// A version that goes on from a function's position goes on behind it, whatever that function wrote, and
-/// has room for a tag that it adds.
+/// A version that goes on from a function's position goes on after it, whatever that function wrote, and has room for a
+/// tag that it adds.
 pub fn versions_go_on<F>()
     ensures written { (b : Behaviour F) (chain : List Profile) (whole : PlainApart) (touch : Touch) (low q : ℕ) (f : F) (v : PlainVersion) →
         KeepsProfile b → 1 ≤ q → low ≤ q → profile_at chain q ≡ Some (b.profile f) → HoldsNamed (b.profile f) touch → IsCarried chain whole touch low v →
@@ -47,7 +47,7 @@ pub fn versions_go_on<F>()
     values_stay_well_formed::<F>();
 }
 
-/// The branches of a lawful stage hold what the functions at their positions name.
+/// The branches of a lawful stage hold the fields that the functions at their positions name.
 pub fn branches_hold_what_is_named()
     ensures { (chain : List Profile) (first j : ℕ) (stage : Stage) (branch : Branch) (touch : Touch) →
         IsLawfulStage chain first stage → 1 ≤ first → end_of first stage ≤ suc (length chain) → slice_get stage.branches j ≡ Some branch → slice_get stage.parts.touches j ≡ Some touch →
@@ -56,8 +56,7 @@ pub fn branches_hold_what_is_named()
     lawful_stage_has_owners();
 }
 
-/// What a branch is dealt of a packet is what the law of graphs deals to it, and goes on from where the
-/// packet goes on.
+/// What a branch gets of a packet is what the law of graphs deals to it, and goes on from where the packet goes on.
 pub fn dealt_versions_go_on()
     ensures same { (whole : PlainApart) (touch : Touch) → Live (as_version (dealt whole touch)) ≡ dealt_by_law touch (values_in whole) }
     ensures carried { (chain : List Profile) (whole : PlainApart) (touch : Touch) (first : ℕ) → GoesFrom chain first whole → IsCarried chain whole touch first (dealt whole touch) }
@@ -65,8 +64,8 @@ pub fn dealt_versions_go_on()
     written_is_made();
 }
 
-/// Behind a stage a packet of which each branch gave something, none of it short, ends as the law of graphs
-/// says, and where it goes on it goes on from the next stage.
+/// A packet of which each branch returned something, none of it short, ends after a stage as the law of graphs says. If
+/// it goes on, it goes on from the next stage.
 pub fn merged_packets_go_on()
     ensures from { (chain : List Profile) (whole base : PlainApart) (high : ℕ) (touches : List Touch) (arrivals : List Arrival) →
         AllCarried chain whole high touches arrivals → base ≡ based touches whole → IsWhole (packet_parts whole) whole.rest → AreFrom whole touches base arrivals }
@@ -81,7 +80,7 @@ pub fn merged_packets_go_on()
     merged_is_written_last();
 }
 
-/// The copies that are due of a packet at the branches of a lawful stage are those that the stage counts.
+/// The copies that are due for a packet at the branches of a lawful stage are those that the stage counts.
 pub fn due_copies_are_counted()
     ensures modes { (chain : List Profile) (first : ℕ) (stage : Stage) → IsLawfulStage chain first stage → stage.parts.modes ≡ modes_of stage.parts.touches }
     ensures copies { (chain : List Profile) (first : ℕ) (stage : Stage) (whole : PlainApart) (f : Field) → IsLawfulStage chain first stage →

@@ -1,4 +1,4 @@
-//! What functions that count noted of one packet, until it is known where the packet ends.
+//! The notes of functions that count on one packet, kept until it is known how the packet ends.
 ghost use Rattle.std.specs.Prelude.{◌≡◌, ◌++◌, ◌-◌, ◌∷◌, [], OnOk, slice_get};
 ghost use Rattle.burst_law.specs.Placed.{placed, settled_there, settled_where, settled_placed};
 ghost use Rattle.graph_run.specs.Settling.{gone_at};
@@ -24,7 +24,7 @@ impl Model for Noted {
     ghost view = { λ n. record { position = n.position; note = n.note } };
 }
 
-/// Adds what the function at this position noted, where it noted something, to the notes of the packet.
+/// Adds the note of the function at this position, if there is one, to the notes of the packet.
 #[inline(always)]
 pub(crate) fn note_down(
     notes: &mut Vec<Noted>,
@@ -39,8 +39,8 @@ pub(crate) fn note_down(
     Ok(())
 }
 
-/// Settles the notes of a packet that ended so, in their order: each by the function that made it, but for
-/// those of functions behind the one that dropped the packet. None is left.
+/// Settles the notes of a packet with this fate, in their order: each by the function that made it, except those of
+/// functions after the one that dropped the packet. No note is left.
 pub(crate) fn settle_all<F: Function>(
     functions: &mut [F],
     notes: &mut Vec<Noted>,
@@ -82,7 +82,7 @@ fn settle_there<F: Function>(functions: &mut [F], noted: &Noted) -> Result<(), A
     }
 }
 
-/// Was a packet that ended so dropped before this position?
+/// Was a packet with this fate dropped before this position?
 fn is_gone_before(fate: &Fate, position: u32) -> bool
     ensures { result ≡ gone_at fate.now position }
 {

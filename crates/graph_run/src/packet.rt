@@ -28,8 +28,8 @@ use packet_version::{Tally, join, split};
 use std::alloc::{AllocError, Global};
 use std::sync::Wait;
 
-/// Leads a packet, captured at `time` in nanoseconds, through the stages of a graph, one after another, until
-/// it is dropped or goes out, and settles then what was noted of it. So many of the functions add a tag.
+/// Runs a packet, captured at `time` in nanoseconds, through the stages of a graph, one after another, until it is
+/// dropped or goes out, and then settles what was noted of it. `taggers` of the functions add a tag.
 #[inline(always)]
 pub(crate) fn run_packet<F: Function, G: Gate, R: Wait>(
     rt: &R,
@@ -66,8 +66,8 @@ pub(crate) fn run_packet<F: Function, G: Gate, R: Wait>(
     Ok(fate)
 }
 
-/// Leads a packet through the stages, with the counting of their functions left out: what they note of the packet
-/// is added to its notes.
+/// Runs a packet through the stages, with the counting of their functions left out: what they note of the packet is
+/// added to its notes.
 #[inline(always)]
 fn pass_stages<F: Function, G: Gate, R: Wait>(
     rt: &R,

@@ -1,4 +1,4 @@
-//! A law of bursts that are led in pieces.
+//! A law of bursts that are run in pieces.
 ghost use Rattle.std.specs.Prelude.{◌≡◌, ℕ, List, [], ◌++◌};
 ghost use Rattle.capture_bytes.specs.declared.packet.Unit.{Unit as TimeUnit};
 ghost use Rattle.chain_walk.specs.Laws.{KeepsProfile};
@@ -13,8 +13,8 @@ ghost use Rattle.graph_run.specs.Running.{PlainRunning};
 
 use chain_walk::packets_walk_in_a_row;
 
-/// A law: a burst may be led in pieces, each with the functions as the piece before left them. What was refused in a piece was refused
-/// within what the whole burst makes.
+/// A law: a burst may be run in pieces, each with the functions as the piece before left them. If a piece fails, the
+/// copies made are within those of the whole burst.
 pub fn pieces_are_led_in_a_row<F>()
     ensures none { (b : Behaviour F) (run : PlainRunning F) (tally : List ℕ) → Leads b run [] tally tally run [] }
     ensures leads { (b : Behaviour F) (run between after : PlainRunning F) (first later : List Packet) (old new newer : List ℕ) (ended more : List Fate) → KeepsProfile b →

@@ -20,13 +20,13 @@ use packet_version::Tally;
 use std::alloc::{AllocError, Global};
 use std::sync::Wait;
 
-/// Leads the packets of a burst that are of the chain with this number through the graph, one after
-/// another, and gives the fate of each, in their order. Frames that go out are not sealed yet.
+/// Runs the packets of a burst that are of the chain with this number through the graph, one after another, and returns
+/// the fate of each, in their order. Frames that go out are not sealed yet.
 ///
-/// Every packet ends as if it walked through the functions of the chain one after another, each as the
-/// packet before left it, and so do the functions' states. The tally rises by the copies that were made.
-/// The one refusal is want of memory: the functions are gone then, and the tally may have risen by copies
-/// that were made.
+/// Every packet ends as if it walked through the functions of the chain one after another, each meeting them as the
+/// packet before left them, and the functions end in the same states. The tally rises by the copies that were made. The
+/// only error is that memory runs out: then the functions are lost, and the tally may have risen by copies that were
+/// made.
 pub fn run_plain<F: Function + Drop, R: Wait>(
     rt: &R,
     alloc: Global,
@@ -43,7 +43,7 @@ pub fn run_plain<F: Function + Drop, R: Wait>(
     run_gated(rt, alloc, run, burst, unit, chain, tally, &OpenGate)
 }
 
-/// The same as [`run_plain`] does, and each step of a function passes the gate first, with the numbers of the chain, the
+/// The same as [`run_plain`], and each step of a function passes the gate first, with the numbers of the chain, the
 /// function and the packet's record.
 pub fn run_gated<F: Function + Drop, G: Gate, R: Wait>(
     rt: &R,
@@ -63,7 +63,7 @@ pub fn run_gated<F: Function + Drop, G: Gate, R: Wait>(
     run_items(rt, alloc, run, items, unit, chain, tally, gate)
 }
 
-/// The same of items that stand one behind the other in a burst.
+/// The same for consecutive items of a burst.
 pub fn run_items<F: Function + Drop, G: Gate, R: Wait>(
     rt: &R,
     alloc: Global,
@@ -87,7 +87,7 @@ pub fn run_items<F: Function + Drop, G: Gate, R: Wait>(
     } = run;
     let taggers = count_adders(&functions);
     let mut fates = Vec::with_capacity(alloc, items.len())?;
-    // The notes of one packet at a time, in the room of those before.
+    // The notes of one packet at a time, in the same memory.
     let mut notes = Vec::new(alloc);
     for item in items {
         run_item(
@@ -114,7 +114,7 @@ pub fn run_items<F: Function + Drop, G: Gate, R: Wait>(
     Ok((run, fates))
 }
 
-/// Leads a packet through the graph where it is of the chain, and adds its fate to those that ended before.
+/// Runs a packet through the graph if it is of the chain, and adds its fate to those of the packets before.
 fn run_item<F: Function, G: Gate, R: Wait>(
     rt: &R,
     alloc: Global,
@@ -171,7 +171,7 @@ pub fn is_of(item: &Item, chain: u32) -> bool
     }
 }
 
-/// How many of the functions add a tag.
+/// The number of functions that add a tag.
 pub fn count_adders<F: Function>(functions: &[F]) -> u32
     requires few { length functions.now ≤ 64 }
     ensures { result ≡ adders_from (profiles_of F.behaviour functions.now) 1 }
@@ -183,7 +183,7 @@ pub fn count_adders<F: Function>(functions: &[F]) -> u32
     adders
 }
 
-/// 1 for a function that adds a tag, else 0.
+/// 1 for a function that adds a tag, and 0 for another.
 fn adds_one<F: Function>(function: &F) -> u32
     ensures { result ≡ (if (F.behaviour.profile function.now).adds then 1 else 0) }
 {

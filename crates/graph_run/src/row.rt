@@ -1,4 +1,4 @@
-//! Bursts that go on one thread, past the branches of a graph.
+//! Runs bursts on one thread, without the branches of a graph.
 ghost use Rattle.std.specs.Prelude.{◌≡◌, ◌≤◌, length, IfOk, IfSome, OnErr};
 ghost use Rattle.chain_walk.specs.Packets.{fates};
 ghost use Rattle.graph_run.specs.Counting.{RaisesUpTo, copies_made};
@@ -20,9 +20,9 @@ use packet_version::Tally;
 use std::alloc::{AllocError, Global};
 use std::sync::Wait;
 
-/// The same as [`run_items`] does, by the functions in a row, one after another on a packet that is dealt once and whole: on one
-/// thread that is all that a graph of branches gives, and takes half its time. No copy is made; those that the graph makes are
-/// counted of each packet by how it ended.
+/// The same as [`run_items`], by the functions in a row, one after another on a packet that is dealt once and whole: on
+/// one thread that gives the same result as a graph of branches, in half the time. No copy is made; the copies that the
+/// graph would make are counted for each packet by its fate.
 pub fn run_in_a_row<F: Function + Drop, G: Gate, R: Wait>(
     rt: &R,
     alloc: Global,
@@ -57,7 +57,7 @@ pub fn run_in_a_row<F: Function + Drop, G: Gate, R: Wait>(
     Ok((run, fates))
 }
 
-/// The graph of the functions in a row: the one that is there, or a new one.
+/// The graph of the functions in a row: the existing one, or a new one.
 fn row_beside<F: Function>(
     alloc: Global,
     functions: &[F],

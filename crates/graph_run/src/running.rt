@@ -1,4 +1,4 @@
-//! The functions of a chain and the graph that they run in.
+//! The functions of a chain, and the graph in which they run.
 
 use graph_compile::Graph;
 use net_functions::Function;
@@ -11,9 +11,9 @@ use std::marker::Model;
 pub struct Running<F: Function> {
     pub(crate) functions: Vec<F>,
     pub(crate) graph: Graph,
-    // The functions in a row, for bursts that go on one thread, once one went so. Contracts don't see it.
+    // The functions in a row, for bursts on one thread, once there was one. Contracts don't see it.
     pub(crate) row: Option<Graph>,
-    // By which way its bursts go. Contracts don't see it.
+    // How its bursts run. Contracts don't see it.
     pub(crate) pace: Pace,
 }
 
@@ -32,8 +32,8 @@ impl<F: Function> Running<F> {
     ghost use Rattle.std.specs.Prelude.{◌≡◌};
     ghost use Rattle.graph_run.specs.Running.{IsRunning};
 
-    /// At most 64 functions in chain order, in their opening states, and a graph that is lawful for their
-    /// profiles, in which each stage has a branch and each branch a function. Takes no memory.
+    /// At most 64 functions in chain order, in their initial states, and a graph that is lawful for their profiles, in
+    /// which each stage has a branch and each branch a function. Allocates nothing.
     pub fn new(functions: Vec<F>, graph: Graph) -> Running<F>
         requires { IsRunning F.behaviour functions.items graph }
         ensures { result ≡ record { functions = functions.items; graph = graph } }
@@ -68,19 +68,19 @@ impl<F: Function> Running<F> {
         self.functions.as_slice()
     }
 
-    /// The graph that the functions run in.
+    /// The graph in which the functions run.
     pub fn graph(&self) -> &Graph
         ensures { result.now ≡ self.now.graph }
     {
         &self.graph
     }
 
-    /// By which way the bursts of the chain go. Nothing that comes of a packet depends on it.
+    /// How the bursts of the chain run. The fate of a packet never depends on it.
     pub fn pace(&self) -> Pace {
         self.pace
     }
 
-    /// The same functions and graph, whose bursts go at this pace from now on.
+    /// The same functions and graph, whose bursts run at this pace from now on.
     pub fn paced(mut self, pace: Pace) -> Running<F>
         ensures { result ≡ self }
     {

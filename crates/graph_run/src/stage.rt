@@ -1,4 +1,4 @@
-//! A stage of a graph: a packet is dealt to its branches, each runs, and what comes is merged.
+//! Runs a packet through a stage: it is dealt to the branches, each runs, and the results are merged.
 ghost use Rattle.std.specs.Prelude.{◌≡◌, ◌++◌, ℕ, length, IfOk, OnOk, OnErr};
 ghost use Rattle.chain_walk.specs.Counting.{quiet};
 ghost use Rattle.graph_law.specs.BranchNotes.{branched_notes};
@@ -23,8 +23,8 @@ use packet_version::{Apart, Tally, deal, deal_whole};
 use std::alloc::{AllocError, Global};
 use std::sync::Wait;
 
-/// Leads a packet through the branches of a stage, one branch after another. What their functions note of it is
-/// added to its notes.
+/// Runs a packet through the branches of a stage, one branch after another. What their functions note of it is added to
+/// its notes.
 #[inline(always)]
 pub(crate) fn run_stage<F: Function, G: Gate, R: Wait>(
     rt: &R,
@@ -57,7 +57,7 @@ pub(crate) fn run_stage<F: Function, G: Gate, R: Wait>(
     }
 }
 
-/// Leads a packet through the only branch of a stage, which has it whole.
+/// Runs a packet through the only branch of a stage, which has it whole.
 #[inline(always)]
 fn run_only<F: Function, G: Gate, R: Wait>(
     rt: &R,
@@ -95,7 +95,7 @@ fn run_only<F: Function, G: Gate, R: Wait>(
     Ok(merge_only(arrival))
 }
 
-/// Leads a packet through the branches of a stage, each of which has a version of it.
+/// Runs a packet through the branches of a stage, each of which has a version of it.
 fn run_branches<F: Function, G: Gate, R: Wait>(
     rt: &R,
     alloc: Global,

@@ -15,8 +15,8 @@ use atomic_table::Table;
 use std::alloc::{AllocError, Global};
 use std::marker::Model;
 
-/// Where the branches of a stage leave what they give of each packet, and its mergers collect it. Threads share
-/// it. A contract sees which board it is, and for how many packets, branches and mergers.
+/// Where the branches of a stage put their results for each packet, and its mergers collect them. Threads share it. A
+/// contract sees which board it is, and for how many packets, branches and mergers.
 #[derive(Drop)]
 pub struct Board<T: BoardFit> {
     pub(crate) table: Table<Option<T>, View<T>, Sizes, Ruled<T>, Global>,
@@ -35,11 +35,11 @@ impl<T: BoardFit> Model for Board<T> {
 }
 
 impl<T: BoardFit + Drop> Board<T> {
-    /// Makes a board for so many packets, branches and mergers, on which nothing was put, and gives its seats,
-    /// each list in the order of their numbers. Its one refusal is want of memory, and no later call takes any.
+    /// Makes an empty board for this number of packets, branches and mergers, and returns its seats, each list in the
+    /// order of their numbers. The only error is that memory runs out, and no later call allocates any.
     ///
-    /// What is due on it is `D.due`. A caller makes the board in a function that is generic in `D` and requires
-    /// what `D.due` is; where it calls this function with `Brand` for `D`, its proof picks the lists.
+    /// `D.due` is what is due on it. A caller makes the board in a function that is generic in `D` and requires what
+    /// `D.due` is. It calls this function with `Brand` for `D`, and its proof picks the lists.
     pub fn new<D: BoardDue<T>>(
         alloc: Global,
         pids: u32,
@@ -71,7 +71,7 @@ impl<T: BoardFit + Drop> Board<T> {
         Ok((Board { table, sizes }, Seats { branch, merger }))
     }
 
-    /// Ends a board, which needs all its seats. The values that no merger got are dropped. It takes no memory.
+    /// Ends a board, which needs all its seats. The values that no merger got are dropped. It allocates nothing.
     pub fn close(self, seats: Seats<T>)
         requires branch { AreAllOf self.board self.branches (λ s. s.board) seats.branch.items }
         requires merger { AreAllOf self.board self.mergers (λ s. s.board) seats.merger.items }
@@ -82,8 +82,8 @@ impl<T: BoardFit + Drop> Board<T> {
 }
 
 impl<T: BoardFit> Board<T> {
-    /// Puts the value of this seat's branch for a packet, which it hasn't put before. It neither waits nor takes
-    /// memory, and is never refused.
+    /// Puts the value of this seat's branch for a packet, which it hasn't put before. It neither waits nor allocates
+    /// memory, and never fails.
     pub fn put(&self, seat: &mut BranchSeat<T>, pid: u32, value: T)
         requires board { seat.old.board ≡ self.now.board }
         requires pid { pid < self.now.pids }
@@ -94,9 +94,9 @@ impl<T: BoardFit> Board<T> {
         self.fill(&mut seat.seat, seat.branch, pid, value);
     }
 
-    /// Looks once whether the values of all branches are there for a packet of this seat's merger, which it
-    /// hasn't completed before. If so, they stand in `into` in branch order, and the packet is complete.
-    /// It neither waits nor takes memory.
+    /// Checks once whether the values of all branches are there for a packet of this seat's merger, which it hasn't
+    /// completed before. If so, it moves them into `into` in branch order, and the packet is complete. It neither waits
+    /// nor allocates memory.
     pub fn poll(&self, seat: &mut MergerSeat<T>, pid: u32, into: &mut Vec<T>) -> Option<Complete>
         requires board { seat.old.board ≡ self.now.board }
         requires pid { pid < self.now.pids }
@@ -105,7 +105,7 @@ impl<T: BoardFit> Board<T> {
         requires empty { into.old.items ≡ [] }
         requires room { self.now.branches ≤ vec_capacity into.old }
 
-        // The seat keeps what was loaded. There is no value exactly where a branch's bit lacks in it.
+        // The seat keeps what was loaded. The result is `None` exactly if a branch's bit is missing in it.
         ensures loads { seat.new.loads ≡ seat.old.loads + 1 }
         ensures loaded { seat.new.pid ≡ pid }
         ensures none { IsNone result ↔ LacksBit self.now.branches seat.new.word }

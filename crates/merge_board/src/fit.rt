@@ -1,5 +1,4 @@
-//! What is due on a board, and which values fit it. Both are said in contracts alone, and nothing of
-//! them runs.
+//! What is due on a board, and which values fit it. Both occur only in contracts, and none of it runs.
 ghost use Rattle.std.specs.Prelude.{◌≡◌, List, []};
 
 use std::marker::Brand;
@@ -20,7 +19,7 @@ pub trait BoardDue<T> {
     ghost due: { List (List T) };
 }
 
-/// Where a call picks no lists, nothing is due.
+/// If a call picks no lists, nothing is due.
 impl<T> BoardDue<T> for Brand {
     ghost due = { [] };
 }

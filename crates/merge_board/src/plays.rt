@@ -1,6 +1,6 @@
-//! What each step on a word tells. These types are for proofs alone. The other steps of a board are
-//! exchanges in a slot that a seat holds, and change no view: a branch puts its value into the slot that
-//! it has taken, and a merger takes the values out of the slots of a packet that is done.
+//! What is known after each step on a word. These types are for proofs alone. The other steps of a board are exchanges
+//! in a slot that a seat holds, and change no view: a branch puts its value into the slot that it has taken, and a
+//! merger takes the values out of the slots of a packet that is done.
 use crate::fit::{BoardDue, BoardFit};
 use crate::rule::View;
 use atomic_table::{Play, Split};
@@ -38,7 +38,7 @@ impl<T> Play<Option<T>, View<T>> for Announce {
     ghost then = { λ s m r n. announced s m n };
 }
 
-// A merger looks at a packet, by a load of its word, and takes all its slots where each bit is set.
+// A merger looks at a packet, by a load of its word, and takes all its slots if each bit is set.
 pub struct Look<T> {
     of: PhantomData<T>,
 }

@@ -12,7 +12,7 @@ use crate::rule::View;
 use atomic_table::Seat;
 
 impl<T: BoardFit> Board<T> {
-    /// The value goes to the branch's slot of the packet, and then the branch's bit to the packet's word.
+    /// Puts the value into the branch's slot of the packet, and then the branch's bit into the packet's word.
     pub(crate) fn fill(&self, seat: &mut Seat<Option<T>, View<T>>, branch: u32, pid: u32, value: T)
         requires board { seat.old.table_id ≡ self.now.board }
         requires seat { IsBranch seat.old.table_id seat.old.me branch }
@@ -39,7 +39,7 @@ impl<T: BoardFit> Board<T> {
         word & whole == whole
     }
 
-    /// One look at the packet. If all values are there, they go to `into`.
+    /// Loads the packet's word once. If all values are there, they are moved into `into`.
     pub(crate) fn gather(
         &self,
         seat: &mut Seat<Option<T>, View<T>>,
@@ -69,7 +69,7 @@ impl<T: BoardFit> Board<T> {
         true
     }
 
-    /// The values of all slots of the packet go to `into`, in branch order.
+    /// Moves the values of all slots of the packet into `into`, in branch order.
     fn empty(&self, seat: &mut Seat<Option<T>, View<T>>, pid: u32, into: &mut Vec<T>)
         requires board { seat.old.table_id ≡ self.now.board }
         requires pid { pid < self.now.pids }
@@ -88,7 +88,7 @@ impl<T: BoardFit> Board<T> {
         }
     }
 
-    /// The value of the front slot goes to `into`, and the slot behind the others.
+    /// Moves the value of the front slot into `into`, and puts the slot after the others.
     fn hand_over(&self, seat: &mut Seat<Option<T>, View<T>>, slot: usize, into: &mut Vec<T>)
         requires board { seat.old.table_id ≡ self.now.board }
         requires full { (x : T) × (seat.old.me.1 ≡ (slot, Some x) ∷ rest seat.old.me.1) }

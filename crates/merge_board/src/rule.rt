@@ -1,4 +1,4 @@
-//! The rule of a board, and what a seat knows. These types are for proofs alone, but for the sizes.
+//! The rule of a board, and what a seat knows. Except for the sizes, these types are for proofs alone.
 ghost use Rattle.std.specs.Prelude.{[]};
 
 use crate::fit::BoardFit;
@@ -6,7 +6,7 @@ use atomic_table::TableRule;
 use std::collections::LinkedList;
 use std::marker::PhantomData;
 
-/// The sizes of a board: how many packets, branches and mergers it is for.
+/// The sizes of a board: its numbers of packets, branches and mergers.
 #[derive(Clone, Copy)]
 pub struct Sizes {
     pub pids: u32,

@@ -3,7 +3,7 @@ use crate::rule::View;
 use atomic_table::Seat;
 use std::marker::Model;
 
-/// The seat of a branch, by which its values are put. A contract sees of which board and branch it is, what
+/// The seat of a branch, which puts its values. A contract sees its board and branch, what
 /// is due on the board, and the numbers of the packets that it has put, the last one first.
 #[derive(Drop)]
 pub struct BranchSeat<T> {
@@ -22,9 +22,9 @@ impl<T> Model for BranchSeat<T> {
     ghost invariant = { λ s. IsBranch s.seat.table_id s.seat.me s.branch };
 }
 
-/// The seat of a merger, by which it polls its packets. A contract sees of which board and merger it is, what
-/// is due on the board, the numbers of the packets that it has completed, the last one first, how often it
-/// has loaded a word, and the packet and the word of the last load.
+/// The seat of a merger, which polls its packets. A contract sees its board and merger, what is due on the board, the
+/// numbers of the packets that it has completed, the last one first, how often it has loaded a word, and the packet and
+/// the word of the last load.
 #[derive(Drop)]
 pub struct MergerSeat<T> {
     pub(crate) seat: Seat<Option<T>, View<T>>,

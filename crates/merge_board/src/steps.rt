@@ -25,7 +25,7 @@ impl<T: BoardFit> Board<T> {
         self.table.shared.load::<Take>(seat, pid as usize);
     }
 
-    /// A branch announces the value in its slot of the packet, and the slot is at home again.
+    /// A branch announces the value in its slot of the packet, and gives the slot back.
     pub(crate) fn announce(&self, seat: &mut Seat<Option<T>, View<T>>, branch: u32, pid: u32)
         requires board { seat.old.table_id ≡ self.now.board }
         requires wide { seat.old.table_id.slots ≡ seat.old.table_id.words * seat.old.me.0.branches }
@@ -44,7 +44,7 @@ impl<T: BoardFit> Board<T> {
             .fetch_or::<Announce>(seat, pid as usize, 1 << branch);
     }
 
-    /// A merger looks at the word of a packet of its own. Where all values are there, it has their slots.
+    /// A merger looks at the word of a packet of its own. If all values are there, it takes their slots.
     pub(crate) fn look(&self, seat: &mut Seat<Option<T>, View<T>>, pid: u32) -> u64
         requires board { seat.old.table_id ≡ self.now.board }
         requires seat { IsMerger seat.old.table_id seat.old.me (pid % self.now.mergers) }

@@ -1,4 +1,4 @@
-//! The branches of a stage, with their links from the dealer and their ends of where they meet the mergers.
+//! The branches of a stage, with their links from the dealer and their ends to the mergers.
 ghost use Rattle.std.specs.Prelude.{◌≡◌, ◌<◌, ◌≤◌, length, map, All, IfOk, OnOk};
 ghost use Rattle.packet_messages.specs.Messages.{Owing, front, rest};
 ghost use Rattle.packet_messages.specs.Turns.{columns, shares};
@@ -17,14 +17,14 @@ use stage_nodes::{Branch, BranchWork, Giving, ToMergers, take_ends};
 use std::alloc::{AllocError, Global};
 use std::marker::Brand;
 
-/// The branches of a stage: what the dealer gives them, and their nodes.
+/// The branches of a stage: the ends from which the dealer serves them, and their nodes.
 #[derive(Drop)]
 pub(crate) struct Branches<F> {
     pub(crate) versions: Fans<Version>,
     pub(crate) nodes: Vec<Node<F>>,
 }
 
-/// The branches with these touches and functions, each with its ends to the mergers, for so many packets.
+/// The branches with these touches and functions, each with its ends to the mergers, for `count` packets.
 pub(crate) fn wire_branches<F: BranchWork + Drop, D: LinkDue<Parcel<Apart>>>(
     alloc: Global,
     touches: &[Touch],
@@ -73,8 +73,8 @@ fn next_ends(alloc: Global, ends: &mut Vec<ToMergers>) -> Result<ToMergers, Allo
     take_ends(alloc, ends.as_mut_slice())
 }
 
-/// One branch more, which gives into these ends. Where its functions keep no state and there are several mergers,
-/// it has a node for each of them, and else one for all.
+/// Adds a branch, which gives into these ends. If its functions keep no state and there are several mergers, it has a
+/// node for each of them, and otherwise one for all.
 fn wire_branch<F: BranchWork + Drop, D: LinkDue<Parcel<Apart>>>(
     alloc: Global,
     touch: Touch,
@@ -95,7 +95,7 @@ fn wire_branch<F: BranchWork + Drop, D: LinkDue<Parcel<Apart>>>(
     wire_alone::<F, D>(alloc, touch, work, ends, mergers, count, wired)
 }
 
-/// One branch more, with one node.
+/// Adds a branch with one node.
 fn wire_alone<F: BranchWork + Drop, D: LinkDue<Parcel<Apart>>>(
     alloc: Global,
     touch: Touch,
@@ -122,7 +122,7 @@ fn wire_alone<F: BranchWork + Drop, D: LinkDue<Parcel<Apart>>>(
     Ok(())
 }
 
-/// The links from the dealer to a branch that has so many nodes.
+/// The links from the dealer to a branch with this number of nodes.
 pub(crate) fn version_fan<F: BranchWork, D: LinkDue<Parcel<Apart>>, E: LinkDue<Parcel<Version>>>(
     alloc: Global,
     touch: Touch,

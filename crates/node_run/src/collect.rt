@@ -1,4 +1,4 @@
-//! What comes out behind the last stage.
+//! Collects what comes out after the last stage.
 ghost use Rattle.std.specs.Prelude.{◌≡◌, [], ℕ, suc, List, All, IfOk, OnOk, vec_capacity};
 ghost use Rattle.packet_version.specs.Splitting.{PlainApart};
 ghost use Rattle.packet_messages.specs.Messages.{PlainMessage};
@@ -9,8 +9,8 @@ use stage_nodes::Supply;
 use std::alloc::{AllocError, Global};
 use std::sync::Wait;
 
-/// The fates of so many packets, each as it comes from behind the last stage. It refuses where one is short,
-/// or where there is no memory for them.
+/// The fates of `count` packets, each as it comes from the last stage. Fails if one is short, or if there is no memory
+/// for them.
 pub(crate) fn collect<S: Supply + Drop, R: Wait>(
     rt: &R,
     alloc: Global,

@@ -39,7 +39,7 @@ impl<F: Drop> Crew<F> {
         }
     }
 
-    /// Adds a node behind the others. Its one refusal is want of memory.
+    /// Adds a node after the others. The only error is that memory runs out.
     pub(crate) fn push(&mut self, node: Node<F>) -> Result<(), AllocError>
         ensures { OnOk result (self.new ≡ self.old ++ node ∷ []) }
     {
@@ -55,8 +55,8 @@ impl<F: Drop> Crew<F> {
     }
 }
 
-/// What a crew gives back: the functions of its branches in their order, the copies that its dealers made, and whether
-/// one of its nodes found that memory was short.
+/// What a crew returns: the functions of its branches in their order, the copies that its dealers made, and whether one
+/// of its nodes ran out of memory.
 #[derive(Drop)]
 pub(crate) struct CrewDone<F> {
     pub(crate) functions: Vec<F>,
@@ -64,7 +64,7 @@ pub(crate) struct CrewDone<F> {
     pub(crate) short: bool,
 }
 
-/// That a crew gives back what is due, unless memory was short.
+/// The promise that a crew returns what is due, unless memory ran out.
 #[derive(Drop)]
 pub(crate) struct Due<F>(pub(crate) Snapshot<Crew<F>>);
 
@@ -74,8 +74,8 @@ impl<F: BranchWork> Promise<CrewDone<F>> for Due<F> {
     ghost kept_by = { λ p r. CrewKeeps F.kit p.0.value r };
 }
 
-/// Runs the nodes of a crew to their ends, packet by packet of so many: of each packet its nodes take their turns in
-/// their order, those that have one. Whatever turns are left then each takes, one node after another.
+/// Runs the nodes of a crew to their ends, packet by packet for `count` packets: for each packet its nodes take their
+/// turns in their order, those that have one. Then each node takes the turns that are left, one node after another.
 pub(crate) fn run_crew<F: BranchWork + Drop, R: Wait, G: Gate>(
     rt: &R,
     alloc: Global,
@@ -93,7 +93,7 @@ pub(crate) fn run_crew<F: BranchWork + Drop, R: Wait, G: Gate>(
     end_all(rt, alloc, gate, nodes)
 }
 
-/// The turns of a packet, of all nodes of a crew in their order.
+/// Takes the turns for a packet, of all nodes of a crew in their order.
 fn turn_packet<F: BranchWork + Drop, R: Wait, G: Gate>(
     rt: &R,
     alloc: Global,
@@ -107,7 +107,7 @@ fn turn_packet<F: BranchWork + Drop, R: Wait, G: Gate>(
     turn_all(rt, alloc, gate, nodes.as_mut_slice(), packet);
 }
 
-/// The turns of a packet, of these nodes in their order.
+/// Takes the turns for a packet, of these nodes in their order.
 fn turn_all<F: BranchWork + Drop, R: Wait, G: Gate>(
     rt: &R,
     alloc: Global,
@@ -123,7 +123,7 @@ fn turn_all<F: BranchWork + Drop, R: Wait, G: Gate>(
     }
 }
 
-/// The turn of a packet, of the node at this place, if it is the next of its packets.
+/// Takes the turn for a packet, of the node at this place, if the packet is the node's next.
 fn turn_at<F: BranchWork + Drop, R: Wait, G: Gate>(
     rt: &R,
     alloc: Global,
@@ -142,7 +142,7 @@ fn turn_at<F: BranchWork + Drop, R: Wait, G: Gate>(
     turn_node(rt, alloc, gate, &mut nodes[index]);
 }
 
-/// All turns that are left, one node after another. Each is run to its end, whatever memory is refused.
+/// Takes all turns that are left, one node after another. Each is run to its end, whatever allocation fails.
 fn end_all<F: BranchWork + Drop, R: Wait, G: Gate>(
     rt: &R,
     alloc: Global,
@@ -166,7 +166,7 @@ fn end_all<F: BranchWork + Drop, R: Wait, G: Gate>(
     }
 }
 
-/// Keeps what a node gave back, and says whether memory was short by now.
+/// Keeps what a node returned, and returns whether memory has run out by now.
 fn keep_or_short<F: Drop>(
     functions: &mut Vec<F>,
     tally: &mut Tally,

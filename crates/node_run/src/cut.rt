@@ -1,4 +1,4 @@
-//! How many threads a run has, and which nodes share one.
+//! The number of threads of a run, and which nodes share one.
 ghost use Rattle.std.specs.Prelude.{◌≡◌, ◌<◌, ◌≤◌, ◌++◌, ◌∷◌, [], length, IfOk, OnOk};
 ghost use Rattle.node_run.specs.Runs.{flat};
 
@@ -8,13 +8,12 @@ use std::alloc::{AllocError, Global};
 use std::thread;
 use std::thread::Threads;
 
-// A branch weighs this for each packet of the burst, and a dealer and a merger an eighth of it for each branch.
+// The weight of a branch for each packet of the burst. A dealer and a merger weigh an eighth of it for each branch.
 const BRANCH: u64 = 64;
 
 const EACH: u64 = 8;
 
-/// How many threads a run may have, the caller's own among them: twice as many as there are processors, but four at
-/// least.
+/// The greatest number of threads of a run, including the caller's: twice the number of processors, but at least four.
 pub fn most_threads<R: Threads>(rt: &R) -> usize
     ensures { 4 ≤ result }
 {
@@ -25,8 +24,8 @@ pub fn most_threads<R: Threads>(rt: &R) -> usize
     processors.saturating_mul(2).max(4)
 }
 
-/// How many crews there may be beside the caller: no more than threads, and one more than packets, since fewer packets
-/// can't be at work in more places that pay.
+/// The greatest number of crews besides the caller: at most the number of threads, and at most one more than the number
+/// of packets, since fewer packets can't be at work in more places with profit.
 pub(crate) fn most_crews<R: Threads>(rt: &R, count: u32) -> usize
     ensures { 0 < result }
 {
@@ -34,8 +33,8 @@ pub(crate) fn most_crews<R: Threads>(rt: &R, count: u32) -> usize
     threads.min((count as usize).saturating_add(1))
 }
 
-/// The nodes as so many crews at most, each of nodes that stand one behind another, so that each has as even a share of
-/// the work as can be. Its one refusal is want of memory.
+/// Cuts the nodes into at most this number of crews, each of consecutive nodes, with shares of the work as even as
+/// possible. The only error is that memory runs out.
 pub(crate) fn crews_of<F: Drop>(
     alloc: Global,
     nodes: Vec<Node<F>>,
@@ -57,8 +56,8 @@ pub(crate) fn crews_of<F: Drop>(
     Ok(crews)
 }
 
-/// The nodes as groups of which no node waits for another of its own: the branches of a stage, its mergers, or the
-/// dealer of the next. The one refusal is want of memory.
+/// Cuts the nodes into groups in which no node waits for another: the branches of a stage, its mergers, or the dealer
+/// of the next stage. The only error is that memory runs out.
 pub(crate) fn groups_of<F: Drop>(
     alloc: Global,
     nodes: Vec<Node<F>>,
@@ -75,7 +74,7 @@ pub(crate) fn groups_of<F: Drop>(
     Ok(groups)
 }
 
-/// Where a node stands in its stage.
+/// The role of a node in its stage.
 #[derive(Clone, Copy, PartialEq, Eq)]
 enum Rank {
     Dealer,
@@ -83,7 +82,7 @@ enum Rank {
     Merger,
 }
 
-/// Where this node stands.
+/// The role of this node.
 fn rank_of<F>(node: &Node<F>) -> Rank {
     match node {
         Node::Dealer(_) => Rank::Dealer,
@@ -93,7 +92,7 @@ fn rank_of<F>(node: &Node<F>) -> Rank {
     }
 }
 
-/// One node more, in a crew of its own where one is due and there may be more, and else in the last.
+/// Adds a node: to a crew of its own if one is due and another is allowed, and otherwise to the last crew.
 fn place<F: Drop>(
     alloc: Global,
     crews: &mut Vec<Crew<F>>,
@@ -112,7 +111,7 @@ fn place<F: Drop>(
     Ok(())
 }
 
-/// A crew for the next node: one without nodes, or the last, which is taken away.
+/// A crew for the next node: one without nodes, or the last crew, which is taken out.
 fn next_crew<F: Drop>(alloc: Global, crews: &mut Vec<Crew<F>>, fresh: bool, most: usize) -> Crew<F>
     requires some { 0 < most }
     requires few { length crews.old.items ≤ most }
@@ -128,13 +127,13 @@ fn next_crew<F: Drop>(alloc: Global, crews: &mut Vec<Crew<F>>, fresh: bool, most
     }
 }
 
-/// Do nodes of this weight, of the whole, have the share of so many crews of the most, to the next half of a share?
+/// Have nodes of weight `before` reached the share of `crews` crews out of `most`, rounded by half a share?
 fn is_share_done(before: u64, whole: u64, crews: usize, most: usize) -> bool {
     let shares = before.saturating_mul(most as u64).saturating_add(whole / 2);
     shares >= whole.saturating_mul(crews as u64)
 }
 
-/// What all these nodes weigh.
+/// The weight of all these nodes.
 fn weight_of_all<F>(nodes: &[Node<F>]) -> u64 {
     let mut whole: u64 = 0;
     for node in nodes {
@@ -143,7 +142,7 @@ fn weight_of_all<F>(nodes: &[Node<F>]) -> u64 {
     whole
 }
 
-/// What a node weighs: the work that it has with a packet, and its share of the packets.
+/// The weight of a node: its work on a packet times its share of the packets.
 fn weight_of<F>(node: &Node<F>) -> u64 {
     match node {
         Node::Dealer(dealer) => weight_of_row(dealer.parts.touches.as_slice().len()),
@@ -153,12 +152,12 @@ fn weight_of<F>(node: &Node<F>) -> u64 {
     }
 }
 
-/// What it weighs to give each of so many branches its part of a packet, or to take it.
+/// The weight of giving its part of a packet to each of this number of branches, or of taking it.
 fn weight_of_row(branches: usize) -> u64 {
     EACH.saturating_mul(branches as u64)
 }
 
-/// One share of so many.
+/// One of `shares` equal shares.
 fn share_of(weight: u64, shares: u32) -> u64 {
     if shares == 0 {
         return weight;

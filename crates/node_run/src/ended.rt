@@ -1,11 +1,11 @@
-//! What is kept of a crew that the caller ran.
+//! What a crew that the caller ran returned.
 ghost use Rattle.node_run.specs.Crews.{CrewKeeps};
 
 use crate::crew::{Crew, CrewDone};
 use stage_nodes::BranchWork;
 use std::snapshot::Snapshot;
 
-/// What a crew gave back that the caller ran.
+/// What a crew that the caller ran returned.
 #[derive(Drop)]
 pub(crate) struct Ended<F: BranchWork> {
     pub(crate) crew: Snapshot<Crew<F>>,

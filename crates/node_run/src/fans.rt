@@ -7,8 +7,7 @@ use ruled_links::LinkDue;
 use std::alloc::{AllocError, Global};
 use std::marker::Brand;
 
-/// The links by which a stream of so many messages is shared to the mergers in turn, each with room for its
-/// share.
+/// The links by which a stream of `count` messages is shared to the mergers in turn, each with room for its share.
 pub(crate) fn fan<P: Drop, D: LinkDue<Parcel<P>>>(
     alloc: Global,
     mergers: u32,
@@ -45,7 +44,7 @@ fn share_edge<P: Drop, D: LinkDue<Parcel<P>>, E: LinkDue<Parcel<P>>>(
     edge::<P, E>(alloc, share_count(count, mergers, merger))
 }
 
-/// How many of so many packets are a merger's.
+/// The number of a merger's packets among `count`.
 pub(crate) fn share_count(count: u32, mergers: u32, merger: u32) -> u32
     requires { 0 < mergers }
     ensures share { result ≡ share_len mergers merger count }

@@ -1,4 +1,4 @@
-//! Nodes at work group by group, each group joined before the next begins.
+//! Runs nodes group by group, each group joined before the next begins.
 ghost use Rattle.std.specs.Prelude.{◌≡◌, ◌<◌, ℕ, List, length, All, IfOk, OnOk, slice_index_or, false};
 ghost use Rattle.packet_fields.specs.declared.field.Field.{Field};
 ghost use Rattle.packet_version.specs.Splitting.{PlainApart};
@@ -24,8 +24,8 @@ use std::sync::Wait;
 use std::thread;
 use std::thread::Threads;
 
-/// Deals the packets to the first stage, runs one group of nodes after another, and collects what comes behind the
-/// last stage. Nobody waits for a node that is still to be run.
+/// Deals the packets to the first stage, runs one group of nodes after another, and collects what comes from the last
+/// stage. No node waits for one that is still to be run.
 pub(crate) fn run_in_turn<
     F: BranchWork + Drop + Send,
     S: Supply + Drop,
@@ -50,8 +50,8 @@ pub(crate) fn run_in_turn<
     Ok((functions, fates, tally))
 }
 
-/// Runs the groups in their order: the functions that they give back, and the copies that they and the first dealer
-/// made. It refuses where memory was short.
+/// Runs the groups in their order. Returns the functions of their branches, and the copies that they and the first
+/// dealer made. Fails if memory ran out.
 fn run_groups<F: BranchWork + Drop + Send, R: Threads + Wait + Sync, G: Gate + Sync>(
     rt: &R,
     alloc: Global,
@@ -90,8 +90,8 @@ fn run_group<F: BranchWork + Drop + Send, R: Threads + Wait + Sync, G: Gate + Sy
     keep_all(alloc, dones)
 }
 
-/// Runs each of these nodes to its end, on a thread of its own where one can be started, and gives what they gave
-/// back, in their order. The one refusal is want of memory for that.
+/// Runs each of these nodes to its end, on a thread of its own if one can be started, and returns their results, in
+/// their order. The only error is that memory for that runs out.
 fn run_beside<F: BranchWork + Drop + Send, R: Threads + Wait + Sync, G: Gate + Sync>(
     rt: &R,
     alloc: Global,
@@ -109,7 +109,7 @@ fn run_beside<F: BranchWork + Drop + Send, R: Threads + Wait + Sync, G: Gate + S
     thread::map_vec(rt, nodes, &run)
 }
 
-/// Keeps what nodes gave back, in their order. It refuses where memory was short.
+/// Keeps what nodes returned, in their order. Fails if memory ran out.
 fn keep_all<F: Drop>(alloc: Global, dones: Vec<Done<F>>) -> Result<CrewDone<F>, AllocError>
     ensures { IfOk result (GivesTogether dones.items) }
 {

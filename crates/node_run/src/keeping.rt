@@ -1,4 +1,4 @@
-//! What nodes and crews gave back is kept together.
+//! Keeps together what nodes and crews returned.
 ghost use Rattle.std.specs.Prelude.{◌≡◌, ◌++◌, false, OnOk};
 ghost use Rattle.packet_fields.specs.declared.field.Field.{Field};
 ghost use Rattle.packet_version.specs.Tallies.{count_of, raised};
@@ -9,7 +9,7 @@ use crate::node::Done;
 use packet_version::Tally;
 use std::alloc::AllocError;
 
-/// Keeps what a node gave back. It refuses where memory was short.
+/// Keeps what a node returned. Fails if memory ran out.
 pub(crate) fn keep<F: Drop>(
     functions: &mut Vec<F>,
     tally: &mut Tally,
@@ -27,7 +27,7 @@ pub(crate) fn keep<F: Drop>(
     Ok(())
 }
 
-/// Keeps what a crew gave back. It refuses where memory was short.
+/// Keeps what a crew returned. Fails if memory ran out.
 pub(crate) fn keep_crew<F: Drop>(
     functions: &mut Vec<F>,
     tally: &mut Tally,

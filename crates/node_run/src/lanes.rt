@@ -9,8 +9,9 @@ use crate::node::Node;
 use stage_nodes::BranchWork;
 use std::alloc::{AllocError, Global};
 
-/// The nodes of branches with the replicas behind the others, so that nodes of one branch, which have packets of
-/// different mergers, stand apart from each other, and those of one merger together. Its one refusal is want of memory.
+/// Sorts the nodes of branches so that the replicas come after the others. Then nodes of one branch, which have packets
+/// of different mergers, are apart from each other, and those of one merger together. The only error is that memory
+/// runs out.
 pub(crate) fn replicas_last<F: BranchWork + Drop>(
     alloc: Global,
     nodes: Vec<Node<F>>,
@@ -27,7 +28,7 @@ pub(crate) fn replicas_last<F: BranchWork + Drop>(
     Ok(first)
 }
 
-/// A replica goes to the others, and any other node to the first.
+/// Sorts the nodes into replicas and others.
 fn sort<F: BranchWork + Drop>(
     node: Node<F>,
     first: &mut Vec<Node<F>>,

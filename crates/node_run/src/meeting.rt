@@ -1,4 +1,4 @@
-//! Where what comes from the branches of a stage meets its mergers.
+//! Where the branches of a stage meet its mergers.
 ghost use Rattle.std.specs.Prelude.{◌≡◌, ◌<◌, ◌∷◌, length, map, IfOk};
 ghost use Rattle.packet_messages.specs.Turns.{share};
 ghost use Rattle.stage_nodes.specs.Streams.{came_from};
@@ -14,12 +14,12 @@ use stage_nodes::{BranchWork, FromBranches, ToMergers};
 use std::alloc::{AllocError, Global};
 use std::marker::Brand;
 
-/// How what the branches of a stage give comes together.
+/// How the results of the branches of a stage come together.
 #[derive(Clone, Copy, PartialEq, Eq, Debug)]
 pub enum MergeWay {
-    /// Over links, which the mergers ask.
+    /// Over links, from which the mergers take.
     Inbox,
-    /// On boards, one for each merger, where each branch puts what it gives and the merger looks.
+    /// On boards, one for each merger, where each branch puts its results and the merger polls.
     Board,
 }
 
@@ -30,8 +30,8 @@ pub(crate) struct Meeting {
     pub(crate) inlets: Vec<FromBranches>,
 }
 
-/// Where the branches with these touches and functions meet so many mergers, for so many packets. The ends are
-/// alike for both ways.
+/// Where the branches with these touches and functions meet `mergers` mergers, for `count` packets. The ends have one
+/// contract for both ways.
 pub(crate) fn meet<F: BranchWork, D: LinkDue<Parcel<Apart>>>(
     alloc: Global,
     way: MergeWay,
@@ -79,7 +79,7 @@ fn meet_merger<F: BranchWork, D: LinkDue<Parcel<Apart>>>(
     }
 }
 
-/// Takes the first of these ends away.
+/// Takes the first of these ends out.
 pub(crate) fn take_first<T>(ends: &mut Vec<T>) -> T
     requires { 0 < length ends.old.items }
     ensures { ends.old.items ≡ result ∷ ends.new.items }

@@ -1,4 +1,4 @@
-//! The mergers of a stage, with their links and their ends of where the branches meet them.
+//! The mergers of a stage, with their links and their ends from the branches.
 ghost use Rattle.std.specs.Prelude.{◌<◌, ℕ, List, [], ◌∷◌, OnOk};
 ghost use Rattle.packet_fields.specs.declared.field.Field.{Field};
 ghost use Rattle.node_run.specs.Nodes.{AreNodes, merger_ready};
@@ -13,7 +13,7 @@ use packet_version::{Apart, Base};
 use stage_nodes::{BranchWork, FromBranches, Giving, Merger};
 use std::alloc::{AllocError, Global};
 
-/// The mergers that take these bases and what comes from the branches, of so many packets.
+/// The mergers that take these bases and the results of the branches, for `count` packets.
 pub(crate) fn wire_mergers<F: BranchWork + Drop>(
     alloc: Global,
     bases: Inlets<Base>,
@@ -50,7 +50,7 @@ pub(crate) fn wire_mergers<F: BranchWork + Drop>(
     Ok(())
 }
 
-/// One merger more.
+/// Adds a merger.
 fn push_merger<F: BranchWork + Drop>(
     merger: Merger,
     nodes: &mut Vec<Node<F>>,

@@ -8,7 +8,7 @@ use stage_nodes::{Branch, BranchWork, Dealer, Merger, run_branch, run_dealer, ru
 use std::alloc::Global;
 use std::sync::Wait;
 
-/// A dealer of a stage behind another, a branch, a replica of one that keeps no state, or a merger, with its ends
+/// A dealer of a stage after the first, a branch, a replica of a branch that keeps no state, or a merger, with its ends
 /// of links and of boards.
 #[derive(Drop)]
 pub enum Node<F> {
@@ -18,8 +18,8 @@ pub enum Node<F> {
     Merger(Merger),
 }
 
-/// What a node gives back: a branch its functions, unless it is a replica, a dealer the copies that it made, and
-/// each whether it found that memory was short. A merger says so of the packets that it gives.
+/// What a node returns: a branch its functions, unless it is a replica, a dealer the copies that it made, and each
+/// whether it ran out of memory. A merger reports that for the packets that it gives.
 #[derive(Drop)]
 pub(crate) struct Done<F> {
     pub(crate) function: Option<F>,
@@ -27,7 +27,7 @@ pub(crate) struct Done<F> {
     pub(crate) short: bool,
 }
 
-/// Is the packet with this number in the burst the next of a node's?
+/// Is the packet with this number in the burst the next one of a node?
 pub(crate) fn is_next<F>(node: &Node<F>, packet: u32) -> bool {
     match node {
         Node::Dealer(_) => true,
@@ -37,7 +37,7 @@ pub(crate) fn is_next<F>(node: &Node<F>, packet: u32) -> bool {
     }
 }
 
-/// A node takes its next turn, if it has one left.
+/// Takes the next turn of a node, if it has one left.
 pub(crate) fn turn_node<F: BranchWork + Drop, R: Wait, G: Gate>(
     rt: &R,
     alloc: Global,
@@ -55,7 +55,7 @@ pub(crate) fn turn_node<F: BranchWork + Drop, R: Wait, G: Gate>(
     }
 }
 
-/// A node takes all the turns that it has left.
+/// Takes all turns that a node has left.
 pub(crate) fn run_node<F: BranchWork + Drop, R: Wait, G: Gate>(
     rt: &R,
     alloc: Global,

@@ -13,7 +13,7 @@ use ruled_links::LinkDue;
 use stage_nodes::{BranchWork, FromBranches, ToMerger, ToMergers};
 use std::alloc::{AllocError, Global};
 
-/// A board for the branches with these touches and functions and one of so many mergers, for its share of so many
+/// A board for the branches with these touches and functions and one of `mergers` mergers, for its share of `count`
 /// packets: the branches' seats, and the merger's.
 pub(crate) fn meet_on_board<F: BranchWork, D: LinkDue<Parcel<Apart>>, E: BoardDue<Parcel<Version>>>(
     alloc: Global,
@@ -36,7 +36,7 @@ pub(crate) fn meet_on_board<F: BranchWork, D: LinkDue<Parcel<Apart>>, E: BoardDu
     Ok((ends, from_branches))
 }
 
-/// The branches' seats as what a branch gives into.
+/// The branches' seats as ends to the merger.
 fn branch_ends(alloc: Global, seats: Vec<BoardOutlet<Version>>) -> Result<ToMergers, AllocError>
     ensures { IfOk result (λ ends. ends ≡ seats.items) }
 {

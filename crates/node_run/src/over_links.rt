@@ -13,8 +13,8 @@ use stage_nodes::{BranchWork, FromBranches, ToMerger, ToMergers};
 use std::alloc::{AllocError, Global};
 use std::marker::Brand;
 
-/// The links from the branches with these touches and functions to one of so many mergers, for its share of so
-/// many packets: the branches' ends, and the merger's.
+/// The links from the branches with these touches and functions to one of `mergers` mergers, for its share of `count`
+/// packets: the branches' ends, and the merger's.
 pub(crate) fn meet_over_links<F: BranchWork, D: LinkDue<Parcel<Apart>>>(
     alloc: Global,
     touches: &[Touch],
@@ -45,7 +45,7 @@ pub(crate) fn meet_over_links<F: BranchWork, D: LinkDue<Parcel<Apart>>>(
     Ok((ends, from_branches))
 }
 
-/// The link from a branch to one of so many mergers.
+/// The link from a branch to one of the mergers.
 fn branch_link<F: BranchWork, D: LinkDue<Parcel<Apart>>, E: LinkDue<Parcel<Version>>>(
     alloc: Global,
     touch: Touch,

@@ -1,4 +1,4 @@
-//! A branch that keeps no state has a node for each merger, each with functions of its own.
+//! Nodes of a branch that keeps no state: one for each merger, each with functions of its own.
 ghost use Rattle.std.specs.Prelude.{◌≡◌, ◌<◌, ◌≤◌, ◌++◌, ◌+◌, ◌-◌, ◌∷◌, [], ℕ, suc, List, IfOk, IfSome, OnOk};
 ghost use Rattle.packet_fields.specs.declared.field.Field.{Field};
 ghost use Rattle.packet_version.specs.Versions.{PlainVersion};
@@ -20,7 +20,7 @@ use stage_nodes::{Branch, BranchWork, Giving, ToMergers};
 use std::alloc::{AllocError, Global};
 use std::marker::Brand;
 
-/// The same functions so many times more, where they keep no state.
+/// The requested number of clones of the functions, if they keep no state.
 pub(crate) fn replicas_of<F: BranchWork + Drop>(
     alloc: Global,
     work: &F,
@@ -39,8 +39,8 @@ pub(crate) fn replicas_of<F: BranchWork + Drop>(
     Ok(Some(replicas))
 }
 
-/// One branch more, with a node for each merger: the first has its functions, and gives them back at the end, and
-/// the others have these replicas of them.
+/// Adds a branch with a node for each merger: the first has its functions, and returns them at the end, and the others
+/// have these replicas of them.
 pub(crate) fn wire_replicas<F: BranchWork + Drop, D: LinkDue<Parcel<Apart>>>(
     alloc: Global,
     touch: Touch,

@@ -36,17 +36,17 @@ use std::sync::Wait;
 use std::thread;
 use std::thread::{Scope, Threads};
 
-/// Leads so many packets, as they come, through the stages: in each a dealer deals every packet to the branches,
-/// which take them in the packets' order, and so many mergers put together what comes of them, each its share in
-/// turn. What the branches give comes to the mergers in the way asked for. `D.due` are the packets that come.
+/// Runs `count` packets from the source through the stages: in each stage a dealer deals every packet to the branches,
+/// which take them in the packets' order, and `mergers` mergers merge the results, each its share in turn. The results
+/// of the branches get to the mergers in the requested way. `D.due` are the packets that come.
 ///
-/// The caller deals the packets of the first stage, and collects the fate of each behind the last. Each other
-/// dealer, each branch and each merger is a node. Where all are at work at once they are cut into crews, no more of them
-/// than threads fit the machine; each crew has a thread of its own where one can be started, else the caller runs it to
-/// its end once it has dealt. Where they are at work in turn, one group after another runs to its end, each node of it
-/// on a thread of its own where one can be started. All links and boards are made before the first step, with room for
-/// every message. What comes of the packets doesn't depend on the number of mergers or of crews, on the way, the schedule
-/// or the order of steps. The one refusal is want of memory, wherever it is found; all threads are joined before it
+/// The caller deals the packets of the first stage, and collects the fate of each after the last. Each other dealer,
+/// each branch and each merger is a node. If all are at work at once, they are cut into crews, no more of them than
+/// threads suit the machine; each crew has a thread of its own if one can be started, and otherwise the caller runs it
+/// to its end once it has dealt. If they are at work in turn, one group after another runs to its end, each node of it
+/// on a thread of its own if one can be started. All links and boards are made before the first step, with room for
+/// every message. The results don't depend on the number of mergers or of crews, on the way, on the schedule or on the
+/// order of steps. The only error is that memory runs out, wherever it does; all threads are joined before the call
 /// returns.
 pub fn run_nodes<
     F: BranchWork + Drop + Send,
@@ -75,10 +75,10 @@ pub fn run_nodes<
     // The functions of all branches, in the stages' order, as they are when each branch has had all packets.
     ensures functions { IfOk result (λ ran. ran.0.items ≡ flat (ends_of F.kit (map plain_stage stages.items) D.due)) }
 
-    // The fate of each packet behind all stages, in the packets' order.
+    // The fate of each packet after all stages, in the packets' order.
     ensures fates { IfOk result (λ ran. ran.1.items ≡ fates_behind (through F.kit (map plain_stage stages.items) D.due)) }
 
-    // Memory was found for each of them.
+    // There was memory for each of them.
     ensures found { OnOk result (All is_found (through F.kit (map plain_stage stages.items) D.due)) }
 
     // The copies of each field that the dealers made.
@@ -93,7 +93,7 @@ pub fn run_nodes<
     )
 }
 
-/// The same where there is a stage.
+/// The same if there is a stage.
 fn run_stages<
     F: BranchWork + Drop + Send,
     S: Supply + Drop,
@@ -189,8 +189,8 @@ fn run_at_once<
     run_scoped(rt, alloc, gate, first, crews, started, behind, count)
 }
 
-/// The nodes of stages behind the first, to which packets come from the source; gives where they come from behind
-/// the last.
+/// The nodes of the stages after the first, to which packets come from the source. Returns the source of the packets
+/// after the last stage.
 fn wire_all<F: BranchWork + Drop>(
     alloc: Global,
     stages: Vec<StageWork<F>>,
@@ -218,7 +218,7 @@ fn wire_all<F: BranchWork + Drop>(
     Ok(source)
 }
 
-/// The nodes of one stage more; gives where packets come from behind it.
+/// Adds the nodes of one more stage. Returns the source of the packets after it.
 fn push_stage<F: BranchWork + Drop>(
     wired: WiredStage<F, Inlets<Apart>>,
     nodes: &mut Vec<Node<F>>,
@@ -236,7 +236,7 @@ fn push_stage<F: BranchWork + Drop>(
     Ok(next)
 }
 
-/// Runs the crews on threads, all of which are joined before it returns.
+/// Runs the crews on threads, all of which are joined before the call returns.
 fn run_scoped<
     F: BranchWork + Drop + Send,
     S: Supply + Drop,
@@ -265,8 +265,7 @@ fn run_scoped<
     )
 }
 
-/// Starts the crews, deals the packets to the first stage, collects what comes behind the last, and waits for the
-/// crews.
+/// Starts the crews, deals the packets to the first stage, collects what comes from the last, and waits for the crews.
 fn run_started<
     's,
     E,
@@ -295,7 +294,7 @@ fn run_started<
     Ok((functions, fates, tally))
 }
 
-/// Starts crews in their order, for so many packets.
+/// Starts crews in their order, for `count` packets.
 fn start_all<
     's,
     E,
@@ -330,8 +329,8 @@ fn start_all<
     (first, started)
 }
 
-/// Waits for the crews in their order: the functions that they give back, and the copies that they and the first
-/// dealer made. It refuses where memory was short.
+/// Waits for the crews in their order. Returns the functions of their branches, and the copies that they and the first
+/// dealer made. Fails if memory ran out.
 fn finish_all<F: BranchWork + Drop, R: Threads>(
     rt: &R,
     alloc: Global,

@@ -1,4 +1,4 @@
-//! Crews are started one after another, and joined.
+//! Starts crews one after another, and joins them.
 ghost use Rattle.std.specs.Prelude.{◌≡◌, ℕ, All};
 ghost use Rattle.packet_fields.specs.declared.field.Field.{Field};
 ghost use Rattle.node_run.specs.Firsts.{IsFirst};
@@ -23,7 +23,7 @@ pub(crate) enum Started<F: BranchWork> {
     Here(Ended<F>),
 }
 
-/// The crew was run, and gave this back.
+/// A crew that was run, with its result.
 fn end_here<F: BranchWork>(crew: Snapshot<Crew<F>>, done: CrewDone<F>) -> Started<F>
     requires { CrewKeeps F.kit crew.value done }
     ensures { crew_of result ≡ crew.value }
@@ -31,9 +31,9 @@ fn end_here<F: BranchWork>(crew: Snapshot<Crew<F>>, done: CrewDone<F>) -> Starte
     Started::Here(Ended { crew, done })
 }
 
-/// Starts a crew on a thread of its own, for so many packets. Where none can be started, the caller runs the dealer of
-/// the first stage, unless it did so before, and then the crew, each to its end: nothing that the crew waits for is left
-/// to be done behind it.
+/// Starts a crew on a thread of its own, for `count` packets. If no thread can be started, the caller runs the dealer
+/// of the first stage, unless it did so before, and then the crew, each to its end: everything for which the crew waits
+/// is done before it.
 pub(crate) fn start<
     's,
     E,
@@ -70,7 +70,7 @@ pub(crate) fn start<
     }
 }
 
-/// What a crew gave back, once it is at its end.
+/// Waits for a crew to end, and returns its result.
 pub(crate) fn finish<F: BranchWork + Drop, R: Threads>(rt: &R, started: Started<F>) -> CrewDone<F>
     ensures { CrewKeeps F.kit (crew_of started) result }
 {

@@ -1,4 +1,4 @@
-//! The links of a stage, where its branches meet its mergers, and the nodes at their ends.
+//! Makes the nodes of a stage, with the links between them and the place where its branches meet its mergers.
 ghost use Rattle.std.specs.Prelude.{◌≡◌, ◌<◌, ◌≤◌, length, IfOk};
 ghost use Rattle.packet_messages.specs.Turns.{shares};
 ghost use Rattle.stage_nodes.specs.Streams.{Edge.Behind, Edge.ToMergers, stream};
@@ -30,13 +30,13 @@ pub struct WiredStage<F, S> {
     pub next: Inlets<Apart>,
 }
 
-/// The nodes of a stage, to which so many packets come from the source.
+/// The nodes of a stage, to which `count` packets come from the source.
 ///
-/// `D.due` are these packets. `edges` says which nodes the stage has, and of every end of every link and board of the stage
-/// what is due on it: the `stream` of its edge, or the share of it that is one merger's. An end gives and takes no message but
-/// one that fits the first that is due on it (`packet_messages`): that one, or the word that memory is short. So every
-/// message on a link or a board of a stage that runs fits the one due there. Which of the ends belong to one link or board
-/// it doesn't say.
+/// `D.due` are these packets. `edges` says which nodes the stage has, and what is due on every end of every link and
+/// board of the stage: the `stream` of its edge, or the share of it that belongs to one merger. An end gives and takes
+/// only a message that fits the first that is due on it (`packet_messages`): that one, or the word that memory ran out.
+/// So every message on a link or a board of a stage that runs fits the one due there. Which of the ends belong to one
+/// link or board is not stated.
 pub fn wire_stage<F: BranchWork + Drop, S: Supply + Drop, D: LinkDue<Parcel<Apart>>>(
     alloc: Global,
     work: StageWork<F>,
@@ -109,7 +109,7 @@ fn base_fan<F: BranchWork, D: LinkDue<Parcel<Apart>>, E: LinkDue<Parcel<Base>>>(
     fan::<Base, E>(alloc, mergers, count)
 }
 
-/// The links from the mergers to whoever takes what comes of the packets.
+/// The links from the mergers to the taker of the merged packets.
 fn next_fan<F: BranchWork, D: LinkDue<Parcel<Apart>>, E: LinkDue<Parcel<Apart>>>(
     alloc: Global,
     work: &StageWork<F>,

@@ -1,16 +1,20 @@
-//! By which way the bursts of a chain go: on threads, or on one.
+//! Decides how the bursts of a chain run: on several threads, or on one.
 //!
-//! Whether threads pay depends on how heavy the steps of a chain are, on the packets and on the machine, and nobody knows it before
-//! it was tried. A [`Pace`] keeps what a packet takes by either way, as the bursts that went by it show, and says by which the
-//! next one goes, and how many packets at most ([`Pace::most`]), so that a long burst is no longer trial than a short one. Each round begins with
-//! at most 1,024 packets on threads and as many on one thread. Where one thread takes less than four microseconds for each, packets are light, and to
-//! hand them from thread to thread costs more than threads spare; where threads took more than four times as long, as for bursts of one packet
-//! or a thousand nodes, they are hopeless too. Then no more bursts try them. Else the bursts of 8,192 packets go on threads and those of
-//! 2,048 on one. The next 514,048 packets go on threads where these spare a tenth of the time, and else on one, since threads take
-//! processors that others may need. Rounds begin anew, since packets and the machine change, but for as long as packets are light.
+//! Whether threads pay depends on the cost of the steps of a chain, on the packets and on the machine, and is known
+//! only once it was tried. A [`Pace`] keeps the time that a packet takes in either way, as measured on the bursts so
+//! far. It returns the way of the next burst and the greatest number of its packets ([`Pace::most`]), so that the trial
+//! of a way isn't longer for a long burst than for a short one.
 //!
-//! Nothing that comes of a packet depends on a pace. What is promised here is only the choice, by `lead_of` of `specs/Pacing.antt`, and
-//! what is remembered. Who leads the bursts, and the clock, are left out.
+//! Each round begins with at most 1,024 packets on threads and as many on one thread. If one thread takes less than
+//! four microseconds a packet, packets are light, and passing them from thread to thread costs more than threads save.
+//! If threads took more than four times as long, as for bursts of one packet or a thousand nodes, they are hopeless
+//! too. In both cases no more bursts try them. Otherwise the bursts of 8,192 packets run on threads and those of 2,048
+//! on one. The next 514,048 packets run on threads if these save a tenth of the time, and on one thread if not, since
+//! threads take processors that others may need. Rounds begin anew, since packets and the machine change; but while
+//! packets are light, threads are not tried again.
+//!
+//! The fate of a packet never depends on a pace. The contracts promise only the choice, by `lead_of` of
+//! `specs/Pacing.antt`, and what is remembered. Left out: the code that runs the bursts, and the clock.
 #![tactic(auto)]
 
 mod pace;

@@ -1,28 +1,29 @@
-//! What either way took, and the choice.
+//! The time that either way took, and the choice.
 
-/// Threads are tried with so many packets,
+/// The number of packets with which threads are tried.
 const ON_THREADS: u32 = 8_192;
 
-/// and one thread with so many.
+/// The number of packets with which one thread is tried.
 const ALONE: u32 = 2_048;
 
-/// By the better way go so many.
+/// The number of packets that then run in the better way.
 const CHOSEN: u32 = 514_048;
 
-/// The burst that begins either way has no more of them.
+/// The greatest number of packets in the first burst of either way.
 const FIRST: u32 = 1_024;
 
-/// Threads that take so many times as long as one are hopeless, and no more bursts try them.
+/// Threads that take this many times as long as one thread are hopeless, and no more bursts try them.
 const HOPELESS: u64 = 4;
 
-/// A packet that takes fewer nanoseconds on one thread is light: to hand it from thread to thread costs more than threads spare.
+/// A packet that takes fewer nanoseconds on one thread is light: passing it from thread to thread costs more than
+/// threads save.
 const LIGHT: u64 = 4_000;
 
-/// The ways of a burst.
+/// The ways to run a burst.
 #[derive(Clone, Copy, PartialEq, Eq, Debug)]
 pub enum Lead {
-    /// Its stages' branches run side by side, each on a thread of its own where one can be started, and one that keeps and counts nothing on one for
-    /// each merger.
+    /// The branches of its stages run side by side, each on a thread of its own if one can be started. A branch that
+    /// neither keeps a state nor counts has a thread for each merger.
     Threads,
     /// All of it runs on the caller's thread.
     Alone,
@@ -31,28 +32,28 @@ pub enum Lead {
 /// The parts of a round.
 #[derive(Clone, Copy, PartialEq, Eq, Debug)]
 pub enum Part {
-    /// One burst goes on threads,
+    /// One burst runs on threads.
     FirstOnThreads,
-    /// and one alone: what they took shows whether threads are hopeless.
+    /// One burst runs on one thread: the two times show whether threads are hopeless.
     FirstAlone,
-    /// Where they aren't, bursts go on threads, whatever is known,
+    /// If they aren't, bursts run on threads, whatever is known.
     MoreOnThreads,
-    /// and then alone.
+    /// Then bursts run on one thread.
     MoreAlone,
-    /// Bursts go by the way that was better.
+    /// Bursts run in the way that was better.
     Chosen,
 }
 
-/// What a packet takes by either way, in nanoseconds, by the bursts that went by it, and how far this round is.
+/// The time of a packet in either way, in nanoseconds, as measured on bursts, and the state of the round.
 #[derive(Clone, Copy, PartialEq, Eq, Debug)]
 pub struct Pace {
-    /// On threads, where that was tried.
+    /// On threads, if that was tried.
     pub threads: Option<u64>,
-    /// On one thread, where that was tried.
+    /// On one thread, if that was tried.
     pub alone: Option<u64>,
-    /// The part of the round that the next burst is of.
+    /// The part of the round to which the next burst belongs.
     pub part: Part,
-    /// How many packets of this part went.
+    /// The number of packets of this part so far.
     pub packets: u32,
 }
 
@@ -62,7 +63,7 @@ ghost use Rattle.pace.specs.declared.pace.Lead.{Lead};
 ghost use Rattle.pace.specs.declared.pace.Part.{Part};
 
 impl Pace {
-    /// Neither way was tried.
+    /// A pace with neither way tried.
     pub fn new() -> Pace
         ensures { result ≡ record { threads = None; alone = None; part = Part.FirstOnThreads; packets = 0 } }
     {
@@ -85,7 +86,7 @@ impl Pace {
         }
     }
 
-    /// How many packets at most go by that way before it is asked for again.
+    /// The greatest number of packets to run in that way before `lead` is called again.
     pub fn most(&self) -> u32
         ensures most { result ≡ most self.now.part }
         ensures some { 0 < result }
@@ -98,7 +99,7 @@ impl Pace {
         }
     }
 
-    /// The way that is better, as far as that is known.
+    /// The better way, as far as it is known.
     fn better(&self) -> Lead
         ensures { result ≡ better self.now.threads self.now.alone }
     {
@@ -108,7 +109,7 @@ impl Pace {
         }
     }
 
-    /// A burst with so many packets, of which there were some, went this way and took so many nanoseconds.
+    /// Takes note of a burst of `packets` packets, at least one, which ran in this way and took `nanos` nanoseconds.
     pub fn tell(&mut self, lead: Lead, packets: u32, nanos: u64)
         requires some { 0 < packets }
         ensures threads { lead ≡ Lead.Threads → self.new ≡ after packets (record self.old { threads = Some (kept self.old.threads (nanos / packets)) }) }
@@ -136,7 +137,7 @@ impl Pace {
         }
     }
 
-    /// The part behind this one.
+    /// The part after this one.
     fn next_part(&self) -> Part
         ensures { result ≡ next_part self.now.threads self.now.alone self.now.part }
     {
@@ -151,7 +152,7 @@ impl Pace {
         }
     }
 
-    /// Are packets light, or did threads take so much longer, that more threads needn't be tried?
+    /// Are packets light, or did threads take so much longer, that threads need not be tried again?
     fn are_threads_hopeless(&self) -> bool
         ensures { result ≡ are_hopeless self.now.threads self.now.alone }
     {
@@ -169,21 +170,21 @@ impl Pace {
     }
 }
 
-/// Is a packet light that takes so long on one thread?
+/// Is a packet light that takes `alone` nanoseconds on one thread?
 fn is_light(alone: u64) -> bool
     ensures { result ≡ is_light alone }
 {
     alone < LIGHT
 }
 
-/// Do threads spare a tenth of the time of one, where a packet isn't light?
+/// Do threads save a tenth of the time of one thread? Not for light packets.
 fn pays(threads: u64, alone: u64) -> bool
     ensures { result ≡ pays threads alone }
 {
     !is_light(alone) && threads <= alone - alone / 10
 }
 
-/// What is kept of what a packet took by a way, `before` and in this burst.
+/// The time of a packet to keep for a way, from the time kept `before` and that of this burst.
 fn kept(before: Option<u64>, each: u64) -> u64
     ensures { result ≡ kept before each }
 {

@@ -13,7 +13,7 @@ use ruled_links::pause;
 use std::marker::Model;
 use std::sync::{Arc, Wait};
 
-/// The seat of the merger at a board: what the branches give of its packets, one packet after another. Contracts
+/// The seat of the merger at a board: the messages of the branches for its packets, one packet after another. Contracts
 /// see it as the messages that are still due from each branch.
 #[derive(Drop)]
 pub struct BoardInlets<P> {
@@ -55,15 +55,15 @@ pub(crate) fn inlets_of<P>(
 }
 
 impl<P> BoardInlets<P> {
-    /// How many branches give.
+    /// The number of branches.
     pub fn len(&self) -> usize
         ensures { result ≡ length self.now }
     {
         self.branches as usize
     }
 
-    /// Waits until every branch has given its message of the next packet, and takes them into `row`, in
-    /// the order of the branches. It takes no memory, and pauses between two looks.
+    /// Waits until every branch has given its message of the next packet, and takes them into `row`, in the order of
+    /// the branches. It allocates nothing, and pauses between two checks.
     pub fn accept_row<R: Wait>(&mut self, rt: &R, row: &mut Vec<Parcel<P>>)
         requires some { 0 < length self.old }
         requires owing { All Owing self.old }
@@ -83,7 +83,7 @@ impl<P> BoardInlets<P> {
         unreachable!()
     }
 
-    // Looks once whether every branch has given its message of the next packet, and takes them if so.
+    // Checks once whether every branch has given its message of the next packet, and takes them if so.
     fn look(&mut self, row: &mut Vec<Parcel<P>>) -> bool
         requires some { 0 < length self.old }
         requires owing { All Owing self.old }

@@ -11,8 +11,8 @@ use merge_board::{Board, BranchSeat};
 use std::marker::Model;
 use std::sync::Arc;
 
-/// The seat of a branch at a board: what it gives of the packets, one after another. Contracts see it as the
-/// messages that are still due from this branch.
+/// The seat of a branch at a board: its messages for the packets, one after another. Contracts see it as the messages
+/// that are still due from this branch.
 #[derive(Drop)]
 pub struct BoardOutlet<P> {
     board: Arc<Board<Parcel<P>>>,
@@ -50,7 +50,7 @@ pub(crate) fn outlet_of<P>(
 }
 
 impl<P> BoardOutlet<P> {
-    /// Gives the message of the next packet. It neither waits nor takes memory, and is never refused.
+    /// Gives the message of the next packet. It neither waits nor allocates memory, and never fails.
     pub fn give(&mut self, message: Message<P>)
         requires due { Owing self.old }
         requires fits { Fits (first self.old) (plain message) }

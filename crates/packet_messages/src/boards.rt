@@ -1,4 +1,4 @@
-//! A board of messages is made with all its seats.
+//! Makes a board of messages with all its seats.
 ghost use Rattle.std.specs.Prelude.{◌≡◌, ◌<◌, ◌≤◌, length, All, IfOk};
 ghost use Rattle.std.specs.Arc.{arc_value};
 ghost use Rattle.merge_board.specs.Ends.{each, new_branch, new_merger};
@@ -11,12 +11,11 @@ use merge_board::{Board, BoardDue, BranchSeat, MergerSeat, Seats};
 use std::alloc::{AllocError, Global};
 use std::sync::Arc;
 
-/// Makes a board for the packets of one merger, so many at most, and gives its ends: the outlet of each branch,
-/// and the merger's inlets. Its one refusal is want of memory, and no later call takes any.
+/// Makes a board for at most this number of packets of one merger, and returns its ends: the outlet of each branch, and
+/// the merger's inlets. The only error is that memory runs out, and no later call allocates any.
 ///
-/// What is due on it is `D.due`, a row for each branch. A caller makes the board in a function that is generic
-/// in `D` and requires what `D.due` is; where it calls this function with `Brand` for `D`, its proof picks the
-/// rows.
+/// `D.due` is what is due on it, a row for each branch. A caller makes the board in a function that is generic in `D`
+/// and requires what `D.due` is. It calls this function with `Brand` for `D`, and its proof picks the rows.
 pub fn board_ends<P: Drop, D: BoardDue<Parcel<P>>>(
     alloc: Global,
     branches: u32,
@@ -38,7 +37,7 @@ pub fn board_ends<P: Drop, D: BoardDue<Parcel<P>>>(
     Ok((outlets, inlets))
 }
 
-// So many, or one: no board is for no packets.
+// `count`, but at least 1: a board can't be for no packets.
 fn at_least_one(count: u32) -> u32
     ensures some { 0 < result }
     ensures room { count ≤ result }

@@ -1,4 +1,4 @@
-//! A link of messages is made with its two ends.
+//! Makes a link of messages with its two ends.
 ghost use Rattle.std.specs.Prelude.{◌≡◌, ◌<◌, ◌≤◌, length, IfOk};
 
 use crate::inlet::{Inlet, take_end};
@@ -7,10 +7,10 @@ use crate::parcel::Parcel;
 use ruled_links::{LinkDue, link};
 use std::alloc::{AllocError, Global};
 
-/// Makes a link for so many messages at most, and gives its two ends. Its one refusal is want of memory.
+/// Makes a link for at most this number of messages, and returns its two ends. The only error is that memory runs out.
 ///
-/// What is due on it is `D.due`. A caller makes the link in a function that is generic in `D` and
-/// requires what `D.due` is; where it calls this function with `Brand` for `D`, its proof picks the list.
+/// `D.due` is what is due on it. A caller makes the link in a function that is generic in `D` and requires what `D.due`
+/// is. It calls this function with `Brand` for `D`, and its proof picks the list.
 pub fn edge<P: Drop, D: LinkDue<Parcel<P>>>(
     alloc: Global,
     count: u32,

@@ -34,7 +34,7 @@ impl<P> Fans<P> {
         }
     }
 
-    /// Adds a stream's outlets at the back. Its one refusal is want of memory.
+    /// Adds a stream's outlets at the back. The only error is that memory runs out.
     pub fn push(&mut self, outlets: Outlets<P>) -> Result<(), AllocError>
     where
         P: Drop,
@@ -44,7 +44,8 @@ impl<P> Fans<P> {
         Ok(())
     }
 
-    /// Gives each of these messages into the next outlet of its stream, which then goes to the back of its stream's.
+    /// Gives each of these messages into the next outlet of its stream, which then goes to the back of its stream's
+    /// list.
     pub fn give_each<R: Wait>(&mut self, rt: &R, row: Vec<Message<P>>)
     where
         P: Drop,
@@ -55,8 +56,8 @@ impl<P> Fans<P> {
         give_row(rt, self.list.as_mut_slice(), row);
     }
 
-    /// Gives a message without a packet's part into the next outlet of each stream, which then goes to the back of
-    /// its stream's.
+    /// Gives a message without a packet's part into the next outlet of each stream, which then goes to the back of its
+    /// stream's list.
     pub fn give_word<R: Wait>(&mut self, rt: &R, position: Option<u32>)
         requires due { All (λ fan. Owing (front fan)) self.old }
         requires fits { All (λ fan. Fits (first (front fan)) (word position)) self.old }

@@ -33,14 +33,14 @@ impl<P> Inlets<P> {
         }
     }
 
-    /// How many there are.
+    /// The number of inlets.
     pub fn len(&self) -> usize
         ensures { result ≡ length self.now }
     {
         self.list.len()
     }
 
-    /// Adds an inlet at the back. Its one refusal is want of memory.
+    /// Adds an inlet at the back. The only error is that memory runs out.
     pub fn push(&mut self, inlet: Inlet<P>) -> Result<(), AllocError>
     where
         P: Drop,
@@ -50,7 +50,7 @@ impl<P> Inlets<P> {
         Ok(())
     }
 
-    /// Takes the first inlet away.
+    /// Takes the first inlet out.
     pub fn take_first(&mut self) -> Inlet<P>
         requires { 0 < length self.old }
         ensures { self.old ≡ result ∷ self.new }

@@ -1,10 +1,10 @@
-//! What is sent of a packet.
+//! What is sent about a packet.
 ghost use Rattle.std.specs.Prelude.{◌≡◌, map, IfOk};
 ghost use Rattle.packet_messages.specs.Messages.{Fits, PlainMessage.Live, is_short, plain, word};
 
 use std::alloc::{AllocError, Global};
 
-/// A packet's part on its way, the chain position of the function that dropped it, or want of memory.
+/// A packet's part on its way, the chain position of the function that dropped it, or that memory ran out.
 #[derive(Drop)]
 pub enum Message<P> {
     Live(Box<P>),
@@ -13,7 +13,7 @@ pub enum Message<P> {
 }
 
 impl<P> Message<P> {
-    /// Was memory short?
+    /// Does it say that memory ran out?
     pub fn is_short(&self) -> bool
         ensures { result ≡ is_short (plain self.now) }
     {
@@ -24,7 +24,7 @@ impl<P> Message<P> {
     }
 }
 
-/// The message that carries this part, or that memory is short where there is none for its box.
+/// The message with this part, or `Short` if there is no memory for its box.
 pub fn boxed<P: Drop>(alloc: Global, part: P) -> Message<P>
     ensures { Fits (Live part) (plain result) }
 {
@@ -34,7 +34,7 @@ pub fn boxed<P: Drop>(alloc: Global, part: P) -> Message<P>
     }
 }
 
-/// Each of these parts in a box, as a message. The one refusal is want of memory.
+/// Each of these parts in a box, as a message. The only error is that memory runs out.
 pub fn all_boxed<P: Drop>(alloc: Global, parts: Vec<P>) -> Result<Vec<Message<P>>, AllocError>
     ensures { IfOk result (λ row. map plain row.items ≡ map (λ p. Live p) parts.items) }
 {
@@ -56,7 +56,7 @@ fn live<P: Drop>(alloc: Global, part: P) -> Result<Message<P>, AllocError>
     }
 }
 
-/// The message that says where a packet was dropped, or that memory is short.
+/// The message that says where a packet was dropped, or `Short`.
 pub fn message_without<P>(position: Option<u32>) -> Message<P>
     ensures { plain result ≡ word position }
 {

@@ -34,7 +34,7 @@ pub(crate) fn put_end<P>(putter: Putter<Parcel<P>>) -> Outlet<P>
 }
 
 impl<P> Outlet<P> {
-    /// Gives the next message. It is never refused, and takes no memory.
+    /// Gives the next message. It never fails, and allocates nothing.
     pub fn give<R: Wait>(&mut self, rt: &R, message: Message<P>)
         requires due { Owing self.old }
         requires fits { Fits (first self.old) (plain message) }

@@ -33,14 +33,14 @@ impl<P> Outlets<P> {
         }
     }
 
-    /// How many there are.
+    /// The number of outlets.
     pub fn len(&self) -> usize
         ensures { result ≡ length self.now }
     {
         self.list.len()
     }
 
-    /// Adds an outlet at the back. Its one refusal is want of memory.
+    /// Adds an outlet at the back. The only error is that memory runs out.
     pub fn push(&mut self, outlet: Outlet<P>) -> Result<(), AllocError>
     where
         P: Drop,
@@ -50,7 +50,7 @@ impl<P> Outlets<P> {
         Ok(())
     }
 
-    /// Takes the first outlet away.
+    /// Takes the first outlet out.
     pub fn take_first(&mut self) -> Outlet<P>
         requires { 0 < length self.old }
         ensures { self.old ≡ result ∷ self.new }

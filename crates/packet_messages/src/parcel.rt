@@ -7,8 +7,8 @@ use merge_board::BoardFit;
 use ruled_links::LinkFit;
 use std::marker::Model;
 
-/// A message as a link or a board carries it. Contracts see it without its box. What fits a due one is that message,
-/// or that memory is short.
+/// A message as a link or a board carries it. Contracts see it without its box. A due one is fitted by that message, or
+/// by `Short`.
 #[derive(Drop)]
 pub struct Parcel<P> {
     pub(crate) message: Message<P>,

@@ -9,17 +9,17 @@ use crate::taker::Taker;
 use std::alloc::{AllocError, Global};
 use std::sync::Arc;
 
-/// How many messages were put into a link, and how many were taken.
+/// The number of messages that were put into a link, and the number that were taken.
 #[derive(Clone, Copy, PartialEq, Eq, Debug)]
 pub struct Counts {
     pub put: u64,
     pub taken: u64,
 }
 
-/// Makes a link for so many messages in all, and gives its two ends. Its one refusal is want of memory.
+/// Makes a link for this number of messages in all, and returns its two ends. The only error is that memory runs out.
 ///
-/// What is due on it is `D.due`. A caller makes the link in a function that is generic in `D` and
-/// requires what `D.due` is; where it calls this function with `Brand` for `D`, its proof picks the list.
+/// `D.due` is what is due on it. A caller makes the link in a function that is generic in `D` and requires what `D.due`
+/// is. It calls this function with `Brand` for `D`, and its proof picks the list.
 pub fn link<T: LinkFit + Drop, D: LinkDue<T>>(
     alloc: Global,
     capacity: u32,
@@ -51,8 +51,8 @@ pub fn link<T: LinkFit + Drop, D: LinkDue<T>>(
     ))
 }
 
-/// Ends a link, and gives the numbers of messages that were put and taken. Those that weren't taken are
-/// dropped. It takes no memory.
+/// Ends a link, and returns the numbers of messages that were put and taken. Those that weren't taken are dropped. It
+/// allocates nothing.
 pub fn finish<T: LinkFit + Drop>(putter: Putter<T>, taker: Taker<T>) -> Counts
     requires one_link { taker.link ≡ putter.link }
     ensures put { result.put ≡ length putter.put }

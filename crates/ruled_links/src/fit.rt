@@ -1,5 +1,4 @@
-//! What is due on a link, and which messages fit it. Both are said in contracts alone, and nothing of
-//! them runs.
+//! What is due on a link, and which messages fit it. Both occur only in contracts, and none of it runs.
 ghost use Rattle.std.specs.Prelude.{◌≡◌, List, []};
 
 use std::marker::Brand;
@@ -24,7 +23,7 @@ pub trait LinkDue<T> {
     ghost due: { List T };
 }
 
-/// Where a call picks no list, nothing is due.
+/// If a call picks no list, nothing is due.
 impl<T> LinkDue<T> for Brand {
     ghost due = { [] };
 }

@@ -1,24 +1,23 @@
 //! Links: what one thread puts, another takes, in the same order.
 //!
-//! [`link`] makes a queue for a fixed number of messages and gives its two ends. The thread that owns
-//! the [`Putter`] puts messages by [`Putter::put`]; the one that owns the [`Taker`] waits for the next
-//! by [`Taker::take`], or asks once whether it is there by [`Taker::try_take`]. Whoever has both ends
-//! again ends the link by [`finish`], and learns how many messages were put and taken.
+//! [`link`] makes a queue for a fixed number of messages and returns its two ends. The thread that owns the [`Putter`]
+//! puts messages by [`Putter::put`]; the one that owns the [`Taker`] waits for the next by [`Taker::take`], or checks
+//! once whether it is there by [`Taker::try_take`]. A caller who has both ends again ends the link by [`finish`], which
+//! returns the numbers of messages that were put and taken.
 //!
-//! A link keeps a rule, whatever the two threads do: what was put is what was taken and behind it what
-//! the link still holds. So the k-th message taken is the k-th put: none is lost, doubled or overtaken.
+//! A link keeps a rule, whatever the two threads do: what was put is what was taken, followed by what the link still
+//! holds. So the k-th message taken is the k-th put: none is lost, doubled or overtaken.
 //!
-//! What is due on a link, in order, is fixed when it is made. It is a list in contracts alone, given by
-//! a [`LinkDue`], and no running data. A message is put only where it fits the due one of its place, by
-//! [`LinkFit`], and so what is taken fits the due one of its place too: a thread knows what it takes,
-//! though another has put it.
+//! What is due on a link, in order, is fixed when it is made. It is a list that exists only in contracts, given by a
+//! [`LinkDue`], and no running data. A message is put only if it fits the due one of its place, by [`LinkFit`], so what
+//! is taken fits the due one of its place too: a thread knows what it takes, though another has put it.
 //!
-//! Contracts see each end as what its owner knows: what is due, and what was put or what was taken. A
-//! link never refuses a message below its capacity, and only [`link`] takes memory. Who waits for long sleeps in between ([`pause`]), since
-//! a thread that asks again and again takes a processor from those that work.
+//! Contracts see each end as what its owner knows: what is due, and what was put or what was taken. A link never
+//! refuses a message below its capacity, and only [`link`] allocates memory. A thread that waits for long sleeps in
+//! between ([`pause`]), since a thread that polls all the time takes a processor from those that work.
 //!
-//! What is left out: that a call which waits ever returns. A taker waits for ever for a message that
-//! nobody puts. Nor does a contract say that [`Taker::try_take`] finds a message that is there.
+//! Left out: that a call which waits ever returns. A taker waits forever for a message that nobody puts. Nor does a
+//! contract say that [`Taker::try_take`] finds a message that is there.
 #![tactic(auto)]
 
 mod ends;

@@ -31,7 +31,7 @@ impl<T: LinkFit> Model for Putter<T> {
 }
 
 impl<T: LinkFit> Putter<T> {
-    /// Puts a message behind those that were put before. It is never refused, and takes no memory.
+    /// Puts a message after those that were put before. It never fails, and allocates nothing.
     pub fn put<R: Wait>(&mut self, rt: &R, message: T)
         requires room { length self.old.put < self.old.capacity }
         requires fits { FitsAt T.fits self.old.due (length self.old.put) message }

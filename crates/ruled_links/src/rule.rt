@@ -1,4 +1,4 @@
-//! The rule of a link, and what each of its steps tells. These types are for proofs alone.
+//! The rule of a link, and what is known after each of its steps. These types are for proofs alone.
 ghost use Rattle.std.specs.Prelude.{◌≡◌, ◌≤◌, ◌^◌, ◌++◌, ◌∷◌, [], true, false, length, ⊤};
 ghost use Rattle.ruled_links.specs.Fitting.{EachFits, FitsAt};
 ghost use Rattle.ruled_links.specs.Rule.{IsLink, closed, knowledge, spent};

@@ -32,8 +32,8 @@ impl<T: LinkFit> Model for Taker<T> {
 }
 
 impl<T: LinkFit> Taker<T> {
-    /// Takes the message that was put first of those that the link holds. `None` where the link was empty
-    /// at a step of this call. It takes no memory.
+    /// Takes the oldest message that the link holds. `None` if the link was empty at a step of this call. It allocates
+    /// nothing.
     pub fn try_take<R: Wait>(&mut self, rt: &R) -> Option<T>
         ensures taken { IfSome result (λ message. self.new ≡ record self.old { taken = self.old.taken ++ message ∷ [] }) }
         ensures fits { IfSome result (λ message. FitsAt T.fits self.old.due (length self.old.taken) message) }
@@ -44,8 +44,8 @@ impl<T: LinkFit> Taker<T> {
         Some(message)
     }
 
-    /// Waits for the next message, and takes it: the one that was put first of those that weren't taken
-    /// yet. It takes no memory, and pauses between two tries.
+    /// Waits for the next message, and takes it: the oldest one that wasn't taken yet. It allocates nothing, and pauses
+    /// between two tries.
     pub fn take<R: Wait>(&mut self, rt: &R) -> T
         ensures taken { self.new ≡ record self.old { taken = self.old.taken ++ result ∷ [] } }
         ensures fits { FitsAt T.fits self.old.due (length self.old.taken) result }

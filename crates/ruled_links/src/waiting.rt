@@ -5,9 +5,9 @@ use std::sync::Wait;
 use std::thread::Parker;
 use std::time::Duration;
 
-/// Pauses between two tries of a thread that waits for another: at first for less than a microsecond, later for some, in which others may
-/// run, and then it sleeps for 20 microseconds and what the system adds to them, and leaves the processor to others. It takes no
-/// memory.
+/// Pauses between two tries of a thread that waits for another: at first for less than a microsecond, later for a few,
+/// in which other threads may run. After that it sleeps for 20 microseconds and what the system adds, and leaves the
+/// processor to others. It allocates nothing.
 pub fn pause<R: Wait>(rt: &R, backoff: &Backoff) {
     if backoff.is_completed() {
         // Nobody wakes it before that.

@@ -1,4 +1,4 @@
-//! What comes from a branch, of the message that says it.
+//! An arrival, made of the message from a branch.
 ghost use Rattle.std.specs.Prelude.{◌≡◌};
 ghost use Rattle.packet_messages.specs.Messages.{plain};
 ghost use Rattle.stage_nodes.specs.Streams.{as_arrival};
@@ -7,7 +7,7 @@ use merge_ops::Arrival;
 use packet_messages::Message;
 use packet_version::Version;
 
-/// A message from a branch as what comes from it.
+/// The arrival in a message from a branch.
 pub(crate) fn arrival_of(message: Message<Version>) -> Arrival
     ensures { result ≡ as_arrival (plain message) }
 {

@@ -1,4 +1,4 @@
-//! How a packet comes to a merger from a board, all its branches' parts at once.
+//! How a merger gets a packet from a board, all its branches' parts at once.
 ghost use Rattle.std.specs.Prelude.{◌≡◌, ◌<◌, ◌≤◌, [], length, map, All, IfOk};
 ghost use Rattle.std.specs.Vec.{vec_capacity};
 ghost use Rattle.packet_messages.specs.Messages.{Owing, first, rest};
@@ -13,7 +13,7 @@ use std::alloc::{AllocError, Global};
 use std::marker::Model;
 use std::sync::Wait;
 
-/// A merger's seat at the board of a stage, with room for what the board hands over of a packet.
+/// A merger's seat at the board of a stage, with room for what the board returns for a packet.
 #[derive(Drop)]
 pub(crate) struct BoardRows {
     inlets: BoardInlets<Version>,
@@ -35,7 +35,7 @@ impl Model for BoardRows {
 }
 
 impl BoardRows {
-    /// The seat, with room for a row of it. Its one refusal is want of memory.
+    /// The seat, with room for a row. The only error is that memory runs out.
     pub(crate) fn new(alloc: Global, inlets: BoardInlets<Version>) -> Result<BoardRows, AllocError>
         requires some { 0 < length inlets }
         ensures { IfOk result (λ b. b ≡ inlets) }
@@ -44,14 +44,14 @@ impl BoardRows {
         Ok(BoardRows { inlets, parcels })
     }
 
-    /// How many branches there are.
+    /// The number of branches.
     pub(crate) fn len(&self) -> usize
         ensures { result ≡ length self.now }
     {
         self.inlets.len()
     }
 
-    /// Waits until each branch has put what comes of the next packet, and puts that into the row, in branch
+    /// Waits until each branch has put its result for the next packet, and puts the results into the row, in branch
     /// order.
     pub(crate) fn accept_row<R: Wait>(&mut self, rt: &R, row: &mut Vec<Arrival>)
         requires owing { All Owing self.old }
@@ -65,7 +65,7 @@ impl BoardRows {
     }
 }
 
-/// Each parcel goes into the row as what comes from its branch.
+/// Moves each parcel into the row, as the arrival of its branch.
 fn hand_over(parcels: &mut Vec<Parcel<Version>>, row: &mut Vec<Arrival>)
     requires empty { row.old.items ≡ [] }
     requires room { length parcels.old.items ≤ vec_capacity row.old }

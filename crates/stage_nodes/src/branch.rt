@@ -15,10 +15,10 @@ use packet_version::Version;
 use std::alloc::Global;
 use std::sync::Wait;
 
-/// A branch, or one of its nodes where it has several: so many versions are still to come from the dealer, in the
-/// packets' order, the first of the packet with this number in the burst, counted from 0, and each other of the packet
-/// so many behind it. It leads each through its functions, and gives what comes of it to its mergers in turn. It is
-/// short once what it gave was.
+/// A branch, or one of its nodes if it has several. `count` versions are still to come from the dealer, in the packets'
+/// order: the first is of packet `first` of the burst, counted from 0, and each other is of the packet `step` places
+/// later. The node runs each through its functions, and gives the result to its mergers in turn. It is short once a
+/// result was.
 #[derive(Drop)]
 pub struct Branch<F> {
     pub inlet: Inlet<Version>,
@@ -29,9 +29,8 @@ pub struct Branch<F> {
     pub count: u32,
 }
 
-/// Runs a branch until all its versions came, and says whether memory was short. From the first version on
-/// for which it was, it says so of all: whatever memory is refused, it gives one message for each that it
-/// owes.
+/// Runs a branch until all its versions came, and returns whether memory ran out. From the first version on for which
+/// it did, it reports this for all: whatever allocation fails, it gives one message for each that it owes.
 pub fn run_branch<F: BranchWork, R: Wait, G: Gate>(
     rt: &R,
     alloc: Global,
@@ -50,7 +49,7 @@ pub fn run_branch<F: BranchWork, R: Wait, G: Gate>(
 }
 
 impl<F: BranchWork> Branch<F> {
-    /// The next version, if one is still to come. What the branch owes in the end stays.
+    /// The next version, if one is still to come. What the branch owes in the end stays the same.
     pub fn turn<R: Wait, G: Gate>(&mut self, rt: &R, alloc: Global, gate: &G)
         requires ready { (end : F) × BranchOwes F.kit F.may end self.old }
         ensures owes { (end : F) → BranchOwes F.kit F.may end self.old → BranchOwes F.kit F.may end self.new }
@@ -83,7 +82,7 @@ impl<F: BranchWork> Branch<F> {
     }
 }
 
-/// What the functions make of a message, of the packet with this number.
+/// The result of the functions on a message of the packet with this number.
 fn answer<F: BranchWork, R: Wait, G: Gate>(
     rt: &R,
     alloc: Global,

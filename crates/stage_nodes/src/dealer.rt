@@ -20,8 +20,8 @@ use std::alloc::Global;
 use std::mem;
 use std::sync::Wait;
 
-/// A dealer: so many packets are still to come from its supply. It deals each to the branches of its stage, and gives
-/// what stays of it to the mergers. It counts the copies that it made so far, and is short once what it gave was.
+/// A dealer. `count` packets are still to come from its supply. It deals each to the branches of its stage, and gives
+/// its base to the mergers. It counts the copies that it made so far, and is short once something that it gave was.
 #[derive(Drop)]
 pub struct Dealer<S> {
     pub parts: StageParts,
@@ -31,9 +31,9 @@ pub struct Dealer<S> {
     pub count: u32,
 }
 
-/// Runs a dealer until all its packets came: gives the copies that it made, and says whether memory was
-/// short. From the first packet on for which it was, it says so of all: whatever memory is refused, it gives
-/// one message for each that it owes.
+/// Runs a dealer until all its packets came. Returns the copies that it made, and whether memory ran out. From the
+/// first packet on for which it did, it reports this for all: whatever allocation fails, it gives one message for each
+/// that it owes.
 pub fn run_dealer<S: Supply, R: Wait>(
     rt: &R,
     alloc: Global,
@@ -55,8 +55,8 @@ pub fn run_dealer<S: Supply, R: Wait>(
 }
 
 impl<S: Supply> Dealer<S> {
-    /// The next packet, if one is still to come. The copies that the dealer will have made in the end, if it is not
-    /// short then, stay.
+    /// The next packet, if one is still to come. The copies that the dealer will have made in the end, unless it is
+    /// short then, stay the same.
     pub fn turn<R: Wait>(&mut self, rt: &R, alloc: Global)
         requires ready { (xs : List (PlainMessage PlainApart)) × DealerDue S.comes self.old.parts self.old.count xs self.old.source self.old.to.ends.versions self.old.to.ends.bases }
         ensures owes { (total : Field → ℕ) → DealerOwes S.comes total self.old → DealerOwes S.comes total self.new }
@@ -88,7 +88,7 @@ impl<S: Supply> Dealer<S> {
     }
 }
 
-/// What a dealer gives of a packet. Once it is short that is the word that memory is.
+/// What a dealer gives for a packet. Once it is short, that is the word `Short`.
 fn dealing(
     alloc: Global,
     parts: &StageParts,
@@ -114,7 +114,7 @@ fn dealing(
     }
 }
 
-/// The base and the versions of a packet in boxes, or the word that memory is short.
+/// The base and the versions of a packet in boxes, or the word that memory ran out.
 fn in_boxes(alloc: Global, base: Base, versions: Vec<Version>) -> Given
     ensures { IsBoxed base versions.items result }
 {

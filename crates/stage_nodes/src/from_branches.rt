@@ -1,4 +1,4 @@
-//! Where a merger takes what the branches of its stage give.
+//! Where a merger takes the results of the branches of its stage.
 ghost use Rattle.std.specs.Prelude.{◌≡◌, ◌<◌, ◌≤◌, [], length, map, All, IfOk};
 ghost use Rattle.std.specs.Vec.{vec_capacity};
 ghost use Rattle.packet_messages.specs.Messages.{Owing, first, rest};
@@ -13,15 +13,15 @@ use std::alloc::{AllocError, Global};
 use std::marker::Model;
 use std::sync::Wait;
 
-/// How what branches give comes to a merger.
+/// How the results of branches get to a merger.
 #[derive(Drop)]
 pub(crate) enum Inward {
     Links(LinkRows),
     Board(BoardRows),
 }
 
-/// Where a merger takes what the branches of its stage give: over a link from each, or from the merger's
-/// board. Contracts see what is still due from each branch, in branch order.
+/// Where a merger takes the results of the branches of its stage: over a link from each, or from the merger's board.
+/// Contracts see what is still due from each branch, in branch order.
 #[derive(Drop)]
 pub struct FromBranches {
     inward: Inward,
@@ -39,8 +39,8 @@ impl Model for FromBranches {
 }
 
 impl FromBranches {
-    /// A link from each branch, in branch order, and a table for what comes over them. Its one refusal is
-    /// want of memory.
+    /// A link from each branch, in branch order, and a table for what comes over them. The only error is that memory
+    /// runs out.
     pub fn of_links(alloc: Global, inlets: Inlets<Version>) -> Result<FromBranches, AllocError>
         requires some { 0 < length inlets }
         requires few { length inlets ≤ 64 }
@@ -52,8 +52,8 @@ impl FromBranches {
         })
     }
 
-    /// The merger's seat at its board, and room for what the board hands over of a packet. Its one refusal is
-    /// want of memory.
+    /// The merger's seat at its board, and room for what the board returns for a packet. The only error is that memory
+    /// runs out.
     pub fn of_board(alloc: Global, inlets: BoardInlets<Version>) -> Result<FromBranches, AllocError>
         requires some { 0 < length inlets }
         ensures { IfOk result (λ f. f ≡ inlets) }
@@ -64,7 +64,7 @@ impl FromBranches {
         })
     }
 
-    /// How many branches there are.
+    /// The number of branches.
     pub fn len(&self) -> usize
         ensures { result ≡ length self.now }
     {
@@ -74,8 +74,8 @@ impl FromBranches {
         }
     }
 
-    /// Waits for what comes from each branch of the packet that has this number here, and puts it into the
-    /// row, in branch order. It takes no memory.
+    /// Waits for the results of each branch for the packet that has this number here, and puts them into the row, in
+    /// branch order. It allocates nothing.
     pub fn accept_row<R: Wait>(&mut self, rt: &R, packet: u32, row: &mut Vec<Arrival>)
         requires owing { All Owing self.old }
         requires empty { row.old.items ≡ [] }

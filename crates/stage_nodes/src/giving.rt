@@ -1,4 +1,4 @@
-//! What a node gives into: once it gave the word that memory is short, it gives nothing else.
+//! The ends into which a node gives. Once it gave the word that memory ran out, it gives nothing else.
 ghost use Rattle.std.specs.Prelude.{◌≡◌, ◌<◌, false, length, map, All};
 ghost use Rattle.packet_messages.specs.Messages.{Fits, Owing, first, front, is_short, plain, rest, turned};
 ghost use Rattle.stage_nodes.specs.Turns.{GivenFits, is_lost};
@@ -10,16 +10,16 @@ use packet_version::{Apart, Base, Version};
 use std::marker::Model;
 use std::sync::Wait;
 
-/// The ends into which a node gives an item of each of its packets, and whether the last of them was short. An item
-/// that isn't short goes into them only where none was before: so a node that gave a short one gives nothing else.
+/// The ends into which a node gives an item for each of its packets, and whether the last item was short. An item that
+/// isn't short goes in only if none before was short: so after a short item a node gives only short ones.
 #[derive(Drop)]
 pub struct Giving<E> {
     ends: E,
     short: bool,
 }
 
-/// Where a dealer gives a packet: a version to each branch, whose nodes take turns where it has several, and what
-/// stays of the packet to the mergers in turn.
+/// Where a dealer gives a packet: a version to each branch, whose nodes take turns if it has several, and the base of
+/// the packet to the mergers in turn.
 #[derive(Drop)]
 pub struct ToStage {
     pub versions: Fans<Version>,
@@ -52,7 +52,7 @@ impl<E> Giving<E> {
 }
 
 impl Giving<ToStage> {
-    /// Gives what a dealer gives of a packet.
+    /// Gives what a dealer gives for a packet.
     pub(crate) fn give_parts<R: Wait>(&mut self, rt: &R, given: Given)
         requires versions_due { All (λ fan. Owing (front fan)) self.old.ends.versions }
         requires some { 0 < length self.old.ends.bases }
@@ -79,7 +79,7 @@ impl Giving<ToStage> {
 }
 
 impl Giving<ToMergers> {
-    /// Gives what comes of a version to the merger whose turn it is, which then is the last.
+    /// Gives the result of a version to the merger whose turn it is, which then is the last.
     pub(crate) fn give_turn<R: Wait>(&mut self, rt: &R, reply: Message<Version>)
         requires some { 0 < length self.old.ends }
         requires due { Owing (front self.old.ends) }
@@ -94,7 +94,7 @@ impl Giving<ToMergers> {
 }
 
 impl Giving<Outlet<Apart>> {
-    /// Gives what comes of a packet to the dealer behind.
+    /// Gives the result for a packet to the dealer of the next stage.
     pub(crate) fn give_on<R: Wait>(&mut self, rt: &R, reply: Message<Apart>)
         requires due { Owing self.old.ends }
         requires fits { Fits (first self.old.ends) (plain reply) }

@@ -1,4 +1,4 @@
-//! How a packet comes to a merger over links, from one branch after another.
+//! How a merger gets a packet over links, from one branch after another.
 ghost use Rattle.std.specs.Prelude.{◌≡◌, ◌<◌, ◌≤◌, ◌++◌, ◌∷◌, [], List, length, map, All, IfOk};
 ghost use Rattle.std.specs.Vec.{vec_capacity};
 ghost use Rattle.merge_ops.specs.declared.arrival.Arrival.{Arrival};
@@ -14,8 +14,8 @@ use std::alloc::{AllocError, Global};
 use std::marker::Model;
 use std::sync::Wait;
 
-/// The links from the branches of a stage to a merger, with the table of what has come over them. The table
-/// has a place for one packet, and is idle.
+/// The links from the branches of a stage to a merger, with the table of the results that came over them. The table has
+/// a place for one packet, and is idle between packets.
 #[derive(Drop)]
 pub(crate) struct LinkRows {
     inlets: Inlets<Version>,
@@ -36,7 +36,7 @@ impl Model for LinkRows {
 }
 
 impl LinkRows {
-    /// The links of these inlets, with a table for them. Its one refusal is want of memory.
+    /// The links of these inlets, with a table for them. The only error is that memory runs out.
     pub(crate) fn new(alloc: Global, inlets: Inlets<Version>) -> Result<LinkRows, AllocError>
         requires some { 0 < length inlets }
         requires few { length inlets ≤ 64 }
@@ -48,14 +48,14 @@ impl LinkRows {
         Ok(LinkRows { inlets, table })
     }
 
-    /// How many branches there are.
+    /// The number of branches.
     pub(crate) fn len(&self) -> usize
         ensures { result ≡ length self.now }
     {
         self.inlets.len()
     }
 
-    /// Waits for what comes of a packet from each branch, and puts it into the row, in branch order.
+    /// Waits for the result of each branch for a packet, and puts the results into the row, in branch order.
     pub(crate) fn accept_row<R: Wait>(&mut self, rt: &R, packet: u32, row: &mut Vec<Arrival>)
         requires owing { All Owing self.old }
         requires empty { row.old.items ≡ [] }
@@ -67,8 +67,8 @@ impl LinkRows {
     }
 }
 
-/// A packet comes to the table from one branch after another. Then all its arrivals stand in the row, in
-/// branch order, and the table is idle again.
+/// Puts the results for a packet into the table, from one branch after another. Then all its arrivals are in the row,
+/// in branch order, and the table is idle again.
 fn gather<R: Wait>(
     rt: &R,
     table: &mut AccTable<Arrival>,
@@ -90,7 +90,7 @@ fn gather<R: Wait>(
     }
 }
 
-/// The arrival of a branch comes to the table. With the last of its packet they all stand in the row.
+/// Puts the arrival of a branch into the table. With the last one of its packet all of them are moved into the row.
 fn arrive(
     table: &mut AccTable<Arrival>,
     packet: u32,

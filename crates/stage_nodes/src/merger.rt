@@ -15,10 +15,10 @@ use std::alloc::Global;
 use std::mem;
 use std::sync::Wait;
 
-/// A merger: of so many packets the bases are still to come from the dealer, and from each branch what it made of
-/// them, the first of the packet with this number in the burst, counted from 0, and each other of the packet so many
-/// behind it. It puts each packet together, and gives what comes of it to the dealer behind. Its row has room for what
-/// comes of a packet, and is empty. It is short once what it gave was.
+/// A merger. `count` packets are still to come, of each the base from the dealer and the results of the branches: the
+/// first is packet `first` of the burst, counted from 0, and each other is `step` places later. The node merges each
+/// packet, and gives the result to the dealer of the next stage. Its row has room for the results of a packet, and is
+/// empty between packets. It is short once a result was.
 #[derive(Drop)]
 pub struct Merger {
     pub base: Inlet<Base>,
@@ -30,8 +30,8 @@ pub struct Merger {
     pub count: u32,
 }
 
-/// Runs a merger until all its packets went on. From the first packet on for which memory was short, it
-/// says so of all: whatever memory is refused, it gives one message for each that it owes.
+/// Runs a merger until all its packets went on. From the first packet on for which memory ran out, it reports this for
+/// all: whatever allocation fails, it gives one message for each that it owes.
 pub fn run_merger<R: Wait>(rt: &R, alloc: Global, merger: &mut Merger)
     requires due { MergerOwes merger.old }
     ensures ample { merger.new.to.short ≡ false → merger.old.to.short ≡ false }
@@ -74,8 +74,8 @@ impl Merger {
         self.to.give_on(rt, reply);
     }
 
-    /// What comes of the next packet, which has this number here. Once the merger is short that is the word that
-    /// memory is, and nothing is taken any more.
+    /// The result for the next packet, which has this number here. Once the merger is short, that is the word `Short`,
+    /// and nothing is taken any more.
     fn reply<R: Wait>(
         &mut self,
         rt: &R,
@@ -102,8 +102,8 @@ impl Merger {
     }
 }
 
-/// What comes of a packet from its base and what came from each branch, in branch order. The row is empty
-/// after it.
+/// The result for a packet, from its base and the arrivals of all branches, in branch order. The row is empty
+/// afterwards.
 fn join<R: Wait>(
     rt: &R,
     alloc: Global,
@@ -125,7 +125,7 @@ fn join<R: Wait>(
     }
 }
 
-/// What comes of a packet that was dropped before: the word that says where, unless a branch found no memory.
+/// The result for a packet that was dropped before: the word that says where, unless a branch ran out of memory.
 fn gone(position: u32, row: &mut Vec<Arrival>) -> Message<Apart>
     ensures word { plain result ≡ joined_row (Nil position) row.old.items }
     ensures emptied { row.new.items ≡ [] }
@@ -139,14 +139,14 @@ fn gone(position: u32, row: &mut Vec<Arrival>) -> Message<Apart>
     }
 }
 
-/// Did a branch find no memory?
+/// Did a branch run out of memory?
 fn some_is_lost(row: &[Arrival]) -> bool
     ensures { result ≡ list_any is_lost row.now }
 {
     row.iter().any(|arrival| matches!(arrival, Arrival::Short))
 }
 
-/// What came of a packet as a message, or that memory is short.
+/// The result for a packet as a message, or `Short`.
 fn message_of(alloc: Global, merged: Merged) -> Message<Apart>
     ensures { Fits (of_merged merged) (plain result) }
 {

@@ -1,4 +1,4 @@
-//! Where a dealer takes packets from.
+//! Where a dealer takes its packets.
 ghost use Rattle.std.specs.Prelude.{◌<◌, ◌∷◌, List, length};
 ghost use Rattle.packet_version.specs.Splitting.{PlainApart};
 ghost use Rattle.packet_messages.specs.Messages.{Fits, PlainMessage, Owing, first, front, turned};
@@ -14,7 +14,7 @@ use std::sync::Wait;
 pub trait Supply {
     ghost comes: { Self → List (PlainMessage PlainApart) → Type 0 };
 
-    /// The next packet, or the word that memory was short. One that another node gives is waited for.
+    /// The next packet, or the word that memory ran out. If another node gives it, the call waits for it.
     fn next<R: Wait>(&mut self, rt: &R, alloc: Global) -> Merged
         requires more { (x : PlainMessage PlainApart) × (xs : List (PlainMessage PlainApart)) × comes self.old (x ∷ xs) }
         ensures next { (x : PlainMessage PlainApart) (xs : List (PlainMessage PlainApart)) →
@@ -23,7 +23,7 @@ pub trait Supply {
             comes self.old (x ∷ xs) → comes self.new xs };
 }
 
-/// What comes from the mergers of a stage, each in turn.
+/// Packets from the mergers of a stage, from each in turn.
 impl Supply for Inlets<Apart> {
     ghost use Rattle.stage_nodes.specs.Dues.{ComesFrom};
 

@@ -1,4 +1,4 @@
-//! Where a branch gives what comes of its versions.
+//! Where a branch gives the results of its versions.
 ghost use Rattle.std.specs.Prelude.{◌≡◌, ◌<◌, ◌++◌, ◌∷◌, [], length, map, All, IfOk, OnOk, slice_index_or, slice_set};
 ghost use Rattle.packet_messages.specs.Messages.{Fits, Owing, first, front, plain, rest, turned};
 
@@ -8,15 +8,15 @@ use std::alloc::{AllocError, Global};
 use std::marker::Model;
 use std::sync::Wait;
 
-/// How what a branch gives goes to a merger.
+/// How the results of a branch get to a merger.
 #[derive(Drop)]
 pub(crate) enum Outward {
     Link(Outlet<Version>),
     Board(BoardOutlet<Version>),
 }
 
-/// Where a branch gives what comes of its versions to one merger: over a link, or on the merger's board.
-/// Contracts see what is still due.
+/// Where a branch gives the results of its versions to one merger: over a link, or on the merger's board. Contracts see
+/// what is still due.
 #[derive(Drop)]
 pub struct ToMerger {
     outward: Outward,
@@ -52,7 +52,7 @@ impl ToMerger {
         }
     }
 
-    /// Gives the next message. It is never refused, and takes no memory.
+    /// Gives the next message. It never fails, and allocates nothing.
     fn give<R: Wait>(&mut self, rt: &R, message: Message<Version>)
         requires due { Owing self.old }
         requires fits { Fits (first self.old) (plain message) }
@@ -65,8 +65,8 @@ impl ToMerger {
     }
 }
 
-/// Ends to mergers, in order: those of a node of a branch to the mergers that take turns with what it gives, that
-/// whose turn it is first, or those of all branches to one merger. Contracts see what is still due on each.
+/// Ends to mergers, in order: either those of a node of a branch to the mergers that take turns, with the one whose
+/// turn it is first, or those of all branches to one merger. Contracts see what is still due on each.
 #[derive(Drop)]
 pub struct ToMergers {
     ends: Vec<ToMerger>,
@@ -92,7 +92,7 @@ impl ToMergers {
         }
     }
 
-    /// Adds an end at the back. Its one refusal is want of memory.
+    /// Adds an end at the back. The only error is that memory runs out.
     pub fn push(&mut self, end: ToMerger) -> Result<(), AllocError>
         ensures { OnOk result (self.new ≡ self.old ++ end ∷ []) }
     {
@@ -100,7 +100,7 @@ impl ToMergers {
         Ok(())
     }
 
-    /// Takes the first end away.
+    /// Takes the first end out.
     pub fn take_first(&mut self) -> ToMerger
         requires { 0 < length self.old }
         ensures { self.old ≡ result ∷ self.new }
@@ -108,8 +108,7 @@ impl ToMergers {
         self.ends.remove(0)
     }
 
-    /// Gives a message to the merger whose turn it is, which then is the last. It is never refused, and takes
-    /// no memory.
+    /// Gives a message to the merger whose turn it is, which then is the last. It never fails, and allocates nothing.
     pub fn give_next<R: Wait>(&mut self, rt: &R, message: Message<Version>)
         requires some { 0 < length self.old }
         requires due { Owing (front self.old) }
@@ -131,8 +130,8 @@ fn give_first<R: Wait>(rt: &R, ends: &mut [ToMerger], message: Message<Version>)
     ends[0].give(rt, message);
 }
 
-/// Takes the first end of each row away, in order. Its one refusal is want of memory, which says nothing of the
-/// ends that are left.
+/// Takes the first end out of each row, in order. The only error is that memory runs out; which ends are left is then
+/// unspecified.
 pub fn take_ends(alloc: Global, rows: &mut [ToMergers]) -> Result<ToMergers, AllocError>
     requires { All Owing rows.old }
     ensures row { IfOk result (λ row. row ≡ map front rows.old) }
@@ -146,7 +145,7 @@ pub fn take_ends(alloc: Global, rows: &mut [ToMergers]) -> Result<ToMergers, All
     Ok(row)
 }
 
-/// Takes the first end of the row at this place away.
+/// Takes the first end out of the row at this place.
 fn take_from(rows: &mut [ToMergers], place: usize) -> ToMerger
     requires inside { place < length rows.old }
     requires some { Owing (slice_index_or rows.old place []) }

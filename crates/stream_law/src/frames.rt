@@ -1,4 +1,4 @@
-//! The law of frames: a burst of packets in parts that walks leads its frames as whole frames that walk.
+//! The law of frames: if the packets of a burst walk in parts, their frames end as whole frames that walk.
 ghost use Rattle.std.specs.Prelude.{◌≡◌, ℕ, List, All, map};
 ghost use Rattle.burst_law.specs.Copies.{chain_copies};
 ghost use Rattle.chain_walk.specs.Packets.{Packet, fates};
@@ -19,9 +19,8 @@ use chain_walk::{frames_are_built_again, packets_walk_in_a_row, values_stay_well
 use graph_run::{Function, functions_keep_to_profiles};
 use packet_version::frames_come_apart;
 
-/// Packets of a burst that were taken apart, with room for a tag of each function that adds one, may enter the
-/// first stage. Where they end as packets in parts that walk through the chain, their frames end as whole frames
-/// that walk.
+/// Packets of a burst that were taken apart, with room for a tag of each function that adds one, may enter the first
+/// stage. If they end as packets in parts that walk through the chain, their frames end as whole frames that walk.
 pub fn bursts_in_parts_lead<F: Function>()
     ensures enter { (functions : List F) (packets : List Packet) →
         AllEnter (profiles_of F.behaviour functions) 1 (all_apart (adders_from (profiles_of F.behaviour functions) 1) packets) }
@@ -29,7 +28,7 @@ pub fn bursts_in_parts_lead<F: Function>()
     ensures leads { (run after : PlainRunning F) (packets : List Packet) (behind : List Merged) (ended : List Fate) (old new : List ℕ) →
         HasEnded F.behaviour run (all_apart (adders_from (profiles_of F.behaviour run.functions) 1) packets) after.functions behind old new →
         after.graph ≡ run.graph → ended ≡ map fate_behind behind → Leads F.behaviour run packets old new after ended }
-    // where memory runs out on the way, at most the copies of the walks were made
+    // if memory runs out on the way, at most the copies of the walks were made
     ensures refused { (run : PlainRunning F) (packets : List Packet) (old new : List ℕ) →
         RaisesUpTo (λ f. chain_copies F.behaviour run.graph.stages f run.functions (map as_message (all_apart (adders_from (profiles_of F.behaviour run.functions) 1) packets))) old new →
         RaisesUpTo (copies_made run.graph.stages packets (fates F.behaviour run.functions packets)) old new }

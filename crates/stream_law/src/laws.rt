@@ -1,4 +1,4 @@
-//! The law of streams: the nodes of a graph's stages lead a burst as packets that walk through the chain.
+//! The law of streams: a burst ends after the nodes of a graph's stages as packets that walk through the chain.
 ghost use Rattle.std.specs.Prelude.{◌≡◌, List, length, map};
 ghost use Rattle.packet_fields.specs.declared.field.Field.{Field};
 ghost use Rattle.chain_walk.specs.Counting.{quiet};
@@ -26,24 +26,24 @@ use graph_run::{
 use merge_ops::{last_writer_is_greatest, merged_is_written_last};
 use packet_version::shape_fits;
 
-/// A burst of packets that is ready for a graph may go through the nodes of its stages, each branch with the
-/// functions that it owns, and what the nodes give each other is the burst that walks: the packets behind
-/// the last stage and the functions that are left are those of packets that walk through the chain one after
-/// another, and the dealers make as many copies as the walks. Functions that count keep still meanwhile: what
-/// they note is settled behind the burst (`notes_are_settled_behind_bursts` of `burst_law`).
+/// A burst of packets that is ready for a graph may go through the nodes of its stages, each branch with the functions
+/// that it owns. The messages of the nodes are the burst that walks: the packets after the last stage and the functions
+/// that are left are those of packets that walk through the chain one after another, and the dealers make as many
+/// copies as the walks. Functions that count don't change meanwhile: their notes are settled after the burst
+/// (`notes_are_settled_behind_bursts` of `burst_law`).
 pub fn nodes_walk_the_chain<F: Function>()
     // each dealer, branch and merger may take what is due to it
     ensures pass { (graph : Graph) (functions : List F) (packets : List Merged) →
         IsReadyBurst (quiet F.behaviour) graph functions packets →
         MayPassAll (owned_kit (quiet F.behaviour) F.notes) (owned_may (quiet F.behaviour))
         (works_of (quiet F.behaviour) graph.stages (owned_by graph.stages functions) (length packets)) (map of_merged packets) }
-    // each branch is left with the functions that it owns of those that the walks leave
+    // of the functions that the walks leave, each branch is left with those that it owns
     ensures functions { (graph : Graph) (functions : List F) (packets : List Merged) →
         IsReadyBurst (quiet F.behaviour) graph functions packets →
         map (λ l. map (λ o. o.functions) l) (ends_of (owned_kit (quiet F.behaviour) F.notes)
         (works_of (quiet F.behaviour) graph.stages (owned_by graph.stages functions) (length packets)) (map of_merged packets))
         ≡ owned_by graph.stages (chain_burst (quiet F.behaviour) functions (map as_message packets)).state }
-    // which stand at the branch's positions
+    // which are at the branch's positions
     ensures positions { (graph : Graph) (functions : List F) (packets : List Merged) →
         IsReadyBurst (quiet F.behaviour) graph functions packets →
         map (λ l. map (λ o. o.positions) l) (ends_of (owned_kit (quiet F.behaviour) F.notes)
@@ -61,12 +61,12 @@ pub fn nodes_walk_the_chain<F: Function>()
         map as_message (map as_merged (through (owned_kit (quiet F.behaviour) F.notes)
         (works_of (quiet F.behaviour) graph.stages (owned_by graph.stages functions) (length packets)) (map of_merged packets)))
         ≡ (chain_burst (quiet F.behaviour) functions (map as_message packets)).gives }
-    // there is one for each, none is short, and one that isn't gone has what is left of its frame without its fields
+    // there is one for each, none is short, and one that isn't gone has the rest of its frame without its fields
     ensures rests { (graph : Graph) (functions : List F) (packets : List Merged) →
         IsReadyBurst (quiet F.behaviour) graph functions packets →
         KeepsRests packets (map as_merged (through (owned_kit (quiet F.behaviour) F.notes)
         (works_of (quiet F.behaviour) graph.stages (owned_by graph.stages functions) (length packets)) (map of_merged packets))) }
-    // and the dealers make as many copies as the walks tell
+    // and the dealers make as many copies as the walks
     ensures counted { (graph : Graph) (functions : List F) (packets : List Merged) (f : Field) →
         IsReadyBurst (quiet F.behaviour) graph functions packets →
         copies_along (owned_kit (quiet F.behaviour) F.notes)

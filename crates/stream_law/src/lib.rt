@@ -1,23 +1,22 @@
-//! Why what the nodes of a run give each other is a burst that walks.
+//! Why the messages between the nodes of a run are a burst that walks.
 //!
-//! `stage_nodes` says what is due on the links between dealers, branches and mergers, for whatever functions
-//! the branches have. Here a branch has the functions of a chain that it owns (`specs/Owned.antt`), and the
-//! stages are those of a graph (`specs/Works.antt`). [`nodes_walk_the_chain`] is the law: for every lawful
-//! graph, all opening states and every burst whose packets may enter its first stage (`specs/Ready.antt`),
-//! each node may take all that is due to it; and what comes behind the last stage, and the functions that
-//! the branches are left with, are those of packets that walk through the chain one after another, each as
-//! the packet before left it. The copies that the dealers make are those that the walks tell.
-//! Functions that count keep still meanwhile: each branch lists what its functions note of the packets
-//! (`specs/Listed.antt`), and the law says what each has listed.
+//! `stage_nodes` says what is due on the links between dealers, branches and mergers, for any functions of the
+//! branches. Here a branch has the functions of a chain that it owns (`specs/Owned.antt`), and the stages are those of
+//! a graph (`specs/Works.antt`). [`nodes_walk_the_chain`] is the law: for every lawful graph, all initial states and
+//! every burst whose packets may enter its first stage (`specs/Ready.antt`), each node may take all that is due to it;
+//! and the packets after the last stage, and the functions with which the branches are left, are those of packets that
+//! walk through the chain one after another, each meeting the functions as the packet before left them. The dealers
+//! make the copies of the walks. Functions that count don't change meanwhile: each branch lists what its functions note
+//! of the packets (`specs/Listed.antt`), and the law says what each has listed.
 //!
-//! It rests on the law of bursts (`burst_law`). A branch of nodes never sees what another branch gives, so its
-//! stream is the same whether the branches run one after another or side by side; a merger puts each packet
-//! together from what the branches gave for it alone.
+//! It rests on the law of bursts (`burst_law`). A branch of nodes never sees the results of another branch, so its
+//! stream is the same whether the branches run one after another or side by side; a merger makes each packet only of
+//! what the branches returned for it.
 //!
-//! [`bursts_in_parts_lead`] ties a burst of packets in parts to whole frames that walk: frames that were taken
-//! apart may enter, and where packets in parts end as those that walk, so do the frames.
+//! [`bursts_in_parts_lead`] relates a burst of packets in parts to whole frames that walk: frames that were taken apart
+//! may enter, and if packets in parts end as those that walk, so do the frames.
 //!
-//! There is no code here: what runs the nodes is a crate above.
+//! There is no code here: the code that runs the nodes is in a crate above.
 #![tactic(auto)]
 
 mod frames;
