@@ -28,7 +28,7 @@ pub(crate) fn replicas_last<F: BranchWork + Drop>(
     Ok(first)
 }
 
-/// Sorts the nodes into replicas and others.
+/// Adds the node to `others` if it is a replica, and to `first` if not.
 fn sort<F: BranchWork + Drop>(
     node: Node<F>,
     first: &mut Vec<Node<F>>,

@@ -1,4 +1,4 @@
-//! The functions of nodes, by stage and branch again.
+//! Returns the functions of nodes, by stage and branch.
 ghost use Rattle.std.specs.Prelude.{◌≡◌, List, length, map, take, drop, IfOk, OnOk};
 ghost use Rattle.burst_law.specs.Bursts.{Message};
 ghost use Rattle.graph_run.specs.NfObserve.{FlowNote};
@@ -16,8 +16,8 @@ use graph_run::Function;
 use std::alloc::{AllocError, Global};
 use std::vec::IntoIter;
 
-/// The functions of works, which stand one after another, by the stages and branches that own them, once what they noted of
-/// packets that ended so is settled. The one refusal is want of memory.
+/// The functions of works, which are one after another, by the stages and branches that own them, after their notes on
+/// packets with these fates were settled. The only error is that memory runs out.
 pub(crate) fn end_works<F: Function + Drop>(
     alloc: Global,
     stages: &[Stage],
@@ -36,7 +36,7 @@ pub(crate) fn end_works<F: Function + Drop>(
     Ok(owned)
 }
 
-/// The functions of the next works, which are so many.
+/// The functions of the next `count` works.
 fn end_branches<F: Function + Drop>(
     alloc: Global,
     count: usize,

@@ -1,4 +1,4 @@
-//! The frames of a burst, taken apart one after another.
+//! Takes the frames of a burst apart, one after another.
 ghost use Rattle.std.specs.Prelude.{◌≡◌, length, IfOk};
 ghost use Rattle.capture_bytes.specs.declared.packet.Unit.{Unit as TimeUnit};
 ghost use Rattle.graph_run.specs.Packets.{packet_of, packets_taken};
@@ -16,8 +16,8 @@ use std::alloc::{AllocError, Global};
 use std::marker::Model;
 use std::sync::Wait;
 
-/// What is left of a burst, whose packets of one chain are taken apart as they are asked for, each with room for so
-/// many tags more. Contracts see the packets that are left.
+/// The rest of a burst, whose packets of one chain are taken apart when they are requested, each with room for
+/// `taggers` more tags. Contracts see the packets that are left.
 #[derive(Drop)]
 pub(crate) struct Frames<'a> {
     rest: &'a [Item],
@@ -67,7 +67,7 @@ impl<'a> Supply for Frames<'a> {
     }
 }
 
-/// The packet of an item in parts, or the word that memory is short.
+/// The packet of an item in parts, or the word that memory ran out.
 fn take_apart(alloc: Global, item: &Item, unit: Unit, taggers: u32) -> Merged
     ensures { Fits (of_merged (apart_of taggers (packet_of unit item.now))) (of_merged result) }
 {
@@ -82,8 +82,8 @@ fn take_apart(alloc: Global, item: &Item, unit: Unit, taggers: u32) -> Merged
     }
 }
 
-/// The record numbers of the packets of these items that are of the chain with this number, in their order. The one
-/// refusal is want of memory.
+/// The record numbers of the packets of these items that are of the chain with this number, in their order. The only
+/// error is that memory runs out.
 pub(crate) fn numbers_of(alloc: Global, items: &[Item], chain: u32) -> Result<Vec<u32>, AllocError>
     ensures { (unit : TimeUnit) → IfOk result (λ numbers. length numbers.items ≡ length (packets_taken unit chain items.now)) }
 {

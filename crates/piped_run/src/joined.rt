@@ -1,4 +1,4 @@
-//! A burst of packets through a graph, stage by stage, the branches of a stage side by side.
+//! Runs a burst of packets through a graph, stage by stage, the branches of a stage side by side.
 ghost use Rattle.std.specs.Prelude.{◌≡◌, ◌≤◌, length, IfOk, OnErr};
 ghost use Rattle.chain_walk.specs.Packets.{fates};
 ghost use Rattle.graph_run.specs.Counting.{RaisesUpTo, copies_made};
@@ -18,18 +18,17 @@ use std::alloc::{AllocError, Global};
 use std::sync::Wait;
 use std::thread::Threads;
 
-/// Leads the packets of a burst that are of the chain with this number through the graph, all through one
-/// stage and then all through the next, and gives the fate of each, in their order. The branches of a stage
-/// run side by side, and behind it so many mergers, of which there may be 1 to 16: merger `i` has the
-/// packets whose number among those of the chain, counted from 0, leaves `i` when divided by their count.
-/// There are fewer mergers where fewer packets come or more don't pay.
-/// Where every stage has one branch, nothing runs side by side, and each packet goes through all stages before the next.
-/// Each step of a function passes the gate first. Frames that go out are not sealed yet.
+/// Runs the packets of a burst that are of the chain with this number through the graph, all through one stage and then
+/// all through the next, and returns the fate of each, in their order. The branches of a stage run side by side, and
+/// after it `mergers` mergers, from 1 to 16: merger `i` has the packets whose number among those of the chain, counted
+/// from 0, has the remainder `i` by their number. There are fewer mergers if fewer packets come or more don't pay. If
+/// every stage has one branch, nothing runs side by side, and each packet goes through all stages before the next. Each
+/// step of a function passes the gate first. Frames that go out are not sealed yet.
 ///
-/// Every packet ends as if it walked through the functions of the chain one after another, each as the
-/// packet before left it, and so do the functions' states. The tally rises by the copies that were made.
-/// The one refusal is want of memory: the functions are gone then, and the tally may have risen by copies
-/// that were made.
+/// Every packet ends as if it walked through the functions of the chain one after another, each meeting them as the
+/// packet before left them, and the functions end in the same states. The tally rises by the copies that were made. The
+/// only error is that memory runs out: then the functions are lost, and the tally may have risen by copies that were
+/// made.
 pub fn run_joined<F: Function + Drop + Send, G: Gate + Sync, R: Threads + Wait + Sync>(
     rt: &R,
     alloc: Global,

@@ -13,9 +13,8 @@ use std::alloc::{AllocError, Global};
 use std::marker::Model;
 use std::sync::Wait;
 
-/// The functions of a branch, the positions at which they stand in the chain with this number, and the
-/// record numbers of a burst's packets. Where one of them counts, packets are numbered as they come, and what is noted of them
-/// is listed.
+/// The functions of a branch, their positions in the chain with this number, and the record numbers of a burst's
+/// packets. If one of the functions counts, packets are numbered as they come, and what is noted of them is listed.
 #[derive(Drop)]
 pub(crate) struct OwnedFunctions<F> {
     pub(crate) functions: Vec<F>,
@@ -102,8 +101,8 @@ impl<F: Function + Drop> BranchWork for OwnedFunctions<F> {
     }
 }
 
-/// The number of the packet behind this one, in a work that numbers packets, and else the same. None where numbers end, which
-/// none of a burst does.
+/// The number of the packet after this one, in a work that numbers packets, and the same number in another. `None` if
+/// numbers end, which never happens within a burst.
 fn next_number(counts: bool, seen: u32) -> Option<u32>
     ensures { IfSome result (λ next. next ≡ (if counts then suc seen else seen)) }
 {
@@ -114,7 +113,7 @@ fn next_number(counts: bool, seen: u32) -> Option<u32>
     }
 }
 
-/// These functions, with all that a work has beside its own but what it listed.
+/// A work with these functions and otherwise the fields of `work`, but with an empty list of notes.
 fn beside<F: Drop>(
     alloc: Global,
     work: &OwnedFunctions<F>,

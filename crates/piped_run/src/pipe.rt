@@ -1,4 +1,4 @@
-//! A burst of packets through the stages of a graph, whose dealers, branches and mergers are nodes.
+//! Runs a burst of packets through the stages of a graph, whose dealers, branches and mergers are nodes.
 ghost use Rattle.std.specs.Prelude.{◌≡◌, ◌≤◌, length, map, All, IfOk, OnOk, OnErr};
 ghost use Rattle.burst_law.specs.Bursts.{chain_burst};
 ghost use Rattle.burst_law.specs.Copies.{chain_copies};
@@ -31,13 +31,12 @@ use std::sync::Wait;
 use std::thread::Threads;
 use stream_law::nodes_walk_the_chain;
 
-/// Leads all packets that these frames hold, which have these record numbers, through the stages of a graph: the
-/// caller takes them apart and deals them to the first stage, and each other dealer, each branch and each merger
-/// is a node, at work under this schedule. The functions and the packets end as if the packets
-/// walked through the chain one after another. No node is started for a burst without packets, and there are no
-/// more mergers than packets, nor than pay.
+/// Runs all packets of these frames, which have these record numbers, through the stages of a graph: the caller takes
+/// them apart and deals them to the first stage, and each other dealer, each branch and each merger is a node, at work
+/// under this schedule. The functions and the packets end as if the packets walked through the chain one after another.
+/// No node is started for a burst without packets, and there are no more mergers than packets, nor more than pay.
 ///
-/// The one refusal is want of memory: the functions are gone then, and the tally stays.
+/// The only error is that memory runs out: then the functions are lost, and the tally stays.
 pub(crate) fn pipe_frames<F: Function + Drop + Send, G: Gate + Sync, R: Threads + Wait + Sync>(
     rt: &R,
     alloc: Global,
@@ -91,8 +90,8 @@ pub(crate) fn pipe_frames<F: Function + Drop + Send, G: Gate + Sync, R: Threads 
     Ok((functions, fates))
 }
 
-/// No more of these mergers than pay, and one at least: a branch may have a node for each of them, and more than twice
-/// as many nodes of branches as threads cost more links than they spare time.
+/// At most this number of mergers, at least one, and no more than pay. A branch may have a node for each merger; if
+/// there are more than twice as many nodes of branches as threads, the links cost more time than the mergers save.
 fn mergers_that_pay<R: Threads>(rt: &R, stages: &[Stage], mergers: u32) -> u32
     requires { 1 ≤ mergers }
     ensures some { 1 ≤ result }
@@ -106,7 +105,7 @@ fn mergers_that_pay<R: Threads>(rt: &R, stages: &[Stage], mergers: u32) -> u32
     }
 }
 
-/// How many branches these stages have.
+/// The number of branches of these stages.
 fn count_branches(stages: &[Stage]) -> usize {
     let mut count: usize = 0;
     for stage in stages {

@@ -1,4 +1,4 @@
-//! A burst of packets through a graph, its dealers, branches and mergers side by side.
+//! Runs a burst of packets through a graph, its dealers, branches and mergers side by side.
 ghost use Rattle.std.specs.Prelude.{◌≤◌, ◌<◌, length, IfOk, OnErr};
 ghost use Rattle.chain_walk.specs.Packets.{fates};
 ghost use Rattle.graph_run.specs.Counting.{RaisesUpTo, copies_made};
@@ -23,25 +23,26 @@ use std::sync::Wait;
 use std::thread::Threads;
 use std::time::Instant;
 
-/// Leads the packets of a burst that are of the chain with this number through the graph, and gives the fate
-/// of each, in their order. In each stage one dealer deals the packets, each branch takes what it is dealt
-/// of them in their order, and so many mergers, of which there may be 1 to 16, put together in this way what
-/// the branches give: merger `i` has the packets whose number among those of the chain, counted from 0,
-/// leaves `i` when divided by their count. A branch whose functions neither keep a state nor count has a node for each merger,
-/// which takes that merger's packets, and every other branch has one for all. There are fewer mergers where fewer packets
-/// come or more don't pay. Dealers, branches and mergers of all stages run side by side, the first dealer in the caller's
-/// thread and the others on as many more as fit the machine, where these can be started; the threads
-/// are joined before the call returns. Where the graph has no stage but one of one branch, nothing could run
-/// beside it, and all runs in the caller's thread. So does what goes alone by the pace of the run (`pace`):
-/// where packets are light or threads spared too little of the time of one for those before, by the clock, or where
-/// one thread is tried. The functions run in a row then. A burst that is longer than the pace
-/// tries a way with goes in pieces, each by its own way. The first packets of a run go on threads. Each step of a function passes
-/// the gate first. Frames that go out are not sealed yet.
+/// Runs the packets of a burst that are of the chain with this number through the graph, and returns the fate of each,
+/// in their order. In each stage one dealer deals the packets, each branch takes its versions in the packets' order,
+/// and `mergers` mergers, from 1 to 16, merge the results of the branches in the given way: merger `i` has the packets
+/// whose number among those of the chain, counted from 0, has the remainder `i` by their number. A branch whose
+/// functions neither keep a state nor count has a node for each merger, which takes that merger's packets, and every
+/// other branch has one node for all. There are fewer mergers if fewer packets come or more don't pay. Dealers,
+/// branches and mergers of all stages run side by side, the first dealer in the caller's thread and the others on as
+/// many more threads as suit the machine, if these can be started; the threads are joined before the call returns.
 ///
-/// Every packet ends as if it walked through the functions of the chain one after another, each as the
-/// packet before left it, and so do the functions' states. The tally rises by the copies that the graph makes of them;
-/// functions in a row make none, and those of the graph are counted. The one refusal is want of memory: the functions are
-/// gone then, and the tally may have risen by some of them.
+/// If the graph has no stage, or one stage of one branch, nothing could run beside it, and everything runs in the
+/// caller's thread. So does a burst that the pace of the run (`pace`) sends there: if packets are light, if threads
+/// saved too little of the time of one thread on the packets before, by the clock, or if one thread is tried. The
+/// functions then run in a row. A burst that is longer than a trial of the pace goes in pieces, each in its own way.
+/// The first packets of a run go on threads. Each step of a function passes the gate first. Frames that go out are not
+/// sealed yet.
+///
+/// Every packet ends as if it walked through the functions of the chain one after another, each meeting them as the
+/// packet before left them, and the functions end in the same states. The tally rises by the copies that the graph
+/// makes; functions in a row make none, and the copies that the graph would make are counted. The only error is that
+/// memory runs out: then the functions are lost, and the tally may have risen by some of them.
 pub fn run_piped<F: Function + Drop + Send, G: Gate + Sync, R: Threads + Wait + Clock + Sync>(
     rt: &R,
     alloc: Global,
@@ -77,8 +78,8 @@ pub fn run_piped<F: Function + Drop + Send, G: Gate + Sync, R: Threads + Wait + 
     )
 }
 
-/// Leads these items in pieces, one after another: each goes by the way of the run's pace as the piece before left it, and has no
-/// more items than that way may have at once.
+/// Runs these items in pieces, one after another: each in the way of the run's pace as the piece before left it, and
+/// with no more items than that way may have at once.
 fn run_pieces<F: Function + Drop + Send, G: Gate + Sync, R: Threads + Wait + Clock + Sync>(
     rt: &R,
     alloc: Global,
@@ -115,7 +116,7 @@ fn run_pieces<F: Function + Drop + Send, G: Gate + Sync, R: Threads + Wait + Clo
     Ok((run, fates))
 }
 
-/// Where the piece ends that begins here.
+/// The end of the piece that begins at `start`.
 fn piece_end(pace: Pace, start: usize, len: usize) -> usize
     requires { start < len }
     ensures further { start < result }
@@ -124,7 +125,7 @@ fn piece_end(pace: Pace, start: usize, len: usize) -> usize
     len.min(start.saturating_add(pace.most() as usize))
 }
 
-/// Leads these items by the way of the run's pace, and tells the pace what they took.
+/// Runs these items in the way of the run's pace, and reports to the pace the time that they took.
 fn run_piece<F: Function + Drop + Send, G: Gate + Sync, R: Threads + Wait + Clock + Sync>(
     rt: &R,
     alloc: Global,
@@ -153,7 +154,7 @@ fn run_piece<F: Function + Drop + Send, G: Gate + Sync, R: Threads + Wait + Cloc
     Ok((run.paced(pace), fates))
 }
 
-/// Leads these items by this way.
+/// Runs these items in this way.
 fn run_by<F: Function + Drop + Send, G: Gate + Sync, R: Threads + Wait + Sync>(
     rt: &R,
     alloc: Global,
@@ -191,7 +192,7 @@ fn run_by<F: Function + Drop + Send, G: Gate + Sync, R: Threads + Wait + Sync>(
     }
 }
 
-/// Tells the pace what so many packets took by this way, where the clock says it.
+/// Reports to the pace the time of `packets` packets in this way, if the clock works.
 fn tell<R: Clock>(rt: &R, pace: &mut Pace, lead: Lead, packets: usize, start: Option<Instant>) {
     let (Some(start), Ok(packets)) = (start, u32::try_from(packets)) else {
         return;
@@ -205,7 +206,7 @@ fn tell<R: Clock>(rt: &R, pace: &mut Pace, lead: Lead, packets: usize, start: Op
     }
 }
 
-/// Does a graph have no stage but one of one branch?
+/// Does a graph have at most one stage, with one branch?
 fn is_one_branch(graph: &Graph) -> bool {
     let stages = graph.stages.as_slice();
     match stages {

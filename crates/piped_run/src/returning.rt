@@ -1,4 +1,4 @@
-//! Functions that are moved back from the branches that own them.
+//! Moves functions back from the branches that own them.
 ghost use Rattle.std.specs.Prelude.{◌≡◌, ◌≤◌, ◌-◌, ◌++◌, ℕ, List, None, Some, length, map, replicate, filter_map, slice_set, IfOk};
 ghost use Rattle.graph_compile.specs.Facts.{positions_of};
 ghost use Rattle.burst_law.specs.Owned.{owned, owned_in, owned_by};
@@ -8,7 +8,7 @@ ghost use Rattle.piped_run.specs.Standing.{EachStands};
 use graph_compile::{Branch, Stage};
 use std::alloc::{AllocError, Global};
 
-/// The functions of a chain of so many, in chain order, from the branches that own them.
+/// The `count` functions of a chain, in chain order, from the branches that own them.
 pub(crate) fn put_together<F: Drop>(
     alloc: Global,
     stages: &[Stage],
@@ -29,7 +29,7 @@ pub(crate) fn put_together<F: Drop>(
     functions_in(alloc, places)
 }
 
-/// So many empty places.
+/// This number of empty places.
 fn empty_places<F: Drop>(alloc: Global, count: usize) -> Result<Vec<Option<F>>, AllocError>
     ensures { IfOk result (λ places. places.items ≡ replicate count None) }
 {

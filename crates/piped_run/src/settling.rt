@@ -1,4 +1,4 @@
-//! The functions of a work behind a burst, with what they noted settled.
+//! The functions of a work after a burst, with their notes settled.
 ghost use Rattle.std.specs.Prelude.{◌≡◌, List, IfOk};
 ghost use Rattle.burst_law.specs.Bursts.{Message};
 ghost use Rattle.piped_run.specs.Settling.{settled_own};
@@ -10,8 +10,8 @@ use graph_run::Function;
 use settled_notes::settle_listed;
 use std::alloc::AllocError;
 
-/// The functions of a work behind a burst whose packets ended so: each note that it listed is settled, unless a function at an
-/// earlier position dropped the packet. The one refusal is want of memory.
+/// The functions of a work after a burst whose packets have these fates: each note that it listed is settled, unless a
+/// function at an earlier position dropped the packet. The only error is that memory runs out.
 pub(crate) fn settle_work<F: Function + Drop>(
     work: OwnedFunctions<F>,
     fates: &[Fate],

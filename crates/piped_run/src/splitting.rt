@@ -1,4 +1,4 @@
-//! The functions of a branch, taken out of their places.
+//! Takes the functions of a branch out of their places.
 ghost use Rattle.std.specs.Prelude.{◌≡◌, ◌≤◌, ◌-◌, ◌++◌, ℕ, List, None, Some, length, map, slice_set, IfOk, OnOk};
 ghost use Rattle.burst_law.specs.Owned.{owned};
 ghost use Rattle.piped_run.specs.Places.{AreThere, at_place};
@@ -35,7 +35,7 @@ pub(crate) fn split_branch<F: Drop>(
     Ok(own)
 }
 
-/// Takes what is in the place of a position, which is empty then.
+/// Takes the content of the place of a position, which is empty afterwards.
 fn take_at<F: Drop>(places: &mut [Option<F>], position: u32) -> Option<F>
     requires first { 1 ≤ position }
     requires last { position ≤ length places.old }

@@ -1,4 +1,5 @@
-//! A burst of whole frames, or a piece of one, through the stages of a graph, whose dealers, branches and mergers are nodes.
+//! Runs a burst of whole frames, or a piece of one, through the stages of a graph, whose dealers, branches and mergers
+//! are nodes.
 ghost use Rattle.std.specs.Prelude.{◌≡◌, ◌≤◌, length, IfOk, OnErr};
 ghost use Rattle.chain_walk.specs.Packets.{fates};
 ghost use Rattle.graph_run.specs.Counting.{RaisesUpTo, copies_made};
@@ -19,8 +20,8 @@ use std::sync::Wait;
 use std::thread::Threads;
 use stream_law::bursts_in_parts_lead;
 
-/// Leads the packets of these items that are of the chain with this number through the stages of a graph, whose dealers,
-/// branches and mergers are nodes, at work under this schedule, and gives the fate of each, in their order.
+/// Runs the packets of these items that are of the chain with this number through the stages of a graph, whose dealers,
+/// branches and mergers are nodes, at work under this schedule, and returns the fate of each, in their order.
 pub(crate) fn run_stages<F: Function + Drop + Send, G: Gate + Sync, R: Threads + Wait + Sync>(
     rt: &R,
     alloc: Global,

@@ -1,4 +1,4 @@
-//! The functions of a branch, in turn on what comes of a packet.
+//! Runs the functions of a branch in turn on a packet.
 ghost use Rattle.std.specs.Prelude.{◌≡◌, ℕ, false, true, IfOk, OnOk, OnErr};
 ghost use Rattle.chain_walk.specs.Counting.{quiet};
 ghost use Rattle.graph_run.specs.Running.{profiles_of};
@@ -18,14 +18,14 @@ use settled_notes::{ListedNote, list_note};
 use std::alloc::{AllocError, Global};
 use std::sync::Wait;
 
-/// One branch's turn: its functions, which have these chain positions, one after another on what comes of
-/// the packet with this record number, until one drops it. Each step passes the gate first. A function that counts doesn't
-/// step: what it notes is listed for the packet's number in the burst, `item`, and settled once it is known where the packet
-/// ends. A packet that is gone already passes on as such, and no function sees it.
+/// One branch's turn: its functions, which have these chain positions, run one after another on what comes of the
+/// packet with this record number, until one drops it. Each step passes the gate first. A function that counts doesn't
+/// step: what it notes is listed for the packet's number in the burst, `item`, and settled once it is known how the
+/// packet ends. A packet that is gone already passes on as such, and no function sees it.
 ///
-/// Short where memory is; then nothing is said of the functions' states, but that each function stands in its place
-/// as it was or as its step left it: no kind, setting or order changes in any case. The first of the packet's notes may be
-/// listed then.
+/// `Short` if memory runs out. Then nothing is promised of the functions' states, except that each function is in its
+/// place as it was or as its step left it: kind, settings and order never change. The first of the packet's notes may
+/// already be listed then.
 pub fn branch_turn<F: Function, G: Gate, R: Wait>(
     rt: &R,
     alloc: Global,
@@ -62,7 +62,7 @@ pub fn branch_turn<F: Function, G: Gate, R: Wait>(
     }
 }
 
-/// What comes from a branch, as a message. Short where memory is.
+/// The result of a branch, as a message. `Short` if memory ran out.
 fn send(alloc: Global, came: Result<Arrival, AllocError>) -> Message<Version>
     ensures sent { is_short (plain result) ≡ false → IfOk came (λ arrival. plain result ≡ as_sent arrival) }
     ensures refused { OnErr came (is_short (plain result) ≡ true) }
@@ -75,8 +75,8 @@ fn send(alloc: Global, came: Result<Arrival, AllocError>) -> Message<Version>
     }
 }
 
-/// The functions of a branch, which have these chain positions, one after another on a version of a packet,
-/// until one drops it. Each passes the gate before its step, or before it looks at the packet.
+/// Runs the functions of a branch, which have these chain positions, one after another on a version of a packet, until
+/// one drops it. Each passes the gate before its step, or before it looks at the packet.
 fn turn_on<F: Function, G: Gate, R: Wait>(
     rt: &R,
     gate: &G,

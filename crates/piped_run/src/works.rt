@@ -19,7 +19,7 @@ use node_run::StageWork;
 use std::alloc::{AllocError, Global};
 
 /// The functions of a chain as works for the packets with these record numbers: each branch of these stages has those
-/// that stand at its positions, in their order. The one refusal is want of memory.
+/// at its positions, in their order. The only error is that memory runs out.
 pub(crate) fn begin_works<F: Function + Drop>(
     alloc: Global,
     stages: &[Stage],
@@ -46,7 +46,7 @@ pub(crate) fn begin_works<F: Function + Drop>(
     Ok(works)
 }
 
-/// What the branches of a stage get of a packet, once more.
+/// A copy of the parts of a stage.
 fn same_parts(alloc: Global, parts: &StageParts) -> Result<StageParts, AllocError>
     ensures { IfOk result (λ same. same ≡ parts.now) }
 {
@@ -117,7 +117,7 @@ fn counts_any<F: Function>(functions: &[F]) -> bool
     functions.iter().any(|function| function.profile().counts)
 }
 
-/// How many notes these functions make at most of so many packets.
+/// The greatest number of notes that these functions make on `packets` packets.
 fn most_notes<F: Function>(functions: &[F], packets: usize) -> usize {
     let mut most: usize = 0;
     for function in functions {

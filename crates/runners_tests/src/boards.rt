@@ -1,4 +1,4 @@
-//! What branches put on a board comes together, packet by packet.
+//! The values that branches put on a board come together, packet by packet.
 ghost use Rattle.std.specs.Prelude.{◌≡◌, ◌≤◌, ◌<◌, ◌%◌, ◌∷◌, [], false};
 ghost use Rattle.std.specs.Vec.{vec_capacity};
 ghost use Rattle.merge_board.specs.Rule.{has};
@@ -60,7 +60,7 @@ fn new_meeting<D: BoardDue<u32>>(rt: &impl Abort, alloc: Global) -> Meeting
     }
 }
 
-/// Looks before each put of a packet's values, when nothing is complete, and behind the last, and ends the board.
+/// Polls before each put of a packet's values, when nothing is complete, and after the last, and ends the board.
 fn in_turn(rt: &impl Abort, alloc: Global) -> (Option<Complete>, Vec<u32>) {
     let mut values = had(rt, Vec::with_capacity(alloc, 2));
     let Meeting {
@@ -157,7 +157,7 @@ fn put_second_and_collect<R: Wait>(
     (values, others)
 }
 
-/// One thread puts for the first branch, another for the second, and collects what both put.
+/// One thread puts for the first branch; another puts for the second, and collects the values of both.
 fn across(rt: &(impl Abort + Threads + Wait + Sync), alloc: Global) -> (Vec<u32>, Vec<u32>) {
     let values = had(rt, Vec::with_capacity(alloc, 2));
     let others = had(rt, Vec::with_capacity(alloc, 2));

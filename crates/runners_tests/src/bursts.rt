@@ -4,7 +4,7 @@ use crate::plenty::had;
 use crate::runs::packet;
 use classifier::{Burst, Cutter};
 
-// Has a burst been closed with so many packets?
+// Has a burst been closed with `count` packets?
 fn has_packets(burst: &Option<Burst>, count: usize) -> bool {
     match burst {
         Some(burst) => burst.items.as_slice().len() == count,

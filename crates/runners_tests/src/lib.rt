@@ -1,8 +1,7 @@
-//! Tests of what leads packets to chains and through a graph, and of where threads meet, through public
-//! calls alone.
+//! Tests of the code that sends packets to chains and through a graph, and of the places where threads meet, through
+//! public calls alone.
 //!
-//! No clause says that a call finds memory, so each call that takes some runs here once with ample
-//! memory.
+//! No clause says that a call gets memory, so each call that allocates runs here once with ample memory.
 #![tactic(auto)]
 
 #[cfg(test)]

@@ -26,7 +26,7 @@ fn link_of<D: LinkDue<u32>>(
     had(rt, link::<u32, D>(alloc, 3))
 }
 
-/// What a link gives before anything was put, and then.
+/// What a link returns before anything was put, and what afterwards.
 fn asked_twice(rt: &(impl Abort + Wait), alloc: Global) -> [Option<u32>; 2] {
     let (mut putter, mut taker) = link_of::<Brand>(rt, alloc, 5, 6, 7);
     let before = taker.try_take(rt);
@@ -39,7 +39,7 @@ fn a_new_link_is_empty_until_a_number_is_put(rt: HostRuntime) {
     assert_eq!(rt; asked_twice(&rt, rt.alloc()), [None, Some(5)]);
 }
 
-/// As many numbers are put as a link has room for, and two of them taken.
+/// Puts as many numbers as a link has room for, and takes two of them.
 fn all_put_two_taken(rt: &(impl Abort + Wait), alloc: Global) -> ([u32; 2], Counts) {
     let (mut putter, mut taker) = link_of::<Brand>(rt, alloc, 5, 6, 7);
     putter.put(rt, 5);
@@ -74,7 +74,7 @@ fn ask<R: Wait>(
     ([first, second, third], asking, answered)
 }
 
-/// Waits for three questions, and answers each by ten more.
+/// Waits for three questions, and answers each with the number plus ten.
 fn answer<R: Wait>(
     rt: &R,
     mut asked: Taker<u32>,

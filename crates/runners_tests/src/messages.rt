@@ -1,4 +1,4 @@
-//! Messages of packets go over links, one by one and in rows.
+//! Messages of packets over links, one by one and in rows.
 ghost use Rattle.std.specs.Prelude.{◌≡◌, ◌∷◌, []};
 ghost use Rattle.packet_messages.specs.Messages.{PlainMessage.Live, PlainMessage.Nil, PlainMessage.Short};
 
@@ -28,7 +28,7 @@ fn taken(message: Message<u32>) -> Came {
     }
 }
 
-/// A link on which a part, a position and want of memory are due.
+/// A link on which a part, a position and `Short` are due.
 fn each_due<D: LinkDue<Parcel<u32>>>(
     rt: &impl Abort,
     alloc: Global,
@@ -90,7 +90,7 @@ fn unshared(rt: &impl Abort, alloc: Global, outlet: Outlet<u32>) -> Outlets<u32>
     list
 }
 
-/// What came of two parts, and of the position behind each.
+/// What came of two parts, and of the position after each.
 fn in_rows(rt: &(impl Abort + Wait), alloc: Global) -> [Came; 4] {
     let (outlet, inlet) = two_due::<Brand>(rt, alloc, 5, 2);
     let (other_outlet, other_inlet) = two_due::<Brand>(rt, alloc, 6, 2);

@@ -1,4 +1,4 @@
-//! A burst of packets runs through a graph: packet by packet, stage by stage, and all at once, by both ways of merging.
+//! Runs a burst of packets through a graph: packet by packet, stage by stage, and all at once, in both ways of merging.
 ghost use Rattle.std.specs.Prelude.{◌≡◌, ◌≤◌, [], ◌∷◌, length, map};
 ghost use Rattle.action_profile.specs.Profiles.{profile_of};
 ghost use Rattle.action_profile.specs.declared.kind.Kind.{Kind};
@@ -29,7 +29,7 @@ use std::sync::Wait;
 use std::sync::atomic::{AtomicU64, Ordering};
 use std::thread::Threads;
 
-/// A gate that is always open, and counts who passes.
+/// A gate that is always open, and counts the calls.
 #[derive(Drop)]
 struct Passes {
     count: AtomicU64,
@@ -63,7 +63,7 @@ pub fn packet(rt: &impl Abort, alloc: Global, host: u8) -> PcapRecord {
     }
 }
 
-/// A packet with this number, from the host with the same.
+/// A packet with this number, from the host with the same number.
 fn item(rt: &impl Abort, alloc: Global, number: u8, class: Option<u32>) -> Item {
     Item {
         number: u32::from(number),
@@ -114,7 +114,7 @@ fn open_and_hop(rt: &impl Abort, alloc: Global) -> Vec<NetFunction>
     had(rt, Vec::from_array(alloc, functions))
 }
 
-/// A chain of two functions, and what it does to packets.
+/// A chain of two functions.
 #[derive(Clone, Copy)]
 enum Chain {
     /// The second drops every packet.
@@ -148,13 +148,14 @@ fn open(rt: &impl Abort, alloc: Global) -> Running<NetFunction> {
 enum Way {
     /// One after another, past no gate.
     Plain,
-    /// All through one stage and then the next, with so many mergers.
+    /// All through one stage and then the next, with this number of mergers.
     Joined(u32),
-    /// The stages at once, with so many mergers, which merge in this way.
+    /// The stages at once, with this number of mergers, which merge in this way.
     Piped(u32, MergeWay),
 }
 
-// The runs promise much, and each function that calls them is shown all of that: so each is called by one function, which says nothing.
+// The contracts of the runs are long, and the prover sees all of their clauses in every function that calls them. So
+// only one function calls each of them, and it promises nothing itself.
 
 type Ran = Result<(Running<NetFunction>, Vec<Fate>), AllocError>;
 
@@ -229,7 +230,7 @@ fn is_shut_out(fate: &Fate) -> bool {
     }
 }
 
-/// Did the packets of the hosts 1, 3 and 5 end where this chain leads them, in this order?
+/// Did the packets of the hosts 1, 3 and 5 end as this chain decides, in this order?
 fn are_due(chain: Chain, fates: &[Fate]) -> bool {
     match (chain, fates) {
         (Chain::Shut, [one, three, five]) => {
@@ -242,7 +243,7 @@ fn are_due(chain: Chain, fates: &[Fate]) -> bool {
     }
 }
 
-// Leads the burst through a chain. Each of its two functions sees each of three packets, and nothing is copied.
+// Runs the burst through a chain. Each of its two functions sees each of three packets, and nothing is copied.
 fn compare(
     rt: &(impl Abort + AllocGlobal + Threads + Wait + Clock + Sync),
     chain: Chain,
@@ -259,7 +260,7 @@ fn compare(
     assert_eq!(rt; (copies, gate.so_far()), (0, passes));
 }
 
-// Ways, and how many steps pass the gate.
+// Ways, and the number of steps that pass the gate.
 const WAYS: &[(Way, u64)] = &[
     (Way::Plain, 0),
     (Way::Joined(2), 6),
@@ -288,7 +289,7 @@ fn packets_go_out_in_their_order(rt: HostRuntime) {
     compare_ways(&rt, Chain::Open);
 }
 
-/// What comes of a packet that the second function dropped, at two functions behind it.
+/// The result for a packet that the second function dropped, at two functions after it.
 fn behind(rt: &(impl Abort + Wait), alloc: Global, gate: &Passes) -> Option<u32> {
     let mut functions = open_and_shut(rt, alloc);
     let positions = [3, 4];

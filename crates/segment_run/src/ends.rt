@@ -1,4 +1,4 @@
-//! One end of a tunnel, through which each packet goes alone.
+//! Runs packets through one end of a tunnel, each by itself.
 ghost use Rattle.std.specs.Prelude.{◌≡◌, ◌++◌, List, ◌∷◌, IfOk, OnOk, map};
 ghost use Rattle.capture_bytes.specs.declared.packet.Unit.{Unit as TimeUnit};
 ghost use Rattle.classifier.specs.declared.burst.Item.{Item};
@@ -20,7 +20,7 @@ pub(crate) enum End {
     Open,
 }
 
-/// Lets each packet of the chain with this number go out behind the end.
+/// Lets each packet of the chain with this number go out after the end.
 pub(crate) fn rewrite_all(
     alloc: Global,
     end: End,
@@ -36,7 +36,7 @@ pub(crate) fn rewrite_all(
     Ok(fates)
 }
 
-// Adds how a packet goes out, if it is of the chain.
+// Adds the fate of a packet, if it is of the chain.
 fn rewrite_next(
     alloc: Global,
     end: End,
@@ -55,7 +55,7 @@ fn rewrite_next(
     Ok(())
 }
 
-/// Lets each packet that goes out do so behind the end. Its frame is rewritten and not copied before.
+/// Rewrites the frame of each packet that goes out. The frame isn't copied before.
 pub(crate) fn rewrite_fates(
     alloc: Global,
     end: End,
@@ -71,7 +71,7 @@ pub(crate) fn rewrite_fates(
     Ok(fates)
 }
 
-// The same fate behind the end.
+// The fate after the end.
 fn rewrite_fate(alloc: Global, end: End, fate: Fate) -> Result<Fate, AllocError>
     ensures { IfOk result (λ new. new ≡ out_by (rewritten end) fate) }
 {
@@ -84,7 +84,7 @@ fn rewrite_fate(alloc: Global, end: End, fate: Fate) -> Result<Fate, AllocError>
     }
 }
 
-// The frame behind the end.
+// The frame after the end.
 fn rewrite(alloc: Global, end: End, frame: Frame) -> Result<Frame, AllocError>
     ensures { IfOk result (λ new. new ≡ rewritten end frame) }
 {

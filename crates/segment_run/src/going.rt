@@ -1,4 +1,4 @@
-//! The packets that go on behind a piece.
+//! The packets that go on after a piece.
 ghost use Rattle.std.specs.Prelude.{◌≡◌, ◌≤◌, ◌+◌, ◌++◌, List, [], ◌∷◌, IfOk, OnOk, length};
 ghost use Rattle.capture_bytes.specs.declared.packet.Unit.{Unit as TimeUnit};
 ghost use Rattle.classifier.specs.declared.burst.Item.{Item};
@@ -13,8 +13,8 @@ use item_list::Items;
 use std::alloc::{AllocError, Global};
 use std::vec::IntoIter;
 
-/// The packets of the chain with this number that go on, of those that came so far: each with the frame that it has by then, which is
-/// moved and not copied.
+/// The packets of the chain with this number that go on, of those that came so far: each with its present frame, which
+/// is moved and not copied.
 pub(crate) fn going(
     alloc: Global,
     items: &[Item],
@@ -34,7 +34,7 @@ pub(crate) fn going(
     })
 }
 
-// Adds the packet, if it is of the chain and goes on by the next fate, which is taken off.
+// Adds the packet, if it is of the chain and goes on by the next fate, which is removed from the front.
 fn go_on(
     item: &Item,
     chain: u32,

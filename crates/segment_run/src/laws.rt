@@ -1,4 +1,4 @@
-//! What is known of the copies that bursts make, and of how long frames get.
+//! Laws on the copies that bursts make, and on the lengths of frames.
 ghost use Rattle.std.specs.Prelude.{◌≡◌, ◌≤◌, ◌+◌, ℕ, List, [], ◌∷◌, ◌++◌, length};
 ghost use Rattle.packet_fields.specs.declared.field.Field.{Field};
 ghost use Rattle.graph_compile.specs.declared.graph.Stage.{Stage};
@@ -16,8 +16,8 @@ use crate::piece::Piece;
 use net_functions::Function;
 use nf_tunnel::{Decap, Encap, an_entry_adds_twenty_bytes};
 
-/// The copies that two lots make are those of the first, and those of the second as the first left the pieces. A chain that is one
-/// graph makes what its graph makes.
+/// The copies of two lots are those of the first, and those of the second as the first left the pieces. A chain that is
+/// one graph makes the copies of its graph.
 #[tactic(auto, using(crate::proofs::CopiesInRow::copies_in_a_row, crate::proofs::CopiesInRow::copies_of_one))]
 pub fn bursts_are_counted_in_a_row<F>()
     ensures row { (b : Behaviour F) (pieces : List (PlainPiece F)) (first later : List Packet) (f : Field) →
@@ -26,7 +26,7 @@ pub fn bursts_are_counted_in_a_row<F>()
         copies_through b (Graph stages functions ∷ []) ps f ≡ copies_made stages ps (fates b functions ps) f }
 {}
 
-/// A piece that runs makes frames little longer: an end of a tunnel puts one header of 20 bytes before a packet, or takes one off.
+/// A piece makes frames little longer: an end of a tunnel puts one header of 20 bytes before a packet, or removes one.
 pub fn piece_grows_little<F: Function>(piece: &Piece<F>)
     ensures { GrowsLittle (piece_of piece.now) }
 {

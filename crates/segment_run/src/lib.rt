@@ -1,8 +1,9 @@
 //! Runs bursts of packets through the pieces of a chain.
 //!
-//! Some functions rewrite a packet whole, so that nothing can run beside them: a chain is cut before and behind each of them. [`run_pieces`] leads a
-//! burst through the [`Piece`]s one after another: through the graph of one (`piped_run`), whose packets are sealed where it ends, or through a function
-//! that rewrites each packet whole (`nf_tunnel`). The packets end as the yardstick of `piece_walk` says, and so do the functions.
+//! Some functions rewrite a packet whole, so that nothing can run beside them: a chain is cut before and after each of
+//! them. [`run_pieces`] runs a burst through the [`Piece`]s one after another: through the graph of a piece
+//! (`piped_run`), at whose end the packets are sealed, or through a function that rewrites each packet whole
+//! (`nf_tunnel`). The packets and the functions end as the model of `piece_walk` says.
 #![tactic(auto)]
 
 mod ends;
@@ -17,7 +18,7 @@ pub use laws::{bursts_are_counted_in_a_row, piece_grows_little};
 pub use piece::Piece;
 pub use run::run_pieces;
 
-// What pieces are made of and how they run, for the crates above.
+// The parts of pieces and the ways to run them, for the crates above.
 pub use graph_run::Running;
 pub use net_functions::{FlowNote, Function, Made, NetFunction};
 pub use piped_run::MergeWay;

@@ -1,4 +1,4 @@
-//! The fates of packets that went on, put back among those of all.
+//! Puts the fates of packets that went on back among those of all.
 ghost use Rattle.std.specs.Prelude.{◌≡◌, ◌≤◌, ◌+◌, List, [], ◌∷◌, ◌++◌, None, All, IfOk, map};
 ghost use Rattle.std.specs.Option.{option_to_list};
 ghost use Rattle.chain_walk.specs.Walk.{EndsWithin};
@@ -11,7 +11,8 @@ use packet_fields::Frame;
 use std::alloc::{AllocError, Global};
 use std::vec::IntoIter;
 
-/// The same fates without frames: all that is put back of them is which packets are gone, so that the frames of the others can be moved on.
+/// The same fates without frames: only which packets are gone is needed later, so the frames of the others can be moved
+/// on.
 pub(crate) fn without_frames(alloc: Global, ended: &[Fate]) -> Result<Vec<Fate>, AllocError>
     ensures { IfOk result (λ fates. fates.items ≡ map without_frame ended.now) }
 {
@@ -22,7 +23,7 @@ pub(crate) fn without_frames(alloc: Global, ended: &[Fate]) -> Result<Vec<Fate>,
     Ok(fates)
 }
 
-// The same fate without its frame. An empty frame takes no memory.
+// The same fate without its frame. An empty frame needs no memory.
 fn without_frame(alloc: Global, fate: &Fate) -> Fate
     ensures { result ≡ without_frame fate.now }
 {
@@ -32,7 +33,8 @@ fn without_frame(alloc: Global, fate: &Fate) -> Fate
     }
 }
 
-/// The fates of all packets, where those that went on ended so: behind so many functions, which their positions count too.
+/// The fates of all packets. Those that went on have these later fates, whose positions also count the `before`
+/// functions of the pieces before.
 pub(crate) fn put_back(
     alloc: Global,
     ended: Vec<Fate>,
@@ -54,7 +56,7 @@ pub(crate) fn put_back(
     Ok(all)
 }
 
-// How a packet ended that had ended so, or went on.
+// The fate of a packet that had this fate before, or went on.
 fn put_next(fate: Fate, later: &mut IntoIter<Fate>, before: u32) -> Option<Fate>
     requires few { before ≤ 64 }
     requires within { All (EndsWithin 64) later.old.rest.items }
@@ -67,7 +69,7 @@ fn put_next(fate: Fate, later: &mut IntoIter<Fate>, before: u32) -> Option<Fate>
     }
 }
 
-// The next of these fates, which is taken off, behind so many functions.
+// The next of these fates, which is removed from the front, after `before` functions.
 fn next_moved(later: &mut IntoIter<Fate>, before: u32) -> Option<Fate>
     requires few { before ≤ 64 }
     requires within { All (EndsWithin 64) later.old.rest.items }
@@ -81,7 +83,7 @@ fn next_moved(later: &mut IntoIter<Fate>, before: u32) -> Option<Fate>
     }
 }
 
-// The same end, behind so many functions.
+// The same fate, after `before` functions.
 fn move_fate(fate: Fate, before: u32) -> Fate
     requires few { before ≤ 64 }
     requires within { EndsWithin 64 fate }

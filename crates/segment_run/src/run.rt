@@ -1,4 +1,4 @@
-//! A burst on its way through the pieces of a chain.
+//! Runs a burst through the pieces of a chain.
 ghost use Rattle.std.specs.Prelude.{◌≡◌, ◌≤◌, ◌+◌, ℕ, List, [], ◌∷◌, ◌++◌, All, length, IfOk, OnErr};
 ghost use Rattle.chain_walk.specs.Walk.{EndsWithin};
 ghost use Rattle.graph_run.specs.Counting.{RaisesUpTo};
@@ -28,14 +28,14 @@ use std::sync::Wait;
 use std::thread::Threads;
 use std::vec::IntoIter;
 
-/// Leads the packets of a burst that are of the chain with this number through its pieces, one piece after another, and gives the fate of
-/// each, in their order: the frame that goes out is sealed, and a position counts all functions of the chain, from 1. In a piece with a
-/// graph the packets go as `run_piped` leads them, with so many mergers, 1 to 16, that put together in this way; gate positions count within
-/// the piece.
+/// Runs the packets of a burst that are of the chain with this number through its pieces, one piece after another, and
+/// returns the fate of each, in their order: the frame that goes out is sealed, and a position counts all functions of
+/// the chain, from 1. In a piece with a graph the packets run as in `run_piped`, with `mergers` mergers, from 1 to 16,
+/// that merge in this way; gate positions count within the piece.
 ///
-/// Every packet ends as if it went through the pieces one after another, each as the packet before left it, and so do the pieces. The
-/// tally rises by the copies that were made. The one refusal is want of memory: the pieces are gone then, and the tally may have risen by
-/// copies that were made.
+/// Every packet ends as if it went through the pieces one after another, each meeting them as the packet before left
+/// them, and the pieces end in the same states. The tally rises by the copies that were made. The only error is that
+/// memory runs out: then the pieces are lost, and the tally may have risen by copies that were made.
 pub fn run_pieces<F: Function + Drop + Send, G: Gate + Sync, R: Threads + Wait + Clock + Sync>(
     rt: &R,
     alloc: Global,
@@ -64,7 +64,7 @@ pub fn run_pieces<F: Function + Drop + Send, G: Gate + Sync, R: Threads + Wait +
     }
 }
 
-// Lets each packet of the chain go out as it is.
+// Lets each packet of the chain go out unchanged.
 fn pass_all<F: Function + Drop>(
     alloc: Global,
     burst: &Burst,
@@ -77,7 +77,7 @@ fn pass_all<F: Function + Drop>(
     Ok((Vec::new(alloc), fates))
 }
 
-// Leads them through the first piece, and through those that are left.
+// Runs the packets through the first piece, and through the pieces that are left.
 fn run_on<F: Function + Drop + Send, G: Gate + Sync, R: Threads + Wait + Clock + Sync>(
     rt: &R,
     alloc: Global,
@@ -117,7 +117,7 @@ fn run_on<F: Function + Drop + Send, G: Gate + Sync, R: Threads + Wait + Clock +
     Ok((done, ended))
 }
 
-// How many functions a piece has.
+// The number of functions of a piece.
 fn count_of<F: Function>(piece: &Piece<F>) -> u32
     requires { count_of_piece (piece_of piece.now) ≤ 64 }
     ensures { result ≡ count_of_piece (piece_of piece.now) }
@@ -129,7 +129,7 @@ fn count_of<F: Function>(piece: &Piece<F>) -> u32
     }
 }
 
-// Leads the packets that go on, of those that ended so before so many functions, through one piece more.
+// Runs the packets that go on, by their fates after `before` functions, through one more piece.
 fn lead_on<F: Function + Drop + Send, G: Gate + Sync, R: Threads + Wait + Clock + Sync>(
     rt: &R,
     alloc: Global,
@@ -168,7 +168,7 @@ fn lead_on<F: Function + Drop + Send, G: Gate + Sync, R: Threads + Wait + Clock 
     }
 }
 
-// Leads those that go on through a graph.
+// Runs the packets that go on through a graph.
 fn lead_graph_on<F: Function + Drop + Send, G: Gate + Sync, R: Threads + Wait + Clock + Sync>(
     rt: &R,
     alloc: Global,
@@ -200,7 +200,7 @@ fn lead_graph_on<F: Function + Drop + Send, G: Gate + Sync, R: Threads + Wait + 
     Ok((piece, all))
 }
 
-// Leads them through one piece.
+// Runs the packets through one piece.
 fn lead<F: Function + Drop + Send, G: Gate + Sync, R: Threads + Wait + Clock + Sync>(
     rt: &R,
     alloc: Global,
@@ -236,7 +236,7 @@ fn lead<F: Function + Drop + Send, G: Gate + Sync, R: Threads + Wait + Clock + S
     }
 }
 
-// Leads them through a graph.
+// Runs the packets through a graph.
 fn lead_graph<F: Function + Drop + Send, G: Gate + Sync, R: Threads + Wait + Clock + Sync>(
     rt: &R,
     alloc: Global,
@@ -264,7 +264,7 @@ fn lead_graph<F: Function + Drop + Send, G: Gate + Sync, R: Threads + Wait + Clo
     Ok((Piece::Graph(run), fates))
 }
 
-// Lets them out behind one end of a tunnel.
+// Lets the packets go out after one end of a tunnel.
 fn lead_end<F: Function>(
     alloc: Global,
     end: End,

@@ -1,4 +1,4 @@
-//! The frames that go out of a graph, sealed by those that went in.
+//! Seals the frames that go out of a graph by those that went in.
 ghost use Rattle.std.specs.Prelude.{◌≡◌, ◌++◌, List, ◌∷◌, true, IfOk, OnOk};
 ghost use Rattle.capture_bytes.specs.declared.packet.Unit.{Unit as TimeUnit};
 ghost use Rattle.classifier.specs.declared.burst.Item.{Item};
@@ -61,7 +61,7 @@ fn seal_fate(before: &[u8], fate: Fate) -> Fate
     }
 }
 
-// The frame with its checksums adjusted to what changed. Comparing frames is far cheaper than sealing one.
+// The frame with its checksums adjusted to what changed. To compare frames is far cheaper than to seal one.
 fn seal_frame(before: &[u8], frame: Frame) -> Frame
     ensures { result ≡ sealed before.now frame }
 {
