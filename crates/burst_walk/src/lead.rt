@@ -1,4 +1,4 @@
-//! The packets of a burst on their way through the chains, each chain with its own.
+//! Runs the packets of a burst through the chains, each chain with its own packets.
 ghost use Rattle.std.specs.Prelude.{◌≡◌, ◌≤◌, ◌<◌, ◌^◌, All, IfOk, length, map};
 ghost use Rattle.capture_bytes.specs.Packets.{IsShort};
 ghost use Rattle.piece_walk.specs.PiecePackets.{long_fates};
@@ -22,8 +22,9 @@ use std::rt::Clock;
 use std::sync::Wait;
 use std::thread::Threads;
 
-/// Leads the packets of a burst through their chains, one chain after another, and gives the fates of each chain's packets. The
-/// dealers and branches of a graph run side by side, and what the branches of a stage give is put together so.
+/// Runs the packets of a burst through their chains, one chain after another, and returns the fates of each chain's
+/// packets. The dealers and branches of a graph run side by side, and the results of the branches of a stage are merged
+/// as `merging` says.
 pub fn lead<R: Threads + Wait + Clock + Sync, G: Gate + Sync>(
     rt: &R,
     alloc: Global,
@@ -52,7 +53,7 @@ pub fn lead<R: Threads + Wait + Clock + Sync, G: Gate + Sync>(
     Ok((Items::new(led), rows))
 }
 
-// Leads the packets of a burst through the chain with this number that takes them.
+// Runs the packets of a burst through the chain with this number that takes them.
 fn lead_chain<R: Threads + Wait + Clock + Sync, G: Gate + Sync>(
     rt: &R,
     alloc: Global,
@@ -69,7 +70,7 @@ fn lead_chain<R: Threads + Wait + Clock + Sync, G: Gate + Sync>(
     ensures fates { IfOk result (λ led. led.1.items ≡ long_fates named_behaviour (pieces_in chain) (packets_in number (classed_items unit burst.now.items))) }
     ensures writable { IfOk result (λ led. All IsWritable led.1.items) }
 {
-    // A frame grows by little, so what goes out fits a record.
+    // A frame grows only a little, so a frame that goes out fits into a record.
     frames_grow_little::<NamedFunction>();
     pieces_keep_their_kind::<NamedFunction>();
     let ServiceChain {

@@ -1,18 +1,18 @@
-//! How what the branches of a stage give is put together.
+//! How the results of the branches of a stage are merged.
 ghost use Rattle.std.specs.Prelude.{◌≡◌, ◌≤◌};
 ghost use Rattle.burst_walk.specs.Mergers.{number_of};
 
 use chain_service::MergeWay;
 
-/// How many mergers a stage has at most: 1 to 16, and no other number can be said.
+/// The greatest number of mergers of a stage: 1 to 16, and no other number can be expressed.
 #[derive(Clone, Copy, Debug, PartialEq, Eq)]
 pub struct Mergers {
-    // How many there are beside the first, of which the remainder of 16 counts.
+    // The number of mergers besides the first. Only its remainder modulo 16 counts.
     more: u8,
 }
 
 impl Mergers {
-    /// So many mergers.
+    /// This number of mergers.
     pub fn new(count: u32) -> Mergers
         requires some { 1 ≤ count }
         requires few { count ≤ 16 }
@@ -23,7 +23,7 @@ impl Mergers {
         }
     }
 
-    /// How many mergers.
+    /// The number of mergers.
     pub fn count(self) -> u32
         ensures count { result ≡ number_of self }
         ensures some { 1 ≤ result }
@@ -33,8 +33,8 @@ impl Mergers {
     }
 }
 
-/// By how many mergers, and in which way, what the branches of a stage give is put together. What comes of a packet doesn't depend on
-/// either.
+/// The number of mergers, and the way, by which the results of the branches of a stage are merged. The fate of a packet
+/// depends on neither.
 #[derive(Clone, Copy, Debug, PartialEq, Eq)]
 pub struct Merging {
     pub mergers: Mergers,

@@ -1,4 +1,4 @@
-//! How much longer the ends of a tunnel make a packet.
+//! A law on how much longer the ends of a tunnel make a packet.
 ghost use Rattle.std.specs.Prelude.{All};
 ghost use Rattle.piece_walk.specs.Kinds.{GrowsLittle};
 ghost use Rattle.chain_service.specs.SegmentRunProofs.{pieces_of};

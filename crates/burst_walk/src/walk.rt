@@ -1,4 +1,4 @@
-//! The way of a burst through a service.
+//! Runs a burst through a service.
 ghost use Rattle.std.specs.Prelude.{◌≡◌, ◌≤◌, All, IfOk, IfSome, OnOk, length, map};
 ghost use Rattle.chain_service.specs.Opening.{chains_of, fits_of};
 ghost use Rattle.burst_walk.specs.Fates.{all_classed, chains_behind, fates_of};
@@ -18,11 +18,13 @@ use std::rt::Clock;
 use std::sync::Wait;
 use std::thread::Threads;
 
-/// Leads the packets of a burst through their chains, and gives where each ended, none for one that no chain takes.
+/// Runs the packets of a burst through their chains, and returns the fate of each, `None` for a packet that no chain
+/// takes.
 ///
-/// Where the burst goes on threads, the branches of a stage run side by side, and behind them at most so many mergers, 1 to 16, which put
-/// together in this way what the branches give; else it goes on the caller's thread, by the pace of its chain. Nothing that comes of a
-/// packet depends on that. Each step of a function passes the gate first.
+/// If the burst runs on threads, the branches of a stage run side by side, and after them at most as many mergers as
+/// `merging` says, which merge the results of the branches in its way. Otherwise the burst runs on the caller's thread.
+/// The pace of its chain decides which. The fate of a packet never depends on that. Each step of a function passes the
+/// gate first.
 pub fn walk_burst<R: Threads + Wait + Clock + Sync, G: Gate + Sync>(
     rt: &R,
     alloc: Global,

@@ -8,7 +8,7 @@ use classifier::Item;
 use std::alloc::{AllocError, Global};
 use std::vec::IntoIter;
 
-/// Gives each packet the next fate of the chain that takes it, and none where no chain does.
+/// Gives each packet the next fate of the chain that takes it, and `None` if no chain does.
 pub fn weave(
     alloc: Global,
     items: &[Item],
@@ -27,7 +27,7 @@ pub fn weave(
     Ok(fates)
 }
 
-// The rows as queues, from whose fronts fates are taken.
+// The rows as queues, so that fates can be taken from their fronts.
 fn queues(alloc: Global, rows: Vec<Vec<Fate>>) -> Result<Vec<IntoIter<Fate>>, AllocError>
     ensures { IfOk result (λ queues. map (λ q. q.rest.items) queues.items ≡ map (λ v. v.items) rows.items) }
 {
@@ -38,7 +38,7 @@ fn queues(alloc: Global, rows: Vec<Vec<Fate>>) -> Result<Vec<IntoIter<Fate>>, Al
     Ok(queues)
 }
 
-// The next fate of this chain's packets, which is taken off.
+// The next fate of this chain's packets, which is removed from the queue.
 fn next_fate(rows: &mut [IntoIter<Fate>], class: Option<u32>) -> Option<Fate>
     requires { IfSome class (λ chain. chain < length rows.old) }
     ensures next { result ≡ next_fate (map (λ q. q.rest.items) rows.old) class }

@@ -1,4 +1,4 @@
-//! A chain that is being cut into pieces, from its first function on.
+//! Cuts a chain into pieces, from its first function on.
 ghost use Rattle.std.specs.Prelude.{◌≡◌, ◌≤◌, length, IfOk};
 ghost use Rattle.segment_run.specs.GraphRun.{profiles_of};
 ghost use Rattle.chain_service.specs.Services.{stages_of};
@@ -10,7 +10,8 @@ use policy_text::Name;
 use segment_run::{Function, Made, Piece, Running};
 use std::alloc::{AllocError, Global};
 
-/// A chain that is cut so far: the pieces that are whole, and the functions behind them, which stand in the next one.
+/// A chain that is cut up to some function: the complete pieces, and the functions after them, which belong to the next
+/// piece.
 #[derive(Drop)]
 pub struct Cutting {
     pub pieces: Vec<Piece<NamedFunction>>,
@@ -34,7 +35,8 @@ impl Cutting {
         }
     }
 
-    /// The chain with one function more, which has this name. One that rewrites packets whole is a piece by itself.
+    /// The chain with one more function, which has this name. A function that rewrites packets whole is a piece by
+    /// itself.
     #[tactic(auto, using(crate::proofs::Joining::function_joins))]
     pub fn with(self, alloc: Global, name: Name, made: Made) -> Result<Cutting, AllocError>
         requires { length self.waiting.items ≤ 64 }
@@ -47,7 +49,7 @@ impl Cutting {
         }
     }
 
-    // The chain with one function more, which sees a packet's fields.
+    // The chain with one more function, which sees a packet's fields.
     fn with_function(self, function: NamedFunction) -> Result<Cutting, AllocError>
         ensures pieces { IfOk result (λ cutting. cutting.pieces.items ≡ self.pieces.items) }
         ensures waiting { IfOk result (λ cutting. cutting.waiting.items ≡ self.waiting.items ++ function ∷ []) }
@@ -60,7 +62,7 @@ impl Cutting {
         Ok(Cutting { pieces, waiting })
     }
 
-    // The chain with one piece more, behind which another one begins.
+    // The chain with one more piece, after which another one begins.
     fn with_tunnel(self, alloc: Global, tunnel: Piece<NamedFunction>) -> Result<Cutting, AllocError>
         requires { length self.waiting.items ≤ 64 }
         ensures pieces { IfOk result (λ cutting. pieces_of cutting.pieces.items ≡ (pieces_of self.pieces.items ++ closed self.waiting.items) ++ piece_of tunnel ∷ []) }

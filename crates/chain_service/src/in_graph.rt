@@ -9,7 +9,7 @@ use graph_compile::Graph;
 use segment_run::{Piece, Running};
 use std::alloc::AllocError;
 
-/// The pieces of a chain. One of a single piece runs in the graph that was written for it, if one was.
+/// The pieces of a chain. A chain of one piece runs in the graph that was written for it, if there is one.
 pub(crate) fn in_graph(
     pieces: Vec<Piece<NamedFunction>>,
     graph: Option<Graph>,

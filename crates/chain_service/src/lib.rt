@@ -1,13 +1,13 @@
-//! What a policy runs: its chains, ready for packets.
+//! The service of a policy: its chains, ready for packets.
 //!
-//! [`make_service`] takes a policy without fault, with the functions that were made when it was judged, and gives the
-//! [`Service`]: each chain as it is declared, the names of its functions in the order in which a packet goes through them, the
-//! pieces into which functions that rewrite packets whole cut it, each with the graph that is compiled for its functions, and the count of
-//! copies; and the table that tells which chain takes a packet.
-//! A [`NamedFunction`] that neither keeps a state nor counts can be had once more, with its name.
-//! `specs/Services.antt` says what a policy runs.
+//! [`make_service`] takes a policy without fault, with the functions that were made when it was judged, and returns the
+//! [`Service`]: each chain as it is declared, the names of its functions in the order in which a packet goes through
+//! them, the pieces into which functions that rewrite packets whole cut it, each with the graph that is compiled for
+//! its functions, and the count of copies; and the table that decides which chain takes a packet. A [`NamedFunction`]
+//! that neither keeps a state nor counts can be cloned, with its name. `specs/Services.antt` defines the service of a
+//! policy.
 //!
-//! How packets are led through the chains is left out.
+//! Left out: how packets are run through the chains.
 #![tactic(auto)]
 
 mod cutting;
@@ -20,7 +20,7 @@ pub use named::NamedFunction;
 pub use pieces::ChainPieces;
 pub use service::{Service, ServiceChain, make_service};
 
-// What a chain's pieces are and how they run, for the crates above.
+// The pieces of chains and the ways to run them, for the crates above.
 pub use segment_run::{
     Function, MergeWay, Piece, bursts_are_counted_in_a_row, piece_grows_little, run_pieces,
 };

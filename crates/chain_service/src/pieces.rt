@@ -27,7 +27,7 @@ impl ChainPieces {
     ghost use Rattle.std.specs.Prelude.{◌≡◌, ◌≤◌};
     ghost use Rattle.segment_run.specs.Segments.{functions_count, pieces_of};
 
-    /// Pieces with at most 64 functions together. Takes no memory.
+    /// Pieces with at most 64 functions together. Allocates nothing.
     pub fn new(items: Vec<Piece<NamedFunction>>) -> ChainPieces
         requires { functions_count (pieces_of items.items) ≤ 64 }
         ensures { result ≡ items.items }
@@ -43,7 +43,7 @@ impl ChainPieces {
         self.items
     }
 
-    /// The pieces one by one, where they stand.
+    /// The pieces as a slice.
     pub fn as_slice(&self) -> &[Piece<NamedFunction>]
         ensures { result.now ≡ self.now }
     {

@@ -25,8 +25,9 @@ use policy_text::{ChainPolicy, FunctionDecl, Name, Policy, name_at};
 use segment_run::{Made, Piece};
 use std::alloc::{AllocError, Global};
 
-/// A chain that runs: as it is declared; the names of its functions, in the order in which a packet goes through them; its pieces, each with a graph
-/// that is compiled for its functions, or that was written for them; and the copies that were made of its packets' fields.
+/// A chain that runs: its declaration; the names of its functions, in the order in which a packet goes through them;
+/// its pieces, each with a graph that is compiled for its functions, or that was written for them; and the copies that
+/// were made of its packets' fields.
 #[derive(Drop)]
 pub struct ServiceChain {
     pub declared: ChainPolicy,
@@ -35,15 +36,15 @@ pub struct ServiceChain {
     pub copies: Tally,
 }
 
-/// Chains that run side by side, in the order of the text, and what tells which of them takes a packet.
+/// Chains that run side by side, in the order of the text, and the table that decides which of them takes a packet.
 #[derive(Drop)]
 pub struct Service {
     pub classes: ClassTable,
     pub chains: Items<ServiceChain>,
 }
 
-/// What a policy without fault runs, each chain in the graph that is written for it, if one is. A chain that has a function that rewrites
-/// packets whole besides others is compiled whatever is written.
+/// The service of a policy without fault, with each chain in the graph that is written for it, if there is one. A chain
+/// that has a function that rewrites packets whole besides others is compiled, whatever is written.
 #[tactic(auto, using(crate::proofs::Opens::opens))]
 pub fn make_service(
     alloc: Global,
@@ -68,7 +69,8 @@ pub fn make_service(
     Ok(Service { classes, chains })
 }
 
-// The chains, each cut by its order into pieces of the functions that were made for it, and in the graph that is written for it.
+// The chains. Each is cut, in its order, into pieces of the functions that were made for it, and runs in the graph that
+// is written for it.
 fn service_chains(
     alloc: Global,
     chains: Items<ChainPolicy>,
@@ -140,8 +142,8 @@ fn name(alloc: Global, declared: &[FunctionDecl], place: u32) -> Result<Name, Al
     Ok(Name::new(name))
 }
 
-// The pieces of the functions that are declared at these places, each taken out of those that were made. No place is asked twice, so
-// each is found.
+// The pieces of the functions that are declared at these places, each taken out of those that were made. No place
+// occurs twice, so each function is found.
 #[tactic(auto, using(crate::proofs::CutSoFar::cutting_begins, crate::proofs::CutSoFar::cutting_goes_on, crate::proofs::CutSoFar::cutting_ends))]
 fn pieces(
     alloc: Global,

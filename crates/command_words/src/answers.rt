@@ -15,7 +15,7 @@ use crate::usage::UsageFault;
 use crate::ways::merge_way;
 use clap::ArgMatches;
 
-// The values of the options that are given.
+// The values of the options on the command line.
 #[derive(Clone, Copy)]
 struct OptionWords<'a> {
     mergers: Option<&'a str>,
@@ -65,7 +65,7 @@ fn names_have_text(names: &FileNames<'_>) -> bool
         && has_text(names.report)
 }
 
-// It is the name of one of the four files.
+// Is `graph` the name of one of the four files?
 fn is_named(names: &FileNames<'_>, graph: &str) -> bool
     ensures { result ≡ contains graph.now (names_of (names_seen names.now)) }
 {
@@ -171,7 +171,7 @@ fn file_names<'a>(matches: &ArgMatches<'a>) -> Option<FileNames<'a>>
     }
 }
 
-/// The command `run` of words that `clap` matched.
+/// The command `run`, from words that `clap` matched.
 pub fn run_answer<'a>(matches: &ArgMatches<'a>) -> Result<Command<'a>, UsageFault>
     ensures answer { answer_seen result ≡ run_read (four_names (first_value (found_of matches.now) (codes "policy"))
         (first_value (found_of matches.now) (codes "capture")) (first_value (found_of matches.now) (codes "out"))
@@ -201,7 +201,7 @@ fn plan_from<'a>(names: PlanNames<'a>) -> Result<Command<'a>, UsageFault>
     }
 }
 
-/// The command `plan` of words that `clap` matched.
+/// The command `plan`, from words that `clap` matched.
 pub fn plan_answer<'a>(matches: &ArgMatches<'a>) -> Result<Command<'a>, UsageFault>
     ensures answer { answer_seen result ≡ plan_read (first_value (found_of matches.now) (codes "policy"))
         (first_value (found_of matches.now) (codes "graph")) }
@@ -218,7 +218,7 @@ pub fn plan_answer<'a>(matches: &ArgMatches<'a>) -> Result<Command<'a>, UsageFau
     }
 }
 
-/// The command `demo` of words that `clap` matched.
+/// The command `demo`, from words that `clap` matched.
 pub fn demo_answer<'a>(matches: &ArgMatches<'a>) -> Result<Command<'a>, UsageFault>
     ensures answer { answer_seen result ≡ demo_read (first_value (found_of matches.now) (codes "seed"))
         (first_value (found_of matches.now) (codes "count")) (first_value (found_of matches.now) (codes "mergers"))
@@ -259,7 +259,7 @@ fn flows_from<'a>(
     }
 }
 
-/// The command `flows` of words that `clap` matched.
+/// The command `flows`, from words that `clap` matched.
 pub fn flows_answer<'a>(matches: &ArgMatches<'a>) -> Result<Command<'a>, UsageFault>
     ensures answer { answer_seen result ≡ flows_read (first_value (found_of matches.now) (codes "capture"))
         (first_value (found_of matches.now) (codes "out")) (first_value (found_of matches.now) (codes "workers"))

@@ -1,4 +1,4 @@
-//! A command as `clap` is told of it: names that have to be there, and options with a value.
+//! The definition of a command for `clap`: required names, and options with a value.
 ghost use Rattle.std.specs.Prelude.{◌≡◌, IfOk, false, [], map};
 ghost use Rattle.clap.specs.Words.{app_of, rule_of};
 ghost use Rattle.command_words.specs.Apps.{app, name_rule, option_rule, rule_for, with_rules};
@@ -6,9 +6,9 @@ ghost use Rattle.command_words.specs.Apps.{app, name_rule, option_rule, rule_for
 use clap::{Arg, ArgAction, Command};
 use std::alloc::{AllocError, Global};
 
-/// What may stand behind a command.
+/// What may follow a command.
 pub enum Argument<'a> {
-    /// A name that has to be there.
+    /// A required name.
     Name(&'a str),
     /// An option with a value.
     Option(&'a str),

@@ -1,22 +1,23 @@
 //! The words of the command line.
 //!
-//! [`read_command`] reads one of these commands, or says why the words are refused, exactly as `specs/Words.antt` says it:
+//! [`read_command`] reads one of these commands, or returns why the words are refused, exactly as `specs/Words.antt`
+//! defines it:
 //!
 //! - `run POLICY CAPTURE OUT REPORT [--mergers N] [--burst N] [--merge WAY] [--graph NAME]`
 //! - `plan POLICY [--graph NAME]`
 //! - `demo SEED COUNT [--mergers N] [--burst N] [--merge WAY]`
 //! - `flows CAPTURE OUT [--workers N] [--burst N]`
 //!
-//! An option stands before, between or behind the names, as `--burst 7` or `--burst=7`, and at most once. Behind the word
-//! `--` each word is a name, so a name that begins with a dash can be given there. WAY is `inbox` or `board`. The words are
-//! told apart first, then the numbers are read, then the way, and the names of files are compared last, the one of
-//! `--graph` among them, so the fault that is told is the first in this order.
+//! An option may come before, between or after the names, as `--burst 7` or `--burst=7`, and at most once. After the
+//! word `--` each word is a name, so a name that begins with a dash can be given there. WAY is `inbox` or `board`.
+//! First the words are told apart, then the numbers are read, then the way, and last the names of files are compared,
+//! including that of `--graph`. The reported fault is the first in this order.
 //!
-//! The words behind the command's own are read by `clap`, and it is proved that what it makes of them is what the definition says, which
-//! doesn't know of it. Two things differ, and are settled here: an empty word and a single dash may stand as a name or a value for `clap`,
-//! and are refused; and every fault that it tells of is one.
+//! The words after the command's own are read by `clap`, and it is proved that the result is that of the definition,
+//! which doesn't mention `clap`. Two differences are handled here: `clap` accepts an empty word and a single dash as a
+//! name or a value, and they are refused; and all its faults are reported as one.
 //!
-//! What a command does is left out.
+//! Left out: what a command does.
 #![tactic(auto)]
 
 mod answers;

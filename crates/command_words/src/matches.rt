@@ -1,4 +1,4 @@
-//! The words behind each command, matched by `clap`.
+//! The words after each command, matched by `clap`.
 ghost use Rattle.std.specs.Prelude.{◌≡◌, ◌≢◌, ◌⊎◌, [], MatchResult, map, string_bytes};
 ghost use Rattle.clap.specs.Words.{kind_of};
 ghost use Rattle.command_words.specs.Apps.{app, demo_names, flows_names, plan_names, rule_for, run_names, with_rules};
@@ -11,7 +11,7 @@ use clap::error::ErrorKind;
 use clap::{ArgMatches, Error};
 use std::alloc::Global;
 
-// Whatever `clap` has against the words is one fault.
+// All faults that `clap` finds in the words are reported as one.
 fn refusal(error: Error) -> WordsFault
     ensures { (result ≡ WordsFault.OutOfMemory) ⊎ ((result ≡ WordsFault.Usage UsageFault.Words)
         × (kind_of error ≢ ErrorKind.OutOfMemory)) }

@@ -38,7 +38,7 @@ fn number(which: Option4, word: &str, low: u64, high: u64) -> Result<u64, UsageF
     }
 }
 
-/// How many mergers there are, 2 where no word says so.
+/// The number of mergers, 2 without the option.
 pub fn mergers(word: Option<&str>) -> Result<u32, UsageFault>
     ensures value { result ≡ mergers_of (word_in word.entry) }
     ensures range { IfOk result (λ n. (1 ≤ n) × (n ≤ 16)) }
@@ -49,7 +49,7 @@ pub fn mergers(word: Option<&str>) -> Result<u32, UsageFault>
     }
 }
 
-/// The most packets of a burst, 1,024 where no word says so.
+/// The greatest number of packets of a burst, 1,024 without the option.
 pub fn burst(word: Option<&str>) -> Result<u32, UsageFault>
     ensures value { result ≡ burst_of (word_in word.entry) }
     ensures range { IfOk result (λ n. (1 ≤ n) × (n ≤ 65536)) }
@@ -60,7 +60,7 @@ pub fn burst(word: Option<&str>) -> Result<u32, UsageFault>
     }
 }
 
-/// How many workers count flows, 2 where no word says so.
+/// The number of workers that count flows, 2 without the option.
 pub fn workers(word: Option<&str>) -> Result<u32, UsageFault>
     ensures value { result ≡ workers_of (word_in word.entry) }
     ensures range { IfOk result (λ n. (1 ≤ n) × (n ≤ 16)) }
@@ -71,14 +71,14 @@ pub fn workers(word: Option<&str>) -> Result<u32, UsageFault>
     }
 }
 
-/// What the draws of the demonstration begin with.
+/// The seed of the demonstration's draws.
 pub fn seed(word: &str) -> Result<u64, UsageFault>
     ensures { result ≡ seed_of word.now }
 {
     number(Option4::Seed, word, 0, u64::MAX)
 }
 
-/// How many packets the demonstration has.
+/// The number of packets of the demonstration.
 pub fn count(word: &str) -> Result<u32, UsageFault>
     ensures value { result ≡ count_of word.now }
     ensures range { IfOk result (λ n. (1 ≤ n) × (n ≤ 1000000)) }

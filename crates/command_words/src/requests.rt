@@ -1,4 +1,4 @@
-//! What the words of a command line ask for.
+//! The requests of a command line.
 
 /// The names of the files of `run`.
 #[derive(Clone, Copy)]
@@ -7,7 +7,7 @@ pub struct FileNames<'a> {
     pub capture: &'a str,
     pub out: &'a str,
     pub report: &'a str,
-    /// `--graph`: the text of graphs that were written by hand, where there is one.
+    /// `--graph`: the text of graphs that were written by hand, if there is one.
     pub graph: Option<&'a str>,
 }
 
@@ -15,7 +15,7 @@ pub struct FileNames<'a> {
 #[derive(Clone, Copy)]
 pub struct PlanNames<'a> {
     pub policy: &'a str,
-    /// `--graph`: the text of graphs that were written by hand, where there is one.
+    /// `--graph`: the text of graphs that were written by hand, if there is one.
     pub graph: Option<&'a str>,
 }
 
@@ -26,45 +26,46 @@ pub struct FlowNames<'a> {
     pub out: &'a str,
 }
 
-/// How what the branches of a stage give comes together. What comes out is the same either way.
+/// How the results of the branches of a stage come together. The output is the same either way.
 #[derive(Clone, Copy)]
 pub enum Way {
-    /// `inbox`: over links, which the mergers ask.
+    /// `inbox`: over links, from which the mergers take.
     Inbox,
-    /// `board`: on a board, where each branch puts what it gives and each merger looks.
+    /// `board`: on a board, where each branch puts its results and each merger polls.
     Board,
 }
 
-/// How a capture is to be run. Where an option isn't given, its field has the value that stands for it.
+/// The options of a run. If an option isn't given, its field has the default value.
 #[derive(Clone, Copy)]
 pub struct RunOptions {
-    /// `--mergers`: how many mergers put packets together again, 1 to 16, else 2.
+    /// `--mergers`: the number of mergers, 1 to 16, by default 2.
     pub mergers: u32,
-    /// `--burst`: the most packets of a burst, 1 to 65,536, else 1,024.
+    /// `--burst`: the greatest number of packets of a burst, 1 to 65,536, by default 1,024.
     pub burst: u32,
-    /// `--merge`: how what the branches of a stage give comes together, `inbox` or `board`, else [`Way::Inbox`].
+    /// `--merge`: how the results of the branches of a stage come together, `inbox` or `board`, by default
+    /// [`Way::Inbox`].
     pub way: Way,
 }
 
-/// What the capture of the demonstration is made from.
+/// The input from which the capture of the demonstration is made.
 #[derive(Clone, Copy)]
 pub struct DemoInput {
-    /// What its draws begin with.
+    /// The seed of its draws.
     pub seed: u64,
-    /// How many packets it has, 1 to 1,000,000.
+    /// The number of its packets, 1 to 1,000,000.
     pub count: u32,
 }
 
-/// How the flows of a capture are to be counted. Where an option isn't given, its field has the value that stands for it.
+/// The options of counting flows. If an option isn't given, its field has the default value.
 #[derive(Clone, Copy)]
 pub struct FlowOptions {
-    /// `--workers`: how many workers count, each its own flows, 1 to 16, else 2.
+    /// `--workers`: the number of workers, each of which counts its own flows, 1 to 16, by default 2.
     pub workers: u32,
-    /// `--burst`: the most packets of a burst, 1 to 65,536, else 1,024.
+    /// `--burst`: the greatest number of packets of a burst, 1 to 65,536, by default 1,024.
     pub burst: u32,
 }
 
-/// What is asked for.
+/// A command with its names and options.
 #[derive(Clone, Copy)]
 pub enum Command<'a> {
     /// `run POLICY CAPTURE OUT REPORT [--mergers N] [--burst N] [--merge WAY] [--graph NAME]`

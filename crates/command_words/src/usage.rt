@@ -26,10 +26,10 @@ pub enum UsageFault {
     NoCommand,
     /// The first word is no command.
     UnknownCommand,
-    /// A name is missing or one is too many; an option is unknown, is given twice or has no value; a word that begins with a
-    /// dash stands where a name or a value is due; or a name or a value is empty or a single dash.
+    /// A name is missing or one is too many; an option is unknown, is given twice or has no value; a word that begins
+    /// with a dash is given for a name or a value; or a name or a value is empty or a single dash.
     Words,
-    /// This number isn't 1 to 20 digits, or lies outside of its range.
+    /// This number isn't 1 to 20 digits, or is outside its range.
     Number(Option4),
     /// The value of `--merge` is neither `inbox` nor `board`.
     Merge,
@@ -42,7 +42,7 @@ pub enum UsageFault {
 pub enum WordsFault {
     /// The words are refused.
     Usage(UsageFault),
-    /// There was no memory.
+    /// Out of memory.
     OutOfMemory,
 }
 

@@ -6,7 +6,7 @@ ghost use Rattle.command_words.specs.Words.{way_of};
 use crate::requests::Way;
 use crate::usage::UsageFault;
 
-/// How what the branches of a stage give comes together, over links where no word says so.
+/// How the results of the branches of a stage come together: over links without the option.
 pub fn merge_way(word: Option<&str>) -> Result<Way, UsageFault>
     ensures { result ≡ way_of (word_in word.entry) }
 {

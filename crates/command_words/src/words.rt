@@ -9,7 +9,7 @@ use crate::requests::Command;
 use crate::usage::{UsageFault, WordsFault};
 use std::alloc::Global;
 
-/// Reads the words of a command, or says why they are refused. Want of memory may come whatever the words are.
+/// Reads the words of a command, or returns why they are refused. Memory may run out whatever the words are.
 pub fn read_command<'a>(alloc: Global, words: &'a [String]) -> Result<Command<'a>, WordsFault>
     ensures reads { ReadsWords result (command_of (map string_bytes words.entry.now)) }
     // Each number lies in its range.
@@ -27,7 +27,7 @@ pub fn read_command<'a>(alloc: Global, words: &'a [String]) -> Result<Command<'a
     }
 }
 
-// The command that words which were matched ask for, or their fault.
+// The command of words that were matched, or their fault.
 fn settled<'a>(answer: Result<Command<'a>, UsageFault>) -> Result<Command<'a>, WordsFault>
     ensures reads { ReadsWords result (answer_seen answer.entry) }
     ensures ranges { IfOk answer.entry HasRanges → IfOk result HasRanges }

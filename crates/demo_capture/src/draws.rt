@@ -1,4 +1,4 @@
-//! What the demo draws, and what a record says by its draws.
+//! The draws of the demo, and the values of a record that follow from its draws.
 ghost use Rattle.std.specs.Prelude.{◌≡◌, ◌<◌, ◌+◌, ◌/◌, ◌%◌, ◌^◌};
 ghost use Rattle.demo_capture.specs.Draws.{next_number as next_number_of, number_after, draws_after};
 
@@ -15,7 +15,7 @@ pub struct Draws {
     pub d: u32,
 }
 
-/// The four draws behind a number of the generator, and the number behind them.
+/// The four draws after a number of the generator, and the number after them.
 pub fn draw_four(number: u64) -> (Draws, u64)
     ensures draws { result.0 ≡ draws_after number }
     ensures behind { result.1 ≡ number_after 4 number }
@@ -33,7 +33,7 @@ pub fn draw_four(number: u64) -> (Draws, u64)
     (draws, fourth)
 }
 
-// The number behind a number.
+// The number after a number.
 #[tactic(auto, using(crate::proofs::Drawing::wrapped_twice))]
 fn next_number(number: u64) -> u64
     ensures { result ≡ next_number_of number }
@@ -51,7 +51,7 @@ fn high_bits(number: u64) -> u32
 impl Draws {
     ghost use Rattle.demo_capture.specs.Draws.{source_port_of, destination_port_of, is_tcp as is_tcp_of, protocol_of, payload_len as payload_len_of, has_secret as has_secret_of, letter_at};
 
-    /// The last two bytes of the source address: those before are 10.0.
+    /// The last two bytes of the source address: the first two are 10.0.
     pub fn source(self) -> (u8, u8)
         ensures net { result.0 ≡ self.a % 4 }
         ensures host { result.1 ≡ 1 + (self.a / 4) % 200 }
@@ -59,7 +59,7 @@ impl Draws {
         ((self.a % 4) as u8, (1 + self.a / 4 % 200) as u8)
     }
 
-    /// The last byte of the destination address: those before are 198.51.100.
+    /// The last byte of the destination address: the first three are 198.51.100.
     pub fn destination(self) -> u8
         ensures { result ≡ 1 + self.b % 8 }
     {
@@ -92,7 +92,7 @@ impl Draws {
         if self.is_tcp() { 6 } else { 17 }
     }
 
-    /// How many bytes of payload there are.
+    /// The length of the payload in bytes.
     pub fn payload_len(self) -> u16
         ensures value { result ≡ payload_len_of self }
         ensures short { result < 64 }

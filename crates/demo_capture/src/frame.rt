@@ -76,7 +76,7 @@ fn ip_header_with(draws: Draws, checksum: u16) -> [u8; 20]
     ]
 }
 
-// How long transport header and payload are.
+// The length of the transport header and the payload.
 #[tactic(auto, using(crate::proofs::Lengths::length_segment))]
 fn segment_len(draws: Draws) -> u16
     ensures value { result ≡ segment_len_of draws }
@@ -180,7 +180,7 @@ fn segment_checksum(draws: Draws, frame: &[u8]) -> u16
     written_checksum(draws, complement(sum))
 }
 
-// How a checksum is written: in UDP 0 says that there is none.
+// The checksum as it is written: in UDP, 0 would mean that there is none.
 fn written_checksum(draws: Draws, checksum: u16) -> u16
     ensures { result ≡ written_checksum_of draws checksum }
 {
@@ -190,7 +190,7 @@ fn written_checksum(draws: Draws, checksum: u16) -> u16
     if checksum == 0 { u16::MAX } else { checksum }
 }
 
-// What stands before a segment in its sum.
+// The pseudo header, which comes before a segment in its sum.
 fn pseudo_header(draws: Draws) -> [u8; 12]
     ensures { result ≡ pseudo_header_of draws }
 {

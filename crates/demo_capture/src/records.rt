@@ -9,10 +9,11 @@ use capture_bytes::PcapRecord;
 use std::alloc::{AllocError, Global};
 use std::marker::Model;
 
-/// Gives the records of a seed and a count. It is seen as how many it gave, and the records that are still to come.
+/// Returns the records of a seed and a count. A contract sees the number of records so far, and those that are still to
+/// come.
 #[derive(Drop)]
 pub struct DemoRecords {
-    // The number of the generator behind the last draw.
+    // The number of the generator after the last draw.
     last: u64,
     given: u32,
     count: u32,
@@ -33,7 +34,7 @@ impl DemoRecords {
     ghost use Rattle.demo_capture.specs.DemoCapture.{demo_records};
     ghost use Rattle.demo_capture.specs.Giving.{GivesNext};
 
-    /// The records of this seed, so many, from the first on.
+    /// The first `count` records of this seed.
     pub fn new(seed: u64, count: u32) -> Self
         ensures given { result.given ≡ 0 }
         ensures records { result.records ≡ demo_records seed count }
@@ -45,7 +46,7 @@ impl DemoRecords {
         }
     }
 
-    /// The next record; `None` exactly where none is left. Where there is no memory, it is still to come.
+    /// The next record; `None` exactly if none is left. If memory runs out, the record is still to come.
     pub fn next(&mut self, alloc: Global) -> Result<Option<PcapRecord>, AllocError>
         ensures record { IfOk result (λ o. IfSome o (λ r. GivesNext r self.old self.new)) }
         ensures end { IfOk result (λ o. IfNone o (self.old.records ≡ [])) }

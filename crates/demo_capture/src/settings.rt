@@ -1,4 +1,4 @@
-//! What the demo runs: its policy, and the head of its capture.
+//! The settings of the demo: its policy, and the head of its capture.
 ghost use Rattle.std.specs.Prelude.{◌≡◌};
 ghost use Rattle.demo_capture.specs.DemoCapture.{policy_text, demo_head};
 

@@ -1,4 +1,4 @@
-//! The summary of a demo: what was made, what came of it, and how long and heavy the texts are.
+//! The summary of a demo: what was made, the result, and the lengths and weights of the texts.
 ghost use Rattle.std.specs.Prelude.{◌≡◌, ◌++◌, OnOk, OnErr};
 ghost use Rattle.demo_capture.specs.Summary.{demo_line, records_line, weighed_line, summary_text};
 
@@ -18,16 +18,16 @@ pub struct Weighed {
 pub struct Summary {
     pub seed: u64,
     pub count: u32,
-    /// How many records ran through the policy, and what became of their packets.
+    /// The number of records that ran through the policy, and of packets by their fate.
     pub records: u64,
     pub emitted: u64,
     pub dropped: u64,
-    /// What was written to Out and to Report.
+    /// The texts that were written to Out and to Report.
     pub out: Weighed,
     pub report: Weighed,
 }
 
-/// Adds the four lines of a summary to a text, or nothing where there is no memory.
+/// Adds the four lines of a summary to a text, or nothing if there is no memory.
 pub fn push_summary(alloc: Global, text: &mut Vec<u8>, summary: &Summary) -> Result<(), AllocError>
     ensures ok { OnOk result (text.new.items ≡ text.old.items ++ summary_text summary.now) }
     ensures err { OnErr result (text.new.items ≡ text.old.items) }

@@ -7,15 +7,15 @@ use capture_bytes::{Endian, put_u16, put_u32};
 /// A field, which is written most significant byte first.
 #[derive(Clone, Copy, PartialEq, Eq, Debug)]
 pub enum Field {
-    /// Of one byte.
+    /// A field of one byte.
     Byte(u8),
-    /// Of two bytes.
+    /// A field of two bytes.
     Short(u16),
-    /// Of four bytes.
+    /// A field of four bytes.
     Long(u32),
 }
 
-/// Writes fields at a place, one behind the other, and says where they end.
+/// Writes fields at a place, one after another, and returns where they end.
 pub fn put_fields(bytes: &mut [u8], at: usize, fields: &[Field]) -> usize
     requires room { at + length (spelled fields.now) ≤ length bytes.old }
     ensures end { result ≡ at + length (spelled fields.now) }
@@ -28,7 +28,7 @@ pub fn put_fields(bytes: &mut [u8], at: usize, fields: &[Field]) -> usize
     end
 }
 
-/// Writes a field at a place, and says where it ends.
+/// Writes a field at a place, and returns where it ends.
 fn put_field(bytes: &mut [u8], at: usize, field: Field) -> usize
     requires room { at + length (field_bytes field) ≤ length bytes.old }
     ensures end { result ≡ at + length (field_bytes field) }

@@ -1,4 +1,4 @@
-//! The header and the records of an export packet, field by field as Cisco names them.
+//! The header and the records of an export packet, field by field, with Cisco's names.
 ghost use Rattle.std.specs.Prelude.{◌≡◌};
 ghost use Rattle.flow_export.specs.Layouts.{header_fields, record_fields};
 
@@ -9,15 +9,15 @@ use crate::field::Field;
 pub struct Header {
     /// Of the format: 5.
     pub version: u16,
-    /// The records of this packet.
+    /// The number of records of this packet.
     pub count: u16,
-    /// Milliseconds since the exporter began.
+    /// Milliseconds since the exporter started.
     pub sys_uptime: u32,
     /// The moment of the export: seconds since 1970.
     pub unix_secs: u32,
-    /// And the nanoseconds beyond them.
+    /// The moment of the export: the nanoseconds beyond those seconds.
     pub unix_nsecs: u32,
-    /// The records of all packets before.
+    /// The number of records of all packets before.
     pub flow_sequence: u32,
     pub engine_type: u8,
     pub engine_id: u8,
@@ -55,7 +55,7 @@ pub struct Record {
     pub d_octets: u32,
     /// The exporter's uptime at the flow's first packet, in milliseconds.
     pub first: u32,
-    /// And at its last.
+    /// The exporter's uptime at the flow's last packet, in milliseconds.
     pub last: u32,
     pub srcport: u16,
     pub dstport: u16,

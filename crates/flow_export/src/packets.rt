@@ -1,4 +1,4 @@
-//! Lines put into packets, and the packets into the slot Out.
+//! Puts lines into packets, and the packets into the slot Out.
 ghost use Rattle.std.specs.Prelude.{◌≡◌, ◌≢◌, ◌≤◌, ◌<◌, ◌+◌, ◌*◌, ◌^◌, ◌++◌, ◌∷◌, [], All, IfOk, IsSome, OnErr, OnOk, count_by, drop, length, take};
 ghost use Rattle.std.specs.List.{flat_map};
 ghost use Rattle.nfp_outside.specs.declared.slot.Slot.{Slot};
@@ -13,16 +13,17 @@ use flow_line::FlowLine;
 use nfp_outside::{Desk, OutsideFault, Slot, write_whole};
 use std::alloc::Global;
 
-/// The records of a packet, at most.
+/// The greatest number of records of a packet.
 const RECORDS: usize = 30;
 
-/// The bytes of a packet, at most: a header of 24, and 30 records of 48.
+/// The greatest number of bytes of a packet: a header of 24, and 30 records of 48.
 const PACKET_LEN: usize = 1464;
 
-/// Puts the export packets of all lines of IPv4 into Out, each in one piece, and says how many there are. It takes the memory of one
-/// packet before it writes any.
+/// Puts the export packets of all lines of IPv4 into Out, each in one piece, and returns the number of packets. It
+/// allocates the memory of one packet before it writes any.
 ///
-/// `WriteFault` of Out only where its count of faults rose. After a refusal Out holds a front part of what was to be written.
+/// `WriteFault` of Out only if its count of faults rose. After an error Out holds a front part of what was to be
+/// written.
 pub fn export<D: Desk>(
     alloc: Global,
     desk: &mut D,
@@ -50,7 +51,7 @@ pub fn export<D: Desk>(
     }
 }
 
-/// Puts so many packets into Out, which are those of all lines.
+/// Puts the packets of all lines into Out. `packets` is their number.
 fn send<D: Desk>(
     desk: &mut D,
     buffer: &mut [u8],
@@ -81,7 +82,7 @@ fn send<D: Desk>(
     Ok(())
 }
 
-/// How many lines are exported?
+/// The number of lines that are exported.
 fn exported_count(lines: &[FlowLine]) -> usize
     ensures count { result ≡ length (exported lines.now) }
     ensures few { result ≤ length lines.now }
@@ -89,7 +90,7 @@ fn exported_count(lines: &[FlowLine]) -> usize
     lines.iter().filter(|line| !line.key.wide).count()
 }
 
-/// The lines of the next packet, with others that aren't exported, and those behind them.
+/// The lines of the next packet, with others that aren't exported, and the lines after them.
 fn split_packet(lines: &[FlowLine]) -> (&[FlowLine], &[FlowLine])
     ensures parts { result.0.now ++ result.1.now ≡ lines.now }
     ensures front { exported result.0.now ≡ take 30 (exported lines.now) }
@@ -105,7 +106,8 @@ fn split_packet(lines: &[FlowLine]) -> (&[FlowLine], &[FlowLine])
     lines.split_at(lines.len())
 }
 
-/// Writes the packet of these lines into the front of the buffer, where so many records were sent before, and says where it ends.
+/// Writes the packet of these lines into the front of the buffer, after `before` records in earlier packets, and
+/// returns where it ends.
 fn put_packet(buffer: &mut [u8], span: &Span5, before: u32, lines: &[FlowLine]) -> usize
     requires room { length buffer.old ≡ 1464 }
     requires few { length (exported lines.now) ≤ 30 }
@@ -122,7 +124,7 @@ fn put_packet(buffer: &mut [u8], span: &Span5, before: u32, lines: &[FlowLine]) 
     end
 }
 
-/// Writes the record of a line at a place, where the line is exported, and says where it ends.
+/// Writes the record of a line at a place, if the line is exported, and returns where it ends.
 fn put_line(buffer: &mut [u8], at: usize, span: &Span5, line: &FlowLine) -> usize
     requires room { at + 48 * length (exported (line.now ∷ [])) ≤ length buffer.old }
     requires fits { HasFittingKey line.now }

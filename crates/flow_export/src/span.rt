@@ -1,4 +1,4 @@
-//! The span of a capture, and what is told of lines by it.
+//! The span of a capture, and the headers and records that depend on it.
 ghost use Rattle.std.specs.Prelude.{◌≡◌, ◌≤◌, ◌<◌, ◌^◌, false};
 ghost use Rattle.flow_line.specs.Versions.{HasFittingKey};
 ghost use Rattle.flow_export.specs.Exports.{header_of, millis, record_of, up_to_32};
@@ -20,7 +20,7 @@ pub struct Span5 {
 }
 
 impl Span5 {
-    /// The header of a packet of so many records, before which so many were sent.
+    /// The header of a packet of `count` records, after `before` records in earlier packets.
     pub(crate) fn header(&self, before: u32, count: u16) -> Header
         requires { self.now.origin < 2 ^ 63 }
         ensures { result ≡ header_of self.now before count }

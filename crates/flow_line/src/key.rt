@@ -1,15 +1,15 @@
-//! What tells flows apart.
+//! What distinguishes flows.
 
 /// The protocol, addresses and ports of a flow, as numbers, most significant byte first.
 #[derive(Clone, Copy, PartialEq, Eq, Hash, Debug)]
 pub struct FlowKey {
-    /// The addresses are of IPv6 (RFC 8200, 3); else they are of IPv4 (RFC 791, 3.1), and below 2^32.
+    /// Whether the addresses are of IPv6 (RFC 8200, 3). If not, they are of IPv4 (RFC 791, 3.1), and below 2^32.
     pub wide: bool,
     /// The IPv4 header's protocol, or the IPv6 header's next header.
     pub proto: u8,
     /// The source address.
     pub src: u128,
-    /// The source port: none where the packets have no ports, as fragments that aren't the first.
+    /// The source port: `None` if the packets have no ports, such as fragments that aren't the first.
     pub sport: Option<u16>,
     /// The destination address.
     pub dst: u128,

@@ -1,13 +1,13 @@
-//! What is counted of a flow.
+//! The counts of a flow.
 use crate::key::FlowKey;
 
-/// What is counted of a flow. Moments are nanoseconds since 1970.
+/// The counts of a flow. Times are nanoseconds since 1970.
 #[derive(Clone, Copy, PartialEq, Eq, Debug)]
 pub struct FlowLine {
     pub key: FlowKey,
-    /// Its packets, up to the largest number of 64 bits.
+    /// The number of its packets, up to the largest number of 64 bits.
     pub packets: u64,
-    /// The sum of their IP lengths, up to the same.
+    /// The sum of their IP lengths, up to the largest number of 64 bits.
     pub bytes: u64,
     /// The number of its first record in the capture, from 1.
     pub first: u32,

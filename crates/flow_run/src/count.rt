@@ -1,4 +1,4 @@
-//! A capture whose flows are counted.
+//! Counts the flows of a capture.
 ghost use Rattle.std.specs.Prelude.{◌≡◌, ◌≢◌, ◌≤◌, ◌<◌, ◌^◌, [], All, IfNone, IfOk, IfSome, IsErrOf, IsSome, length};
 ghost use Rattle.nfp_outside.specs.declared.slot.Slot.{Slot};
 ghost use Rattle.nfp_outside.specs.Outside.{IsRisen};
@@ -17,22 +17,23 @@ use pcap_io::{CaptureFault, CaptureHead, PcapFault, Reader};
 use std::alloc::Global;
 use std::thread::Threads;
 
-/// What was counted of a capture.
+/// The counts of a capture.
 #[derive(Drop)]
 pub struct Counted {
-    /// How many records it has before its fault, if it has one.
+    /// The number of its records, up to its fault if it has one.
     pub records: u32,
     /// The lines of their flows, in the order of first sight.
     pub lines: Items<FlowLine>,
-    /// From the time of its first record to the greatest; 0 to 0 where there is none.
+    /// From the time of its first record to the greatest time; 0 to 0 if there is no record.
     pub span: Span5,
     /// What ended it.
     pub fault: Option<CaptureFault>,
 }
 
-/// Counts the flows of what is left of a capture behind its head, on so many workers, in bursts of at most so many packets.
+/// Counts the flows of the rest of a capture after its head, on `workers` workers, in bursts of at most `burst`
+/// packets.
 ///
-/// `Failed` only where the count of faults of the slot Capture rose.
+/// `Failed` only if the count of faults of the slot Capture rose.
 pub fn count_flows<R: Threads + Sync, D: Desk>(
     rt: &R,
     alloc: Global,
@@ -78,7 +79,7 @@ pub fn count_flows<R: Threads + Sync, D: Desk>(
 
 ghost use Rattle.flow_run.specs.Counting.{IsCountedWith, StopsAt};
 
-// What was counted of a capture whose next record is refused, if the capture has a fault there.
+// The counts of a capture whose next record is refused, if the capture has a fault there.
 fn stopped<R: Threads + Sync>(
     rt: &R,
     alloc: Global,
@@ -97,7 +98,7 @@ fn stopped<R: Threads + Sync>(
     }
 }
 
-// What was counted of a capture that ends here, with a fault if it has one.
+// The counts of a capture that ends here, with a fault if it has one.
 fn ended<R: Threads + Sync>(
     rt: &R,
     alloc: Global,

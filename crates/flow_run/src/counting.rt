@@ -1,4 +1,4 @@
-//! What is counted so far.
+//! The counts so far.
 
 use crate::count::Counted;
 use capture_bytes::{PcapRecord, Unit};
@@ -11,7 +11,7 @@ use std::alloc::{AllocError, Global};
 use std::marker::Model;
 use std::thread::Threads;
 
-/// What is counted of the records so far. Contracts see it as if the packets of the open burst were counted already.
+/// The counts of the records so far. Contracts see them as if the packets of the open burst were counted already.
 #[derive(Drop)]
 pub(crate) struct Counting {
     unit: Unit,
@@ -37,7 +37,7 @@ impl Counting {
     ghost use Rattle.flow_line.specs.Versions.{HasFittingKey};
     ghost use Rattle.flow_run.specs.Counting.{FitsSpan, IsCountedWith, nothing_counted, with_record};
 
-    /// Before the first record.
+    /// The counts before the first record.
     pub(crate) fn new(
         alloc: Global,
         unit: Unit,
@@ -59,7 +59,7 @@ impl Counting {
         })
     }
 
-    /// With one more record. The burst that it closes, if it does, is counted.
+    /// The counts with one more record. If it closes the burst, the burst is counted.
     pub(crate) fn take<R: Threads + Sync>(
         self,
         rt: &R,
@@ -148,7 +148,7 @@ fn time_of(packet: &PcapRecord, unit: Unit) -> u64
     packet.time(unit)
 }
 
-/// A span, with a time behind the others.
+/// A span with one more time after the others.
 fn with_time(span: Option<Span5>, time: u64) -> Span5
     requires before { IfSome span FitsSpan }
     requires below { time < 2 ^ 63 }

@@ -1,4 +1,4 @@
-//! Workers, each with its shard, side by side.
+//! Runs workers, each with its shard, side by side.
 ghost use Rattle.std.specs.Prelude.{◌≡◌, ◌≤◌, ◌<◌, ℕ, [], IfOk, Ok, filter, length, map, slice_index_or};
 ghost use Rattle.flow_shards.specs.Flows.{counted_all};
 ghost use Rattle.flow_shards.specs.Sharding.{is_own};
@@ -10,8 +10,8 @@ use std::alloc::{AllocError, Global};
 use std::thread;
 use std::thread::Threads;
 
-/// From so many packets on each worker counts on a thread of its own, where one can be started: for fewer a thread costs more than it
-/// spares.
+/// From this number of packets on each worker counts on a thread of its own, if one can be started: for fewer packets a
+/// thread costs more than it saves.
 const MANY: usize = 32_768;
 
 /// A worker, and the lines of its shard.
@@ -21,7 +21,7 @@ pub(crate) struct Job {
     table: Table,
 }
 
-/// Counts packets, each worker those of its own shard, side by side where there are many.
+/// Counts packets, each worker those of its own shard, side by side if there are many.
 pub(crate) fn count_beside<R: Threads + Sync>(
     rt: &R,
     alloc: Global,
@@ -40,8 +40,8 @@ pub(crate) fn count_beside<R: Threads + Sync>(
     tables_of(alloc, counted)
 }
 
-/// Counts for each worker, where there are many packets on a thread of its own if one can be started, and gives what they counted in their
-/// order. The one refusal is want of memory for that.
+/// Counts for each worker, on a thread of its own if there are many packets and one can be started, and returns the
+/// tables in the order of the workers. The only error is that memory for that runs out.
 fn run_beside<R: Threads + Sync>(
     rt: &R,
     alloc: Global,
@@ -97,7 +97,7 @@ fn jobs_of(alloc: Global, tables: Vec<Table>) -> Result<Vec<Job>, AllocError>
     jobs.collect(alloc)
 }
 
-/// The lines of all shards, if no worker was short of memory.
+/// The lines of all shards, if no worker ran out of memory.
 fn tables_of(
     alloc: Global,
     counted: Vec<Result<Table, AllocError>>,

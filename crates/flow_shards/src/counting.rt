@@ -1,4 +1,4 @@
-//! Packets counted into a table of lines.
+//! Counts packets into a table of lines.
 ghost use Rattle.std.specs.Prelude.{◌≡◌, ◌≤◌, IfOk, OnOk, filter};
 ghost use Rattle.flow_shards.specs.Flows.{with_sight, counted, counted_all};
 ghost use Rattle.flow_shards.specs.Sharding.{is_own, counted_if_own};
@@ -63,7 +63,7 @@ fn count(table: &mut Table, sight: &Sight) -> Result<(), AllocError>
 
 ghost use Rattle.flow_shards.specs.Flows.{first_line};
 
-/// The line of a flow before this packet, which is its first, is counted.
+/// The line of a flow before its first packet, which is this one, is counted.
 fn first_line(sight: &Sight) -> FlowLine
     ensures { result ≡ first_line sight.now }
 {

@@ -8,7 +8,7 @@ use flow_line::FlowKey;
 use nf_observe::FiveTuple;
 use std::net::IpAddr;
 
-/// The key of a flow. It is wide where one of its addresses is of IPv6.
+/// The key of a flow. It is wide if one of its addresses is of IPv6.
 pub fn key_of(flow: &FiveTuple) -> FlowKey
     ensures key { result ≡ key_of flow.now }
     ensures fits { FitsVersion (key_of flow.now) }
@@ -23,7 +23,7 @@ pub fn key_of(flow: &FiveTuple) -> FlowKey
     }
 }
 
-/// Which of so many workers, counted from 0, has the flow of this key.
+/// The worker, counted from 0, that has the flow of this key.
 pub fn shard_of(key: &FlowKey, workers: u32) -> u32
     requires some { 1 ≤ workers }
     requires few { workers ≤ 16 }

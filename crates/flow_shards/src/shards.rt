@@ -11,7 +11,7 @@ use std::alloc::{AllocError, Global};
 use std::marker::Model;
 use std::thread::Threads;
 
-/// What is counted of flows, in a shard for each worker.
+/// The counts of flows, in a shard for each worker.
 ///
 /// Contracts see the number of workers, the number of the last packet that was fed, and one list of lines in the order of first
 /// sight, each with its flow.
@@ -39,7 +39,7 @@ impl Shards {
     ghost use Rattle.flow_shards.specs.Flows.{flows_from};
     ghost use Rattle.flow_shards.specs.Sharding.{AreRising, is_in_shard, last_of, no_flows};
 
-    /// A shard for each of so many workers, with no lines.
+    /// A shard without lines for each of this number of workers.
     pub fn new(alloc: Global, workers: u32) -> Result<Shards, AllocError>
         requires some { 1 ≤ workers }
         requires few { workers ≤ 16 }
@@ -52,8 +52,8 @@ impl Shards {
         Ok(Shards { tables, last: 0 })
     }
 
-    /// Counts the packets of a burst, each worker those of its own flows. The numbers of the packets rise, and lie above that of the
-    /// last one that was fed. Where memory runs out, the shards are gone.
+    /// Counts the packets of a burst, each worker those of its own flows. The numbers of the packets rise, and are
+    /// above that of the last packet that was fed. If memory runs out, the shards are lost.
     pub fn feed<R: Threads + Sync>(
         self,
         rt: &R,
@@ -101,7 +101,7 @@ ghost use Rattle.std.specs.Map.{values_of};
 ghost use Rattle.flow_shards.specs.Flows.{sight_of};
 ghost use Rattle.flow_shards.specs.Sharding.{HasFittingFlow, flat, last_of};
 
-/// What is seen of the packets of a burst, in their order.
+/// The sights of the packets of a burst, in their order.
 fn see_all(alloc: Global, burst: &Burst, unit: Unit) -> Result<Vec<Sight>, AllocError>
     ensures seen { IfOk result (λ sights. sights.items ≡ filter_map (sight_of unit) burst.now.items) }
     ensures fits { IfOk result (λ sights. All HasFittingFlow sights.items) }
@@ -123,7 +123,7 @@ fn last_number(last: u32, burst: &Burst) -> u32
     items.iter().fold(last, |_, item| item.number)
 }
 
-/// The lines of all shards, one shard behind the other.
+/// The lines of all shards, one shard after another.
 fn all_lines(alloc: Global, tables: &[Table]) -> Result<Vec<FlowLine>, AllocError>
     ensures { IfOk result (λ lines. lines.items ≡ values_of (flat tables.now)) }
 {

@@ -1,4 +1,4 @@
-//! What is seen of a packet.
+//! The values of a packet that are counted.
 use crate::key::key_of;
 use capture_bytes::Unit;
 use classifier::Item;
@@ -16,7 +16,7 @@ pub struct Sight {
     pub number: u32,
     /// The time of its record in nanoseconds.
     pub time: u64,
-    /// The control bits of its TCP header (RFC 793, 3.1), and 0 where it has none.
+    /// The control bits of its TCP header (RFC 793, 3.1), or 0 if it has none.
     pub flags: u8,
 }
 
@@ -25,7 +25,7 @@ impl Sight {
     ghost use Rattle.flow_shards.specs.Flows.{sight_of};
     ghost use Rattle.flow_shards.specs.Sharding.{HasFittingFlow};
 
-    /// What is seen of a packet, where it is of a flow.
+    /// The sight of a packet, if it belongs to a flow.
     pub fn of(item: &Item, unit: Unit) -> Option<Sight>
         ensures seen { result ≡ sight_of unit item.now }
         ensures fits { IfSome result HasFittingFlow }
@@ -33,7 +33,7 @@ impl Sight {
         let frame = item.packet.frame.bytes();
         let outline = Outline::of(frame);
         let flow = flow_in(&outline, frame)?;
-        // Which shows that the addresses are as large as their version of IP has them.
+        // The call shows that the addresses have the length of their version of IP.
         let _key = key_of(&flow);
         Some(Sight {
             flow,
