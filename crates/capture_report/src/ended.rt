@@ -2,14 +2,14 @@
 
 use crate::fault::FormatFault;
 
-/// How many records were read, and how many of their packets were dropped.
+/// The number of records that were read, and of their packets that were dropped.
 #[derive(Clone, Copy, Debug, PartialEq, Eq)]
 pub struct Totals {
     pub records: u64,
     pub dropped: u64,
 }
 
-/// How a capture ended that went through its chains: what was counted, and the fault that ended it, if one did.
+/// How a capture that went through its chains ended: the totals, and the fault that ended it, if any.
 #[derive(Clone, Copy, Debug, PartialEq, Eq)]
 pub struct Ended {
     pub totals: Totals,

@@ -1,4 +1,4 @@
-//! Why a capture isn't read to its end, whatever its format.
+//! Why a capture isn't read to its end, in either format.
 
 use pcap_io::CaptureFault;
 use pcapng_io::NgFault;
@@ -6,8 +6,8 @@ use pcapng_io::NgFault;
 /// The first fault of a capture, by its format.
 #[derive(Clone, Copy, Debug, PartialEq, Eq)]
 pub enum FormatFault {
-    /// Of a classic capture.
+    /// The fault of a classic capture.
     Pcap(CaptureFault),
-    /// Of a pcapng capture.
+    /// The fault of a pcapng capture.
     Ng(NgFault),
 }

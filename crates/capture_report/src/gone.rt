@@ -7,7 +7,7 @@ ghost use Rattle.capture_report.specs.Report.{is_gone};
 use chain_walk::Fate;
 use classifier::Item;
 
-/// How many of these packets were dropped.
+/// The number of these packets that were dropped.
 pub fn count_gone(items: &[Item], fates: &[Option<Fate>]) -> u64
     requires { length fates.now ≡ length items.now }
     ensures { result ≡ count_by is_gone (all_ended items.now fates.now) }

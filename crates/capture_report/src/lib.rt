@@ -1,13 +1,15 @@
 //! The report of a capture that goes through the chains of a service.
 //!
-//! A report begins with its [`TITLE`]. [`burst_lines`] makes the lines of the packets that were dropped, burst by burst. What
-//! stands behind them is added to a text of the caller, piece by piece: the totals ([`push_totals_line`]), the copies that were
-//! made of each chain's fields ([`push_copies_lines`]), each function ([`push_function_line`]), behind which the caller puts the
-//! lines of its state ([`function_named`]), and the end or the capture's fault ([`push_last_line`]). `specs/Report.antt` has every
-//! line.
+//! A report begins with its [`TITLE`]. [`burst_lines`] makes the lines of the packets that were dropped, burst by
+//! burst. The rest is appended to a text of the caller, piece by piece: the totals ([`push_totals_line`]), the copies
+//! that were made of each chain's fields ([`push_copies_lines`]), each function ([`push_function_line`]), after which
+//! the caller puts the lines of its state ([`function_named`]), and the end or the capture's fault
+//! ([`push_last_line`]). `specs/Report.antt` has every line.
 //!
-//! The texts are ASCII, and each line ends with a line feed. Where they go is left out. The one error is want of memory, behind which
-//! nothing is said of a text that was to be added to.
+//! The texts are ASCII, and each line ends with a line feed. The only error is that memory runs out, and then the
+//! content of a text that was to be extended is unspecified.
+//!
+//! Left out: where the texts go.
 #![tactic(auto)]
 
 mod ended;
@@ -26,7 +28,7 @@ pub use report::{
     TITLE, burst_lines, push_copies_lines, push_function_line, push_last_line, push_totals_line,
 };
 
-// What a service is and how a burst walks through it, for the crates above.
+// The service and the walk of a burst through it, for the crates above.
 pub use burst_walk::{
     Function, MergeWay, Mergers, Merging, NamedFunction, Piece, Service, ServiceChain,
     bursts_are_counted_in_a_row, make_service, walk_burst,

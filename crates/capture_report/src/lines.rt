@@ -1,4 +1,4 @@
-//! Lines that stand in the report and in what is told at a run's end.
+//! Lines that occur both in the report and in the message at the end of a run.
 ghost use Rattle.std.specs.Prelude.{◌≡◌, ◌≤◌, ◌∷◌, [], IfOk, codes};
 ghost use Rattle.std.specs.Fmt.{decimal};
 ghost use Rattle.text_lines.specs.Texts.{joined};

@@ -8,7 +8,7 @@ ghost use Rattle.burst_walk.specs.SegmentRunProofs.{piece_of, pieces_of};
 
 use burst_walk::{NamedFunction, Piece};
 
-/// The function with this name among those of a chain's pieces, where there is one.
+/// The function with this name among those of a chain's pieces, if there is one.
 pub fn function_named<'a>(
     pieces: &'a [Piece<NamedFunction>],
     name: &[u8],
@@ -34,7 +34,7 @@ fn named_in<'a>(piece: &'a Piece<NamedFunction>, name: &[u8]) -> Option<&'a Name
     }
 }
 
-// What has a name.
+// Something with a name.
 trait Named {
     ghost use Rattle.std.specs.Prelude.{◌≡◌, ℕ, List};
 
@@ -52,7 +52,7 @@ impl Named for NamedFunction {
     }
 }
 
-// The first of these with this name, of any type, so that no kind of function is looked into.
+// The first of these with this name. It is generic so that its proof doesn't look into the kinds of functions.
 fn with_name<'a, F: Named>(functions: &'a [F], name: &[u8]) -> Option<&'a F>
     ensures { option_copied result ≡ find (λ f. bytes_eq (F.name_of f) name.now) functions.now }
 {

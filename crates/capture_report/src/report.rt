@@ -24,7 +24,7 @@ use text_lines::{join, push_pieces};
 /// The report's first line.
 pub const TITLE: &[u8] = b"nfp report 1\n";
 
-/// The lines of the packets of a burst that were dropped, where the first packet has this number.
+/// The lines of the packets of a burst that were dropped. `first` is the number of the first packet.
 pub fn burst_lines(
     alloc: Global,
     chains: &[ServiceChain],
@@ -51,7 +51,7 @@ pub fn burst_lines(
     Ok(text)
 }
 
-// Adds the line of a packet that its chain dropped; any other has none.
+// Adds the line of a packet that its chain dropped. Other packets have no line.
 fn push_drop_line(
     alloc: Global,
     text: &mut Vec<u8>,

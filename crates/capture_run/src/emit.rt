@@ -16,8 +16,8 @@ use classifier::Item;
 use nfp_outside::Desk;
 use packet_fields::Frame;
 
-/// Puts the packets that passed into Out, in their order, each with what stands beside its record: with the frame that its chain
-/// left, or as it was read where no chain took it.
+/// Puts the packets that passed into Out, in their order, each with what belongs to its record: with the frame that its
+/// chain left, or as it was read if no chain took it.
 pub fn put_emitted<X, B, W: Sink<X, B>, D: Desk>(
     desk: &mut D,
     writer: &mut W,
@@ -45,7 +45,7 @@ pub fn put_emitted<X, B, W: Sink<X, B>, D: Desk>(
     Ok(())
 }
 
-// Puts the record of a packet that passed; one that was dropped has none.
+// Puts the record of a packet that passed. A packet that was dropped has no record.
 fn put_fate<X, B, W: Sink<X, B>, D: Desk>(
     desk: &mut D,
     writer: &mut W,
@@ -105,7 +105,7 @@ fn put_unchanged<X, B, W: Sink<X, B>, D: Desk>(
     put_packet(desk, writer, packet, beside)
 }
 
-// The record as it goes out, with this frame and its original length.
+// The record as it goes out, with this frame and the original length that belongs to it.
 fn emitted_record(packet: &PcapRecord, frame: Frame) -> PcapRecord
     requires short { length packet.now.frame < 2 ^ 22 }
     requires writable { length frame < 2 ^ 22 }
@@ -120,7 +120,7 @@ fn emitted_record(packet: &PcapRecord, frame: Frame) -> PcapRecord
     }
 }
 
-// The original length of a frame that went from one length to another: what was put in or taken off counts there too.
+// The original length of a frame whose length changed: it changes by the same number of bytes.
 fn wire_after(wire: u32, before: usize, after: usize) -> u32
     requires after { after < 2 ^ 32 }
     ensures { result ≡ wire_after wire before after }

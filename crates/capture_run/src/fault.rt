@@ -1,4 +1,4 @@
-//! Why a capture isn't read further, and what broke a run off.
+//! Why a capture isn't read further, and why a run was aborted.
 ghost use Rattle.std.specs.Prelude.{◌≡◌};
 ghost use Rattle.capture_run.specs.declared.fault.RunFault.TheVariants.{OutOfMemory};
 
@@ -6,25 +6,25 @@ use capture_report::FormatFault;
 use nfp_outside::Slot;
 use std::alloc::{AllocError, AllocFailed};
 
-/// Why a source gave nothing more.
+/// Why a source returned nothing more.
 #[derive(Clone, Copy, Debug, PartialEq, Eq)]
 pub enum SourceFault {
     /// The capture has this fault, and isn't read further.
     Format(FormatFault),
     /// The capture couldn't be read further.
     ReadFault,
-    /// There was no memory.
+    /// Out of memory.
     OutOfMemory,
 }
 
-/// What broke a run off before the end of its capture, or before all was written.
+/// Why a run was aborted before the end of its capture, or before everything was written.
 #[derive(Clone, Copy, Debug, PartialEq, Eq)]
 pub enum RunFault {
     /// The capture couldn't be read further.
     ReadFault,
     /// This slot couldn't be written, or attached.
     WriteFault(Slot),
-    /// There was no memory.
+    /// Out of memory.
     OutOfMemory,
 }
 

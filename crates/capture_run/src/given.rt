@@ -1,11 +1,11 @@
-//! What a capture gives, one after another.
+//! The items of a capture, one after another.
 
 use capture_bytes::PcapRecord;
 
-/// What a capture gives next: a packet, or a block that is none and is written where it stands.
+/// The next item of a capture: a packet, or a block that isn't a packet and is written in its place.
 #[derive(Drop)]
 pub enum Given<X, B> {
-    /// A packet's record, and what the format says of the packet beside it.
+    /// A packet's record, and what the format says of the packet besides.
     Packet(PcapRecord, X),
     /// Another block.
     Block(B),

@@ -1,17 +1,20 @@
-//! A capture through the chains of a service: records in, records and a report out.
+//! Runs a capture through the chains of a service: records in, records and a report out.
 //!
-//! [`run_capture`] takes one packet after another from a [`Source`], leads the packets through their chains burst by burst, and
-//! gives each that passes to a [`Sink`], and the line of each that is dropped to the report, which ends with the totals, the copies
-//! that were made and the state of each function. A block of a capture that is no packet closes the burst and goes to the sink as it
-//! stands. Packets end and functions are left as if each packet walked through its chain after the ones before it, whatever the burst.
-//! `specs/Emitted.antt` and `specs/EmittedNg.antt` have the capture that is written, and the crate `capture_report` the report.
+//! [`run_capture`] takes one packet after another from a [`Source`] and runs the packets through their chains burst by
+//! burst. It puts each packet that passes into a [`Sink`], and the line of each that is dropped into the report, which
+//! ends with the totals, the copies that were made and the state of each function. A block of a capture that isn't a
+//! packet closes the burst and goes to the sink unchanged. Packets end and functions are left as if each packet walked
+//! through its chain after the packets before it, whatever the bursts. `specs/Emitted.antt` and `specs/EmittedNg.antt`
+//! define the capture that is written, and the crate `capture_report` the report.
 //!
-//! A format joins by its reader and its writer: classic captures by those of `pcap_io`, pcapng by [`NgSource`] and [`NgWriter`].
+//! A format needs a reader and a writer: classic captures by those of `pcap_io`, pcapng by [`NgSource`] and
+//! [`NgWriter`].
 //!
-//! What stands behind the lines of the dropped packets goes through one buffer, piece by piece, and each state line by line: a
-//! report of any length takes no more memory than a short one.
+//! The part of the report after the lines of the dropped packets goes through one buffer, piece by piece, and each
+//! state line by line: a report of any length needs no more memory than a short one.
 //!
-//! The head of a capture is the format's own, and left out here. What broke a run off is one small [`RunFault`].
+//! Left out: the head of a capture, which belongs to its format. The reason why a run was aborted is one small
+//! [`RunFault`].
 #![tactic(auto)]
 
 mod emit;
@@ -35,7 +38,7 @@ pub use run::run_capture;
 pub use sink::Sink;
 pub use source::Source;
 
-// What a service is, how a burst walks through it and what is told of it, for the crates above.
+// The service, the walk of a burst through it and the report, for the crates above.
 pub use capture_report::{
     Ended, FormatFault, MergeWay, Mergers, Merging, Service, ServiceChain, Totals, capture_line,
     make_service, ng_line, totals_line,

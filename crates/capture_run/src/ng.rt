@@ -25,7 +25,7 @@ use std::alloc::Global;
 use std::marker::Model;
 use std::mem;
 
-/// What the block of a packet says beside its record.
+/// What the block of a packet holds besides its record.
 #[derive(Drop)]
 pub struct Beside {
     order: Endian,
@@ -44,7 +44,7 @@ impl Model for Beside {
     ghost invariant = { λ b. AreOptions b.options };
 }
 
-/// A block that is no packet.
+/// A block that isn't a packet.
 #[derive(Drop)]
 pub struct OtherBlock {
     item: NgItem,
@@ -62,7 +62,7 @@ impl Model for OtherBlock {
 }
 
 impl OtherBlock {
-    /// The block of this item, which is no packet's.
+    /// The block of this item, which isn't a packet.
     pub fn new(item: NgItem) -> OtherBlock
         requires { IsWritable item }
         ensures { result ≡ item }
@@ -71,7 +71,7 @@ impl OtherBlock {
     }
 }
 
-// What an item gives.
+// An item as one of a capture of any format.
 #[inline(always)]
 fn given(item: NgItem) -> Given<Beside, OtherBlock>
     requires writable { IsWritable item }
@@ -100,7 +100,7 @@ fn given(item: NgItem) -> Given<Beside, OtherBlock>
     }
 }
 
-/// Gives the blocks of a pcapng capture. Its first block was read.
+/// The source of the blocks of a pcapng capture whose first block was read.
 #[derive(Drop)]
 pub struct NgSource {
     first: Option<NgItem>,
@@ -119,7 +119,8 @@ impl Model for NgSource {
 }
 
 impl NgSource {
-    /// Reads the first block of a capture, of which these bytes, those of the type of a section header, were read before.
+    /// Reads the first block of a capture, of which the first bytes were read before: these, the type of a section
+    /// header.
     #[tactic(auto, using(crate::proofs::Refusing::next_accepted))]
     pub fn begin<D: Desk>(
         alloc: Global,
@@ -172,7 +173,7 @@ impl Source<Beside, OtherBlock> for NgSource {
     }
 }
 
-// What stands behind the first block.
+// The item after the first block.
 #[tactic(auto, using(crate::proofs::Refusing::refuses_block, crate::proofs::Draining::ng_at_end))]
 #[inline(always)]
 fn read_on<D: Desk>(
@@ -201,7 +202,7 @@ fn read_on<D: Desk>(
     }
 }
 
-/// Writes a pcapng capture whose frames may have grown by so many bytes.
+/// Writes a pcapng capture whose frames may have grown by `growth` bytes.
 #[derive(Clone, Copy, Debug, PartialEq, Eq)]
 pub struct NgWriter {
     pub growth: u32,

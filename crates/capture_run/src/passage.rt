@@ -1,4 +1,4 @@
-//! The way of a capture through the chains of a service, burst by burst.
+//! Runs a capture through the chains of a service, burst by burst.
 ghost use Rattle.std.specs.Prelude.{◌≡◌, ◌≢◌, ◌≤◌, ◌<◌, ◌+◌, ◌^◌, All, IfErr, IfOk, IsSome, length};
 ghost use Rattle.nfp_outside.specs.declared.slot.Slot.{Slot};
 ghost use Rattle.capture_report.specs.BurstWalkProofs.{IsClassed};
@@ -18,8 +18,8 @@ use std::rt::Clock;
 use std::sync::Wait;
 use std::thread::Threads;
 
-/// A capture on its way through a service: the chains as the last packet left them, where what passes goes, and what was counted
-/// so far.
+/// A capture on its way through a service: the chains as the last packet left them, the sink of the packets that pass,
+/// and the totals so far.
 #[derive(Drop)]
 pub struct Passage<W> {
     pub service: Service,
@@ -28,9 +28,9 @@ pub struct Passage<W> {
     pub totals: Totals,
 }
 
-/// Leads the packets of a burst through their chains, and puts each that passes into Out, with what stands beside its record, and then
-/// the line of each that is dropped into Report. So many mergers put together in this way what the branches of a stage give, and each
-/// step of a function passes the gate first.
+/// Runs the packets of a burst through their chains, puts each packet that passes into Out, with what belongs to its
+/// record, and then the line of each that is dropped into Report. `merging` gives the number and the way of the
+/// mergers, and each step of a function passes the gate first.
 pub fn pass_burst<
     R: Threads + Wait + Clock + Sync,
     D: Desk,

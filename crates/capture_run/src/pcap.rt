@@ -1,4 +1,4 @@
-//! Classic captures: records, and nothing beside them.
+//! Classic captures: records, and nothing besides.
 ghost use Rattle.std.specs.Prelude.{not};
 ghost use Rattle.capture_run.specs.Formats.{pcap_left, pcap_spelled};
 ghost use Rattle.capture_run.specs.Slots.{IsDrained};
@@ -13,7 +13,7 @@ use nfp_outside::{Desk, OutsideFault};
 use pcap_io::{PcapFault, Reader, Writer};
 use std::alloc::Global;
 
-/// What stands for a block that is no packet: a classic capture gives none, and nothing is written of it.
+/// The type of a block that isn't a packet: a classic capture has none, and none is written.
 #[derive(Clone, Copy, Debug, PartialEq, Eq)]
 pub struct NoBlock;
 

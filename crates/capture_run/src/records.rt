@@ -1,4 +1,4 @@
-//! Takes what a capture gives, and runs each burst where its last packet was read, or a block stands that is no packet.
+//! Takes the items of a capture, and runs each burst after its last packet, or before a block that isn't a packet.
 ghost use Rattle.std.specs.Prelude.{◌≡◌, ◌≢◌, ◌≤◌, ◌<◌, ◌+◌, ◌-◌, ◌^◌, [], true, All, IfNone, IfOk, IfErr, IsSome, OnOk, length};
 ghost use Rattle.nfp_outside.specs.declared.slot.Slot.{Slot};
 ghost use Rattle.capture_bytes.specs.Packets.{IsShort};
@@ -23,8 +23,8 @@ use std::rt::Clock;
 use std::sync::Wait;
 use std::thread::Threads;
 
-/// Takes what the capture gives, one after another, and runs each burst, of `burst` packets at most, where its last packet was read or
-/// a block stands that is no packet; such a block is then put.
+/// Takes the items of the capture, one after another, and runs each burst, of at most `burst` packets, after its last
+/// packet or before a block that isn't a packet; such a block is then put.
 pub fn run_records<
     R: Threads + Wait + Clock + Sync,
     D: Desk,
@@ -92,7 +92,7 @@ pub fn run_records<
     }
 }
 
-// Takes what was given: a packet into the open burst, and another block behind it.
+// Takes an item: a packet into the open burst, and another block after it.
 fn take<
     R: Threads + Wait + Clock + Sync,
     D: Desk,
@@ -130,7 +130,7 @@ fn take<
     }
 }
 
-// Adds a packet to the open burst, with the chain that takes it, and runs the burst where this packet closes it.
+// Adds a packet to the open burst, with the chain that takes it, and runs the burst if this packet closes it.
 fn hold<
     R: Threads + Wait + Clock + Sync,
     D: Desk,
@@ -168,7 +168,7 @@ fn hold<
     }
 }
 
-// Runs the open burst, and puts a block behind it that is no packet.
+// Runs the open burst, and then puts a block that isn't a packet.
 fn pass_block<
     R: Threads + Wait + Clock + Sync,
     D: Desk,
@@ -201,7 +201,7 @@ fn pass_block<
     Ok(passage)
 }
 
-// Runs a burst, and lets go what stood beside its records.
+// Runs a burst, and drops what belonged to its records.
 fn run_held<
     R: Threads + Wait + Clock + Sync,
     D: Desk,
@@ -242,7 +242,7 @@ fn run_held<
     }
 }
 
-// Runs the open burst, and tells how the capture ended.
+// Runs the open burst, and returns how the capture ended.
 fn end<
     R: Threads + Wait + Clock + Sync,
     D: Desk,
@@ -273,7 +273,7 @@ fn end<
     Ok((passage, fault))
 }
 
-// How a run ends where nothing more could be read. A fault of the capture ends it as its end does.
+// How a run ends after nothing more could be read. A fault of the capture ends it in the same way as its end.
 fn stop<
     R: Threads + Wait + Clock + Sync,
     D: Desk,

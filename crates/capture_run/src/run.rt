@@ -19,16 +19,17 @@ use std::rt::Clock;
 use std::sync::Wait;
 use std::thread::Threads;
 
-/// Leads each packet of a capture through the chain that takes it, and puts those that pass into Out, with the other blocks of the
-/// capture among them, and the report into Report.
+/// Runs each packet of a capture through the chain that takes it. Puts the packets that pass into Out, with the other
+/// blocks of the capture among them, and the report into Report.
 ///
-/// A head was read and written where the format has one, and the source stands behind the one, the sink behind the other. Packets are held until their
-/// burst is full, which is of `burst` packets at most, or the capture ends. What is put of a whole capture doesn't depend on that;
-/// but a want of memory or a fault of a slot leaves those unwritten that were read since the last burst.
+/// If the format has a head, it was read and written: the source is after the one, and the sink after the other.
+/// Packets are held until their burst is full, at `burst` packets, or the capture ends. For a whole capture, what is
+/// put doesn't depend on the bursts; but if memory runs out or a slot fails, the packets that were read since the last
+/// burst aren't written.
 ///
-/// Where a burst goes on threads, the branches of a stage run side by side, and behind them at most so many mergers, 1 to 16, which put
-/// together in this way what the branches give; else it goes on the caller's thread, by the pace of its chain. Nothing that is put
-/// depends on that. Each step of a function passes the gate first.
+/// If a burst runs on threads, the branches of a stage run side by side, and after them at most as many mergers as
+/// `merging` says, which merge the results of the branches in its way. Otherwise it runs on the caller's thread. The
+/// pace of its chain decides which. The output never depends on that. Each step of a function passes the gate first.
 pub fn run_capture<
     R: Threads + Wait + Clock + Sync,
     D: Desk,

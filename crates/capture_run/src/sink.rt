@@ -1,4 +1,4 @@
-//! Where packets go.
+//! The destination of packets.
 ghost use Rattle.std.specs.Prelude.{◌≡◌, ◌≢◌, ◌<◌, ◌^◌, ℕ, List, IsSome, OnErr, OnOk, length};
 ghost use Rattle.nfp_outside.specs.declared.slot.Slot.{Slot};
 ghost use Rattle.nfp_outside.specs.Outside.{Appends, AppendsPrefix, WriteCause};
@@ -9,12 +9,14 @@ ghost use Rattle.capture_run.specs.declared.given.Given.TheVariants.{Block};
 use capture_bytes::PcapRecord;
 use nfp_outside::{Desk, OutsideFault, Slot};
 
-/// Writes packets and other blocks, one behind another, into the slot Out of a desk. A format joins by its writer.
+/// Writes packets and other blocks, one after another, into the slot Out of a desk. The writer of a format implements
+/// it.
 pub trait Sink<X, B> {
-    /// The bytes of what is written.
+    /// The bytes that are written for an item.
     ghost spelled: { Self → Given X B → List ℕ };
 
-    /// Writes a packet behind what was written before. After an `Err`, Out holds a front part of it, and no more is written.
+    /// Writes a packet after what was written before. After an `Err`, Out holds a front part of it, and no more is
+    /// written.
     fn put<D: Desk>(
         &mut self,
         desk: &mut D,
@@ -29,7 +31,7 @@ pub trait Sink<X, B> {
         ensures cause { WriteCause Slot.Out (D.slots desk.old Slot.Out) (D.slots desk.new Slot.Out) result }
         ensures others { (s : Slot) → s ≢ Slot.Out → D.slots desk.new s ≡ D.slots desk.old s };
 
-    /// Writes another block, likewise.
+    /// Writes another block, in the same way.
     fn put_block<D: Desk>(&mut self, desk: &mut D, block: &B) -> Result<(), OutsideFault>
         requires attached { IsSome (D.slots desk.old Slot.Out).name }
         ensures same { spelled self.new ≡ spelled self.old }

@@ -1,4 +1,4 @@
-//! Where packets come from.
+//! The origin of packets.
 ghost use Rattle.std.specs.Prelude.{◌≡◌, ◌≢◌, ◌≤◌, ℕ, [], Bool, true, None, Option, IfNone, IfOk, IfSome, IsErrOf, IsSome, OnOk};
 ghost use Rattle.nfp_outside.specs.declared.slot.Slot.{Slot};
 ghost use Rattle.nfp_outside.specs.Outside.{IsRisen, SlotView};
@@ -11,25 +11,25 @@ use crate::given::Given;
 use nfp_outside::{Desk, Slot};
 use std::alloc::Global;
 
-/// Gives what a capture has, one after another, off the slot Capture of a desk: packets, of each of which a format says `X` beside its
-/// record, and other blocks `B`. A format joins by its reader.
+/// Returns the items of a capture, one after another, from the slot Capture of a desk: packets, of each of which a
+/// format says `X` besides its record, and other blocks `B`. The reader of a format implements it.
 pub trait Source<X, B> {
-    /// What is still to come and its fault, where the desk tells what is left in the slot.
+    /// The items that are still to come and the fault, if the desk shows what is left in the slot.
     ghost left: { Self → SlotView → Option (Stream X B) };
 
-    /// How many packets it gave.
+    /// The number of packets that it returned.
     ghost packets: { Self → ℕ };
 
-    /// How many packets and other blocks it gave.
+    /// The number of packets and other blocks that it returned.
     ghost taken: { Self → ℕ };
 
-    /// It may be asked: it wasn't refused before.
+    /// Whether `next` may be called: no call failed before.
     ghost is_open: { Self → Bool };
 
-    /// What holds of the slot once nothing is left: a source that reads it has read it to its end.
+    /// A property of the slot once nothing is left: a source that reads the slot has read it to its end.
     ghost is_drained: { SlotView → Type 0 };
 
-    /// What stands next; `None` exactly where nothing is left. After an `Err` it isn't asked again.
+    /// The next item; `None` exactly if nothing is left. After an `Err` it must not be called again.
     fn next<D: Desk>(
         &mut self,
         alloc: Global,

@@ -1,4 +1,4 @@
-//! Puts what stands behind the lines of the dropped packets into Report, piece by piece.
+//! Puts the part of the report after the lines of the dropped packets into Report, piece by piece.
 ghost use Rattle.std.specs.Prelude.{◌≡◌, ◌≢◌, ◌<◌, ◌≤◌, ◌++◌, [], IfErr, IsSome, OnOk, length, slice_index_or};
 ghost use Rattle.std.specs.List.{flat_map};
 ghost use Rattle.nfp_outside.specs.declared.slot.Slot.{Slot};
@@ -21,16 +21,17 @@ use nfp_outside::Desk;
 use policy_text::{ChainPolicy, FunctionDecl};
 use std::alloc::{AllocError, Global};
 
-/// From how many bytes on it is put what was gathered, and how many more may come meanwhile without more memory.
+/// The number of gathered bytes from which on they are put, and the number of bytes that may be added meanwhile without
+/// an allocation.
 const FULL: usize = 65_536;
 
 const MORE: usize = 4_096;
 
-/// Puts what stands behind the lines of the dropped packets: the totals, the copies of each chain, its functions with their
-/// states, and the end or the capture's fault.
+/// Puts the part of the report after the lines of the dropped packets: the totals, the copies of each chain, its
+/// functions with their states, and the end or the capture's fault.
 ///
-/// The lines go through one buffer, which is put and filled again whenever it is full, so no more memory is taken for states
-/// of many lines than for those of few.
+/// The lines go through one buffer, which is put and filled again whenever it is full, so states of many lines need no
+/// more memory than those of few.
 pub fn put_summary<D: Desk>(
     alloc: Global,
     desk: &mut D,
@@ -67,7 +68,7 @@ fn push_head(
     Ok(())
 }
 
-// Tells the functions of each chain, with their states.
+// Adds the lines of the functions of each chain, with their states.
 fn tell_functions<D: Desk>(
     alloc: Global,
     desk: &mut D,
@@ -85,7 +86,7 @@ fn tell_functions<D: Desk>(
     Ok(())
 }
 
-// Tells the functions of a chain, as they are declared.
+// Adds the lines of the functions of a chain, in the order of their declarations.
 fn tell_chain<D: Desk>(
     alloc: Global,
     desk: &mut D,
@@ -104,7 +105,7 @@ fn tell_chain<D: Desk>(
     Ok(())
 }
 
-// Tells a function: its line, and those of its state.
+// Adds the line of a function, and those of its state.
 fn tell_function<D: Desk>(
     alloc: Global,
     desk: &mut D,
@@ -122,7 +123,7 @@ fn tell_function<D: Desk>(
     tell_state(desk, held, pieces, declared.name.bytes())
 }
 
-// Tells the state of the function with this name.
+// Adds the lines of the state of the function with this name.
 fn tell_state<D: Desk>(
     desk: &mut D,
     held: &mut Vec<u8>,
@@ -140,7 +141,7 @@ fn tell_state<D: Desk>(
     }
 }
 
-// Tells the lines of a function's state.
+// Adds the lines of a function's state.
 fn tell_rows<D: Desk>(
     desk: &mut D,
     held: &mut Vec<u8>,
@@ -158,7 +159,7 @@ fn tell_rows<D: Desk>(
     Ok(())
 }
 
-// Tells a line of a function's state.
+// Adds one line of a function's state.
 fn tell_row<D: Desk>(
     desk: &mut D,
     held: &mut Vec<u8>,
@@ -175,7 +176,7 @@ fn tell_row<D: Desk>(
     put_full(desk, held)
 }
 
-// Puts what is held, where the buffer is full.
+// Puts the gathered bytes, if the buffer is full.
 fn put_full<D: Desk>(desk: &mut D, held: &mut Vec<u8>) -> Result<(), RunFault>
     requires report { IsSome (D.slots desk.old Slot.Report).name }
     ensures ok { OnOk result (Gathers [] held.old.items held.new.items (D.slots desk.old) (D.slots desk.new)) }

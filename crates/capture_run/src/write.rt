@@ -1,4 +1,4 @@
-//! Puts packets, blocks and texts into Out and Report, and says why where that is refused.
+//! Puts packets, blocks and texts into Out and Report, and returns the fault if that fails.
 ghost use Rattle.std.specs.Prelude.{◌≡◌, ◌≢◌, ◌<◌, ◌^◌, [], IfErr, OnOk, IsSome, length};
 ghost use Rattle.nfp_outside.specs.declared.slot.Slot.{Slot};
 ghost use Rattle.capture_run.specs.Slots.{Puts, Breaks, fault_seen};
@@ -10,7 +10,7 @@ use crate::sink::Sink;
 use capture_bytes::PcapRecord;
 use nfp_outside::{Desk, OutsideFault, Slot, write_whole};
 
-/// Puts a packet into Out, with this beside its record.
+/// Puts a packet into Out, with what belongs to its record.
 pub fn put_packet<X, B, W: Sink<X, B>, D: Desk>(
     desk: &mut D,
     writer: &mut W,
@@ -30,7 +30,7 @@ pub fn put_packet<X, B, W: Sink<X, B>, D: Desk>(
     }
 }
 
-/// Puts a block into Out that is no packet.
+/// Puts a block that isn't a packet into Out.
 pub fn put_block<X, B, W: Sink<X, B>, D: Desk>(
     desk: &mut D,
     writer: &mut W,
@@ -61,7 +61,7 @@ pub fn put_text<D: Desk>(desk: &mut D, text: &[u8]) -> Result<(), RunFault>
     }
 }
 
-// What a refused writing of a slot is answered with.
+// The fault of a run after writing a slot failed.
 fn fault_of(slot: Slot, fault: OutsideFault) -> RunFault
     ensures { result ≡ fault_seen slot fault }
 {

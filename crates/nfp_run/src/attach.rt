@@ -30,7 +30,7 @@ pub fn attach_sink<D: Desk>(desk: &mut D, slot: Slot, name: &str) -> Result<(), 
     }
 }
 
-/// Puts the head into Out that is written where a capture with this head runs through the chains.
+/// Puts the head of the written capture into Out, for a capture with this head that runs through the chains.
 pub fn put_head<D: Desk>(
     desk: &mut D,
     head: &CaptureHead,
@@ -48,7 +48,7 @@ pub fn put_head<D: Desk>(
     }
 }
 
-/// What a refused writing of Out is answered with.
+/// The fault of a run after writing Out failed.
 pub fn fault_of(fault: OutsideFault) -> RunFault
     ensures { result ≡ fault_seen Slot.Out fault }
 {

@@ -1,4 +1,4 @@
-//! What each command does, before its line is put into Note.
+//! Runs each command, before its line is put into Note.
 ghost use Rattle.std.specs.Prelude.{◌≡◌, map, None, string_bytes};
 ghost use Rattle.nfp_outside.specs.declared.slot.Slot.{Slot};
 ghost use Rattle.nfp_run.specs.Ran.{Ran};
@@ -17,7 +17,7 @@ use std::rt::Clock;
 use std::sync::Wait;
 use std::thread::Threads;
 
-/// Does what the words ask for.
+/// Runs the command of the words.
 #[tactic(auto, using(crate::proofs::ShownPlans::demo_ran, crate::proofs::ShownPlans::usage_ran, crate::proofs::UnreadWords::unread_ran))]
 pub fn run_words<R: Threads + Wait + Clock + Sync, D: Desk, G: Gate + Sync>(
     rt: &R,

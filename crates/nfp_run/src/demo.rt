@@ -1,4 +1,4 @@
-//! Runs a demo: a capture that is made, through the chains of its own policy, told by what comes out.
+//! Runs a demo: a generated capture through the chains of its own policy, with a summary of the output.
 ghost use Rattle.std.specs.Prelude.{◌≡◌, ◌≤◌, ◌-◌, IfOk, IsSome, Some, None};
 ghost use Rattle.nfp_outside.specs.declared.slot.Slot.{Slot};
 ghost use Rattle.policy_judge.specs.Judging.{judged};
@@ -30,9 +30,9 @@ use std::rt::Clock;
 use std::sync::Wait;
 use std::thread::Threads;
 
-/// Leads the capture of this seed and count through the demo's policy, in bursts of at most so many packets, with so many mergers and
-/// in the way that the options say, and tells how many packets came out, and how long and heavy the texts are that a run would write.
-/// No slot is touched.
+/// Runs the capture of this seed and count through the demo's policy, in bursts and with mergers as the options say.
+/// The summary has the number of packets that came out, and the lengths and weights of the texts that a run would
+/// write. No slot is touched.
 pub fn demo<R: Threads + Wait + Clock + Sync, G: Gate + Sync>(
     rt: &R,
     alloc: Global,
@@ -66,7 +66,7 @@ fn text<R: Threads + Wait + Clock + Sync, G: Gate + Sync>(
     Ok(text)
 }
 
-// The chains of the demo's policy, which has no fault: where none is made, there was no memory.
+// The chains of the demo's policy. It has no fault, so an error means that memory ran out.
 #[tactic(auto, using(crate::proofs::DemoRuns::served_demo))]
 fn demo_service(alloc: Global) -> Result<Service, AllocError>
     ensures serves { IfOk result (λ s. service_of (judged policy_text) ≡ Some (chains_of s.chains)) }
@@ -81,7 +81,7 @@ fn demo_service(alloc: Global) -> Result<Service, AllocError>
     }
 }
 
-// The numbers of the summary. Scales never fail, so where the run broke off there was no memory.
+// The numbers of the summary. Scales never fail, so if the run was aborted, memory ran out.
 #[tactic(auto, using(crate::proofs::DemoRuns::summed_demo))]
 fn weigh<R: Threads + Wait + Clock + Sync, G: Gate + Sync>(
     rt: &R,
@@ -108,7 +108,7 @@ fn weigh<R: Threads + Wait + Clock + Sync, G: Gate + Sync>(
     }
 }
 
-// Leads the demo's capture through these chains, and puts what is written of it into the slots of a desk.
+// Runs the demo's capture through these chains, and puts the output into the slots of a desk.
 fn lead<R: Threads + Wait + Clock + Sync, D: Desk, G: Gate + Sync>(
     rt: &R,
     alloc: Global,

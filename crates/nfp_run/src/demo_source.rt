@@ -1,4 +1,4 @@
-//! The records of a demo, as those of a capture.
+//! The records of a demo, as a source.
 ghost use Rattle.std.specs.Prelude.{◌≡◌, Some, true, ⊤};
 ghost use Rattle.demo_capture.specs.DemoCapture.{demo_records, whole_body};
 ghost use Rattle.capture_run.specs.Formats.{pcap_stream};
@@ -9,7 +9,7 @@ use demo_capture::DemoRecords;
 use nfp_outside::Desk;
 use std::alloc::Global;
 
-/// The records of a demo. They are made, whatever the slot Capture holds.
+/// The records of a demo. They are generated, whatever the slot Capture holds.
 #[derive(Drop)]
 pub struct DemoSource {
     pub records: DemoRecords,

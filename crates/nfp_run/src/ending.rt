@@ -6,7 +6,7 @@ use graph_text::GraphFault;
 use item_list::Items;
 use policy_judge::Refusal;
 
-/// Why a text of graphs is refused, and the line that tells it.
+/// Why a text of graphs is refused, and the line that reports it.
 #[derive(Debug, Drop)]
 pub struct GraphRefusal {
     pub fault: GraphFault,
@@ -18,12 +18,12 @@ pub struct GraphRefusal {
 pub enum Ending {
     /// A capture without fault went through the chains.
     Completed(Totals),
-    /// What is to be shown was made: the plan of a policy, or the summary of a demo.
+    /// The text to show was made: the plan of a policy, or the summary of a demo.
     Shown(Items<u8>),
     /// The policy has a fault.
     Refused(Refusal),
     /// The graphs that were written for a policy without fault have one.
     GraphRefused(GraphRefusal),
-    /// Any other end, which its outcome alone tells.
+    /// Any other end. The outcome says everything about it.
     Stopped(Outcome),
 }

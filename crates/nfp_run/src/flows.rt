@@ -51,7 +51,7 @@ pub fn flows<R: Threads + Sync, D: Desk>(
     }
 }
 
-// Attaches Out, counts the flows of what is left of the capture, and exports them.
+// Attaches Out, counts the flows of the rest of the capture, and exports them.
 fn count_and_export<R: Threads + Sync, D: Desk>(
     rt: &R,
     alloc: Global,
@@ -88,7 +88,7 @@ ghost use Rattle.flow_export.specs.Exports.{export_bytes};
 ghost use Rattle.flow_run.specs.Counting.{FitsSpan, IsCountOf};
 ghost use Rattle.nfp_run.specs.FlowsRan.{flows_ending};
 
-// Counts the flows of what is left of the capture.
+// Counts the flows of the rest of the capture.
 fn count<R: Threads + Sync, D: Desk>(
     rt: &R,
     alloc: Global,
@@ -119,7 +119,7 @@ fn count<R: Threads + Sync, D: Desk>(
     }
 }
 
-// Puts the export of what was counted into Out.
+// Puts the export of the counted flows into Out.
 fn export_counted<D: Desk>(
     alloc: Global,
     desk: &mut D,
@@ -143,7 +143,7 @@ fn export_counted<D: Desk>(
     Ok(ending_of(alloc, counted, packets)?)
 }
 
-// How a call ends whose flows were exported: a fault of the capture is its answer.
+// How a call ends after the flows were exported: with the capture's fault if it has one.
 fn ending_of(alloc: Global, counted: &Counted, packets: u32) -> Result<Ending, AllocError>
     requires { packets ≡ packet_count (length (exported counted.now.lines)) }
     ensures { IfOk result (λ ending. ending ≡ flows_ending counted.now.records counted.now.lines counted.now.fault) }
@@ -157,7 +157,7 @@ fn ending_of(alloc: Global, counted: &Counted, packets: u32) -> Result<Ending, A
     }
 }
 
-// The line of a capture whose flows were exported in so many packets.
+// The line of a capture whose flows were exported in `packets` packets.
 #[tactic(auto, unfolding(crate::specs::Notes::flows_text))]
 fn flows_text(
     alloc: Global,
@@ -185,7 +185,7 @@ fn flows_text(
     )
 }
 
-// How many lines are exported.
+// The number of lines that are exported.
 fn exported_count(lines: &[FlowLine]) -> u64
     ensures { result ≡ length (exported lines.now) }
 {

@@ -1,4 +1,4 @@
-//! The line that tells why a text of graphs is refused.
+//! The line that reports why a text of graphs is refused.
 ghost use Rattle.std.specs.Prelude.{◌≡◌, IfOk};
 ghost use Rattle.nfp_run.specs.GraphLines.{forbidden_line, graph_at_line, graph_line, name_in, pair_line};
 
@@ -52,7 +52,7 @@ pub fn graph_line(
     }
 }
 
-// What is wrong with a line of the text.
+// The fault of a line of the text.
 #[tactic(auto, unfolding(crate::specs::GraphLines::graph_at_line))]
 fn at_line(alloc: Global, number: u32, fault: &[u8]) -> Result<Vec<u8>, AllocError>
     ensures { IfOk result (λ line. line.items ≡ graph_at_line number fault.now) }
@@ -75,7 +75,7 @@ fn name_in(chains: &[ChainPolicy], chain: u32, function: u32) -> &[u8]
     name_at(functions_at(chains, chain), function)
 }
 
-// What is wrong with one function before another.
+// The fault of one function before another.
 #[tactic(auto, unfolding(crate::specs::GraphLines::pair_line))]
 fn pair_line<'a>(
     alloc: Global,
@@ -97,7 +97,7 @@ fn pair_line<'a>(
     )
 }
 
-// Two functions that stand side by side, for what the one does before what the other does.
+// The fault of two functions side by side, with the action of the one that must come before that of the other.
 #[tactic(auto, unfolding(crate::specs::GraphLines::forbidden_line))]
 fn forbidden_line<'a>(
     alloc: Global,

@@ -9,12 +9,13 @@ use capture_run::{Service, ServiceChain};
 use pcap_io::CaptureHead;
 use policy_text::FunctionDecl;
 
-// How many bytes a tag has (IEEE 802.1Q), and an outer header (RFC 2003).
+// The length in bytes of a tag (IEEE 802.1Q), and of an outer header (RFC 2003).
 const TAG_LEN: u32 = 4;
 
 const OUTER_LEN: u32 = 20;
 
-/// The head that is written where a capture with this head runs through the chains, some of whose functions may make a frame longer.
+/// The head of the written capture, for a capture with this head that runs through the chains. Some of their functions
+/// may make a frame longer.
 pub fn written_head(head: &CaptureHead, service: &Service) -> CaptureHead
     ensures { result ≡ written_head (chains_of service.now.chains) head.now }
 {
@@ -24,7 +25,7 @@ pub fn written_head(head: &CaptureHead, service: &Service) -> CaptureHead
     }
 }
 
-/// How many bytes longer frames may get in these chains, up to the largest number.
+/// The number of bytes by which frames may get longer in these chains, up to the largest number.
 pub fn growth(service: &Service) -> u32
     ensures { result ≡ growth_of (chains_of service.now.chains) }
 {
@@ -42,7 +43,7 @@ fn grown(snaplen: u32, chains: &[ServiceChain]) -> u32
     grown
 }
 
-// The same by these functions.
+// The snaplen, grown by these functions.
 fn grown_by(snaplen: u32, functions: &[FunctionDecl]) -> u32
     ensures { result ≡ min (snaplen + sum_by (λ f. growth_by f.kind) functions.now) 4294967295 }
 {
@@ -53,7 +54,7 @@ fn grown_by(snaplen: u32, functions: &[FunctionDecl]) -> u32
     grown
 }
 
-// How many bytes longer a function of this kind may make a frame.
+// The number of bytes by which a function of this kind may make a frame longer.
 fn growth_by(kind: Kind) -> u32
     ensures { result ≡ growth_by kind }
 {

@@ -1,4 +1,4 @@
-//! What a call without any fault comes to.
+//! The result of a call without any fault.
 ghost use Rattle.std.specs.Prelude.{◌≡◌, ℕ, List, true, None, IsOk, Ok};
 ghost use Rattle.pcap_io.specs.Capture.{capture_of};
 ghost use Rattle.pcap_io.specs.declared.capture.CaptureHead.{CaptureHead};
@@ -16,9 +16,9 @@ ghost use Rattle.command_words.specs.declared.requests.FlowOptions.{FlowOptions}
 ghost use Rattle.command_words.specs.declared.requests.RunOptions.{RunOptions};
 ghost use Rattle.command_words.specs.Words.{Names, FlowFiles, PlanFiles, command_of, Run, Plan, Demo, Flows};
 
-/// A law: words that are a command, a policy and graphs without fault, and for `run` a capture without fault
-/// are done; `flows` needs the capture alone, and a demo none of them. With the clause `answers` of [`crate::nfp`], such a call answers Done or want of memory wherever no
-/// slot failed.
+/// A law: if the words are a command, the policy and the graphs have no fault, and for `run` the capture has none, the
+/// result that is due is Done; `flows` needs only the capture, and a demo none of them. With the clause `answers` of
+/// [`crate::nfp`], such a call returns Done, or runs out of memory, if no slot failed.
 #[tactic(auto, using(crate::proofs::GoodCalls::run_is_done, crate::proofs::GoodCalls::ng_run_is_done, crate::proofs::GoodCalls::plan_is_done, crate::proofs::GoodCalls::demo_is_done, crate::proofs::GoodCalls::flows_are_done))]
 pub fn a_good_call_is_done()
     ensures run { (words : List (List ℕ)) → (names : Names) → (options : RunOptions) → (p g c : List ℕ) → (policy : Prepared) → (head : CaptureHead) → (records : List PcapRecord) →

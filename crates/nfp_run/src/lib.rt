@@ -1,11 +1,11 @@
-//! The top call of `nfp`, which runs the chains of a policy over a capture, shows the plan of a policy, either with graphs that were written
-//! by hand, runs a demo of its own, and exports the flows of a capture.
+//! The top call of `nfp`. It runs the chains of a policy over a capture, shows the plan of a policy, either with graphs
+//! that were written by hand, runs a demo of its own, and exports the flows of a capture.
 //!
-//! What [`nfp()`] promises is the program's theorem: its contract says it, and `specs/Due.antt` has the result that it is
-//! measured against. [`a_good_call_is_done`] says of that result that words, policy and capture without fault are Done, and
-//! [`the_demo_policy_has_no_fault`] that a demo has chains to run. The program itself, the crate `nfp`, hands its words to the call,
-//! over files and an open gate, and ends with the status of the [`Outcome`]. What a desk lost behind the call's back it tells by the
-//! same line, [`write_fault_text`].
+//! What [`nfp()`] promises is the program's theorem: its contract states it, and `specs/Due.antt` defines the result
+//! that is due. [`a_good_call_is_done`] says of this result that words, policy and capture without fault give Done, and
+//! [`the_demo_policy_has_no_fault`] that a demo has chains to run. The program itself, the crate `nfp`, passes its
+//! words to the call, over files and an open gate, and ends with the status of the [`Outcome`]. If a desk lost bytes
+//! after the call, the program reports it by the same line, [`write_fault_text`].
 #![tactic(auto)]
 
 mod attach;

@@ -15,7 +15,7 @@ use std::alloc::{AllocError, Global};
 use text_lines::Piece::Text;
 use text_lines::join;
 
-/// Puts the line of what ended so into Note.
+/// Puts the line of this ending into Note.
 pub fn put_note<D: Desk>(alloc: Global, desk: &mut D, ending: Ending) -> Outcome
     requires { CountsWithin ending }
     ensures notes { Notes ending (D.slots desk.old Slot.Note) (D.slots desk.new Slot.Note) result }
@@ -32,7 +32,8 @@ pub fn put_note<D: Desk>(alloc: Global, desk: &mut D, ending: Ending) -> Outcome
     }
 }
 
-// What is answered where the line couldn't be put: the work was done, or had ended otherwise before.
+// The outcome if the line couldn't be put: a fault of Note if the work was done, and otherwise the outcome that there
+// was.
 fn untold(outcome: Outcome) -> Outcome
     ensures { result ≡ untold outcome }
 {
@@ -42,14 +43,14 @@ fn untold(outcome: Outcome) -> Outcome
     }
 }
 
-/// How a call ended, and the line that tells it.
+/// How a call ended, and the line that reports it.
 #[derive(Drop)]
 struct Told {
     outcome: Outcome,
     line: Items<u8>,
 }
 
-// The outcome of what ended so, with its line.
+// The outcome of this ending, with its line.
 fn tell(alloc: Global, ending: Ending) -> Result<Told, AllocError>
     requires { CountsWithin ending }
     ensures outcome { IfOk result (λ told. told.outcome ≡ outcome_seen ending) }
@@ -79,7 +80,7 @@ fn tell(alloc: Global, ending: Ending) -> Result<Told, AllocError>
     }
 }
 
-// The line of an outcome that tells all.
+// The line of an outcome that needs nothing else.
 fn stop_text(alloc: Global, outcome: &Outcome) -> Result<Vec<u8>, AllocError>
     ensures { IfOk result (λ v. v.items ≡ stop_text outcome.now) }
 {
@@ -89,7 +90,7 @@ fn stop_text(alloc: Global, outcome: &Outcome) -> Result<Vec<u8>, AllocError>
         Outcome::CaptureNg(fault) => ng_line(alloc, *fault),
         Outcome::ReadFault(slot) => read_fault_text(alloc, *slot),
         Outcome::WriteFault(slot) => write_fault_text(alloc, *slot),
-        // The line of these stands elsewhere.
+        // The line of these is made elsewhere.
         Outcome::Done | Outcome::Policy(_) | Outcome::Graph(_) => Ok(Vec::new(alloc)),
         Outcome::OutOfMemory => Ok(Vec::new(alloc)),
     }
@@ -144,7 +145,7 @@ fn read_fault_text(alloc: Global, slot: Slot) -> Result<Vec<u8>, AllocError>
     )
 }
 
-/// The line of a slot that couldn't be written. An error says that there is no memory for it.
+/// The line of a slot that couldn't be written. An error means that there is no memory for it.
 #[tactic(auto, unfolding(crate::specs::Notes::write_fault_text))]
 pub fn write_fault_text(alloc: Global, slot: Slot) -> Result<Vec<u8>, AllocError>
     ensures { IfOk result (λ v. v.items ≡ write_fault_text slot) }

@@ -24,15 +24,15 @@ pub enum Outcome {
     Policy(PolicyFault),
     /// The graphs that were written for a policy without fault have this first fault.
     Graph(GraphFault),
-    /// The capture, which is a classic one, has this first fault. What stood before it went through the chains.
+    /// The capture, which is a classic one, has this first fault. The records before it went through the chains.
     Capture(CaptureFault),
-    /// The same of a pcapng capture.
+    /// The same for a pcapng capture.
     CaptureNg(NgFault),
     /// This slot couldn't be read.
     ReadFault(Slot),
     /// This slot couldn't be written.
     WriteFault(Slot),
-    /// There was no memory.
+    /// Out of memory.
     OutOfMemory,
 }
 

@@ -23,7 +23,8 @@ use policy_check::Order;
 use policy_text::ChainPolicy;
 use std::alloc::{AllocError, Global};
 
-/// Shows the plan of a policy without fault, and of the graphs that were written for its chains, where the words name them.
+/// Shows the plan of a policy without fault, and of the graphs that were written for its chains, if the words name
+/// them.
 #[tactic(auto, using(crate::proofs::Preparations::plan_shown, crate::proofs::Preparations::plan_ends, crate::proofs::ReadToEnd::texts_early))]
 pub fn plan<D: Desk>(alloc: Global, names: &PlanNames<'_>, desk: &mut D) -> Ending
     requires policy_free { (D.slots desk.old Slot.Policy).name ≡ None }
@@ -44,7 +45,7 @@ pub fn plan<D: Desk>(alloc: Global, names: &PlanNames<'_>, desk: &mut D) -> Endi
     }
 }
 
-// What is shown of each chain, in the order of the text.
+// The plan of each chain, in the order of the text.
 #[tactic(auto, using(crate::proofs::ShownPlans::none_shown, crate::proofs::ShownPlans::one_shown, crate::proofs::ShownPlans::all_shown, crate::proofs::ShownPlans::as_many, crate::proofs::ShownPlans::as_many_graphs), unfolding(crate::specs::Plan::plan_text))]
 fn plan_text(alloc: Global, prepared: &Prepared) -> Result<Items<u8>, AllocError>
     requires { IsReady prepared.now }

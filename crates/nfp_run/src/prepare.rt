@@ -1,4 +1,4 @@
-//! Reads the policy and the graphs that were written for its chains, and makes ready what runs.
+//! Reads the policy and the graphs that were written for its chains, and makes the chains ready to run.
 ghost use Rattle.std.specs.Prelude.{◌≡◌, ◌≢◌, ◌≤◌, ◌⊎◌, length, map, IfErr, IfOk, IfSome, MatchResult, Ok, Some, None};
 ghost use Rattle.std.specs.List.{AllZip};
 ghost use Rattle.nfp_outside.specs.declared.slot.Slot.{Slot};
@@ -25,7 +25,7 @@ use nfp_outside::{Desk, Slot};
 use policy_judge::Judged;
 use std::alloc::Global;
 
-/// Reads the policy and judges it, and then reads the graphs that were written for its chains, where the words name them.
+/// Reads the policy and judges it, and then reads the graphs that were written for its chains, if the words name them.
 #[tactic(auto, using(crate::proofs::Preparations::policy_ends, crate::proofs::Preparations::none_prepares, crate::proofs::Preparations::named_prepares, crate::proofs::ReadToEnd::policy_whole, crate::proofs::ReadToEnd::texts_whole))]
 pub fn prepare<D: Desk>(
     alloc: Global,
@@ -52,7 +52,7 @@ pub fn prepare<D: Desk>(
     }
 }
 
-// A policy for whose chains no graph was written.
+// Prepares a policy for whose chains no graph was written.
 fn without_graphs(alloc: Global, judged: Judged) -> Result<Prepared, Ending>
     requires ordered { AllZip IsOrdered judged.policy.chains judged.orders }
     requires made { judged.functions ≡ functions_made judged.policy.chains }
@@ -70,7 +70,7 @@ fn without_graphs(alloc: Global, judged: Judged) -> Result<Prepared, Ending>
     }
 }
 
-// A policy with the graphs that were written for its chains.
+// Prepares a policy with the graphs that were written for its chains.
 #[tactic(auto, using(crate::proofs::Preparations::orders_of, crate::proofs::Preparations::unread_graph_ends, crate::proofs::Preparations::graph_refused_ends, crate::proofs::Preparations::told_graphs, crate::proofs::Preparations::graphs_prepared))]
 fn with_graphs<D: Desk>(
     alloc: Global,
@@ -104,7 +104,7 @@ fn with_graphs<D: Desk>(
     }
 }
 
-// How a call ends whose graphs weren't read.
+// How a call ends if the graphs weren't read.
 fn unread_ending(alloc: Global, judged: &Judged, unread: Unread) -> Ending
     ensures { UnreadGraphEnds judged.now unread result }
 {
@@ -115,7 +115,7 @@ fn unread_ending(alloc: Global, judged: &Judged, unread: Unread) -> Ending
     }
 }
 
-// How a call ends whose graphs have this fault.
+// How a call ends if the graphs have this fault.
 fn refused_by(alloc: Global, judged: &Judged, fault: GraphFault) -> Ending
     ensures { GraphRefusedBy judged.now fault result }
 {

@@ -1,4 +1,4 @@
-//! Reads the policy, the bytes of a text and the head of the capture, and says why where that is refused.
+//! Reads the policy, the bytes of a text and the head of the capture, and returns the reason if that fails.
 ghost use Rattle.std.specs.Prelude.{◌≡◌, ◌≢◌, ◌≤◌, ◌⊎◌, length, All, IfOk, IfErr, IfSome, IsSome, IsTrue, MatchResult, Ok, Some, None};
 ghost use Rattle.std.specs.List.{AllZip};
 ghost use Rattle.nfp_outside.specs.declared.slot.Slot.{Slot};
@@ -24,7 +24,7 @@ use std::alloc::Global;
 // The first bytes of a pcapng capture: the type of a section header block.
 const NG_FRONT: [u8; 4] = [0x0a, 0x0d, 0x0d, 0x0a];
 
-// The most bytes that a text has.
+// The greatest number of bytes of a text.
 const MAX_TEXT: usize = 1_048_576;
 
 /// Why a text wasn't read whole.
@@ -62,13 +62,13 @@ pub fn read_policy<D: Desk>(alloc: Global, desk: &mut D, name: &str) -> Result<J
 /// A capture whose head was read, or whose first block.
 #[derive(Drop)]
 pub enum Opened {
-    /// A classic capture: its head, and what reads on behind it.
+    /// A classic capture: its head, and the reader after it.
     Pcap(CaptureHead, Reader),
     /// A pcapng capture.
     Ng(NgSource),
 }
 
-/// Attaches the capture, and reads its head, or its first block where it is a pcapng capture: the first four bytes tell.
+/// Attaches the capture, and reads its head, or its first block if it is a pcapng capture. The first four bytes decide.
 pub fn open_capture<D: Desk>(alloc: Global, desk: &mut D, name: &str) -> Result<Opened, Outcome>
     requires { (D.slots desk.old Slot.Capture).name ≡ None }
     ensures ok { IfOk result (λ opened. Opens name.now opened (D.slots desk.old Slot.Capture) (D.slots desk.new Slot.Capture)) }
@@ -109,7 +109,7 @@ pub fn open_classic<D: Desk>(desk: &mut D, name: &str) -> Result<(CaptureHead, R
     }
 }
 
-// What a capture is answered with that a desk refused to attach or to read.
+// The outcome after a desk refused to attach or to read a capture.
 fn unread_capture(fault: DeskFault) -> Outcome
     ensures { result ≡ unread_capture fault }
 {
@@ -119,7 +119,7 @@ fn unread_capture(fault: DeskFault) -> Outcome
     }
 }
 
-// Reads the head of a capture, or its first block, by its first bytes, which were read before.
+// Reads the head of a capture, or its first block, as its first bytes, which were read before, decide.
 fn open_by_format<D: Desk>(alloc: Global, desk: &mut D, first: &[u8]) -> Result<Opened, Outcome>
     requires attached { IsSome (D.slots desk.old Slot.Capture).name }
     requires few { length first.now ≤ 4 }
@@ -177,7 +177,7 @@ pub fn read_bytes<D: Desk>(
     }
 }
 
-// How a call ends whose policy wasn't read.
+// How a call ends if the policy wasn't read.
 fn unread_ending(alloc: Global, unread: Unread) -> Ending
     ensures { UnreadEnds unread result }
 {
@@ -188,7 +188,7 @@ fn unread_ending(alloc: Global, unread: Unread) -> Ending
     }
 }
 
-// How a call ends whose policy was judged so.
+// How a call ends if the policy has this fault.
 fn refused_by(fault: JudgeFault) -> Ending
     ensures { result ≡ refused_by fault }
 {

@@ -36,7 +36,8 @@ use std::rt::Clock;
 use std::sync::Wait;
 use std::thread::Threads;
 
-/// Runs the chains of the policy over the capture, in the graphs that were written for them, where the words name them. The words are accepted, and nothing is put into Note.
+/// Runs the chains of the policy over the capture, in the graphs that were written for them, if the words name them.
+/// The words are accepted, and nothing is put into Note.
 pub fn run<R: Threads + Wait + Clock + Sync, D: Desk, G: Gate + Sync>(
     rt: &R,
     alloc: Global,
@@ -75,7 +76,7 @@ pub fn run<R: Threads + Wait + Clock + Sync, D: Desk, G: Gate + Sync>(
     ending_of(attach_and_run(rt, alloc, desk, names, service, options, opened, gate))
 }
 
-// How the work of a call ended that ran a capture.
+// How a call that ran a capture ends.
 fn ending_of(ran: Result<Ended, RunFault>) -> Ending
     ensures { result ≡ ending_of ran }
 {
@@ -85,7 +86,7 @@ fn ending_of(ran: Result<Ended, RunFault>) -> Ending
     }
 }
 
-// A capture that ended with a fault is answered by it.
+// The ending of a capture: with its fault if it has one.
 fn closed(ended: Ended) -> Ending
     ensures { result ≡ closed ended.totals ended.fault }
 {
@@ -134,7 +135,7 @@ fn attach_and_run<R: Threads + Wait + Clock + Sync, D: Desk, G: Gate + Sync>(
     }
 }
 
-// Puts the head into Out that is written, and runs a classic capture behind it.
+// Puts the head of the written capture into Out, and then runs a classic capture.
 fn run_pcap<R: Threads + Wait + Clock + Sync, D: Desk, G: Gate + Sync>(
     rt: &R,
     alloc: Global,

@@ -1,4 +1,4 @@
-//! How what the branches of a stage give comes together, from the words to the runner.
+//! How the results of the branches of a stage are merged: from the words to the runner.
 ghost use Rattle.std.specs.Prelude.{◌≡◌};
 ghost use Rattle.command_words.specs.Named.{IsInRange};
 ghost use Rattle.capture_run.specs.BurstWalkProofs.{number_of};
@@ -6,7 +6,7 @@ ghost use Rattle.capture_run.specs.BurstWalkProofs.{number_of};
 use capture_run::{MergeWay, Mergers, Merging};
 use command_words::{RunOptions, Way};
 
-/// The way of the runner that the words ask for.
+/// The way of the runner for the way in the words.
 fn merge_way(way: Way) -> MergeWay
     ensures inbox { way ≡ Way.Inbox → result ≡ MergeWay.Inbox }
     ensures board { way ≡ Way.Board → result ≡ MergeWay.Board }
@@ -17,7 +17,7 @@ fn merge_way(way: Way) -> MergeWay
     }
 }
 
-/// How the options ask that what branches give is put together.
+/// The mergers and the way of merging that the options set.
 pub fn merging_by(options: RunOptions) -> Merging
     requires ranges { IsInRange options }
     ensures mergers { number_of result.mergers ≡ options.mergers }
