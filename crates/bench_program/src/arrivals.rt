@@ -1,5 +1,6 @@
-//! Fills a table with open packets, and then completes the oldest and opens one more, again and again: what `bench/arrivals`
-//! measures. Its words are how many packets are open, and how many rounds; it prints how many rounds it went.
+//! Fills a table with open packets, and then completes the oldest and opens one more, again and again: what
+//! `bench/arrivals` measures. Its words are the number of open packets and the number of rounds; it prints the number
+//! of rounds that it made.
 ghost use Rattle.std.specs.Prelude.{◌≡◌, ◌≢◌, ◌<◌, ◌≤◌, ℕ, [], IsTrue, None, slice_index_or};
 ghost use Rattle.std.specs.Vec.{vec_capacity};
 ghost use Rattle.acc_table.specs.Arrivals.{IsOpen, arrivals, nothing};
@@ -10,10 +11,10 @@ use acc_table::{AccTable, MOST_ENTRIES};
 use std::alloc::{AllocError, Global};
 use std::io;
 
-/// The most rounds, so that the packets' numbers suffice.
+/// The greatest number of rounds, so that the packets' numbers suffice.
 const MOST_ROUNDS: u32 = 1_000_000_000;
 
-/// A packet comes from its first branch: whether it is open now.
+/// A packet comes from its first branch. Returns whether it is open now.
 fn opens(table: &mut AccTable<u32>, entries: u32, pid: u32, values: &mut Vec<u32>) -> bool
     requires entries { entries ≡ table.old.entries }
     requires branches { table.old.branches ≡ 2 }
@@ -35,7 +36,7 @@ fn opens(table: &mut AccTable<u32>, entries: u32, pid: u32, values: &mut Vec<u32
     table.arrive(pid, 0, pid, values).is_none()
 }
 
-/// A packet that is open comes from its second branch: whether it is complete.
+/// A packet that is open comes from its second branch. Returns whether it is complete.
 fn completes(table: &mut AccTable<u32>, pid: u32, values: &mut Vec<u32>) -> bool
     requires branches { table.old.branches ≡ 2 }
     requires opened { IsOpen table.old pid }
@@ -54,7 +55,7 @@ fn completes(table: &mut AccTable<u32>, pid: u32, values: &mut Vec<u32>) -> bool
     complete
 }
 
-/// Opens so many packets, numbered from 0: whether all are open.
+/// Opens `entries` packets, numbered from 0. Returns whether all are open.
 fn filled(table: &mut AccTable<u32>, entries: u32, values: &mut Vec<u32>) -> bool
     requires entries { entries ≡ table.old.entries }
     requires rolls { Rolls table.old 0 0 }
@@ -73,7 +74,7 @@ fn filled(table: &mut AccTable<u32>, entries: u32, values: &mut Vec<u32>) -> boo
     true
 }
 
-/// The rounds that went through.
+/// Makes the rounds, and returns the number that succeeded.
 fn rolled(table: &mut AccTable<u32>, entries: u32, rounds: u32, values: &mut Vec<u32>) -> u32
     requires few { entries ≤ 65536 }
     requires some { 0 < entries }
@@ -105,7 +106,7 @@ fn run(alloc: Global, entries: u32, rounds: u32) -> Result<u32, AllocError>
     Ok(rolled(&mut table, entries, rounds, &mut values))
 }
 
-/// Goes the rounds that the words tell.
+/// Makes the rounds of the words.
 pub fn measure(rt: &(impl Alloc<A = Global> + Print), words: &[String]) -> io::Result<()> {
     let entries = number(words, 0, 1);
     let rounds = number(words, 1, 0);

@@ -1,11 +1,11 @@
-//! The burst that is led through a chain.
+//! The burst that is run through a chain.
 use capture_bytes::PcapRecord;
 use classifier::{Burst, Item};
 use item_list::Items;
 use packet_fields::Frame;
 use std::alloc::{AllocError, Global};
 
-/// The packets of a burst where the words say nothing else.
+/// The number of packets of a burst if the words have none.
 pub const BURST: u32 = 1_024;
 
 /// Addresses, and the headers of a UDP datagram from 10.0.0.1:1000 to 10.0.0.2:53; its lengths are put in.
@@ -14,8 +14,8 @@ const HEADERS: [u8; 42] = [
     0, 0, 1, 10, 0, 0, 2, 0x03, 0xe8, 0, 53, 0, 8, 0, 0,
 ];
 
-/// So many packets of so many bytes, at least 42 and below 65,536 each, from the sources 10.0.0.0 to 10.0.0.255 in turn. Their data
-/// are small letters.
+/// `packets` packets of `size` bytes, at least 42 and below 65,536 each, from the sources 10.0.0.0 to 10.0.0.255 in
+/// turn. Their data are small letters.
 pub fn burst_of(alloc: Global, packets: u32, size: u16) -> Result<Burst, AllocError> {
     let mut items = Vec::new(alloc);
     for number in 0..packets {
@@ -55,7 +55,7 @@ fn frame(alloc: Global, number: u32, size: u16) -> Result<Vec<u8>, AllocError> {
     Ok(bytes)
 }
 
-// One of 26 letters, by the bits of a product, so that no short word comes again and again.
+// One of 26 letters, by the bits of a product, so that no short word recurs all the time.
 fn letter(number: u32, place: u16) -> u8 {
     let mixed = (number ^ u32::from(place)).wrapping_mul(2_654_435_761);
     b'a' + (mixed >> 24) as u8 % 26

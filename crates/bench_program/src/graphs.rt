@@ -1,5 +1,6 @@
-//! Compiles the chains of a policy again and again, and prints how many stages each has: what `bench/graphs` measures. Its words are how
-//! often, and the policy; the functions are taken as declared.
+//! Compiles the chains of a policy again and again, and prints the number of stages of each: what `bench/graphs`
+//! measures. Its words are the number of times, and the policy; the functions are taken in the order of their
+//! declarations.
 ghost use Rattle.std.specs.Prelude.{◌≤◌, length};
 
 use crate::number;
@@ -18,7 +19,7 @@ fn profiles_of(alloc: Global, chain: &ChainPolicy) -> Result<Vec<Profile>, Alloc
     functions.iter().map(|f| profile(f.kind)).collect(alloc)
 }
 
-// How many stages the graph has, after so many times.
+// Compiles the graph `times` times, and returns the number of its stages.
 fn compile_often(alloc: Global, profiles: &[Profile], times: u32) -> Result<usize, AllocError>
     requires { length profiles.now ≤ 64 }
 {
@@ -58,7 +59,7 @@ fn run(rt: &(impl Files + Alloc<A = Global> + Print), times: u32, path: &str) ->
     }
 }
 
-/// Compiles what the words tell.
+/// Compiles the chains of the words.
 pub fn measure(rt: &(impl Files + Alloc<A = Global> + Print), words: &[String]) -> io::Result<()> {
     match words.get(1) {
         Some(path) => run(rt, number(words, 0, 1), path.as_str()),

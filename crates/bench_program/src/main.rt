@@ -1,5 +1,5 @@
-//! What the scripts of `bench/` measure. The first word tells what: `arrivals`, `graphs`, `versions`, or a way of [`walk`]; the words
-//! behind it are those of the module.
+//! What the scripts of `bench/` measure. The first word selects it: `arrivals`, `graphs`, `versions`, or a way of
+//! [`walk`]; the words after it are those of the module.
 #![tactic(auto)]
 
 mod arrivals;
@@ -12,7 +12,7 @@ mod walk;
 
 use std::{env, io};
 
-/// The number at this place of the words, or another one.
+/// The number at this place of the words, or `otherwise` if there is none.
 fn number(words: &[String], place: usize, otherwise: u32) -> u32 {
     match words.get(place) {
         Some(word) => word.parse().unwrap_or(otherwise),

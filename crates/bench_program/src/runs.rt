@@ -20,7 +20,7 @@ use std::sync::Wait;
 use std::thread::Threads;
 use std::time::Instant;
 
-/// How many packets went out, how many copies were made of parts, and the time of the burst that took least.
+/// The number of packets that went out, the number of copies of parts, and the time of the fastest burst.
 #[derive(Drop)]
 pub struct Counts {
     pub out: u64,
@@ -28,12 +28,12 @@ pub struct Counts {
     pub least: Least,
 }
 
-/// The nanoseconds of the burst that took least, where the clock told any.
+/// The nanoseconds of the fastest burst, if the clock works.
 #[derive(Clone, Copy)]
 pub struct Least(pub Option<u64>);
 
 impl Least {
-    /// With a burst that began then, and is at its end.
+    /// The least time with one more burst, which began at `start` and ends now.
     fn with<R: Clock>(self, rt: &R, start: Option<Instant>) -> Least {
         let Some(start) = start else {
             return self;
@@ -79,21 +79,21 @@ fn outs(fates: &[Fate]) -> u64 {
     outs
 }
 
-/// How a burst goes through the graph.
+/// How a burst runs through the graph.
 #[derive(Clone, Copy)]
 pub enum Way {
     /// On one thread.
     Plain,
-    /// All packets through one stage, its branches on threads that are joined behind it, and then all through the next.
+    /// All packets through one stage, its branches on threads that are joined after it, and then all through the next.
     Joined,
-    /// As the program goes: the dealers, branches and mergers of the graph on threads of their own, where that is quicker; what branches
-    /// give comes together so.
+    /// As in the program: the dealers, branches and mergers of the graph on threads of their own, if that is faster;
+    /// the results of the branches come together in this way.
     Piped(MergeWay),
-    /// The same by links, but each burst on threads.
+    /// The same over links, but each burst on threads.
     Threads,
 }
 
-/// The burst through the graph, again and again. A number of mergers that is out of range is 1.
+/// Runs the burst through the graph, again and again. A number of mergers that is out of range counts as 1.
 pub fn through_graph<R: Threads + Wait + Clock + Sync>(
     rt: &R,
     alloc: Global,
@@ -125,7 +125,8 @@ pub fn through_graph<R: Threads + Wait + Clock + Sync>(
     Ok(Counts { out, copies, least })
 }
 
-// The runs promise much, and each function that calls them is shown all of that: so each is called by one function, which says nothing.
+// The contracts of the runs are long, and the prover sees all of their clauses in every function that calls them. So
+// only one function calls each of them, and it promises nothing itself.
 
 fn one_round<R: Threads + Wait + Clock + Sync>(
     rt: &R,
@@ -145,7 +146,7 @@ fn one_round<R: Threads + Wait + Clock + Sync>(
         Way::Joined => joined_round(rt, alloc, run, burst, tally, mergers),
         Way::Piped(merge) => piped_round(rt, alloc, run, burst, tally, mergers, merge),
         Way::Threads => {
-            // The first burst of a pace goes on threads.
+            // The first burst of a pace runs on threads.
             let run = run.paced(Pace::new());
             piped_round(rt, alloc, run, burst, tally, mergers, MergeWay::Inbox)
         }
@@ -199,7 +200,7 @@ fn piped_round<R: Threads + Wait + Clock + Sync>(
     )
 }
 
-/// How many copies were made of parts.
+/// The number of copies of parts.
 fn copies_in(tally: &Tally) -> u64 {
     let mut copies = 0u64;
     for field in all_fields() {
@@ -208,7 +209,8 @@ fn copies_in(tally: &Tally) -> u64 {
     copies
 }
 
-/// The burst by the walk of whole frames, again and again: how many packets went out, and the burst that took least.
+/// Runs the burst by the walk of whole frames, again and again. Returns the number of packets that went out, and the
+/// time of the fastest burst.
 pub fn by_walk<R: Wait + Clock>(
     rt: &R,
     alloc: Global,

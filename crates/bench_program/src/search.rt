@@ -1,4 +1,4 @@
-//! What steps that look for patterns take beside what a search and a plain pass over the same bytes take.
+//! Compares steps that search for patterns with a plain search and with a plain pass over the same bytes.
 use classifier::Burst;
 use net_functions::NetFunction;
 use patterns::first_occurring;
@@ -6,7 +6,8 @@ use patterns::first_occurring;
 /// The headers before the payload of a frame.
 const HEADERS: usize = 42;
 
-/// How often a pattern of some function is found in a payload, where the functions of this burst look for theirs again and again.
+/// The number of times that a pattern of some function is found in a payload, if the functions search this burst again
+/// and again.
 pub fn search(functions: &[NetFunction], burst: &Burst, rounds: u32) -> u64 {
     let mut found = 0u64;
     for _round in 0..rounds {
@@ -18,7 +19,7 @@ pub fn search(functions: &[NetFunction], burst: &Burst, rounds: u32) -> u64 {
     found
 }
 
-// How many of the functions find one of their patterns.
+// The number of functions that find one of their patterns.
 fn finds(functions: &[NetFunction], payload: &[u8]) -> u64 {
     let mut found = 0u64;
     for function in functions {

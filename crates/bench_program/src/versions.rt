@@ -1,5 +1,6 @@
-//! Takes a frame apart and joins it again, with or without a stage of two branches in between, over and over, or only copies it: what
-//! `bench/versions` measures. Its words are the length of the frame in bytes, and then `copy`, `join`, `read` or `write`.
+//! Takes a frame apart and joins it again, with or without a stage of two branches in between, again and again, or only
+//! copies it: what `bench/versions` measures. Its words are the length of the frame in bytes, and then `copy`, `join`,
+//! `read` or `write`.
 ghost use Rattle.std.specs.Prelude.{◌≡◌, [], length, IfOk, OnOk};
 ghost use Rattle.action_profile.specs.Modes.{modes_of};
 ghost use Rattle.merge_ops.specs.Behind.{AreArrivals};
@@ -22,13 +23,13 @@ const HEADERS: [u8; 42] = [
     10, 0, 0, 1, 10, 0, 0, 2, 0x03, 0xe8, 0, 53, 0x05, 0xba, 0, 0,
 ];
 
-/// A monitor.
+/// The fields of a monitor.
 const WATCHES: Touch = Touch {
     reads: FieldSet::ENDPOINTS,
     writes: FieldSet::NONE,
 };
 
-/// What blots out parts of the data.
+/// The fields of a redactor.
 const REDACTS: Touch = Touch {
     reads: FieldSet::PAYLOAD,
     writes: FieldSet::PAYLOAD,
@@ -65,14 +66,14 @@ fn writers(alloc: Global) -> Result<StageParts, AllocError>
     })
 }
 
-/// A frame of so many bytes, at least those of its headers.
+/// A frame of `length` bytes, at least those of its headers.
 fn frame(alloc: Global, length: usize) -> Result<Vec<u8>, AllocError> {
     let mut bytes = Vec::from_slice(alloc, &HEADERS)?;
     bytes.resize(length.max(HEADERS.len()), 7)?;
     Ok(bytes)
 }
 
-/// The last byte, which is looked at so that no work is left out.
+/// The last byte. It is used so that the compiler removes no work.
 fn last_of(bytes: &[u8]) -> u64 {
     match bytes.last() {
         Some(byte) => u64::from(*byte),
@@ -98,8 +99,8 @@ fn joined(alloc: Global, frame: &[u8]) -> Result<u64, AllocError> {
     Ok(sum)
 }
 
-/// The base of a packet. What comes from branches without a function is added to the arrivals, of which
-/// there are none yet.
+/// The base of a packet. The versions of branches without a function are added to the arrivals, of which there are none
+/// yet.
 fn dealt(
     alloc: Global,
     whole: Apart,
@@ -176,7 +177,7 @@ fn run_one<R: Wait>(rt: &R, alloc: Global, work: &str, length: usize) -> Result<
     }
 }
 
-/// Does the works that the words tell, one after another.
+/// Does the work of each of the words, one after another.
 pub fn measure<R: Alloc<A = Global> + Print + Wait>(rt: &R, words: &[String]) -> io::Result<()> {
     let length = usize::from(short(words, 0, 42));
     for work in words.iter().skip(1) {

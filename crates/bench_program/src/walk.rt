@@ -1,11 +1,14 @@
-//! Leads the same burst of packets through the chain of a policy again and again, through the graph on one thread, through the
-//! graph on threads that are joined behind each stage, or with its dealers, branches and mergers side by side, or by the walk
-//! of whole frames, or looks for the patterns of its functions alone, or reads the same bytes: what `bench/walk` and `bench/payload`
-//! measure. Its words are `graph`, `joined`, `threads`, `piped`, `board`, `walk`, `search`, `pass` or `none`, how often, the length of
-//! each frame in bytes, the policy, how many mergers (1 where it isn't said), and how many packets a burst has (1,024). `piped` and
-//! `board` are the run by which the program goes, which takes threads where they pay: in `piped` what branches give goes over links to
-//! the mergers, in `board` onto a board. In `threads` each burst goes as the first one of `piped` does. The functions of the first
-//! chain are taken as declared. Of the bursts that are led through a chain stderr has the nanoseconds of the one that took least.
+//! Runs the same burst of packets through the chain of a policy again and again: through the graph on one thread,
+//! through the graph on threads that are joined after each stage, with its dealers, branches and mergers side by side,
+//! or by the walk of whole frames. Or it only searches for the patterns of the functions, or only reads the same bytes.
+//! This is what `bench/walk` and `bench/payload` measure.
+//!
+//! Its words are `graph`, `joined`, `threads`, `piped`, `board`, `walk`, `search`, `pass` or `none`, the number of
+//! times, the length of each frame in bytes, the policy, the number of mergers (by default 1), and the number of
+//! packets of a burst (1,024). `piped` and `board` are the run of the program, which uses threads if they pay: in
+//! `piped` the results of branches go to the mergers over links, in `board` on a board. In `threads` each burst runs as
+//! the first one of `piped` does. The functions of the first chain are taken in the order of their declarations. For
+//! bursts that run through a chain, stderr gets the nanoseconds of the fastest one.
 ghost use Rattle.std.specs.Prelude.{◌≤◌, length, vec_len};
 
 use crate::frames::{BURST, burst_of};
@@ -38,7 +41,7 @@ fn push_function(
     functions: &mut Vec<NetFunction>,
     decl: &FunctionDecl,
 ) -> Result<(), BuildFault> {
-    // An end of a tunnel is no function of a graph.
+    // An end of a tunnel isn't a function of a graph.
     let Made::Function(function) = make(alloc, decl)? else {
         return Err(BuildFault::BadSetting(decl.line));
     };
@@ -48,7 +51,7 @@ fn push_function(
     Ok(())
 }
 
-/// What is measured.
+/// The settings of a measurement.
 #[derive(Drop)]
 struct Run<'a> {
     mode: &'a str,
@@ -78,7 +81,7 @@ fn lead(
     }
 }
 
-// How a mode leads the burst through the graph, where it does.
+// How a mode runs the burst through the graph, if it does.
 fn way_of(mode: &str) -> Option<Way> {
     match mode {
         "graph" => Some(Way::Plain),
@@ -90,7 +93,7 @@ fn way_of(mode: &str) -> Option<Way> {
     }
 }
 
-// What is measured beside the graph.
+// Measures the modes without a graph.
 fn beside(
     rt: &(impl Alloc<A = Global> + Print + Eprint + Wait + Clock),
     run: &Run,
@@ -155,7 +158,7 @@ fn tell_least(rt: &impl Eprint, least: Least) -> io::Result<()> {
     }
 }
 
-/// Leads the packets that the words tell, the first of which is the mode.
+/// Runs the packets of the words, the first of which is the mode.
 pub fn measure(
     rt: &(impl Files + Alloc<A = Global> + Print + Eprint + Threads + Wait + Clock + Sync),
     mode: &str,

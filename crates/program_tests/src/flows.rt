@@ -3,7 +3,8 @@
 use crate::packets::{Capture, Datagram, Datagram6, FIRST, HEAD, NOTHING, Packet};
 use crate::rows::{Row, Words, compare};
 
-// One packet with two records: of 10.0.0.1, two packets of 28 bytes at 0 and 2 seconds, and of 10.0.0.9 one at 1 second.
+// One export packet with two records: two packets of 28 bytes of 10.0.0.1 at 0 and 2 seconds, and one of 10.0.0.9 at 1
+// second.
 const EXPORT: [u8; 120] = [
     0, 5, 0, 2, 0, 0, 0x07, 0xd0, 0, 0, 0, 2, 0, 0, 0, 0, 0, 0, 0, 0, 0, 0, 0, 0, 10, 0, 0, 1, 10,
     0, 0, 2, 0, 0, 0, 0, 0, 0, 0, 0, 0, 0, 0, 2, 0, 0, 0, 0x38, 0, 0, 0, 0, 0, 0, 0x07, 0xd0, 3,

@@ -1,4 +1,4 @@
-//! Gates that look at the steps of a run: no clause speaks of them, since a gate's call may wait.
+//! Gates that observe the steps of a run: no clause is about them, since a gate's call may wait.
 
 use crate::packets::{Capture, HEAD, Packet, THREE};
 use crate::plenty::had;
@@ -16,10 +16,10 @@ use std::sync::atomic::{AtomicBool, AtomicU64};
 use std::thread;
 use std::thread::Threads;
 
-// How often a step that waits for another looks whether it has come. Between two looks it lets another thread run.
+// The number of polls of a step that waits for another. Between two polls it lets another thread run.
 const TURNS: u32 = 10_000_000;
 
-// A firewall beside a signature, and a translation in a stage of its own behind them.
+// A firewall beside a signature, and a translation in a stage of its own after them.
 const STAGES: &[u8] =
     b"nfp 1\nchain main\nfn fw firewall\nfn sig signature\nfn n nat\nset inside 10.0.0.0/8\nset public 192.0.2.1\nset ports 40000-40000\n";
 
@@ -38,7 +38,7 @@ const WAYS: [Words<'static>; 2] = [
 /// A step: the position of the function in its chain, and the number of the record.
 type Step = (u32, u32);
 
-/// Counts the steps, adds up what they are told, and holds each of two steps until the other has come.
+/// Counts the steps, adds up their arguments, and holds each of two steps until the other has come.
 #[derive(Drop)]
 pub struct Watch {
     first: Step,
@@ -65,7 +65,7 @@ impl Gate for Watch {
 }
 
 impl Watch {
-    /// Holds no step: positions and numbers count from 1.
+    /// A gate that holds no step: positions and numbers are counted from 1.
     pub fn idle() -> Watch {
         Watch::over((0, 0), (0, 0))
     }
@@ -131,7 +131,7 @@ fn watched(
     desk
 }
 
-// Runs a policy over a capture: two steps are to meet, by each way of merging.
+// Runs a policy over a capture, in each way of merging. Two steps have to meet.
 fn meet(
     rt: &(impl Abort + AllocGlobal + Threads + Wait + Clock + Sync),
     policy: &[u8],
@@ -207,7 +207,7 @@ const COUNTED_CALLS: [Words<'static>; 3] = [
     ],
 ];
 
-// Compares what the steps of a run add up to.
+// Compares the sums over the steps of a run.
 fn count_call(
     rt: &(impl Abort + AllocGlobal + Threads + Wait + Clock + Sync),
     call: Words<'_>,
@@ -220,7 +220,7 @@ fn count_call(
     assert_eq!(rt; watch.sums(), sums);
 }
 
-// The same of runs with options.
+// The same for runs with options.
 fn count_steps(
     rt: &(impl Abort + AllocGlobal + Threads + Wait + Clock + Sync),
     policy: &[u8],
@@ -231,7 +231,8 @@ fn count_steps(
     }
 }
 
-// A monitor before a firewall sees all three packets, and a limiter behind it the two that pass. Of two chains each sees its own alone.
+// A monitor before a firewall sees all three packets, and a limiter after it the two that pass. Each of two chains sees
+// only its own packets.
 #[test]
 fn each_step_of_the_walk_passes_the_gate_once(rt: HostRuntime) {
     count_steps(&rt, BESIDE, [6, 0, 9, 12]);
@@ -239,7 +240,8 @@ fn each_step_of_the_walk_passes_the_gate_once(rt: HostRuntime) {
     count_steps(&rt, TWO_CHAINS, [3, 1, 3, 6]);
 }
 
-// A monitor behind a firewall, and beside it, looks at the packet too that the firewall drops and that isn't counted.
+// A monitor after a firewall, but beside it in the graph, also looks at the packet that the firewall drops and that
+// isn't counted.
 #[test]
 fn each_look_passes_the_gate_once(rt: HostRuntime) {
     count_call(&rt, RUN, BEHIND, [6, 0, 9, 12]);
@@ -255,7 +257,7 @@ const LONG_CALLS: [Words<'static>; 2] = [
     &["run", "p", "c", "o", "r", "--mergers", "16"],
 ];
 
-// So many packets of the hosts 1 and 9 in turn.
+// `pairs` packets of each of the hosts 1 and 9, in turn.
 fn in_turn(rt: &impl Abort, alloc: Global, pairs: u32) -> Vec<u8> {
     let pair = Capture {
         head: &[],
@@ -269,8 +271,8 @@ fn in_turn(rt: &impl Abort, alloc: Global, pairs: u32) -> Vec<u8> {
     capture
 }
 
-// A burst of 2,200 packets goes in three pieces at least, and bursts of 1,024 in as many: both functions see each packet once, and every
-// second is dropped.
+// A burst of 2,200 packets goes in at least three pieces, and bursts of 1,024 in as many: both functions see each
+// packet once, and every second packet is dropped.
 #[test]
 fn a_long_burst_goes_in_pieces(rt: HostRuntime) {
     for call in LONG_CALLS {

@@ -9,7 +9,7 @@ const RUN_IN: &[Words<'static>] = &[
     &["run", "--graph=g", "p", "c", "o", "r", "--burst", "1"],
 ];
 
-// Both functions in one branch: what is written is what it was.
+// Both functions in one branch: what is written doesn't change.
 const IN_ONE_BRANCH: Row<'static> = Row {
     calls: RUN_IN,
     graph: b"nfp-graph 1\nchain main\nstage\nbranch mon fw\n",

@@ -1,4 +1,4 @@
-//! Cut and malformed input, and each call of the desk failing: the table of what is to come of each.
+//! Cut and malformed input, and each call of the desk failing: a table of the expected results.
 
 use crate::gates::Watch;
 use crate::packets::THREE;
@@ -14,7 +14,7 @@ use std::rt::Clock;
 use std::sync::Wait;
 use std::thread::Threads;
 
-// The bytes of a policy may be so many.
+// The greatest number of bytes of a policy.
 const LONGEST_POLICY: usize = 1_048_576;
 
 // A run by this policy whose calls of the desk fail where they are listed.
@@ -33,8 +33,8 @@ fn failing(
     run(rt, RUN, given, capture, &Watch::idle())
 }
 
-// What is to come of the first bytes of a capture whose head has 24 bytes and whose three records have 58, of which the second
-// is dropped.
+// Is this the expected outcome for the first bytes of a capture? Its head has 24 bytes and its three records have 58,
+// of which the second is dropped.
 fn is_due_of_cut(length: u32, outcome: &Outcome) -> bool {
     match outcome {
         Outcome::Done => matches!(length, 24 | 82 | 140 | 198),
@@ -44,7 +44,7 @@ fn is_due_of_cut(length: u32, outcome: &Outcome) -> bool {
     }
 }
 
-// The record that is cut where a capture ends there, and 0 where none is.
+// The record that is cut if a capture has this length, and 0 if none is.
 fn record_of(length: u32) -> u32 {
     match length {
         25..=81 => 1,
@@ -63,7 +63,7 @@ fn bytes_due_of_cut(length: u32) -> usize {
     }
 }
 
-// Out and Report are attached once the head is whole, and Out has so many bytes.
+// Out and Report are attached once the head is whole, and Out has the expected number of bytes.
 fn is_left_of_cut(length: u32, desk: &MemDesk) -> bool {
     let is_refused = length < 24;
     desk.put(Slot::Out).len() == bytes_due_of_cut(length)
@@ -71,7 +71,7 @@ fn is_left_of_cut(length: u32, desk: &MemDesk) -> bool {
         && (desk.calls(Slot::Report) == 0) == is_refused
 }
 
-// Compares what is left of a run over the first bytes of the capture.
+// Checks what a run over the first bytes of the capture leaves.
 fn compare_cut(rt: &(impl Abort + AllocGlobal + Threads + Wait + Clock + Sync), length: u32) {
     let mut cut = THREE.bytes(rt, rt.alloc());
     cut.truncate(length as usize);
@@ -89,7 +89,7 @@ fn a_capture_is_cut_after_each_byte(rt: HostRuntime) {
     }
 }
 
-// A policy of a front part and so many lines like this one.
+// A policy of a front part and `count` lines like this one.
 fn repeated(rt: &impl Abort, alloc: Global, front: &[u8], line: &[u8], count: u32) -> Vec<u8> {
     let mut policy = had(rt, front.to_vec(alloc));
     for _ in 0..count {
@@ -98,7 +98,7 @@ fn repeated(rt: &impl Abort, alloc: Global, front: &[u8], line: &[u8], count: u3
     policy
 }
 
-// A policy of so many bytes, which says nothing but its version.
+// A policy of `length` bytes, which has nothing but its version.
 fn filled(rt: &impl Abort, alloc: Global, length: usize) -> Vec<u8> {
     let mut policy = had(rt, b"nfp 1\n#".to_vec(alloc));
     had(rt, policy.resize(length, b'x'));
@@ -137,7 +137,7 @@ fn a_policy_passes_a_limit(rt: HostRuntime) {
     compare_policy(&rt, &too_long, 2, b"policy: too long\n");
 }
 
-// The answer is the fault of this slot, and of no other, where a call failed, and else that all is done.
+// Is the outcome the fault of this slot if a call failed, and Done if none did?
 fn is_due_of_failed(outcome: &Outcome, slot: Slot, failed: bool) -> bool {
     match outcome {
         Outcome::ReadFault(found) | Outcome::WriteFault(found) => failed && *found == slot,
@@ -146,7 +146,7 @@ fn is_due_of_failed(outcome: &Outcome, slot: Slot, failed: bool) -> bool {
     }
 }
 
-// Was no slot touched that comes behind this one?
+// Was no later slot than this one touched?
 fn is_untouched(desk: &MemDesk, slot: Slot) -> bool {
     match slot {
         Slot::Policy => desk.calls(Slot::Capture) == 0,
@@ -156,7 +156,7 @@ fn is_untouched(desk: &MemDesk, slot: Slot) -> bool {
     }
 }
 
-// Out and Report hold front parts of what a whole run leaves there, or all of it where they may not be cut.
+// Out and Report hold front parts of what a whole run leaves there, or all of it if they may not be cut.
 fn is_left(desk: &MemDesk, whole: &MemDesk, may_be_cut: bool) -> bool {
     is_part(desk.put(Slot::Out), whole.put(Slot::Out), may_be_cut)
         && is_part(desk.put(Slot::Report), whole.put(Slot::Report), may_be_cut)
@@ -166,7 +166,7 @@ fn is_part(bytes: &[u8], whole: &[u8], may_be_cut: bool) -> bool {
     whole.starts_with(bytes) && (may_be_cut || bytes == whole)
 }
 
-// Compares a run in which this call of a slot fails with a whole one, which makes so many.
+// Compares a run in which this call of a slot fails with a whole run, which makes `calls` calls.
 fn compare_failed(
     rt: &(impl Abort + AllocGlobal + Threads + Wait + Clock + Sync),
     whole: &MemDesk,
@@ -196,7 +196,7 @@ fn compare_slots(rt: &(impl Abort + AllocGlobal + Threads + Wait + Clock + Sync)
     }
 }
 
-// For this slot and k from 0 on, the k-th call on it fails, until a run makes fewer: that one is done.
+// For this slot and k from 0 on, the k-th call on it fails, until a run makes fewer calls: that run has to be done.
 fn compare_slot(
     rt: &(impl Abort + AllocGlobal + Threads + Wait + Clock + Sync),
     whole: &MemDesk,

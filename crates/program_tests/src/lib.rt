@@ -1,7 +1,7 @@
-//! Tests of the top call, over desks in memory: what no clause says, above all that memory suffices where there is plenty.
+//! Tests of the top call, over desks in memory: what no clause says, above all that memory suffices if there is plenty.
 //!
-//! What a run is given and what it is to leave are rows of data, [`rows::Row`], which one function runs and compares whole. The captures of
-//! rows are data too: [`packets::Capture`].
+//! The input of a run and what it has to leave are rows of data, [`rows::Row`], which one function runs and compares as
+//! a whole. The captures of rows are data too: [`packets::Capture`].
 #![tactic(auto)]
 
 #[cfg(test)]

@@ -1,4 +1,4 @@
-//! Runs through functions that rewrite packets and keep nothing of them.
+//! Runs through functions that rewrite packets and keep no state.
 
 use crate::packets::{Capture, Datagram, FIRST, HEAD, NONE, Packet};
 use crate::rows::{Row, WAYS, compare};
@@ -76,8 +76,8 @@ const SEARCHED: &[Row<'static>] = &[Row {
     note: b"done records 2 emitted 1 dropped 1\n",
 }];
 
-// The signature, whose patterns are so many that one pass looks for them, sees the payload as it came, and the redactor beside it writes a
-// copy of its own.
+// The signature has so many patterns that one pass searches for all of them. It sees the payload as it came, and the
+// redactor beside it writes a copy of its own.
 #[test]
 fn a_payload_is_searched_and_redacted_side_by_side(rt: HostRuntime) {
     compare(&rt, SEARCHED);
@@ -101,7 +101,7 @@ const DENIED: &[Row<'static>] = &[Row {
     note: b"done records 1 emitted 0 dropped 1\n",
 }];
 
-// Both drop the packet, and the first of them is told.
+// Both drop the packet, and the report names the first of them.
 #[test]
 fn of_two_drops_the_first_in_the_chain_is_told(rt: HostRuntime) {
     compare(&rt, DENIED);
@@ -145,8 +145,8 @@ const TAGGED: &[Row<'static>] = &[Row {
     note: b"done records 2 emitted 2 dropped 0\n",
 }];
 
-// A frame that is too short for a tag stays as it is; one that has two gets a third before them, and is four bytes longer, which
-// the head's snaplen leaves room for.
+// A frame that is too short for a tag doesn't change. A frame that has two gets a third before them, and is four bytes
+// longer; the snaplen in the head has room for them.
 #[test]
 fn a_tag_is_put_before_the_others(rt: HostRuntime) {
     compare(&rt, TAGGED);

@@ -50,7 +50,7 @@ const BIG_BLOCK: [u8; 76] = [
     0, 0, 0, 0, 0, 76,
 ];
 
-// A section whose length is told.
+// A section whose length is stated.
 const TOLD_SECTION: [u8; 28] = [
     0x0a, 0x0d, 0x0d, 0x0a, 28, 0, 0, 0, 0x4d, 0x3c, 0x2b, 0x1a, 1, 0, 0, 0, 112, 0, 0, 0, 0, 0, 0,
     0, 28, 0, 0, 0,
@@ -60,10 +60,10 @@ const INTERFACE: [u8; 20] = [
     1, 0, 0, 0, 20, 0, 0, 0, 1, 0, 0, 0, 255, 255, 0, 0, 20, 0, 0, 0,
 ];
 
-// Statistics of an interface, which are carried as they are.
+// Statistics of an interface, which are passed on unchanged.
 const STATISTICS: [u8; 16] = [5, 0, 0, 0, 16, 0, 0, 0, 1, 2, 3, 4, 16, 0, 0, 0];
 
-// The high byte of each number first: a section whose length is told, an interface in nanoseconds without a snaplen.
+// The high byte of each number first: a section whose length is stated, an interface in nanoseconds without a snaplen.
 const BIG_TOLD_SECTION: [u8; 28] = [
     0x0a, 0x0d, 0x0d, 0x0a, 0, 0, 0, 28, 0x1a, 0x2b, 0x3c, 0x4d, 0, 1, 0, 0, 0, 0, 0, 0, 0, 0, 0,
     108, 0, 0, 0, 28,
@@ -130,8 +130,8 @@ const TAGGED: Row<'static> = Row {
     ..PASSED
 };
 
-// Each section has an order and interfaces of its own, and what stands between packets stays between them; the dropped packet is left
-// out, and so the lengths of the sections aren't told.
+// Each section has an order and interfaces of its own, and blocks between packets stay between them. The dropped packet
+// is left out, and therefore the lengths of the sections aren't stated.
 const SECTIONS: Row<'static> = Row {
     policy: POLICY,
     capture: Capture {
@@ -187,7 +187,7 @@ const CUT_PACKET: Row<'static> = Row {
     ..PASSED
 };
 
-// Three packets, cut inside the last: two are done, and the report says why it ends.
+// Three packets, cut inside the last: two pass, and the report has the reason of the end.
 const CUT: Row<'static> = Row {
     policy: b"nfp 1\nchain main\nfn mon monitor\nfn fw firewall\nrule deny src 10.0.0.9\norder mon before fw\n",
     capture: Capture {
@@ -260,7 +260,7 @@ const CUT_FIRST: Row<'static> = Row {
     ..PASSED
 };
 
-// A length that is told in the other order.
+// A length in the other byte order.
 const LONG_FIRST: Row<'static> = Row {
     capture: Capture {
         head: &[
@@ -288,7 +288,7 @@ const BAD_FIRST: Row<'static> = Row {
     ..CUT_FIRST
 };
 
-// No byte at all is no block.
+// A block without any byte isn't a block.
 const NO_BYTE: Row<'static> = Row {
     capture: NOTHING,
     outcome: "Capture(CutHead)",

@@ -1,10 +1,10 @@
-//! Runs with options, which change nothing of what comes out, and the demo.
+//! Runs with options, which don't change the output, and the demo.
 
 use crate::packets::{Capture, Datagram, FIRST, HEAD, NOTHING, Packet, THREE};
 use crate::rows::{Failure, Row, compare, compare_failing};
 use nfp_outside::Slot;
 
-// How the first source leaves.
+// The first packet as it leaves the translation.
 const OUTSIDE: Datagram<'static> = Datagram {
     checksum: [0xae, 0xce],
     source: [192, 0, 2, 1],
@@ -12,7 +12,7 @@ const OUTSIDE: Datagram<'static> = Datagram {
     ..FIRST
 };
 
-// A source that is slowed, before a translation with five ports.
+// A limited source, before a translation with five ports.
 const SLOWED: &[Row<'static>] = &[Row {
     calls: &[
         &[
@@ -149,7 +149,7 @@ const OPEN: &[Failure<'static>] = &[Failure {
     note: b"write fault: out\n",
 }];
 
-// Bursts of one packet are written one by one: the first stands, and the second couldn't be written.
+// Bursts of one packet are written one by one: the first is written, and the second couldn't be.
 #[test]
 fn a_burst_is_written_before_the_next(rt: HostRuntime) {
     compare_failing(&rt, OPEN);

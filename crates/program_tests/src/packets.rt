@@ -1,4 +1,4 @@
-//! Captures as data: what each packet says, and the bytes that it is.
+//! Captures as data: the fields of each packet, and its bytes.
 
 ghost use Rattle.std.specs.Prelude.{◌≤◌};
 
@@ -42,8 +42,8 @@ pub const NOTHING: Capture<'static> = Capture {
     packets: &[],
 };
 
-/// A UDP datagram (RFC 768) without a checksum, in an IPv4 header without options (RFC 791) whose checksum is this. It has fewer than 200
-/// bytes of data.
+/// A UDP datagram (RFC 768) without a checksum, in an IPv4 header without options (RFC 791) that has this checksum. It
+/// has fewer than 200 bytes of data.
 #[derive(Clone, Copy)]
 pub struct Datagram<'a> {
     pub second: u8,
@@ -74,13 +74,13 @@ pub enum Packet<'a> {
     At(u8, u16),
     Udp(Datagram<'a>),
     Udp6(Datagram6),
-    /// These bytes, and so many zeros behind them; fewer than 200 in all.
+    /// These bytes, and this number of zeros after them; fewer than 200 in all.
     Frame(&'a [u8], u8),
     /// The first bytes of a record, whose rest is missing, or a block of a pcapng capture.
     Cut(&'a [u8]),
 }
 
-/// The head of a capture, and what its records have.
+/// The head of a capture, and its packets.
 #[derive(Clone, Copy)]
 pub struct Capture<'a> {
     pub head: &'a [u8],
@@ -122,7 +122,7 @@ fn push_packet(capture: &mut Vec<u8>, packet: &Packet<'_>) -> Result<(), AllocEr
     }
 }
 
-// A record is one list, so that few steps can want memory.
+// A record is one list, so that only a few steps allocate memory.
 fn push_datagram(capture: &mut Vec<u8>, datagram: &Datagram<'_>) -> Result<(), AllocError> {
     let size = size_of(datagram.data);
     let (second, length, tos, ttl) = (
@@ -224,7 +224,7 @@ fn push_frame(capture: &mut Vec<u8>, front: &[u8], zeros: u8) -> Result<(), Allo
     Ok(())
 }
 
-// How many bytes these are, of fewer than 200.
+// The number of these bytes, fewer than 200.
 fn size_of(bytes: &[u8]) -> u8
     ensures { result ≤ 200 }
 {

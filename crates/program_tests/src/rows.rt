@@ -1,4 +1,4 @@
-//! Runs over desks in memory, and the rows that say what is to be left of them.
+//! Runs over desks in memory, and the rows with their expected results.
 ghost use Rattle.std.specs.Prelude.{◌≡◌, [], None, IfSome};
 ghost use Rattle.nfp_outside.specs.declared.slot.Slot.{Slot};
 
@@ -19,10 +19,10 @@ pub type Words<'a> = &'a [&'a str];
 /// A run without options.
 pub const RUN: &[&str] = &["run", "p", "c", "o", "r"];
 
-/// A run whose bursts have one packet: the first goes on threads, and the second on one.
+/// A run whose bursts have one packet: the first runs on threads, and the second on one thread.
 pub const ONE_BY_ONE: &[&str] = &["run", "p", "c", "o", "r", "--burst", "1"];
 
-/// A run with one merger, two and many, over links and on boards.
+/// Runs with one merger, two and many, over links and on boards.
 pub const WAYS: &[Words<'static>] = &[
     &[
         "run",
@@ -59,7 +59,7 @@ pub const WAYS: &[Words<'static>] = &[
     ],
 ];
 
-/// Calls whose words are these, over the same policy and capture, and what each of them leaves.
+/// Calls with these words, over the same policy and capture, and what each of them has to leave.
 #[derive(Clone, Copy)]
 pub struct Row<'a> {
     pub calls: &'a [Words<'a>],
@@ -83,7 +83,8 @@ fn words(rt: &impl Abort, alloc: Global, texts: &[&str]) -> Vec<String> {
     words
 }
 
-// The top call promises much, and each function that calls it is shown all of that: so all tests call this one, which says nothing.
+// The contract of the top call is long, and the prover sees all of its clauses in every function that calls it. So all
+// tests call this function, which promises nothing itself.
 fn call<R: Threads + Wait + Clock + Sync, D: Desk, G: Gate + Sync>(
     rt: &R,
     alloc: Global,
@@ -97,7 +98,8 @@ fn call<R: Threads + Wait + Clock + Sync, D: Desk, G: Gate + Sync>(
     nfp(rt, alloc, words, desk, gate)
 }
 
-/// What a desk holds and does: its policy and its graphs, the most bytes that a call moves, and the calls that fail.
+/// The content and the behaviour of a desk: its policy and its graphs, the most bytes that a call moves, and the calls
+/// that fail.
 #[derive(Clone, Copy)]
 pub struct Given<'a> {
     pub policy: &'a [u8],
@@ -106,8 +108,8 @@ pub struct Given<'a> {
     pub fails: &'a [(Slot, u64)],
 }
 
-/// A run over a desk in memory with this capture, and what it left. All runs are over one type of desk and one of gate, since the program
-/// is built once more for each.
+/// Makes a run over a desk in memory with this capture, and returns what it left. All runs are over one type of desk
+/// and one type of gate, since the program is compiled again for each.
 pub fn run(
     rt: &(impl Abort + AllocGlobal + Threads + Wait + Clock + Sync),
     texts: &[&str],
@@ -160,25 +162,25 @@ fn is_outcome(rt: &impl Abort, alloc: Global, outcome: &Outcome, due: &str) {
     is_same(rt, "outcome", text.as_bytes(), due.as_bytes());
 }
 
-// One assertion for all: each costs the function that makes it more than this call does.
+// One assertion for all: each costs the proof of its function more than this call does.
 fn is_same(rt: &impl Abort, what: &str, found: &[u8], due: &[u8]) {
     assert_eq!(rt; found, due, "{what}");
 }
 
-/// Calls over a desk in memory of which one call fails, and what each of them leaves.
+/// Calls over a desk in memory, of which one call fails, and what each of them has to leave.
 #[derive(Clone, Copy)]
 pub struct Failure<'a> {
     pub calls: &'a [Words<'a>],
     pub policy: &'a [u8],
     pub capture: Capture<'a>,
-    /// The slot, and how many of its calls go well before.
+    /// The slot, and the number of its calls that succeed before.
     pub fails: (Slot, u64),
     pub outcome: &'a str,
     pub out: Capture<'a>,
     pub note: &'a [u8],
 }
 
-/// Makes the calls of these, and compares what each of them leaves.
+/// Makes these calls, and compares what each of them leaves.
 pub fn compare_failing(
     rt: &(impl Abort + AllocGlobal + Threads + Wait + Clock + Sync),
     failures: &[Failure<'_>],

@@ -1,4 +1,4 @@
-//! Runs over desks in memory, with the capture and the answers written down by hand.
+//! Runs over desks in memory, with captures and expected results written by hand.
 
 use crate::packets::{Capture, HEAD, NONE, NOTHING, Packet, THREE};
 use crate::rows::{Failure, RUN, Row, compare, compare_failing};
@@ -24,7 +24,7 @@ const FILTERED: Row<'static> = Row {
     note: b"done records 3 emitted 2 dropped 1\n",
 };
 
-// The second function stands before the first, and denies what no rule of its own allows.
+// The second function comes before the first in the order, and denies what no rule of its own allows.
 const TWO: Row<'static> = Row {
     policy: b"nfp 1\nchain main\nfn a firewall\nrule deny src 10.0.0.1\nfn b firewall\nset default deny\nrule allow proto udp dport 50-60 src 10.0.0.0/30\norder b before a\n",
     out: NONE,
@@ -134,7 +134,7 @@ const MOVING: Row<'static> = Row {
     ..PLANNED
 };
 
-// A monitor that comes behind what drops stands beside it.
+// A monitor that comes after a function that drops is beside it in the graph.
 const COUNTING: Row<'static> = Row {
     policy: BEHIND,
     note: b"chain main\norder fw mon\nstage 1\nbranch 1 fw\nbranch 2 mon\npart tag shared\npart src shared\npart dst shared\npart sport shared\npart dport shared\n",
@@ -147,7 +147,7 @@ const COUNTING_BETWEEN: Row<'static> = Row {
     ..PLANNED
 };
 
-// A limiter doesn't.
+// A limiter isn't.
 const LIMITING: Row<'static> = Row {
     policy: LIMITED,
     note: b"chain main\norder fw lim\nstage 1\nbranch 1 fw lim\npart tag shared\npart src shared\npart dst shared\npart sport shared\npart dport shared\n",
@@ -163,7 +163,7 @@ const PLANS: &[Row<'static>] = &[
     LIMITING,
 ];
 
-// Each chain in its order, and of each stage what is shared, copied and moved.
+// Each chain in its order, and for each stage what is shared, copied and moved.
 #[test]
 fn a_plan_shows_each_chain_in_order(rt: HostRuntime) {
     compare(&rt, PLANS);
@@ -236,7 +236,7 @@ const NO_VERSION: Row<'static> = Row {
     note: b"policy: bad version line\n",
 };
 
-// What a policy is refused with, in the order of the checks.
+// The faults of policies, in the order of the checks.
 const REFUSED_POLICIES: &[Row<'static>] = &[
     NO_VERSION,
     Row {
@@ -318,7 +318,8 @@ const SETTING_5: Row<'static> = Row {
     ..NO_VERSION
 };
 
-// Of the lines that are refused the least is told. One that is missing, or stands and can't be read, is told by the line of its function.
+// The least of the refused lines is reported. A required line that is missing, or that can't be read, is reported by
+// the line of its function.
 const REFUSED_LINES: &[Row<'static>] = &[
     Row {
         policy: b"nfp 1\nchain c\nfn f firewall\nset default deny\nset default deny\n",
@@ -371,7 +372,7 @@ fn the_least_refused_line_is_told(rt: HostRuntime) {
     compare(&rt, REFUSED_LINES);
 }
 
-// The capture of three records, cut inside the last: two are done, and the report says why it ends.
+// The capture of three records, cut inside the last: two pass, and the report has the reason of the end.
 const CUT: &[Row<'static>] = &[Row {
     capture: Capture {
         head: &HEAD,
@@ -438,8 +439,8 @@ const NOTE_FAILS: Failure<'static> = Failure {
 
 const FAILURES: &[Failure<'static>] = &[POLICY_FAILS, OUT_FAILS, REPORT_FAILS, NOTE_FAILS];
 
-// Each call that fails is answered by the fault of its own slot, and what was written before stays. Where the line of a drop can't be
-// put, the packets of its burst stand in Out.
+// For each call that fails the outcome is the fault of its own slot, and what was written before stays. If the line of
+// a drop can't be put, the packets of its burst are in Out.
 #[test]
 fn failures_are_told_by_their_slot(rt: HostRuntime) {
     compare_failing(&rt, FAILURES);

@@ -1,4 +1,4 @@
-//! Runs through functions that keep flows, whose report tells what they hold in the end.
+//! Runs through functions that keep flows, whose report shows their final states.
 
 use crate::packets::{Capture, Datagram, FIRST, HEAD, NONE, Packet, THREE};
 use crate::rows::{ONE_BY_ONE, RUN, Row, Words, compare};
@@ -45,15 +45,15 @@ const FIRST_AND_THIRD: Capture<'static> = Capture {
     packets: &[Packet::From(1), Packet::From(1)],
 };
 
-/// The monitor comes before the firewall, and counts what that drops.
+/// The monitor comes before the firewall, and counts what the firewall drops.
 pub const BESIDE: &[u8] =
     b"nfp 1\nchain main\nfn mon monitor\nfn fw firewall\nrule deny src 10.0.0.9\norder mon before fw\n";
 
-/// The monitor comes behind the firewall, and doesn't. It stands beside it all the same.
+/// The monitor comes after the firewall, and doesn't count what it drops. It is beside it in the graph all the same.
 pub const BEHIND: &[u8] =
     b"nfp 1\nchain main\nfn mon monitor\nfn fw firewall\nrule deny src 10.0.0.9\norder fw before mon\n";
 
-/// The first row of all: a monitor beside a firewall.
+/// A monitor beside a firewall.
 pub const COUNTED: Row<'static> = Row {
     calls: COUNTED_WAYS,
     graph: b"",
@@ -84,7 +84,7 @@ const COUNTED_BETWEEN: Row<'static> = Row {
     ..COUNTED
 };
 
-/// A limiter behind a firewall, in its branch: it acts by what it remembers.
+/// A limiter after a firewall, in its branch: its decisions depend on its state.
 pub const LIMITED: &[u8] =
     b"nfp 1\nchain main\nfn fw firewall\nrule deny src 10.0.0.9\nfn lim limiter\nset rate 1\nset burst 1000\n";
 
@@ -158,7 +158,7 @@ const LED_OUT: Packet<'static> = Packet::Udp(Datagram {
     ..FIRST
 });
 
-// A firewall beside a signature, and a translation in a stage of its own behind them.
+// A firewall beside a signature, and a translation in a stage of its own after them.
 const IN_STAGES: Row<'static> = Row {
     calls: &[RUN, ONE_BY_ONE],
     graph: b"",
@@ -189,13 +189,14 @@ const ONE_LED_OUT: Row<'static> = Row {
 
 const STAGES_IN_A_ROW: &[Row<'static>] = &[IN_STAGES, ONE_LED_OUT];
 
-// On one thread the functions of both stages run in a row: once the packet that is dropped goes so, and once the one that goes out.
+// On one thread the functions of both stages run in a row: once for the packet that is dropped, and once for the one
+// that goes out.
 #[test]
 fn functions_in_a_row_do_what_their_stages_do(rt: HostRuntime) {
     compare(&rt, STAGES_IN_A_ROW);
 }
 
-// From outside to the port that the first source has there.
+// From outside to the public port of the first source.
 const ANSWER: Datagram<'static> = Datagram {
     checksum: [0x8e, 0x97],
     source: [198, 51, 100, 5],
@@ -243,7 +244,8 @@ const TRANSLATED: &[Row<'static>] = &[Row {
     note: b"done records 4 emitted 2 dropped 2\n",
 }];
 
-// TCP (RFC 793) from 10.0.0.1 to 10.0.0.2, of which the first byte behind the IPv4 header was captured: no port is there.
+// TCP (RFC 793) from 10.0.0.1 to 10.0.0.2, of which only the first byte after the IPv4 header was captured, so that
+// there is no port.
 const NO_PORTS: Capture<'static> = Capture {
     head: &HEAD,
     packets: &[Packet::Frame(
@@ -266,13 +268,13 @@ const UNTRANSLATED: &[Row<'static>] = &[Row {
     note: b"done records 1 emitted 1 dropped 0\n",
 }];
 
-// No port is seen of the packet by a rule that is met by all ports, and none is taken for it.
+// A rule that is met by all ports sees no port of the packet, and the packet takes no public port.
 #[test]
 fn a_packet_without_ports_is_neither_translated_nor_matched_by_them(rt: HostRuntime) {
     compare(&rt, UNTRANSLATED);
 }
 
-// The second packet from inside finds no port left, and what comes to a port that nobody has is dropped.
+// The second packet from inside finds no port left, and a packet to a port that nobody has is dropped.
 #[test]
 fn a_translation_leads_out_and_back(rt: HostRuntime) {
     compare(&rt, TRANSLATED);

@@ -21,7 +21,7 @@ const ENTERED: &[u8] = &[
     3, 0xe8, 0, 53, 0, 8, 0, 0, // UDP
 ];
 
-// The same where a marker stands before the entry.
+// The same if a marker comes before the entry.
 const MARKED: &[u8] = &[
     2, 0, 0, 0, 0, 2, 2, 0, 0, 0, 0, 1, 8, 0, // Ethernet
     0x45, 8, 0, 0x30, 0, 0, 0, 0, 0x40, 4, 0xf6, 0xbe, 192, 0, 2, 1, 192, 0, 2, 2, // outer IPv4
@@ -95,7 +95,7 @@ const FORBIDDEN: &[Row<'static>] = &[Row {
     ..ENTRY
 }];
 
-// Nothing stands beside an end of a tunnel.
+// Nothing can be beside an end of a tunnel.
 #[test]
 fn an_entry_has_no_priority_over_a_marker(rt: HostRuntime) {
     compare(&rt, FORBIDDEN);
