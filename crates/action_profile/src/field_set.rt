@@ -26,7 +26,7 @@ pub fn all_fields() -> &'static [Field]
     &FIELDS
 }
 
-/// A set of fields: bit i stands for field i, in the order of [`Field`], both counted from 0.
+/// A set of fields: bit i is set for field i, in the order of [`Field`], both counted from 0.
 ///
 /// Contracts name what is in it by `has` of `specs/FieldSets.antt`.
 #[derive(Clone, Copy, Debug, PartialEq, Eq)]
@@ -74,7 +74,7 @@ impl FieldSet {
     ghost use Rattle.packet_fields.specs.declared.field.Field.{Field};
     ghost use Rattle.action_profile.specs.FieldSets.{has, alone, joined};
 
-    /// The set without any field.
+    /// The empty set.
     pub const NONE: FieldSet = FieldSet(0);
 
     /// Both addresses and both ports.

@@ -31,7 +31,7 @@ pub enum Kind {
     Untagger,
     /// Puts a packet into a packet at a tunnel's entry (RFC 2003).
     Encap,
-    /// Takes it out again at the tunnel's exit (RFC 2003).
+    /// Takes the inner packet out at the tunnel's exit (RFC 2003).
     Decap,
 }
 
@@ -54,7 +54,7 @@ pub const KINDS: [Kind; 14] = [
 ];
 
 impl Kind {
-    /// The kind that has this word for its name.
+    /// The kind of this name.
     pub fn named(word: &[u8]) -> Option<Kind>
         ensures { result ≡ kind_named word.now }
     {

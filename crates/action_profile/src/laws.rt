@@ -1,4 +1,4 @@
-//! What the words of kinds are worth.
+//! What holds of the names of kinds.
 
 ghost use Rattle.std.specs.Prelude.{◌≡◌, ℕ, List, Some};
 ghost use Rattle.action_profile.specs.Kinds.{kind_name, kind_named};

@@ -5,14 +5,14 @@
 //! (IEEE 802.1Q), and whether it works on the whole frame. [`profile`] gives the profile of each
 //! [`Kind`]. A [`FieldSet`] has a bit for each field, in the fields' order.
 //!
-//! All that is said of profiles elsewhere rests on two words, `reads_of` and `writes_of` of
-//! `specs/Profiles.antt`: whether a function reads or writes a field. To add or to remove a tag
-//! both reads and writes the list of tags, so nothing else needs to mention it.
+//! Statements about profiles in other crates use two definitions, `reads_of` and `writes_of` of `specs/Profiles.antt`:
+//! whether a function reads or writes a field. To add or to remove a tag both reads and writes the list of tags, so
+//! nothing else needs to mention it.
 //!
-//! [`StageParts`] says how a stage of several functions side by side hands on the fields of a packet:
-//! shared, moved or copied ([`Mode`]), and what each branch touches ([`Touch`]).
+//! [`StageParts`] says how a stage of several functions side by side passes on the fields of a packet: shared, moved or
+//! copied ([`Mode`]), and what each branch touches ([`Touch`]).
 //!
-//! What a function does with the fields, and how functions are put into stages, is left out.
+//! Left out: what a function does with the fields, and how functions are put into stages.
 #![tactic(auto)]
 
 mod field_set;

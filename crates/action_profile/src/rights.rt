@@ -9,7 +9,7 @@ use packet_fields::Field;
 /// [`Profile::reads_field`] and [`Profile::writes_field`], not the sets alone.
 #[derive(Clone, Copy, Debug, PartialEq, Eq)]
 pub struct Profile {
-    /// The fields whose values the function is shown.
+    /// The fields whose values the function sees.
     pub reads: FieldSet,
     /// The fields to which it may give a new value.
     pub writes: FieldSet,
@@ -17,12 +17,12 @@ pub struct Profile {
     pub drops: bool,
     /// Does it keep a state from one packet to the next, which each packet that it sees may change?
     pub state: bool,
-    /// Does it count what it sees? It passes a packet as it is and notes it, and the note changes its
-    /// state where no earlier function drops the packet.
+    /// Does it count the packets that it sees? It passes a packet unchanged and notes it; the note changes its state if
+    /// no earlier function drops the packet.
     pub counts: bool,
-    /// May it put a tag before the others?
+    /// May it add a tag before the others?
     pub adds: bool,
-    /// May it take the first tag away?
+    /// May it remove the first tag?
     pub removes: bool,
     /// Does it work on the frame as a whole?
     pub whole: bool,
@@ -49,7 +49,7 @@ impl Profile {
         self.write_set().has(field)
     }
 
-    /// All fields that it reads, the tags among them where it adds or removes one.
+    /// All fields that it reads, the tags among them if it adds or removes one.
     pub fn read_set(&self) -> FieldSet
         ensures set { result ≡ with_tags self.now self.now.reads }
         ensures fields { (f : Field) → has result f ≡ reads_of self.now f }
@@ -57,7 +57,7 @@ impl Profile {
         self.with_tags(self.reads)
     }
 
-    /// All fields that it writes, the tags among them where it adds or removes one.
+    /// All fields that it writes, the tags among them if it adds or removes one.
     pub fn write_set(&self) -> FieldSet
         ensures set { result ≡ with_tags self.now self.now.writes }
         ensures fields { (f : Field) → has result f ≡ writes_of self.now f }

@@ -18,7 +18,7 @@ const NOTHING: Profile = Profile {
     whole: false,
 };
 
-/// What a function of this kind may do. Takes no memory.
+/// What a function of this kind may do. Allocates nothing.
 pub fn profile(kind: Kind) -> Profile
     ensures { result ≡ profile_of kind }
 {

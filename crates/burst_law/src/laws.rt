@@ -1,4 +1,4 @@
-//! The law of bursts, and what belongs to it: functions that are split and put together again, and copies.
+//! The law of bursts, and laws on functions that are split and joined again, and on copies.
 ghost use Rattle.std.specs.Prelude.{◌≡◌, ◌-◌, ℕ, List, length, map, slice_get, Some};
 ghost use Rattle.packet_fields.specs.declared.field.Field.{Field};
 ghost use Rattle.action_profile.specs.declared.parts.Touch.{Touch};
@@ -31,10 +31,10 @@ use graph_law::{
     profiles_stay, stage_reached,
 };
 
-/// A burst of packets that goes stage by stage through a lawful graph, each stage with a branch and each
-/// branch with a function, where each branch owns its functions and takes all packets in their order, ends
-/// as packets that walk through the chain one after another. Each branch is left with the functions that it
-/// owns of those that the walks leave.
+/// A burst of packets that goes stage by stage through a lawful graph, each stage with a branch and each branch with a
+/// function, where each branch owns its functions and takes all packets in their order, ends as packets that walk
+/// through the chain one after another. Of the functions that the walks leave, each branch is left with those that it
+/// owns.
 pub fn burst_is_chain<F>()
     ensures chain { (b : Behaviour F) (graph : Graph) (functions : List F) (packets : List Message) →
         KeepsProfile b → IsQuiet b → IsLawful graph (map b.profile functions) → IsFull graph →
@@ -52,8 +52,8 @@ pub fn burst_is_chain<F>()
     stage_reached::<F>();
 }
 
-/// The packets of a capture, whole frames, end as their fields in a burst that walks through the chain, and
-/// leave the functions so.
+/// The packets of a capture, whole frames, end as their fields in a burst that walks through the chain, and leave the
+/// functions in the same states.
 pub fn frames_walk_in_bursts<F>()
     ensures functions { (b : Behaviour F) (functions : List F) (packets : List Packet) → KeepsProfile b →
         functions_after b functions packets ≡ (chain_burst b functions (map message_of packets)).state }
@@ -63,9 +63,9 @@ pub fn frames_walk_in_bursts<F>()
     frames_walk_as_fields::<F>();
 }
 
-/// Behind a stage each packet is made of what the branches gave for it, and of nothing that they gave for
-/// another, and each branch gives as much as there are packets: so packets may be shared out by their
-/// places, and put together in whatever order.
+/// After a stage each packet is made of what the branches returned for it, and of nothing that they returned for
+/// another, and each branch returns one result for each packet. So packets may be shared out by their places, and
+/// merged in any order.
 pub fn packets_merge_apart<F>()
     ensures arrivals { (b : Behaviour F) (stage : Stage) (own : List (List F)) (packets : List Message) (j : ℕ) (stream : List BranchEnd) →
         slice_get (stage_streams b stage own packets).gives j ≡ Some stream → length stream ≡ length packets }
@@ -76,10 +76,10 @@ pub fn packets_merge_apart<F>()
         slice_get (stage_burst b stage own packets).gives k ≡ Some (behind m (across k (stage_streams b stage own packets).gives)) }
 {}
 
-/// Functions that are split among the branches of a lawful graph are whole: none is lost, and as many
-/// functions that are split into the same lists are the same functions.
+/// Functions that are split among the branches of a lawful graph are complete: none is lost, and if the same number of
+/// functions is split into the same lists, they are the same functions.
 pub fn owned_is_whole<F>()
-    // a branch has the functions that stand at its positions, one for each
+    // a branch has the functions at its positions, one for each
     ensures count { (b : Behaviour F) (graph : Graph) (functions : List F) (i j : ℕ) (s : Stage) (x : Branch) →
         IsLawful graph (map b.profile functions) → slice_get graph.stages i ≡ Some s → slice_get s.branches j ≡ Some x →
         length (owned x.positions functions) ≡ length x.positions }
@@ -92,8 +92,8 @@ pub fn owned_is_whole<F>()
         owned_by graph.stages others ≡ owned_by graph.stages functions → others ≡ functions }
 {}
 
-/// The copies that a burst makes stage by stage, of the packets that are still there, are those that each
-/// packet makes in the stages that it reaches, which its walk through the chain tells.
+/// The copies that a burst makes stage by stage, of the packets that are still there, are those that each packet makes
+/// in the stages that it reaches. Its walk through the chain determines these stages.
 pub fn copies_are_same<F>()
     ensures { (b : Behaviour F) (graph : Graph) (f : Field) (functions : List F) (packets : List Message) →
         KeepsProfile b → IsQuiet b → IsLawful graph (map b.profile functions) → IsFull graph →
@@ -105,13 +105,12 @@ pub fn copies_are_same<F>()
     stage_reached::<F>();
 }
 
-/// A burst goes through a lawful graph with the counting of its functions left out. Each branch lists what
-/// its functions note of the packets that come to it, and behind the burst, where it is known where each
-/// packet ends, settles those notes of a packet at positions before which the packet wasn't dropped. So it
-/// is left with the functions that it owns of those that packets leave that walk through the chain one
-/// after another.
+/// A burst goes through a lawful graph with the counting of its functions left out. Each branch lists what its
+/// functions note of the packets that arrive. After the burst, when it is known how each packet ends, the branch
+/// settles those notes of a packet before whose position the packet wasn't dropped. It is then left with the functions
+/// that it owns, in the states that packets leave that walk through the chain one after another.
 pub fn notes_are_settled_behind_bursts<F, N>()
-    // the packets end so, whether functions count or not
+    // the packets end the same way, whether functions count or not
     ensures ends { (b : Behaviour F) (notes : Notes F N) (functions : List F) (packets : List Message) → KeepsProfile b → CountsByNotes b notes →
         (chain_burst b functions packets).gives ≡ (chain_burst (quiet b) functions packets).gives }
     // and by these ends the notes are settled
@@ -129,8 +128,8 @@ pub fn notes_are_settled_behind_bursts<F, N>()
     branches_note_as_the_walk::<F, N>();
 }
 
-/// A branch that lists its notes one behind another, each with the packet's place in the burst and the
-/// function's place in the branch, may settle them one by one, in the order in which it listed them.
+/// A branch that lists its notes one after another, each with the packet's place in the burst and the function's place
+/// in the branch, may settle them one by one, in the order of the list.
 pub fn notes_are_settled_as_listed<F, N>()
     ensures { (b : Behaviour F) (notes : Notes F N) (ends : List Message) (x : Branch × Touch) (functions : List F) (packets : List Message) →
         length functions ≡ length x.0.positions → length ends ≡ length packets →
@@ -138,9 +137,9 @@ pub fn notes_are_settled_as_listed<F, N>()
         ≡ branch_settled b notes ends x functions packets }
 {}
 
-/// One packet goes through a lawful graph with the counting of its functions left out. Its notes, each with
-/// the position of its function, are settled among all functions of the chain once it is known where the
-/// packet ends: so the functions are left as its walk leaves them.
+/// One packet goes through a lawful graph with the counting of its functions left out. Its notes, each with the
+/// position of its function, are settled among all functions of the chain once it is known how the packet ends. The
+/// functions are then left as its walk leaves them.
 pub fn notes_are_settled_by_position<F, N>()
     ensures { (b : Behaviour F) (notes : Notes F N) (fixed : Fixed) (graph : Graph) (functions : List F) (values : Values) →
         KeepsProfile b → CountsByNotes b notes → IsLawful graph (map b.profile functions) → IsFull graph →

@@ -6,8 +6,8 @@ ghost use Rattle.capture_bytes.specs.Filling.{Fills};
 
 use nfp_outside::{Desk, DeskFault, Slot};
 
-/// Reads from the slot Capture until the buffer is full or nothing is left, and says how many bytes came. It takes no memory of its
-/// own, and is refused with the desk's own fault.
+/// Reads from the slot Capture until the buffer is full or nothing is left, and returns the number of bytes. It
+/// allocates nothing of its own, and passes on a fault of the desk.
 pub fn fill<D: Desk>(desk: &mut D, into: &mut [u8]) -> Result<usize, DeskFault>
     requires { IsSome (D.slots desk.old Slot.Capture).name }
     ensures ok { IfOk result (λ k. Fills k into.new (D.slots desk.old Slot.Capture) (D.slots desk.new Slot.Capture)) }

@@ -1,10 +1,10 @@
-//! What the formats of captures have in common, below both of them.
+//! What the two formats of captures have in common.
 //!
-//! Numbers stand at places of a text in one of two byte orders ([`u16_at`], [`u32_at`], [`put_u16`], [`put_u32`]). A text is taken
-//! off the slot Capture of a desk by [`fill`], in whatever pieces the desk gives it. And whatever the format, a packet comes as a
-//! [`PcapRecord`]: its time, the length that it had on the wire, and the frame.
+//! Numbers are read and written at places of a text in either byte order ([`u16_at`], [`u32_at`], [`put_u16`],
+//! [`put_u32`]). [`fill`] reads bytes from the slot Capture of a desk, in whatever pieces the desk gives them. In
+//! either format a packet comes as a [`PcapRecord`]: its time, the length that it had on the wire, and the frame.
 //!
-//! Left out: what a format's own texts mean.
+//! Left out: what the bytes of a format mean.
 #![tactic(auto)]
 
 mod filling;

@@ -1,11 +1,11 @@
-//! Numbers at their places, in either byte order.
+//! Numbers at places of a text, in either byte order.
 ghost use Rattle.std.specs.Prelude.{◌≡◌, ◌≤◌, ◌+◌, ◌++◌, length, take, drop};
 ghost use Rattle.capture_bytes.specs.Numbers.{number_at, bytes_of};
 
 use crate::order::Endian;
 use byteorder::{BigEndian, ByteOrder, LittleEndian};
 
-/// The number of 16 bits at a place.
+/// The number of 16 bits at place `at`, counted in bytes from 0.
 pub fn u16_at(order: Endian, bytes: &[u8], at: usize) -> u16
     requires { at + 2 ≤ length bytes.now }
     ensures { result ≡ number_at order 2 at bytes.now }
@@ -16,7 +16,7 @@ pub fn u16_at(order: Endian, bytes: &[u8], at: usize) -> u16
     }
 }
 
-/// The number of 32 bits at a place.
+/// The number of 32 bits at place `at`, counted in bytes from 0.
 pub fn u32_at(order: Endian, bytes: &[u8], at: usize) -> u32
     requires { at + 4 ≤ length bytes.now }
     ensures { result ≡ number_at order 4 at bytes.now }

@@ -1,6 +1,6 @@
 use packet_fields::Frame;
 
-/// What the fraction of a record's time counts.
+/// The unit of the fraction of a record's time.
 #[derive(Clone, Copy, Debug, PartialEq, Eq)]
 pub enum Unit {
     /// Microseconds.
@@ -14,7 +14,7 @@ pub enum Unit {
 pub struct PcapRecord {
     /// The whole seconds of its time.
     pub seconds: u32,
-    /// The rest of its time, in the capture's unit; it may be beyond a second.
+    /// The rest of its time, in the capture's unit; it may be more than a second.
     pub fraction: u32,
     /// The length that the frame had on the wire.
     pub wire: u32,
@@ -26,7 +26,7 @@ impl PcapRecord {
     ghost use Rattle.std.specs.Prelude.{◌≡◌};
     ghost use Rattle.capture_bytes.specs.Packets.{time_of};
 
-    /// Its time in nanoseconds, where its fraction counts this unit.
+    /// Its time in nanoseconds, if its fraction has this unit.
     pub fn time(&self, unit: Unit) -> u64
         ensures { result ≡ time_of unit self.now }
     {

@@ -1,4 +1,4 @@
-//! What the walk of whole frames is worth.
+//! What holds of the walk of whole frames.
 ghost use Rattle.std.specs.Prelude.{◌≡◌, ℕ, List, ◌++◌, length};
 ghost use Rattle.packet_fields.specs.Writing.{AllFit, fields_of, over, rest_of, written};
 ghost use Rattle.chain_walk.specs.Shown.{Values, AreWellFormed, fixed_of};
@@ -17,8 +17,8 @@ pub fn frames_walk_as_fields<F>()
         ◌≡◌ {A = Walked F} (walk b time position functions frame) (walked_by frame (walk_fields b (fixed_of time frame) position functions (fields_of frame))) }
 {}
 
-/// Values that fit a frame are well formed, such as the frame's own fields, and a function that keeps to its
-/// profile leaves values so.
+/// Values that fit a frame, such as the frame's own fields, are well formed, and stay so after a function that keeps to
+/// its profile.
 pub fn values_stay_well_formed<F>()
     ensures frame { (frame : List ℕ) → AreWellFormed (fields_of frame) }
     ensures fit { (values : Values) (frame : List ℕ) → AllFit values frame → AreWellFormed values }
@@ -26,21 +26,21 @@ pub fn values_stay_well_formed<F>()
         AreWellFormed (over (stepped b fixed f values).written values) }
 {}
 
-/// The fields that come out of a walk may as well be put into what is left of the frame without its fields:
-/// it is the same frame.
+/// The fields that come out of a walk may also be put into the rest of the frame without its fields: the result is the
+/// same frame.
 pub fn frames_are_built_again<F>()
     ensures { (b : Behaviour F) (time position : ℕ) (functions : List F) (frame : List ℕ) (after : Values) → KeepsProfile b →
         (walk_fields b (fixed_of time frame) position functions (fields_of frame)).end ≡ Out after → written after (rest_of frame) ≡ written after frame }
 {}
 
-/// What a function writes may be put over a frame's own fields, and with them into what is left of the frame
-/// without its fields: it is the frame that the function hands on.
+/// The values that a function writes may be put over a frame's own fields, and all of these into the rest of the frame
+/// without its fields: the result is the frame that the function passes on.
 pub fn step_is_put_together<F>()
     ensures { (b : Behaviour F) (time : ℕ) (f : F) (frame : List ℕ) → KeepsProfile b → written (over (applied b time f frame).written (fields_of frame)) (rest_of frame) ≡ frame_after b time f frame }
 {}
 
-/// Packets that walk in two lots end as in one, each as the packet before left the functions, and each has
-/// one fate. A packet that is gone was dropped by a function that stands in the chain.
+/// Packets that walk in two lots end as in one lot, each meeting the functions as the packet before left them, and each
+/// has one fate. A packet that is gone was dropped by a function of the chain.
 pub fn packets_walk_in_a_row<F>()
     ensures fates { (b : Behaviour F) (functions : List F) (first later : List Packet) → fates b functions (first ++ later) ≡ fates b functions first ++ fates b (functions_after b functions first) later }
     ensures functions { (b : Behaviour F) (functions : List F) (first later : List Packet) → functions_after b functions (first ++ later) ≡ functions_after b (functions_after b functions first) later }

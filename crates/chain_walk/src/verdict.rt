@@ -1,6 +1,6 @@
-//! What a function decides of a packet.
+//! The decision of a function on a packet.
 
-/// What a function decides of a packet.
+/// The decision of a function on a packet.
 #[derive(Clone, Copy, Debug, PartialEq, Eq)]
 pub enum Verdict {
     /// The packet goes on, with what the function wrote.

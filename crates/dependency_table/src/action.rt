@@ -1,4 +1,4 @@
-//! What a function does to a packet, one by one, and what the table answers.
+//! The actions of a function on a packet, and the answers of the table.
 
 ghost use Rattle.std.specs.Prelude.{◌≡◌};
 ghost use Rattle.dependency_table.specs.Actions.{all_actions};
@@ -11,7 +11,7 @@ use packet_fields::Field;
 pub enum Action {
     /// Nothing.
     Pass,
-    /// Is shown the field.
+    /// Sees the value of the field.
     Read(Field),
     /// May give the field a new value.
     Write(Field),
@@ -19,7 +19,7 @@ pub enum Action {
     Drop,
     /// Keeps a state from one packet to the next.
     State,
-    /// Notes the packet, whose note is settled once it is known that no earlier function dropped it.
+    /// Notes the packet; the note is settled once it is known that no earlier function dropped it.
     Count,
     /// Works on the frame as a whole.
     Whole,
@@ -30,7 +30,7 @@ pub enum Action {
 pub enum Answer {
     /// They may, on one copy of each field.
     Free,
-    /// They may, where each has a copy of these fields.
+    /// They may, if each has a copy of these fields.
     Copy(FieldSet),
     /// They may not: this action of the first function must come before this one of the second.
     Forbidden { first: Action, second: Action },
@@ -64,7 +64,7 @@ const ACTIONS: [Action; 25] = [
     Action::Pass,
 ];
 
-/// Every action, in the order in which a profile has them.
+/// Every action, in the order in which a profile lists them.
 #[tactic(auto, unfolding(crate::specs::Actions::all_actions))]
 pub fn all_actions() -> &'static [Action]
     ensures { result.now ≡ all_actions }

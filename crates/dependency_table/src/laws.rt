@@ -1,4 +1,4 @@
-//! What an answer of the table is worth.
+//! What follows from an answer of the table.
 
 ghost use Rattle.std.specs.Prelude.{◌≡◌, IsTrue, false, ◌||◌, ◌&&◌};
 ghost use Rattle.packet_fields.specs.declared.field.Field.{Field};
@@ -9,10 +9,9 @@ ghost use Rattle.dependency_table.specs.declared.action.Action.{Action};
 ghost use Rattle.dependency_table.specs.declared.action.Answer.TheVariants.{Forbidden};
 ghost use Rattle.dependency_table.specs.Table.{forbids, pair_of, is_allowed, copies_field};
 
-/// A law: where the table lets two functions run side by side, the later one sees what it would
-/// see behind the earlier one. No field that the earlier one writes is read by the later one, a
-/// packet that the earlier one may drop changes no state of the later one, and neither works on the
-/// frame as a whole.
+/// A law: if the table lets two functions run side by side, the later one sees what it would see after the earlier one.
+/// No field that the earlier one writes is read by the later one, a packet that the earlier one may drop changes no
+/// state of the later one, and neither works on the frame as a whole.
 pub fn beside_is_independent()
     ensures unread { (x y : Profile) → (f : Field) → IsTrue (is_allowed (pair_of x y)) → IsTrue (writes_of x f) → reads_of y f ≡ false }
     ensures stateless { (x y : Profile) → IsTrue (is_allowed (pair_of x y)) → IsTrue x.drops → y.state ≡ false }
@@ -20,8 +19,8 @@ pub fn beside_is_independent()
     ensures second_in_parts { (x y : Profile) → IsTrue (is_allowed (pair_of x y)) → y.whole ≡ false }
 {}
 
-/// A law: where two functions run side by side, the fields that each needs a copy of are those that
-/// the later one writes and the earlier one reads or writes.
+/// A law: if two functions run side by side, the fields that each needs a copy of are those that the later one writes
+/// and the earlier one reads or writes.
 pub fn copied_fields()
     ensures { (x y : Profile) → (f : Field) → IsTrue (is_allowed (pair_of x y)) → copies_field (pair_of x y) f ≡ ((reads_of x f || writes_of x f) && writes_of y f) }
 {}

@@ -1,15 +1,14 @@
 //! Which two functions of a chain may run side by side.
 //!
-//! Where function x stands before function y, each action of x is held against each action of y:
-//! whether the two may run at the same time on one packet, and whether each then needs a copy of a
-//! field of its own. [`pair`] is that table, over two profiles.
+//! If function x comes before function y in the chain, each action of x is compared with each action of y: whether the
+//! two may run at the same time on one packet, and whether each then needs a copy of a field of its own. [`pair`] is
+//! that table, over two profiles.
 //!
-//! Three laws say what an answer is worth: [`beside_is_independent`] (no field that x writes is read
-//! by y, a drop by x meets no state of y, and neither works on the whole frame), [`copied_fields`]
-//! (which fields are copied), and [`forbidden_has_a_cause`] (the actions that are named are actions
-//! of the two, and the first forbids the second).
+//! Three laws say what follows from an answer: [`beside_is_independent`] (y reads no field that x writes, a drop by x
+//! affects no state of y, and neither works on the whole frame), [`copied_fields`] (which fields are copied), and
+//! [`forbidden_has_a_cause`] (the named actions are actions of the two, and the first forbids the second).
 //!
-//! How functions are put into stages is left out.
+//! Left out: how functions are put into stages.
 #![tactic(auto)]
 
 mod action;

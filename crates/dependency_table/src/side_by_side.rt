@@ -1,4 +1,4 @@
-//! Every action of one function against every action of another.
+//! Compares every action of one function with every action of another.
 
 ghost use Rattle.std.specs.Prelude.{◌≡◌, find};
 ghost use Rattle.std.specs.List.{list_any};
@@ -9,11 +9,11 @@ use crate::action::{Action, Answer, all_actions};
 use action_profile::{FieldSet, Profile, all_fields};
 use packet_fields::Field;
 
-/// Whether a function with profile `x` and one with profile `y`, which stands after it in the
-/// chain, may run side by side.
+/// Whether a function with profile `x` and one with profile `y`, which comes after it in the chain, may run side by
+/// side.
 ///
-/// They may not where an action of `x` forbids one of `y`; the answer names the first such pair,
-/// the actions of `x` in their order and for each of them those of `y`. Takes no memory.
+/// They may not if an action of `x` forbids one of `y`. The answer names the first such pair, in the order of the
+/// actions of `x`, and for each of them of those of `y`. Allocates nothing.
 #[tactic(auto, unfolding(crate::specs::Table::pair_of))]
 pub fn pair(x: &Profile, y: &Profile) -> Answer
     ensures { result ≡ pair_of x.now y.now }
@@ -43,7 +43,7 @@ fn first_forbidden(x: &Profile, y: &Profile) -> Option<(Action, Action)>
     None
 }
 
-// The first action of `y` that this action before it forbids.
+// The first action of `y` that `first`, an action of the earlier function, forbids.
 #[tactic(auto, unfolding(crate::specs::Actions::actions))]
 fn first_forbidden_by(first: Action, y: &Profile) -> Option<Action>
     ensures { result ≡ find (forbids first) (actions y.now) }

@@ -1,4 +1,4 @@
-// Captures through desks in memory, with ample memory.
+// Captures through desks in memory; the tests themselves have ample memory.
 ghost use Rattle.std.specs.Prelude.{IsNone};
 ghost use Rattle.nfp_outside.specs.declared.slot.Slot.{Slot};
 
@@ -76,7 +76,7 @@ fn first_length<D: Desk>(alloc: Global, desk: &mut D) -> Result<Option<usize>, P
     }
 }
 
-// A capture whose one record claims a frame of so many bytes, and has 262,144.
+// A capture whose one record claims a frame of `length` bytes, and has 262,144.
 fn claiming(rt: &impl Abort, alloc: Global, length: u32) -> Vec<u8> {
     let [a, b, c, d] = length.to_le_bytes();
     let record = [0, 0, 0, 0, 0, 0, 0, 0, a, b, c, d, a, b, c, d];
@@ -98,7 +98,7 @@ fn the_longest_frame_is_read_and_a_longer_one_refused(rt: HostRuntime) {
     assert_eq!(rt; claimed(&rt, rt.alloc(), 262_145), Err(too_long));
 }
 
-// What comes of a capture of one record where this call on it fails.
+// The result of reading a capture of one record if this call on it fails.
 fn failed(rt: &impl Abort, alloc: Global, call: u64) -> Result<Option<usize>, PcapFault> {
     let bytes = of_one(rt, alloc, &HEAD, &RECORD);
     let fails = had(rt, Vec::from_array(alloc, [(Slot::Capture, call)]));

@@ -11,7 +11,7 @@ const TEXT: &[u8] = b"abcdefgh";
 
 const NAME: &str = "written_by_a_desk";
 
-// The text, read from a desk that may give so many bytes of it.
+// The text, read from a desk with a limit of `max` bytes.
 fn read_up_to(rt: &impl Abort, alloc: Global, max: usize) -> Result<Vec<u8>, OutsideFault> {
     let text = had(rt, TEXT.to_vec(alloc));
     let mut desk = FixedDesk::new(alloc, text, Vec::new(alloc), 3);
@@ -33,7 +33,7 @@ fn a_slot_is_read_whole_up_to_the_limit(rt: HostRuntime) {
     assert!(rt; is_read(&rt, rt.alloc(), 8) && is_read(&rt, rt.alloc(), 9));
 }
 
-// The text is written into Note once more: is this the answer, and what then stands there?
+// Writes the text into Note once more: are this the result and these the bytes in Note afterwards?
 fn is_written(desk: &mut MemDesk, answer: Result<(), OutsideFault>, put: &[u8]) -> bool {
     let written = write_whole(desk, Slot::Note, TEXT);
     written == answer && desk.put(Slot::Note) == put
@@ -66,7 +66,7 @@ fn a_written_file_reads_back_and_a_missing_one_is_refused(rt: HostRuntime) {
     had(&rt, writer.attach(Slot::Out, NAME));
     assert_eq!(rt; write_whole(&mut writer, Slot::Out, TEXT), Ok(()));
     assert_eq!(rt; write_whole(&mut writer, Slot::Out, b"end"), Ok(()));
-    // What is written is gathered, and in the file once it is handed on.
+    // What is written is gathered, and is in the file after `hand_on`.
     assert_eq!(rt; writer.hand_on(), None);
     let mut desk = FileDesk::new(had(&rt, rt.clone()));
     assert!(rt; desk.attach(Slot::Capture, "no_such_file").is_err());

@@ -2,13 +2,13 @@
 use crate::plenty::had;
 use packet_fields::{seal, with_tags};
 
-// The frame that `fixtures::udp(1, 1000)` is, from 192.0.2.1, port 40000, its checksums as they were.
+// The frame of `fixtures::udp(1, 1000)`, sent from 192.0.2.1, port 40000, with the checksums of the original.
 const TRANSLATED: [u8; 42] = [
     2, 0, 0, 0, 0, 2, 2, 0, 0, 0, 0, 1, 8, 0, 0x45, 0, 0, 28, 0, 0, 0, 0, 64, 17, 0x66, 0xcf, 192,
     0, 2, 1, 10, 0, 0, 2, 0x9c, 0x40, 0, 53, 0, 8, 0, 0,
 ];
 
-// The checksum of IPv4 and that of UDP behind the translation, where that of UDP was this before.
+// The checksum of IPv4 and that of UDP after the translation; before it, that of UDP was `high` and `low`.
 fn sums(high: u8, low: u8) -> [u8; 4] {
     let mut before = fixtures::udp(1, 1000);
     before[40] = high;

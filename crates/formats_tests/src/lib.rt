@@ -1,8 +1,8 @@
-//! Tests of what stands below all and of the formats, through public calls alone: lists, desks and watched ones, the
+//! Tests of the lowest layers and of the formats, through public calls alone: lists, desks and watched desks, the
 //! fields and checksums of a frame, and captures.
 //!
-//! No clause says that a call finds memory, so each call that takes some runs here once with ample memory. The
-//! expected bytes were worked out by hand from the standards.
+//! No clause says that a call gets memory, so each call that allocates runs here once with ample memory. The expected
+//! bytes were worked out by hand from the standards.
 #![tactic(auto)]
 
 #[cfg(test)]

@@ -1,4 +1,4 @@
-// A watched desk over memory: what a watcher is told, and what it makes of it.
+// A watched desk over memory: what the watcher is informed of, and what it keeps and counts.
 
 ghost use Rattle.std.specs.Prelude.{◌≤◌};
 
@@ -16,7 +16,7 @@ fn capture(big: bool) -> [u8; 59] {
     bytes
 }
 
-// How many records there are in bytes that come in pieces of this length.
+// The number of records that are counted in the bytes, in pieces of `step` bytes.
 fn counted(bytes: &[u8], step: usize) -> u64
     requires { 1 ≤ step }
 {
@@ -39,7 +39,7 @@ fn counts_the_records_of_any_pieces(rt: HostRuntime) {
     assert_eq!(rt; counted_in_pieces(false), [2, 2, 2]);
 }
 
-// What is kept of the policy's name and text, where no capture is read.
+// Are the policy's name and text kept, if no capture is read?
 fn is_kept(seen: &Seen) -> bool {
     seen.name(Slot::Policy) == Some("a.nfp")
         && seen.name(Slot::Out).is_none()

@@ -6,7 +6,7 @@ ghost use Rattle.policy_text.specs.Meeting.{is_met};
 ghost use Rattle.policy_text.specs.declared.clause.Clause.TheVariants.{Src, Dst, Src6, Dst6};
 ghost use Rattle.frame_seen.specs.Seeing.{seen_of};
 
-/// A law: no frame with a packet of IPv6 meets a prefix of IPv4, and no other frame one of IPv6.
+/// A law: no frame with a packet of IPv6 meets a prefix of IPv4, and no other frame meets a prefix of IPv6.
 #[tactic(auto, using(crate::proofs::Versions::src_unmet, crate::proofs::Versions::dst_unmet, crate::proofs::Versions::src6_unmet, crate::proofs::Versions::dst6_unmet))]
 pub fn frames_meet_prefixes_of_their_version()
     ensures src { (frame : List ℕ) (prefix bits : ℕ) → is_ipv6 (packet frame) ≡ true → is_met (seen_of frame) (Src prefix bits) ≡ false }

@@ -12,7 +12,7 @@ use packet_fields::{Field, Outline};
 use policy_text::{Seen, TagSeen};
 use std::net::IpAddr;
 
-/// What clauses see of a frame. Takes no memory.
+/// What clauses see of a frame. Allocates nothing.
 pub fn seen(frame: &[u8]) -> Seen
     ensures { result ≡ seen_of frame.now }
 {
@@ -31,7 +31,7 @@ pub fn seen(frame: &[u8]) -> Seen
     }
 }
 
-/// The outermost of a frame's tags, where the frame is long enough to have some.
+/// The outermost of a frame's tags, if the frame is long enough to have tags.
 #[inline(always)]
 pub fn seen_tags(tags: Option<&[u8]>) -> TagSeen
     requires { IfSome tags (λ bytes. IsLengthOf Field.Tag (length bytes.now)) }
@@ -44,7 +44,7 @@ pub fn seen_tags(tags: Option<&[u8]>) -> TagSeen
     }
 }
 
-/// An IPv4 address as a number, most significant byte first (RFC 791, 3.1). An address of IPv6 is none.
+/// An IPv4 address as a number, most significant byte first (RFC 791, 3.1). `None` for an address of IPv6.
 #[inline(always)]
 pub fn seen_address(bytes: Option<&[u8]>) -> Option<u32>
     ensures { result ≡ option_and_then (address_of 4) (option_copied bytes.entry) }
@@ -57,7 +57,7 @@ pub fn seen_address(bytes: Option<&[u8]>) -> Option<u32>
     }
 }
 
-/// An IPv6 address as a number, most significant byte first (RFC 8200, 3). An address of IPv4 is none.
+/// An IPv6 address as a number, most significant byte first (RFC 8200, 3). `None` for an address of IPv4.
 #[inline(always)]
 pub fn seen_address6(bytes: Option<&[u8]>) -> Option<u128>
     ensures { result ≡ option_and_then (address_of 16) (option_copied bytes.entry) }
@@ -70,7 +70,8 @@ pub fn seen_address6(bytes: Option<&[u8]>) -> Option<u128>
     }
 }
 
-/// An address of either version of IP, by how many bytes it has: 4 are one of IPv4 (RFC 791, 3.1), 16 one of IPv6 (RFC 8200, 3).
+/// An address of either version of IP, by its length: 4 bytes are an address of IPv4 (RFC 791, 3.1), 16 one of IPv6
+/// (RFC 8200, 3).
 pub fn seen_ip_address(bytes: Option<&[u8]>) -> Option<IpAddr>
     ensures { result ≡ option_and_then ip_address_of (option_copied bytes.entry) }
 {

@@ -1,4 +1,4 @@
-//! Rules, and which values of a packet they ask for.
+//! Rules, and the values of a packet that they need.
 ghost use Rattle.std.specs.Prelude.{◌≡◌};
 ghost use Rattle.function_lines.specs.Asking.{looks_at, fit_asks, rules_ask, asked_of};
 
@@ -9,7 +9,7 @@ use policy_text::{Clause, Match, Seen};
 use std::alloc::{AllocError, Global};
 use std::marker::Model;
 
-/// A value of a packet at which clauses look, beside its protocol.
+/// A value of a packet at which clauses look, besides its protocol.
 #[derive(Clone, Copy)]
 enum Value {
     Tag,
@@ -19,7 +19,8 @@ enum Value {
     DestinationPort,
 }
 
-/// Which values of a packet some clause of some rule looks at, beside its protocol. An address is one of either version of IP.
+/// The values of a packet at which some clause of some rule looks, besides the protocol. An address may be of either
+/// version of IP.
 #[derive(Clone, Copy, Debug)]
 pub struct Asked {
     pub tag: bool,
@@ -29,8 +30,8 @@ pub struct Asked {
     pub destination_port: bool,
 }
 
-/// Rules that ask for clauses, which several owners share and none changes. A contract sees them as a list. What they ask for is
-/// found once, so that of a packet nothing else has to be looked up.
+/// Rules that hold clauses, shared by several owners and changed by none. A contract sees them as a list. The values
+/// that they need are determined once, so that nothing else of a packet has to be read.
 #[derive(Debug, Drop)]
 pub struct FitRules<R: Fitting> {
     rules: SharedItems<R>,
@@ -55,7 +56,7 @@ impl<R: Fitting + Drop> FitRules<R> {
     ghost use Rattle.function_lines.specs.Asking.{Shows};
     ghost use Rattle.function_lines.specs.Rules.{first_met as first_met_of};
 
-    /// Makes rules ready to be shared, with one owner so far. Its one refusal is want of memory.
+    /// Makes rules ready to be shared, with one owner so far. The only error is that memory runs out.
     pub fn new(alloc: Global, rules: Items<R>) -> Result<FitRules<R>, AllocError>
         ensures { IfOk result (λ s. s ≡ rules) }
     {
@@ -64,8 +65,8 @@ impl<R: Fitting + Drop> FitRules<R> {
         Ok(FitRules { rules, asked })
     }
 
-    /// The same rules once more, for one more owner. It copies no rule and takes no memory; its one refusal is that no more
-    /// owners can be counted.
+    /// The same rules once more, for one more owner. It copies no rule and allocates nothing. The only error is that no
+    /// more owners can be counted.
     pub fn try_clone(&self) -> Result<FitRules<R>, AllocError>
         ensures { IfOk result (λ s. s ≡ self.now) }
     {
@@ -81,7 +82,7 @@ impl<R: Fitting + Drop> FitRules<R> {
         self.rules.as_slice()
     }
 
-    /// Which values some rule asks for. Where a packet is seen with these alone, the same rule is met.
+    /// The values that some rule needs. If only these of a packet are known, the same rule is met.
     #[tactic(auto, using(crate::proofs::EnoughSeen::same_first_met))]
     pub fn asked(&self) -> Asked
         ensures { (full seen : Seen) → Shows result full seen → first_met_of R.fit seen self.now ≡ first_met_of R.fit full self.now }
@@ -89,7 +90,7 @@ impl<R: Fitting + Drop> FitRules<R> {
         self.asked
     }
 
-    /// The first rule whose clauses a packet meets, all of them.
+    /// The first rule of which a packet meets all clauses.
     pub fn first_met(&self, seen: &Seen) -> Option<&R>
         ensures { option_copied result ≡ first_met_of R.fit seen.now self.now }
     {
@@ -97,7 +98,7 @@ impl<R: Fitting + Drop> FitRules<R> {
     }
 }
 
-// Which values some rule asks for.
+// The values that some rule needs.
 fn asked_of<R: Fitting>(rules: &[R]) -> Asked
     ensures { result ≡ asked_of R.fit rules.now }
 {

@@ -1,16 +1,16 @@
-//! What the lines of a declaration have in common, whatever the kind of function that they set up.
+//! What the lines of a declaration have in common for every kind of function.
 //!
-//! A kind says which words are one of its lines, which of its lines each declaration has to have and which can't stand together,
-//! once, as a [`FunctionLine`]. The rest is the same for all kinds: [`read_lines`] gives the lines of a declaration, or the least
-//! line that is refused. A line is refused where it isn't one of its kind's, where it is a `set` whose key stood before, and where
-//! it can't stand beside the others; the `fn` line is refused where a line that has to be there is missing. [`least_refused_line`] says that the line that is named is refused and
-//! no line before it.
+//! A kind implements [`FunctionLine`], which says which words are one of its lines, which of its lines each declaration
+//! has to have, and which lines can't be together. The rest is the same for all kinds: [`read_lines`] returns the lines
+//! of a declaration, or the least line that is refused. A line is refused if it isn't one of its kind's, if it is a
+//! `set` whose key occurred before, or if it can't be beside the others. The `fn` line is refused if a required line is
+//! missing. [`least_refused_line`] says that the returned line is refused and no line before it is.
 //!
-//! Kinds whose rules ask for clauses share [`read_fit`], which reads them, and [`FitRules`], which gives the first rule that a packet
-//! meets and says which values of a packet have to be seen for that.
+//! Kinds whose rules hold clauses share [`read_fit`], which reads them, and [`FitRules`], which returns the first rule
+//! that a packet meets and the values of a packet that are needed for that.
 //!
-//! What a line does to a function is left to its kind. What the lines of a function say is kept as [`SharedItems`], so that the
-//! same function can be there once more without a second copy of them.
+//! The effect of a line on a function is left to its kind. The contents of the lines of a function are kept as
+//! [`SharedItems`], so that the same function can exist once more without a second copy of them.
 #![tactic(auto)]
 
 mod asking;

@@ -10,9 +10,8 @@ use item_list::Items;
 use policy_text::{BuildFault, FunctionDecl, Setting};
 use std::alloc::{AllocError, Global};
 
-/// The lines of a declaration in order, or the least line of it that is refused: one that is no line of
-/// the kind, a second `set` of a key, one that can't stand beside the others, or the `fn` line, where a line
-/// is missing that has to be there.
+/// The lines of a declaration in order, or its least line that is refused: one that isn't a line of the kind, a second
+/// `set` of a key, one that can't be beside the others, or the `fn` line if a required line is missing.
 #[tactic(auto, using(crate::proofs::Gathering::begins, crate::proofs::Gathering::goes_on))]
 pub fn read_lines<L: FunctionLine>(
     alloc: Global,
@@ -38,8 +37,8 @@ pub fn read_lines<L: FunctionLine>(
     }
 }
 
-// The least refused line, with those of these settings that can't stand beside the lines. Each is read once more, since
-// what the lines say is known behind the last of them.
+// The least refused line, including those of these settings that can't be beside the lines. Each is read a second time,
+// since all lines are known only after the last of them.
 fn least_clashing<L: FunctionLine>(
     alloc: Global,
     lines: &[L],
@@ -57,7 +56,7 @@ fn least_clashing<L: FunctionLine>(
     Ok(least)
 }
 
-// Keeps the line, where there is one.
+// Keeps the line, if there is one.
 fn keep<L: Drop>(lines: &mut Items<L>, line: Option<L>) -> Result<(), AllocError>
     ensures { OnOk result (lines.new ≡ lines.old ++ option_to_list line) }
 {
@@ -67,7 +66,7 @@ fn keep<L: Drop>(lines: &mut Items<L>, line: Option<L>) -> Result<(), AllocError
     Ok(())
 }
 
-// The least refused line, with a line that says this and stands behind these.
+// The least refused line, including `setting`, which was read as `line` and follows `before`.
 #[tactic(auto, using(crate::proofs::Gathering::stays_least))]
 fn least_behind<L>(
     least: Option<u32>,
@@ -78,13 +77,13 @@ fn least_behind<L>(
     ensures { result ≡ (if (is_none line.now || repeats before.now setting.now) then lesser least setting.now.line else least) }
 {
     match least {
-        // It is the least whether or not this one is refused: the lines before aren't gone through again.
+        // It is the least whether or not this one is refused, so the lines before need no second pass.
         Some(other) if other <= setting.line => least,
         _ => least_refused(least, is_refused(line, before, setting), setting.line),
     }
 }
 
-// Is a line refused that says this, and stands behind these?
+// Is `setting` refused, which was read as `line` and follows `before`?
 fn is_refused<L>(line: &Option<L>, before: &[Setting], setting: &Setting) -> bool
     ensures { result ≡ (is_none line.now || repeats before.now setting.now) }
 {

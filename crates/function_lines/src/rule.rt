@@ -1,4 +1,4 @@
-//! Rules that ask for clauses.
+//! Rules that hold clauses.
 ghost use Rattle.std.specs.Prelude.{◌≡◌, IfOk};
 ghost use Rattle.std.specs.Option.{option_copied};
 ghost use Rattle.policy_text.specs.declared.clause.Match.{Match};
@@ -7,7 +7,7 @@ ghost use Rattle.function_lines.specs.Rules.{fit_of, first_met};
 use policy_text::{Match, MatchFault, Seen, Word, fits, read_match};
 use std::alloc::{AllocError, Global};
 
-/// A rule that holds for the packets that meet its clauses.
+/// A rule for the packets that meet its clauses.
 pub trait Fitting {
     /// The clauses of a rule.
     ghost fit: { Self → Match };
@@ -17,14 +17,14 @@ pub trait Fitting {
         ensures { result.now ≡ fit self.now };
 }
 
-/// The first rule whose clauses a packet meets, all of them.
+/// The first rule of which a packet meets all clauses.
 pub(crate) fn first_met<'a, R: Fitting>(rules: &'a [R], seen: &Seen) -> Option<&'a R>
     ensures { option_copied result ≡ first_met R.fit seen.now rules.now }
 {
     rules.iter().find(|rule| fits(rule.fit(), seen))
 }
 
-/// Reads the clauses of a rule, or answers `None` where the words are no clauses.
+/// Reads the clauses of a rule, or returns `None` if the words aren't clauses.
 pub fn read_fit(alloc: Global, words: &[Word]) -> Result<Option<Match>, AllocError>
     ensures { IfOk result (λ fit. fit ≡ fit_of words.now) }
 {

@@ -5,7 +5,7 @@ ghost use Rattle.function_lines.specs.KindLines.{word_of, has_same_key, repeats,
 
 use policy_text::Setting;
 
-/// Is it a `set` line whose key stood in a line before?
+/// Is it a `set` line whose key occurred in a line before?
 pub fn repeats(before: &[Setting], setting: &Setting) -> bool
     ensures { result ≡ repeats before.now setting.now }
 {
@@ -33,7 +33,7 @@ fn word_of(setting: &Setting, place: usize) -> &[u8]
     }
 }
 
-/// The least refused line, with one more line that may be refused.
+/// The lesser of the least refused line so far and `line`, if `line` is refused.
 pub fn least_refused(least: Option<u32>, refused: bool, line: u32) -> Option<u32>
     ensures { result ≡ (if refused then lesser least line else least) }
 {

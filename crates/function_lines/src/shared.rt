@@ -5,7 +5,7 @@ use std::alloc::{AllocError, Global};
 use std::marker::Model;
 use std::sync::Arc;
 
-/// Items in order, which several owners share and none changes. A contract sees them as a list.
+/// Items in order, shared by several owners and changed by none. A contract sees them as a list.
 #[derive(Debug, Drop)]
 pub struct SharedItems<T> {
     items: Arc<Items<T>>,
@@ -23,7 +23,7 @@ impl<T> Model for SharedItems<T> {
 impl<T: Drop> SharedItems<T> {
     ghost use Rattle.std.specs.Prelude.{◌≡◌, IfOk};
 
-    /// Makes items ready to be shared, with one owner so far. Its one refusal is want of memory.
+    /// Makes items ready to be shared, with one owner so far. The only error is that memory runs out.
     pub fn new(alloc: Global, items: Items<T>) -> Result<SharedItems<T>, AllocError>
         ensures { IfOk result (λ s. s ≡ items) }
     {
@@ -39,7 +39,7 @@ impl<T: Drop> SharedItems<T> {
         self.items.as_slice()
     }
 
-    /// The same items once more, for one more owner. It copies no item and takes no memory; its one refusal is that no
+    /// The same items once more, for one more owner. It copies no item and allocates nothing. The only error is that no
     /// more owners can be counted.
     pub fn try_clone(&self) -> Result<SharedItems<T>, AllocError>
         ensures { IfOk result (λ s. s ≡ self.now) }

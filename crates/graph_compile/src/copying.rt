@@ -1,4 +1,4 @@
-//! How many copies a stage makes.
+//! The number of copies that a stage makes.
 
 ghost use Rattle.std.specs.Prelude.{◌≡◌, ◌≤◌, length, count_by};
 ghost use Rattle.action_profile.specs.Modes.{has_write, copies};
@@ -9,11 +9,10 @@ use crate::handing::some_only_reads;
 use action_profile::{Mode, StageParts, Touch, all_fields};
 use packet_fields::Field;
 
-/// How many copies of the field a stage makes of each packet that has it. Takes no memory.
+/// The number of copies of the field that a stage makes for each packet that has it. Allocates nothing.
 ///
-/// A field that is shared or moved isn't copied. Of one that is copied, each branch that writes it
-/// has a copy of its own; where no branch only reads it, the first of them has the original in
-/// place of a copy.
+/// A field that is shared or moved isn't copied. If it is copied, each branch that writes it has a copy of its own; if
+/// no branch only reads it, the first writer has the original instead of a copy.
 #[tactic(auto, unfolding(action_profile::specs::Modes::copies))]
 pub fn copies(parts: &StageParts, field: Field) -> usize
     ensures { result ≡ copies parts.now field }
@@ -32,7 +31,7 @@ fn writers(touches: &[Touch], field: Field) -> usize
     touches.iter().filter(|t| t.writes.has(field)).count()
 }
 
-/// Does no stage copy a field of a packet? Takes no memory.
+/// Does no stage copy a field of a packet? Allocates nothing.
 pub fn copies_nothing(graph: &Graph) -> bool
     ensures { result ≡ copies_nothing graph.now.stages }
 {

@@ -1,4 +1,4 @@
-//! A graph in the making.
+//! A graph while it is built.
 
 use crate::graph::{Branch, Stage};
 use item_list::Items;

@@ -1,4 +1,4 @@
-//! How a stage hands on the fields.
+//! How a stage passes on the fields.
 
 ghost use Rattle.std.specs.Prelude.{◌≡◌, ◌==◌, ◌<◌, ◌≤◌, ◌^◌, ◌↔◌, IsTrue, IfOk, length, count_by, position};
 ghost use Rattle.std.specs.List.{list_any};
@@ -12,8 +12,9 @@ use item_list::Items;
 use packet_fields::Field;
 use std::alloc::{AllocError, Global};
 
-/// The parts of a stage with these branches, whose positions are those of a chain with these profiles, in chain order: what each
-/// branch reads and writes, and whether each field is shared, moved or copied. The one error is want of memory.
+/// The parts of a stage with these branches: what each branch reads and writes, and whether each field is shared, moved
+/// or copied. The positions are those of a chain with these profiles, in chain order. The only error is that memory
+/// runs out.
 #[tactic(auto, unfolding(crate::specs::Parts::stage_parts))]
 pub fn parts(
     alloc: Global,

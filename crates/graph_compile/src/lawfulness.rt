@@ -1,4 +1,4 @@
-//! Whether a graph may stand for a chain.
+//! Whether a graph may replace a chain.
 
 ghost use Rattle.std.specs.Prelude.{◌≡◌, ◌==◌, ◌≤◌, ◌↔◌, suc, length, IsTrue, All, nat_le, nat_lt, count_by};
 ghost use Rattle.std.specs.List.{list_any, list_all};
@@ -16,16 +16,15 @@ use crate::touching::touch_of;
 use action_profile::{Mode, Profile, StageParts, Touch, all_fields};
 use packet_fields::Field;
 
-/// Whether a graph may stand for a chain, whose profiles come in chain order. Takes no memory.
+/// Whether a graph may replace a chain. `profiles` are those of the chain, in chain order. Allocates nothing.
 ///
-/// It may where each position from 1 to the number of functions stands once and no other number
-/// stands, positions rise within each branch, every position of a stage is below every position
-/// of the next, no function is forbidden by the dependency table before another in a
-/// different branch of its stage, and the parts of each stage are those that its branches need.
+/// It may if each position from 1 to the number of functions occurs once and no other number occurs, positions rise
+/// within each branch, every position of a stage is below every position of the next, the dependency table forbids no
+/// function before another in a different branch of its stage, and the parts of each stage are those that its branches
+/// need.
 pub fn lawful(graph: &Graph, profiles: &[Profile]) -> bool
     ensures facts { IsTrue result ↔ IsLawful graph.now profiles.now }
-    // Where no stage and no branch is empty, the same stage by stage, each from the position of its
-    // first function on.
+    // If no stage and no branch is empty, the same stage by stage, each from the position of its first function on.
     ensures staged { IsFull graph.now → IsTrue result ↔ IsStaged profiles.now 1 graph.now.stages (suc (length profiles.now)) }
 {
     are_lawful(graph.stages.as_slice(), profiles)
@@ -41,7 +40,7 @@ fn are_lawful(stages: &[Stage], profiles: &[Profile]) -> bool
         && are_sound(stages, profiles)
 }
 
-// Does each position from 1 up to this end stand once?
+// Does each position from 1 up to `end` occur once?
 fn stand_once(stages: &[Stage], end: usize) -> bool
     requires { 1 ≤ end }
     ensures { result ≡ stand_once end stages.now }
@@ -49,7 +48,7 @@ fn stand_once(stages: &[Stage], end: usize) -> bool
     (1..end).all(|position| stands_once(stages, position))
 }
 
-// Does the position stand in one stage, and in one of its branches?
+// Does the position occur in one stage, and in one of its branches?
 fn stands_once(stages: &[Stage], position: usize) -> bool
     ensures { result ≡ stands_once position stages.now }
 {
@@ -179,7 +178,7 @@ fn is_joined(profiles: &[Profile], branches: &[Branch], branch: &Branch) -> bool
         .all(|r| joins(profiles, branches, branch, *r as usize))
 }
 
-// Does the branch hold each function of its stage that is forbidden before this one?
+// Does the branch hold each function of its stage that is forbidden before the function at `position`?
 fn joins(profiles: &[Profile], branches: &[Branch], branch: &Branch, position: usize) -> bool
     ensures { result ≡ joins profiles.now branches.now branch.now position }
 {
@@ -188,7 +187,7 @@ fn joins(profiles: &[Profile], branches: &[Branch], branch: &Branch, position: u
     })
 }
 
-/// Does the function at this position, from 1, stand in one of the branches? Takes no memory.
+/// Is the function at this position, counted from 1, in one of the branches? Allocates nothing.
 pub fn stands(branches: &[Branch], position: usize) -> bool
     ensures { result ≡ list_any (holds position) branches.now }
 {
@@ -235,7 +234,7 @@ fn are_modes(modes: &[Mode; 10], touches: &[Touch]) -> bool
     true
 }
 
-// Is it the mode of the field? A branch may have a number that no mode holds.
+// Is it the mode of the field? A branch's number may be too great for a mode.
 #[tactic(auto, unfolding(action_profile::specs::Modes::mode_of))]
 fn is_mode(mode: Mode, touches: &[Touch], field: Field) -> bool
     ensures { IsTrue result ↔ (mode ≡ mode_of touches.now field) }

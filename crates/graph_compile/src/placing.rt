@@ -16,12 +16,11 @@ use dependency_table::{Answer, pair};
 use item_list::Items;
 use std::alloc::{AllocError, Global};
 
-/// The graph of a chain, whose profiles come in chain order.
+/// The graph of a chain. `profiles` are those of its functions, in chain order.
 ///
-/// The functions are taken in chain order. A function opens a new branch of the stage where no
-/// branch holds one that is forbidden before it by the dependency table; it comes to the end of the
-/// branch where exactly one does; and where more do, it closes the stage and opens the next. The one
-/// error is want of memory.
+/// The functions are taken in chain order. A function opens a new branch of the stage if no branch holds one that the
+/// dependency table forbids before it. It goes to the end of the branch if exactly one branch does. If more do, it
+/// closes the stage and opens the next. The only error is that memory runs out.
 pub fn compile(alloc: Global, profiles: &[Profile]) -> Result<Graph, AllocError>
     requires { length profiles.now ≤ 64 }
     ensures exact { IfOk result (λ graph. graph ≡ graph_of profiles.now) }
@@ -74,7 +73,7 @@ fn placed(
     Ok(Draft { stages, branches })
 }
 
-// How many branches hold a function that is forbidden before this one.
+// The number of branches that hold a function that is forbidden before this one.
 fn held_back_by(profiles: &[Profile], branches: &[Branch], position: u32) -> usize
     ensures { result ≡ count_by (holds_back profiles.now position) branches.now }
 {
@@ -152,7 +151,7 @@ fn stage_of(
     Ok(Stage { branches, parts })
 }
 
-// The open stage is closed, where it has a branch.
+// Closes the open stage, if it has a branch.
 pub(crate) fn finished(
     alloc: Global,
     profiles: &[Profile],

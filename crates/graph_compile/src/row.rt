@@ -12,8 +12,8 @@ use action_profile::Profile;
 use item_list::Items;
 use std::alloc::{AllocError, Global};
 
-/// The graph of a chain whose functions all stand in one branch, one after another, so that no field is copied. The one error is
-/// want of memory.
+/// The graph of a chain whose functions are all in one branch, one after another, so that no field is copied. The only
+/// error is that memory runs out.
 pub fn in_a_row(alloc: Global, profiles: &[Profile]) -> Result<Graph, AllocError>
     requires { length profiles.now ≤ 64 }
     ensures is { IfOk result (λ graph. graph ≡ graph_in_a_row profiles.now) }
@@ -35,7 +35,7 @@ fn graph_in_a_row(alloc: Global, profiles: &[Profile]) -> Result<Graph, AllocErr
     finished(alloc, profiles, row)
 }
 
-// The branch of so many functions, where there is one.
+// The branch of `count` functions, or no branch if there are none.
 fn row_of(alloc: Global, count: usize) -> Result<Items<Branch>, AllocError>
     requires { count ≤ 64 }
     ensures { IfOk result (λ branches. branches ≡ row_of count) }

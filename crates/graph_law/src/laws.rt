@@ -26,10 +26,9 @@ use chain_walk::{frames_walk_as_fields, quiet_functions_keep_to_profiles};
 use dependency_table::beside_is_independent;
 use graph_compile::{lawful_graph_is_staged, lawful_stage_has_owners, stages_rise};
 
-/// A packet that goes through the stages of a lawful graph, each with a branch and each branch with a
-/// function, ends as one that walks through the functions of the chain one after another, and the
-/// functions are left in the same states. No function that counts changes here: what it notes of a packet
-/// is settled behind the graph.
+/// A packet that goes through the stages of a lawful graph, each with a branch and each branch with a function, ends as
+/// one that walks through the functions of the chain one after another, and the functions are left in the same states.
+/// No function that counts changes here: what it notes of a packet is settled after the graph.
 pub fn graph_is_chain<F>()
     ensures { (b : Behaviour F) (fixed : Fixed) (graph : Graph) (functions : List F) (values : Values) →
         KeepsProfile b → IsQuiet b → IsLawful graph (map b.profile functions) → IsFull graph →
@@ -44,7 +43,7 @@ pub fn graph_is_chain<F>()
 /// Functions keep their profiles, and none is lost or new, whatever the positions, branches and stages
 /// that a packet goes through: the next packet finds functions for which the same graph is lawful.
 pub fn profiles_stay<F>()
-    // the functions of one branch, whatever comes to it
+    // the functions of one branch, whatever arrives
     ensures branch { (b : Behaviour F) (fixed : Fixed) (positions : List ℕ) (functions : List F) (arrival : BranchEnd) →
         KeepsProfile b → map b.profile (in_turn b fixed positions functions arrival).functions ≡ map b.profile functions }
     ensures branch_length { (b : Behaviour F) (fixed : Fixed) (positions : List ℕ) (functions : List F) (arrival : BranchEnd) →
@@ -61,7 +60,7 @@ pub fn profiles_stay<F>()
         length (flow b fixed stages values functions).functions ≡ length functions }
 {}
 
-/// A packet that comes out has the fields that it came in with, and no others: their values may be new.
+/// A packet that comes out has the fields with which it came in, and no others. Their values may be new.
 pub fn fields_stay<F>()
     // through the chain
     ensures chain { (b : Behaviour F) (fixed : Fixed) (position : ℕ) (functions : List F) (values after : Values) (f : Field) →
@@ -74,8 +73,7 @@ pub fn fields_stay<F>()
         KeepsProfile b → (flow b fixed stages values functions).end ≡ Out after → is_some (after f) ≡ is_some (values f) }
 {}
 
-/// A packet that is gone behind a stage was dropped there: the position that it is gone at stands in the
-/// stage.
+/// A packet that is gone after a stage was dropped there: the position at which it is gone is in the stage.
 pub fn stage_reached<F>()
     ensures stage { (b : Behaviour F) (fixed : Fixed) (stage : Stage) (functions : List F) (values : Values) (position : ℕ) →
         (staged b fixed stage values functions).end ≡ Gone position → IsTrue (stands position stage) }
@@ -83,9 +81,9 @@ pub fn stage_reached<F>()
         (flow b fixed stages values functions).end ≡ Gone position → IsTrue (list_any (stands position) stages) }
 {}
 
-/// Packets walk through functions that count as they walk without the counting, and what each of these
-/// functions noted of a packet may be settled behind all of them, packet after packet. It noted what it was
-/// shown where no function before it dropped the packet, and else nothing.
+/// Packets walk through functions that count as they walk without the counting, and what each of these functions noted
+/// of a packet may be settled after all of them, packet by packet. A function noted what it saw of the packet if no
+/// function before it dropped the packet, and nothing otherwise.
 pub fn notes_are_settled_behind<F, N>()
     ensures fates { (b : Behaviour F) (notes : Notes F N) (functions : List F) (packets : List Packet) → KeepsProfile b → CountsByNotes b notes →
         fates b functions packets ≡ fates (quiet b) functions packets }
@@ -95,10 +93,10 @@ pub fn notes_are_settled_behind<F, N>()
     ensures fields { (b : Behaviour F) (notes : Notes F N) (fixed : Fixed) (position : ℕ) (functions : List F) (values : Values) → CountsByNotes b notes →
         ◌≡◌ {A = Ended F} (walk_fields b fixed position functions values)
         (record { functions = settled_all notes (walk_fields (quiet b) fixed position functions values).functions (walk_notes (quiet b) notes fixed functions values); end = (walk_fields (quiet b) fixed position functions values).end }) }
-    // as many notes, some of them none, as functions
+    // one note, which may be `None`, for each function
     ensures count { (b : Behaviour F) (notes : Notes F N) (fixed : Fixed) (functions : List F) (values : Values) →
         length (walk_notes b notes fixed functions values) ≡ length functions }
-    // what the functions before it let out with these values, it notes by these values
+    // it notes a packet by the values with which the functions before it pass the packet on
     ensures reached { (b : Behaviour F) (notes : Notes F N) (fixed : Fixed) (position : ℕ) (first : List F) (f : F) (later : List F) (values after : Values) →
         (walk_fields b fixed position first values).end ≡ Out after →
         slice_get (walk_notes b notes fixed (first ++ f ∷ later) values) (length first) ≡ Some (noted b notes fixed f after) }
@@ -111,9 +109,9 @@ pub fn notes_are_settled_behind<F, N>()
     quiet_functions_keep_to_profiles::<F>();
 }
 
-/// What functions note of a packet on its way through a lawful graph, each by the version that its branch
-/// has, is what they note of it in the walk, but for the notes at positions before which the packet was
-/// dropped: these are left, and all others are settled.
+/// The notes of functions on a packet's way through a lawful graph, each by the version that its branch has, are their
+/// notes in the walk, except those at positions before which the packet was dropped: these are discarded, and all
+/// others are settled.
 pub fn branches_note_as_the_walk<F, N>()
     ensures { (b : Behaviour F) (notes : Notes F N) (fixed : Fixed) (graph : Graph) (functions : List F) (values : Values) →
         KeepsProfile b → IsQuiet b → IsLawful graph (map b.profile functions) → IsFull graph →

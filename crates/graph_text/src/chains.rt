@@ -28,7 +28,7 @@ fn place_of_chain(chains: &[ChainPolicy], name: &[u8]) -> Option<usize>
     chains.iter().position(|chain| chain.name.bytes() == name)
 }
 
-/// The functions of the chain at a place, counted from 0, as they are declared; none past the last chain.
+/// The functions of the chain at a place, counted from 0, as they are declared; the empty list past the last chain.
 pub fn functions_at(chains: &[ChainPolicy], place: u32) -> &[FunctionDecl]
     ensures { result.now ≡ functions_at chains.now place }
 {
@@ -100,7 +100,7 @@ fn index_of(order: &[u32], place: usize) -> Option<usize>
         .position(|function| *function as usize == place)
 }
 
-// The position in the chain, counted from 1, of the function of a name.
+// The position in the chain, counted from 1, of the function of this name.
 fn position_named(functions: &[FunctionDecl], order: &[u32], name: &[u8]) -> Option<u32>
     requires { length order.now ≤ 64 }
     ensures { result ≡ position_named functions.now order.now name.now }

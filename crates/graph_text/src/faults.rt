@@ -1,4 +1,4 @@
-//! What is wrong with the stages in which functions stand.
+//! The faults of the stages in which a text places functions.
 
 ghost use Rattle.std.specs.Prelude.{◌≡◌};
 ghost use Rattle.graph_compile.specs.Parts.{profile_at};
@@ -14,8 +14,8 @@ use dependency_table::{Action, Answer, pair};
 use graph_compile::Branch;
 use item_list::Items;
 
-/// Does every function of the chain stand, in the chain's order, and none beside one that is forbidden before it? Else the first
-/// fault.
+/// Is every function of the chain placed, in the chain's order, and none beside one that is forbidden before it?
+/// Otherwise returns the first fault.
 #[tactic(auto, unfolding(crate::specs::Faults::faultless))]
 pub(crate) fn faultless(
     chain: u32,
@@ -44,7 +44,7 @@ fn missing_fault(chain: u32, order: &[u32], stages: &[Items<Branch>]) -> Option<
     Some(GraphFault::Missing(chain, declared(order, position)))
 }
 
-// The least position below the end that doesn't stand.
+// The least position below `end` that isn't placed.
 fn missing(end: usize, stages: &[Items<Branch>]) -> Option<usize>
     ensures { result ≡ missing end stages.now }
 {
@@ -58,7 +58,7 @@ fn order_fault(chain: u32, order: &[u32], stages: &[Items<Branch>]) -> Option<Gr
     Some(GraphFault::OutOfOrder(chain, declared(order, first), declared(order, second)))
 }
 
-// The first two of which the later one of the chain comes before the earlier.
+// The first two functions of which the later one of the chain is placed before the earlier one.
 fn out_of_order(end: usize, stages: &[Items<Branch>]) -> Option<(usize, usize)>
     ensures { result ≡ out_of_order end stages.now }
 {
@@ -104,7 +104,7 @@ fn forbidden_as(
     Some(GraphFault::Forbidden(chain, declared(order, first), declared(order, second), a, b))
 }
 
-// The first two that stand side by side though the table forbids the earlier before the later.
+// The first two functions that are side by side though the table forbids the earlier one before the later one.
 fn forbidden(end: usize, profiles: &[Profile], stages: &[Items<Branch>]) -> Option<(usize, usize)>
     ensures { result ≡ forbidden end profiles.now stages.now }
 {

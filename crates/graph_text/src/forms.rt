@@ -56,7 +56,7 @@ fn are_names(words: &[WordSpan<'_>]) -> bool
     words.iter().all(|word| is_name(word.text()))
 }
 
-/// The words behind the first.
+/// The words after the first.
 pub(crate) fn names_of<'s, 'a>(words: &'s [WordSpan<'a>]) -> &'s [WordSpan<'a>]
     ensures { result.now ≡ names_of words.now }
 {

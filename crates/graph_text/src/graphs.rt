@@ -24,8 +24,8 @@ use policy_text::{ChainPolicy, FunctionDecl, Policy};
 use std::alloc::{AllocError, Global};
 use std::str::from_utf8;
 
-/// Reads a graph text of at most 1,048,576 bytes, for a policy with the order of each of its chains: the graph of each chain of the
-/// policy that the text lists, and none for each other, or the text's first fault.
+/// Reads a graph text of at most 1,048,576 bytes, for a policy with the order of each of its chains. Returns the graph
+/// of each chain of the policy that the text lists, and `None` for each other chain, or the text's first fault.
 pub fn read_graphs(
     alloc: Global,
     bytes: &[u8],
@@ -37,7 +37,7 @@ pub fn read_graphs(
     requires ordered { AllZip IsOrderOf policy.now.chains orders.now }
     ensures exact { Gives (λ graphs. graphs.items) result (graphs_of bytes.now policy.now.chains orders.now) }
     ensures each { IfOk result (λ graphs. length graphs.items ≡ length policy.now.chains) }
-    // What is known of a graph that is compiled.
+    // The clauses that a compiled graph has too.
     ensures lawful { IfOk result (λ graphs. EachGraph (λ chain graph. IsLawful graph chain) policy.now.chains orders.now graphs.items) }
     ensures staged { IfOk result (λ graphs. EachGraph (λ chain graph. IsStaged chain 1 graph.stages (suc (length chain))) policy.now.chains orders.now graphs.items) }
     ensures full { IfOk result (λ graphs. EachGraph (λ chain graph. IsFull graph) policy.now.chains orders.now graphs.items) }
@@ -102,7 +102,7 @@ fn graphs_with(
     Ok(graphs)
 }
 
-/// No graph for any of these chains. The one error is want of memory.
+/// `None` for each of these chains. The only error is that memory runs out.
 pub fn no_graphs(alloc: Global, chains: &[ChainPolicy]) -> Result<Vec<Option<Graph>>, AllocError>
     ensures { IfOk result (λ graphs. graphs.items ≡ map no_graph chains.now) }
 {

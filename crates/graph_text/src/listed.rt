@@ -13,7 +13,7 @@ use std::alloc::{AllocError, Global};
 pub(crate) struct Listed {
     /// The chain, counted from 0 as declared.
     pub(crate) chain: u32,
-    /// Has its latest stage no branch yet? It is none of the stages then.
+    /// Has its latest stage no branch yet? Then it is not yet in `stages`.
     pub(crate) opened: bool,
     /// The branches of its stages.
     pub(crate) stages: Items<Items<Branch>>,

@@ -36,7 +36,7 @@ pub(crate) fn listed_by(
     after_lines(alloc, chains, orders, lines)
 }
 
-// What these lines list, behind the version line.
+// What these lines after the version line list.
 fn after_lines(
     alloc: Global,
     chains: &[ChainPolicy],
@@ -54,7 +54,7 @@ fn after_lines(
     Ok(listed)
 }
 
-// One line more, behind which these come.
+// What the lines up to this one list. `later` are the lines after it.
 #[tactic(auto, unfolding(crate::specs::Listing::after_line))]
 fn after_line(
     alloc: Global,

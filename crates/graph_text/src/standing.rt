@@ -1,4 +1,4 @@
-//! Where functions stand in stages of branches.
+//! Where functions are in stages of branches.
 
 ghost use Rattle.std.specs.Prelude.{◌≡◌, ◌==◌};
 ghost use Rattle.std.specs.List.{list_any};
@@ -8,7 +8,7 @@ ghost use Rattle.graph_text.specs.Standing.{is_in, is_placed, repeats, stands_tw
 use graph_compile::Branch;
 use item_list::Items;
 
-/// Does a position stand in some stage?
+/// Is a position in some stage?
 pub(crate) fn is_placed(stages: &[Items<Branch>], position: usize) -> bool
     ensures { result ≡ is_placed position stages.now }
 {
@@ -33,7 +33,7 @@ fn has(positions: &[u32], position: usize) -> bool
     positions.iter().any(|q| *q as usize == position)
 }
 
-/// Does one of these positions stand already, or come twice?
+/// Is one of these positions placed already, or listed twice?
 pub(crate) fn stands_twice(stages: &[Items<Branch>], positions: &[u32]) -> bool
     ensures { result ≡ stands_twice stages.now positions.now }
 {
@@ -59,7 +59,7 @@ fn repeats(positions: &[u32]) -> bool
     false
 }
 
-/// Does a position stand in an earlier stage than another, or before it in one branch?
+/// Is a position in an earlier stage than another, or before it in one branch?
 pub(crate) fn comes_before(stages: &[Items<Branch>], first: usize, second: usize) -> bool
     ensures { result ≡ comes_before first second stages.now }
 {
@@ -106,7 +106,7 @@ fn leads_in(positions: &[u32], first: usize, second: usize) -> bool
     false
 }
 
-/// Do two positions stand in different branches of one stage?
+/// Are two positions in different branches of one stage?
 pub(crate) fn are_beside(stages: &[Items<Branch>], first: usize, second: usize) -> bool
     ensures { result ≡ are_beside first second stages.now }
 {

@@ -5,7 +5,7 @@ ghost use Rattle.internet_checksum.specs.Checksums.{checksum_of};
 
 use crate::words::word;
 
-/// The checksum of bytes in which their own is 0.
+/// The checksum of bytes in which the checksum field is 0.
 #[tactic(auto, unfolding(crate::specs::Checksums::checksum_of))]
 pub fn checksum(bytes: &[u8]) -> u16
     requires { length bytes.now < 2 ^ 32 }

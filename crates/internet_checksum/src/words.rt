@@ -3,7 +3,7 @@ ghost use Rattle.std.specs.Prelude.{◌≡◌, ◌≤◌, ◌+◌, length};
 ghost use Rattle.packet_fields.specs.Frames.{word as word_of};
 ghost use Rattle.packet_fields.specs.Checksums.{word_bytes as word_bytes_of};
 
-/// The word at a place.
+/// The word at place `at`, counted in bytes from 0.
 pub fn word(bytes: &[u8], at: usize) -> u16
     requires { at + 2 ≤ length bytes.now }
     ensures { result ≡ word_of bytes.now at }

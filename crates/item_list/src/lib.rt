@@ -1,8 +1,8 @@
 //! Lists that contracts see item by item.
 //!
-//! A clause that compares two values with a `Vec` in them compares its room and its place in memory
-//! as well. [`Items`] is a vector of which contracts see the items alone. It is made from a vector
-//! and gives it back, and neither takes memory.
+//! A clause that compares two values with a `Vec` in them also compares its capacity and its address. [`Items`] is a
+//! vector of which contracts see only the items. It is made from a vector and gives it back, and neither allocates
+//! memory.
 #![tactic(auto)]
 
 use std::alloc::AllocFailed;
@@ -39,7 +39,7 @@ impl<T> Items<T> {
         self.items.as_slice()
     }
 
-    /// The vector of the items.
+    /// Returns the vector, without a copy.
     pub fn into_vec(self) -> Vec<T>
         ensures { result.items ≡ self }
     {
@@ -47,7 +47,7 @@ impl<T> Items<T> {
         items
     }
 
-    /// Adds an item at the end, unless memory runs out.
+    /// Adds an item at the end. If memory runs out, the items stay as they were.
     pub fn push(&mut self, item: T) -> Result<(), AllocFailed<T>>
         ensures { self.new ≡ (if is_ok result then self.old ++ item ∷ [] else self.old) }
     {

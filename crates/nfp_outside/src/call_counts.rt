@@ -4,8 +4,8 @@ ghost use Rattle.nfp_outside.specs.Outside.{one_more, CountsFailure, IsRisen};
 
 use crate::slot::DeskFault;
 
-/// The calls on a slot so far, those that failed among them, and how many failed. Both stand still
-/// at the end of their type.
+/// The number of calls on a slot so far, counted apart for those that failed. Both counts stay at the maximum of their
+/// type once they reach it.
 #[derive(Clone, Copy, Debug)]
 pub struct CallCounts {
     pub calls: u64,
@@ -23,7 +23,7 @@ impl CallCounts {
         }
     }
 
-    // Counts a call, and fails it if it is to fail.
+    // Counts a call, and returns `Failed` if `fails` is set.
     pub fn count(&mut self, fails: bool) -> Result<(), DeskFault>
         ensures answer { result ≡ (if fails then Err DeskFault.Failed else Ok tt) }
         ensures calls { self.new.calls ≡ one_more self.old.calls }

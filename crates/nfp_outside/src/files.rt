@@ -19,30 +19,29 @@ use std::io;
 use std::io::{BufReader, BufWriter, Read, Write};
 use std::rt::Files;
 
-// How much of a file is read ahead; a read of as much or more goes straight to the file.
+// The size of the read buffer. A read of as much or more goes straight to the file.
 const READ_AHEAD: usize = 65536;
 
-// How much is gathered for a file; a piece of as much or more goes straight to the file.
+// The size of the write buffer. A piece of as much or more goes straight to the file.
 const GATHERED: usize = 65536;
 
-/// A desk over files, and for Note over standard output: the name of a slot is the path of its
-/// file. It tells no bytes.
+/// A desk over files, and for Note over standard output: the name of a slot is the path of its file. Its view shows no
+/// bytes.
 ///
-/// A file to read must be there; a file to write is made, or made empty. Out or Report whose name
-/// leads to a file that is attached already, or to a regular file to which standard output or
-/// standard error leads, isn't attached, and no file is emptied for it. Both are
-/// emptied once Report is attached; without it Out is, before it takes its first bytes. Files are
-/// told apart by device and number; where the system has none, and for devices of characters, none
-/// is the same as another.
+/// A file to read must exist; a file to write is created, or emptied. Out or Report isn't attached, and no file is
+/// emptied for it, if its name leads to a file that is attached already, or to a regular file to which standard output
+/// or standard error leads. Both are emptied once Report is attached; without Report, Out is emptied before it takes
+/// its first bytes. Files are told apart by device and inode number. If the system has no such numbers, and for
+/// character devices, no two files count as the same.
 ///
-/// Files are read ahead, and what is written to a file is gathered and handed on in pieces of 64
-/// KiB, in the order of the calls. Before Note takes anything, all that was gathered goes to its
-/// file; where that fails, the write of Note is refused, and [`FileDesk::hand_on`] tells which slot
-/// lost bytes. What is still gathered when the desk is dropped goes to its file then, where it can.
+/// Reads are buffered, and what is written to a file is gathered and passed on in pieces of 64 KiB, in the order of the
+/// calls. Before Note takes anything, all gathered bytes are written to their files; if that fails, the write of Note
+/// is refused, and [`FileDesk::hand_on`] returns the slot that lost bytes. Bytes that are still gathered when the desk
+/// is dropped are written then, if possible.
 ///
-/// Each failed open, read or write raises the count of its own slot, up to the end of `u64`, and no
-/// other. So a failed write of gathered bytes counts where it is found: at the call of their own
-/// slot that needed the room, or at that of Note.
+/// Each failed open, read or write raises the count of its own slot, up to the maximum of `u64`, and no other count. So
+/// a failed write of gathered bytes counts when it is found: at the call of its own slot that needed the room, or at
+/// that of Note.
 #[derive(Drop)]
 pub struct FileDesk<R: Files + Print + AllocGlobal + Drop> {
     rt: R,
@@ -73,7 +72,7 @@ impl<R: Files + Print + AllocGlobal + Drop> FileDesk<R> {
         }
     }
 
-    // A file to write that isn't attached yet. It holds what it held.
+    // A file to write that isn't attached yet. Its content stays.
     fn open_target(&self, name: &str) -> Result<BufWriter<Target<R::File>>, OpenFault> {
         let file = OpenOptions::new()
             .write(true)
@@ -89,7 +88,7 @@ impl<R: Files + Print + AllocGlobal + Drop> FileDesk<R> {
         BufWriter::with_capacity(self.rt.alloc(), GATHERED, target).map_err(|_| OpenFault::NoMemory)
     }
 
-    // What has the file that is told from others so: a slot, or a stream of the program's own.
+    // What already uses the file with this identity: a slot, or a stream of the program itself.
     fn holder(&self, identity: Identity) -> Option<Reason> {
         let held = [
             (
@@ -126,7 +125,8 @@ impl<R: Files + Print + AllocGlobal + Drop> FileDesk<R> {
         None
     }
 
-    /// Why the last call on a slot failed that did, or its gathered bytes were lost. Nothing where none did, and for Note.
+    /// Why the last failed call on a slot failed, or why its gathered bytes were lost. `None` if neither happened, and
+    /// for Note.
     pub fn reason(&self, slot: Slot) -> Option<Reason> {
         match slot {
             Slot::Policy => self.policy.reason,
@@ -138,8 +138,8 @@ impl<R: Files + Print + AllocGlobal + Drop> FileDesk<R> {
         }
     }
 
-    /// Hands on to the files what was gathered, and tells the first slot whose gathered bytes were
-    /// lost so. A slot that failed at one of its own calls, which told it, is not looked at again.
+    /// Writes the gathered bytes to their files, and returns the first slot whose gathered bytes were lost. A slot that
+    /// has failed at one of its own calls, which reported it, is left out.
     #[tactic(auto, unfolding(crate::specs::Slots::at_slot))]
     pub fn hand_on(&mut self) -> Option<Slot>
         ensures { let slots = ⟦<FileDesk<R> as Desk>⟧.slots in
@@ -162,8 +162,8 @@ impl<R: Files + Print + AllocGlobal + Drop> Desk for FileDesk<R> {
         (port_view d.out) (port_view d.report) (stream_view d.note_faults)
         (port_view d.graph) };
 
-    /// `Failed` where the file can't be opened, and at Out and Report also where it is one that is
-    /// attached already, or to which standard output or standard error leads. The count of the slot rises by one then, and in no other case.
+    /// `Failed` if the file can't be opened, and at Out and Report also if the file is attached already, or if standard
+    /// output or standard error leads to it. The count of the slot rises by one then, and in no other case.
     #[tactic(auto, unfolding(crate::specs::Slots::at_slot))]
     fn attach(&mut self, slot: Slot, name: &str) -> Result<(), DeskFault>
         requires not_note { slot ≢ Slot.Note }
@@ -198,7 +198,7 @@ impl<R: Files + Print + AllocGlobal + Drop> Desk for FileDesk<R> {
         }
     }
 
-    /// `Failed` where the file can't be read. The count of the slot rises by one then, and in no other
+    /// `Failed` if the file can't be read. The count of the slot rises by one then, and in no other
     /// case.
     #[tactic(auto, unfolding(crate::specs::Slots::at_slot))]
     fn read(&mut self, slot: Slot, into: &mut [u8]) -> Result<usize, DeskFault>
@@ -224,8 +224,8 @@ impl<R: Files + Print + AllocGlobal + Drop> Desk for FileDesk<R> {
         }
     }
 
-    /// `Failed` where the file can't be written, or takes nothing of a piece; at Note also where what
-    /// was gathered for a file can't. The count of the slot rises by one then, and in no other case.
+    /// `Failed` if the file can't be written, or takes nothing of a piece; at Note also if bytes that were gathered for
+    /// a file can't be written. The count of the slot rises by one then, and in no other case.
     #[tactic(auto, unfolding(crate::specs::Slots::at_slot))]
     fn write(&mut self, slot: Slot, bytes: &[u8]) -> Result<usize, DeskFault>
         requires write_slot { is_read slot ≡ false }
@@ -261,7 +261,7 @@ impl<R: Files + Print + AllocGlobal + Drop> Desk for FileDesk<R> {
     }
 }
 
-// A copy of a name, before any file is touched for it.
+// A copy of a name, made before any file is touched for it.
 fn copy_of(alloc: Global, name: &str) -> Result<String, DeskFault>
     ensures name { IfOk result (λ text. string_bytes text ≡ name.now) }
     ensures err { IfErr result (λ e. e ≡ DeskFault.NoMemory) }
@@ -291,7 +291,7 @@ fn target_identity<F: Write + OpenFile + Drop>(
     }
 }
 
-// A file to write whose bytes are gone, or which can't be emptied.
+// A file to write, emptied, or why it can't be emptied.
 fn emptied<F: Write + OpenFile + Drop>(
     mut writer: BufWriter<Target<F>>,
 ) -> Result<BufWriter<Target<F>>, OpenFault> {

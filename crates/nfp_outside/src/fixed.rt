@@ -6,8 +6,8 @@ use crate::held::{Sink, Source};
 use crate::slot::{DeskFault, Slot};
 use std::alloc::Global;
 
-/// A desk in memory that never fails: any name is found, and each count of faults is 0 for good. It
-/// tells all its bytes. A call that moves bytes moves as many as it can, up to a step.
+/// A desk in memory that never fails: any name is found, and each count of faults stays 0. Its view shows all its
+/// bytes. A call that moves bytes moves as many as it can, up to a step.
 #[derive(Drop)]
 pub struct FixedDesk {
     alloc: Global,
@@ -109,7 +109,7 @@ impl Desk for FixedDesk {
         }
     }
 
-    /// Always `Ok`, with as many bytes as the step, what is left and the room allow.
+    /// Always `Ok`. The number of bytes is the least of the step, what is left, and the buffer's length.
     #[tactic(auto, unfolding(crate::specs::Slots::at_slot))]
     fn read(&mut self, slot: Slot, into: &mut [u8]) -> Result<usize, DeskFault>
         requires read_slot { IsTrue (is_read slot) }
@@ -133,7 +133,7 @@ impl Desk for FixedDesk {
         }
     }
 
-    /// Never `Failed`. `Ok` puts as many bytes as the step and the piece allow.
+    /// Never `Failed`. The number of bytes is the lesser of the step and the piece's length.
     #[tactic(auto, unfolding(crate::specs::Slots::at_slot))]
     fn write(&mut self, slot: Slot, bytes: &[u8]) -> Result<usize, DeskFault>
         requires write_slot { is_read slot ≡ false }

@@ -1,15 +1,15 @@
-// What a step of a function passes before it looks at its packet.
+// A gate, which each step of a function passes before it looks at its packet.
 
 use std::sync::Wait;
 
-/// What each step of a function passes first. A test puts a gate of its own here, to hold a thread
-/// at a place that it picks; a program takes [`OpenGate`].
+/// A call before each step of a function. A test implements it to hold a thread at a place that it picks; a program
+/// takes [`OpenGate`].
 pub trait Gate {
-    /// Called before each step of a function, with the number of the chain, from 0, the position of
-    /// the function in its chain, from 1, and the number of the record in the capture, from 1.
+    /// Called before each step of a function, with the number of the chain, from 0, the position of the function in its
+    /// chain, from 1, and the number of the record in the capture, from 1.
     ///
-    /// It changes nothing that a contract could speak of, and it may wait, so it doesn't owe a
-    /// return: that is why it has no clause.
+    /// It changes nothing that a contract could describe. It may wait, so it need not return, and that is why it has no
+    /// clause.
     fn pass<R: Wait>(&self, rt: &R, chain: u32, position: u32, number: u32);
 }
 

@@ -1,4 +1,4 @@
-// A slot that is held in memory: one to read from, and one to write to. Neither ever fails.
+// Slots in memory: one to read from, and one to write to. Neither ever fails.
 ghost use Rattle.std.specs.Prelude.{◌≤◌, length};
 
 use crate::slot::DeskFault;
@@ -13,7 +13,7 @@ pub struct Source {
     ghost within: { taken ≤ length bytes.items },
 }
 
-/// The bytes that were put into a write slot.
+/// A write slot: its name, and the bytes that were put into it.
 #[derive(Drop)]
 pub struct Sink {
     pub name: Option<String>,
@@ -79,7 +79,7 @@ impl Sink {
         }
     }
 
-    // Keeps a copy of the name, and lets go of what was put before.
+    // Keeps a copy of the name, and drops the bytes that were put before.
     pub fn attach(&mut self, alloc: Global, name: &str) -> Result<(), DeskFault>
         ensures name { OnOk result ((sink_view self.new).name ≡ Some name.now) }
         ensures bytes { OnOk result ((sink_view self.new).bytes ≡ Some []) }

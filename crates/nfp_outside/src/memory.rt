@@ -1,4 +1,4 @@
-// A desk in memory that fails where it is told to.
+// A desk in memory that fails at listed calls.
 ghost use Rattle.std.specs.Prelude.{◌≡◌, ◌↔◌, IsTrue, Contains};
 
 use crate::call_counts::CallCounts;
@@ -7,9 +7,9 @@ use crate::fixed::FixedDesk;
 use crate::slot::{DeskFault, Slot};
 use std::alloc::Global;
 
-/// A desk in memory that fails exactly at the calls that it is given a list of: the calls on a slot
-/// are counted from 0, with attach among them, and call k on a slot is `Failed` exactly where (slot,
-/// k) is listed. In all else it is a [`FixedDesk`]. Its counts stand still at the end of `u64`.
+/// A desk in memory that fails exactly at the calls that it is given a list of: the calls on a slot are counted from 0,
+/// attach among them, and call k on a slot is `Failed` exactly if (slot, k) is listed. Apart from that it is a
+/// [`FixedDesk`]. Its counts stay at the maximum of `u64` once they reach it.
 #[derive(Drop)]
 pub struct MemDesk {
     held: FixedDesk,
@@ -84,8 +84,7 @@ impl MemDesk {
         self.held.put(slot)
     }
 
-    /// How many calls on a slot there were so far, those that failed and attach among them: the
-    /// number of the next one.
+    /// The number of calls on a slot so far, including attach and those that failed. It is the number of the next call.
     #[tactic(auto, unfolding(crate::specs::Slots::at_slot))]
     pub fn calls(&self, slot: Slot) -> u64
         ensures { result ≡ calls_of self.now slot }
@@ -100,14 +99,14 @@ impl MemDesk {
         }
     }
 
-    // Whether the next call on a slot is to fail.
+    // Whether the next call on a slot is listed.
     fn fails_next(&self, slot: Slot) -> bool
         ensures { IsTrue result ↔ Contains (listed self.now) (slot, calls_of self.now slot) }
     {
         is_listed(&self.fails, slot, self.calls(slot))
     }
 
-    // Counts a call on a slot, and fails it where its number is listed.
+    // Counts a call on a slot, and returns `Failed` if its number is listed.
     #[tactic(auto, unfolding(crate::specs::Slots::at_slot))]
     fn count(&mut self, slot: Slot) -> Result<(), DeskFault>
         ensures listed { IsErrOf result DeskFault.Failed ↔
@@ -141,7 +140,7 @@ impl Desk for MemDesk {
 
     ghost slots = { mem_slots };
 
-    /// `Failed` exactly where the number of the call is listed.
+    /// `Failed` exactly if the number of the call is listed.
     fn attach(&mut self, slot: Slot, name: &str) -> Result<(), DeskFault>
         requires not_note { slot ≢ Slot.Note }
         requires free { IsNone (mem_slots self.old slot).name }
@@ -156,8 +155,8 @@ impl Desk for MemDesk {
         self.held.attach(slot, name)
     }
 
-    /// `Failed` exactly where the number of the call is listed, and never `NoMemory`. `Ok` takes as
-    /// many bytes as the step, what is left and the room allow.
+    /// `Failed` exactly if the number of the call is listed, and never `NoMemory`. With `Ok`, the number of bytes is
+    /// the least of the step, what is left, and the buffer's length.
     fn read(&mut self, slot: Slot, into: &mut [u8]) -> Result<usize, DeskFault>
         requires read_slot { IsTrue (is_read slot) }
         requires attached { IsSome (mem_slots self.old slot).name }
@@ -175,8 +174,8 @@ impl Desk for MemDesk {
         self.held.read(slot, into)
     }
 
-    /// `Failed` exactly where the number of the call is listed. `Ok` puts as many bytes as the step and
-    /// the piece allow.
+    /// `Failed` exactly if the number of the call is listed. With `Ok`, the number of bytes is the lesser of the step
+    /// and the piece's length.
     fn write(&mut self, slot: Slot, bytes: &[u8]) -> Result<usize, DeskFault>
         requires write_slot { is_read slot ≡ false }
         requires attached { (slot ≡ Slot.Note) ⊎ IsSome (mem_slots self.old slot).name }
@@ -193,7 +192,7 @@ impl Desk for MemDesk {
     }
 }
 
-// Whether a call on a slot is one of those that are to fail.
+// Whether a call on a slot is in the list of those that fail.
 fn is_listed(fails: &[(Slot, u64)], slot: Slot, number: u64) -> bool
     ensures { IsTrue result ↔ Contains fails.now (slot, number) }
 {

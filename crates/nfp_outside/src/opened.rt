@@ -1,4 +1,4 @@
-// Files as a desk opens them: what tells one from another, and when one to write is emptied.
+// Files as a desk opens them: how two are told apart, and when one to write is emptied.
 
 use crate::reason::Reason;
 use std::fs::{Metadata, OpenFile};
@@ -10,21 +10,21 @@ use std::{fs, io};
 /// Why a file wasn't opened.
 #[derive(Clone, Copy, Debug)]
 pub enum OpenFault {
-    /// It can't be had, for this reason.
+    /// It can't be opened, for this reason.
     Failed(Reason),
-    /// There was no memory for its buffer.
+    /// Out of memory for its buffer.
     NoMemory,
 }
 
-/// What tells a file from every other: its device, and its number there.
+/// The identity of a file: its device, and its inode number there.
 #[derive(Clone, Copy, Debug, PartialEq, Eq)]
 pub struct Identity {
     device: u64,
     number: u64,
 }
 
-/// What an open file is told from others by, where the system says it. A terminal and other devices
-/// of characters have nothing that could be lost, and are told from none.
+/// The identity of an open file, if the system shows it. A terminal and other character devices hold nothing that could
+/// be lost, so they have no identity.
 pub fn identity_of(file: &impl OpenFile) -> Option<Identity> {
     match file.metadata() {
         Ok(told) if !told.file_type().is_char_device() => identity_in(&told),
@@ -32,14 +32,14 @@ pub fn identity_of(file: &impl OpenFile) -> Option<Identity> {
     }
 }
 
-/// Where the system shows to what file standard output leads.
+/// The path at which the system shows the file to which standard output leads.
 pub const STANDARD_OUTPUT: &str = "/proc/self/fd/1";
 
-/// Where the system shows to what file standard error leads.
+/// The path at which the system shows the file to which standard error leads.
 pub const STANDARD_ERROR: &str = "/proc/self/fd/2";
 
-/// What a regular file is told from others by to which a stream of the program's own leads. Nothing where it leads to no such
-/// file, or the system doesn't show it.
+/// The identity of the regular file to which a stream of the program itself leads. `None` if it leads to no such file,
+/// or the system doesn't show it.
 pub fn identity_of_stream<R: Files>(rt: &R, stream: &str) -> Option<Identity> {
     match fs::metadata(rt, stream) {
         Ok(told) if told.is_file() => identity_in(&told),
@@ -57,7 +57,7 @@ fn identity_in(told: &Metadata) -> Option<Identity> {
     }
 }
 
-/// A file to write, which holds what it held until it is emptied or takes its first bytes.
+/// A file to write, whose content stays until it is emptied or takes its first bytes.
 #[derive(Drop)]
 pub struct Target<F> {
     file: F,
@@ -76,8 +76,9 @@ impl<F: OpenFile + Drop> Target<F> {
         identity_of(&self.file)
     }
 
-    /// Empties the file, once. What is no file on a disk, as a pipe, holds nothing. A file that is empty already is left alone: some
-    /// file systems bring what is written to the disk before they close a file that was emptied.
+    /// Empties the file, once. Something that is no file on a disk, such as a pipe, holds nothing. A file that is
+    /// already empty is left alone: some file systems write everything to the disk before they close a file that was
+    /// emptied.
     pub fn empty(&mut self) -> io::Result<()> {
         if !self.is_emptied {
             let told = self.file.metadata()?;

@@ -1,4 +1,4 @@
-// A slot over a file: the name, the file once there is one, the count of its faults, and why the last of them came.
+// A slot over a file: the name, the file once there is one, the count of its faults, and the reason of the last fault.
 ghost use Rattle.std.specs.Prelude.{◌≡◌, ◌≤◌, IfOk, OnOk, OnErr, IsErrOf, None};
 ghost use Rattle.std.specs.String.{string_bytes};
 ghost use Rattle.nfp_outside.specs.Outside.{KeepsSlot, HasCause, IsRisen, CountsFailure, one_more, Attaches, Reads, Writes, fresh_slot};
@@ -31,7 +31,7 @@ impl<F: Drop> Port<F> {
         }
     }
 
-    // Counts a failure, and keeps why it came.
+    // Counts a failure, and keeps its reason.
     fn fail(&mut self, reason: Reason) -> DeskFault
         ensures keeps { KeepsSlot (port_view self.old) (port_view self.new) }
         ensures later { self.old.faults ≤ self.new.faults }
@@ -108,8 +108,8 @@ impl<F: Write + Drop> Port<F> {
         }
     }
 
-    // Hands on what was gathered in front of the file, unless a call of this slot has failed. Tells
-    // whether all of it went.
+    // Writes the bytes that were gathered for the file, unless a call of this slot has failed. Returns whether all of
+    // them were written.
     pub fn hand_on(&mut self) -> bool
         ensures { port_view self.new ≡ port_view self.old }
     {
@@ -127,7 +127,7 @@ impl<F: Write + Drop> Port<F> {
 }
 
 impl<F: Write + OpenFile + Drop> Port<BufWriter<Target<F>>> {
-    // Empties the file, where it can. Where it can't, its first bytes can't be written either.
+    // Empties the file, if it can. If it can't, its first bytes can't be written either.
     pub fn make_ready(&mut self)
         ensures { port_view self.new ≡ port_view self.old }
     {

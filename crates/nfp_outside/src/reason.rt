@@ -3,16 +3,17 @@
 use crate::slot::Slot;
 use std::io;
 
-/// Why a slot over a file failed, as the call that failed had it. It is for whoever tells an operator what to do.
+/// Why a slot over a file failed, as the failed call reported it. It is for messages that explain to an operator what
+/// to do.
 #[derive(Clone, Copy, Debug)]
 pub enum Reason {
     /// The system refused the call.
     System(io::Error),
     /// The file is attached at this slot already, perhaps by another name.
     AttachedAt(Slot),
-    /// Standard output leads to the file, so what is printed would stand in it.
+    /// Standard output leads to the file, so what is printed would get into it.
     StandardOutput,
-    /// Standard error leads to the file, so messages would stand in it.
+    /// Standard error leads to the file, so messages would get into it.
     StandardError,
     /// The file took nothing of a piece.
     TookNothing,

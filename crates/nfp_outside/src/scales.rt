@@ -7,12 +7,12 @@ use crate::slot::{DeskFault, Slot};
 use crate::weight::Weight;
 use std::alloc::Global;
 
-/// A desk that keeps of all that is put into it only how many bytes it is and what they weigh: its
-/// memory doesn't grow. It tells these and no bytes.
+/// A desk that keeps of the bytes that are put into it only their number and their weight, so its memory doesn't grow.
+/// Its view shows these and no bytes.
 ///
-/// Capture, Out, Report and Graph are attached from the start, under the empty name. Nothing is left in a
-/// read slot. It never fails, so each count of faults is 0 for good; a piece that would carry the
-/// count of bytes past the end of `u64` is refused with `NoMemory`.
+/// Capture, Out, Report and Graph are attached from the start, under the empty name. Nothing is left in a read slot. It
+/// never fails, so each count of faults stays 0; a piece with which the count of bytes would exceed the maximum of
+/// `u64` is refused with `NoMemory`.
 #[derive(Drop)]
 pub struct Scales {
     alloc: Global,
@@ -47,7 +47,7 @@ impl Scales {
         }
     }
 
-    /// What was put into a write slot weighs so much.
+    /// The weight of what was put into a write slot.
     #[tactic(auto, unfolding(crate::specs::Slots::at_slot))]
     pub fn weight(&self, slot: Slot) -> Weight
         requires { is_read slot ≡ false }
@@ -110,8 +110,8 @@ impl Desk for Scales {
         Ok(0)
     }
 
-    /// Takes the whole piece. `NoMemory` exactly where the count of bytes would pass the end of `u64`,
-    /// and never `Failed`.
+    /// Takes the whole piece. `NoMemory` exactly if the count of bytes would exceed the maximum of `u64`, and never
+    /// `Failed`.
     #[tactic(auto, unfolding(crate::specs::Slots::at_slot))]
     fn write(&mut self, slot: Slot, bytes: &[u8]) -> Result<usize, DeskFault>
         requires write_slot { is_read slot ≡ false }
@@ -136,7 +136,7 @@ impl Desk for Scales {
     }
 }
 
-// Puts a piece behind what was weighed.
+// Adds the weight of a piece after what was weighed.
 fn put(weight: &mut Weight, bytes: &[u8]) -> Result<usize, DeskFault>
     ensures ok { IfOk result (λ k.
         (k ≡ length bytes.now) × (weight.new ≡ heavier bytes.now weight.old)) }

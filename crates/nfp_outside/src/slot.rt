@@ -25,7 +25,7 @@ pub enum DeskFault {
     /// The slot failed, and its count of faults rose.
     #[error("the slot failed")]
     Failed,
-    /// There was no memory for the call.
+    /// Out of memory in the call.
     #[error("out of memory")]
     NoMemory,
 }
@@ -39,10 +39,10 @@ pub enum OutsideFault {
     /// A write to this slot failed.
     #[error("{0:?} can't be written")]
     WriteFault(Slot),
-    /// The slot had more bytes than were wanted.
+    /// The slot had more bytes than the caller allowed.
     #[error("too long")]
     TooLong,
-    /// There was no memory, here or at the desk.
+    /// Out of memory, here or at the desk.
     #[error("out of memory")]
     OutOfMemory,
 }

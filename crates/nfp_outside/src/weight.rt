@@ -2,8 +2,8 @@
 ghost use Rattle.std.specs.Prelude.{◌≡◌, ◌≤◌, ◌<◌, ◌+◌, ◌-◌, ◌^◌, ◌++◌, ℕ, List, MatchOption, length};
 ghost use Rattle.nfp_outside.specs.Weights.{weight_of, no_weight, with_byte, heavier};
 
-/// How many bytes a list has, and what it weighs: the sum over its bytes of place, counted from 1,
-/// times byte, modulo 2^64. It tells lists apart that differ in a byte, without holding them.
+/// The length of a list of bytes, and its weight: the sum over its bytes of place, counted from 1, times byte, modulo
+/// 2^64. It tells apart lists that differ in one byte, without holding them.
 #[derive(Clone, Copy, Debug, PartialEq, Eq)]
 pub struct Weight {
     pub bytes: u64,
@@ -11,15 +11,15 @@ pub struct Weight {
 }
 
 impl Weight {
-    /// What no bytes weigh.
+    /// The weight of the empty list.
     pub fn none() -> Self
         ensures { result ≡ no_weight }
     {
         Weight { bytes: 0, sum: 0 }
     }
 
-    /// The weight once these bytes are put behind those that were weighed; `None` exactly where their
-    /// count would pass the end of `u64`.
+    /// The weight with these bytes after those that were weighed; `None` exactly if their count would exceed the
+    /// maximum of `u64`.
     pub fn with(self, more: &[u8]) -> Option<Weight>
         ensures { MatchOption result (2 ^ 64 ≤ self.bytes + length more.now)
             (λ w. w ≡ heavier more.now self) }
@@ -32,7 +32,7 @@ impl Weight {
         Some(weight)
     }
 
-    // One more byte, whose place is behind those before.
+    // The weight with one more byte at the end.
     fn with_byte(self, byte: u8) -> Weight
         requires { self.bytes < 2 ^ 64 - 1 }
         ensures { result ≡ with_byte self byte }
@@ -45,8 +45,7 @@ impl Weight {
     }
 }
 
-/// A law: bytes that are put behind others weigh what both weigh at once, and from nothing they weigh
-/// what their list weighs.
+/// A law: a list that is weighed piece by piece has the weight of the whole list.
 #[tactic(auto, using(crate::specs::Adding::heavier_more, crate::proofs::Weighing::heavier_none))]
 pub fn weights_add_up()
     ensures joined { (a b : List ℕ) (w : Weight) → heavier b (heavier a w) ≡ heavier (a ++ b) w }

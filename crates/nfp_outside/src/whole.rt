@@ -1,4 +1,4 @@
-// A whole slot read, and a whole text written.
+// Reads a whole slot, and writes a whole text.
 ghost use Rattle.std.specs.Prelude.{◌≡◌, ◌≢◌, ◌+◌, ◌≤◌, ◌<◌, ◌++◌, ℕ, [], length, drop, take, Some, IfOk, OnOk, OnErr, IsOk, IfSome, IsSome, IsTrue, false, ◌⊎◌, IsErrOf, vec_len};
 ghost use Rattle.nfp_outside.specs.declared.slot.Slot.{Slot};
 ghost use Rattle.nfp_outside.specs.Outside.{is_read, ReadsAll, ReadsTooMuch, TakesFront, Appends, AppendsPrefix, ReadCause, WriteCause};
@@ -7,14 +7,14 @@ use crate::desk::Desk;
 use crate::slot::{DeskFault, OutsideFault, Slot};
 use std::alloc::Global;
 
-// How much is read in one piece.
+// The most bytes that one call reads.
 const CHUNK: usize = 4096;
 
 /// All the bytes that are left in a read slot, unless there are more than `max`.
 ///
-/// `TooLong` exactly where more than `max` bytes come, of which `max` + 1 were taken then;
-/// `ReadFault` of this slot only where its count of faults rose; `OutOfMemory` where there is no
-/// memory for the bytes or at the desk. After each of these some of the bytes may have been taken.
+/// `TooLong` exactly if more than `max` bytes come, and then `max` + 1 bytes were taken; `ReadFault` of this slot only
+/// if its count of faults rose; `OutOfMemory` if there is no memory for the bytes or at the desk. After each of these
+/// some of the bytes may have been taken.
 pub fn read_all<D: Desk>(
     alloc: Global,
     desk: &mut D,
@@ -52,12 +52,11 @@ pub fn read_all<D: Desk>(
     Err(OutsideFault::TooLong)
 }
 
-/// Puts all the bytes into a write slot, by one write after another, each of all that remain. Where
-/// there are none it makes no call.
+/// Puts all the bytes into a write slot, by one write after another, each of all that remain. If there are none it
+/// makes no call.
 ///
-/// `WriteFault` of this slot only where its count of faults rose; `OutOfMemory` only where the desk
-/// answered that it had no memory, since nothing is allocated here. After either the slot has a
-/// front part of the bytes.
+/// `WriteFault` of this slot only if its count of faults rose; `OutOfMemory` only if the desk returned `NoMemory`,
+/// since nothing is allocated here. After either error the slot holds a front part of the bytes.
 pub fn write_whole<D: Desk>(desk: &mut D, slot: Slot, bytes: &[u8]) -> Result<(), OutsideFault>
     requires write_slot { is_read slot ≡ false }
     requires attached { (slot ≡ Slot.Note) ⊎ IsSome (D.slots desk.old slot).name }

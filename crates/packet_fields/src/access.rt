@@ -8,7 +8,7 @@ ghost use Rattle.packet_fields.specs.declared.field.Field.{Field};
 use crate::field::Field;
 use crate::plan::{Layout, Span};
 
-/// The bytes of a field, where it is present, by the frame's own layout.
+/// The bytes of a field, if it is present; `plan` is the frame's own layout.
 pub fn get<'a>(field: Field, frame: &'a [u8], plan: &Layout) -> Option<&'a [u8]>
     requires { plan.now ≡ layout_of frame.now }
     ensures value { option_copied result ≡ value_of field frame.now }
@@ -18,16 +18,16 @@ pub fn get<'a>(field: Field, frame: &'a [u8], plan: &Layout) -> Option<&'a [u8]>
     Some(part(frame, span))
 }
 
-/// Writes a field that is present, other than the tags, by the frame's own layout. The value has as
-/// many bytes as the old one.
+/// Writes a field that is present, other than the tags; `plan` is the frame's own layout. The value has as many bytes
+/// as the old one.
 pub fn put(field: Field, value: &[u8], frame: &mut [u8], plan: &Layout)
     requires own { plan.now ≡ layout_of frame.old }
     requires not_tag { field ≢ Field.Tag }
     requires fits { Fits field value.now frame.old }
     ensures whole { frame.new ≡ put_in field value.now frame.old }
 
-    // The field has the value, every other field its old one, and each of them its old place; what is
-    // no field stays.
+    // The field has the value, every other field has its old one, each field keeps its place, and bytes that belong to
+    // no field stay.
     ensures written { value_of field frame.new ≡ Some value.now }
     ensures others { (g : Field) → field ≢ g → value_of g frame.new ≡ value_of g frame.old }
     ensures layout { layout_of frame.new ≡ layout_of frame.old }

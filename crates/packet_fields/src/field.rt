@@ -9,9 +9,9 @@ pub enum Field {
     LinkDst,
     /// The source's link address, 6 bytes (IEEE 802.3, 3.2.3).
     LinkSrc,
-    /// The list of tags, 4 bytes each, maybe empty (IEEE 802.1Q, 9.3).
+    /// The list of tags, 4 bytes each, possibly empty (IEEE 802.1Q, 9.3).
     Tag,
-    /// The type of service of IPv4, 1 byte (RFC 791, 3.1). IPv6's traffic class is no field.
+    /// The type of service of IPv4, 1 byte (RFC 791, 3.1). IPv6's traffic class isn't a field.
     Tos,
     /// The time to live, 1 byte (RFC 791, 3.1), which IPv6 names hop limit (RFC 8200, 3).
     Ttl,
@@ -23,7 +23,7 @@ pub enum Field {
     SrcPort,
     /// The destination port, 2 bytes (RFC 793, 3.1; RFC 768).
     DstPort,
-    /// The data behind the transport header, maybe empty (RFC 793, 3.1; RFC 768).
+    /// The data after the transport header, possibly empty (RFC 793, 3.1; RFC 768).
     Payload,
 }
 

@@ -32,7 +32,7 @@ impl Frame {
         &self.captured
     }
 
-    /// Gives the bytes back.
+    /// Returns the bytes, without a copy.
     pub fn into_bytes(self) -> Vec<u8>
         ensures { result.items ≡ self }
     {

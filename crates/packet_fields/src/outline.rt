@@ -11,11 +11,11 @@ use crate::transport::{
 
 /// What of its headers a frame has, from which the place of each field follows.
 ///
-/// It costs less to make and to keep than a [`Layout`](crate::Layout), and a little at each field that is
+/// It costs less to make and to keep than a [`Layout`](crate::Layout), and a little more for each field that is
 /// asked for.
 #[derive(Clone, Copy, Debug, PartialEq, Eq)]
 pub struct Outline {
-    /// Where the packet begins: at its EtherType, or at the frame's end where there is none.
+    /// Where the packet begins: at its EtherType, or at the frame's end if there is none.
     pub start: usize,
     /// Which IP header begins there, if one does (RFC 791, 3.1; RFC 8200, 3).
     pub version: Option<IpVersion>,
@@ -79,7 +79,7 @@ impl Outline {
         }
     }
 
-    /// The bytes of a field, where it is present, by the frame's own outline.
+    /// The bytes of a field, if it is present. The outline is the frame's own.
     #[inline(always)]
     pub fn get<'a>(&self, field: Field, frame: &'a [u8]) -> Option<&'a [u8]>
         requires { self.now ≡ outline_of frame.now }
@@ -90,16 +90,16 @@ impl Outline {
         Some(part(frame, span))
     }
 
-    /// Writes a field that is present, other than the tags, by the frame's own outline. The value has as
-    /// many bytes as the old one.
+    /// Writes a field that is present, other than the tags. The outline is the frame's own, and the value has as many
+    /// bytes as the old one.
     pub fn put(&self, field: Field, value: &[u8], frame: &mut [u8])
         requires own { self.now ≡ outline_of frame.old }
         requires not_tag { field ≢ Field.Tag }
         requires fits { Fits field value.now frame.old }
         ensures whole { frame.new ≡ put_in field value.now frame.old }
 
-        // The field has the value, every other field its old one, and the frame its old outline; what is no
-        // field stays.
+        // The field has the value, every other field has its old one, the frame keeps its outline, and bytes that
+        // belong to no field stay.
         ensures written { value_of field frame.new ≡ Some value.now }
         ensures others { (g : Field) → field ≢ g → value_of g frame.new ≡ value_of g frame.old }
         ensures outline { outline_of frame.new ≡ outline_of frame.old }
@@ -124,15 +124,15 @@ impl Outline {
         ensures { result ≡ protocol (packet_of frame.now) }
     {
         let packet = packet_in(self, frame);
-        // By a version that is known where it is compiled, and so are the header's places.
+        // Each branch passes the version as a constant, so the header's places are constants too.
         match self.version? {
             IpVersion::V4 => protocol(packet, IpVersion::V4),
             IpVersion::V6 => protocol(packet, IpVersion::V6),
         }
     }
 
-    /// The length of the IP header and of what stands behind it, in bytes (RFC 791, 3.1; RFC 8200, 3), where it is
-    /// at most 65,535.
+    /// The length of the IP header and of what follows it, in bytes (RFC 791, 3.1; RFC 8200, 3), if it is at most
+    /// 65,535.
     pub fn total_len(&self, frame: &[u8]) -> Option<u16>
         requires { self.now ≡ outline_of frame.now }
         ensures { result ≡ total_len (packet_of frame.now) }
@@ -168,7 +168,7 @@ ghost use Rattle.packet_fields.specs.Fields.{in_frame, packet_span};
 ghost use Rattle.packet_fields.specs.declared.field.Field.{Field};
 ghost use Rattle.packet_fields.specs.Outlines.{version_of, outline_of, segment_in as segment_in_of};
 
-/// The segment in a packet, of which it is known which IP header begins.
+/// The segment in a packet whose IP header has this version.
 fn segment_in(packet: &[u8], version: Option<IpVersion>) -> Option<Segment>
     requires { version ≡ version_of packet.now }
     ensures { result ≡ segment_in_of packet.now }
@@ -180,7 +180,7 @@ fn segment_in(packet: &[u8], version: Option<IpVersion>) -> Option<Segment>
     }
 }
 
-/// The segment behind an IP header of this version.
+/// The segment after an IP header of this version.
 #[inline(always)]
 fn segment_behind(packet: &[u8], version: IpVersion) -> Option<Segment>
     requires { version_of packet.now ≡ Some version }
@@ -198,7 +198,7 @@ fn segment_behind(packet: &[u8], version: IpVersion) -> Option<Segment>
     Some(Segment { at, end, payload })
 }
 
-/// The packet of a frame, by the frame's own outline.
+/// The packet of a frame. The outline is the frame's own.
 #[inline(always)]
 fn packet_in<'a>(outline: &Outline, frame: &'a [u8]) -> &'a [u8]
     requires { outline.now ≡ outline_of frame.now }
@@ -208,7 +208,7 @@ fn packet_in<'a>(outline: &Outline, frame: &'a [u8]) -> &'a [u8]
     packet_from(frame, outline.start)
 }
 
-/// Some bytes of the IP header.
+/// The span of `len` bytes at place `at` of the IP header, if they are captured.
 #[inline(always)]
 fn header_place(outline: &Outline, frame: &[u8], at: usize, len: usize) -> Option<Span>
     requires own { outline.now ≡ outline_of frame.now }
@@ -273,7 +273,7 @@ fn port_place(outline: &Outline, frame: &[u8], at: usize) -> Option<Span>
     moved(within(true, segment.end, segment.at + at, 2), outline.start)
 }
 
-/// The data behind the transport header.
+/// The data after the transport header.
 #[inline(always)]
 fn payload_place(outline: &Outline, frame: &[u8]) -> Option<Span>
     requires own { outline.now ≡ outline_of frame.now }

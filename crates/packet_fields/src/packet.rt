@@ -1,7 +1,7 @@
 //! The IP header of a packet, which begins with its EtherType.
 //!
-//! `layout`, `Outline::of` and `seal` ask once for the version, and tell it as a constant to the functions that take it, which are
-//! inlined: so each version has code of its own, with its places in it.
+//! `layout`, `Outline::of` and `seal` determine the version once, and pass it as a constant to functions that are
+//! inlined. So each version has code of its own, with its places as constants.
 ghost use Rattle.std.specs.Prelude.{◌≡◌, ◌≤◌, ◌+◌, ◌^◌, ◌<◌, List, ℕ, length, IfSome, Some};
 ghost use Rattle.packet_fields.specs.Frames.{word as word_of};
 ghost use Rattle.packet_fields.specs.Packets.{span_within, byte_within, place_within, is_ipv4 as is_ipv4_of, is_ipv6 as is_ipv6_of, protocol as protocol_of, total_len as total_len_of, header_len as header_len_of, header_sum_at as header_sum_at_of};
@@ -17,7 +17,7 @@ const IPV4: u16 = 0x0800;
 
 const IPV6: u16 = 0x86dd;
 
-/// Where the IP header begins: behind the EtherType.
+/// Where the IP header begins: after the EtherType.
 pub const HEADER: usize = 2;
 
 // The places of fields that IPv4's header alone has, which RFC 791, 3.1, counts from the header's first byte.
@@ -44,13 +44,13 @@ pub enum IpVersion {
 pub struct HeaderFormat {
     /// The datagram's length.
     pub total_len: usize,
-    /// How many bytes that length leaves out: IPv6's leaves out the header.
+    /// The number of bytes that this length leaves out: IPv6's leaves out the header.
     pub uncounted: u16,
     /// The time to live, which IPv6 names hop limit.
     pub ttl: usize,
     /// The protocol, which IPv6 names next header.
     pub protocol: usize,
-    /// The source's address, behind which the destination's stands.
+    /// The source's address, which the destination's address follows.
     pub src_ip: usize,
     /// The destination's address.
     pub dst_ip: usize,
@@ -103,7 +103,7 @@ pub struct HeaderPlan {
 }
 
 impl HeaderPlan {
-    /// No field.
+    /// The plan without any field.
     const fn none() -> Self
         ensures { result ≡ record { tos = None; ttl = None; src_ip = None; dst_ip = None; proto = None; total_len = None; sum_at = None } }
     {
@@ -127,7 +127,7 @@ pub fn word(bytes: &[u8], at: usize) -> u16
     BigEndian::read_u16(&bytes[at..])
 }
 
-/// Some bytes that lie below a limit.
+/// The span of `len` bytes at `at`, if `there` is set and they end at or below `limit`.
 pub fn within(there: bool, limit: usize, at: usize, len: usize) -> Option<Span>
     requires { at + len < 2 ^ 64 }
     ensures span { result ≡ span_within there limit at len }
@@ -140,7 +140,7 @@ pub fn within(there: bool, limit: usize, at: usize, len: usize) -> Option<Span>
     }
 }
 
-/// A place of some bytes that lie below a limit.
+/// The place `at` of `len` bytes, if `there` is set and they end at or below `limit`.
 pub fn place(there: bool, limit: usize, at: usize, len: usize) -> Option<usize>
     requires { at + len < 2 ^ 64 }
     ensures place { result ≡ place_within there limit at len }
@@ -153,7 +153,7 @@ pub fn place(there: bool, limit: usize, at: usize, len: usize) -> Option<usize>
     }
 }
 
-/// The byte at a place that lies below a limit.
+/// The byte at `at`, if `there` is set and the place lies below `limit`.
 pub fn byte(there: bool, limit: usize, bytes: &[u8], at: usize) -> Option<u8>
     requires { limit ≤ length bytes.now }
     ensures { result ≡ byte_within there limit bytes.now at }
@@ -165,7 +165,7 @@ pub fn byte(there: bool, limit: usize, bytes: &[u8], at: usize) -> Option<u8>
     }
 }
 
-/// Which IP header begins behind the EtherType?
+/// Which IP header begins after the EtherType?
 pub fn ip_version(packet: &[u8]) -> Option<IpVersion>
     ensures { result ≡ version_of packet.now }
 {
@@ -178,7 +178,7 @@ pub fn ip_version(packet: &[u8]) -> Option<IpVersion>
     }
 }
 
-/// Does an IP header of this version begin behind the EtherType?
+/// Does an IP header of this version begin after the EtherType?
 #[inline(always)]
 pub fn is_version(packet: &[u8], version: IpVersion) -> bool
     ensures { result ≡ is_version_of version packet.now }
@@ -189,7 +189,7 @@ pub fn is_version(packet: &[u8], version: IpVersion) -> bool
     }
 }
 
-/// Does an IPv4 header begin behind the EtherType?
+/// Does an IPv4 header begin after the EtherType?
 #[tactic(auto, unfolding(crate::specs::Packets::is_ipv4))]
 fn is_ipv4(packet: &[u8]) -> bool
     ensures { result ≡ is_ipv4_of packet.now }
@@ -200,7 +200,7 @@ fn is_ipv4(packet: &[u8]) -> bool
         && packet[HEADER] % 16 >= 5
 }
 
-/// Does an IPv6 header begin behind the EtherType?
+/// Does an IPv6 header begin after the EtherType?
 #[tactic(auto, unfolding(crate::specs::Packets::is_ipv6))]
 fn is_ipv6(packet: &[u8]) -> bool
     ensures { result ≡ is_ipv6_of packet.now }
@@ -208,7 +208,7 @@ fn is_ipv6(packet: &[u8]) -> bool
     packet.len() > HEADER && word(packet, 0) == IPV6 && packet[HEADER] / 16 == 6
 }
 
-/// The protocol of the data behind the header, where it is captured.
+/// The protocol of the data after the header, if it is captured.
 #[inline(always)]
 pub fn protocol(packet: &[u8], version: IpVersion) -> Option<u8>
     requires { version_of packet.now ≡ Some version }
@@ -217,7 +217,7 @@ pub fn protocol(packet: &[u8], version: IpVersion) -> Option<u8>
     byte(true, packet.len(), packet, version.format().protocol)
 }
 
-/// The datagram's length, where it is captured and can be stated in 16 bits.
+/// The datagram's length, if it is captured and fits in 16 bits.
 #[inline(always)]
 pub fn total_len(packet: &[u8], version: IpVersion) -> Option<u16>
     requires { version_of packet.now ≡ Some version }
@@ -270,7 +270,7 @@ pub fn tos_span(packet: &[u8], version: IpVersion) -> Option<Span>
     }
 }
 
-/// Where the header checksum stands, which IPv4's header alone has.
+/// Where the header checksum is, which IPv4's header alone has.
 #[inline(always)]
 pub fn header_sum_at(packet: &[u8], version: IpVersion) -> Option<usize>
     requires { version_of packet.now ≡ Some version }

@@ -26,7 +26,7 @@ pub fn layout(frame: &[u8]) -> Layout
     }
 }
 
-/// The layout of a frame, of whose packet the version is known.
+/// The layout of a frame whose packet begins at `start` and has this version of IP.
 #[inline(always)]
 fn layout_by(frame: &[u8], start: usize, version: Option<IpVersion>) -> Layout
     requires begins { start ≡ packet_at frame.now }
@@ -67,7 +67,7 @@ fn is_tag(kind: u16) -> bool
     kind == CUSTOMER_TAG || kind == SERVICE_TAG
 }
 
-/// Where the packet begins: at its EtherType, or at the frame's end where there is none.
+/// Where the packet begins: at its EtherType, or at the frame's end if there is none.
 pub fn packet_place(frame: &[u8]) -> usize
     ensures place { result ≡ packet_at frame.now }
     ensures inside { result ≤ length frame.now }
@@ -129,7 +129,7 @@ pub fn tag_place(frame: &[u8], start: usize) -> Option<Span>
     }
 }
 
-/// The span that lies `by` bytes further behind.
+/// The span that lies `by` bytes later.
 #[inline(always)]
 pub fn moved(span: Option<Span>, by: usize) -> Option<Span>
     requires { IfSome span (λ s. s.at + s.len + by ≤ usize.MAX) }
@@ -139,7 +139,7 @@ pub fn moved(span: Option<Span>, by: usize) -> Option<Span>
     Some(Span { at: at + by, len })
 }
 
-/// The place that lies `by` bytes further behind.
+/// The place that lies `by` bytes later.
 fn moved_place(place: Option<usize>, by: usize) -> Option<usize>
     requires { IfSome place (λ at. at + 2 + by ≤ usize.MAX) }
     ensures { result ≡ option_map (λ at. at + by) place }

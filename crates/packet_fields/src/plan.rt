@@ -5,7 +5,7 @@
 pub struct Span {
     /// The place of the first byte.
     pub at: usize,
-    /// How many bytes there are.
+    /// The number of bytes.
     pub len: usize,
 }
 
@@ -20,8 +20,8 @@ pub struct Layout {
     pub ether_type: Option<u16>,
     /// The IP header's protocol (RFC 791, 3.1), which IPv6 names next header (RFC 8200, 3).
     pub proto: Option<u8>,
-    /// The length of the IP header and of what stands behind it, in bytes (RFC 791, 3.1; RFC 8200, 3), where it is
-    /// at most 65,535.
+    /// The length of the IP header and of what follows it, in bytes (RFC 791, 3.1; RFC 8200, 3), if it is at most
+    /// 65,535.
     pub ip_len: Option<u16>,
     /// The TCP header's byte of control bits (RFC 793, 3.1).
     pub tcp_flags: Option<u8>,

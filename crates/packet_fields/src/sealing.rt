@@ -20,10 +20,10 @@ use crate::sums::Change;
 use crate::transport::{SegmentPlan, has_data_of, has_segment, is_udp, segment_at, segment_plan};
 use byteorder::{BigEndian, ByteOrder};
 
-/// Adjusts the checksums of a frame once, from what it was to what it is (RFC 1624, 3, equation 3). A
-/// wrong checksum stays wrong by the same difference; a UDP checksum of 0, which says that there is none,
-/// stays 0, and one that comes out as 0 is written as 0xffff. Where the packets of the frames differ in
-/// more than the bytes of their fields, as in length or in the places of fields, `after` stays.
+/// Adjusts the checksums of a frame once, by the difference between `before` and `after` (RFC 1624, 3, equation 3). A
+/// wrong checksum stays wrong by the same difference. A UDP checksum of 0, which means that there is none, stays 0, and
+/// a result of 0 is written as 0xffff. If the packets of the frames differ in more than the bytes of their fields, such
+/// as in length or in the places of fields, `after` stays.
 pub fn seal(before: &[u8], after: &mut [u8])
     ensures sealed { after.new ≡ sealed before.now after.old }
 
@@ -31,7 +31,7 @@ pub fn seal(before: &[u8], after: &mut [u8])
     ensures fields { (f : Field) → value f after.new ≡ value f after.old }
     ensures own { before.now ≡ after.old → after.new ≡ after.old }
 
-    // Right checksums stay right, by the sum of RFC 1071, where nothing but fields changed.
+    // Right checksums stay right, by the sum of RFC 1071, if only fields changed.
     ensures right { rest_of before.now ≡ rest_of after.old → HasRightSums before.now → HasRightSums after.new }
 {
     seal_frame(before, after);
@@ -57,7 +57,7 @@ fn seal_packet(old: &[u8], new: &mut [u8])
     }
 }
 
-/// Adjusts the checksums of a packet, where the old one has an IP header of this version.
+/// Adjusts the checksums of a packet; the old one has an IP header of this version.
 #[inline(always)]
 fn seal_version(old: &[u8], new: &mut [u8], version: IpVersion)
     requires { version_of old.now ≡ Some version }
@@ -99,8 +99,8 @@ fn has_same_header(old: &[u8], new: &[u8], version: IpVersion) -> bool
         && total_len(old, version) == total_len(new, version)
 }
 
-/// Do the transport headers of two packets with the same header have the same places and fixed values,
-/// where the old one has this plan?
+/// Do the transport headers of two packets with the same header have the same places and fixed values? The old one has
+/// this plan.
 #[inline(always)]
 fn has_same_segment(old: &[u8], new: &[u8], version: IpVersion, plan: &SegmentPlan) -> bool
     requires version { version_of old.now ≡ Some version }
@@ -143,7 +143,7 @@ fn header_change(old: &[u8], new: &[u8], end: usize) -> Change
         .with_bytes(&old[HEADER_SUM + 2..end], &new[HEADER_SUM + 2..end])
 }
 
-/// Adjusts the TCP or UDP checksum of a packet of the same version, lengths and places, where the old one has
+/// Adjusts the TCP or UDP checksum of a packet of the same version, lengths and places, the old one has
 /// this plan.
 #[inline(always)]
 fn seal_segment(old: &[u8], new: &mut [u8], version: IpVersion, plan: &SegmentPlan)

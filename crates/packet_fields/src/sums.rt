@@ -63,7 +63,7 @@ impl Change {
         change
     }
 
-    /// The same of data, which may be long and seldom changes: to compare it is far cheaper than to sum it.
+    /// The same for data, which may be long and rarely changes: to compare it is far cheaper than to sum it.
     #[inline(always)]
     pub fn with_data(self, old: &[u8], new: &[u8]) -> Self
         requires same { length old.now ≡ length new.now }
@@ -92,7 +92,7 @@ impl Change {
     }
 }
 
-/// A sum with each carry out of 16 bits brought back in at the low end.
+/// A sum with each carry out of 16 bits added back at the low end.
 fn folded(sum: u64) -> u16
     ensures { result ≡ folded_of sum }
 {

@@ -11,12 +11,12 @@ use crate::frame::Frame;
 use crate::places::{packet_from, packet_place};
 use std::alloc::{AllocError, Global};
 
-/// The list of tags, where the frame has an EtherType; it may be empty.
+/// The list of tags, if the frame has an EtherType; it may be empty.
 pub fn tags(frame: &[u8]) -> Option<&[u8]>
     ensures value { option_copied result ≡ value Field.Tag frame.now }
     ensures whole { IfSome result (λ list. is_tag_list list.now ≡ true) }
 
-    // The addresses, the tags and the packet make the frame, and the packet begins with no further tag.
+    // The addresses, the tags and the packet make the frame, and the packet begins without a further tag.
     ensures framed { IfSome result (λ list. IsFramed (take 12 frame.now) list.now (packet_of frame.now) frame.now) }
 {
     if frame.len() >= 14 {
@@ -32,7 +32,7 @@ pub fn with_tags(alloc: Global, list: &[u8], frame: &[u8]) -> Result<Frame, Allo
     requires whole { is_tag_list list.now ≡ true }
     ensures whole { IfOk result (λ new. new ≡ with_tags_in list.now frame.now) }
 
-    // The frame has these tags, and every other field and what is no field as it was.
+    // The frame has these tags, and every other field and the bytes of no field stay.
     ensures tags { IfOk result (λ new. value Field.Tag new ≡ Some list.now) }
     ensures others { IfOk result (λ new. (g : Field) → Field.Tag ≢ g → value g new ≡ value g frame.now) }
     ensures packet { IfOk result (λ new. packet_of new ≡ packet_of frame.now) }
@@ -44,7 +44,7 @@ pub fn with_tags(alloc: Global, list: &[u8], frame: &[u8]) -> Result<Frame, Allo
     Ok(Frame::new(bytes))
 }
 
-/// Three lists of bytes, one behind another.
+/// Three lists of bytes, one after another.
 fn joined(alloc: Global, first: &[u8], second: &[u8], third: &[u8]) -> Result<Vec<u8>, AllocError>
     requires { (length first.now + length second.now) + length third.now ≤ usize.MAX }
     ensures { IfOk result (λ bytes. bytes.items ≡ first.now ++ (second.now ++ third.now)) }

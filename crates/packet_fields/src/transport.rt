@@ -1,4 +1,4 @@
-//! The TCP or UDP header of a packet, behind its IP header.
+//! The TCP or UDP header of a packet, after its IP header.
 ghost use Rattle.std.specs.Prelude.{◌≡◌, ◌≤◌, ◌+◌, ◌&&◌, length, IsTrue, IfSome, Some, true, if◌then◌else◌};
 ghost use Rattle.packet_fields.specs.Packets.{is_udp as is_udp_of, is_tcp, has_transport_protocol as has_transport_protocol_of, is_first as is_first_of, has_whole_header as has_whole_header_of, has_transport as has_transport_of, segment_at as segment_at_of, datagram_end as datagram_end_of, data_span as data_span_of, control_bits};
 ghost use Rattle.packet_fields.specs.Plans.{segment_plan_of};
@@ -31,7 +31,7 @@ pub const TCP: u8 = 6;
 /// The protocol number of UDP (RFC 768).
 const UDP: u8 = 17;
 
-/// The fields of the TCP or UDP header, and the data behind it.
+/// The fields of the TCP or UDP header, and the data after it.
 #[derive(Clone, Copy, PartialEq, Eq)]
 pub struct SegmentPlan {
     pub src_port: Option<Span>,
@@ -42,7 +42,7 @@ pub struct SegmentPlan {
 }
 
 impl SegmentPlan {
-    /// No field.
+    /// The plan without any field.
     const fn none() -> Self
         ensures { result ≡ record { src_port = None; dst_port = None; payload = None; control_bits = None; sum_at = None } }
     {
@@ -56,7 +56,7 @@ impl SegmentPlan {
     }
 }
 
-/// Does a TCP or UDP header begin behind the IP header of this version?
+/// Does a TCP or UDP header begin after the IP header of this version?
 #[tactic(auto, unfolding(crate::specs::Packets::has_transport))]
 #[inline(always)]
 pub fn has_segment(packet: &[u8], version: IpVersion) -> bool
@@ -81,7 +81,7 @@ fn has_transport_protocol(packet: &[u8], version: IpVersion) -> bool
     }
 }
 
-/// Is a packet no later fragment? IPv6 tells it in no field of its header.
+/// Is a packet not a later fragment? No field of IPv6's own header says it.
 #[inline(always)]
 fn is_first(packet: &[u8], version: IpVersion) -> bool
     requires version { version_of packet.now ≡ Some version }
@@ -140,7 +140,7 @@ pub fn is_udp(packet: &[u8], version: IpVersion) -> bool
     packet[version.format().protocol] == UDP
 }
 
-/// Where the data behind a transport header that begins at `start` lies, below `end`.
+/// The span of the data after a transport header that begins at `start`, up to `end`.
 #[inline(always)]
 pub fn data_span(packet: &[u8], is_udp: bool, start: usize, end: usize) -> Option<Span>
     requires there { IsTrue (has_transport_of packet.now) }
@@ -194,14 +194,14 @@ pub fn segment_plan(packet: &[u8], version: Option<IpVersion>) -> SegmentPlan
     }
 }
 
-/// Where the checksum stands in the transport header.
+/// The place of the checksum in the transport header.
 const fn checksum_at(is_udp: bool) -> usize
     ensures { result ≡ (if is_udp then 6 else 16) }
 {
     if is_udp { UDP_SUM } else { TCP_SUM }
 }
 
-/// Do the data and the control bits of a TCP packet lie and stand as in a plan?
+/// Do the data and the control bits of a TCP packet have the places and values of a plan?
 #[inline(always)]
 pub fn has_data_of(packet: &[u8], version: IpVersion, plan: &SegmentPlan) -> bool
     requires version { version_of packet.now ≡ Some version }

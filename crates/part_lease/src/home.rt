@@ -1,4 +1,4 @@
-//! The place of a value that is shared: at home is what was shared, or nothing.
+//! The home of a shared value: a slot that holds this value or nothing.
 ghost use Rattle.std.specs.Prelude.{◌≡◌, IfOk, IfSome};
 ghost use Rattle.std.specs.Arc.{arc_value};
 
@@ -8,12 +8,12 @@ use std::alloc::{AllocError, Global};
 use std::snapshot::Snapshot;
 use std::sync::{Arc, Wait};
 
-/// The states of a slot's word stand in its two low bits, and the readers in the next thirty.
+/// The state of a slot is in the two low bits of its word, and the number of readers in the next thirty.
 const STATES: u64 = 4;
 
 const READERS: u64 = 0x1_0000_0000;
 
-/// A value at home, which is the one that the slot was made for.
+/// A value at home. It is the one for which the slot was made.
 #[derive(Drop)]
 pub struct Home<T> {
     part: Arc<T>,
@@ -27,7 +27,7 @@ impl<T> Fits for Home<T> {
 
 pub type Slot<T> = Counted<Option<Home<T>>>;
 
-/// A place that was made for `value`, with nothing at home.
+/// A slot that is made for `value` and is empty.
 pub fn vacant_slot<T: Drop>(alloc: Global, value: &T) -> Result<Arc<Slot<T>>, AllocError>
     ensures { IfOk result (λ s. (arc_value s).value ≡ value.now) }
 {
@@ -35,7 +35,7 @@ pub fn vacant_slot<T: Drop>(alloc: Global, value: &T) -> Result<Arc<Slot<T>>, Al
     Ok(Arc::new(alloc, Counted::new(None, &shared))?)
 }
 
-/// Puts the value home.
+/// Puts the value into its slot.
 pub fn come_home<T: Drop>(slot: &Slot<T>, part: Arc<T>)
     requires { arc_value part ≡ slot.now.value }
 {
@@ -47,7 +47,7 @@ pub fn come_home<T: Drop>(slot: &Slot<T>, part: Arc<T>)
     }
 }
 
-/// What is at home, once it is there.
+/// Waits until the value is at home, and returns one more holder of it.
 pub fn seen_at_home<T: Drop, R: Wait>(rt: &R, slot: &Slot<T>) -> Arc<T>
     ensures { arc_value result ≡ slot.now.value }
 {
@@ -61,7 +61,7 @@ pub fn seen_at_home<T: Drop, R: Wait>(rt: &R, slot: &Slot<T>) -> Arc<T>
     unreachable!()
 }
 
-/// Takes what is at home away, once it is there and no reader is with it.
+/// Waits until the value is at home and no reader has it, and takes it out.
 pub fn taken_from_home<T: Drop, R: Wait>(rt: &R, slot: &Slot<T>) -> Arc<T>
     ensures { arc_value result ≡ slot.now.value }
 {
@@ -75,8 +75,8 @@ pub fn taken_from_home<T: Drop, R: Wait>(rt: &R, slot: &Slot<T>) -> Arc<T>
     unreachable!()
 }
 
-// A reader stays in the slot only while it counts one more holder of the value: the holder
-// outlives the borrow of the slot.
+// A reader is in the slot only while it counts one more holder of the value. The holder outlives the borrow of the
+// slot.
 fn try_see<T: Drop>(slot: &Slot<T>) -> Option<Arc<T>>
     ensures { IfSome result (λ p. arc_value p ≡ slot.now.value) }
 {

@@ -1,4 +1,4 @@
-//! The rights on a value that is shared: to have it back, to read it, and the claim of one reading.
+//! The rights on a shared value: to get it back, to read it, and the claim of one reading.
 ghost use Rattle.std.specs.Prelude.{◌≡◌, ◌<◌, ◌≤◌, IfOk, IfErr, All, length, alloc_error};
 ghost use Rattle.std.specs.Arc.{arc_value};
 
@@ -8,7 +8,7 @@ use std::alloc::{AllocError, Global};
 use std::marker::Model;
 use std::sync::{Arc, Wait};
 
-/// The right to have the value back. A contract sees the value that was shared.
+/// The right to get the value back. A contract sees the value that was shared.
 #[derive(Drop)]
 pub struct Owner<T> {
     slot: Arc<Slot<T>>,
@@ -32,8 +32,8 @@ impl<T> Model for Reader<T> {
     ghost view = { λ r. (arc_value r.slot).value };
 }
 
-/// A claim on the value: while it lives, the value is shown and its owner waits. It can't be
-/// dropped, and is given back by [`Shown::done`]. A contract sees the value that was shared.
+/// A claim on the value: while it exists, the value can be read and its owner waits. It can't be dropped, and is given
+/// back by [`Shown::done`]. A contract sees the value that was shared.
 pub struct Shown<T> {
     slot: Arc<Slot<T>>,
     part: Arc<T>,
@@ -47,7 +47,7 @@ impl<T> Model for Shown<T> {
     ghost invariant = { λ s. arc_value s.part ≡ (arc_value s.slot).value };
 }
 
-/// There was no memory to share this value, which comes back.
+/// Out of memory while sharing this value, which is returned.
 #[derive(Drop)]
 pub struct ShareFault<T> {
     pub value: T,
@@ -61,8 +61,8 @@ impl<T: Drop> From<ShareFault<T>> for AllocError {
     }
 }
 
-/// Shares a value to so many readers, at most 64. What its owner and each of its readers see is this value. A
-/// refusal is want of memory, and hands the value back.
+/// Shares a value with `readers` readers, at most 64. Its owner and each of its readers see this value. The only error
+/// is that memory runs out, and it returns the value.
 pub fn share<T: Drop>(
     alloc: Global,
     value: T,
@@ -87,8 +87,8 @@ pub fn share<T: Drop>(
     }
 }
 
-/// Shares a value to no reader yet: [`Owner::reader`] gives the rights to read it, one by one. What its
-/// owner sees is this value. A refusal is want of memory, and hands the value back.
+/// Shares a value with no reader yet: [`Owner::reader`] gives out the rights to read it, one by one. Its owner sees
+/// this value. The only error is that memory runs out, and it returns the value.
 pub fn lend<T: Drop>(alloc: Global, value: T) -> Result<Owner<T>, ShareFault<T>>
     ensures owner { IfOk result (λ owner. owner ≡ value) }
     ensures refused { IfErr result (λ e. e.value ≡ value) }
@@ -99,7 +99,7 @@ pub fn lend<T: Drop>(alloc: Global, value: T) -> Result<Owner<T>, ShareFault<T>>
     }
 }
 
-/// Puts the value into the place that was made for it.
+/// Puts the value into the slot that was made for it.
 fn filled<T: Drop>(alloc: Global, slot: Arc<Slot<T>>, value: T) -> Result<Owner<T>, ShareFault<T>>
     requires { (arc_value slot).value ≡ value }
     ensures owner { IfOk result (λ owner. owner ≡ value) }
@@ -134,7 +134,7 @@ fn make_readers<T: Drop>(
 }
 
 impl<T: Drop> Reader<T> {
-    /// Waits for a claim on the value. It takes no memory.
+    /// Waits for a claim on the value. It allocates nothing.
     pub fn read<R: Wait>(self, rt: &R) -> Shown<T>
         ensures { result ≡ self }
     {
@@ -162,8 +162,8 @@ impl<T: Drop> Shown<T> {
 }
 
 impl<T: Drop> Owner<T> {
-    /// One more right to read the value. It takes no memory, and is refused only where so many rights
-    /// are out that they can't be counted any more.
+    /// One more right to read the value. It allocates nothing, and fails only if so many rights exist that they can't
+    /// be counted any more.
     pub fn reader(&self) -> Result<Reader<T>, AllocError>
         ensures { IfOk result (λ reader. reader ≡ self.now) }
     {
@@ -172,7 +172,7 @@ impl<T: Drop> Owner<T> {
         })
     }
 
-    /// Waits until no claim lives, and gives the value that was shared. It takes no memory.
+    /// Waits until no claim exists, and returns the value that was shared. It allocates nothing.
     pub fn take<R: Wait>(self, rt: &R) -> T
         ensures { result ≡ self }
     {

@@ -11,7 +11,7 @@ pub enum PcapFault {
     /// A read of this slot failed; it is the slot Capture.
     #[error("{0:?} can't be read")]
     ReadFault(Slot),
-    /// There was no memory, here or at the desk.
+    /// Out of memory, here or at the desk.
     #[error("out of memory")]
     OutOfMemory,
 }

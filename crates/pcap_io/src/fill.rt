@@ -1,4 +1,4 @@
-//! Reading up to a number of bytes of the slot Capture, refused as captures are.
+//! Reading up to a number of bytes of the slot Capture, with the faults of a capture.
 ghost use Rattle.std.specs.Prelude.{◌≡◌, ◌≢◌, ◌≤◌, IsSome, IfOk, IfErr, length};
 ghost use Rattle.nfp_outside.specs.declared.slot.Slot.{Slot};
 ghost use Rattle.capture_bytes.specs.Filling.{Fills};
@@ -7,7 +7,7 @@ ghost use Rattle.pcap_io.specs.Filling.{IsRefusal};
 use crate::fault::PcapFault;
 use nfp_outside::{Desk, DeskFault, Slot};
 
-// Reads until the buffer is full or nothing is left, and says how many bytes came.
+// Reads until the buffer is full or nothing is left, and returns the number of bytes.
 pub fn fill<D: Desk>(desk: &mut D, into: &mut [u8]) -> Result<usize, PcapFault>
     requires { IsSome (D.slots desk.old Slot.Capture).name }
     ensures ok { IfOk result (λ k. Fills k into.new (D.slots desk.old Slot.Capture) (D.slots desk.new Slot.Capture)) }

@@ -6,13 +6,12 @@
 //! and frames of at most 262,144 bytes. A fraction beyond its unit and a captured length beyond
 //! snaplen or beyond the original length are accepted as they are.
 //!
-//! [`Reader`] takes a capture record by record off the slot Capture of a desk, in whatever pieces
-//! the desk gives it; what it gives, and where it ends, is what `capture_of` of
-//! `pcap_io.specs.Capture` says of the whole text. [`Writer`] puts a capture into the slot Out, and
-//! [`read_is_written`] and [`written_is_read`] tie the two together.
+//! [`Reader`] takes a capture record by record off the slot Capture of a desk, in whatever pieces the desk gives it;
+//! `capture_of` of `pcap_io.specs.Capture` says of the whole text which records it gives and where it ends. [`Writer`]
+//! puts a capture into the slot Out. [`read_is_written`] and [`written_is_read`] relate the two.
 //!
-//! Left out: the modified magic numbers, compressed captures, link types with bits set above the
-//! type, and the meaning of snaplen, which is carried and refuses nothing.
+//! Left out: the modified magic numbers, compressed captures, link types with bits set above the type, and the meaning
+//! of snaplen, which is kept and refuses nothing.
 #![tactic(auto)]
 
 mod capture;

@@ -18,7 +18,7 @@ pub const VERSION_MINOR: u16 = 4;
 
 pub const ETHERNET: u32 = 1;
 
-// The head at the front, or the first reason to refuse it.
+// The head at the front of the bytes, or the first fault of it.
 pub fn head_in(bytes: &[u8]) -> Result<CaptureHead, CaptureFault>
     ensures { result ≡ head_of bytes.now }
 {
@@ -44,7 +44,7 @@ pub fn head_in(bytes: &[u8]) -> Result<CaptureHead, CaptureFault>
     })
 }
 
-// The order and the unit that the magic number says, if it is one.
+// The order and the unit of the magic number, if the bytes are one.
 fn kind_in(bytes: &[u8]) -> Option<(Endian, Unit)>
     requires { 24 ≤ length bytes.now }
     ensures { result ≡ kind_of bytes.now }

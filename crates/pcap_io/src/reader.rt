@@ -24,8 +24,8 @@ fn behind(first: &[u8]) -> [u8; HEAD_LEN]
 /// Reads a capture record by record off the slot Capture of a desk, in whatever pieces the desk
 /// gives it.
 ///
-/// It takes no more than a record needs, and for a frame memory of at most 262,144 bytes, whatever
-/// the capture claims. After a refusal a reader is spent and isn't used again.
+/// It takes no more bytes than a record needs, and allocates at most 262,144 bytes for a frame, whatever the capture
+/// claims. After an error a reader must not be used again.
 #[derive(Drop)]
 pub struct Reader {
     order: Endian,
@@ -51,8 +51,8 @@ impl Reader {
 
     /// Reads the head, the first 24 bytes that are left.
     ///
-    /// `CutHead` exactly where fewer are left; else `BadMagic`, `BadVersion` and `BadLink`, in this
-    /// order. It takes no memory.
+    /// `CutHead` exactly if fewer are left; otherwise `BadMagic`, `BadVersion` and `BadLink`, checked in this order. It
+    /// allocates nothing.
     pub fn begin<D: Desk>(desk: &mut D) -> Result<(CaptureHead, Reader), PcapFault>
         requires attached { IsSome (D.slots desk.old Slot.Capture).name }
         ensures head { IfOk result (λ x. ReadsHead x.0 x.1 (D.slots desk.old Slot.Capture) (D.slots desk.new Slot.Capture)) }
@@ -64,7 +64,8 @@ impl Reader {
         Reader::begin_after(desk, &[])
     }
 
-    /// Reads the head as [`Reader::begin`] does, where its first bytes, at most four, were taken already and are these.
+    /// Reads the head as [`Reader::begin`] does, after its first bytes, at most four, were taken already; they are
+    /// `first`.
     pub fn begin_after<D: Desk>(
         desk: &mut D,
         first: &[u8],
@@ -97,11 +98,11 @@ impl Reader {
         }
     }
 
-    /// Reads the next record; `None` exactly where nothing is left.
+    /// Reads the next record; `None` exactly if nothing is left.
     ///
-    /// With 4,294,967,295 records given and something left, `TooManyRecords`. `CutRecord` exactly
-    /// where the input ends inside the record's head, or inside its frame, and `FrameTooLong` exactly
-    /// where the whole head claims more than 262,144 bytes. After an `Err` the reader is spent.
+    /// With 4,294,967,295 records given and something left, `TooManyRecords`. `CutRecord` exactly if the input ends
+    /// inside the record's head or inside its frame. `FrameTooLong` exactly if the head is whole and claims more than
+    /// 262,144 bytes. After an `Err` the reader must not be used again.
     pub fn next<D: Desk>(
         &mut self,
         alloc: Global,

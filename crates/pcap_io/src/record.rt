@@ -19,7 +19,7 @@ pub const RECORD_HEAD_LEN: usize = 16;
 
 const MAX_FRAME: u32 = 262_144;
 
-// The record behind `given` others, or `None` where nothing is left.
+// The record after `given` others, or `None` if nothing is left.
 pub fn read_next<D: Desk>(
     alloc: Global,
     desk: &mut D,
@@ -60,7 +60,7 @@ pub fn read_next<D: Desk>(
     }
 }
 
-// A frame of so many bytes, or `None` where fewer are left.
+// A frame of `captured` bytes, or `None` if fewer are left.
 fn read_frame<D: Desk>(
     alloc: Global,
     desk: &mut D,

@@ -11,8 +11,8 @@ use std::marker::Model;
 
 /// Writes a capture into the slot Out of a desk: its head, and then its records.
 ///
-/// Contracts see a writer as the order of the capture's numbers. Neither call takes memory. After a
-/// refusal Out holds a front part of what was to be written, and the writer isn't used again.
+/// Contracts see a writer as the order of the capture's numbers. Neither call allocates memory. After an error Out
+/// holds a front part of what was to be written, and the writer must not be used again.
 #[derive(Drop)]
 pub struct Writer {
     order: Endian,
@@ -32,10 +32,9 @@ impl Writer {
     ghost use Rattle.nfp_outside.specs.Outside.{Appends, AppendsPrefix, WriteCause};
     ghost use Rattle.pcap_io.specs.Written.{head_bytes, record_bytes};
 
-    /// Writes the head, in one piece of 24 bytes, and gives a writer of the head's order.
+    /// Writes the head, in one piece of 24 bytes, and returns a writer of the head's order.
     ///
-    /// `WriteFault` of Out only where its count of faults rose; `OutOfMemory` only where the desk had
-    /// none.
+    /// `WriteFault` of Out only if its count of faults rose; `OutOfMemory` only if the desk had no memory.
     pub fn begin<D: Desk>(desk: &mut D, head: &CaptureHead) -> Result<Writer, OutsideFault>
         requires { IsSome (D.slots desk.old Slot.Out).name }
         ensures order { IfOk result (λ writer. writer ≡ head.now.order) }
@@ -50,7 +49,7 @@ impl Writer {
 
     /// Writes a record: its head in one piece of 16 bytes, and its frame in another.
     ///
-    /// It is refused as `begin` is.
+    /// It has the errors of `begin`.
     #[tactic(auto, using(nfp_outside::specs::Adding::prefix_longer, nfp_outside::specs::Adding::prefix_more))]
     pub fn put<D: Desk>(&mut self, desk: &mut D, packet: &PcapRecord) -> Result<(), OutsideFault>
         requires attached { IsSome (D.slots desk.old Slot.Out).name }

@@ -9,8 +9,8 @@ pub enum BlockKind {
     InterfaceDescription,
     /// An enhanced packet block.
     EnhancedPacket,
-    /// A packet block, which is obsolete, or a simple packet block; they aren't read.
+    /// A packet block, which is obsolete, or a simple packet block; these are refused.
     Unread,
-    /// Any other block; it is carried as it is.
+    /// Any other block; it is passed on unchanged.
     Other,
 }

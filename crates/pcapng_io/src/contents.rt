@@ -1,4 +1,4 @@
-//! What a block is worth of which all bytes are there.
+//! The faults and the values of a block that is there whole.
 ghost use Rattle.std.specs.Prelude.{◌≡◌, ◌≤◌, ◌<◌, ◌%◌, ◌==◌, ◌∷◌, [], length};
 ghost use Rattle.std.specs.Option.{option_map};
 ghost use Rattle.pcapng_io.specs.Blocks.{content_faults, first_fault, fixed_length, has_bad_lengths, options_in};
@@ -29,7 +29,7 @@ const MOST_FRAME: u32 = 262_144;
 // Blocks are counted below this number.
 const BLOCKS: u64 = 1_099_511_627_776;
 
-// The first fault of a block behind a place.
+// The first fault of a block whose predecessors led to `place`.
 #[inline(always)]
 pub fn content_fault(place: &Place, order: Endian, kind: BlockKind, block: &[u8]) -> Option<NgFault>
     requires least { 12 ≤ length block.now }
@@ -156,7 +156,7 @@ fn fixed_length(kind: BlockKind) -> usize
     }
 }
 
-// The resolution of an interface, or `None` where one of its options runs past the body.
+// The resolution of an interface, or `None` if one of its options runs past the body.
 pub fn resolution_in(order: Endian, block: &[u8]) -> Option<u8>
     requires least { 20 ≤ length block.now }
     requires whole { length block.now % 4 ≡ 0 }

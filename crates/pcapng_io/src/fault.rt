@@ -6,7 +6,7 @@ use nfp_outside::Slot;
 use std::alloc::AllocError;
 use thiserror::Error;
 
-/// Why a capture isn't read further. Blocks and packets count from 1.
+/// Why a capture isn't read further. Blocks and packets are counted from 1.
 #[derive(Clone, Copy, Debug, PartialEq, Eq, Error)]
 pub enum NgFault {
     /// The capture ends inside this block.
@@ -15,10 +15,10 @@ pub enum NgFault {
     /// This block isn't as its type asks, or its type isn't read.
     #[error("block {0} is malformed")]
     BadBlock(u64),
-    /// This block claims a length above 16,777,216, namely the second number.
+    /// The block (first number) claims a length above 16,777,216 (second number).
     #[error("block {0} has {1} bytes")]
     BlockTooLong(u64, u32),
-    /// The link type of an interface isn't Ethernet, but this.
+    /// The link type of an interface isn't Ethernet, but this one.
     #[error("the link type is {0}, and not Ethernet")]
     BadLink(u32),
     /// The resolution of the interface in this block isn't accepted.
@@ -27,13 +27,13 @@ pub enum NgFault {
     /// The packet in this block names an interface that its section hasn't.
     #[error("block {0} names no interface of its section")]
     NoInterface(u64),
-    /// This packet claims a captured length above 262,144, namely the second number.
+    /// The packet (first number) claims a captured length above 262,144 (second number).
     #[error("the frame of packet {0} has {1} bytes")]
     FrameTooLong(u32, u32),
-    /// A packet follows behind 4,294,967,295 packets.
+    /// A packet follows after 4,294,967,295 packets.
     #[error("too many packets")]
     TooManyRecords,
-    /// A block follows behind 1,099,511,627,775 blocks.
+    /// A block follows after 1,099,511,627,775 blocks.
     #[error("too many blocks")]
     TooManyBlocks,
 }
@@ -47,7 +47,7 @@ pub enum NgReadFault {
     /// A read of this slot failed; it is the slot Capture.
     #[error("{0:?} can't be read")]
     ReadFault(Slot),
-    /// There was no memory, here or at the desk.
+    /// Out of memory, here or at the desk.
     #[error("out of memory")]
     OutOfMemory,
 }

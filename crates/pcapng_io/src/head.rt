@@ -21,7 +21,7 @@ const ENHANCED_PACKET: u32 = 6;
 
 const BYTE_ORDER_MAGIC: u32 = 0x1a2b_3c4d;
 
-// The lengths of a block: its type, twice its length, and nothing else; and the most that is accepted.
+// The lengths of a block: the least (its type, its length twice, and no body), and the most that is accepted.
 const LEAST_BLOCK: u32 = 12;
 
 const MOST_BLOCK: u32 = 16_777_216;
@@ -76,7 +76,7 @@ pub fn order_of(order: Endian, kind: BlockKind, head: &[u8]) -> Endian
     }
 }
 
-// The fault of block `number` that its first bytes tell.
+// The fault of block `number` that its first bytes show.
 pub fn head_fault(number: u64, order: Endian, kind: BlockKind, head: &[u8]) -> Option<NgFault>
     requires { head_length kind ≤ length head.now }
     ensures { result ≡ first_fault (head_faults number order kind head.now) }

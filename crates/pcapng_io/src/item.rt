@@ -1,8 +1,8 @@
-//! What a block of a capture gives.
+//! What a block of a capture is read as.
 use capture_bytes::{Endian, PcapRecord};
 use packet_fields::Frame;
 
-/// A packet of a capture, with what its block says beside the record.
+/// A packet of a capture, with what its block holds besides the record.
 #[derive(Drop)]
 pub struct NgPacket {
     /// The order of the numbers in its block.
@@ -11,13 +11,13 @@ pub struct NgPacket {
     pub interface: u32,
     /// When it was captured, in the ticks of its interface.
     pub ticks: u64,
-    /// The options behind the frame, as they were read.
+    /// The options after the frame, as they were read.
     pub options: Frame,
     /// The packet. Its time counts nanoseconds.
     pub packet: PcapRecord,
 }
 
-/// What a block of a capture gives.
+/// What a block of a capture is read as.
 #[derive(Drop)]
 pub enum NgItem {
     /// A packet.

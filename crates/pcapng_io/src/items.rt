@@ -1,4 +1,4 @@
-//! What a block without a fault gives, and what stands behind it.
+//! What a block without a fault is read as, and the place after it.
 ghost use Rattle.std.specs.Prelude.{◌≡◌, ◌≤◌, ◌<◌, ◌+◌, ◌%◌, IfOk, OnOk, is_some, true, length, take, drop};
 ghost use Rattle.pcapng_io.specs.Blocks.{after, captured_in, item_of, options_in, packet_of, resolution_in, ticks_in};
 ghost use Rattle.pcapng_io.specs.Times.{is_resolution, ticks_in_second};
@@ -21,7 +21,7 @@ const FRAME_AT: usize = 28;
 
 const SECOND: u64 = 1_000_000_000;
 
-/// What a block gives; the place goes behind it. On want of memory the place isn't used again.
+/// What a block is read as; `place` moves past it. If memory runs out, `place` must not be used again.
 #[inline(always)]
 pub fn item_in(
     alloc: Global,
@@ -66,7 +66,7 @@ pub fn item_in(
     }
 }
 
-// The packet in a block, whose interface has so many ticks in a second.
+// The packet in a block, whose interface has `in_second` ticks a second.
 #[inline(always)]
 fn packet_in(
     alloc: Global,
@@ -119,7 +119,7 @@ fn ticks_at(order: Endian, block: &[u8]) -> u64
     u64::from(u32_at(order, block, 12)) * 4_294_967_296 + u64::from(u32_at(order, block, 16))
 }
 
-// How many ticks of an interface make a second.
+// The number of ticks of an interface in a second.
 fn in_second_of(order: Endian, block: &[u8]) -> u64
     requires least { 20 ≤ length block.now }
     requires whole { length block.now % 4 ≡ 0 }

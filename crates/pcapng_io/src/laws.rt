@@ -1,4 +1,4 @@
-//! What ties the reading of captures to their writing.
+//! How the reading of captures and their writing are related.
 ghost use Rattle.std.specs.Prelude.{◌≡◌, ◌++◌, ℕ, List, Ok, Some, map};
 ghost use Rattle.std.specs.List.{flat_map};
 ghost use Rattle.pcapng_io.specs.declared.item.NgItem.{NgItem};
@@ -6,8 +6,9 @@ ghost use Rattle.pcapng_io.specs.declared.place.Place.{Place};
 ghost use Rattle.pcapng_io.specs.Blocks.{blocks_of, next_of};
 ghost use Rattle.pcapng_io.specs.Written.{StandInARow, Stands, as_written, item_bytes, with_items};
 
-/// What is written is read again, item by item, whatever follows it: packets as they are, with their frames, options, interfaces and
-/// ticks; interfaces and section headers as they are but for what is written anew in them; and every other block as it is.
+/// What is written is read again, item by item, whatever follows it: packets are the same, with their frames, options,
+/// interfaces and ticks; interfaces and section headers are the same but for what is written anew in them; and every
+/// other block is the same.
 pub fn written_is_read()
     ensures one { (growth : ℕ) (place now : Place) (item : NgItem) (tail : List ℕ) → Stands place item now →
         next_of place (item_bytes growth item ++ tail) ≡ Ok (Some (as_written growth item, now, tail)) }

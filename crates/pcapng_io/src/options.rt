@@ -8,16 +8,16 @@ use capture_bytes::{Endian, u16_at};
 // The bytes of an option's code and length.
 const OPTION_HEAD: usize = 4;
 
-// The code behind which no option follows (opt_endofopt).
+// The code after which no option follows (opt_endofopt).
 const END: u16 = 0;
 
 // The code of an interface's resolution (if_tsresol), whose value has one byte.
 const RESOLUTION: u16 = 9;
 
-// The resolution where none is given: microseconds.
+// The resolution if none is given: microseconds.
 const MICRO: u8 = 6;
 
-// The resolution among options, or `None` where one runs past the bytes.
+// The resolution among options, or `None` if one runs past the bytes.
 pub fn resolution_among(order: Endian, bytes: &[u8]) -> Option<u8>
     requires whole { length bytes.now % 4 ≡ 0 }
     ensures { result ≡ option_map resolution_among (options_of order bytes.now) }
@@ -42,7 +42,7 @@ pub fn resolution_among(order: Endian, bytes: &[u8]) -> Option<u8>
     Some(found.unwrap_or(MICRO))
 }
 
-// The length of bytes that are padded to a multiple of four.
+// This length, padded to a multiple of four.
 pub fn padded(length: usize) -> usize
     requires { length ≤ 4294967295 }
     ensures { result ≡ padded length }

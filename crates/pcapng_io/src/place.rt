@@ -1,10 +1,10 @@
-//! What stands before a block.
+//! A place between the blocks of a capture.
 use capture_bytes::Endian;
 use item_list::Items;
 use std::alloc::Global;
 
-/// What stands before a block: of its section the order of the numbers, and how many ticks of each interface make a second; and how
-/// many blocks and packets there were in the capture.
+/// What is known of a capture before a block: the order of the numbers of its section, the number of ticks in a second
+/// of each interface of that section, and the number of blocks and packets so far.
 #[derive(Drop)]
 pub struct Place {
     /// The order of the section's numbers.
@@ -21,7 +21,7 @@ impl Place {
     ghost use Rattle.std.specs.Prelude.{◌≡◌};
     ghost use Rattle.pcapng_io.specs.Blocks.{start};
 
-    /// Before the first block. It takes no memory.
+    /// Before the first block. It allocates nothing.
     pub fn start(alloc: Global) -> Place
         ensures { result ≡ start }
     {

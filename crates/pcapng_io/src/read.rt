@@ -16,10 +16,10 @@ use capture_bytes::{Endian, fill, u32_at};
 use nfp_outside::{Desk, DeskFault, Slot};
 use std::alloc::{AllocError, Global};
 
-// The bytes that tell the kind and the length of a block.
+// The number of bytes that hold the kind and the length of a block.
 const HEAD: usize = 8;
 
-// The bytes that tell those of a section header, and its order.
+// The number of bytes that hold the kind, the length and the order of a section header.
 const SECTION_HEAD: usize = 12;
 
 /// What a block's first bytes say.
@@ -28,11 +28,11 @@ pub struct BlockHead {
     pub kind: BlockKind,
     pub order: Endian,
     pub length: u32,
-    /// These bytes; of a block other than a section header the first eight.
+    /// The first bytes; for a block other than a section header only the first eight count.
     pub bytes: [u8; SECTION_HEAD],
 }
 
-/// Reads a block's first bytes behind those that were read before; `None` where nothing is left.
+/// Reads the rest of a block's first bytes, after those that were read before; `None` if nothing is left.
 #[inline(always)]
 pub fn open<D: Desk>(
     desk: &mut D,
@@ -68,7 +68,7 @@ pub fn open<D: Desk>(
     }
 }
 
-// Reads the first bytes of a section header behind its first eight.
+// Reads the rest of a section header's first bytes, after the first eight.
 fn open_section<D: Desk>(
     desk: &mut D,
     place: &Place,
@@ -148,7 +148,7 @@ fn head_says(place: &Place, kind: BlockKind, head: &[u8]) -> Result<(Endian, u32
     }
 }
 
-/// Reads the rest of a block of which the first bytes were read, and gives the whole of it.
+/// Reads the rest of a block whose first bytes were read, and returns the whole block.
 #[inline(always)]
 pub fn close<D: Desk>(
     alloc: Global,
@@ -178,7 +178,7 @@ pub fn close<D: Desk>(
     Ok(block)
 }
 
-// How many bytes say what a block is and how long.
+// The number of bytes that hold the kind and the length of a block.
 fn head_length(kind: BlockKind) -> usize
     ensures { result ≡ head_length kind }
 {
@@ -204,7 +204,7 @@ fn put_front(buffer: &mut [u8], first: &[u8])
     buffer[..first.len()].copy_from_slice(first);
 }
 
-// Room for the bytes that tell the kind and the length of a block, with the first ones.
+// Room for the bytes that hold the kind and the length of a block, with the first ones.
 fn behind(first: &[u8]) -> [u8; HEAD]
     requires { length first.now ≤ 4 }
     ensures size { length result ≡ 8 }
@@ -215,7 +215,7 @@ fn behind(first: &[u8]) -> [u8; HEAD]
     bytes
 }
 
-// Room for those of a section header.
+// Room for the first bytes of a section header, with the first eight.
 fn longer(front: &[u8]) -> [u8; SECTION_HEAD]
     requires { length front.now ≡ 8 }
     ensures size { length result ≡ 12 }
@@ -226,7 +226,7 @@ fn longer(front: &[u8]) -> [u8; SECTION_HEAD]
     bytes
 }
 
-// Fills a buffer whose first bytes were read before, and says how many are there.
+// Fills a buffer whose first bytes were read before, and returns how many of its bytes are filled.
 #[inline(always)]
 fn fill_behind<D: Desk>(desk: &mut D, buffer: &mut [u8], known: usize) -> Result<usize, NgReadFault>
     requires attached { IsSome (D.slots desk.old Slot.Capture).name }

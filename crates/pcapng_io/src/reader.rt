@@ -17,7 +17,7 @@ use nfp_outside::{Desk, Slot};
 use std::alloc::Global;
 use std::marker::Model;
 
-// Reads the block behind a place, of which these bytes were read before, and goes behind it; `None` where nothing is left.
+// Reads the block after a place, of which these bytes were read before, and moves past it; `None` if nothing is left.
 #[inline(always)]
 fn read<D: Desk>(
     alloc: Global,
@@ -58,7 +58,7 @@ fn read<D: Desk>(
     }
 }
 
-// What a block gives that was read, or its fault; the place goes behind it.
+// The item of a block that was read, or its fault; `place` moves past the block.
 #[inline(always)]
 fn give(
     alloc: Global,
@@ -86,8 +86,8 @@ fn give(
 
 /// Reads a capture block by block off the slot Capture of a desk, in whatever pieces the desk gives it.
 ///
-/// It takes no more than a block needs, and memory for one block at a time, at most 16,777,216 bytes, and of its section the ticks of
-/// each interface. After a refusal a reader is spent and isn't used again.
+/// It takes no more bytes than a block needs. It allocates memory for one block at a time, at most 16,777,216 bytes,
+/// and for the ticks of each interface of the section. After an error a reader must not be used again.
 #[derive(Drop)]
 pub struct NgReader {
     place: Place,
@@ -116,7 +116,7 @@ impl NgReader {
 
     /// Reads the first block of a capture whose first four bytes were read before, and are those of a section header block.
     ///
-    /// It is refused as [`NgReader::next`] is.
+    /// It has the errors of [`NgReader::next`].
     pub fn begin<D: Desk>(
         alloc: Global,
         desk: &mut D,
@@ -146,9 +146,9 @@ impl NgReader {
         }
     }
 
-    /// Reads the next block; `None` exactly where nothing is left.
+    /// Reads the next block; `None` exactly if nothing is left.
     ///
-    /// It is refused with the first fault of the block that stands next. After an `Err` the reader is spent.
+    /// The error is the first fault of the next block. After an `Err` the reader must not be used again.
     #[inline(always)]
     pub fn next<D: Desk>(
         &mut self,

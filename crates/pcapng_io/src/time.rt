@@ -1,4 +1,4 @@
-//! What the ticks of an interface are worth.
+//! The ticks of an interface, in nanoseconds.
 ghost use Rattle.std.specs.Prelude.{◌≡◌, ◌<◌, ◌^◌, IsTrue};
 ghost use Rattle.pcapng_io.specs.Times.{is_resolution, nanoseconds_of, ticks_in_second};
 
@@ -11,15 +11,15 @@ const MOST_TWOS: u8 = 188;
 
 const SECOND: u128 = 1_000_000_000;
 
-// How many of them make a second.
+// The number of nanoseconds in a second.
 const NANOSECONDS: u64 = 1_000_000_000;
 
 const MICROSECONDS: u64 = 1_000_000;
 
-// As many microseconds as have seconds of 32 bits.
+// The number of microseconds whose seconds fit in 32 bits.
 const MOST_MICROSECONDS: u64 = 4_294_967_296_000_000;
 
-// The last nanosecond whose seconds have 32 bits.
+// The last nanosecond whose seconds fit in 32 bits.
 const LAST: u64 = 4_294_967_295_999_999_999;
 
 // Is this a resolution that is accepted?
@@ -29,7 +29,7 @@ pub fn is_resolution(resolution: u8) -> bool
     resolution <= MOST_TENS || (TWOS <= resolution && resolution <= MOST_TWOS)
 }
 
-// How many ticks make a second.
+// The number of ticks in a second.
 pub fn ticks_in_second(resolution: u8) -> u64
     requires { IsTrue (is_resolution resolution) }
     ensures ticks { result ≡ ticks_in_second resolution }
@@ -42,7 +42,8 @@ pub fn ticks_in_second(resolution: u8) -> u64
     }
 }
 
-// Whole nanoseconds of so many ticks. Where the ticks are nanoseconds or microseconds nothing is divided.
+// `ticks` in whole nanoseconds, where `in_second` ticks make a second. For nanoseconds and microseconds nothing is
+// divided.
 pub fn nanoseconds(in_second: u64, ticks: u64) -> u64
     requires { 0 < in_second }
     ensures { result ≡ nanoseconds_of in_second ticks }

@@ -12,24 +12,26 @@ use crate::options::padded;
 use capture_bytes::{Endian, PcapRecord, put_u32, u32_at};
 use nfp_outside::{Desk, OutsideFault, Slot, write_whole};
 
-// The length of a section that isn't told.
+// The length of a section that isn't stated.
 const NO_SECTION_LENGTH: [u8; 8] = [255, 255, 255, 255, 255, 255, 255, 255];
 
-// The bytes of a packet's block before its frame.
+// The number of bytes of a packet's block before its frame.
 const HEAD: usize = 28;
 
-// The most bytes of a frame that is put in one piece with what stands around it, and of its block.
+// The most bytes of a frame that is put in one piece with the bytes around it, and of its block.
 const SHORT_FRAME: usize = 220;
 
 const SHORT_BLOCK: usize = 256;
 
-// What stands behind a frame up to a multiple of four.
+// The padding after a frame, up to a multiple of four.
 const ZEROS: [u8; 4] = [0, 0, 0, 0];
 
-/// Writes an item into the slot Out as a block, in a capture whose frames may have grown by so many bytes: a section header without
-/// its section's length, an interface with its snaplen grown, a packet with its frame and lengths, and any other block as it is.
+/// Writes an item into the slot Out as a block, in a capture whose frames may have grown by `growth` bytes: a section
+/// header without its section's length, an interface with its snaplen grown, a packet with its frame and lengths, and
+/// any other block unchanged.
 ///
-/// It takes no memory. `WriteFault` of Out only where its count of faults rose; after an `Err` Out holds a front part of the block.
+/// It allocates nothing. `WriteFault` of Out only if its count of faults rose; after an `Err` Out holds a front part of
+/// the block.
 pub fn put_item<D: Desk>(desk: &mut D, item: &NgItem, growth: u32) -> Result<(), OutsideFault>
     requires attached { IsSome (D.slots desk.old Slot.Out).name }
     requires writable { IsWritable item.now }
@@ -61,7 +63,7 @@ pub fn put_item<D: Desk>(desk: &mut D, item: &NgItem, growth: u32) -> Result<(),
     }
 }
 
-// A snaplen that grew by this.
+// The snaplen grown by `growth`.
 fn grown(snaplen: u32, growth: u32) -> u32
     ensures { result ≡ grown growth snaplen }
 {
@@ -80,7 +82,7 @@ fn spelled(order: Endian, number: u32) -> [u8; 4]
     bytes
 }
 
-/// Writes a packet into the slot Out as [`put_item`] does, of what its block says beside the record and of the record.
+/// Writes a packet into the slot Out as [`put_item`] does, from its record and from what its block holds besides.
 pub fn put_packet<D: Desk>(
     desk: &mut D,
     order: Endian,
@@ -112,8 +114,8 @@ pub fn put_packet<D: Desk>(
     )
 }
 
-// Puts a frame with what stands before it, and behind it so many zeros, the options, and the block's length. Where the frame is short and
-// there are no options, it is one piece.
+// Puts a frame with the bytes before it, and after it `padding` zeros, the options, and the block's length. If the
+// frame is short and there are no options, it is one piece.
 fn put_around<D: Desk>(
     desk: &mut D,
     order: Endian,
@@ -138,7 +140,7 @@ fn put_around<D: Desk>(
     }
 }
 
-// Puts a short frame with what stands before it, and behind it so many zeros and the block's length, in one piece.
+// Puts a short frame with the bytes before it, and after it `padding` zeros and the block's length, in one piece.
 fn put_short<D: Desk>(
     desk: &mut D,
     order: Endian,
@@ -164,7 +166,7 @@ fn put_short<D: Desk>(
     write_whole(desk, Slot::Out, &block[..end + 4])
 }
 
-// Puts a piece at a place.
+// Copies `piece` to place `at`.
 fn put_piece(bytes: &mut [u8], at: usize, piece: &[u8])
     requires { at + length piece.now ≤ length bytes.old }
     ensures { bytes.new ≡ take at bytes.old ++ (piece.now ++ drop (length piece.now) (drop at bytes.old)) }
@@ -172,7 +174,7 @@ fn put_piece(bytes: &mut [u8], at: usize, piece: &[u8])
     bytes[at..at + piece.len()].copy_from_slice(piece);
 }
 
-// Puts what [`put_around`] puts piece by piece.
+// Does what [`put_around`] does, piece by piece.
 #[tactic(auto, using(nfp_outside::specs::Adding::prefix_longer, nfp_outside::specs::Adding::prefix_more))]
 fn put_long<D: Desk>(
     desk: &mut D,
@@ -196,7 +198,8 @@ fn put_long<D: Desk>(
     put_tail(desk, order, padding, options, size)
 }
 
-// Puts what stands behind a frame: so many zeros, the options, and the block's length. Mostly there are no options: then it is one piece.
+// Puts the bytes after a frame: `padding` zeros, the options, and the block's length. Mostly there are no options, and
+// then it is one piece.
 #[tactic(auto, using(crate::proofs::Pieces::tail_whole))]
 fn put_tail<D: Desk>(
     desk: &mut D,
@@ -220,7 +223,7 @@ fn put_tail<D: Desk>(
     }
 }
 
-// So many zeros, and the block's length behind them.
+// `padding` zeros, and the block's length after them.
 #[tactic(auto, using(crate::proofs::Pieces::zeros_of))]
 fn tail_of(order: Endian, padding: usize, length: u32) -> [u8; 8]
     requires { padding ≤ 4 }
@@ -231,7 +234,7 @@ fn tail_of(order: Endian, padding: usize, length: u32) -> [u8; 8]
     tail
 }
 
-// What stands before a frame.
+// The bytes of a packet's block before its frame.
 fn head_of(
     order: Endian,
     length: u32,
@@ -253,7 +256,7 @@ fn head_of(
     head
 }
 
-// Puts three pieces into Out, one behind the other.
+// Puts three pieces into Out, one after another.
 #[tactic(auto, using(nfp_outside::specs::Adding::prefix_longer, nfp_outside::specs::Adding::prefix_more))]
 fn put_three<D: Desk>(desk: &mut D, a: &[u8], b: &[u8], c: &[u8]) -> Result<(), OutsideFault>
     requires attached { IsSome (D.slots desk.old Slot.Out).name }
@@ -268,7 +271,7 @@ fn put_three<D: Desk>(desk: &mut D, a: &[u8], b: &[u8], c: &[u8]) -> Result<(), 
     write_whole(desk, Slot::Out, c)
 }
 
-// Puts two pieces into Out, one behind the other.
+// Puts two pieces into Out, one after the other.
 #[tactic(auto, using(nfp_outside::specs::Adding::prefix_longer, nfp_outside::specs::Adding::prefix_more))]
 fn put_two<D: Desk>(desk: &mut D, a: &[u8], b: &[u8]) -> Result<(), OutsideFault>
     requires attached { IsSome (D.slots desk.old Slot.Out).name }

@@ -1,4 +1,4 @@
-//! What the way of packets through pieces is worth.
+//! What holds of packets that go through pieces.
 ghost use Rattle.std.specs.Prelude.{◌≡◌, ◌≤◌, ◌+◌, ◌*◌, ℕ, List, [], ◌∷◌, ◌++◌, All, length, map, sum_by};
 ghost use Rattle.graph_compile.specs.declared.graph.Stage.{Stage};
 ghost use Rattle.chain_walk.specs.Laws.{KeepsProfile};
@@ -12,7 +12,8 @@ ghost use Rattle.piece_walk.specs.Pieces.{Piece, Graph, Whole, Went, count_of, f
 ghost use Rattle.piece_walk.specs.Rejoining.{moved, piece_after, put_back, sealed_by, sealed_fates, still_going};
 
 /// A chain that is one graph walks as the chain of its functions does, and what goes out is sealed by the frame that
-/// entered. One function that rewrites frames whole lets each go out rewritten, and a chain without pieces as it is.
+/// entered. If the chain is one function that rewrites frames whole, each frame goes out rewritten. If it has no
+/// pieces, each frame goes out unchanged.
 #[tactic(auto, using(crate::proofs::OnePiece::one_piece, crate::proofs::OnePiece::one_piece_fates, crate::proofs::OnePiece::one_piece_after, crate::proofs::OnePiece::one_whole_fates, crate::proofs::OnePiece::no_piece_fates, crate::proofs::OnePiece::no_piece_after))]
 pub fn a_chain_of_one_piece_walks<F>()
     ensures way { (b : Behaviour F) (stages : List Stage) (time position : ℕ) (functions : List F) (frame : List ℕ) →
@@ -27,8 +28,8 @@ pub fn a_chain_of_one_piece_walks<F>()
     ensures no_piece_left { (b : Behaviour F) (ps : List Packet) → pieces_after b [] ps ≡ [] }
 {}
 
-/// All packets may go through the first piece before the first of them goes through the next: those that it hands on end
-/// as the later pieces say, and a position there counts the functions of the first piece too.
+/// All packets may go through the first piece before the first of them goes through the next: those that it passes on
+/// end as the later pieces say, and a position there counts the functions of the first piece too.
 #[tactic(auto, using(crate::proofs::PieceByPiece::fates_of_graph, crate::proofs::PieceByPiece::fates_of_whole, crate::proofs::PieceByPiece::pieces_by_piece, crate::proofs::PieceByPiece::fewer))]
 pub fn packets_go_piece_by_piece<F>()
     ensures graph { (b : Behaviour F) (stages : List Stage) (functions : List F) (later : List (Piece F)) (ps : List Packet) →
@@ -55,8 +56,8 @@ pub fn pieces_come_one_behind_another<F>()
     ensures none { (b : Behaviour F) (ps : List Packet) → still_going ps (long_fates b [] ps) ≡ ps }
 {}
 
-/// Packets in two lots end as in one, each as the packet before left the pieces, and each has one fate. What a piece hands on of
-/// two lots it hands on of the first, and then of the second as the first left it.
+/// Packets in two lots end as in one lot, each meeting the pieces as the packet before left them, and each has one
+/// fate. A piece passes on of two lots what it passes on of the first, and then of the second as the first left it.
 #[tactic(auto, using(crate::proofs::PacketsInRow::fates_in_a_row, crate::proofs::PacketsInRow::pieces_in_a_row, crate::proofs::PacketsInRow::handed_on_in_a_row, crate::proofs::PacketsInRow::count_of_fates))]
 pub fn packets_go_in_a_row<F>()
     ensures fates { (b : Behaviour F) (pieces : List (Piece F)) (first later : List Packet) → long_fates b pieces (first ++ later) ≡ long_fates b pieces first ++ long_fates b (pieces_after b pieces first) later }
@@ -65,8 +66,8 @@ pub fn packets_go_in_a_row<F>()
     ensures count { (b : Behaviour F) (pieces : List (Piece F)) (ps : List Packet) → length (long_fates b pieces ps) ≡ length ps }
 {}
 
-/// Packets change only the states of functions: the pieces stay the same pieces, with the same stages, and the functions keep
-/// their number and their profiles. A function that dropped a packet stands in the chain.
+/// Packets change only the states of functions: the pieces stay the same pieces, with the same stages, and the
+/// functions keep their number and their profiles. A function that dropped a packet belongs to the chain.
 #[tactic(auto, using(crate::proofs::Keeping::count_stays, crate::proofs::Keeping::stages_stay, crate::proofs::Keeping::kinds_stay, crate::proofs::Keeping::all_profiles_stay, crate::proofs::Within::all_within))]
 pub fn pieces_keep_their_kind<F>()
     ensures count { (b : Behaviour F) (pieces : List (Piece F)) (ps : List Packet) → sum_by count_of (pieces_after b pieces ps) ≡ sum_by count_of pieces }
@@ -76,8 +77,8 @@ pub fn pieces_keep_their_kind<F>()
     ensures within { (b : Behaviour F) (pieces : List (Piece F)) (ps : List Packet) → All (EndsWithin (sum_by count_of pieces)) (long_fates b pieces ps) }
 {}
 
-/// What goes out is at most 20 bytes longer for each function than the longest frame that came, where functions keep to their
-/// profiles and none that rewrites frames whole adds more.
+/// A frame that goes out is at most 20 bytes longer for each function than the longest frame that came in, if functions
+/// keep to their profiles and none that rewrites frames whole adds more.
 pub fn frames_grow_little<F>()
     ensures { (b : Behaviour F) (pieces : List (Piece F)) (ps : List Packet) (most : ℕ) → KeepsProfile b → All GrowsLittle pieces → All (λ p. length p.frame ≤ most) ps → All (IsNoLonger (most + 20 * sum_by count_of pieces)) (long_fates b pieces ps) }
 {}

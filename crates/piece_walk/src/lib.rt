@@ -1,10 +1,11 @@
 //! The sequential model of a chain with functions that rewrite a packet whole.
 //!
-//! This is the yardstick of `chain_walk` for a chain that is cut before and behind each such function (`specs/Pieces.antt`): the functions of
-//! a piece walk one after another, and what a piece hands on is sealed by the frame that it began with.
+//! This is the model of `chain_walk` for a chain that is cut before and after each such function (`specs/Pieces.antt`):
+//! the functions of a piece walk one after another, and what a piece passes on is sealed by the frame that it began
+//! with.
 //!
-//! [`packets_go_piece_by_piece`] is what lets a burst be led through one piece before the next, and
-//! [`packets_go_in_a_row`] what lets a capture come in bursts.
+//! By [`packets_go_piece_by_piece`] a burst may be run through one piece before the next, and by
+//! [`packets_go_in_a_row`] a capture may come in bursts.
 #![tactic(auto)]
 
 mod laws;

@@ -15,16 +15,15 @@ use std::alloc::Global;
 
 /// The order in which the functions of a chain take a packet.
 ///
-/// Each statement of the chain draws edges, and an edge says which of two functions comes first:
-/// `order A before B` from A to B, `priority A > B` from B to A, so that what A writes prevails,
-/// `position X first` from X to every other function, `position X last` from every other to X. The
-/// order takes, again and again, the earliest declared function whose predecessors are all taken.
+/// Each statement of the chain draws edges, and an edge says which of two functions comes first: `order A before B`
+/// from A to B; `priority A > B` from B to A, so that what A writes prevails; `position X first` from X to every other
+/// function; `position X last` from every other to X. The order takes, again and again, the earliest declared function
+/// whose predecessors are all taken.
 ///
-/// Where functions remain and none can be taken, the fault is the cycle that is found from the
-/// earliest declared of them, by going back to the earliest declared predecessor that remains.
-/// Where there is no cycle, a Priority is refused if the dependency table forbids the lower
-/// function before the higher one, the first in the text. Each turn goes over the statements once
-/// for each function.
+/// If functions remain and none can be taken, the fault is the cycle that is found from the earliest declared of them,
+/// by going back to the earliest declared predecessor that remains. If there is no cycle, the fault is the first
+/// Priority in the text whose lower function the dependency table forbids before the higher one. Each turn goes over
+/// the statements once for each function.
 #[tactic(auto, using(crate::proofs::Soundness::order_arranged, crate::proofs::Soundness::order_earliest, crate::proofs::Soundness::fault_sound))]
 pub fn order(alloc: Global, chain: &ChainPolicy) -> Result<Order, CheckFault>
     requires { length chain.now.functions < 2 ^ 32 }

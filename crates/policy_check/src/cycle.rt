@@ -1,4 +1,4 @@
-//! The cycle that is named where functions remain and none can be taken.
+//! The cycle that is named if functions remain and none can be taken.
 
 ghost use Rattle.std.specs.Prelude.{◌≡◌, ◌<◌, ◌≤◌, ◌^◌, ◌==◌, Some, None, nat_le, take_while, not, suc, [], reverse, length, find, true, IfOk, IfSome};
 ghost use Rattle.std.specs.List.{list_any, list_all};
@@ -78,7 +78,7 @@ fn predecessor(statements: &[Statement], left: &[bool], x: u32) -> Option<u32>
     None
 }
 
-// The newest of a trail first, up to this function.
+// The functions of a trail from the newest back to this function.
 fn up_to(alloc: Global, x: u32, trail: &[u32]) -> Result<Vec<u32>, AllocError>
     requires { list_any (λ y. y == x) trail.now ≡ true }
     ensures { IfOk result (λ front. front.items ≡ up_to x (reverse trail.now)) }
@@ -88,7 +88,7 @@ fn up_to(alloc: Global, x: u32, trail: &[u32]) -> Result<Vec<u32>, AllocError>
     Ok(front)
 }
 
-// Those of a trail that are newer than this function, the newest first.
+// The functions of a trail that are newer than this function, the newest first.
 fn newer(alloc: Global, x: u32, trail: &[u32]) -> Result<Vec<u32>, AllocError>
     ensures { IfOk result (λ front. front.items ≡ take_while (λ y. not (y == x)) (reverse trail.now)) }
 {

@@ -1,4 +1,4 @@
-//! What checking a chain answers.
+//! The results of checking a chain.
 
 ghost use Rattle.std.specs.Prelude.{◌≡◌};
 
@@ -16,11 +16,11 @@ pub struct Order {
 /// Why a chain has no order. Functions are counted from 0 as declared.
 #[derive(Debug, Drop)]
 pub enum CheckFault {
-    /// Functions of which each must come before the next, and the last before the first. The
-    /// earliest declared of them stands first.
+    /// Functions of which each must come before the next, and the last before the first. The earliest declared of them
+    /// is first.
     Cycle(Items<u32>),
-    /// The first Priority in the text, on this line, whose lower function may not stand before the
-    /// higher one: an action of the lower function forbids one of the higher.
+    /// The first Priority in the text, on this line, whose lower function may not come before the higher one: an action
+    /// of the lower function forbids one of the higher.
     PriorityForbidden {
         high: u32,
         low: u32,

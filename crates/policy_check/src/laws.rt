@@ -1,4 +1,4 @@
-//! What the order and the named cycle of a set of edges are worth.
+//! What holds of the order and the named cycle of a set of edges.
 
 ghost use Rattle.std.specs.Prelude.{◌≡◌, ◌≢◌, ◌<◌, ℕ, List, [], All, Some, None};
 ghost use Rattle.policy_check.specs.Arrangements.{IsArrangement, IsCycle, IsEarliestFirst, IsFree, TakesEarliest};
@@ -11,26 +11,26 @@ ghost use Rattle.policy_check.specs.declared.fault.CheckFault.{CheckFault};
 ghost use Rattle.policy_text.specs.declared.policy.FunctionDecl.{FunctionDecl};
 ghost use Rattle.policy_text.specs.declared.policy.Statement.{Statement};
 
-/// A law: where every function gets a turn, the order has each function once and respects every
+/// A law: if every function gets a turn, the order has each function once and respects every
 /// edge.
 pub fn order_respects_edges()
     ensures { (edge : Edges) → (count : ℕ) → left_of edge count ≡ [] → IsArrangement edge count (order_of edge count) }
 {}
 
-/// A law: at each place of the order stands a function whose predecessors all stand before it, and of those that may
-/// stand there so, the earliest declared. Behind the last of the order none may.
+/// A law: each function in the order comes after all its predecessors, and it is the earliest declared of the functions
+/// that may come at its place. After the last of the order there is no such function.
 pub fn order_takes_the_earliest()
     ensures each { (edge : Edges) → (count : ℕ) → TakesEarliest edge count (order_of edge count) }
     ensures last { (edge : Edges) → (count x : ℕ) → ¬ IsFree edge count (order_of edge count) x }
 {}
 
-/// A law: where there is an order that has each function once and respects every edge, every
-/// function gets a turn, so no cycle is answered.
+/// A law: if there is an order that has each function once and respects every edge, every function gets a turn, so no
+/// cycle is returned.
 pub fn no_cycle_beside_an_arrangement()
     ensures { (edge : Edges) → (count : ℕ) → (order : List ℕ) → IsArrangement edge count order → left_of edge count ≡ [] }
 {}
 
-/// A law: where functions remain, the named cycle is one: each of its functions has an edge to the
+/// A law: if functions remain, the named cycle is one: each of its functions has an edge to the
 /// next, and the last to the first, and none is declared before the first.
 pub fn named_cycle_is_real()
     ensures real { (edge : Edges) → (count : ℕ) → left_of edge count ≢ [] → IsCycle edge (named_cycle edge (left_of edge count)) }
@@ -38,13 +38,13 @@ pub fn named_cycle_is_real()
     ensures earliest_first { (edge : Edges) → (count : ℕ) → left_of edge count ≢ [] → IsEarliestFirst (named_cycle edge (left_of edge count)) }
 {}
 
-/// A law: where there is a cycle, functions remain, so a cycle is answered.
+/// A law: if there is a cycle, functions remain, so a cycle is returned.
 pub fn every_cycle_is_found()
     ensures { (edge : Edges) → (count : ℕ) → (cycle : List ℕ) → IsCycle edge cycle → All (λ x. x < count) cycle → left_of edge count ≢ [] }
 {}
 
-/// A law: a forbidden Priority that is named stands in the text with each Priority before it allowed, and where none is
-/// named each is allowed.
+/// A law: if a forbidden Priority is named, it is in the text and each Priority before it is allowed. If none is named,
+/// each is allowed.
 pub fn named_priority_is_first()
     ensures named { (functions : List FunctionDecl) → (statements : List Statement) → (fault : CheckFault) → first_refusal functions statements ≡ Some fault → IsFirstForbidden functions statements fault }
     ensures none { (functions : List FunctionDecl) → (statements : List Statement) → first_refusal functions statements ≡ None → All (IsAllowed functions) statements }

@@ -1,4 +1,4 @@
-//! The functions take their turns.
+//! Takes the functions, turn by turn.
 
 ghost use Rattle.std.specs.Prelude.{◌≡◌, ◌<◌, ◌^◌, length, vec_len, None, IfOk, IfSome};
 ghost use Rattle.policy_check.specs.Checked.{order_of, left_of};
@@ -10,7 +10,7 @@ use crate::edges::is_held;
 use policy_text::Statement;
 use std::alloc::{AllocError, Global};
 
-/// What the turns left.
+/// The result of the turns.
 #[derive(Drop)]
 pub(crate) struct Turns {
     /// The functions that were taken, in order.

@@ -10,7 +10,7 @@ use std::alloc::{AllocError, Global};
 /// The most bytes of a pattern.
 const MAX_PATTERN: usize = 256;
 
-/// A link address (IEEE 802): six pairs of hexadecimal digits, of either case, parted by colons.
+/// A link address (IEEE 802): six pairs of hexadecimal digits, of either case, separated by colons.
 #[tactic(auto, using(crate::proofs::Splitting::some_part, crate::proofs::Splitting::mac_none))]
 pub fn mac(text: &[u8]) -> Option<[u8; 6]>
     ensures { result ≡ mac_of text.now }

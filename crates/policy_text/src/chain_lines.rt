@@ -17,7 +17,7 @@ use crate::value::is_name;
 use item_list::Items;
 use std::alloc::{AllocError, Global};
 
-/// The most chains of a policy.
+/// The greatest number of chains of a policy.
 const MAX_CHAINS: usize = 16;
 
 // `chain NAME` and `chain NAME match CLAUSE ..`.

@@ -2,7 +2,7 @@
 
 use item_list::Items;
 
-/// Clauses that a packet has to meet, all of them. The empty list is met by every packet.
+/// Clauses, all of which a packet has to meet. Every packet meets the empty list.
 #[derive(Debug, Drop)]
 pub struct Match {
     pub clauses: Items<Clause>,
@@ -11,13 +11,13 @@ pub struct Match {
 /// One demand on a packet. Addresses have their first byte in the highest bits.
 #[derive(Clone, Copy, Debug, PartialEq, Eq)]
 pub enum Clause {
-    /// The first bits of the IPv4 source address, and how many of them count.
+    /// The first bits of the IPv4 source address, and the length of the prefix in bits.
     Src(u32, u8),
-    /// The first bits of the IPv4 destination address, and how many of them count.
+    /// The first bits of the IPv4 destination address, and the length of the prefix in bits.
     Dst(u32, u8),
-    /// The first bits of the IPv6 source address, and how many of them count.
+    /// The first bits of the IPv6 source address, and the length of the prefix in bits.
     Src6(u128, u8),
-    /// The first bits of the IPv6 destination address, and how many of them count.
+    /// The first bits of the IPv6 destination address, and the length of the prefix in bits.
     Dst6(u128, u8),
     /// The least and the greatest source port.
     Sport(u16, u16),

@@ -27,7 +27,7 @@ pub fn position_named(functions: &[FunctionDecl], name: &[u8]) -> Option<usize>
     functions.iter().position(|f| is_named(f, name))
 }
 
-/// How many of the lines are rules?
+/// The number of `rule` lines.
 pub fn count_rules(settings: &[Setting]) -> usize
     ensures { result ≡ count_by is_rule settings.now }
 {

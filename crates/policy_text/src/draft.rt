@@ -10,7 +10,7 @@ use std::alloc::{AllocError, AllocFailed, Global};
 use std::marker::Model;
 use std::mem;
 
-/// The most functions of a policy.
+/// The greatest number of functions of a policy.
 const MAX_FUNCTIONS: usize = 64;
 
 /// The chains so far, of which the last is the current one.
@@ -46,7 +46,7 @@ impl Draft {
         }
     }
 
-    /// The policy that it is in the end.
+    /// The finished policy.
     pub fn into_policy(self) -> Policy
         ensures { result.chains ≡ self }
     {
@@ -89,7 +89,7 @@ impl Draft {
         self.chains.iter().any(|c| is_declared(c, name))
     }
 
-    /// Does a line stand in a chain?
+    /// Has a chain begun, so that a line is in it?
     pub fn is_in_chain(&self) -> bool
         ensures { result ≡ is_some (latest self.now) }
     {
@@ -118,7 +118,7 @@ impl Draft {
         }
     }
 
-    /// The rules of the current function.
+    /// The number of rules of the current function.
     pub fn rules_here(&self) -> usize
         ensures { result ≡ rules_here self.now }
     {

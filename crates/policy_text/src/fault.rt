@@ -4,10 +4,10 @@ ghost use Rattle.std.specs.Prelude.{◌≡◌};
 
 use std::alloc::{AllocError, AllocFailed};
 
-/// The first fault of a policy text. Lines and columns count from 1, and a column counts bytes.
+/// The first fault of a policy text. Lines and columns are counted from 1, and a column counts bytes.
 #[derive(Clone, Copy, Debug, PartialEq, Eq)]
 pub enum TextFault {
-    /// The byte place, counted from 0, from which on the text is no UTF-8.
+    /// The byte place, counted from 0, from which on the text isn't UTF-8.
     NotUtf8(usize),
     /// The line, and the column of the first word that doesn't fit its form.
     Syntax(u32, u32),
@@ -72,8 +72,7 @@ impl<T: Drop> From<AllocFailed<T>> for BuildFault {
 /// Why words are no clauses.
 #[derive(Clone, Copy, Debug, PartialEq, Eq)]
 pub enum MatchFault {
-    /// The place, counted from 0, of the first word that doesn't fit, or the number of words where
-    /// one is missing.
+    /// The place, counted from 0, of the first word that doesn't fit, or the number of words if one is missing.
     BadWord(usize),
     OutOfMemory,
 }

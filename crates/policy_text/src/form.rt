@@ -27,7 +27,7 @@ impl WordForm {
     ghost use Rattle.std.specs.Prelude.{◌≡◌};
     ghost use Rattle.policy_text.specs.Forms.{is_fit};
 
-    // May the word stand here?
+    // Does the word fit here?
     fn accepts(self, word: &[u8]) -> bool
         ensures { result ≡ is_fit self word.now }
     {
@@ -40,8 +40,7 @@ impl WordForm {
     }
 }
 
-/// The place of the first word behind the first that doesn't fit the form, is missing or is one too
-/// many.
+/// The place of the first word after the leading one that doesn't fit the form, is missing or is one too many.
 fn misfit(form: &[WordForm], words: &[WordSpan<'_>]) -> Option<usize>
     requires { 0 < length words.now }
     ensures { result ≡ misfit_from 1 form.now (drop 1 words.now) }
@@ -63,14 +62,14 @@ fn misfit(form: &[WordForm], words: &[WordSpan<'_>]) -> Option<usize>
     }
 }
 
-/// The word at this place doesn't fit.
+/// The fault that the word at this place doesn't fit.
 pub fn syntax_at(line: &Line<'_>, place: usize) -> TextFault
     ensures { result ≡ syntax_at line.now place }
 {
     TextFault::Syntax(line.number(), line.column(place))
 }
 
-/// The words behind the first are of this form.
+/// Checks that the words after the first have this form.
 pub fn fit_form(form: &[WordForm], line: &Line<'_>) -> Result<(), TextFault>
     ensures { Gives (λ x. x) result (fit_form form.now line.now) }
 {
@@ -80,7 +79,7 @@ pub fn fit_form(form: &[WordForm], line: &Line<'_>) -> Result<(), TextFault>
     }
 }
 
-/// The line stands in a chain.
+/// Checks that the line is in a chain.
 pub fn in_chain(draft: &Draft, line: &Line<'_>) -> Result<(), TextFault>
     ensures { Gives (λ x. x) result (in_chain draft.now line.now) }
 {

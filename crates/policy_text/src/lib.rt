@@ -1,22 +1,19 @@
 //! The language in which an operator writes service chains.
 //!
-//! [`parse`] reads a policy text: a version line, then chains of network functions with their
-//! settings and the orders among them. It gives the [`Policy`] that the text writes, or the text's
-//! first fault with its line and column. `specs/Grammar.antt` says what each line adds to the policy
-//! so far; `specs/Soundness.antt` says what holds of every policy that is read: names differ, limits
-//! are kept, and each order speaks of functions of its own chain.
+//! [`parse`] reads a policy text: a version line, then chains of network functions with their settings and the orders
+//! among them. It returns the [`Policy`] that the text describes, or the text's first fault with its line and column.
+//! `specs/Grammar.antt` says what each line adds to the policy so far. `specs/Soundness.antt` says what holds of every
+//! policy that is read: names differ, limits are kept, and each order refers to functions of its own chain.
 //!
-//! [`read_match`] reads clauses, and [`fits`] says whether a packet meets them; [`is_within`] and
-//! [`is_within6`] say whether an address lies in a prefix. The values that clauses and settings spell
-//! are read by [`number`], [`address`], [`prefix`], [`address6`], [`prefix6`], [`range`], [`mac`] and
-//! [`pattern`]: IPv4 addresses are four decimal numbers (RFC 791), IPv6 addresses eight hexadecimal
-//! groups (RFC 4291, 2.2), and a clause takes a prefix of either.
+//! [`read_match`] reads clauses, and [`fits`] decides whether a packet meets them; [`is_within`] and [`is_within6`]
+//! decide whether an address lies in a prefix. The values in clauses and settings are read by [`number`], [`address`],
+//! [`prefix`], [`address6`], [`prefix6`], [`range`], [`mac`] and [`pattern`]: IPv4 addresses are four decimal numbers
+//! (RFC 791), IPv6 addresses eight hexadecimal groups (RFC 4291, 2.2), and a clause takes a prefix of either version.
 //!
-//! [`Lines`] cuts any text of this kind into numbered lines of words, with their columns ([`Line`], [`WordSpan`]), and [`is_name`] tells
-//! a name.
+//! [`Lines`] cuts any text of this kind into numbered lines of words, with their columns ([`Line`], [`WordSpan`]), and
+//! [`is_name`] recognizes a name.
 //!
-//! The meaning of settings, which differs from kind to kind, and whether orders contradict each
-//! other are left out.
+//! Left out: the meaning of settings, which differs from kind to kind, and whether orders contradict each other.
 #![tactic(auto)]
 
 mod bytes;

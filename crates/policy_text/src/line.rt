@@ -87,7 +87,7 @@ impl<'a> Line<'a> {
         &self.words
     }
 
-    /// The text of the word at a place, counted from 0, which is empty where the word is missing.
+    /// The text of the word at a place, counted from 0, which is empty if the word is missing.
     pub fn word(&self, place: usize) -> &'a [u8]
         ensures { result.now ≡ word_at self.now place }
     {
@@ -97,7 +97,7 @@ impl<'a> Line<'a> {
         }
     }
 
-    /// The column of the word at a place, or one past the last word where it is missing.
+    /// The column of the word at a place, or one past the last word if it is missing.
     pub fn column(&self, place: usize) -> u32
         ensures { result ≡ column_of self.now place }
     {
@@ -109,7 +109,7 @@ impl<'a> Line<'a> {
     }
 }
 
-// The words of a line that has no line feed.
+// The words of a line, which has no line feed.
 fn words_of<'a>(alloc: Global, line: &'a [u8]) -> Result<Vec<WordSpan<'a>>, AllocError>
     requires { length line.now < 2 ^ 31 }
     ensures { IfOk result (λ v. v.items ≡ words_of line.now) }
@@ -117,7 +117,7 @@ fn words_of<'a>(alloc: Global, line: &'a [u8]) -> Result<Vec<WordSpan<'a>>, Allo
     spans(alloc, content(line))
 }
 
-// What a line says.
+// A line without its comment and its line end.
 #[tactic(auto, using(crate::proofs::Splitting::before_some, crate::proofs::Splitting::before_none))]
 fn content(line: &[u8]) -> &[u8]
     ensures said { result.now ≡ content line.now }
@@ -172,7 +172,7 @@ fn push_word<'a>(
     Ok(())
 }
 
-// What stands before the first blank, and what stands behind it.
+// The text before the first blank, and the text after it.
 #[tactic(auto, using(crate::proofs::Splitting::is_cut_some, crate::proofs::Splitting::is_cut_none))]
 fn cut_word(text: &[u8]) -> (&[u8], &[u8])
     ensures cut { IsCut is_blank text.now result.0.now result.1.now }
@@ -198,7 +198,8 @@ pub struct Lines<'a> {
 }
 
 impl<'a> Lines<'a> {
-    /// Takes the first line that isn't blank, and the blank ones before it. Where there is no memory, none that has a word is taken.
+    /// Takes the first line that isn't blank, and the blank ones before it. If memory runs out, no line with a word is
+    /// taken.
     #[tactic(auto, using(crate::proofs::Splitting::after_blank, crate::proofs::Splitting::after_telling))]
     pub fn next(&mut self, alloc: Global) -> Result<Option<Line<'a>>, AllocError>
         requires { self.old.number + length self.old.rest.now < 2 ^ 31 }
@@ -221,7 +222,7 @@ impl<'a> Lines<'a> {
     }
 }
 
-// What stands before the first line feed, and what stands behind it.
+// The text before the first line feed, and the text after it.
 #[tactic(auto, using(crate::proofs::Splitting::is_cut_some, crate::proofs::Splitting::is_cut_none))]
 fn cut_line(text: &[u8]) -> (&[u8], &[u8])
     ensures cut { IsCut is_line_feed text.now result.0.now result.1.now }

@@ -13,9 +13,9 @@ use crate::value6::prefix6;
 use item_list::Items;
 use std::alloc::{AllocError, Global};
 
-/// Reads clauses, each of a leading word and a value. Each leading word may stand once, and no words
-/// are no clauses. The fault tells the place, counted from 0, of the first word that doesn't fit, or
-/// the number of words where one is missing.
+/// Reads clauses, each of a leading word and a value. Each leading word may occur once, and an empty list of words is a
+/// fault. The fault holds the place, counted from 0, of the first word that doesn't fit, or the number of words if one
+/// is missing.
 pub fn read_match(alloc: Global, words: &[Word]) -> Result<Match, MatchFault>
     ensures { ReadsMatch result (clauses_of words.now) }
 {
@@ -33,7 +33,7 @@ fn texts_of(alloc: Global, words: &[Word]) -> Result<Vec<&[u8]>, AllocError>
     Ok(texts)
 }
 
-/// Reads clauses from words of which the first stands at this place.
+/// Reads clauses from words of which the first has this place.
 pub(crate) fn read_clauses(
     alloc: Global,
     place: usize,
@@ -62,7 +62,7 @@ pub(crate) fn read_clauses(
     })
 }
 
-// May the word lead a clause behind these?
+// May the word lead a clause after these?
 fn may_lead(before: &[Clause], word: &[u8]) -> bool
     ensures { result ≡ may_lead before.now word.now }
 {
@@ -102,7 +102,7 @@ fn lead_of(clause: Clause) -> &'static [u8]
     }
 }
 
-/// What a leading word and its value say, where they are a clause.
+/// The clause of a leading word and its value, if they form one.
 pub fn clause_of(lead: &[u8], value: &[u8]) -> Option<Clause>
     ensures { result ≡ clause_of lead.now value.now }
 {

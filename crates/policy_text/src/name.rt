@@ -1,7 +1,7 @@
 use std::marker::Model;
 
-/// The name of a chain or a function: 1 to 32 lower-case letters, digits, underscores and dashes, a
-/// letter first, where `parse` made it.
+/// The name of a chain or a function. A name that `parse` made has 1 to 32 lower-case letters, digits, underscores and
+/// dashes, and begins with a letter.
 #[derive(Debug, Drop)]
 pub struct Name {
     letters: Vec<u8>,
@@ -32,7 +32,7 @@ impl Name {
         &self.letters
     }
 
-    /// Gives the bytes back.
+    /// Returns the bytes, without a copy.
     pub fn into_bytes(self) -> Vec<u8>
         ensures { result.items ≡ self }
     {
@@ -72,7 +72,7 @@ impl Word {
         &self.letters
     }
 
-    /// Gives the bytes back.
+    /// Returns the bytes, without a copy.
     pub fn into_bytes(self) -> Vec<u8>
         ensures { result.items ≡ self }
     {

@@ -20,7 +20,7 @@ pub fn names_at<'a>(
     Ok(names)
 }
 
-/// The name of the function at a place of a chain, counted from 0 as declared; none past its end.
+/// The name of the function at a place of a chain, counted from 0 as declared; empty past its end.
 pub fn name_at(functions: &[FunctionDecl], place: u32) -> &[u8]
     ensures { result.now ≡ name_at functions.now place }
 {

@@ -14,8 +14,8 @@ use crate::reading::after_line;
 use std::alloc::Global;
 use std::str::from_utf8;
 
-/// Reads a policy text of at most 1,048,576 bytes: the policy that it writes, or its first fault.
-/// Reading goes over the text once.
+/// Reads a policy text of at most 1,048,576 bytes. Returns the policy that it describes, or its first fault. Goes over
+/// the text once.
 #[tactic(auto, using(crate::proofs::Sound::policy_sound))]
 pub fn parse(alloc: Global, bytes: &[u8]) -> Result<Policy, TextFault>
     requires { length bytes.now ≤ 1048576 }

@@ -1,4 +1,4 @@
-//! What a policy text says: chains of functions, with their settings and the orders among them.
+//! A policy: chains of functions, with their settings and the orders among them.
 
 use crate::clause::Match;
 use crate::name::{Name, Word};
@@ -40,7 +40,7 @@ pub struct Setting {
     pub words: Items<Word>,
 }
 
-/// An order among the functions of one chain, which are counted from 0 as declared.
+/// An order among the functions of one chain, counted from 0 as declared.
 #[derive(Clone, Copy, Debug, PartialEq, Eq)]
 pub enum Statement {
     /// `order A before B`.

@@ -16,7 +16,7 @@ use action_profile::Kind;
 use item_list::Items;
 use std::alloc::{AllocError, Global};
 
-/// The most rules of a function.
+/// The greatest number of rules of a function.
 const MAX_RULES: usize = 256;
 
 // `fn NAME KIND`.
@@ -44,7 +44,7 @@ fn function_line(alloc: Global, draft: &mut Draft, line: &Line<'_>) -> Result<()
     Ok(())
 }
 
-// The line stands behind a function of the current chain, and has a word more.
+// Checks that the line follows a function of the current chain, and has a second word.
 fn of_function(draft: &Draft, line: &Line<'_>) -> Result<(), TextFault>
     ensures due { Gives (λ x. x) result (of_function draft.now line.now) }
     ensures stands { OnOk result (0 < length (functions_here draft.now)) }
@@ -92,7 +92,7 @@ fn rule_line(alloc: Global, draft: &mut Draft, line: &Line<'_>) -> Result<(), Te
     Ok(())
 }
 
-// One line more.
+// Adds one more line to the draft.
 #[tactic(auto, unfolding(crate::specs::Grammar::after_line))]
 pub fn after_line(alloc: Global, draft: &mut Draft, line: &Line<'_>) -> Result<(), TextFault>
     ensures { Gives (λ _. draft.new) result (after_line draft.old line.now) }

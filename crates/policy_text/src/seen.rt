@@ -1,4 +1,4 @@
-//! What of a packet the clauses look at.
+//! The values of a packet at which clauses look.
 
 ghost use Rattle.std.specs.Prelude.{◌≡◌};
 ghost use Rattle.policy_text.specs.Meeting.{first_bits, is_within, is_within6, is_between, has_id, is_bare, is_met, is_fitting};
@@ -8,7 +8,7 @@ use crate::clause::{Clause, Match};
 /// The IEEE 802.1Q tags of a frame.
 #[derive(Clone, Copy, Debug, PartialEq, Eq)]
 pub enum TagSeen {
-    /// The frame is too short to tell.
+    /// The frame is too short to have an EtherType.
     Absent,
     /// The frame has no tag.
     Bare,
@@ -16,9 +16,8 @@ pub enum TagSeen {
     Id(u16),
 }
 
-/// The values that the clauses look at, where the packet has them. Addresses have their first byte
-/// in the highest bits. An IPv6 packet has no `src` and `dst`, and an IPv4 packet no `src6` and
-/// `dst6`.
+/// The values at which clauses look, if the packet has them. Addresses have their first byte in the highest bits. An
+/// IPv6 packet has no `src` and `dst`, and an IPv4 packet no `src6` and `dst6`.
 #[derive(Clone, Copy, Debug, PartialEq, Eq)]
 pub struct Seen {
     pub tag: TagSeen,
@@ -31,8 +30,8 @@ pub struct Seen {
     pub proto: Option<u8>,
 }
 
-/// Does a packet meet every clause? A clause on an absent value isn't met, and a prefix length above
-/// the address's bits means all of them.
+/// Does a packet meet every clause? A clause on an absent value isn't met. A prefix length above the number of the
+/// address's bits means all of them.
 pub fn fits(fit: &Match, seen: &Seen) -> bool
     ensures { result ≡ is_fitting fit.now seen.now }
 {

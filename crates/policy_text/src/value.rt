@@ -1,4 +1,4 @@
-//! The values that a policy spells: numbers, addresses, prefixes and ranges of ports.
+//! The values in a policy text: numbers, addresses, prefixes and ranges of ports.
 
 ghost use Rattle.std.specs.Prelude.{◌≡◌, ◌≤◌, ◌∷◌, [], ◌==◌, ◌&&◌, ◌<◌, length, Bool, true, Option, Some, None, IfSome, MatchOption, position};
 ghost use Rattle.std.specs.List.{slice_split, list_all};
@@ -25,7 +25,7 @@ fn is_name_byte(b: u8) -> bool
     b.is_ascii_lowercase() || b.is_ascii_digit() || b == b'_' || b == b'-'
 }
 
-/// A decimal number of at most `digits` digits, of which zeros may lead, up to `greatest`.
+/// A decimal number of at most `digits` digits, with leading zeros allowed, up to `greatest`.
 pub fn number(text: &[u8], digits: usize, greatest: u64) -> Option<u64>
     requires { digits ≤ 20 }
     ensures { result ≡ number_of digits greatest text.now }
@@ -60,7 +60,7 @@ fn digits_value(text: &[u8]) -> u128
     value
 }
 
-/// An IPv4 address (RFC 791): four numbers up to 255, parted by dots. Its first byte is in the highest
+/// An IPv4 address (RFC 791): four numbers up to 255, separated by dots. Its first byte is in the highest
 /// bits.
 #[tactic(auto, using(crate::proofs::Splitting::some_part, crate::proofs::Splitting::address_none))]
 pub fn address(text: &[u8]) -> Option<u32>
@@ -92,8 +92,8 @@ fn octet(text: &[u8]) -> Option<u8>
     Some(value as u8)
 }
 
-/// An IPv4 prefix: an address, which means 32 bits, or an address, a slash and how many of its bits
-/// count, in one or two digits.
+/// An IPv4 prefix: an address, which means 32 bits, or an address, a slash and the length of the prefix, in one or two
+/// digits.
 #[tactic(auto, using(crate::proofs::Splitting::some_part, crate::proofs::Splitting::prefix_none))]
 pub fn prefix(text: &[u8]) -> Option<(u32, u8)>
     ensures { result ≡ prefix_of text.now }
@@ -134,7 +134,7 @@ fn port(text: &[u8]) -> Option<u16>
     Some(value as u16)
 }
 
-/// What stands before the first such byte, and what stands behind it.
+/// The text before the first byte `at`, and the text after it.
 #[tactic(auto, using(crate::proofs::Splitting::cut_some, crate::proofs::Splitting::cut_none))]
 pub(crate) fn cut(text: &[u8], at: u8) -> Option<(&[u8], &[u8])>
     ensures { MatchOption result (slice_split (λ b. b == at) text.now ≡ text.now ∷ []) (λ parts. slice_split (λ b. b == at) text.now ≡ parts.0.now ∷ slice_split (λ b. b == at) parts.1.now) }
@@ -145,7 +145,7 @@ pub(crate) fn cut(text: &[u8], at: u8) -> Option<(&[u8], &[u8])>
     }
 }
 
-/// The place of the first such byte, counted from 0.
+/// The place of the first byte `at`, counted from 0.
 pub(crate) fn first_at(text: &[u8], at: u8) -> Option<usize>
     ensures { result ≡ position (λ b. b == at) text.now }
 {

@@ -8,9 +8,8 @@ ghost use Rattle.policy_text.specs.Groups.{IsNarrow, packed};
 use crate::bytes::hex_digit;
 use crate::value::{cut, number};
 
-/// An IPv6 address (RFC 4291, 2.2): eight groups of 1 to 4 hexadecimal digits, of either case, parted
-/// by colons, of which one run of one or more groups of zero may be written as `::`. Its first byte
-/// is in the highest bits.
+/// An IPv6 address (RFC 4291, 2.2): eight groups of 1 to 4 hexadecimal digits, of either case, separated by colons. One
+/// run of one or more groups of zero may be written as `::`. The address's first byte is in the highest bits.
 #[tactic(auto, unfolding(crate::specs::Addresses6::address6_of))]
 pub fn address6(text: &[u8]) -> Option<u128>
     ensures { result ≡ address6_of text.now }
@@ -21,8 +20,8 @@ pub fn address6(text: &[u8]) -> Option<u128>
     }
 }
 
-/// An IPv6 prefix (RFC 4291, 2.3): an address, which means 128 bits, or an address, a slash and how
-/// many of its first bits count, in one to three digits.
+/// An IPv6 prefix (RFC 4291, 2.3): an address, which means 128 bits, or an address, a slash and the length of the
+/// prefix, in one to three digits.
 #[tactic(auto, using(crate::proofs::Splitting::some_part, crate::proofs::Splitting::prefix6_none))]
 pub fn prefix6(text: &[u8]) -> Option<(u128, u8)>
     ensures { result ≡ prefix6_of text.now }
@@ -39,7 +38,7 @@ pub fn prefix6(text: &[u8]) -> Option<(u128, u8)>
     Some((front, bits as u8))
 }
 
-// Where `::` first stands.
+// The place of the first `::`.
 fn gap_in(text: &[u8]) -> Option<usize>
     ensures first { result ≡ gap_in text.now }
     ensures within { IfSome result (λ gap. gap + 2 ≤ length text.now) }
@@ -74,7 +73,7 @@ fn around_gap(front: &[u8], back: &[u8]) -> Option<u128>
     }
 }
 
-// At most eight groups, parted by colons.
+// At most eight groups, separated by colons.
 fn read_groups(text: &[u8]) -> Option<Groups>
     ensures read { result ≡ option_and_then packed (groups_of text.now) }
     ensures narrow { IfSome result (λ read. IsNarrow read) }
@@ -105,7 +104,7 @@ fn group(text: &[u8]) -> Option<u16>
     Some(value)
 }
 
-/// Groups beside each other as one number, the last in the lowest bits.
+/// Groups next to each other as one number, the last in the lowest bits.
 #[derive(Clone, Copy)]
 struct Groups {
     value: u128,
@@ -116,7 +115,7 @@ impl Groups {
     ghost use Rattle.std.specs.Prelude.{◌≡◌, ◌-◌, ◌*◌, ◌^◌, IfSome};
     ghost use Rattle.policy_text.specs.Groups.{IsNarrow, with_part};
 
-    // With the group of this text behind the others, where there is room for it.
+    // These groups and the group of this text after them, if there is room for it.
     fn with(self, part: &[u8]) -> Option<Groups>
         requires { IsNarrow self }
         ensures more { result ≡ with_part self part.now }
@@ -132,7 +131,7 @@ impl Groups {
         })
     }
 
-    // The number of an address that begins with these groups and goes on with zeros.
+    // The number of an address that begins with these groups and continues with zeros.
     fn in_front(self) -> u128
         requires { IsNarrow self }
         ensures { result ≡ self.value * 2 ^ (16 * (8 - self.count)) }

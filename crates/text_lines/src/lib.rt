@@ -1,9 +1,10 @@
-//! Lines of text, as faults, plans and reports are told.
+//! Lines of text, as messages, plans and reports print them.
 //!
-//! A text is made of [`Piece`]s, which are bytes or decimal numbers, one behind the other: [`join`] gives it, and
-//! [`push_pieces`] adds it to a text. [`line`] and [`push_line`] put a line feed behind the pieces. [`push_words`]
-//! adds words, each after one space. The one error is want of memory, and nothing is said then of a text that was
-//! to be added to. `specs/Texts.antt` has the words for contracts above.
+//! A text is made of [`Piece`]s, which are bytes or decimal numbers, one after another: [`join`] makes a new text of
+//! them, and [`push_pieces`] appends them to a text. [`line`] and [`push_line`] also add a line feed after the last
+//! piece. [`push_words`] appends words, each after one space. The only error is that memory runs out, and then the
+//! content of a text that was to be extended is unspecified. `specs/Texts.antt` has the definitions for the contracts
+//! of higher layers.
 #![tactic(auto)]
 
 mod pieces;

@@ -1,4 +1,4 @@
-//! Bytes and numbers one behind the other.
+//! Bytes and numbers, one after another.
 ghost use Rattle.std.specs.Prelude.{◌≡◌, ◌++◌, IfOk, OnOk, codes};
 ghost use Rattle.std.specs.List.{flat_map};
 ghost use Rattle.std.specs.Fmt.{decimal};
@@ -11,11 +11,11 @@ use std::alloc::{AllocError, Global};
 #[derive(Clone, Copy, Debug)]
 pub enum Piece<'a> {
     Text(&'a [u8]),
-    /// Stands for its decimal digits.
+    /// A number, printed in decimal digits without leading zeros.
     Number(u64),
 }
 
-/// Pieces one behind the other.
+/// A new text of the pieces, one after another.
 pub fn join(alloc: Global, pieces: &[Piece]) -> Result<Vec<u8>, AllocError>
     ensures { IfOk result (λ text. text.items ≡ flat_map piece_text pieces.now) }
 {
@@ -24,7 +24,7 @@ pub fn join(alloc: Global, pieces: &[Piece]) -> Result<Vec<u8>, AllocError>
     Ok(text)
 }
 
-/// Pieces one behind the other, and a line feed.
+/// A new text of the pieces, one after another, and a line feed.
 pub fn line(alloc: Global, pieces: &[Piece]) -> Result<Vec<u8>, AllocError>
     ensures { IfOk result (λ line. line.items ≡ flat_map piece_text pieces.now ++ codes "\n") }
 {
@@ -33,7 +33,7 @@ pub fn line(alloc: Global, pieces: &[Piece]) -> Result<Vec<u8>, AllocError>
     Ok(line)
 }
 
-/// Adds pieces one behind the other.
+/// Appends the pieces, one after another.
 pub fn push_pieces(alloc: Global, text: &mut Vec<u8>, pieces: &[Piece]) -> Result<(), AllocError>
     ensures { OnOk result (text.new.items ≡ text.old.items ++ flat_map piece_text pieces.now) }
 {
@@ -43,7 +43,7 @@ pub fn push_pieces(alloc: Global, text: &mut Vec<u8>, pieces: &[Piece]) -> Resul
     Ok(())
 }
 
-/// Adds pieces one behind the other, and a line feed.
+/// Appends the pieces, one after another, and a line feed.
 pub fn push_line(alloc: Global, text: &mut Vec<u8>, pieces: &[Piece]) -> Result<(), AllocError>
     ensures { OnOk result (text.new.items ≡ text.old.items ++ (flat_map piece_text pieces.now ++ codes "\n")) }
 {

@@ -4,7 +4,7 @@ ghost use Rattle.text_lines.specs.Texts.{spaced};
 
 use std::alloc::AllocError;
 
-/// Adds words, each after one space.
+/// Appends words, each after one space.
 pub fn push_words(text: &mut Vec<u8>, words: &[&[u8]]) -> Result<(), AllocError>
     ensures { OnOk result (text.new.items ≡ text.old.items ++ spaced (map (λ word. word.now) words.now)) }
 {
@@ -14,7 +14,7 @@ pub fn push_words(text: &mut Vec<u8>, words: &[&[u8]]) -> Result<(), AllocError>
     Ok(())
 }
 
-/// Adds a word after one space.
+/// Appends a word after one space.
 pub fn push_word(text: &mut Vec<u8>, word: &[u8]) -> Result<(), AllocError>
     ensures { OnOk result (text.new.items ≡ text.old.items ++ codes " " ++ word.now) }
 {

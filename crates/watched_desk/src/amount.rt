@@ -1,4 +1,4 @@
-//! How far a run is, and the line that tells it.
+//! How far a run is, and the line that shows it.
 ghost use Rattle.std.specs.Prelude.{◌≤◌, IfSome};
 
 use std::fmt;
@@ -7,20 +7,20 @@ use std::time::Duration;
 /// The bytes of a megabyte.
 const MEGABYTE: u64 = 1_000_000;
 
-/// From so many seconds on, the time that is left is told in minutes.
+/// From this number of seconds on, the time that is left is shown in minutes.
 const LONG: u64 = 120;
 
-/// How far the reading of a capture is. It is displayed as `nfp: 45 % of 1000 MB, 700000 records, 85.3 MB/s, 6 s left`, without
-/// percent and time left where the size isn't known.
+/// How far the reading of a capture is. It is displayed as `nfp: 45 % of 1000 MB, 700000 records, 85.3 MB/s, 6 s left`,
+/// without percent and time left if the size isn't known.
 #[derive(Clone, Copy, Debug)]
 pub struct Amount {
     /// The bytes that were read.
     pub bytes: u64,
-    /// The bytes of the whole file, where they are known.
+    /// The bytes of the whole file, if known.
     pub size: Option<u64>,
     /// The records that were read whole.
     pub records: u64,
-    /// How long it took.
+    /// How long it took so far.
     pub time: Duration,
 }
 
@@ -35,7 +35,7 @@ impl Amount {
         (self.bytes.saturating_mul(100) / size).min(100)
     }
 
-    // Bytes in a millisecond, at least one.
+    // The speed in bytes per millisecond, at least 1.
     fn speed(&self) -> u64
         ensures { 1 ≤ result }
     {

@@ -9,7 +9,7 @@ const SECTION: u32 = 0x0a0d_0d0a;
 /// The type of an enhanced packet block.
 const PACKET: u32 = 6;
 
-/// The bytes of a block that tell its type and its length, and of a section header the magic too.
+/// The number of bytes of a block that hold its type and its length, and of a section header also the magic.
 const BLOCK_HEAD: u32 = 8;
 
 const SECTION_HEAD: u32 = 12;
@@ -17,16 +17,16 @@ const SECTION_HEAD: u32 = 12;
 /// The first byte of a magic whose highest byte comes first.
 const MAGIC_HIGH: u8 = 0x1a;
 
-/// Where the next byte of a capture stands.
+/// Where in a block the next byte of a capture is.
 #[derive(Clone, Copy)]
 enum Place {
-    /// So many bytes behind the beginning of a block.
+    /// This number of bytes after the beginning of a block.
     Head(u32),
-    /// So many bytes before the end of a block, and at least one.
+    /// This number of bytes before the end of a block, at least one.
     Body(u32),
 }
 
-/// Counts the packets of a pcapng capture whose bytes it is given piece by piece, in any pieces.
+/// Counts the packets of a pcapng capture from its bytes, in any pieces.
 #[derive(Drop)]
 pub struct BlockCount {
     place: Place,
@@ -48,12 +48,12 @@ impl BlockCount {
         }
     }
 
-    /// The packets of which all bytes have passed.
+    /// The number of packets of which all bytes have passed.
     pub fn packets(&self) -> u64 {
         self.packets
     }
 
-    /// More bytes have passed.
+    /// Takes note of the next bytes of the capture.
     pub fn follow(&mut self, bytes: &[u8]) {
         let mut rest = bytes;
         'pieces: while !rest.is_empty() {
@@ -62,7 +62,8 @@ impl BlockCount {
         }
     }
 
-    // Takes some bytes off the front, and says how many: what is here of a block's body, or one byte of its head.
+    // Takes some bytes off the front, and returns the number of them: the part of a block's body that is here, or one
+    // byte of its head.
     fn take(&mut self, bytes: &[u8]) -> usize
         requires { 0 < length bytes.now }
         ensures some { 0 < result }
@@ -81,7 +82,8 @@ impl BlockCount {
         }
     }
 
-    // A byte of a block's head. A section header shows its order by its magic, the others have that of their section.
+    // A byte of a block's head. A section header shows its order by its magic, the other blocks have that of their
+    // section.
     fn head(&mut self, at: u32, byte: u8) {
         match at {
             0..=3 => self.kind[at as usize] = byte,
@@ -98,7 +100,7 @@ impl BlockCount {
         }
     }
 
-    // The head of a block ended, of so many bytes.
+    // The head of a block, of `head` bytes, has ended.
     fn begin_body(&mut self, head: u32) {
         let left = number(self.order, self.length).saturating_sub(head);
         if left == 0 {
@@ -108,7 +110,7 @@ impl BlockCount {
         }
     }
 
-    // So many bytes of a body, of which so many were left.
+    // `taken` bytes of a body have passed, of which `left` were left.
     fn body(&mut self, left: u32, taken: usize) {
         if (left as usize) <= taken {
             self.end_block();

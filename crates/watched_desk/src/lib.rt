@@ -1,14 +1,15 @@
 //! A desk that is watched, and what a watcher makes of what it sees.
 //!
-//! [`Watched`] is a desk around a desk: each call goes to the desk inside, and its answer comes back as it is. A [`Watcher`] is
-//! told of the call. The slots that a watched desk shows are those of the desk inside, so what is proved over any desk holds
-//! over it, whatever the watcher does.
+//! [`Watched`] is a desk around a desk: each call goes to the desk inside, and its result is returned unchanged. A
+//! [`Watcher`] is informed of the call. The slots that a watched desk shows are those of the desk inside, so what is
+//! proved for any desk holds for it, whatever the watcher does.
 //!
-//! Two watchers are here. [`Seen`] keeps what a message to the operator needs: the names, the text of the policy and the first
-//! bytes of the capture, which can't be read again where they come from a pipe. [`Progress`] counts what passes of the capture,
-//! and shows on standard error how far a long run is, in one line that is written over itself. [`Watch`] is both of them.
+//! There are two watchers. [`Seen`] keeps what a message to the operator needs: the names, the text of the policy and
+//! the first bytes of the capture, which can't be read again if they come from a pipe. [`Progress`] counts the bytes of
+//! the capture that pass, and shows on standard error how far a long run is, in one line that is overwritten. [`Watch`]
+//! is both of them.
 //!
-//! Promised: the slots. What a watcher keeps or shows is tested and not proved.
+//! Only the slots are promised. What a watcher keeps or shows is tested and not proved.
 #![tactic(auto)]
 
 mod amount;

@@ -8,22 +8,22 @@ use std::fs;
 use std::rt::{Clock, Files};
 use std::time::{Duration, Instant};
 
-/// How many milliseconds a run has to last before it is told how far it is.
+/// The milliseconds that a run has to last before its progress is shown.
 const PATIENCE: u128 = 1500;
 
-/// How many milliseconds a line stands at least.
+/// The least milliseconds between two lines.
 const PAUSE: u128 = 200;
 
-/// How many bytes pass at least between two looks at the clock.
+/// The least bytes between two looks at the clock.
 const STRIDE: u64 = 65536;
 
 /// Goes to the beginning of the terminal's line and clears it.
 const CLEAR: &str = "\r\x1b[K";
 
-/// Shows on standard error, which should be a terminal, how much of the capture was read: one line that is written over itself,
+/// Shows on standard error, which should be a terminal, how much of the capture was read: one line that is overwritten,
 /// from about 1.5 seconds on and some five times a second. It is cleared before the last line of the run is printed.
 ///
-/// The size of the capture is known where it is a file. Where the clock or standard error fails, nothing is shown.
+/// The size of the capture is known if it is a file. If the clock or standard error fails, nothing is shown.
 #[derive(Drop)]
 pub struct Progress<R: Clock + Files + Eprint + Drop> {
     rt: R,
@@ -36,7 +36,7 @@ pub struct Progress<R: Clock + Files + Eprint + Drop> {
 }
 
 impl<R: Clock + Files + Eprint + Drop> Progress<R> {
-    /// The run begins now.
+    /// Starts the clock of a run.
     pub fn new(rt: R) -> Self {
         let start = Instant::now(&rt).ok();
         Progress {
@@ -50,7 +50,7 @@ impl<R: Clock + Files + Eprint + Drop> Progress<R> {
         }
     }
 
-    /// Clears the line where it stands.
+    /// Clears the line, if one is shown.
     pub fn clear(&mut self) {
         if self.shown.is_some() {
             self.shown = None;
@@ -58,7 +58,7 @@ impl<R: Clock + Files + Eprint + Drop> Progress<R> {
         }
     }
 
-    // Bytes of the capture passed.
+    // Counts bytes of the capture that have passed.
     fn count(&mut self, bytes: &[u8]) {
         self.records.follow(bytes);
         self.bytes = self.bytes.saturating_add(bytes.len() as u64);
@@ -68,7 +68,7 @@ impl<R: Clock + Files + Eprint + Drop> Progress<R> {
         }
     }
 
-    // Shows how far the run is, where it is time to.
+    // Shows how far the run is, if a new line is due.
     fn look(&mut self) {
         let Some(start) = self.start else {
             return;
@@ -120,7 +120,7 @@ impl<R: Clock + Files + Eprint + Drop> Watcher for Progress<R> {
     }
 }
 
-// The bytes of a file, where it is one.
+// The size of a file in bytes, if `name` is a file.
 fn size_of(rt: &impl Files, name: &str) -> Option<u64> {
     match fs::metadata(rt, name) {
         Ok(told) if told.is_file() => Some(told.len()),

@@ -4,10 +4,10 @@ ghost use Rattle.std.specs.Prelude.{◌≤◌, ◌<◌, length};
 use crate::block_count::BlockCount;
 use capture_bytes::{Endian, u32_at};
 
-/// The bytes of a capture's head.
+/// The number of bytes of a capture's head.
 const FILE_HEAD: u32 = 24;
 
-/// The bytes of a record's head.
+/// The number of bytes of a record's head.
 const RECORD_HEAD: usize = 16;
 
 /// The first of the four bytes of a record's head that say how long its frame is.
@@ -19,18 +19,18 @@ const MAGIC_HIGH: u8 = 0xa1;
 /// The first byte of a pcapng capture.
 const NG_FIRST: u8 = 0x0a;
 
-/// Where the next byte of a capture stands.
+/// Where in a capture the next byte is.
 #[derive(Clone, Copy)]
 enum Place {
-    /// So many bytes behind the beginning of the capture's head.
+    /// This number of bytes after the beginning of the capture's head.
     FileHead(u32),
-    /// So many bytes behind the beginning of a record's head.
+    /// This number of bytes after the beginning of a record's head.
     RecordHead(usize),
-    /// So many bytes before the end of a frame, and at least one.
+    /// This number of bytes before the end of a frame, at least one.
     Frame(u32),
 }
 
-/// By which format a capture is counted: its first byte tells.
+/// The format by which a capture is counted. Its first byte decides.
 #[derive(Clone, Copy, PartialEq, Eq)]
 enum Format {
     Unknown,
@@ -38,7 +38,7 @@ enum Format {
     Ng,
 }
 
-/// Counts the packets of a capture of either format whose bytes it is given piece by piece, in any pieces.
+/// Counts the packets of a capture of either format from its bytes, in any pieces.
 #[derive(Drop)]
 pub struct RecordCount {
     format: Format,
@@ -62,7 +62,7 @@ impl RecordCount {
         }
     }
 
-    /// The packets of which all bytes have passed.
+    /// The number of packets of which all bytes have passed.
     pub fn records(&self) -> u64 {
         match self.format {
             Format::Ng => self.blocks.packets(),
@@ -70,7 +70,7 @@ impl RecordCount {
         }
     }
 
-    /// More bytes have passed.
+    /// Takes note of the next bytes of the capture.
     pub fn follow(&mut self, bytes: &[u8]) {
         if let (Format::Unknown, Some(first)) = (self.format, bytes.first()) {
             self.format = format_of(*first);
@@ -81,7 +81,7 @@ impl RecordCount {
         }
     }
 
-    // More bytes of a classic capture have passed.
+    // Takes note of the next bytes of a classic capture.
     fn follow_records(&mut self, bytes: &[u8]) {
         let mut rest = bytes;
         'pieces: while !rest.is_empty() {
@@ -90,8 +90,8 @@ impl RecordCount {
         }
     }
 
-    // Takes some bytes off the front, and says how many: what is here of a frame, a record's head that is here whole, or one byte of
-    // a head.
+    // Takes some bytes off the front, and returns the number of them: the part of a frame that is here, a record's head
+    // that is here whole, or one byte of a head.
     fn take(&mut self, bytes: &[u8]) -> usize
         requires { 0 < length bytes.now }
         ensures some { 0 < result }
@@ -120,7 +120,7 @@ impl RecordCount {
         }
     }
 
-    // A byte of the capture's head, whose first byte says the order.
+    // A byte of the capture's head, whose first byte shows the order.
     fn file_head(&mut self, at: u32, byte: u8) {
         if at == 0 && byte == MAGIC_HIGH {
             self.order = Endian::Big;
@@ -144,7 +144,7 @@ impl RecordCount {
         }
     }
 
-    // The head of a record ended.
+    // The head of a record has ended.
     fn begin_frame(&mut self) {
         if self.length == 0 {
             self.end_record();
@@ -153,7 +153,7 @@ impl RecordCount {
         }
     }
 
-    // So many bytes of a frame, of which so many were left.
+    // `taken` bytes of a frame have passed, of which `left` were left.
     fn frame(&mut self, left: u32, taken: usize) {
         if (left as usize) <= taken {
             self.end_record();
@@ -178,7 +178,7 @@ fn format_of(first: u8) -> Format {
     }
 }
 
-// The number whose bytes so far were these and this. The four bytes of one push out whatever stood before.
+// The number with one more byte of it. The four bytes of a number push out what was there before.
 fn joined(order: Endian, number: u32, byte: u8) -> u32 {
     match order {
         Endian::Big => number.wrapping_shl(8) | u32::from(byte),

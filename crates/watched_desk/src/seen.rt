@@ -1,14 +1,14 @@
-//! What a message to the operator needs of a run.
+//! What a message to the operator needs to know of a run.
 
 use crate::watched::Watcher;
 use nfp_outside::Slot;
 use std::alloc::Global;
 
-/// How many of the first bytes of a capture are kept.
+/// The number of first bytes of a capture that are kept.
 const FRONT: usize = 64;
 
-/// The names of a run, the text of its policy and of its graphs, and the first bytes of its capture. Where there was no memory for one of them, it
-/// is as if it had not been seen.
+/// The names of a run, the text of its policy and of its graphs, and the first bytes of its capture. If there was no
+/// memory for one of them, it counts as not seen.
 #[derive(Drop)]
 pub struct Seen {
     alloc: Global,
@@ -23,7 +23,7 @@ pub struct Seen {
 }
 
 impl Seen {
-    /// Nothing was seen yet.
+    /// A record in which nothing was seen yet.
     pub fn new(alloc: Global) -> Self {
         Seen {
             alloc,
@@ -38,7 +38,7 @@ impl Seen {
         }
     }
 
-    /// The name that a slot was to be attached with.
+    /// The name with which a slot was to be attached, if there was such a call.
     pub fn name(&self, slot: Slot) -> Option<&str> {
         let name = match slot {
             Slot::Policy => &self.policy_name,
@@ -54,7 +54,7 @@ impl Seen {
         }
     }
 
-    /// What was read of the policy.
+    /// The part of the policy that was read.
     pub fn policy(&self) -> Option<&[u8]> {
         match &self.policy {
             Some(bytes) => Some(bytes.as_slice()),
@@ -62,7 +62,7 @@ impl Seen {
         }
     }
 
-    /// What was read of the text of graphs.
+    /// The part of the text of graphs that was read.
     pub fn graph(&self) -> Option<&[u8]> {
         match &self.graph {
             Some(bytes) => Some(bytes.as_slice()),
@@ -109,7 +109,7 @@ impl Watcher for Seen {
     fn writing(&mut self, _slot: Slot) {}
 }
 
-// Keeps more of a text, or lets go of it whole.
+// Appends to a text, or drops the whole text if memory runs out.
 fn keep(text: &mut Option<Vec<u8>>, bytes: &[u8]) {
     if let Some(kept) = text
         && kept.extend_from_slice(bytes).is_err()

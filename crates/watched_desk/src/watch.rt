@@ -1,4 +1,4 @@
-//! What the program watches a run with.
+//! The watcher that the program uses.
 
 use crate::progress::Progress;
 use crate::seen::Seen;
@@ -6,7 +6,7 @@ use crate::watched::Watcher;
 use nfp_outside::Slot;
 use std::rt::{Clock, Files};
 
-/// Keeps what a message needs, and shows how far the run is, where that is wanted.
+/// Keeps what a message needs, and shows how far the run is, if that is wanted.
 #[derive(Drop)]
 pub struct Watch<R: Clock + Files + Eprint + Drop> {
     pub seen: Seen,
@@ -14,7 +14,7 @@ pub struct Watch<R: Clock + Files + Eprint + Drop> {
 }
 
 impl<R: Clock + Files + Eprint + Drop> Watch<R> {
-    /// The run is over: what was seen of it. Nothing is shown any more.
+    /// Ends the run and returns what was seen of it. Nothing is shown any more.
     pub fn end(self) -> Seen {
         let Watch { seen, progress } = self;
         if let Some(mut progress) = progress {

@@ -2,19 +2,19 @@
 
 use nfp_outside::{Desk, DeskFault, Slot};
 
-/// What is told of the calls on a watched desk. It has no way to change what they do, and nothing is promised of it.
+/// Is informed of the calls on a watched desk. It can't change what they do, and nothing is promised of it.
 pub trait Watcher {
     /// A slot is about to be given this name.
     fn attaching(&mut self, slot: Slot, name: &str);
 
-    /// These bytes were taken out of a read slot, behind those that were told before.
+    /// These bytes were taken out of a read slot, after those of earlier calls.
     fn passed(&mut self, slot: Slot, bytes: &[u8]);
 
     /// A piece is about to be put into a write slot.
     fn writing(&mut self, slot: Slot);
 }
 
-/// A desk whose calls a watcher is told of. Its slots are those of the desk inside.
+/// A desk whose calls a watcher is informed of. Its slots are those of the desk inside.
 #[derive(Drop)]
 pub struct Watched<D, W> {
     desk: D,
@@ -25,7 +25,7 @@ impl<D: Desk, W: Watcher> Watched<D, W> {
     ghost use Rattle.std.specs.Prelude.{◌≡◌};
     ghost use Rattle.nfp_outside.specs.declared.slot.Slot.{Slot};
 
-    /// The desk, watched from now on.
+    /// Puts the desk under this watcher.
     pub fn new(desk: D, watcher: W) -> Self
         ensures { let slots = ⟦<Watched<D, W> as Desk>⟧.slots in
             (s : Slot) → slots result s ≡ D.slots desk s }
