@@ -1,4 +1,4 @@
-//! Addresses as text, and when two are the same.
+//! Addresses: as text, compared and hashed.
 ghost use Rattle.std.specs.Prelude.{◌≡◌, ◌++◌, ◌<◌, OnOk, codes, fold, nat_eq};
 ghost use Rattle.std.specs.Cmp.Lexicographic.{pointwise};
 ghost use Rattle.std.specs.List.{flat_map};
@@ -13,7 +13,8 @@ use std::hash::Hasher;
 use std::net::IpAddr;
 use text_lines::{Piece, push_pieces};
 
-/// Are two addresses the same? It answers as `==` does. Those of IPv4 are compared as numbers, which is cheaper than byte by byte.
+/// Are two addresses the same? The result is that of `==`. Those of IPv4 are compared as numbers, which is cheaper than
+/// byte by byte.
 #[inline(always)]
 pub fn same_address(a: &IpAddr, b: &IpAddr) -> bool
     ensures { result ≡ is_same_address a.now b.now }
@@ -25,7 +26,7 @@ pub fn same_address(a: &IpAddr, b: &IpAddr) -> bool
     }
 }
 
-/// Feeds an address and a port there to a hasher: of IPv4 as one number, since that costs the least.
+/// Feeds an address and a port to a hasher. For IPv4 both are one number, which costs the least.
 #[inline(always)]
 pub fn hash_endpoint<H: Hasher>(address: &IpAddr, port: u16, state: &mut H)
     ensures { state.new ≡ fold H.write state.old (endpoint_writes address.now port) }
@@ -48,9 +49,9 @@ fn same_octets(a: [u8; 4], b: [u8; 4]) -> bool
     u32::from_be_bytes(a) == u32::from_be_bytes(b)
 }
 
-/// Appends an address of either version: one of IPv4 as four decimal numbers parted by dots, the highest byte first (RFC 791, 3.1), and
-/// one of IPv6 as eight hexadecimal groups in lower case parted by colons, without leading zeros and none of them left out (RFC 4291,
-/// 2.2). Where memory runs out, nothing is said of the text.
+/// Appends an address of either version: one of IPv4 as four decimal numbers separated by dots, the highest byte first
+/// (RFC 791, 3.1), and one of IPv6 as eight hexadecimal groups in lower case separated by colons, without leading zeros
+/// and with no group left out (RFC 4291, 2.2). If memory runs out, the content of the text is unspecified.
 pub fn push_ip_address(alloc: Global, text: &mut Vec<u8>, address: IpAddr) -> Result<(), AllocError>
     ensures { OnOk result (text.new.items ≡ text.old.items ++ address_text address) }
 {
@@ -60,8 +61,8 @@ pub fn push_ip_address(alloc: Global, text: &mut Vec<u8>, address: IpAddr) -> Re
     }
 }
 
-/// Appends an IPv4 address as four decimal numbers parted by dots, the highest byte first (RFC 791, 3.1).
-/// Where memory runs out, nothing is said of the text.
+/// Appends an IPv4 address as four decimal numbers separated by dots, the highest byte first (RFC 791, 3.1). If memory
+/// runs out, the content of the text is unspecified.
 #[tactic(auto, unfolding(crate::specs::Addresses::dotted))]
 pub fn push_address(alloc: Global, text: &mut Vec<u8>, address: u32) -> Result<(), AllocError>
     ensures { OnOk result (text.new.items ≡ text.old.items ++ dotted address) }
@@ -82,7 +83,7 @@ pub fn push_address(alloc: Global, text: &mut Vec<u8>, address: u32) -> Result<(
     )
 }
 
-/// Appends groups in hexadecimal digits, parted by colons.
+/// Appends groups in hexadecimal digits, separated by colons.
 fn push_groups(text: &mut Vec<u8>, groups: &[u16]) -> Result<(), AllocError>
     ensures { OnOk result (text.new.items ≡ text.old.items ++ groups_text groups.now) }
 {
@@ -93,7 +94,7 @@ fn push_groups(text: &mut Vec<u8>, groups: &[u16]) -> Result<(), AllocError>
     push_more_groups(text, rest)
 }
 
-/// Appends groups, each behind a colon.
+/// Appends groups, each after a colon.
 fn push_more_groups(text: &mut Vec<u8>, groups: &[u16]) -> Result<(), AllocError>
     ensures { OnOk result (text.new.items ≡ text.old.items ++ flat_map (λ group. codes ":" ++ hex group) groups.now) }
 {

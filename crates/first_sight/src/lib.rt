@@ -1,18 +1,18 @@
 //! What functions with a state have in common: a table in the order of first sight, its lines, and the text of
 //! an address.
 //!
-//! A [`FirstSeen`] keeps something for each key, as flows and sources are. A key that was seen keeps its place,
-//! and a new one goes last; places are counted from 0. A contract sees the list of the keys, each with what
-//! belongs to it, and the definitions of `specs/FirstSight.antt` say what becomes of that list. The code finds a
-//! key by its hash, so nothing is searched. Nothing is ever forgotten.
+//! A [`FirstSeen`] keeps a value for each key; keys are for example flows and sources. A key that was seen keeps its
+//! place, and a new one goes last; places are counted from 0. A contract sees the list of the keys, each with its
+//! value, and the definitions of `specs/FirstSight.antt` say what becomes of that list. The code finds a key by its
+//! hash, without a search. Nothing is ever forgotten.
 //!
-//! A function that tells its state line by line says what the line of an entry is, by its [`EntryLines`];
-//! [`FirstSeen::push_lines`] appends them all, or nothing where memory runs out. [`push_address`] appends an IPv4
-//! address as four decimal numbers (RFC 791, 3.1), and [`push_ip_address`] one of either version, that of IPv6 as
-//! eight hexadecimal groups (RFC 4291, 2.2); where memory runs out, nothing is said of what these two were to add to. [`same_address`] says when two are the same,
-//! and [`hash_endpoint`] is how one is hashed that is part of a key.
+//! A function that prints its state line by line implements [`EntryLines`], which defines the line of an entry.
+//! [`FirstSeen::push_lines`] appends them all, or nothing if memory runs out. [`push_address`] appends an IPv4 address
+//! as four decimal numbers (RFC 791, 3.1), and [`push_ip_address`] one of either version, that of IPv6 as eight
+//! hexadecimal groups (RFC 4291, 2.2); if memory runs out in these two, the content of the text is unspecified.
+//! [`same_address`] compares two addresses, and [`hash_endpoint`] hashes an address that is part of a key.
 //!
-//! In other words than the definitions: [`noted_is_found`] and [`lines_of_keys`].
+//! Stated without the definitions: [`noted_is_found`] and [`lines_of_keys`].
 #![tactic(auto)]
 
 mod address;

@@ -1,17 +1,17 @@
-//! The lines that tell a table.
+//! A table as lines of text.
 
 use crate::first_seen::FirstSeen;
 use std::alloc::{AllocError, Global};
 use std::hash::Hash;
 
-/// Who tells a table in lines, one for each key.
+/// Prints a table as lines, one for each key.
 pub trait EntryLines<K, V> {
     ghost use Rattle.std.specs.Prelude.{◌≡◌, ◌<◌, ◌^◌, ◌++◌, ℕ, List, OnOk};
 
-    /// The line of an entry, which is a key and what belongs to it, by its place, counted from 0.
+    /// The line of an entry, which is a key and its value, by its place, counted from 0.
     ghost line: { Self → ℕ → K × V → List ℕ };
 
-    /// Appends the line of an entry, with its line feed. Where memory runs out, nothing is said of the text.
+    /// Appends the line of an entry, with its line feed. If memory runs out, the content of the text is unspecified.
     fn push_entry(
         &self,
         alloc: Global,
@@ -30,7 +30,7 @@ impl<K: Eq + Hash, V> FirstSeen<K, V> {
     ghost use Rattle.first_sight.specs.FirstSight.{lines_by};
     ghost use Rattle.first_sight.specs.Lines.{rows_by};
 
-    /// Appends the line of each key, in the order of first sight. Where memory runs out, it appends nothing.
+    /// Appends the line of each key, in the order of first sight. If memory runs out, it appends nothing.
     pub fn push_lines<T: EntryLines<K, V>>(
         &self,
         teller: &T,
@@ -47,7 +47,7 @@ impl<K: Eq + Hash, V> FirstSeen<K, V> {
         pushed
     }
 
-    /// How many lines tell it: one for each key.
+    /// The number of its lines: one for each key.
     #[tactic(auto, using(crate::proofs::Telling::rows_told, crate::proofs::Telling::rows_counted))]
     pub fn line_count<T: EntryLines<K, V>>(&self, teller: &T) -> usize
         ensures count { result ≡ length (rows_by (T.line teller.now) self.now) }
@@ -56,7 +56,7 @@ impl<K: Eq + Hash, V> FirstSeen<K, V> {
         self.entries.len()
     }
 
-    /// Appends the line of the key at a place, counted from 0. Where memory runs out, it appends nothing.
+    /// Appends the line of the key at a place, counted from 0. If memory runs out, it appends nothing.
     pub fn push_line<T: EntryLines<K, V>>(
         &self,
         teller: &T,
@@ -86,7 +86,7 @@ impl<K: Eq + Hash, V> FirstSeen<K, V> {
         }
     }
 
-    // Where memory runs out, some of the lines may stand behind what was there.
+    // If memory runs out, some of the lines may already be appended.
     #[tactic(auto, using(crate::proofs::Telling::begins, crate::proofs::Telling::goes_on, crate::proofs::Telling::ends, crate::proofs::Telling::kept))]
     fn push_each<T: EntryLines<K, V>>(
         &self,

@@ -1,13 +1,13 @@
 //! A packet's way through the functions of a chain, one after another.
 //!
-//! [`walk_chain`] is the plain body of the walk that `chain_walk` defines, for functions of any kind:
-//! each acts on the whole frame that the one before handed on, and the first that drops the packet ends it.
-//! [`step_frame`] is one turn of it. A function sees a packet through a view alone, so a turn takes the
-//! frame apart, deals it to the function as to the only branch of a stage, and puts it together again
-//! with what the function wrote. No kind of function has a body of its own for whole frames.
+//! [`walk_chain`] is the plain body of the walk that `chain_walk` defines, for functions of any kind: each acts on the
+//! whole frame that the one before passed on, and the first that drops the packet ends it. [`step_frame`] is one turn
+//! of it. A function sees a packet only through a view, so a turn takes the frame apart, deals it to the function as to
+//! the only branch of a stage, and puts it together again with what the function wrote. No kind of function has a body
+//! of its own for whole frames.
 //!
-//! What is promised: the packet ends as the walk says, and the functions are as the walk leaves them. Where
-//! memory runs out, so are the first of them, which passed the packet on, and the others are as before.
+//! The contracts promise: the packet ends as the walk says, and the functions are as the walk leaves them. If memory
+//! runs out, this holds of the first functions, which passed the packet on, and the others are as before.
 #![tactic(auto)]
 
 mod acting;

@@ -25,11 +25,11 @@ use packet_version::{
 use std::alloc::{AllocError, Global};
 use std::sync::Wait;
 
-/// Lets a function act on a packet, captured at `time` in nanoseconds, and gives the frame that it hands on,
-/// or none where it drops the packet.
+/// Lets a function act on a packet, captured at `time` in nanoseconds, and returns the frame that it passes on, or
+/// `None` if it drops the packet.
 ///
-/// The only error is want of memory. The function is then as before, or it had passed the packet on and is
-/// as that left it.
+/// The only error is that memory runs out. The function is then as before, or it had passed the packet on and is as
+/// that left it.
 pub fn step_frame<F: Function, R: Wait>(
     rt: &R,
     alloc: Global,
@@ -66,7 +66,7 @@ pub fn step_frame<F: Function, R: Wait>(
     }
 }
 
-/// How many tags a function with this profile may add.
+/// The number of tags that a function with this profile may add.
 fn adders(profile: &Profile) -> u32
     ensures { result ≡ (if profile.now.adds then 1 else 0) }
 {
@@ -83,7 +83,7 @@ fn touch_of(profile: &Profile) -> Touch
     }
 }
 
-/// How a stage with this one branch hands on the fields.
+/// How a stage with this one branch passes on the fields.
 fn modes(touch: Touch) -> [Mode; 10]
     ensures { result ≡ modes_of (touch ∷ []) }
 {
@@ -101,7 +101,7 @@ fn modes(touch: Touch) -> [Mode; 10]
     ]
 }
 
-/// A field that the branch writes is moved to it, and any other is shared.
+/// The mode of a field: moved if the branch writes it, and shared otherwise.
 fn mode(touch: Touch, field: Field) -> Mode
     ensures { result ≡ mode_of (touch ∷ []) field }
 {

@@ -10,10 +10,10 @@ use packet_fields::Frame;
 use std::alloc::{AllocError, Global};
 use std::sync::Wait;
 
-/// Leads one packet, captured at `time` in nanoseconds, through the functions of a chain.
+/// Runs one packet, captured at `time` in nanoseconds, through the functions of a chain.
 ///
-/// The only error is want of memory in a function's turn. The functions before it have then passed the packet
-/// on, and so may it have; those behind it are as before.
+/// The only error is that memory runs out in a function's turn. The functions before it have then passed the packet on,
+/// and it may have done so too; those after it are as before.
 pub fn walk_chain<F: Function, R: Wait>(
     rt: &R,
     alloc: Global,
@@ -23,10 +23,10 @@ pub fn walk_chain<F: Function, R: Wait>(
 ) -> Result<Fate, AllocError>
     requires { length functions.old < 2 ^ 32 }
     ensures fate { IfOk result (λ fate. fate ≡ (walk F.behaviour time 1 functions.old frame).fate) }
-    // The function that is named stands in the chain.
+    // The named function is in the chain.
     ensures within { IfOk result (EndsWithin (length functions.old)) }
     ensures functions { OnOk result (functions.new ≡ (walk F.behaviour time 1 functions.old frame).functions) }
-    // So many of the functions have seen the packet and passed it on, and no other has.
+    // `seen` of the functions have seen the packet and passed it on, and no other has.
     ensures refused { OnErr result ((seen : ℕ) × StopsAt F.behaviour time frame seen functions.old functions.new) }
 {
     let mut frame = frame;

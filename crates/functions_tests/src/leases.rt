@@ -11,7 +11,7 @@ struct Parcel {
     bytes: Vec<u8>,
 }
 
-/// Whether ten readings in a row all show these bytes, where there is a reader.
+/// Do ten readings in a row all show these bytes, if there is a reader?
 fn reads_ten_times<R: Wait>(rt: &R, reader: Option<Reader<Parcel>>, bytes: &[u8]) -> bool {
     let Some(mut reader) = reader else {
         return false;

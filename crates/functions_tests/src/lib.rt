@@ -1,13 +1,14 @@
-//! Tests of versions and functions and of the language, over their public calls alone: what no contract says, with values that were worked
-//! out by hand. No clause says that a call finds memory, so each call that takes some runs here once with ample memory, unless the program's
-//! own run takes it, as it does what judges policies, compiles and plans chains and merges versions: their rows stand in
-//! `program_tests`.
+//! Tests of versions, functions and the language, through their public calls alone: what no contract says, with values
+//! that were worked out by hand. No clause says that a call gets memory, so each call that allocates runs here once
+//! with ample memory, unless the program's own run makes it, as with judging policies, compiling and planning chains
+//! and merging versions: their rows are in `program_tests`.
 //!
-//! Of actions: `unlawful` judges graphs that no chain makes. Of versions: `leases` hands a value to threads and back, and `parts` takes
-//! frames apart and together. Of functions: `lines` reads declarations of a kind of its own, which has a line that has to be there;
-//! `making` makes a function of a declaration; `walking` leads frames through firewalls, and through a `painter`, which writes, drops and
-//! has a state; `states` tells the lines of functions that keep flows and sources. Of the language: `reading` reads values and clauses,
-//! `frames` asks what clauses see of a frame, and `odd` what is odd in a policy.
+//! Of actions: `unlawful` checks graphs that are compiled from no chain. Of versions: `leases` passes a value to
+//! threads and back, and `parts` takes frames apart and joins them. Of functions: `lines` reads declarations of a kind
+//! of its own, which has a required line; `making` makes a function of a declaration; `walking` runs frames through
+//! firewalls, and through a `painter`, which writes, drops and has a state; `states` prints the lines of functions that
+//! keep flows and sources. Of the language: `reading` reads values and clauses, `frames` checks what clauses see of a
+//! frame, and `odd` checks the findings on odd policies.
 #![tactic(auto)]
 
 #[cfg(test)]

@@ -1,4 +1,4 @@
-//! A kind with a line that has to be there, `set size N`, N up to 9: which line of a declaration is refused.
+//! A kind with a required line, `set size N`, N up to 9: which line of a declaration is refused.
 ghost use Rattle.std.specs.Prelude.{◌≡◌, true};
 ghost use Rattle.std.specs.List.{list_any};
 
@@ -57,14 +57,14 @@ fn size(rt: &impl Abort, alloc: Global, decl: &FunctionDecl) -> Result<u64, u32>
 // Declarations, and their sizes or the lines that are refused.
 const DECLARATIONS: &[(&str, Result<u64, u32>)] = &[
     ("nfp 1\nchain c\nfn f hop\nset size 7\n", Ok(7)),
-    // None is there, and one that can't be read is none.
+    // There is none, or only one that can't be read.
     ("nfp 1\nchain c\nfn f hop\n", Err(3)),
     ("nfp 1\nchain c\nfn f hop\nset size 10\n", Err(3)),
     (
         "nfp 1\nchain c\nfn f hop\nset width 1\nset size 7\n",
         Err(4),
     ),
-    // A second one is refused, but it is there.
+    // A second one is refused, but the required line is there.
     ("nfp 1\nchain c\nfn f hop\nset size 7\nset size 8\n", Err(5)),
     ("nfp 1\nchain c\nfn f hop\nset size x\nset size 8\n", Err(4)),
     (

@@ -8,8 +8,8 @@ use policy_text::{BuildFault, FunctionDecl, Policy, Seen, TagSeen, parse};
 use std::alloc::Global;
 use std::process::Abort;
 
-// Reading and making promise much, and each function that calls them is shown all of that: so each is called by one function, which says
-// nothing.
+// The contracts of reading and making are long, and the prover sees all of their clauses in every function that calls
+// them. So only one function calls each of them, and it promises nothing itself.
 
 /// The policy of a text.
 pub fn parsed(rt: &impl Abort, alloc: Global, text: &[u8]) -> Policy {
@@ -32,7 +32,7 @@ fn made(alloc: Global, decl: &FunctionDecl) -> Result<Made, BuildFault> {
     make(alloc, decl)
 }
 
-/// The first function that a text declares, which is no end of a tunnel.
+/// The first function that a text declares, which isn't an end of a tunnel.
 pub fn built(rt: &impl Abort, alloc: Global, text: &str) -> Result<NetFunction, BuildFault> {
     let policy = parsed(rt, alloc, text.as_bytes());
     match made(alloc, first_declared(rt, &policy))? {
@@ -49,7 +49,7 @@ fn a_firewall_is_made_of_its_lines(rt: HostRuntime) {
     assert!(rt; is_firewall(&made));
 }
 
-// Denies what its rules don't say anything of. It has two rules: the first has two clauses, and the second none.
+// Is it a firewall that denies by default and has two rules, the first with two clauses and the second with none?
 fn is_firewall(made: &NetFunction) -> bool {
     match made {
         NetFunction::Firewall(firewall) => {
@@ -62,7 +62,7 @@ fn is_firewall(made: &NetFunction) -> bool {
     }
 }
 
-// What is seen of a packet of UDP to port 53.
+// The values of a packet of UDP to port 53.
 const NAME_QUERY: Seen = Seen {
     tag: TagSeen::Bare,
     src: None,
@@ -80,7 +80,7 @@ const FOREIGN: Seen = Seen {
     ..NAME_QUERY
 };
 
-// Is a rule met, first of all, that says so and has so many clauses?
+// Is the first rule that is met one with this decision and `clauses` clauses?
 fn is_met(rules: &FitRules<GuardedRule>, seen: &Seen, allow: bool, clauses: usize) -> bool {
     match rules.first_met(seen) {
         Some(met) => met.rule.allow == allow && met.rule.fit.clauses.as_slice().len() == clauses,

@@ -1,10 +1,10 @@
-//! What is odd in policies without fault.
+//! Odd things in policies without fault.
 use policy_judge::judge;
 use policy_lint::{Finding, lint};
 use std::alloc::Global;
 use std::process::Abort;
 
-// In the policy this is found, and nothing else.
+// Checks that exactly these findings are returned for the policy.
 fn finds(rt: &impl Abort, alloc: Global, text: &str, due: &[Finding]) {
     assert!(rt; text.len() < 1000);
     match judge(alloc, text.as_bytes()) {

@@ -1,5 +1,5 @@
-//! A function that writes, drops and has a state: it writes into the type of service how many packets have passed since it last
-//! dropped one, and drops every third.
+//! A function that writes, drops and has a state: it writes into the type of service the number of packets that have
+//! passed since it last dropped one, and drops every third packet.
 ghost use Rattle.std.specs.Prelude.{◌∷◌, []};
 
 use action_profile::{FieldSet, Profile};
@@ -38,7 +38,7 @@ impl Function for Painter {
     }
 
     fn step(&mut self, view: &mut View) -> Result<Verdict, AllocError> {
-        // What holds of the view where nothing is written, and of the values behind it.
+        // These laws hold of a view in which nothing is written, and of its values.
         unwritten_stays(view);
         view_is_formed(view);
         if self.count >= 2 {
@@ -52,7 +52,7 @@ impl Function for Painter {
         Ok(Verdict::Pass)
     }
 
-    // It counts nothing.
+    // A painter counts nothing.
     fn look(&self, _view: &View) -> Option<FlowNote> {
         None
     }
@@ -73,7 +73,7 @@ impl Function for Painter {
         Ok(out.push(self.count)?)
     }
 
-    // It keeps a state.
+    // A painter keeps a state, so there can't be two of it.
     fn try_clone(&self, _alloc: Global) -> Result<Option<Painter>, AllocError> {
         Ok(None)
     }

@@ -1,4 +1,4 @@
-//! A frame comes apart and together, and a part of a version of it is copied.
+//! A frame is taken apart and joined, and a part of a version of it is copied.
 ghost use Rattle.std.specs.Prelude.{◌≡◌, ◌∷◌, []};
 ghost use Rattle.action_profile.specs.Modes.{modes_of};
 ghost use Rattle.action_profile.specs.Profiles.{profile_of};
@@ -14,7 +14,7 @@ use std::alloc::Global;
 use std::process::Abort;
 use std::thread;
 
-/// Does a frame come together as it came apart?
+/// Is a frame the same after it is taken apart and joined?
 fn comes_back(rt: &impl Abort, alloc: Global, frame: &[u8], number: u32) -> bool {
     let apart = had(rt, split(alloc, frame, 7, number));
     had(rt, join(alloc, apart)).bytes() == frame
@@ -32,7 +32,7 @@ const TRANSLATES: Touch = Touch {
     writes: FieldSet::ENDPOINTS,
 };
 
-/// The only branch of a stage, which has them moved to it.
+/// A stage with one branch, to which these fields are moved.
 fn stage(rt: &impl Abort, alloc: Global) -> StageParts
     ensures modes { result.modes ≡ modes_of result.touches }
     ensures touches { result.touches ≡ record { reads = (profile_of Kind.Nat).reads; writes = (profile_of Kind.Nat).writes } ∷ [] }
@@ -47,7 +47,7 @@ fn stage(rt: &impl Abort, alloc: Global) -> StageParts
     }
 }
 
-/// A packet as a nat's branch has it.
+/// A packet as the branch of a nat gets it.
 fn dealt(rt: &impl Abort, alloc: Global, tally: &mut Tally) -> Version
     ensures { result.touch ≡ record { reads = (profile_of Kind.Nat).reads; writes = (profile_of Kind.Nat).writes } }
 {

@@ -1,9 +1,9 @@
-//! Calls that want memory, where there is plenty.
+//! Calls that allocate memory, run with ample memory.
 ghost use Rattle.std.specs.Prelude.{◌≡◌, Ok};
 
 use std::process::Abort;
 
-/// What such a call gives.
+/// The value of such a call. The test is aborted if the call failed.
 pub fn had<T, E: Drop>(rt: &impl Abort, given: Result<T, E>) -> T
     ensures { given ≡ Ok result }
 {

@@ -1,4 +1,4 @@
-//! Functions that keep flows and sources tell what they keep.
+//! The state lines of functions that keep flows and sources.
 ghost use Rattle.std.specs.Prelude.{◌≡◌, ◌≤◌, length};
 
 use crate::making::built;
@@ -18,7 +18,7 @@ const FIVE_PORTS: &str =
 const LEFT: &[u8] =
     b"  source 10.0.0.1 tokens 14000000000 at 19000000000\n  map 17 10.0.0.1 1000 port 40000\n  map 17 10.0.0.1 1002 port 40001\n  map 17 10.0.0.1 1004 port 40002\n  map 17 10.0.0.1 1006 port 40003\n  map 17 10.0.0.1 1008 port 40004\n";
 
-// Leads the twenty packets through a chain.
+// Runs the twenty packets through a chain.
 fn lead_twenty(rt: &(impl Abort + AllocGlobal + Wait), chain: &mut [NetFunction])
     requires { length chain.old ≤ 64 }
     ensures { length chain.new ≡ length chain.old }
@@ -40,8 +40,8 @@ fn single_lines(rt: &impl Abort, alloc: Global, chain: &[NetFunction]) -> Vec<u8
     lines
 }
 
-// A packet of 28 bytes each second from a source that may send 14, each from a port of its own: every second one is
-// dropped, and those that pass take the five ports of a translation behind it one after another.
+// A packet of 28 bytes each second from a source that may send 14 bytes a second, each from a port of its own: every
+// second one is dropped, and those that pass take the five ports of a translation after the limiter one after another.
 #[test]
 fn states_are_told_in_lines(rt: HostRuntime) {
     let mut chain = [

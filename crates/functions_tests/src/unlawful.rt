@@ -1,4 +1,4 @@
-//! Graphs that no chain makes, lawful and not.
+//! Graphs that are compiled from no chain, lawful and not.
 
 use crate::plenty::had;
 use action_profile::{FieldSet, Mode, Profile, StageParts, Touch};
@@ -43,7 +43,7 @@ fn idle_stage(rt: &impl Abort, alloc: Global, branches: &[&[u32]]) -> Stage {
     }
 }
 
-// Is a graph of such stages lawful for two functions that do nothing?
+// Is a graph of these stages lawful for two functions that do nothing?
 fn is_lawful(rt: &impl Abort, alloc: Global, stages: &[&[&[u32]]]) -> bool {
     let mut made = Vec::new(alloc);
     for branches in stages {
@@ -57,7 +57,7 @@ fn is_lawful(rt: &impl Abort, alloc: Global, stages: &[&[&[u32]]]) -> bool {
 
 // Graphs, stage by stage, and whether each is lawful.
 const GRAPHS: &[(&[&[&[u32]]], bool)] = &[
-    // Each position stands once, in any branch, and rises in its own.
+    // Each position occurs once, in any branch, and positions rise in each branch.
     (&[&[&[1, 2], &[]]], true),
     (&[&[&[2], &[1]]], true),
     (&[&[&[2, 1]]], false),
@@ -66,7 +66,7 @@ const GRAPHS: &[(&[&[&[u32]]], bool)] = &[
     (&[&[&[1], &[3]]], false),
 ];
 
-// A stage without a branch comes between two that aren't held against each other.
+// A stage without a branch is between two stages, which are then not compared with each other.
 const STAGES: &[(&[&[&[u32]]], bool)] = &[
     (&[&[&[1]], &[&[2]]], true),
     (&[&[&[2]], &[&[1]]], false),

@@ -13,9 +13,10 @@ use std::alloc::Global;
 use std::process::Abort;
 use std::sync::Wait;
 
-// The walk promises much, and each function that calls it is shown all of that: so the tests call this one, which says nothing.
+// The contract of the walk is long, and the prover sees all of its clauses in every function that calls it. So the tests
+// call this function, which promises nothing itself.
 
-/// Where a frame of this time ends behind a chain.
+/// The fate of a frame with this time after a chain.
 pub fn walked<F: Function>(
     rt: &(impl Abort + Wait),
     alloc: Global,
@@ -59,7 +60,7 @@ const FIRST: &str = "nfp 1\nchain c\nfn a firewall\nrule deny dport 80\n";
 const SECOND: &str =
     "nfp 1\nchain c\nfn b firewall\nset default deny\nrule deny src 10.0.0.9 sport 7\nrule allow src 10.0.0.0/29\nrule allow sport 7-9\n";
 
-// Compares what becomes of a packet from this host and port: it passes as it was, or the second firewall drops it.
+// Checks the fate of a packet from this host and port: it passes unchanged, or the second firewall drops it.
 fn compare(
     rt: &(impl Abort + AllocGlobal + Wait),
     chain: &mut [NetFunction],
@@ -87,7 +88,7 @@ fn the_second_firewall_drops_what_its_rules_deny(rt: HostRuntime) {
     assert!(rt; lines_of(&rt, rt.alloc(), &chain).is_empty());
 }
 
-// The type of service that a painter gives a frame, where it passes.
+// The type of service that a painter writes into a frame, if it passes.
 fn painted(rt: &(impl Abort + AllocGlobal + Wait), chain: &mut [Painter]) -> Option<u8>
     requires { length chain.old ≤ 64 }
 {

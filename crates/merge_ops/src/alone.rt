@@ -1,4 +1,4 @@
-//! How a packet is put together again that only one branch had.
+//! How a packet that only one branch had is put together again.
 
 ghost use Rattle.std.specs.Prelude.{◌≡◌, [], ◌∷◌, Some, IfSome};
 ghost use Rattle.packet_version.specs.Splitting.{PlainApart};
@@ -10,11 +10,11 @@ use crate::arrival::Arrival;
 use crate::merging::Merged;
 use packet_version::{Apart, Version, tags_are_whole, written_is_own};
 
-/// Puts a packet together again behind a stage of one branch, which had it whole
-/// ([`packet_version::deal_whole`]). It takes no memory and waits for nobody.
+/// Puts a packet together again after a stage of one branch, which had it whole ([`packet_version::deal_whole`]). It
+/// allocates nothing and waits for nobody.
 ///
-/// What comes of it is as [`crate::merge`] makes it of that one arrival and of what the branch had of the
-/// packet beside its own parts, as the base.
+/// The result is that of [`crate::merge`] for this one arrival, with what the branch had of the packet besides its own
+/// parts as the base.
 #[inline(always)]
 pub fn merge_only(arrival: Arrival) -> Merged
     requires { (base : PlainApart) × KeepsBase base arrival × AreArrivals base (arrival ∷ []) }

@@ -1,4 +1,4 @@
-//! What a branch of a stage gives of a packet.
+//! What a branch of a stage returns for a packet.
 
 ghost use Rattle.std.specs.Prelude.{◌≡◌, ◌<◌, true};
 ghost use Rattle.packet_fields.specs.declared.field.Field.{Field};
@@ -11,8 +11,8 @@ use action_profile::FieldSet;
 use packet_fields::Field;
 use packet_version::{Part, written_is_own};
 
-/// What comes from a branch: its version of the packet, the chain position of the function that dropped
-/// it, or nothing, where a worker found no memory for it or for an earlier packet.
+/// What a branch returns: its version of the packet, or the chain position of the function that dropped it, or nothing,
+/// if a worker ran out of memory for it or for an earlier packet.
 #[derive(Drop)]
 pub enum Arrival {
     Version(packet_version::Version),
@@ -21,7 +21,7 @@ pub enum Arrival {
 }
 
 impl Arrival {
-    /// Did a worker find no memory?
+    /// Did a worker run out of memory?
     pub(crate) fn is_short(&self) -> bool
         ensures { result ≡ is_short self.now }
     {
@@ -71,7 +71,7 @@ impl Arrival {
         }
     }
 
-    /// Says that whoever wrote a field did so in a branch that writes it.
+    /// States that the writer of a field is in a branch that writes it.
     pub(crate) fn wrote_its_own(&self)
         ensures { (f : Field) → 0 < writer_of f self.now → writes_in f self.now ≡ true }
     {

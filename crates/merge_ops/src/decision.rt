@@ -1,4 +1,4 @@
-//! What comes of a packet behind a stage.
+//! What becomes of a packet after a stage.
 
 ghost use Rattle.std.specs.Prelude.{◌≡◌, ◌<◌, ◌^◌, length};
 ghost use Rattle.std.specs.List.{list_any};
@@ -8,7 +8,7 @@ use crate::arrival::Arrival;
 use action_profile::FieldSet;
 use packet_fields::Field;
 
-/// What to do with a field: keep the packet's own part, or take that of a branch. Branches are counted
+/// What to do with a field: keep the packet's own part, or take the part of a branch. Branches are counted
 /// from 0.
 #[derive(Clone, Copy, Debug, PartialEq, Eq)]
 pub enum MergeOp {
@@ -20,22 +20,22 @@ pub enum MergeOp {
     SetTags(u32),
 }
 
-/// What comes of the packet.
+/// What becomes of the packet.
 #[derive(Clone, Copy, Debug)]
 pub enum Decision {
-    /// It goes on, by an operation for each field in the fields' order.
+    /// It goes on, with an operation for each field, in the fields' order.
     Take([MergeOp; 10]),
     /// The function at this chain position dropped it.
     Gone(u32),
-    /// A worker found no memory for it or for an earlier packet.
+    /// A worker ran out of memory for it or for an earlier packet.
     Short,
 }
 
-/// Decides what comes of a packet, of which these came from the branches of a stage, in branch order.
+/// Decides what becomes of a packet. `arrivals` came from the branches of a stage, in branch order.
 ///
-/// Where a worker found no memory the packet is short. Else where it was dropped, it is gone at the
-/// least chain position of those that dropped it. Else each field is taken from the branch with the
-/// greatest writer, or kept where nobody wrote it.
+/// If a worker ran out of memory, the packet is short. Otherwise, if it was dropped, it is gone at the least chain
+/// position of the functions that dropped it. Otherwise each field is taken from the branch with the greatest writer,
+/// or kept if nobody wrote it.
 #[tactic(auto, unfolding(crate::specs::Merging::decision_of))]
 pub fn decide(arrivals: &[Arrival]) -> Decision
     requires few { length arrivals.now < 2 ^ 32 }
@@ -69,7 +69,7 @@ fn least_nil(arrivals: &[Arrival]) -> Option<u32>
 
 ghost use Rattle.merge_ops.specs.Merging.{lesser as lesser_of};
 
-/// The lesser of two positions, where there are two.
+/// The lesser of two positions, or the one that is there.
 fn lesser(first: Option<u32>, second: Option<u32>) -> Option<u32>
     ensures { result ≡ lesser_of first second }
 {
@@ -106,7 +106,7 @@ fn ops_of(arrivals: &[Arrival]) -> [MergeOp; 10]
     ]
 }
 
-/// The fields that some branch writes. Nobody wrote another.
+/// The fields that some branch writes. All others are unwritten.
 pub(crate) fn writable_in(arrivals: &[Arrival]) -> FieldSet
     ensures fields { (f : Field) → has result f ≡ list_any (writes_in f) arrivals.now }
     ensures unwritten { (f : Field) → has result f ≡ false → greatest_writer_of arrivals.now f ≡ 0 }
@@ -119,7 +119,7 @@ pub(crate) fn writable_in(arrivals: &[Arrival]) -> FieldSet
     fields
 }
 
-/// What to do with a field, which nobody wrote where it isn't writable.
+/// What to do with a field. A field that isn't writable is unwritten.
 fn op_of(arrivals: &[Arrival], writable: FieldSet, field: Field) -> MergeOp
     requires few { length arrivals.now < 2 ^ 32 }
     requires unwritten { has writable field ≡ false → greatest_writer_of arrivals.now field ≡ 0 }
@@ -163,7 +163,7 @@ fn first_by(arrivals: &[Arrival], field: Field, writer: u32) -> Option<usize>
         .position(|arrival| arrival.writer(field) == writer)
 }
 
-/// The greatest writer of a field, 0 where nobody wrote it.
+/// The greatest writer of a field, 0 if nobody wrote it.
 fn greatest_writer(arrivals: &[Arrival], field: Field) -> u32
     ensures { result ≡ greatest_writer_of arrivals.now field }
 {

@@ -1,4 +1,4 @@
-//! What a packet comes to behind the last stage.
+//! The fate of a packet after the last stage.
 
 ghost use Rattle.std.specs.Prelude.{◌≡◌, ◌≢◌, IfOk, OnOk};
 ghost use Rattle.merge_ops.specs.Fates.{fate_behind};
@@ -9,10 +9,10 @@ use packet_version::join;
 use std::alloc::{AllocError, Global};
 
 impl Merged {
-    /// The fate of a packet behind the last stage: it goes out as its parts put together to a frame, which is
-    /// not sealed yet, or is gone.
+    /// The fate of a packet after the last stage: it goes out with its parts put together to a frame, which is not
+    /// sealed yet, or it is gone.
     ///
-    /// The one refusal is want of memory. A packet that is short ends so too.
+    /// The only error is that memory runs out. A packet that is short gives this error too.
     pub fn into_fate(self, alloc: Global) -> Result<Fate, AllocError>
         ensures fate { IfOk result (λ fate. fate ≡ fate_behind self) }
         ensures found { OnOk result (self ≢ Merged.Short) }

@@ -1,4 +1,4 @@
-//! Laws of merging, for what stands on it.
+//! Laws of merging, for the crates above.
 ghost use Rattle.std.specs.Prelude.{◌≡◌, ◌≢◌, ◌<◌, ◌≤◌, ℕ, List, None, Some, length, map, true};
 ghost use Rattle.packet_fields.specs.declared.field.Field.{Field};
 ghost use Rattle.action_profile.specs.FieldSets.{all_fields};
@@ -16,7 +16,7 @@ ghost use Rattle.merge_ops.specs.Merging.{writer_of, last_writer, decision_of};
 ghost use Rattle.merge_ops.specs.Taking.{arrival_at, merged_packet};
 ghost use Rattle.merge_ops.specs.Behind.{IsMadeOf, AreFrom, value_behind, dealt_arrivals};
 
-/// The branch that wrote a field last is the one with the greatest writer; there is none exactly where
+/// The branch that wrote a field last is the one with the greatest writer; there is none exactly if
 /// every writer is 0.
 pub fn last_writer_is_greatest()
     ensures greatest { (arrivals : List Arrival) (f : Field) (branch other : ℕ) → last_writer arrivals f ≡ Some branch → writer_of f (arrival_at arrivals other) ≤ writer_of f (arrival_at arrivals branch) }
@@ -24,22 +24,21 @@ pub fn last_writer_is_greatest()
     ensures unwritten { (arrivals : List Arrival) (f : Field) (branch : ℕ) → last_writer arrivals f ≡ None → writer_of f (arrival_at arrivals branch) ≡ 0 }
 {}
 
-/// A packet that goes on has of each field the value that was written last, or its own where nobody
-/// wrote it, and its own rest and fixed values.
+/// A packet that goes on has in each field the value that was written last, or its own if nobody wrote it, and its own
+/// rest and fixed values.
 pub fn merged_is_written_last()
     ensures values { (whole : PlainApart) (touches : List Touch) (base : PlainApart) (arrivals : List Arrival) (ops : List MergeOp) (f : Field) → AreFrom whole touches base arrivals → decision_of arrivals ≡ Take ops → values_of (packet_parts (merged_packet base arrivals)) f ≡ value_behind whole arrivals f }
     ensures rest { (whole : PlainApart) (touches : List Touch) (base : PlainApart) (arrivals : List Arrival) → AreFrom whole touches base arrivals → (merged_packet base arrivals).rest ≡ whole.rest }
     ensures fixed { (whole : PlainApart) (touches : List Touch) (base : PlainApart) (arrivals : List Arrival) → AreFrom whole touches base arrivals → (merged_packet base arrivals).fixed ≡ whole.fixed }
 {}
 
-/// The versions that branches are dealt, which nobody wrote, are arrivals of their base.
+/// The versions that branches get, unwritten, are arrivals of their base.
 pub fn dealt_are_arrivals()
     ensures { (whole : PlainApart) (touches : List Touch) → IsWhole (packet_parts whole) whole.rest → AreFrom whole touches (based touches whole) (dealt_arrivals whole touches) }
 {}
 
-/// The version that a branch is dealt it may have made, and so may it one in which it wrote a field that
-/// is there: by any function, as long as before unless it is the list of tags. A field that the packet
-/// lacks stays so.
+/// The version that a branch gets is one that it may have made. So is one in which it then wrote a field that is there:
+/// by any function, and with the same length unless it is the list of tags. A field that the packet lacks stays absent.
 pub fn written_is_made()
     ensures dealt { (whole : PlainApart) (touch : Touch) → IsMadeOf whole touch (dealt whole touch) }
     ensures written { (whole : PlainApart) (touch : Touch) (version : PlainVersion) (f : Field) (old new : PlainPart) → IsMadeOf whole touch version → has_write f touch ≡ true → version_parts version f ≡ Some old → 1 ≤ new.writer → (f ≢ Field.Tag → length new.bytes ≡ length old.bytes) → IsMadeOf whole touch (with_part f (Some new) version) }

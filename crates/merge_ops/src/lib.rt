@@ -1,23 +1,22 @@
-//! Where the versions of a packet come together behind a stage.
+//! Merges the versions of a packet after a stage.
 //!
-//! From each branch of a stage comes an [`Arrival`]: its version of the packet, the chain position of the
-//! function that dropped it, or nothing, where a worker found no memory. [`decide`] says what comes of
-//! the packet, and [`merge`] makes it so: it takes the lent parts back into the base, and puts in of each
-//! field the part that was written last.
+//! Each branch of a stage returns an [`Arrival`]: its version of the packet, or the chain position of the function that
+//! dropped it, or nothing, if a worker ran out of memory. [`decide`] decides what becomes of the packet, and [`merge`]
+//! carries it out: it takes the lent parts back into the base, and puts in for each field the part that was written
+//! last.
 //!
-//! What is promised: a packet is short exactly where an arrival is; else gone exactly where it was
-//! dropped, at the least chain position; else each field has the part with the greatest writer, and the
-//! packet's own where nobody wrote it. [`merge_only`] does the same behind a stage of one branch, which had
-//! the packet whole. The rest of the frame and the fixed values are the base's. The list
-//! of arrivals is emptied, and no memory is taken. [`merged_is_written_last`] says it of the values,
-//! [`last_writer_is_greatest`] says who wrote last, and [`unwritten_is_same`] that a packet which nobody
-//! wrote comes back as the same frame.
+//! The contracts promise: a packet is short exactly if an arrival is; otherwise it is gone exactly if it was dropped,
+//! at the least chain position; otherwise each field has the part with the greatest writer, or the packet's own part if
+//! nobody wrote it. [`merge_only`] does the same after a stage of one branch, which had the packet whole. The rest of
+//! the frame and the fixed values are those of the base. The list of arrivals is emptied, and nothing is allocated.
+//! [`merged_is_written_last`] says this about the values, [`last_writer_is_greatest`] says who wrote last, and
+//! [`unwritten_is_same`] that a packet which nobody wrote comes back as the same frame.
 //!
-//! Behind the last stage [`Merged::into_fate`] puts the parts of a packet that goes on together to its frame.
+//! After the last stage [`Merged::into_fate`] joins the parts of a packet that goes on to its frame.
 //!
-//! What `merge` needs of the arrivals stands in `specs/Behind.antt`: one from each branch of the base's
-//! stage, in branch order, each with the fields that its branch was dealt. [`dealt_are_arrivals`] and
-//! [`written_is_made`] give it from what was dealt and then written.
+//! `specs/Behind.antt` says what `merge` requires of the arrivals: one from each branch of the base's stage, in branch
+//! order, each with the fields that its branch got. [`dealt_are_arrivals`] and [`written_is_made`] derive it from what
+//! was dealt and then written.
 #![tactic(auto)]
 
 mod alone;

@@ -1,4 +1,4 @@
-//! How a packet is put together behind a stage.
+//! How a packet is put together after a stage.
 
 ghost use Rattle.std.specs.Prelude.{◌≡◌, ◌≢◌, ◌<◌, ◌^◌, None, [], length, map, position, true, false};
 ghost use Rattle.packet_fields.specs.declared.field.Field.{Field};
@@ -17,22 +17,22 @@ use packet_fields::Field;
 use packet_version::{Apart, Base, Gathered};
 use std::sync::Wait;
 
-/// What came of a packet.
+/// What became of a packet.
 #[derive(Drop)]
 pub enum Merged {
     /// It goes on.
     Whole(Apart),
     /// The function at this chain position dropped it.
     Gone(u32),
-    /// A worker found no memory for it or for an earlier packet.
+    /// A worker ran out of memory for it or for an earlier packet.
     Short,
 }
 
-/// Puts a packet together again behind a stage, from its base and what came from each branch of the
-/// stage, in branch order. It takes the lent parts back, empties the list, and takes no memory.
+/// Puts a packet together again after a stage, from its base and what each branch of the stage returned, in branch
+/// order. It takes the lent parts back, empties the list, and allocates nothing.
 ///
-/// What comes of it is as [`decide`] says. A packet that goes on has of each field the part that was
-/// written last, or its own where nobody wrote it, and the rest and the fixed values of the base.
+/// The outcome is that of [`decide`]. A packet that goes on has in each field the part that was written last, or its
+/// own if nobody wrote it, and the rest and the fixed values of the base.
 pub fn merge<R: Wait>(rt: &R, base: Base, arrivals: &mut Vec<Arrival>) -> Merged
     requires few { length arrivals.old.items < 2 ^ 32 }
     requires arrivals { AreArrivals base arrivals.old.items }
@@ -68,7 +68,7 @@ fn put_parts(gathered: &mut Gathered, arrivals: &mut [Arrival], ops: &[MergeOp; 
     }
 }
 
-/// Puts the part of a field in, where a branch has it, which none has where it isn't writable.
+/// Puts the part of a field in, if a branch has it. No branch has the part of a field that isn't writable.
 fn put_part(
     gathered: &mut Gathered,
     arrivals: &mut [Arrival],
@@ -91,7 +91,7 @@ fn put_part(
     }
 }
 
-/// The branch that the part of a field is taken from.
+/// The branch from which the part of a field is taken.
 fn source(
     gathered: &Gathered,
     arrivals: &[Arrival],
@@ -116,7 +116,7 @@ fn source(
     }
 }
 
-/// The branch, which wrote the field, as one that writes it.
+/// The index of a branch that wrote the field, and so may write it.
 fn writing(arrivals: &[Arrival], field: Field, branch: u32) -> usize
     requires within { branch < length arrivals.now }
     requires wrote { 0 < writer_of field (arrival_at arrivals.now branch) }

@@ -16,7 +16,7 @@ use std::alloc::{AllocError, Global};
 
 /// A network function of any kind.
 pub trait Function: Sized {
-    /// What each function may do, and what it does by what it is shown.
+    /// What each function may do, and what it does as a function of what it sees.
     ghost behaviour: { Behaviour Self };
 
     /// What each function notes of a packet that it counts, and how it settles a note.
@@ -25,16 +25,16 @@ pub trait Function: Sized {
     /// The lines that show its state.
     ghost lines: { Self → List ℕ };
 
-    /// The same, each by itself.
+    /// The same lines, each by itself.
     ghost rows: { Self → List (List ℕ) };
 
     /// What it may do.
     fn profile(&self) -> Profile
         ensures { result ≡ behaviour.profile self.now };
 
-    /// Acts on one packet, which it sees through a view of its own profile. A function that may add a tag
-    /// finds room for it, and one that keeps no state wants no memory. One that counts doesn't step: it looks at a packet,
-    /// and settles what it noted.
+    /// Acts on one packet, which it sees through a view of its own profile. A function that may add a tag has room for
+    /// it, and one that keeps no state needs no memory. A function that counts doesn't step: it looks at a packet, and
+    /// settles what it noted.
     fn step(&mut self, view: &mut View) -> Result<Verdict, AllocError>
         requires steps { (behaviour.profile self.old).counts ≡ false }
         requires profile { view.old.profile ≡ behaviour.profile self.old }
@@ -42,48 +42,48 @@ pub trait Function: Sized {
         ensures after { OnOk result (self.new ≡ (viewed behaviour self.old view.old).after) }
         ensures verdict { IfOk result (λ verdict. verdict ≡ (viewed behaviour self.old view.old).verdict) }
         ensures view { OnOk result (view.new ≡ wrote_all (viewed behaviour self.old view.old).written view.old) }
-        // Where memory runs out, nothing has changed.
+        // If memory runs out, nothing has changed.
         ensures function_stays { OnErr result (self.new ≡ self.old) }
         ensures view_stays { OnErr result (view.new ≡ view.old) }
-        // Memory is for a state alone.
+        // Only a state needs memory.
         ensures stateless { (behaviour.profile self.old).state ≡ false → IsOk result };
 
-    /// What a function that counts notes of one packet, which it sees through a view of its own profile; one that doesn't
-    /// count notes nothing. Takes no memory.
+    /// What a function that counts notes of one packet, which it sees through a view of its own profile. A function
+    /// that doesn't count notes nothing. Allocates nothing.
     fn look(&self, view: &View) -> Option<FlowNote>
         requires profile { view.now.profile ≡ behaviour.profile self.now }
         ensures noted { result ≡ noted behaviour notes view.now.version.fixed self.now (seen_values view.now) };
 
-    /// Settles what it noted of a packet. One that doesn't count stays as it is.
+    /// Settles what it noted of a packet. A function that doesn't count doesn't change.
     fn settle(&mut self, note: &FlowNote) -> Result<(), AllocError>
         ensures settled { OnOk result (self.new ≡ notes.settle self.old note.now) }
-        // Where memory runs out, nothing has changed.
+        // If memory runs out, nothing has changed.
         ensures stays { OnErr result (self.new ≡ self.old) }
-        // Memory is for counts alone.
+        // Only counts need memory.
         ensures uncounted { (behaviour.profile self.old).counts ≡ false → IsOk result }
         ensures same { (behaviour.profile self.old).counts ≡ false → self.new ≡ self.old };
 
-    /// Appends the lines that show its state. Where memory runs out, it appends nothing. A function that neither keeps a state
-    /// nor counts wants none.
+    /// Appends the lines that show its state. If memory runs out, it appends nothing. A function that neither keeps a
+    /// state nor counts needs no memory.
     fn state_lines(&self, out: &mut Vec<u8>) -> Result<(), AllocError>
         ensures lines { OnOk result (out.new.items ≡ out.old.items ++ lines self.now) }
         ensures stays { OnErr result (out.new.items ≡ out.old.items) }
         ensures stateless { (behaviour.profile self.now).state ≡ false → (behaviour.profile self.now).counts ≡ false → IsOk result };
 
-    /// How many lines show its state.
+    /// The number of lines that show its state.
     fn state_count(&self) -> usize
         ensures count { result ≡ length (rows self.now) }
         ensures told { flat_map (λ row. row) (rows self.now) ≡ lines self.now };
 
-    /// Appends the line at a place among those that show its state, counted from 0. Where memory runs out, it appends
+    /// Appends the line at a place among those that show its state, counted from 0. If memory runs out, it appends
     /// nothing.
     fn state_line(&self, place: usize, out: &mut Vec<u8>) -> Result<(), AllocError>
         requires inside { place < length (rows self.now) }
         ensures line { OnOk result (out.new.items ≡ out.old.items ++ slice_index_or (rows self.now) place []) }
         ensures stays { OnErr result (out.new.items ≡ out.old.items) };
 
-    /// The same function once more, exactly where its profile lets several of it be at work: a state can't be in two places.
-    /// Its one refusal is want of memory.
+    /// The same function once more, or `None` if its profile doesn't let several copies work at once: a state can't be
+    /// in two places. The only error is that memory runs out.
     fn try_clone(&self, alloc: Global) -> Result<Option<Self>, AllocError>
         ensures same { IfOk result (λ found. IfSome found (λ function. function ≡ self.now)) }
         ensures which { IfOk result (λ found. is_some found ≡ may_be_several (behaviour.profile self.now)) };
@@ -91,6 +91,6 @@ pub trait Function: Sized {
     /// It does what its profile says, and no more.
     ghost keeps: { KeepsProfile behaviour };
 
-    /// Where it counts, its step is to note a packet and to settle the note.
+    /// If it counts, its step is to note a packet and to settle the note.
     ghost counts: { CountsByNotes behaviour notes };
 }

@@ -20,11 +20,11 @@ pub enum Made {
     Function(NetFunction),
     /// Puts packets into packets (RFC 2003).
     Encap(Encap),
-    /// Takes them out again (RFC 2003).
+    /// Takes packets out of packets (RFC 2003).
     Decap(Decap),
 }
 
-/// Makes the function that is declared, of whichever kind, or names the least line of the declaration that is refused.
+/// Makes the function that is declared, of any kind, or returns the least line of the declaration that is refused.
 #[tactic(auto, unfolding(crate::specs::Builds::making_of))]
 pub fn make(alloc: Global, decl: &FunctionDecl) -> Result<Made, BuildFault>
     ensures { Builds decl.now result }
@@ -36,7 +36,8 @@ pub fn make(alloc: Global, decl: &FunctionDecl) -> Result<Made, BuildFault>
     }
 }
 
-/// Makes the function that is declared and is no end of a tunnel, or names the least line of the declaration that is refused.
+/// Makes the function that is declared, which isn't an end of a tunnel, or returns the least line of the declaration
+/// that is refused.
 #[tactic(auto, unfolding(crate::specs::Builds::making_of))]
 pub fn build(alloc: Global, decl: &FunctionDecl) -> Result<NetFunction, BuildFault>
     requires { (profile_of decl.now.kind).whole ≡ false }

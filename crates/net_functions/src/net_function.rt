@@ -24,11 +24,11 @@ pub enum NetFunction {
     Limiter(Limiter),
     /// Writes the type of service, whose high six bits are the DSCP (RFC 2474).
     Marker(Marker),
-    /// Takes one off the time to live, and drops what would have none left (RFC 791, RFC 8200).
+    /// Reduces the time to live by one, and drops a packet for which nothing would be left (RFC 791, RFC 8200).
     Hop(Hop),
     /// Puts a tag before the tags that are there (IEEE 802.1Q).
     Tagger(Tagger),
-    /// Takes the outermost tag off.
+    /// Removes the outermost tag.
     Untagger(Untagger),
     /// Drops packets in whose data one of its patterns occurs.
     Signature(Signature),
@@ -76,7 +76,7 @@ impl Function for NetFunction {
             NetFunction::Firewall(firewall) => firewall.step(view),
             NetFunction::Nat(nat) => nat.step(view),
             NetFunction::Balancer(balancer) => balancer.step(view),
-            // It counts, and doesn't step.
+            // A monitor counts, and doesn't step.
             NetFunction::Monitor(_) => Ok(Verdict::Pass),
             NetFunction::Limiter(limiter) => limiter.step(view),
             NetFunction::Marker(marker) => marker.step(view),

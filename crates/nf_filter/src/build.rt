@@ -15,8 +15,8 @@ impl Firewall {
     ghost use Rattle.nf_filter.specs.Lines.{firewall_lines};
     ghost use Rattle.nf_filter.specs.Firewalls.{firewall_by};
 
-    /// Makes the firewall that is declared, or names the least line of the declaration that is
-    /// refused: one that is no line of a firewall, or a second `set default`.
+    /// Makes the firewall that is declared, or returns the least line of the declaration that is refused: one that
+    /// isn't a line of a firewall, or a second `set default`.
     pub fn build(alloc: Global, decl: &FunctionDecl) -> Result<Firewall, BuildFault>
         requires { decl.now.kind ≡ Kind.Firewall }
         ensures { Builds firewall_lines firewall_by decl.now result }
@@ -25,7 +25,7 @@ impl Firewall {
         Ok(Firewall::of_lines(alloc, lines)?)
     }
 
-    // What these lines make, one after another.
+    // The firewall that these lines set up, one after another.
     fn of_lines(alloc: Global, lines: Items<FirewallLine>) -> Result<Firewall, AllocError>
         ensures { IfOk result (λ firewall. firewall ≡ firewall_by lines) }
     {
@@ -56,7 +56,7 @@ impl Draft {
     ghost use Rattle.std.specs.Prelude.{◌≡◌, IfOk, OnOk};
     ghost use Rattle.nf_filter.specs.Firewalls.{open_firewall, with_line};
 
-    // Allows every packet.
+    // Without rules, allowing every packet.
     fn open(alloc: Global) -> Draft
         ensures { result ≡ open_firewall }
     {
@@ -66,7 +66,7 @@ impl Draft {
         }
     }
 
-    // Does what the line says.
+    // Applies the line.
     fn take(&mut self, line: FirewallLine) -> Result<(), AllocError>
         ensures { OnOk result (self.new ≡ with_line self.old line) }
     {
@@ -77,7 +77,7 @@ impl Draft {
         Ok(())
     }
 
-    // With its rules ready to be shared.
+    // The firewall, with its rules ready to be shared.
     fn into_firewall(self, alloc: Global) -> Result<Firewall, AllocError>
         ensures { IfOk result (λ firewall. firewall ≡ self) }
     {

@@ -1,4 +1,4 @@
-//! A firewall, and what it decides.
+//! A firewall and its decisions.
 use crate::guard::Guard;
 use crate::verdict::verdict;
 use chain_walk::Verdict;
@@ -17,7 +17,7 @@ pub struct Rule {
     pub fit: Match,
 }
 
-/// A rule, with what it asks of addresses. A contract sees it as the rule.
+/// A rule, with a guard made from its clauses on addresses. A contract sees it as the rule.
 #[derive(Debug, Drop)]
 pub struct GuardedRule {
     pub rule: Rule,
@@ -55,7 +55,7 @@ impl GuardedRule {
         GuardedRule { rule, guard }
     }
 
-    /// Does a packet of which this is seen meet all clauses?
+    /// Does a packet with these values meet all clauses?
     #[tactic(auto, using(crate::proofs::Guards::not_let))]
     fn is_met_by(&self, seen: &Seen) -> bool
         ensures { result ≡ is_fitting self.now.fit seen.now }
@@ -79,7 +79,7 @@ impl Firewall {
     ghost use Rattle.std.specs.Prelude.{◌≡◌, IfOk};
     ghost use Rattle.nf_filter.specs.Firewalls.{passes};
 
-    /// The same firewall once more, with the same rules in memory. Its one refusal is want of memory.
+    /// The same firewall once more, with the same rules in memory. The only error is that memory runs out.
     pub fn try_clone(&self) -> Result<Firewall, AllocError>
         ensures { IfOk result (λ same. same ≡ self.now) }
     {
@@ -89,7 +89,7 @@ impl Firewall {
         })
     }
 
-    /// Does a packet of which this is seen pass?
+    /// Does a packet with these values pass?
     #[tactic(auto, unfolding(crate::specs::Firewalls::passes))]
     pub(crate) fn judge(&self, seen: &Seen) -> bool
         ensures { result ≡ passes self.now seen.now }
@@ -109,7 +109,7 @@ impl Firewall {
     ghost use Rattle.packet_version.specs.Views.{seen_values, viewed, wrote_all};
     ghost use Rattle.nf_filter.specs.Firewalls.{firewall_behaviour, passes};
 
-    /// Judges one packet through a view of a firewall's profile. It writes nothing and takes no memory.
+    /// Judges one packet through a view of a firewall's profile. It writes nothing and allocates nothing.
     pub fn step(&mut self, view: &mut View) -> Result<Verdict, AllocError>
         requires profile { view.old.profile ≡ firewall_behaviour.profile self.old }
         ensures after { self.new ≡ (viewed firewall_behaviour self.old view.old).after }
@@ -121,7 +121,7 @@ impl Firewall {
         Ok(verdict(self.passes(view)))
     }
 
-    // Does the packet behind a view pass? Of it is seen what the rules ask for.
+    // Does the packet of a view pass? Only the values that the rules need are read.
     #[tactic(auto, unfolding(crate::specs::Firewalls::passes))]
     fn passes(&self, view: &View) -> bool
         requires profile { view.now.profile ≡ profile_of Kind.Firewall }
@@ -131,7 +131,7 @@ impl Firewall {
         self.judge(&seen_in(view, asked))
     }
 
-    /// Appends the lines of its state, of which a firewall has none.
+    /// Appends the lines of its state, which a firewall doesn't have.
     pub fn state_lines(&self, _out: &mut Vec<u8>) -> Result<(), AllocError>
         ensures none { _out.new ≡ _out.old }
         ensures never_fails { is_ok result ≡ true }
@@ -150,14 +150,14 @@ ghost use Rattle.function_lines.specs.Asking.{Shows};
 ghost use Rattle.function_lines.specs.Rules.{first_met};
 ghost use Rattle.packet_version.specs.Views.{seen_values};
 
-/// The first rule whose clauses a packet meets, all of them.
+/// The first rule of which a packet meets all clauses.
 fn first_met<'a>(rules: &'a [GuardedRule], seen: &Seen) -> Option<&'a GuardedRule>
     ensures { option_copied result ≡ first_met (λ rule. rule.fit) seen.now rules.now }
 {
     rules.iter().find(|rule| rule.is_met_by(seen))
 }
 
-/// What clauses see of the packet behind a view that look at these values.
+/// The values of the packet of a view that these clauses need.
 fn seen_in(view: &View, asked: Asked) -> Seen
     requires profile { view.now.profile ≡ profile_of Kind.Firewall }
     ensures { Shows asked (seen_by (seen_values view.now) view.now.version.fixed.proto) result }
@@ -176,7 +176,7 @@ fn seen_in(view: &View, asked: Asked) -> Seen
     }
 }
 
-/// The bytes of a field, where it is asked for.
+/// The bytes of a field, if it is needed.
 #[inline(always)]
 fn asked_value(view: &View, is_asked: bool, field: Field) -> Option<&[u8]>
     requires read { reads_of view.now.profile field ≡ true }

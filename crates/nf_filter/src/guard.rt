@@ -1,18 +1,19 @@
-//! What a rule asks of a packet's IPv4 addresses, found once, so that most packets that don't meet it are told by two comparisons.
+//! What a rule demands of a packet's IPv4 addresses, determined once, so that two comparisons rule out most packets
+//! that don't meet it.
 ghost use Rattle.std.specs.Prelude.{◌≡◌};
 ghost use Rattle.policy_text.specs.declared.seen.Seen.{Seen};
 ghost use Rattle.nf_filter.specs.Guards.{mask_of, prefix_of, covers, with_clause, guard_of, lets};
 
 use policy_text::{Clause, Match, Seen};
 
-/// The first bits of an IPv4 address. Nothing is asked where the mask has none.
+/// The first bits of an IPv4 address. A mask of 0 demands nothing.
 #[derive(Clone, Copy, Debug)]
 pub(crate) struct Prefix {
     mask: u32,
     bits: u32,
 }
 
-/// What the clauses of a rule ask of the source and of the destination.
+/// What the clauses of a rule demand of the source and of the destination.
 #[derive(Clone, Copy, Debug)]
 pub(crate) struct Guard {
     source: Prefix,
@@ -38,7 +39,7 @@ impl Guard {
             .fold(open, |guard, clause| guard.with(*clause))
     }
 
-    // Asks for what one more clause asks for.
+    // The guard with what one more clause demands.
     fn with(self, clause: Clause) -> Guard
         ensures { result ≡ with_clause self clause }
     {
@@ -55,7 +56,7 @@ impl Guard {
         }
     }
 
-    /// May a packet of which this is seen meet the clauses?
+    /// May a packet with these values meet the clauses?
     #[inline(always)]
     pub(crate) fn lets(&self, seen: &Seen) -> bool
         ensures { result ≡ lets self.now seen.now }

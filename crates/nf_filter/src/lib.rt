@@ -1,25 +1,24 @@
 //! Network functions that decide whether a packet passes, and change nothing of it.
 //!
-//! A [`Firewall`] is a list of rules, each with clauses on a packet's addresses, ports, protocol and
-//! outermost VLAN id (RFC 791, RFC 8200, RFC 793, RFC 768, IEEE 802.1Q). The first rule whose clauses are all
-//! met decides, and where none is the default does, which allows unless it is set otherwise.
-//! [`Firewall::build`] makes it of the lines that an operator wrote, or names the least line that is
-//! refused. What a rule asks of IPv4 addresses is found then (`guard`), so that a step tells most of many rules that a packet doesn't meet
-//! by two comparisons each.
+//! A [`Firewall`] is a list of rules, each with clauses on a packet's addresses, ports, protocol and outermost VLAN id
+//! (RFC 791, RFC 8200, RFC 793, RFC 768, IEEE 802.1Q). The first rule whose clauses are all met decides; if there is
+//! none, the default decides, which is to allow unless it is set otherwise. [`Firewall::build`] makes it of the lines
+//! that an operator wrote, or returns the least line that is refused. What a rule demands of IPv4 addresses is
+//! determined then (`guard`), so that a step rules out most rules that a packet doesn't meet by two comparisons each.
 //!
-//! As a function of a chain a firewall has one meaning, `firewall_behaviour` of
-//! `specs/Firewalls.antt`: it judges by what it is shown, writes nothing, and stays as it is. It sees a
-//! packet through a view of a version of it ([`Firewall::step`]). That it keeps to its profile is
-//! `firewall_keeps` of `specs/FirewallLaws.antt`.
+//! As a function of a chain a firewall has one meaning, `firewall_behaviour` of `specs/Firewalls.antt`: it judges by
+//! what it sees, writes nothing, and doesn't change. It sees a packet through a view of a version of it
+//! ([`Firewall::step`]). `firewall_keeps` of `specs/FirewallLaws.antt` says that it keeps to its profile.
 //!
-//! A [`Signature`] is a list of patterns, each of 1 to 256 bytes. It drops a packet exactly where one of them occurs in the packet's
-//! data, and writes nothing. The searches for patterns are made once, when the signature is built ([`Signature::build`]); a step
-//! searches the bytes that the view lends ([`Signature::step`]), in one pass where the patterns are many, and takes no memory. Its meaning is `signature_behaviour` of
-//! `specs/Signatures.antt`, and that it keeps to its profile is `signature_keeps` of `specs/SignatureLaws.antt`. A pattern that
-//! begins in one packet and ends in another is not found: no packet is remembered.
+//! A [`Signature`] is a list of patterns, each of 1 to 256 bytes. It drops a packet exactly if one of them occurs in
+//! the packet's data, and writes nothing. The searchers of the patterns are made once, when the signature is built
+//! ([`Signature::build`]); a step searches the bytes that the view lends ([`Signature::step`]), in one pass if the
+//! patterns are many, and allocates nothing. Its meaning is `signature_behaviour` of `specs/Signatures.antt`, and
+//! `signature_keeps` of `specs/SignatureLaws.antt` says that it keeps to its profile. A pattern that begins in one
+//! packet and ends in another is not found: no packet is remembered.
 //!
-//! Neither keeps a state, so the same function may be in several places: [`Firewall::try_clone`] and [`Signature::try_clone`] give it
-//! once more, over the same rules or patterns in memory.
+//! Neither keeps a state, so the same function may be in several places: [`Firewall::try_clone`] and
+//! [`Signature::try_clone`] return one more of it, over the same rules or patterns in memory.
 #![tactic(auto)]
 
 mod build;

@@ -8,7 +8,7 @@ use function_lines::{FunctionLine, read_fit};
 use policy_text::Word;
 use std::alloc::{AllocError, Global};
 
-/// What a line says.
+/// The content of a line.
 #[derive(Debug, Drop)]
 pub enum FirewallLine {
     /// Whether a packet passes that meets no rule.
@@ -36,7 +36,7 @@ impl FunctionLine for FirewallLine {
         }
     }
 
-    // No line of a firewall has to be there.
+    // A firewall has no required line.
     fn lacks_one(_lines: &[FirewallLine]) -> bool {
         false
     }

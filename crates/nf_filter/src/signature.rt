@@ -1,4 +1,4 @@
-//! A signature, and what it decides.
+//! A signature and its decisions.
 use crate::verdict::verdict;
 use chain_walk::Verdict;
 use function_lines::read_lines;
@@ -11,7 +11,7 @@ use std::alloc::{AllocError, Global};
 /// Patterns, of which none may occur in a packet's data.
 #[derive(Debug, Drop)]
 pub struct Signature {
-    /// With the searches for them, which were made when the signature was.
+    /// The patterns, with their searchers, which were made when the signature was built.
     pub patterns: PatternSet,
 }
 
@@ -23,8 +23,8 @@ impl Signature {
     ghost use Rattle.patterns.specs.Lines.{pattern_lines};
     ghost use Rattle.nf_filter.specs.Signatures.{signature_by, signature_behaviour};
 
-    /// Makes the signature that is declared, or names the least line of the declaration that is refused: one that is no
-    /// `rule` with a pattern.
+    /// Makes the signature that is declared, or returns the least line of the declaration that is refused: one that
+    /// isn't a `rule` with a pattern.
     pub fn build(alloc: Global, decl: &FunctionDecl) -> Result<Signature, BuildFault>
         requires { decl.now.kind ≡ Kind.Signature }
         ensures { Builds pattern_lines signature_by decl.now result }
@@ -35,7 +35,7 @@ impl Signature {
         })
     }
 
-    /// The same signature once more, with the same patterns in memory. Its one refusal is want of memory.
+    /// The same signature once more, with the same patterns in memory. The only error is that memory runs out.
     pub fn try_clone(&self) -> Result<Signature, AllocError>
         ensures { IfOk result (λ same. same ≡ self.now) }
     {
@@ -45,7 +45,7 @@ impl Signature {
     }
 
     /// Judges one packet through a view of a signature's profile, by the bytes that the view lends. It writes nothing
-    /// and takes no memory.
+    /// and allocates nothing.
     pub fn step(&mut self, view: &mut View) -> Result<Verdict, AllocError>
         requires profile { view.old.profile ≡ signature_behaviour.profile self.old }
         ensures after { self.new ≡ (viewed signature_behaviour self.old view.old).after }
@@ -58,7 +58,7 @@ impl Signature {
         Ok(verdict(passes))
     }
 
-    /// Appends the lines of its state, of which a signature has none.
+    /// Appends the lines of its state, which a signature doesn't have.
     pub fn state_lines(&self, _out: &mut Vec<u8>) -> Result<(), AllocError>
         ensures none { _out.new ≡ _out.old }
         ensures never_fails { is_ok result ≡ true }
@@ -71,7 +71,7 @@ ghost use Rattle.std.specs.Prelude.{◌≡◌};
 ghost use Rattle.std.specs.Option.{option_copied};
 ghost use Rattle.nf_filter.specs.Signatures.{is_found};
 
-/// Does one of the patterns occur in the payload, where there is one?
+/// Does one of the patterns occur in the payload, if there is one?
 fn is_found(patterns: &PatternSet, payload: Option<&[u8]>) -> bool
     ensures { result ≡ is_found patterns.now (option_copied payload.entry) }
 {

@@ -1,4 +1,4 @@
-//! Rules that may ask for some clauses alone.
+//! Rules that may have only some clauses.
 ghost use Rattle.std.specs.Prelude.{◌≡◌, Bool, IfOk};
 ghost use Rattle.std.specs.List.{list_all};
 ghost use Rattle.policy_text.specs.declared.clause.Clause.{Clause};
@@ -8,7 +8,7 @@ use function_lines::read_fit;
 use policy_text::{Clause, Match, Word};
 use std::alloc::{AllocError, Global};
 
-/// A rule of a kind that sees some of what clauses look at.
+/// A rule of a kind that sees only some of the values at which clauses look.
 pub(crate) trait Asking {
     /// The clauses that a rule may have.
     ghost may_ask: { Clause → Bool };
@@ -18,8 +18,7 @@ pub(crate) trait Asking {
         ensures { result ≡ may_ask clause };
 }
 
-/// Reads the clauses of a rule, or answers `None` where the words are no clauses or a rule may not have
-/// one of them.
+/// Reads the clauses of a rule, or returns `None` if the words aren't clauses or a rule may not have one of them.
 pub(crate) fn read_asked<R: Asking>(
     alloc: Global,
     words: &[Word],

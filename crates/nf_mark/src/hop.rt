@@ -1,4 +1,4 @@
-//! A hop, and what it does to a packet's time to live.
+//! A hop, and its effect on a packet's time to live.
 
 use crate::no_lines::NoLine;
 use crate::present::has_field;
@@ -9,8 +9,8 @@ use packet_version::{View, unwritten_stays, written_is_one_value};
 use policy_text::{BuildFault, FunctionDecl};
 use std::alloc::{AllocError, Global};
 
-/// Takes one off a packet's time to live, as each node does that sends it on (RFC 791, 3.2; RFC 1812, 5.3.1;
-/// RFC 8200, 3).
+/// Reduces a packet's time to live by one, as each node does that forwards it (RFC 791, 3.2; RFC 1812, 5.3.1; RFC 8200,
+/// 3).
 #[derive(Clone, Copy, Debug)]
 pub struct Hop;
 
@@ -22,8 +22,7 @@ impl Hop {
     ghost use Rattle.nf_mark.specs.NoLines.{no_lines};
     ghost use Rattle.nf_mark.specs.Hops.{hop_by, hop_behaviour};
 
-    /// Makes the hop that is declared, or names the least line of the declaration that is refused, as each
-    /// is.
+    /// Makes the hop that is declared, or returns the least line of the declaration. Each line is refused.
     pub fn build(alloc: Global, decl: &FunctionDecl) -> Result<Hop, BuildFault>
         requires { decl.now.kind ≡ Kind.Hop }
         ensures { Builds no_lines hop_by decl.now result }
@@ -32,8 +31,8 @@ impl Hop {
         Ok(Hop)
     }
 
-    /// Sends one packet on through a view of a hop's profile. Its time to live falls by one, and a packet
-    /// for which nothing would be left is dropped. It takes no memory.
+    /// Sends one packet on through a view of a hop's profile. Its time to live falls by one, and a packet for which
+    /// nothing would be left is dropped. It allocates nothing.
     pub fn step(&mut self, view: &mut View) -> Result<Verdict, AllocError>
         requires profile { view.old.profile ≡ hop_behaviour.profile self.old }
         ensures after { self.new ≡ (viewed hop_behaviour self.old view.old).after }
@@ -53,7 +52,7 @@ impl Hop {
         Ok(Verdict::Pass)
     }
 
-    /// Appends the lines of its state, of which a hop has none.
+    /// Appends the lines of its state, which a hop doesn't have.
     pub fn state_lines(&self, _out: &mut Vec<u8>) -> Result<(), AllocError>
         ensures none { _out.new ≡ _out.old }
         ensures never_fails { is_ok result ≡ true }
@@ -69,7 +68,7 @@ ghost use Rattle.packet_fields.specs.declared.field.Field.{Field};
 ghost use Rattle.packet_version.specs.Views.{seen_values, HasBytes};
 ghost use Rattle.nf_mark.specs.Hops.{ttl_of};
 
-/// The time to live of the packet behind a view (RFC 791, 3.1), which IPv6 names hop limit (RFC 8200, 3).
+/// The time to live of the packet of a view (RFC 791, 3.1), which IPv6 names hop limit (RFC 8200, 3).
 fn ttl_in(view: &View) -> Option<u8>
     requires profile { view.now.profile ≡ profile_of Kind.Hop }
     ensures ttl { result ≡ ttl_of (seen_values view.now Field.Ttl) }

@@ -6,7 +6,7 @@ ghost use Rattle.nf_mark.specs.Links.{link_of};
 
 use policy_text::mac;
 
-/// The address of an interface on a link (IEEE 802, 8.2): six bytes, as they stand in a frame.
+/// The address of an interface on a link (IEEE 802, 8.2): six bytes, in the order in which a frame has them.
 #[derive(Clone, Copy, Debug, PartialEq, Eq)]
 pub struct LinkAddress(pub u8, pub u8, pub u8, pub u8, pub u8, pub u8);
 
@@ -14,7 +14,7 @@ impl LinkAddress {
     ghost use Rattle.std.specs.Prelude.{◌≡◌};
     ghost use Rattle.nf_mark.specs.Links.{link_bytes};
 
-    /// The bytes as they stand in a frame.
+    /// The bytes, in the order in which a frame has them.
     pub fn bytes(self) -> [u8; 6]
         ensures { result ≡ link_bytes self }
     {
@@ -22,7 +22,7 @@ impl LinkAddress {
     }
 }
 
-/// Reads six pairs of hexadecimal digits, parted by colons.
+/// Reads six pairs of hexadecimal digits, separated by colons.
 pub(crate) fn read_link(text: &[u8]) -> Option<LinkAddress>
     ensures { result ≡ option_map link_of (mac_of text.now) }
 {

@@ -1,4 +1,4 @@
-//! A marker, and what it writes.
+//! A marker, and the type of service that it writes.
 
 mod build;
 mod lines;
@@ -12,7 +12,7 @@ use packet_version::{View, unwritten_stays, written_is_one_value};
 use policy_text::{Match, Seen, TagSeen};
 use std::alloc::AllocError;
 
-/// A rule: the type of service that a packet gets that meets all its clauses.
+/// A rule: a packet that meets all its clauses gets this type of service.
 #[derive(Debug, Drop)]
 pub struct MarkRule {
     /// The second byte of the IPv4 header (RFC 791, 3.1).
@@ -28,7 +28,7 @@ impl Fitting for MarkRule {
     }
 }
 
-/// Rules, of which the first that a packet meets says its type of service.
+/// Rules, of which the first that a packet meets sets its type of service.
 #[derive(Debug, Drop)]
 pub struct Marker {
     pub rules: FitRules<MarkRule>,
@@ -43,8 +43,8 @@ impl Marker {
     ghost use Rattle.nf_mark.specs.Seeing.{shown_in};
     ghost use Rattle.nf_mark.specs.Markers.{marker_behaviour, tos_for, new_tos};
 
-    /// Marks one packet through a view of a marker's profile: where the packet has a type of service and
-    /// meets a rule, it gets that of the first such rule. It takes no memory.
+    /// Marks one packet through a view of a marker's profile: if the packet has a type of service and meets a rule, it
+    /// gets that of the first such rule. It allocates nothing.
     pub fn step(&mut self, view: &mut View) -> Result<Verdict, AllocError>
         requires profile { view.old.profile ≡ marker_behaviour.profile self.old }
         ensures after { self.new ≡ (viewed marker_behaviour self.old view.old).after }
@@ -60,7 +60,7 @@ impl Marker {
         Ok(Verdict::Pass)
     }
 
-    // The type of service that is to be written.
+    // The type of service to write, if any.
     fn new_tos(&self, view: &View) -> Option<u8>
         requires profile { view.now.profile ≡ profile_of Kind.Marker }
         ensures tos { result ≡ new_tos self.now (shown_in view.now) }
@@ -72,7 +72,7 @@ impl Marker {
         self.tos_for(&seen_in(view))
     }
 
-    // The type of service by what is seen of a packet.
+    // The type of service for a packet with these values.
     #[tactic(auto, unfolding(crate::specs::Markers::tos_for))]
     fn tos_for(&self, seen: &Seen) -> Option<u8>
         ensures { result ≡ tos_for self.now seen.now }
@@ -83,7 +83,7 @@ impl Marker {
         }
     }
 
-    /// The same marker once more, with the same rules in memory. Its one refusal is want of memory.
+    /// The same marker once more, with the same rules in memory. The only error is that memory runs out.
     pub fn try_clone(&self) -> Result<Marker, AllocError>
         ensures { IfOk result (λ same. same ≡ self.now) }
     {
@@ -92,7 +92,7 @@ impl Marker {
         })
     }
 
-    /// Appends the lines of its state, of which a marker has none.
+    /// Appends the lines of its state, which a marker doesn't have.
     pub fn state_lines(&self, _out: &mut Vec<u8>) -> Result<(), AllocError>
         ensures none { _out.new ≡ _out.old }
         ensures never_fails { is_ok result ≡ true }
@@ -107,7 +107,7 @@ ghost use Rattle.action_profile.specs.declared.kind.Kind.{Kind};
 ghost use Rattle.frame_seen.specs.Seeing.{seen_by};
 ghost use Rattle.nf_mark.specs.Seeing.{shown_in};
 
-/// What a marker's clauses see of the packet behind a view.
+/// What a marker's clauses see of the packet of a view.
 fn seen_in(view: &View) -> Seen
     requires profile { view.now.profile ≡ profile_of Kind.Marker }
     ensures { result ≡ seen_by (shown_in view.now).values view.now.version.fixed.proto }

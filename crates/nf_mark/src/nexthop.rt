@@ -1,4 +1,4 @@
-//! A nexthop, and which link addresses it writes.
+//! A nexthop, and the link addresses that it writes.
 
 mod build;
 mod lines;
@@ -18,9 +18,9 @@ use std::alloc::AllocError;
 pub struct NexthopRule {
     /// One clause: the prefix of the destination, of either version of IP.
     pub fit: Match,
-    /// The interface that the frame goes to.
+    /// The interface to which the frame goes.
     pub link_dst: LinkAddress,
-    /// The interface that it comes from.
+    /// The interface from which the frame comes.
     pub link_src: LinkAddress,
 }
 
@@ -32,7 +32,7 @@ impl Fitting for NexthopRule {
     }
 }
 
-/// Rules, of which the first whose prefix holds a packet's destination says over which link it goes.
+/// Rules, of which the first whose prefix holds a packet's destination decides over which link it goes.
 #[derive(Debug, Drop)]
 pub struct Nexthop {
     pub rules: FitRules<NexthopRule>,
@@ -48,9 +48,8 @@ impl Nexthop {
     ghost use Rattle.nf_mark.specs.NexthopViews.{HasLinks};
     ghost use Rattle.nf_mark.specs.Nexthops.{nexthop_behaviour, rule_for};
 
-    /// Sends one packet on over a link, through a view of a nexthop's profile: where the packet has both link
-    /// addresses and a rule's prefix holds its destination, it gets those of the first such rule. It takes no
-    /// memory.
+    /// Sends one packet on over a link, through a view of a nexthop's profile: if the packet has both link addresses
+    /// and a rule's prefix holds its destination, it gets those of the first such rule. It allocates nothing.
     pub fn step(&mut self, view: &mut View) -> Result<Verdict, AllocError>
         requires profile { view.old.profile ≡ nexthop_behaviour.profile self.old }
         ensures after { self.new ≡ (viewed nexthop_behaviour self.old view.old).after }
@@ -65,7 +64,7 @@ impl Nexthop {
         Ok(Verdict::Pass)
     }
 
-    // The rule by which a packet goes.
+    // The rule that applies to a packet.
     fn rule_for(&self, view: &View) -> Option<&NexthopRule>
         requires profile { view.now.profile ≡ profile_of Kind.Nexthop }
         ensures rule { option_copied result ≡ rule_for self.now (shown_in view.now) }
@@ -80,7 +79,7 @@ impl Nexthop {
         self.rules.first_met(&seen_in(view))
     }
 
-    /// The same nexthop once more, with the same rules in memory. Its one refusal is want of memory.
+    /// The same nexthop once more, with the same rules in memory. The only error is that memory runs out.
     pub fn try_clone(&self) -> Result<Nexthop, AllocError>
         ensures { IfOk result (λ same. same ≡ self.now) }
     {
@@ -89,7 +88,7 @@ impl Nexthop {
         })
     }
 
-    /// Appends the lines of its state, of which a nexthop has none.
+    /// Appends the lines of its state, which a nexthop doesn't have.
     pub fn state_lines(&self, _out: &mut Vec<u8>) -> Result<(), AllocError>
         ensures none { _out.new ≡ _out.old }
         ensures never_fails { is_ok result ≡ true }
@@ -107,7 +106,7 @@ ghost use Rattle.nf_mark.specs.Seeing.{shown_in};
 ghost use Rattle.nf_mark.specs.NexthopViews.{HasLinks};
 ghost use Rattle.nf_mark.specs.Nexthops.{links};
 
-/// What a nexthop's prefixes see of the packet behind a view.
+/// What a nexthop's prefixes see of the packet of a view.
 fn seen_in(view: &View) -> Seen
     requires profile { view.now.profile ≡ profile_of Kind.Nexthop }
     ensures { result ≡ seen_by (shown_in view.now).values view.now.version.fixed.proto }
@@ -125,7 +124,7 @@ fn seen_in(view: &View) -> Seen
     }
 }
 
-/// Writes where a frame goes and where it comes from.
+/// Writes the link addresses of a frame: its destination and its source.
 fn write_links(view: &mut View, to: LinkAddress, from: LinkAddress)
     requires profile { view.old.profile ≡ profile_of Kind.Nexthop }
     requires there { HasLinks view.old }

@@ -4,7 +4,7 @@ use function_lines::FunctionLine;
 use policy_text::Word;
 use std::alloc::{AllocError, Global};
 
-/// A line of a kind that has none.
+/// A line of a kind that has no lines.
 #[derive(Drop)]
 pub enum NoLine {}
 
@@ -17,7 +17,7 @@ impl FunctionLine for NoLine {
         Ok(None)
     }
 
-    // None has to be there.
+    // The kind has no required line.
     fn lacks_one(_lines: &[NoLine]) -> bool {
         false
     }

@@ -1,4 +1,4 @@
-//! A redactor, and what it overwrites.
+//! A redactor, and the data that it overwrites.
 use chain_walk::Verdict;
 use function_lines::read_lines;
 use packet_fields::Field;
@@ -10,7 +10,7 @@ use std::alloc::{AllocError, Global};
 /// Patterns that are overwritten in a packet's data, in this order.
 #[derive(Debug, Drop)]
 pub struct Redactor {
-    /// With the searches for them, which were made when the redactor was.
+    /// The patterns, with their searchers, which were made when the redactor was built.
     pub patterns: PatternSet,
 }
 
@@ -24,8 +24,8 @@ impl Redactor {
     ghost use Rattle.patterns.specs.Lines.{pattern_lines};
     ghost use Rattle.nf_mark.specs.Redactors.{redactor_by, redactor_behaviour, redacted_payload, to_payload};
 
-    /// Makes the redactor that is declared, or names the least line of the declaration that is refused: one that is no
-    /// `rule` with a pattern.
+    /// Makes the redactor that is declared, or returns the least line of the declaration that is refused: one that
+    /// isn't a `rule` with a pattern.
     pub fn build(alloc: Global, decl: &FunctionDecl) -> Result<Redactor, BuildFault>
         requires { decl.now.kind ≡ Kind.Redactor }
         ensures { Builds pattern_lines redactor_by decl.now result }
@@ -36,7 +36,7 @@ impl Redactor {
         })
     }
 
-    /// The same redactor once more, with the same patterns in memory. Its one refusal is want of memory.
+    /// The same redactor once more, with the same patterns in memory. The only error is that memory runs out.
     pub fn try_clone(&self) -> Result<Redactor, AllocError>
         ensures { IfOk result (λ same. same ≡ self.now) }
     {
@@ -45,8 +45,8 @@ impl Redactor {
         })
     }
 
-    /// Overwrites the patterns in the data of one packet, through a view of a redactor's profile, in the bytes that the view
-    /// lends. It takes no memory.
+    /// Overwrites the patterns in the data of one packet, through a view of a redactor's profile, in the bytes that the
+    /// view lends. It allocates nothing.
     pub fn step(&mut self, view: &mut View) -> Result<Verdict, AllocError>
         requires profile { view.old.profile ≡ redactor_behaviour.profile self.old }
         ensures after { self.new ≡ (viewed redactor_behaviour self.old view.old).after }
@@ -57,7 +57,7 @@ impl Redactor {
         Ok(Verdict::Pass)
     }
 
-    // Writes the payload where one of the patterns occurs in it, and else nothing.
+    // Writes the payload if one of the patterns occurs in it.
     #[tactic(auto, using(crate::proofs::Redacting::nothing_found, crate::proofs::Redacting::found))]
     fn overwrite(&self, view: &mut View)
         requires profile { view.old.profile ≡ profile_of Kind.Redactor }
@@ -72,7 +72,7 @@ impl Redactor {
         overwrite_payload(patterns, view);
     }
 
-    /// Appends the lines of its state, of which a redactor has none.
+    /// Appends the lines of its state, which a redactor doesn't have.
     pub fn state_lines(&self, _out: &mut Vec<u8>) -> Result<(), AllocError>
         ensures none { _out.new ≡ _out.old }
         ensures never_fails { is_ok result ≡ true }
@@ -91,7 +91,7 @@ ghost use Rattle.patterns.specs.Overwriting.{redacted};
 ghost use Rattle.nf_mark.specs.Redactors.{to_payload};
 ghost use Rattle.nf_mark.specs.FoundPatterns.{Finds};
 
-/// The place of the first pattern that occurs in the payload, where there is one.
+/// The place of the first pattern that occurs in the payload, if there is a payload.
 #[tactic(auto, using(crate::proofs::Redacting::finds))]
 fn first_found(patterns: &PatternSet, payload: Option<&[u8]>) -> Option<usize>
     ensures { Finds patterns.now (option_copied payload.entry) result }

@@ -1,4 +1,4 @@
-//! A tagger, and which tag it puts on.
+//! A tagger, and the tag that it adds.
 
 mod build;
 mod lines;
@@ -12,10 +12,10 @@ use packet_version::{View, unwritten_stays, written_is_one_value};
 use policy_text::{Match, Seen};
 use std::alloc::AllocError;
 
-/// A rule: the tag that a packet gets that meets all its clauses.
+/// A rule: a packet that meets all its clauses gets this tag.
 #[derive(Debug, Drop)]
 pub struct TagRule {
-    /// The tag's control information (IEEE 802.1Q, 9.6): three bits of priority, one that is 0, and twelve of
+    /// The tag's control information (IEEE 802.1Q, 9.6): three bits of priority, one bit that is 0, and twelve bits of
     /// the VLAN id.
     pub control: u16,
     pub fit: Match,
@@ -29,7 +29,7 @@ impl Fitting for TagRule {
     }
 }
 
-/// Rules, of which the first that a packet meets says which tag it gets.
+/// Rules, of which the first that a packet meets sets its tag.
 #[derive(Debug, Drop)]
 pub struct Tagger {
     pub rules: FitRules<TagRule>,
@@ -44,9 +44,8 @@ impl Tagger {
     ghost use Rattle.nf_mark.specs.Seeing.{shown_in};
     ghost use Rattle.nf_mark.specs.Taggers.{tagger_behaviour, control_for, new_control};
 
-    /// Tags one packet through a view of a tagger's profile, in which there is room for a tag more: where the
-    /// packet meets a rule, it gets the tag of the first such rule, before the tags that it has. It takes no
-    /// memory.
+    /// Tags one packet through a view of a tagger's profile, in which there is room for one more tag: if the packet
+    /// meets a rule, it gets the tag of the first such rule, before the tags that it has. It allocates nothing.
     pub fn step(&mut self, view: &mut View) -> Result<Verdict, AllocError>
         requires profile { view.old.profile ≡ tagger_behaviour.profile self.old }
         requires room { IsSome (seen_parts view.old Field.Tag) → HasTagRoom view.old }
@@ -63,7 +62,7 @@ impl Tagger {
         Ok(Verdict::Pass)
     }
 
-    // The control information of the tag that is to be put on.
+    // The control information of the tag to add, if any.
     fn new_control(&self, view: &View) -> Option<u16>
         requires profile { view.now.profile ≡ profile_of Kind.Tagger }
         ensures control { result ≡ new_control self.now (shown_in view.now) }
@@ -75,7 +74,7 @@ impl Tagger {
         self.control_for(&seen_in(view))
     }
 
-    // The control information by what is seen of a packet.
+    // The control information for a packet with these values.
     #[tactic(auto, unfolding(crate::specs::Taggers::control_for))]
     fn control_for(&self, seen: &Seen) -> Option<u16>
         ensures { result ≡ control_for self.now seen.now }
@@ -86,7 +85,7 @@ impl Tagger {
         }
     }
 
-    /// The same tagger once more, with the same rules in memory. Its one refusal is want of memory.
+    /// The same tagger once more, with the same rules in memory. The only error is that memory runs out.
     pub fn try_clone(&self) -> Result<Tagger, AllocError>
         ensures { IfOk result (λ same. same ≡ self.now) }
     {
@@ -95,7 +94,7 @@ impl Tagger {
         })
     }
 
-    /// Appends the lines of its state, of which a tagger has none.
+    /// Appends the lines of its state, which a tagger doesn't have.
     pub fn state_lines(&self, _out: &mut Vec<u8>) -> Result<(), AllocError>
         ensures none { _out.new ≡ _out.old }
         ensures never_fails { is_ok result ≡ true }
@@ -111,7 +110,7 @@ ghost use Rattle.frame_seen.specs.Seeing.{seen_by};
 ghost use Rattle.nf_mark.specs.Seeing.{shown_in};
 ghost use Rattle.nf_mark.specs.Taggers.{tag_of};
 
-/// A customer tag (IEEE 802.1Q, 9.5) with this control information, as it stands in a frame.
+/// A customer tag (IEEE 802.1Q, 9.5) with this control information, as in a frame.
 fn tag_of(control: u16) -> [u8; 4]
     ensures { result ≡ tag_of control }
 {
@@ -119,7 +118,7 @@ fn tag_of(control: u16) -> [u8; 4]
     [0x81, 0x00, bytes[0], bytes[1]]
 }
 
-/// What a tagger's clauses see of the packet behind a view.
+/// What a tagger's clauses see of the packet of a view.
 fn seen_in(view: &View) -> Seen
     requires profile { view.now.profile ≡ profile_of Kind.Tagger }
     ensures { result ≡ seen_by (shown_in view.now).values view.now.version.fixed.proto }

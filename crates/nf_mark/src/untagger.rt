@@ -1,4 +1,4 @@
-//! An untagger, and which tag it takes off.
+//! An untagger, and the tag that it removes.
 
 use crate::no_lines::NoLine;
 use chain_walk::Verdict;
@@ -8,7 +8,7 @@ use packet_version::{View, unwritten_stays, written_is_one_value};
 use policy_text::{BuildFault, FunctionDecl};
 use std::alloc::{AllocError, Global};
 
-/// Takes the outermost tag off a packet (IEEE 802.1Q, 9.3).
+/// Removes the outermost tag of a packet (IEEE 802.1Q, 9.3).
 #[derive(Clone, Copy, Debug)]
 pub struct Untagger;
 
@@ -20,8 +20,7 @@ impl Untagger {
     ghost use Rattle.nf_mark.specs.NoLines.{no_lines};
     ghost use Rattle.nf_mark.specs.Untaggers.{untagger_by, untagger_behaviour};
 
-    /// Makes the untagger that is declared, or names the least line of the declaration that is refused, as
-    /// each is.
+    /// Makes the untagger that is declared, or returns the least line of the declaration. Each line is refused.
     pub fn build(alloc: Global, decl: &FunctionDecl) -> Result<Untagger, BuildFault>
         requires { decl.now.kind ≡ Kind.Untagger }
         ensures { Builds no_lines untagger_by decl.now result }
@@ -30,8 +29,8 @@ impl Untagger {
         Ok(Untagger)
     }
 
-    /// Takes the outermost tag off one packet, if it has one, through a view of an untagger's profile. It
-    /// takes no memory.
+    /// Removes the outermost tag of one packet, if it has one, through a view of an untagger's profile. It allocates
+    /// nothing.
     pub fn step(&mut self, view: &mut View) -> Result<Verdict, AllocError>
         requires profile { view.old.profile ≡ untagger_behaviour.profile self.old }
         ensures after { self.new ≡ (viewed untagger_behaviour self.old view.old).after }
@@ -47,7 +46,7 @@ impl Untagger {
         Ok(Verdict::Pass)
     }
 
-    /// Appends the lines of its state, of which an untagger has none.
+    /// Appends the lines of its state, which an untagger doesn't have.
     pub fn state_lines(&self, _out: &mut Vec<u8>) -> Result<(), AllocError>
         ensures none { _out.new ≡ _out.old }
         ensures never_fails { is_ok result ≡ true }
@@ -63,7 +62,7 @@ ghost use Rattle.packet_fields.specs.declared.field.Field.{Field};
 ghost use Rattle.packet_version.specs.Views.{seen_values, HasBytes};
 ghost use Rattle.nf_mark.specs.Untaggers.{untagged};
 
-/// Has the packet behind a view a tag?
+/// Does the packet of a view have a tag?
 fn is_tagged(view: &View) -> bool
     requires profile { view.now.profile ≡ profile_of Kind.Untagger }
     ensures tagged { result ≡ true → HasBytes view.now Field.Tag (λ tags. 0 < length tags) }

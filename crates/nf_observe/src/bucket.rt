@@ -1,7 +1,7 @@
 //! Token buckets.
 
-/// What a source may still send. A token is what a rate of one byte a second brings in one nanosecond, so a
-/// byte costs a thousand million.
+/// What a source may still send. At a rate of one byte a second, one token comes in each nanosecond, so a byte costs
+/// 1,000,000,000 tokens.
 #[derive(Clone, Copy, PartialEq, Eq, Debug)]
 pub struct TokenBucket {
     pub tokens: u64,
@@ -13,7 +13,7 @@ impl TokenBucket {
     ghost use Rattle.std.specs.Prelude.{◌≡◌};
     ghost use Rattle.nf_observe.specs.Buckets.{full, filled, affords, paid};
 
-    /// Holds the tokens of so many bytes.
+    /// A bucket with the tokens of `burst` bytes.
     pub fn full(burst: u32, time: u64) -> TokenBucket
         ensures { result ≡ full burst time }
     {
@@ -23,8 +23,8 @@ impl TokenBucket {
         }
     }
 
-    /// With what came since its moment at this rate, in bytes a second, and no more than the tokens of a
-    /// burst. What comes is counted in 128 bits: it is below 2^96.
+    /// The bucket with the tokens that came since its moment at this rate, in bytes a second, but with no more than the
+    /// tokens of a burst. They are counted in 128 bits and are fewer than 2^96.
     #[tactic(auto, using(crate::proofs::Widths::product_fits))]
     pub fn filled(self, rate: u32, burst: u32, time: u64) -> TokenBucket
         ensures { result ≡ filled rate burst time self }
@@ -41,14 +41,14 @@ impl TokenBucket {
         }
     }
 
-    /// Does it have the tokens of so many bytes?
+    /// Does it have the tokens of `bytes` bytes?
     pub fn affords(self, bytes: u16) -> bool
         ensures { result ≡ affords self bytes }
     {
         tokens_of(u32::from(bytes)) <= self.tokens
     }
 
-    /// Pays for so many bytes, where it can.
+    /// The bucket after paying for `bytes` bytes, if it can.
     pub fn paid(self, bytes: u16) -> TokenBucket
         ensures { result ≡ paid self bytes }
     {
@@ -66,7 +66,7 @@ impl TokenBucket {
 ghost use Rattle.std.specs.Prelude.{◌≡◌};
 ghost use Rattle.nf_observe.specs.Buckets.{tokens_of};
 
-// The tokens of so many bytes, which are fewer than 2^62.
+// The tokens of `bytes` bytes, which are fewer than 2^62.
 fn tokens_of(bytes: u32) -> u64
     ensures { result ≡ tokens_of bytes }
 {

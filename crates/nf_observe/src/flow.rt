@@ -7,12 +7,12 @@ use first_sight::{hash_endpoint, same_address};
 use std::hash::{Hash, Hasher};
 use std::net::IpAddr;
 
-/// An address of either version of IP, and the port there, which is read most significant byte first.
+/// An address of either version of IP, and a port there. The bytes of the port are read most significant first.
 #[derive(Clone, Copy, Debug)]
 pub struct Endpoint {
     /// An address of IPv4 is never one of IPv6, so flows of both versions stay apart.
     pub address: IpAddr,
-    /// None where the packet has no ports, as a fragment that isn't the first.
+    /// `None` if the packet has no ports, such as a fragment that isn't the first.
     pub port: Option<u16>,
 }
 
@@ -41,7 +41,7 @@ impl Hash for Endpoint {
     }
 }
 
-/// What tells flows apart.
+/// What distinguishes flows.
 #[derive(Clone, Copy, Hash, Debug)]
 pub struct FiveTuple {
     /// The IPv4 header's protocol (RFC 791, 3.1), or the IPv6 header's next header (RFC 8200, 3).
@@ -77,13 +77,13 @@ impl FlowCounts {
     ghost use Rattle.std.specs.Prelude.{◌≡◌};
     ghost use Rattle.nf_observe.specs.Flows.{with_packet};
 
-    /// Before the first packet.
+    /// The counts before the first packet.
     pub const NONE: FlowCounts = FlowCounts {
         packets: 0,
         bytes: 0,
     };
 
-    /// With one more packet of so many bytes.
+    /// The counts with one more packet, of `bytes` bytes.
     pub fn with_packet(self, bytes: u16) -> FlowCounts
         ensures { result ≡ with_packet self bytes }
     {

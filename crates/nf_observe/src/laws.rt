@@ -1,4 +1,4 @@
-//! What counts of flows and token buckets are worth.
+//! Properties of the counts of flows and of token buckets.
 ghost use Rattle.std.specs.Prelude.{◌≡◌, ℕ, ◌+◌, ◌-◌, ◌*◌, ◌≤◌, List, [], ◌∷◌, ◌++◌, true, false, is_some, if◌then◌else◌};
 ghost use Rattle.std.specs.Map.{keys_of};
 ghost use Rattle.std.specs.declared.net.ip_addr.IpAddr.{IpAddr};
@@ -20,8 +20,8 @@ use crate::flow::{FiveTuple, FlowCounts};
 use first_sight::noted_is_found;
 use std::net::IpAddr;
 
-/// What is counted of each flow are its packets and their bytes, whatever comes in between. A flow that is
-/// known keeps its place, and a new one goes last.
+/// The counts of each flow are those of its packets and their bytes, whatever comes in between. A known flow keeps its
+/// place, and a new one goes last.
 pub fn flows_count_their_packets()
     ensures counts { (packets : List Sight) (flow : FiveTuple) → counts_of (flows_with [] packets) flow ≡ totals (of_flow flow packets) }
     ensures order { (flows : List (FiveTuple × FlowCounts)) (flow : FiveTuple) (bytes : ℕ) →
@@ -30,10 +30,9 @@ pub fn flows_count_their_packets()
     noted_is_found::<FiveTuple, FlowCounts>();
 }
 
-/// What a bucket pays for in a row of packets, with what is left in it, is no more than what it held and
-/// what the rate brought meanwhile. So a source that is new sends no more than a burst and what the rate
-/// brings up to its last packet, and in any row of packets later on no more than a burst and what the rate brings from the
-/// first of them to the last.
+/// What a bucket pays for in a row of packets, with what is left in it, is no more than what it held and what came
+/// meanwhile at the rate. So a new source sends no more than a burst and what comes at the rate up to its last packet,
+/// and in any later row of packets no more than a burst and what comes at the rate from the first of them to the last.
 pub fn buckets_keep_the_rate()
     ensures all { (rate burst : ℕ) (b : TokenBucket) (packets : List Arrival) → IsWithinRate rate b (left_by rate burst b packets) (bytes_paid rate burst b packets) }
     ensures new { (rate burst time : ℕ) (packets : List Arrival) →
@@ -43,15 +42,15 @@ pub fn buckets_keep_the_rate()
         tokens_of burst + ((left_by rate burst (full burst time) (earlier ++ first ∷ later)).moment - first.0) * rate }
 {}
 
-/// A source that keeps to its rate loses nothing: where its packets, from each of them to each behind it, have no more bytes
-/// than a burst and what the rate brought meanwhile, a bucket that is new at the first pays for all of them.
+/// A source that keeps to its rate loses nothing. Take packets of which any row, from one packet to a later one, has no
+/// more bytes than a burst and what came meanwhile at the rate: a bucket that is new at the first pays for all of them.
 pub fn conforming_sources_pass()
     ensures { (rate burst : ℕ) (first : Arrival) (later : List Arrival) → IsConforming rate burst (first ∷ later) →
         bytes_paid rate burst (full burst first.0) (first ∷ later) ≡ bytes_of (first ∷ later) }
 {}
 
-/// Each source has a bucket of its own, which alone decides on its packets and pays for them: what comes from one source
-/// leaves the buckets of all others as they are. An address of IPv4 and one of IPv6 are two sources.
+/// Each source has a bucket of its own, and only this bucket decides on its packets and pays for them: packets from one
+/// source leave the buckets of all others unchanged. An address of IPv4 and one of IPv6 are two sources.
 pub fn sources_have_their_own_buckets()
     ensures decides { (l : Limiter) (source : IpAddr) (bytes time : ℕ) → (limited l source bytes time).verdict ≡ verdict_by (affords (bucket_of l source time) bytes) }
     ensures pays { (l : Limiter) (source same : IpAddr) (bytes time later : ℕ) → is_same_address same source ≡ true →

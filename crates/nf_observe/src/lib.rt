@@ -1,33 +1,33 @@
 //! Network functions that watch packets, and change nothing of them.
 //!
-//! A [`Monitor`] counts the packets and bytes of each flow: packets of one protocol between the same
-//! addresses of IPv4 or IPv6 and the same ports (RFC 791, RFC 8200, RFC 793, RFC 768). A packet's bytes are its IP length:
-//! IPv4's total length, or IPv6's header of 40 bytes and its payload length. Both counts
-//! stop at the largest number of 64 bits. [`flows_count_their_packets`] says that each flow has the counts of
-//! its own packets. No line sets a monitor up: [`Monitor::build`] refuses any.
+//! A [`Monitor`] counts the packets and bytes of each flow: packets of one protocol between the same addresses of IPv4
+//! or IPv6 and the same ports (RFC 791, RFC 8200, RFC 793, RFC 768). A packet's bytes are its IP length: IPv4's total
+//! length, or IPv6's header of 40 bytes and its payload length. Both counts stay at the largest number of 64 bits once
+//! they reach it. [`flows_count_their_packets`] says that each flow has the counts of its own packets. No line sets a
+//! monitor up: [`Monitor::build`] refuses any.
 //!
-//! A [`Limiter`] drops what a source sends beyond a rate. Each source, an address of IPv4 or IPv6, has a [`TokenBucket`], which is full
-//! at first, holds the tokens of a burst and fills by the rate; a packet passes where its bucket pays for it.
-//! A token is what a rate of one byte a second brings in one nanosecond, so no fraction is ever lost. What
-//! comes in a span is computed in 128 bits, and nothing wraps. [`buckets_keep_the_rate`] says that in no row of
-//! packets a bucket pays for more than a burst and what the rate brings meanwhile, [`conforming_sources_pass`] that a source which keeps to the
-//! rate loses nothing, and [`sources_have_their_own_buckets`] that no source spends what another has. `set rate` and `set burst` set a limiter up,
-//! and both have to be there: [`Limiter::build`] names the least line that is refused.
+//! A [`Limiter`] drops what a source sends beyond a rate. Each source, an address of IPv4 or IPv6, has a
+//! [`TokenBucket`], which is full at first, holds the tokens of a burst and fills at the rate; a packet passes if its
+//! bucket pays for it. At a rate of one byte a second, one token comes in each nanosecond, so no fraction is ever lost.
+//! The tokens of a span of time are computed in 128 bits, and nothing wraps. [`buckets_keep_the_rate`] says that in no
+//! row of packets a bucket pays for more than a burst and what comes at the rate meanwhile, [`conforming_sources_pass`]
+//! that a source which keeps to the rate loses nothing, and [`sources_have_their_own_buckets`] that no source spends
+//! the tokens of another. `set rate` and `set burst` set a limiter up, and both are required: [`Limiter::build`]
+//! returns the least line that is refused.
 //!
 //! As functions of a chain they have one meaning each, `monitor_behaviour` of `specs/Monitors.antt` and
-//! `limiter_behaviour` of `specs/Limiters.antt`: what they do by what they are shown. That they keep to
-//! their profiles is `monitor_keeps` of `specs/MonitorLaws.antt` and `limiter_keeps` of
-//! `specs/LimiterLaws.antt`.
+//! `limiter_behaviour` of `specs/Limiters.antt`: what they do as a function of what they see. `monitor_keeps` of
+//! `specs/MonitorLaws.antt` and `limiter_keeps` of `specs/LimiterLaws.antt` say that they keep to their profiles.
 //!
-//! A monitor's step is two that may be taken apart: [`look`] notes the packet, and [`Monitor::settle`] counts what was
-//! noted (`monitor_counts` of `specs/MonitorNotes.antt`). So it may see a packet before it is known whether an earlier
-//! function drops it.
+//! A monitor's step has two parts that may be separated: [`look`] notes the packet, and [`Monitor::settle`] counts what
+//! was noted (`monitor_counts` of `specs/MonitorNotes.antt`). So it may see a packet before it is known whether an
+//! earlier function drops it.
 //!
-//! A state is a list in the order of first sight, and contracts see that list. The code finds a key by its
-//! hash (`first_sight::FirstSeen`), so no step searches through a state. Where memory runs out, function and
-//! packet are as they were; so is the text to which the lines of a state were to be appended.
+//! A state is a list in the order of first sight, and contracts see that list. The code finds a key by its hash
+//! (`first_sight::FirstSeen`), so no step searches through a state. If memory runs out, the function, the packet and
+//! the text to which the lines of a state were to be appended are as they were.
 //!
-//! An address of IPv4 is never one of IPv6, so flows and sources of the two versions are never taken for each other.
+//! An address of IPv4 is never one of IPv6, so flows and sources of the two versions are never confused.
 //!
 //! Nothing is ever forgotten: a state grows with each new flow or source.
 #![tactic(auto)]

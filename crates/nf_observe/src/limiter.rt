@@ -1,4 +1,4 @@
-//! A limiter, and what it lets pass.
+//! A limiter, and the packets that it passes.
 
 mod build;
 mod lines;
@@ -16,9 +16,9 @@ use std::net::IpAddr;
 /// Drops what a source sends beyond a rate.
 #[derive(Debug, Drop)]
 pub struct Limiter {
-    /// In bytes a second.
+    /// The rate in bytes a second.
     pub rate: u32,
-    /// How many bytes a source may send at once that was quiet.
+    /// The number of bytes that a source may send at once after it was quiet.
     pub burst: u32,
     /// The bucket of each source, in the order of first sight. An address of IPv4 is never one of IPv6.
     pub sources: FirstSeen<IpAddr, TokenBucket>,
@@ -34,14 +34,14 @@ impl Limiter {
     ghost use Rattle.nf_observe.specs.Limiters.{limiter_behaviour, limiter_text, bucket_of, limited};
     ghost use Rattle.nf_observe.specs.StateRows.{limiter_rows};
 
-    /// Judges one packet, which it sees through a view of a limiter's profile. It writes nothing. Where there
-    /// is no memory for a new source, nothing changes.
+    /// Judges one packet, which it sees through a view of a limiter's profile. It writes nothing. If there is no memory
+    /// for a new source, nothing changes.
     pub fn step(&mut self, view: &mut View) -> Result<Verdict, AllocError>
         requires profile { view.old.profile ≡ limiter_behaviour.profile self.old }
         ensures after { OnOk result (self.new ≡ (viewed limiter_behaviour self.old view.old).after) }
         ensures verdict { IfOk result (λ verdict. verdict ≡ (viewed limiter_behaviour self.old view.old).verdict) }
         ensures view { OnOk result (view.new ≡ wrote_all (viewed limiter_behaviour self.old view.old).written view.old) }
-        // Where memory runs out, nothing has changed.
+        // If memory runs out, nothing has changed.
         ensures function_stays { OnErr result (self.new ≡ self.old) }
         ensures view_stays { OnErr result (view.new ≡ view.old) }
     {
@@ -53,7 +53,7 @@ impl Limiter {
         }
     }
 
-    /// Appends the lines of its state, one for each source. Where memory runs out, it appends nothing.
+    /// Appends the lines of its state, one for each source. If memory runs out, it appends nothing.
     pub fn state_lines(&self, out: &mut Vec<u8>) -> Result<(), AllocError>
         ensures lines { OnOk result (out.new.items ≡ out.old.items ++ limiter_text self.now) }
         ensures stays { OnErr result (out.new.items ≡ out.old.items) }
@@ -61,7 +61,7 @@ impl Limiter {
         self.sources.push_lines(self, out)
     }
 
-    /// How many lines its state has: one for each source.
+    /// The number of lines of its state: one for each source.
     pub fn state_count(&self) -> usize
         ensures count { result ≡ length (limiter_rows self.now) }
         ensures told { flat_map (λ row. row) (limiter_rows self.now) ≡ limiter_text self.now }
@@ -69,7 +69,7 @@ impl Limiter {
         self.sources.line_count(self)
     }
 
-    /// Appends the line of its state at a place, counted from 0. Where memory runs out, it appends nothing.
+    /// Appends the line of its state at a place, counted from 0. If memory runs out, it appends nothing.
     pub fn state_line(&self, place: usize, out: &mut Vec<u8>) -> Result<(), AllocError>
         requires inside { place < length (limiter_rows self.now) }
         ensures line { OnOk result (out.new.items ≡ out.old.items ++ slice_index_or (limiter_rows self.now) place []) }
@@ -78,7 +78,7 @@ impl Limiter {
         self.sources.push_line(self, place, out)
     }
 
-    // Lets a packet of so many bytes pass where the source's bucket pays for it.
+    // Passes a packet of `bytes` bytes if the source's bucket pays for it.
     fn charge(&mut self, source: IpAddr, bytes: u16, time: u64) -> Result<Verdict, AllocError>
         ensures after { OnOk result (self.new ≡ (limited self.old source bytes time).after) }
         ensures verdict { IfOk result (λ verdict. verdict ≡ (limited self.old source bytes time).verdict) }
@@ -89,7 +89,7 @@ impl Limiter {
         Ok(verdict(bucket.affords(bytes)))
     }
 
-    // The place of a source that was seen, and the source's bucket at this time: a new one is full.
+    // The place of a source, if it was seen, and its bucket at this time. The bucket of a new source is full.
     fn place_and_bucket(&self, source: IpAddr, time: u64) -> (Option<usize>, TokenBucket)
         ensures place { result.0 ≡ position (is_same_address source) (keys_of self.now.sources) }
         ensures bucket { result.1 ≡ bucket_of self.now source time }
@@ -100,7 +100,7 @@ impl Limiter {
         }
     }
 
-    // Gives a source this bucket. The place is that of a source that was seen, which isn't looked for again.
+    // Gives a source this bucket. `place` is that of a source that was seen, which is not looked for again.
     fn note(
         &mut self,
         place: Option<usize>,
@@ -138,7 +138,7 @@ fn verdict(affords: bool) -> Verdict
     }
 }
 
-/// The source of the packet behind a view.
+/// The source of the packet of a view.
 fn source_in(view: &View) -> Option<IpAddr>
     requires profile { view.now.profile ≡ profile_of Kind.Limiter }
     ensures { result ≡ source_address (seen_values view.now) }

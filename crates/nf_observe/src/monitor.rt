@@ -1,4 +1,4 @@
-//! A monitor, and what it counts.
+//! A monitor and its counts.
 
 mod build;
 
@@ -14,7 +14,7 @@ use std::alloc::AllocError;
 /// Counts the packets and bytes of each flow.
 #[derive(Debug, Drop)]
 pub struct Monitor {
-    /// What is counted of each flow, in the order of first sight.
+    /// The counts of each flow, in the order of first sight.
     pub flows: FirstSeen<FiveTuple, FlowCounts>,
 }
 
@@ -26,7 +26,7 @@ impl Monitor {
     ghost use Rattle.nf_observe.specs.MonitorNotes.{settled_note};
     ghost use Rattle.nf_observe.specs.StateRows.{monitor_rows};
 
-    /// Counts a packet that was noted so. Where there is no memory for a new flow, nothing changes.
+    /// Counts a packet with this note. If there is no memory for a new flow, nothing changes.
     pub fn settle(&mut self, note: &FlowNote) -> Result<(), AllocError>
         ensures settled { OnOk result (self.new ≡ settled_note self.old note.now) }
         ensures stays { OnErr result (self.new ≡ self.old) }
@@ -34,7 +34,7 @@ impl Monitor {
         self.count(note.flow, note.bytes)
     }
 
-    /// Appends the lines of its state, one for each flow. Where memory runs out, it appends nothing.
+    /// Appends the lines of its state, one for each flow. If memory runs out, it appends nothing.
     pub fn state_lines(&self, out: &mut Vec<u8>) -> Result<(), AllocError>
         ensures lines { OnOk result (out.new.items ≡ out.old.items ++ monitor_text self.now) }
         ensures stays { OnErr result (out.new.items ≡ out.old.items) }
@@ -42,7 +42,7 @@ impl Monitor {
         self.flows.push_lines(self, out)
     }
 
-    /// How many lines its state has: one for each flow.
+    /// The number of lines of its state: one for each flow.
     pub fn state_count(&self) -> usize
         ensures count { result ≡ length (monitor_rows self.now) }
         ensures told { flat_map (λ row. row) (monitor_rows self.now) ≡ monitor_text self.now }
@@ -50,7 +50,7 @@ impl Monitor {
         self.flows.line_count(self)
     }
 
-    /// Appends the line of its state at a place, counted from 0. Where memory runs out, it appends nothing.
+    /// Appends the line of its state at a place, counted from 0. If memory runs out, it appends nothing.
     pub fn state_line(&self, place: usize, out: &mut Vec<u8>) -> Result<(), AllocError>
         requires inside { place < length (monitor_rows self.now) }
         ensures line { OnOk result (out.new.items ≡ out.old.items ++ slice_index_or (monitor_rows self.now) place []) }
@@ -59,7 +59,7 @@ impl Monitor {
         self.flows.push_line(self, place, out)
     }
 
-    // Counts a packet of this flow, which has so many bytes.
+    // Counts a packet of this flow, which has `bytes` bytes.
     fn count(&mut self, flow: FiveTuple, bytes: u16) -> Result<(), AllocError>
         ensures counted { OnOk result (self.new.flows ≡ counted self.old.flows flow bytes) }
         ensures stays { OnErr result (self.new ≡ self.old) }
@@ -82,7 +82,7 @@ ghost use Rattle.chain_walk.specs.Shown.{shown_by};
 ghost use Rattle.nf_observe.specs.Monitors.{flow_of};
 ghost use Rattle.nf_observe.specs.MonitorNotes.{note_of};
 
-/// What a monitor notes of the packet behind a view: its flow and its IP length, where both are known. Takes no memory.
+/// What a monitor notes of the packet of a view: its flow and its IP length, if both are known. Allocates nothing.
 pub fn look(view: &View) -> Option<FlowNote>
     requires profile { view.now.profile ≡ profile_of Kind.Monitor }
     ensures { result ≡ note_of (shown_by (profile_of Kind.Monitor) view.now.version.fixed (seen_values view.now)) }
@@ -93,7 +93,7 @@ pub fn look(view: &View) -> Option<FlowNote>
     })
 }
 
-/// The flow of the packet behind a view.
+/// The flow of the packet of a view.
 fn flow_in(view: &View) -> Option<FiveTuple>
     requires profile { view.now.profile ≡ profile_of Kind.Monitor }
     ensures { result ≡ flow_of (seen_values view.now) view.now.version.fixed.proto }

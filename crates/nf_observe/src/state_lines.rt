@@ -1,4 +1,4 @@
-//! The lines that tell a state.
+//! The lines that show a state.
 ghost use Rattle.std.specs.Prelude.{◌≡◌, ◌++◌, OnOk};
 ghost use Rattle.nf_observe.specs.StateLines.{port_text, endpoint_text};
 

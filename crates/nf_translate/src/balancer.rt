@@ -1,4 +1,4 @@
-//! A balancer, and what it does with a packet.
+//! A balancer, and its effect on a packet.
 use crate::client::Client;
 use chain_walk::Verdict;
 use first_sight::{EntryLines, FirstSeen, lines_of_keys, push_ip_address, same_address};
@@ -11,12 +11,12 @@ use std::marker::Model;
 use std::net::IpAddr;
 use text_lines::{Piece, push_line, push_pieces};
 
-/// How a balancer is set up.
+/// The settings of a balancer.
 #[derive(Debug, Drop)]
 pub struct BalancerSettings {
-    /// The address to which packets are sent that are to be balanced.
+    /// The address whose packets are balanced.
     pub virtual_address: IpAddr,
-    /// The addresses of the backends, which take turns. One may stand twice.
+    /// The addresses of the backends, which take turns. An address may be listed twice.
     pub backends: Items<IpAddr>,
 }
 
@@ -24,7 +24,7 @@ pub struct BalancerSettings {
 #[derive(Debug, Drop)]
 pub struct Balancer {
     settings: BalancerSettings,
-    // A flow's place is all that is kept of it.
+    // Only the place of a flow is kept.
     flows: FirstSeen<Client, ()>,
 }
 
@@ -59,15 +59,15 @@ impl Balancer {
         }
     }
 
-    /// Sends one packet on, through a view of a balancer's profile: to the backend of its flow, if it was
-    /// sent to the virtual address, and else as it is. Memory is taken for a flow that is new; where it
-    /// runs out, nothing has changed.
+    /// Sends one packet on, through a view of a balancer's profile: to the backend of its flow if it was sent to the
+    /// virtual address, and unchanged otherwise. Memory is allocated for a new flow; if it runs out, nothing has
+    /// changed.
     pub fn step(&mut self, view: &mut View) -> Result<Verdict, AllocError>
         requires profile { view.old.profile ≡ balancer_behaviour.profile self.old }
         ensures after { OnOk result (self.new ≡ (viewed balancer_behaviour self.old view.old).after) }
         ensures verdict { IfOk result (λ verdict. verdict ≡ (viewed balancer_behaviour self.old view.old).verdict) }
         ensures view { OnOk result (view.new ≡ wrote_all (viewed balancer_behaviour self.old view.old).written view.old) }
-        // Where memory runs out, nothing has changed.
+        // If memory runs out, nothing has changed.
         ensures function_stays { OnErr result (self.new ≡ self.old) }
         ensures view_stays { OnErr result (view.new ≡ view.old) }
     {
@@ -80,7 +80,7 @@ impl Balancer {
         Ok(Verdict::Pass)
     }
 
-    // The backend of a flow, which is noted where it is new.
+    // The backend of a flow, which is noted if it is new.
     fn backend_for(&mut self, flow: Client) -> Result<IpAddr, AllocError>
         ensures backend { IfOk result (λ backend. backend ≡ backend_at self.old.settings (place_of self.old.flows flow)) }
         ensures after { OnOk result (self.new ≡ record self.old { flows = with_client self.old.flows flow }) }
@@ -90,18 +90,17 @@ impl Balancer {
         Ok(backend_at(&self.settings, place))
     }
 
-    /// Appends the lines that tell its flows, in the order of first sight. Where memory runs out, it
-    /// appends nothing.
+    /// Appends the lines of its flows, in the order of first sight. If memory runs out, it appends nothing.
     pub fn state_lines(&self, out: &mut Vec<u8>) -> Result<(), AllocError>
         ensures lines { OnOk result (out.new.items ≡ out.old.items ++ flow_lines self.now) }
         ensures stays { OnErr result (out.new.items ≡ out.old.items) }
     {
-        // A line tells of a flow its place and its key, and the list of the flows is that of the keys.
+        // A line shows of a flow its place and its key, so the lines of the flows are those of the keys.
         lines_of_keys::<Client, ()>();
         self.flows.push_lines(self, out)
     }
 
-    /// How many lines its state has: one for each flow.
+    /// The number of lines of its state: one for each flow.
     pub fn state_count(&self) -> usize
         ensures count { result ≡ length (flow_rows self.now) }
         ensures told { flat_map (λ row. row) (flow_rows self.now) ≡ flow_lines self.now }
@@ -110,7 +109,7 @@ impl Balancer {
         self.flows.line_count(self)
     }
 
-    /// Appends the line of its state at a place, counted from 0. Where memory runs out, it appends nothing.
+    /// Appends the line of its state at a place, counted from 0. If memory runs out, it appends nothing.
     pub fn state_line(&self, place: usize, out: &mut Vec<u8>) -> Result<(), AllocError>
         requires inside { place < length (flow_rows self.now) }
         ensures line { OnOk result (out.new.items ≡ out.old.items ++ slice_index_or (flow_rows self.now) place []) }
@@ -176,7 +175,7 @@ fn backend_at(settings: &BalancerSettings, place: usize) -> IpAddr
     backends[place % backends.len()]
 }
 
-/// The flow of the packet behind a view, where it was sent to the virtual address.
+/// The flow of the packet of a view, if it was sent to the virtual address.
 fn flow_in(settings: &BalancerSettings, view: &View) -> Option<Client>
     requires profile { view.now.profile ≡ profile_of Kind.Balancer }
     ensures { result ≡ flow_of settings.now (seen_values view.now) view.now.version.fixed.proto }
@@ -192,7 +191,7 @@ fn flow_in(settings: &BalancerSettings, view: &View) -> Option<Client>
     })
 }
 
-/// Writes where a packet goes.
+/// Writes the destination address of a packet.
 fn write_destination(view: &mut View, address: IpAddr)
     requires profile { view.old.profile ≡ profile_of Kind.Balancer }
     ensures { view.new ≡ wrote_all (to_address address (seen_values view.old Field.DstIp)) view.old }
@@ -203,7 +202,7 @@ fn write_destination(view: &mut View, address: IpAddr)
     }
 }
 
-/// Writes these bytes in place of a packet's destination, where it has as many.
+/// Writes these bytes as the destination address of a packet, if the old address has the same length.
 fn write_bytes(view: &mut View, bytes: &[u8])
     requires profile { view.old.profile ≡ profile_of Kind.Balancer }
     ensures { view.new ≡ wrote_all (alone Field.DstIp (in_place_of (seen_values view.old Field.DstIp) bytes.now)) view.old }
@@ -216,7 +215,7 @@ fn write_bytes(view: &mut View, bytes: &[u8])
     }
 }
 
-/// Is the value there, and has it so many bytes?
+/// Is the value there, and does it have `size` bytes?
 fn has_length(value: Option<&[u8]>, size: usize) -> bool
     ensures { result ≡ option_map_or (λ bytes. length bytes == size) (option_copied value.entry) false }
 {

@@ -15,9 +15,9 @@ impl Balancer {
     ghost use Rattle.nf_translate.specs.BalancerLines.{balancer_lines};
     ghost use Rattle.nf_translate.specs.Balancers.{balancer_by};
 
-    /// Makes the balancer that is declared, or names the least line of the declaration that is refused:
-    /// one that is no line of a balancer, a second `set vip`, a backend of another version of IP than the virtual
-    /// address, or the `fn` line, where there is no `set vip` or no `rule backend`.
+    /// Makes the balancer that is declared, or returns the least line of the declaration that is refused: one that
+    /// isn't a line of a balancer, a second `set vip`, a backend of another version of IP than the virtual address, or
+    /// the `fn` line if there is no `set vip` or no `rule backend`.
     #[tactic(auto, using(crate::proofs::Building::has_backends))]
     pub fn build(alloc: Global, decl: &FunctionDecl) -> Result<Balancer, BuildFault>
         requires { decl.now.kind ≡ Kind.Balancer }
@@ -33,7 +33,7 @@ impl BalancerSettings {
     ghost use Rattle.std.specs.Prelude.{◌≡◌, IfOk};
     ghost use Rattle.nf_translate.specs.Balancers.{settings_by};
 
-    // What these lines say.
+    // The settings in these lines.
     fn of_lines(alloc: Global, lines: Items<BalancerLine>) -> Result<BalancerSettings, AllocError>
         ensures { IfOk result (λ settings. settings ≡ settings_by lines) }
     {
@@ -65,7 +65,7 @@ fn backends_of(alloc: Global, lines: Items<BalancerLine>) -> Result<Items<IpAddr
     Ok(backends)
 }
 
-// Adds the backend of the line, where it adds one.
+// Adds the backend of the line, if it adds one.
 fn add_backend(backends: &mut Items<IpAddr>, line: BalancerLine) -> Result<(), AllocError>
     ensures { OnOk result (backends.new ≡ backends.old ++ option_to_list (backend_in line)) }
 {

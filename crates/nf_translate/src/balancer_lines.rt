@@ -10,10 +10,10 @@ use policy_text::{Word, address, address6};
 use std::alloc::{AllocError, Global};
 use std::net::{IpAddr, Ipv4Addr, Ipv6Addr};
 
-/// What a line says.
+/// The content of a line.
 #[derive(Debug, Drop)]
 pub enum BalancerLine {
-    /// The address to which packets are sent that are to be balanced.
+    /// The address whose packets are balanced.
     VirtualAddress(IpAddr),
     /// The address of one more backend.
     Backend(IpAddr),
@@ -85,7 +85,7 @@ fn backend_of(key: &[u8], text: &[u8]) -> Option<BalancerLine>
     }
 }
 
-// An address of either version.
+// Reads an address of either version.
 fn ip_address(text: &[u8]) -> Option<IpAddr>
     ensures { result ≡ ip_address_of text.now }
 {
@@ -116,7 +116,7 @@ fn is_same_version(a: IpAddr, b: IpAddr) -> bool
     a.is_ipv4() == b.is_ipv4()
 }
 
-/// The address that the first of these lines sets that sets one.
+/// The address of the first of these lines that sets one.
 pub(crate) fn virtual_address_by(lines: &[BalancerLine]) -> Option<IpAddr>
     ensures { result ≡ virtual_address_by lines.now }
 {

@@ -7,8 +7,8 @@ use first_sight::{hash_endpoint, same_address};
 use std::hash::{Hash, Hasher};
 use std::net::IpAddr;
 
-/// Where the packets of a flow come from: their protocol, an address of IPv4 or of IPv6, and a port (RFC 791, RFC 8200, RFC 793,
-/// RFC 768).
+/// The source of the packets of a flow: their protocol, an address of IPv4 or of IPv6, and a port (RFC 791, RFC 8200,
+/// RFC 793, RFC 768).
 #[derive(Clone, Copy, Debug)]
 pub struct Client {
     pub proto: u8,

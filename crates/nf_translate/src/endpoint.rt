@@ -1,6 +1,6 @@
 //! One end of a flow.
 
-/// Where packets come from: their protocol, an IPv4 address and a port (RFC 791, RFC 793, RFC 768).
+/// The source of packets: their protocol, an IPv4 address and a port (RFC 791, RFC 793, RFC 768).
 #[derive(Clone, Copy, Debug, Eq, Hash)]
 pub struct Endpoint {
     pub proto: u8,

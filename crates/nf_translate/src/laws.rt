@@ -1,4 +1,4 @@
-//! What flows and mappings are worth, in other words than the steps.
+//! Properties of flows and mappings, stated without the steps.
 ghost use Rattle.std.specs.Prelude.{◌≡◌, ◌<◌, ◌+◌, ◌*◌, ℕ, List, Option, true, false, length, slice_get, Some, None};
 ghost use Rattle.packet_fields.specs.declared.field.Field.{Field};
 ghost use Rattle.policy_text.specs.declared.policy.FunctionDecl.{FunctionDecl};
@@ -17,9 +17,9 @@ ghost use Rattle.nf_translate.specs.Endpoints.{is_known, place_of};
 ghost use Rattle.nf_translate.specs.Nats.{PlainNat, coming, leaving, mapped, nat_behaviour, nat_of, port_at};
 ghost use Rattle.nf_translate.specs.Standing.{KeepsBackend, HasOneVersion, HasPorts, backend_of};
 
-/// Once a packet of a flow came, the balancer knows the flow, and the flow keeps its backend, whatever packets
-/// come. The backends take turns as listed: a flow that is new gets the one whose turn it is by the number of flows before it,
-/// which its first packet alone makes greater.
+/// Once a packet of a flow came, the balancer knows the flow, and the flow keeps its backend, whatever packets come.
+/// The backends take turns as listed: a new flow gets the backend whose turn it is by the number of flows before it,
+/// and only the first packet of a flow raises this number.
 pub fn flows_keep_their_backends()
     ensures known { (b : PlainBalancer) (destination : Option (List ℕ)) (flow : Client) → is_known_client (balanced b destination (Some flow)).after.flows flow ≡ true }
     ensures kept { (fixed : Fixed) (b : PlainBalancer) (v : Values) (flow : Client) → is_known_client b.flows flow ≡ true → KeepsBackend flow b (stepped balancer_behaviour fixed b v).after }
@@ -29,8 +29,9 @@ pub fn flows_keep_their_backends()
     ensures listed { (s : BalancerSettings) (turn place : ℕ) → place < length s.backends → slice_get s.backends place ≡ Some (backend_at s (turn * length s.backends + place)) }
 {}
 
-/// In a balancer that is declared without a refused line, every backend is of the version of the virtual address, and that stays so
-/// whatever packets come. So each packet that is sent to the virtual address, and has a client, gets all bytes of its backend's address.
+/// In a balancer that is declared without a refused line, every backend has the version of the virtual address, and
+/// that stays true whatever packets come. So each packet that is sent to the virtual address, and has a client, gets
+/// all bytes of its backend's address.
 pub fn backends_are_of_one_version()
     ensures declared { (decl : FunctionDecl) → refused_line balancer_lines decl ≡ None → HasOneVersion (balancer_of decl).settings }
     ensures kept { (fixed : Fixed) (b : PlainBalancer) (v : Values) → (stepped balancer_behaviour fixed b v).after.settings ≡ b.settings }
@@ -38,9 +39,10 @@ pub fn backends_are_of_one_version()
         (stepped balancer_behaviour fixed b v).written Field.DstIp ≡ Some (ip_address_bytes (backend_of b flow)) }
 {}
 
-/// Once a packet left by a public port, what is sent to that port by the same protocol comes back to where the packet
-/// came from, whatever packets come. No public port is given twice, whatever the protocols: endpoints that have one port are
-/// one endpoint. The addresses and ports of a translation stay as they were set.
+/// Once a packet left by a public port, a packet that is sent to that port by the same protocol is delivered to the
+/// origin of the first one, whatever packets come in between. No public port is given twice, whatever the protocols:
+/// endpoints that have the same port are the same endpoint. The addresses and ports of a translation stay as they were
+/// set.
 pub fn packets_come_back()
     ensures back { (n : PlainNat) (source : Endpoint) (address port : ℕ) → port_at n.settings (place_of n.mappings source) ≡ Some port →
         mapped (leaving n source (Some port)).after (record { proto = source.proto; address = address; port = port }) ≡ Some source }
@@ -50,9 +52,9 @@ pub fn packets_come_back()
         port_at n.settings (place_of n.mappings a) ≡ Some port → port_at n.settings (place_of n.mappings b) ≡ Some port → a ≡ b }
 {}
 
-/// There are never more mappings than ports, so no port is left only for an endpoint that is new, and only where all
-/// ports are taken. The first packet that leaves from an endpoint takes one port; those that leave from it later, and those that
-/// come back, take none.
+/// There are never more mappings than ports, so only a new endpoint can fail to get a port, and only if all ports are
+/// taken. The first packet that leaves from an endpoint takes one port; packets that leave from it later, and packets
+/// that come back, take none.
 pub fn ports_run_out_once_all_are_taken()
     ensures opens { (decl : FunctionDecl) → HasPorts (nat_of decl) }
     ensures within { (fixed : Fixed) (n : PlainNat) (v : Values) → HasPorts n → HasPorts (stepped nat_behaviour fixed n v).after }

@@ -1,28 +1,27 @@
 //! Network functions that give packets other addresses, flow by flow.
 //!
-//! A flow is told by where its packets come from: the protocol, the source address and the source port
-//! (RFC 791, RFC 8200, RFC 793, RFC 768).
+//! A flow is identified by the source of its packets: the protocol, the source address and the source port (RFC 791,
+//! RFC 8200, RFC 793, RFC 768).
 //!
-//! A [`Balancer`] sends what comes to its virtual address to one of its backends, all packets of a flow, which is told by its
-//! [`Client`], to the same. It keeps the flows in the order of first sight, and the backends take turns. Its addresses are all of
-//! IPv4 or all of IPv6.
+//! A [`Balancer`] sends packets for its virtual address to one of its backends, and all packets of a flow, which is
+//! identified by its [`Client`], to the same one. It keeps the flows in the order of first sight, and the backends take
+//! turns. Its addresses are all of IPv4 or all of IPv6.
 //!
 //! A [`Nat`] lets the endpoints of a prefix share one public address (RFC 3022): each [`Endpoint`] has a public port of
-//! its own, in the order of first sight, and what is sent to that port comes back to it. Where no port is
-//! left, and where nobody has the port, the packet is dropped. It is for IPv4 alone, and a packet of IPv6 passes.
+//! its own, in the order of first sight, and what is sent to that port is delivered to the endpoint. If no port is
+//! left, or nobody has the port, the packet is dropped. It works on IPv4 only, and a packet of IPv6 passes.
 //!
-//! [`Balancer::build`] and [`Nat::build`] make them of the lines that an operator wrote, or name the least
-//! line that is refused. As functions of a chain they have one meaning each, `balancer_behaviour` of
-//! `specs/Balancers.antt` and `nat_behaviour` of `specs/Nats.antt`. They see a packet through a view of a
-//! version of it (`step`); where memory runs out, the function and the view are as before. `state_lines`
-//! tells the flows or the mappings. That they keep to their profiles are `balancer_keeps` and `nat_keeps`
-//! of `specs/BalancerLaws.antt` and `specs/NatLaws.antt`.
+//! [`Balancer::build`] and [`Nat::build`] make them of the lines that an operator wrote, or return the least line that
+//! is refused. As functions of a chain they have one meaning each, `balancer_behaviour` of `specs/Balancers.antt` and
+//! `nat_behaviour` of `specs/Nats.antt`. They see a packet through a view of a version of it (`step`); if memory runs
+//! out, the function and the view are as before. `state_lines` prints the flows or the mappings. `balancer_keeps` and
+//! `nat_keeps` of `specs/BalancerLaws.antt` and `specs/NatLaws.antt` say that they keep to their profiles.
 //!
-//! In other words than the steps: [`flows_keep_their_backends`], [`backends_are_of_one_version`], [`packets_come_back`] and
+//! Stated without the steps: [`flows_keep_their_backends`], [`backends_are_of_one_version`], [`packets_come_back`] and
 //! [`ports_run_out_once_all_are_taken`].
 //!
-//! A client and an endpoint are found by their key (`first_sight::FirstSeen`), and a mapping by its public port: nothing is
-//! searched. Flows and mappings are never forgotten, so memory alone limits the flows of a balancer.
+//! A client and an endpoint are found by their key (`first_sight::FirstSeen`), and a mapping by its public port,
+//! without a search. Flows and mappings are never forgotten, so only memory limits the flows of a balancer.
 #![tactic(auto)]
 
 mod balancer;

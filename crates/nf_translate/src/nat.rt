@@ -1,4 +1,4 @@
-//! A translation of addresses and ports, and what it does with a packet.
+//! A translation of addresses and ports, and its effect on a packet.
 use crate::endpoint::Endpoint;
 use chain_walk::Verdict;
 use first_sight::{EntryLines, FirstSeen, lines_of_keys, push_address};
@@ -10,10 +10,10 @@ use std::alloc::{AllocError, Global};
 use std::marker::Model;
 use text_lines::{Piece, push_line, push_pieces};
 
-/// How a translation is set up.
+/// The settings of a translation.
 #[derive(Clone, Copy, Debug, Drop)]
 pub struct NatSettings {
-    /// The prefix of the addresses inside, and how many of its bits count.
+    /// The prefix of the addresses inside, and its length in bits.
     pub inside: u32,
     pub inside_bits: u8,
     /// The address that the outside sees.
@@ -27,7 +27,7 @@ pub struct NatSettings {
 #[derive(Debug, Drop)]
 pub struct Nat {
     settings: NatSettings,
-    // A mapping's place is all that is kept of it.
+    // Only the place of a mapping is kept.
     mappings: FirstSeen<Endpoint, ()>,
 }
 
@@ -59,16 +59,16 @@ impl Nat {
         }
     }
 
-    /// Translates one packet through a view of a translation's profile. One from inside leaves from the
-    /// public address and the port of its source, or is dropped where no port is left. One to the public
-    /// address comes to the endpoint that has the port, or is dropped where none has. Any other passes as
-    /// it is. Memory is taken for a mapping that is new; where it runs out, nothing has changed.
+    /// Translates one packet through a view of a translation's profile. A packet from inside leaves from the public
+    /// address and the port of its source, or is dropped if no port is left. A packet to the public address goes to the
+    /// endpoint that has the port, or is dropped if none has it. Any other packet passes unchanged. Memory is allocated
+    /// for a new mapping; if it runs out, nothing has changed.
     pub fn step(&mut self, view: &mut View) -> Result<Verdict, AllocError>
         requires profile { view.old.profile ≡ nat_behaviour.profile self.old }
         ensures after { OnOk result (self.new ≡ (viewed nat_behaviour self.old view.old).after) }
         ensures verdict { IfOk result (λ verdict. verdict ≡ (viewed nat_behaviour self.old view.old).verdict) }
         ensures view { OnOk result (view.new ≡ wrote_all (viewed nat_behaviour self.old view.old).written view.old) }
-        // Where memory runs out, nothing has changed.
+        // If memory runs out, nothing has changed.
         ensures function_stays { OnErr result (self.new ≡ self.old) }
         ensures view_stays { OnErr result (view.new ≡ view.old) }
     {
@@ -87,7 +87,7 @@ impl Nat {
         Ok(Verdict::Pass)
     }
 
-    // A packet from inside.
+    // Translates a packet from inside.
     fn let_out(&mut self, source: Endpoint, view: &mut View) -> Result<Verdict, AllocError>
         requires profile { view.old.profile ≡ nat_behaviour.profile self.old }
         requires there { HasSource view.old }
@@ -108,7 +108,7 @@ impl Nat {
         Ok(Verdict::Pass)
     }
 
-    // A packet to the public address.
+    // Translates a packet to the public address.
     fn let_in(&self, destination: Endpoint, view: &mut View) -> Verdict
         requires profile { view.old.profile ≡ nat_behaviour.profile self.now }
         requires there { HasDestination view.old }
@@ -127,7 +127,7 @@ impl Nat {
         }
     }
 
-    // The endpoint that has this public port, where its protocol is this too.
+    // The endpoint that has this public port, if its protocol is the same.
     fn mapped(&self, public: Endpoint) -> Option<Endpoint>
         ensures { result ≡ mapped self.now public }
     {
@@ -140,18 +140,17 @@ impl Nat {
         }
     }
 
-    /// Appends the lines that tell its mappings, in the order of first sight. Where memory runs out, it
-    /// appends nothing.
+    /// Appends the lines of its mappings, in the order of first sight. If memory runs out, it appends nothing.
     pub fn state_lines(&self, out: &mut Vec<u8>) -> Result<(), AllocError>
         ensures lines { OnOk result (out.new.items ≡ out.old.items ++ mapping_lines self.now) }
         ensures stays { OnErr result (out.new.items ≡ out.old.items) }
     {
-        // A line tells of a mapping its place and its key, and the list of the mappings is that of the keys.
+        // A line shows of a mapping its place and its key, so the lines of the mappings are those of the keys.
         lines_of_keys::<Endpoint, ()>();
         self.mappings.push_lines(self, out)
     }
 
-    /// How many lines its state has: one for each mapping.
+    /// The number of lines of its state: one for each mapping.
     pub fn state_count(&self) -> usize
         ensures count { result ≡ length (mapping_rows self.now) }
         ensures told { flat_map (λ row. row) (mapping_rows self.now) ≡ mapping_lines self.now }
@@ -160,7 +159,7 @@ impl Nat {
         self.mappings.line_count(self)
     }
 
-    /// Appends the line of its state at a place, counted from 0. Where memory runs out, it appends nothing.
+    /// Appends the line of its state at a place, counted from 0. If memory runs out, it appends nothing.
     pub fn state_line(&self, place: usize, out: &mut Vec<u8>) -> Result<(), AllocError>
         requires inside { place < length (mapping_rows self.now) }
         ensures line { OnOk result (out.new.items ≡ out.old.items ++ slice_index_or (mapping_rows self.now) place []) }
@@ -217,7 +216,7 @@ ghost use Rattle.nf_translate.specs.Endpoints.{ends_of, source_of, destination_o
 ghost use Rattle.nf_translate.specs.Nats.{from, to, public_port, port_at, place_at};
 ghost use Rattle.nf_translate.specs.NatViews.{HasSource, HasDestination};
 
-/// The public port of the mapping at a place, where it is one of those that are set.
+/// The public port of the mapping at a place, if it is one of the ports that are set.
 fn port_at(settings: NatSettings, place: usize) -> Option<u16>
     ensures { result ≡ port_at settings place }
 {
@@ -244,7 +243,7 @@ fn place_at(settings: NatSettings, port: u16) -> Option<usize>
     usize::from(port).checked_sub(usize::from(settings.low))
 }
 
-/// Where the packet behind a view comes from and where it goes, where both are there.
+/// The source and the destination of the packet of a view, if it has both.
 fn ends_in(view: &View) -> Option<(Endpoint, Endpoint)>
     requires profile { view.now.profile ≡ profile_of Kind.Nat }
     ensures ends { result ≡ ends_of (seen_by (seen_values view.now) view.now.version.fixed.proto) }
@@ -280,7 +279,7 @@ fn destination_in(view: &View) -> Option<Endpoint>
     })
 }
 
-/// Writes where a packet comes from.
+/// Writes the source of a packet.
 fn write_source(view: &mut View, address: u32, port: u16)
     requires profile { view.old.profile ≡ profile_of Kind.Nat }
     requires there { HasSource view.old }
@@ -292,7 +291,7 @@ fn write_source(view: &mut View, address: u32, port: u16)
     later_write_stands_over();
 }
 
-/// Writes where a packet goes.
+/// Writes the destination of a packet.
 fn write_destination(view: &mut View, address: u32, port: u16)
     requires profile { view.old.profile ≡ profile_of Kind.Nat }
     requires there { HasDestination view.old }

@@ -14,9 +14,8 @@ impl Nat {
     ghost use Rattle.nf_translate.specs.NatLines.{nat_lines};
     ghost use Rattle.nf_translate.specs.Nats.{nat_by};
 
-    /// Makes the translation that is declared, or names the least line of the declaration that is refused:
-    /// one that is no line of a translation, a second `set` of a key, or the `fn` line, where one of the
-    /// three is missing.
+    /// Makes the translation that is declared, or returns the least line of the declaration that is refused: one that
+    /// isn't a line of a translation, a second `set` of a key, or the `fn` line if one of the three is missing.
     pub fn build(alloc: Global, decl: &FunctionDecl) -> Result<Nat, BuildFault>
         requires { decl.now.kind ≡ Kind.Nat }
         ensures { Builds nat_lines nat_by decl.now result }
@@ -30,7 +29,7 @@ impl NatSettings {
     ghost use Rattle.std.specs.Prelude.{◌≡◌};
     ghost use Rattle.nf_translate.specs.Nats.{settings_by, with_line};
 
-    // What these lines say, one after another.
+    // The settings in these lines, one after another.
     fn of_lines(lines: Items<NatLine>) -> NatSettings
         ensures { result ≡ settings_by lines }
     {
@@ -47,7 +46,7 @@ impl NatSettings {
         settings
     }
 
-    // Does what the line says.
+    // Applies the line.
     fn take(&mut self, line: NatLine)
         ensures { self.new ≡ with_line self.old line }
     {

@@ -7,10 +7,10 @@ use function_lines::FunctionLine;
 use policy_text::{Word, address, prefix, range};
 use std::alloc::{AllocError, Global};
 
-/// What a line says.
+/// The content of a line.
 #[derive(Debug, Drop)]
 pub enum NatLine {
-    /// The prefix of the addresses inside, and how many of its bits count.
+    /// The prefix of the addresses inside, and its length in bits.
     Inside(u32, u8),
     /// The address that the outside sees.
     Public(u32),

@@ -1,4 +1,4 @@
-//! Addresses that lines spell.
+//! Addresses in the lines of a tunnel.
 ghost use Rattle.std.specs.Prelude.{◌≡◌};
 ghost use Rattle.nf_tunnel.specs.TunnelLines.{ipv4_address, address_by};
 

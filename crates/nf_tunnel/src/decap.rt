@@ -12,7 +12,7 @@ use packet_fields::{Frame, Span};
 use std::alloc::AllocError;
 use std::net::Ipv4Addr;
 
-/// The exit of a tunnel, where packets are taken out of packets (RFC 2003, 3).
+/// The exit of a tunnel, which takes packets out of packets (RFC 2003, 3).
 #[derive(Clone, Copy, Debug)]
 pub struct Decap {
     /// The destination of the outer header.
@@ -24,15 +24,15 @@ impl Decap {
     ghost use Rattle.nf_tunnel.specs.Tunnels.{decapsulated, arrives as arrives_of, is_for as is_for_of};
     ghost use Rattle.nf_tunnel.specs.Headers.{HasHeader, outer_span as outer_span_of};
 
-    /// The exit of a tunnel that ends at this address.
+    /// The exit of a tunnel whose end has this address.
     pub fn new(exit: Ipv4Addr) -> Decap
         ensures { result ≡ record { exit = exit } }
     {
         Decap { exit }
     }
 
-    /// The frame behind the exit: its packet's outer header is off, if it leaves the tunnel here, and else it is the frame as it was. It
-    /// takes no memory.
+    /// The frame after the exit: without the outer header if its packet leaves the tunnel here, and unchanged
+    /// otherwise. It allocates nothing.
     pub fn step(&self, frame: Frame) -> Result<Frame, AllocError>
         ensures frame { IfOk result (λ new. new ≡ decapsulated self.now frame) }
         ensures never_fails { is_ok result ≡ true }
@@ -43,7 +43,7 @@ impl Decap {
         Ok(Frame::new(without(frame.into_bytes(), outer)))
     }
 
-    // Where the outer header of a frame lies, if its packet leaves the tunnel.
+    // The span of the outer header of a frame, if its packet leaves the tunnel.
     fn outer_span(&self, frame: &[u8]) -> Option<Span>
         ensures span { result ≡ outer_span_of self.now frame.now }
         ensures inside { IfSome result (λ s. s.at + s.len ≤ length frame.now) }
@@ -71,7 +71,7 @@ impl Decap {
             && holds_ipv4(packet)
     }
 
-    // Is it sent to the exit?
+    // Is the packet sent to the exit?
     fn is_for(&self, packet: &[u8]) -> bool
         requires { 22 ≤ length packet.now }
         ensures { result ≡ is_for_of self.now packet.now }
@@ -85,7 +85,7 @@ ghost use Rattle.std.specs.Prelude.{◌≡◌, ◌≤◌, ◌+◌, ◌++◌, len
 ghost use Rattle.nf_tunnel.specs.Tunnels.{holds_ipv4 as holds_ipv4_of};
 ghost use Rattle.nf_tunnel.specs.Headers.{HasHeader};
 
-// Does an IPv4 header begin behind the header of a packet?
+// Does an IPv4 header begin after the header of a packet?
 fn holds_ipv4(packet: &[u8]) -> bool
     requires { HasHeader packet.now }
     ensures { result ≡ holds_ipv4_of packet.now }
@@ -95,7 +95,7 @@ fn holds_ipv4(packet: &[u8]) -> bool
     len < usize::from(datagram_len(packet)) && inner < packet.len() && packet[inner] / 16 == 4
 }
 
-// Bytes without some of them.
+// The bytes without those of the span `gone`.
 fn without(bytes: Vec<u8>, gone: Span) -> Vec<u8>
     requires { gone.at + gone.len ≤ length bytes.items }
     ensures { result.items ≡ take gone.at bytes.items ++ drop (gone.at + gone.len) bytes.items }

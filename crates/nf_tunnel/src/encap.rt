@@ -17,14 +17,14 @@ const OUTER_LEN: u16 = 20;
 /// The protocol number of IP in IP (RFC 2003, 3.1).
 pub(crate) const IP_IN_IP: u8 = 4;
 
-/// The entry of a tunnel, where packets are put into packets (RFC 2003, 3).
+/// The entry of a tunnel, which puts packets into packets (RFC 2003, 3).
 #[derive(Clone, Copy, Debug)]
 pub struct Encap {
     /// The source of the outer header.
     entry: Ipv4Addr,
-    /// Its destination.
+    /// The destination of the outer header.
     exit: Ipv4Addr,
-    /// Its time to live.
+    /// The time to live of the outer header.
     ttl: u8,
 }
 
@@ -43,8 +43,8 @@ impl Encap {
         Encap { entry, exit, ttl }
     }
 
-    /// The frame behind the entry: its packet has an outer header, if it goes in, and else it is the frame as it was. It takes memory
-    /// only for a packet that goes in; where there is none, the frame is gone.
+    /// The frame after the entry: with an outer header if its packet goes in, and unchanged otherwise. It allocates
+    /// memory only for a packet that goes in; if there is none, the frame is lost.
     pub fn step(&self, alloc: Global, frame: Frame) -> Result<Frame, AllocError>
         ensures frame { IfOk result (λ new. new ≡ encapsulated self.now frame) }
         ensures cause { enters (packet_of frame) ≡ false → is_ok result ≡ true }
@@ -82,7 +82,7 @@ impl Encap {
         self.outer_with(checksum(&blank), packet)
     }
 
-    // The same with this checksum.
+    // The outer header of a packet, with this checksum.
     fn outer_with(&self, checksum: u16, packet: &[u8]) -> [u8; 20]
         requires { Enters packet.now }
         ensures { result ≡ outer_with_of checksum self.now packet.now }
@@ -134,7 +134,7 @@ fn entering_at(frame: &[u8]) -> Option<usize>
     }
 }
 
-// Does a packet's header lie within its length, and has that room for twenty bytes more?
+// Does a packet's header lie within its length, and can the length grow by twenty?
 fn fits(packet: &[u8]) -> bool
     requires { HasHeader packet.now }
     ensures { result ≡ fits_of packet.now }

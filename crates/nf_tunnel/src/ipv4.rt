@@ -8,7 +8,7 @@ ghost use Rattle.nf_tunnel.specs.Headers.{HasHeader};
 use internet_checksum::word;
 use packet_fields::{IpVersion, Outline};
 
-/// Where the header begins in a packet: behind the two bytes of the EtherType.
+/// Where the header begins in a packet: after the two bytes of the EtherType.
 pub const HEADER: usize = 2;
 
 // The places of its fields.
@@ -38,7 +38,7 @@ pub fn ipv4_at(frame: &[u8]) -> Option<usize>
     }
 }
 
-/// Where the packet of a frame begins, if an IPv4 header begins behind its EtherType.
+/// Where the packet of a frame begins, if an IPv4 header begins after its EtherType.
 fn version_4_at(frame: &[u8]) -> Option<usize>
     ensures place { result ≡ (if is_ipv4 (packet_of frame.now) then Some (packet_at frame.now) else None) }
     ensures there { IfSome result (λ start. is_ipv4 (packet_of frame.now) ≡ true) }

@@ -1,4 +1,4 @@
-//! What a tunnel is worth, in other words than its steps.
+//! Properties of a tunnel, stated without its steps.
 ghost use Rattle.std.specs.Prelude.{◌≡◌, ◌≢◌, ◌≤◌, ◌+◌, ℕ, List, [], ◌∷◌, length, take, true, Some};
 ghost use Rattle.std.specs.Option.{option_map};
 ghost use Rattle.std.specs.Net.Addr.{ipv4_octets};
@@ -13,7 +13,7 @@ use crate::decap::Decap;
 use crate::encap::Encap;
 use internet_checksum::a_checksum_makes_bytes_right;
 
-/// A tunnel leaves no trace: what its entry changed, its exit gives back as it was.
+/// A tunnel leaves no trace: its exit restores what its entry changed.
 pub fn an_exit_undoes_its_entry(entry: Encap, exit: Decap)
     ensures { (frame : List ℕ) → exit.exit ≡ entry.exit → encapsulated entry frame ≢ frame → decapsulated exit (encapsulated entry frame) ≡ frame }
 {}
@@ -25,8 +25,8 @@ pub fn the_outer_checksum_is_right(entry: Encap)
     a_checksum_makes_bytes_right();
 }
 
-/// What the functions behind an entry see: the tunnel's addresses and time to live, the type of service of the packet inside, the protocol IP in
-/// IP, and a length that is twenty bytes more.
+/// The functions after an entry see the tunnel's addresses and time to live, the type of service of the packet inside,
+/// the protocol IP in IP, and a length that is twenty bytes greater.
 pub fn the_outer_header_is_seen(entry: Encap)
     ensures src_ip { (frame : List ℕ) → encapsulated entry frame ≢ frame → value Field.SrcIp (encapsulated entry frame) ≡ Some (ipv4_octets entry.entry) }
     ensures dst_ip { (frame : List ℕ) → encapsulated entry frame ≢ frame → value Field.DstIp (encapsulated entry frame) ≡ Some (ipv4_octets entry.exit) }
@@ -36,15 +36,16 @@ pub fn the_outer_header_is_seen(entry: Encap)
     ensures length { (frame : List ℕ) → encapsulated entry frame ≢ frame → total_len (packet (encapsulated entry frame)) ≡ option_map (λ n. n + 20) (total_len (packet frame)) }
 {}
 
-/// An entry changes each frame whose packet goes in: it adds twenty bytes, and keeps what stands before the IP header, which is the link addresses, the
-/// tags and the EtherType.
+/// An entry changes each frame whose packet goes in: it adds twenty bytes, and keeps the bytes before the IP header,
+/// which are the link addresses, the tags and the EtherType.
 pub fn an_entry_adds_twenty_bytes(entry: Encap)
     ensures changes { (frame : List ℕ) → enters (packet frame) ≡ true → encapsulated entry frame ≢ frame }
     ensures length { (frame : List ℕ) → encapsulated entry frame ≢ frame → length (encapsulated entry frame) ≡ length frame + 20 }
     ensures before { (frame : List ℕ) → take (header_at frame) (encapsulated entry frame) ≡ take (header_at frame) frame }
 {}
 
-/// An exit takes twenty bytes or, with the outer header's options, more where it changes a frame, and keeps the same.
+/// If an exit changes a frame, it removes twenty bytes, or more if the outer header has options, and keeps the bytes
+/// before the IP header.
 pub fn an_exit_takes_twenty_bytes_or_more(exit: Decap)
     ensures length { (frame : List ℕ) → decapsulated exit frame ≢ frame → length (decapsulated exit frame) + 20 ≤ length frame }
     ensures before { (frame : List ℕ) → take (header_at frame) (decapsulated exit frame) ≡ take (header_at frame) frame }

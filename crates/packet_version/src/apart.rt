@@ -1,4 +1,4 @@
-//! A frame in its parts: how it comes apart, and how it goes together again.
+//! A frame in parts: how it is taken apart, and how it is put together again.
 
 use crate::held::Held;
 use crate::rest::Rest;
@@ -32,10 +32,10 @@ ghost use Rattle.packet_fields.specs.Writing.{rest_of};
 ghost use Rattle.chain_walk.specs.Shown.{fixed_of};
 ghost use Rattle.packet_version.specs.Splitting.{packet_parts, split_parts as split_parts_of, taken_apart, joined, IsWhole};
 
-/// Takes a frame of any bytes apart. The parts are written by nobody, and the list of tags has room for
-/// `taggers` tags more. `time` is when the packet was captured, in nanoseconds.
+/// Takes a frame of any bytes apart. The parts are unwritten, and the list of tags has room for `taggers` more tags.
+/// `time` is when the packet was captured, in nanoseconds.
 ///
-/// Memory is taken for a copy of the frame, and for its outline with the places of its parts.
+/// Allocates a copy of the frame, and its outline with the places of its parts.
 #[inline(always)]
 pub fn split(alloc: Global, frame: &[u8], time: u64, taggers: u32) -> Result<Apart, AllocError>
     ensures apart { IfOk result (λ whole. whole ≡ taken_apart taggers time frame.now) }
@@ -55,8 +55,8 @@ pub fn split(alloc: Global, frame: &[u8], time: u64, taggers: u32) -> Result<Apa
     Ok(Apart { held, fixed })
 }
 
-/// Puts a packet together again: its rest, with each part in its field's place. Memory is taken only
-/// where the tags were changed.
+/// Puts a packet together again: its rest, with each part in its field's place. Allocates memory only if the tags were
+/// changed.
 #[inline(always)]
 pub fn join(alloc: Global, whole: Apart) -> Result<Frame, AllocError>
     ensures { IfOk result (λ frame. frame ≡ joined whole) }

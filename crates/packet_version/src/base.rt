@@ -1,4 +1,4 @@
-//! What stays of a packet behind the branches of a stage.
+//! The part of a packet that no branch of a stage gets.
 
 use crate::gathered::Gathered;
 use crate::held::Held;
@@ -7,17 +7,17 @@ use part_lease::Owner;
 use std::marker::Model;
 use std::sync::Wait;
 
-/// What stays of a packet, but for its fixed values.
+/// What stays of a packet, without its fixed values.
 #[derive(Drop)]
 pub(crate) enum Kept {
-    /// No branch reads of it.
+    /// No branch reads any of it.
     Own(Held),
     /// It is lent to the branches that read fields which they don't write.
     Lent(Owner<Held>),
 }
 
-/// What no branch of a stage has of a packet: its frame with the parts that no branch got, or the right
-/// to have them back, and its fixed values.
+/// The part of a packet that no branch of a stage has: its frame with the parts that no branch got, or the right to get
+/// them back, and its fixed values.
 #[derive(Drop)]
 pub struct Base {
     pub(crate) kept: Kept,
@@ -52,7 +52,7 @@ impl Kept {
 impl Base {
     ghost use Rattle.std.specs.Prelude.{◌≡◌};
 
-    /// Takes the lent parts back, and waits until no branch has a claim on them. It takes no memory.
+    /// Takes the lent parts back, and waits until no branch has a claim on them. It allocates nothing.
     pub fn gather<R: Wait>(self, rt: &R) -> Gathered
         ensures { result ≡ self }
     {

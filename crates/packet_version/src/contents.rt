@@ -1,4 +1,4 @@
-//! A packet's frame, and the parts that stand beside it, as they lie on the heap.
+//! A packet's frame, and the parts that are kept outside it, on the heap.
 
 use crate::part::Part;
 use crate::place::Place;
@@ -10,12 +10,11 @@ use std::alloc::{AllocError, Global};
 use std::marker::Model;
 use std::mem;
 
-/// A packet's frame, in which the parts are that no branch took out, and those of the others that came
-/// back.
+/// A packet's frame, which holds the parts that no branch took out, and those of the other parts that came back.
 #[derive(Drop)]
 pub(crate) struct Contents {
     places: Places,
-    // Who wrote the part of each field that is in the frame, 0 for nobody.
+    // The position of the function that last wrote the part of each field that is in the frame, 0 for none.
     writers: [u32; 10],
     rest: Rest,
     taggers: u32,
@@ -44,7 +43,7 @@ ghost use Rattle.packet_fields.specs.declared.field.Field.{Field};
 ghost use Rattle.packet_version.specs.Splitting.{fresh, split_parts, spare_room as spare_room_of, IsWhole};
 
 impl Contents {
-    /// The frame with every part in it, of which the list of tags has room for `taggers` tags more.
+    /// The frame with every part in it; the list of tags has room for `taggers` more tags.
     #[inline(always)]
     pub(crate) fn new(rest: Rest, taggers: u32) -> Contents
         ensures { result ≡ record { parts = as_list (split_parts taggers rest); frame = rest } }
@@ -57,7 +56,7 @@ impl Contents {
         }
     }
 
-    /// Is every part in the frame, and did nobody write any?
+    /// Is every part in the frame, and are all of them unwritten?
     pub(crate) fn is_inside(&self) -> bool
         ensures { IsTrue result → (f : Field) → option_map unwritten (as_map self.now.parts f) ≡ as_map self.now.parts f }
     {
@@ -79,7 +78,7 @@ impl Contents {
         }
     }
 
-    /// How many bytes of room the part of a field has beyond its own.
+    /// The number of bytes of room that the part of a field has beyond its length.
     pub(crate) fn spare(&self, field: Field) -> usize
         ensures { IfSome (as_map self.now.parts field) (λ part. part.room ≡ length part.bytes + result) }
     {
@@ -93,7 +92,7 @@ impl Contents {
         }
     }
 
-    /// Who wrote the part of a field last, 0 for nobody.
+    /// The position of the function that wrote the part of a field last, 0 for none.
     pub(crate) fn writer(&self, field: Field) -> u32
         ensures { result ≡ writers_of (as_map self.now.parts) field }
     {
@@ -109,7 +108,7 @@ impl Contents {
         }
     }
 
-    /// Leaves every part here, written by nobody.
+    /// Marks every part here as unwritten.
     pub(crate) fn forget_writers(&mut self)
         ensures { self.new ≡ record self.old { parts = as_list (λ f. option_map unwritten (as_map self.old.parts f)) } }
     {
@@ -117,7 +116,7 @@ impl Contents {
         self.places.forget_writers();
     }
 
-    /// Leaves the part of a field here, written by nobody.
+    /// Keeps the part of a field here, as unwritten.
     pub(crate) fn keep(&mut self, field: Field)
         ensures { self.new ≡ record self.old { parts = as_list (changed field (option_map unwritten (as_map self.old.parts field)) (as_map self.old.parts)) } }
     {
@@ -129,8 +128,8 @@ impl Contents {
         self.places.at_mut(number).forget_writer();
     }
 
-    /// Writes the bytes of a field that is here, other than the tags, as many as there are: in the frame,
-    /// where its part is there.
+    /// Writes the bytes of a field that is here, other than the tags. There are as many as before. If the part is in
+    /// the frame, they are written there.
     pub(crate) fn set(&mut self, field: Field, writer: u32, bytes: &[u8])
         requires not_tag { field ≢ Field.Tag }
         requires fits { IsSomeAnd (as_map self.old.parts field) (λ p. length bytes.now ≡ length p.bytes) }
@@ -162,7 +161,7 @@ impl Contents {
         }
     }
 
-    /// Takes the part of a field of fixed length out. It takes no memory.
+    /// Takes the part of a field of fixed length out. It allocates nothing.
     pub(crate) fn take_few(&mut self, field: Field) -> Option<Part>
         requires not_tag { field ≢ Field.Tag }
         requires not_payload { field ≢ Field.Payload }
@@ -182,8 +181,8 @@ impl Contents {
         }
     }
 
-    /// Lends the bytes of a field of fixed length that is here. What is left there is written by this
-    /// function. It takes no memory.
+    /// Lends the bytes of a field of fixed length that is here. The bytes that are left there count as written by this
+    /// function. It allocates nothing.
     pub(crate) fn edit(&mut self, field: Field, writer: u32) -> &mut [u8]
         requires not_tag { field ≢ Field.Tag }
         requires not_payload { field ≢ Field.Payload }
@@ -210,8 +209,8 @@ impl Contents {
         *place = Place::Outside(part);
     }
 
-    /// Writes the parts that stand beside the frame into it, and lets them go. Memory is taken only where the
-    /// tags were changed.
+    /// Writes the parts that are outside the frame into it, and drops them. Allocates memory only if the tags were
+    /// changed.
     #[inline(always)]
     pub(crate) fn put_back(&mut self, alloc: Global) -> Result<(), AllocError>
         requires { IsWhole (as_map self.old.parts) self.old.frame }
@@ -223,7 +222,7 @@ impl Contents {
         self.put_places_back(alloc)
     }
 
-    /// The same where some part may stand beside the frame.
+    /// The same if some part may be outside the frame.
     fn put_places_back(&mut self, alloc: Global) -> Result<(), AllocError>
         requires { IsWhole (as_map self.old.parts) self.old.frame }
         ensures { OnOk result (self.new.frame ≡ written (values_of (as_map self.old.parts)) (rest_of self.old.frame)) }
@@ -233,7 +232,7 @@ impl Contents {
         Ok(())
     }
 
-    /// The frame, beside which no part stands any more.
+    /// The frame. No part is outside it any more.
     #[inline(always)]
     pub(crate) fn into_frame(self) -> Vec<u8>
         ensures { result.items ≡ self.frame }
@@ -244,13 +243,13 @@ impl Contents {
             rest,
             taggers: _,
         } = self;
-        // No part stands in them, so there is nothing to give back, and none is looked at.
+        // They hold no part, so there is nothing to free, and `forget` spares the look at each of them.
         mem::forget(places);
         rest.into_bytes()
     }
 }
 
-/// Writes the parts that stand beside a frame into it.
+/// Writes the parts that are outside a frame into it.
 fn put_all(alloc: Global, places: &[Place], rest: &mut Rest) -> Result<(), AllocError>
     requires ten { length places.now ≡ 10 }
     requires fit { AllFit (values_of (parts_beside places.now)) rest.old }
@@ -265,7 +264,7 @@ fn put_all(alloc: Global, places: &[Place], rest: &mut Rest) -> Result<(), Alloc
     Ok(())
 }
 
-/// Who wrote the part of a field that is in the frame, if it is there at all.
+/// The writer of the part of a field in the frame, or 0 if the frame lacks the field.
 fn writer_inside(rest: &Rest, field: Field, writer: u32) -> u32
     ensures { result ≡ (if is_some (value field rest.now) then writer else 0) }
 {
@@ -275,7 +274,7 @@ fn writer_inside(rest: &Rest, field: Field, writer: u32) -> u32
     }
 }
 
-/// Does the part of a field stand beside the frame?
+/// Is the part of a field outside the frame?
 fn stands_beside(places: &[Place], field: Field) -> bool
     ensures { result ≡ is_outside (place_of places.now field) }
 {
@@ -301,7 +300,7 @@ fn split_part(
     }
 }
 
-/// The part of a field of fixed length that is in the frame, by this writer. It takes no memory.
+/// The part of a field of fixed length that is in the frame, by this writer. It allocates nothing.
 fn few_part(alloc: Global, rest: &Rest, field: Field, writer: u32) -> Option<Part>
     requires not_tag { field ≢ Field.Tag }
     requires not_payload { field ≢ Field.Payload }
@@ -313,7 +312,7 @@ fn few_part(alloc: Global, rest: &Rest, field: Field, writer: u32) -> Option<Par
     }
 }
 
-/// Brings the part of a field of fixed length out of the frame, where it is there. It takes no memory.
+/// Moves the part of a field of fixed length out of the frame, if it is there. It allocates nothing.
 fn bring_out(place: &mut Place, alloc: Global, rest: &Rest, field: Field, writer: u32)
     requires not_tag { field ≢ Field.Tag }
     requires not_payload { field ≢ Field.Payload }
@@ -324,7 +323,7 @@ fn bring_out(place: &mut Place, alloc: Global, rest: &Rest, field: Field, writer
     }
 }
 
-/// Where a part is that was made of one in the frame.
+/// The place of a part that was made of one in the frame.
 fn made_place(part: Option<Part>) -> Place
     ensures { result ≡ place_made part }
 {
@@ -334,7 +333,7 @@ fn made_place(part: Option<Part>) -> Place
     }
 }
 
-/// How many bytes of room a field's part has beyond its own.
+/// The number of bytes of room that a field's part has beyond its length.
 fn spare_room(field: Field, taggers: u32) -> usize
     ensures { result ≡ spare_room_of taggers field }
 {

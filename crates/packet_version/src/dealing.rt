@@ -24,18 +24,17 @@ use std::slice;
 
 /// Makes the versions of a stage's branches, in branch order, and the base beside them.
 ///
-/// A branch gets the fields that it touches and the packet has. Where no branch writes a field, the one
-/// part is lent to all that read it. Where one branch alone touches it, it is moved there. Else each
-/// branch that writes it has a part of its own: a copy, or the original, which the first has where none
-/// only reads the field. Nobody wrote the parts yet. Copies alone raise the tally. Where memory runs out
-/// the packet is gone, and the tally may have risen by copies that were made.
+/// A branch gets the fields that it touches and the packet has. If no branch writes a field, the one part is lent to
+/// all that read it. If one branch alone touches it, it is moved there. Otherwise each branch that writes it has a part
+/// of its own: a copy, or the original, which the first writer has if none only reads the field. The parts are
+/// unwritten. Only copies raise the tally. If memory runs out the packet is gone, and the tally may have risen by
+/// copies that were made.
 ///
-/// An original that still lies in the frame is taken out of it where it goes to a branch. That belongs to
-/// taking the packet apart, and is no copy: the frame's bytes in its place are of no account from then on.
+/// An original that is still in the frame is taken out of it if it goes to a branch. This belongs to taking the packet
+/// apart, and is no copy: the frame's bytes in its place have no meaning from then on.
 ///
-/// Memory is taken for the list of versions, for the parts of each branch that writes some field, for
-/// each of them that has room for more than 16 bytes, and for one loan where a branch reads a field that
-/// it doesn't write.
+/// Allocates the list of versions, the parts of each branch that writes some field, each of these parts that has room
+/// for more than 16 bytes, and one loan if a branch reads a field that it doesn't write.
 pub fn deal(
     alloc: Global,
     whole: Apart,
@@ -60,12 +59,12 @@ pub fn deal(
     Ok((Base { kept, fixed }, versions))
 }
 
-/// Makes the version of a stage's only branch, which has what it doesn't write of the packet with it.
+/// Makes the version of a stage's only branch, which also has the rest of the packet.
 ///
-/// No other branch has any of the packet, so nothing is lent, and no base stands beside the version:
-/// [`Version::rejoin`] puts the packet together again. Else it is as [`deal`] says, and so is what it counts.
-/// A branch that writes neither the tags nor the payload writes in the packet itself, and takes no memory.
-/// For another memory is taken for its parts, and for each of them that has room for more than 16 bytes.
+/// No other branch has any of the packet, so nothing is lent, and there is no base: [`Version::rejoin`] puts the packet
+/// together again. Apart from that [`deal`] describes it, and what it counts. A branch that writes neither the tags nor
+/// the payload writes in the packet itself, and allocates nothing. For another branch its parts are allocated, and each
+/// of them that has room for more than 16 bytes.
 #[inline(always)]
 pub fn deal_whole(
     alloc: Global,
@@ -94,7 +93,7 @@ pub fn deal_whole(
     Ok(version)
 }
 
-/// Does a branch write no field but those of fixed length?
+/// Does a branch write only fields of fixed length?
 #[inline(always)]
 fn is_few(touch: Touch) -> bool
     ensures { result ≡ writes_few touch }
@@ -117,9 +116,8 @@ fn empty_versions(
     Ok(versions)
 }
 
-/// Gives the versions, which have no field yet, the parts of the fields that they write, and leaves here
-/// what is kept. Where no branch writes, nothing is given, and a packet of which every part is in its frame
-/// is kept as it is.
+/// Gives the versions, which have no field yet, the parts of the fields that they write, and keeps the rest here. If no
+/// branch writes, nothing is given, and a packet of which every part is in its frame is kept as it is.
 fn deal_parts(
     alloc: Global,
     held: &mut Held,
@@ -157,7 +155,7 @@ fn some_writes(versions: &[Version]) -> bool
     versions.iter().any(|version| version.writes_some())
 }
 
-/// Gives the versions the parts of the fields that they write, field by field, and leaves here what is kept.
+/// Gives the versions the parts of the fields that they write, field by field, and keeps the rest here.
 fn deal_each(
     alloc: Global,
     held: &mut Held,

@@ -1,4 +1,4 @@
-//! The parts of a packet that are gathered behind a stage.
+//! The parts of a packet that are gathered after a stage.
 
 use crate::apart::Apart;
 use crate::held::Held;
@@ -7,7 +7,7 @@ use chain_walk::Fixed;
 use packet_fields::Field;
 use std::marker::Model;
 
-/// A packet behind a stage: the parts that came back so far, the rest of its frame and its fixed values.
+/// A packet after a stage: the parts that came back so far, the rest of its frame and its fixed values.
 #[derive(Drop)]
 pub struct Gathered {
     pub(crate) held: Held,
@@ -35,15 +35,15 @@ impl Gathered {
         self.held.bytes(field).is_some()
     }
 
-    /// Puts a part into the place of its field. A part that lay there is let go.
+    /// Puts a part into the place of its field. A part that was there is dropped.
     pub fn put(&mut self, field: Field, part: Part)
         ensures { self.new ≡ record self.old { parts = as_list (changed field (Some part) (packet_parts self.old)) } }
     {
         self.held.put(field, part);
     }
 
-    /// The packet, for the next stage or to be joined. The part of each field is there, with the field's
-    /// length or, of the tags, whole tags.
+    /// The packet, for the next stage or to be joined. The part of each field is there, with the field's length or, for
+    /// the tags, whole tags.
     pub fn finish(self) -> Apart
         requires { IsWhole (packet_parts self) self.rest }
         ensures { result ≡ self }

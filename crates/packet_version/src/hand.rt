@@ -1,4 +1,4 @@
-//! Handing the parts of a packet to the versions of a stage's branches.
+//! Passes the parts of a packet to the versions of a stage's branches.
 
 ghost use Rattle.std.specs.Prelude.{◌≡◌, ◌-◌, ◌&&◌, Some, None, option_map, map, true, OnOk, OnErr, IfOk, position, if◌then◌else◌, is_ok};
 ghost use Rattle.std.specs.List.{All, list_any};
@@ -20,7 +20,7 @@ use packet_fields::Field;
 use part_lease::{Owner, lend};
 use std::alloc::{AllocError, Global};
 
-/// A copy for a branch that writes the field.
+/// Gives a copy to a branch that writes the field.
 fn give_copy(
     alloc: Global,
     field: Field,
@@ -40,7 +40,7 @@ fn give_copy(
     Ok(())
 }
 
-/// A copy for each branch that writes the field.
+/// Gives a copy to each branch that writes the field.
 fn give_copies(
     alloc: Global,
     field: Field,
@@ -60,8 +60,7 @@ fn give_copies(
     Ok(())
 }
 
-/// Moves the original to the first branch that writes the field, and gives each later one that does a
-/// copy.
+/// Moves the original to the first branch that writes the field, and gives a copy to each later one.
 fn give_original(
     alloc: Global,
     field: Field,
@@ -133,8 +132,7 @@ fn copy_out(
     Ok(())
 }
 
-/// Hands the part of a field to the branches that write it, as its mode says, and leaves here what is
-/// kept of it.
+/// Passes the part of a field to the branches that write it, as its mode says, and keeps the rest of it here.
 pub(crate) fn deal_field(
     alloc: Global,
     field: Field,
@@ -189,8 +187,8 @@ fn lend_out(owner: &Owner<Held>, versions: &mut [Version]) -> Result<(), AllocEr
     Ok(())
 }
 
-/// Lends the packet to the branches that read fields which they don't write, all of it at once, or keeps
-/// it where there is none.
+/// Lends the packet to the branches that read fields which they don't write, all of it at once, or keeps it if there is
+/// no such branch.
 pub(crate) fn share_out(
     alloc: Global,
     held: Held,

@@ -1,4 +1,4 @@
-//! A packet that is handed on.
+//! A packet that is passed on.
 
 use crate::contents::Contents;
 use crate::part::Part;
@@ -7,10 +7,9 @@ use packet_fields::Field;
 use std::alloc::{AllocError, AllocFailed, Global};
 use std::marker::Model;
 
-/// What is held of a packet: its frame, in which the parts are that no branch took out, and those of the
-/// others that came back.
+/// A packet's frame, which holds the parts that no branch took out, and those of the other parts that came back.
 ///
-/// A part leaves the frame where it is taken, so a field that nobody takes is never copied.
+/// A part leaves the frame only when it is taken, so a field that nobody takes is never copied.
 #[derive(Drop)]
 pub(crate) struct Held {
     // On the heap, since a packet is moved often.
@@ -38,12 +37,12 @@ ghost use Rattle.packet_version.specs.Lending.{LendsHeld};
 ghost use Rattle.packet_version.specs.Splitting.{split_parts, IsWhole};
 
 impl Held {
-    /// The frame with every part in it, of which the list of tags has room for `taggers` tags more.
+    /// The frame with every part in it; the list of tags has room for `taggers` more tags.
     #[inline(always)]
     pub(crate) fn new(alloc: Global, rest: Rest, taggers: u32) -> Result<Held, AllocError>
         ensures { IfOk result (λ held. held ≡ record { parts = as_list (split_parts taggers rest); frame = rest }) }
     {
-        // Not by `?`: the places would be carried along for the error's sake.
+        // Without `?`, which would carry the places along to the error.
         match Box::new(alloc, Contents::new(rest, taggers)) {
             Ok(contents) => Ok(Held { contents }),
             Err(AllocFailed { value }) => {
@@ -60,7 +59,7 @@ impl Held {
         let _ = &self.contents;
     }
 
-    /// Is every part in the frame, and did nobody write any?
+    /// Is every part in the frame, and are all of them unwritten?
     pub(crate) fn is_inside(&self) -> bool
         ensures { IsTrue result → (f : Field) → option_map unwritten (as_map self.now.parts f) ≡ as_map self.now.parts f }
     {
@@ -75,36 +74,36 @@ impl Held {
         self.contents.bytes(field)
     }
 
-    /// How many bytes of room the part of a field has beyond its own.
+    /// The number of bytes of room that the part of a field has beyond its length.
     pub(crate) fn spare(&self, field: Field) -> usize
         ensures { IfSome (as_map self.now.parts field) (λ part. part.room ≡ length part.bytes + result) }
     {
         self.contents.spare(field)
     }
 
-    /// Who wrote the part of a field last, 0 for nobody.
+    /// The position of the function that wrote the part of a field last, 0 for none.
     pub(crate) fn writer(&self, field: Field) -> u32
         ensures { result ≡ writers_of (as_map self.now.parts) field }
     {
         self.contents.writer(field)
     }
 
-    /// Leaves every part here, written by nobody.
+    /// Marks every part here as unwritten.
     pub(crate) fn forget_writers(&mut self)
         ensures { self.new ≡ record self.old { parts = as_list (λ f. option_map unwritten (as_map self.old.parts f)) } }
     {
         self.contents.forget_writers();
     }
 
-    /// Leaves the part of a field here, written by nobody.
+    /// Keeps the part of a field here, as unwritten.
     pub(crate) fn keep(&mut self, field: Field)
         ensures { self.new ≡ record self.old { parts = as_list (changed field (option_map unwritten (as_map self.old.parts field)) (as_map self.old.parts)) } }
     {
         self.contents.keep(field);
     }
 
-    /// Writes the bytes of a field that is here, other than the tags, as many as there are: in the frame,
-    /// where its part is there.
+    /// Writes the bytes of a field that is here, other than the tags. There are as many as before. If the part is in
+    /// the frame, they are written there.
     pub(crate) fn set(&mut self, field: Field, writer: u32, bytes: &[u8])
         requires not_tag { field ≢ Field.Tag }
         requires fits { IsSomeAnd (as_map self.old.parts field) (λ p. length bytes.now ≡ length p.bytes) }
@@ -122,7 +121,7 @@ impl Held {
         self.contents.take(alloc, field)
     }
 
-    /// Takes the part of a field of fixed length out. It takes no memory.
+    /// Takes the part of a field of fixed length out. It allocates nothing.
     pub(crate) fn take_few(&mut self, field: Field) -> Option<Part>
         requires not_tag { field ≢ Field.Tag }
         requires not_payload { field ≢ Field.Payload }
@@ -133,8 +132,8 @@ impl Held {
         self.contents.take_few(field)
     }
 
-    /// Lends the bytes of a field of fixed length that is here. What is left there is written by this
-    /// function. It takes no memory.
+    /// Lends the bytes of a field of fixed length that is here. The bytes that are left there count as written by this
+    /// function. It allocates nothing.
     pub(crate) fn edit(&mut self, field: Field, writer: u32) -> &mut [u8]
         requires not_tag { field ≢ Field.Tag }
         requires not_payload { field ≢ Field.Payload }
@@ -153,7 +152,7 @@ impl Held {
         self.contents.put(field, part);
     }
 
-    /// The frame with each part in its field's place. Memory is taken only where the tags were changed.
+    /// The frame with each part in its field's place. Allocates memory only if the tags were changed.
     #[inline(always)]
     pub(crate) fn join(self, alloc: Global) -> Result<Vec<u8>, AllocError>
         requires { IsWhole (as_map self.parts) self.frame }

@@ -1,36 +1,32 @@
 //! A packet in parts, and what each branch of a stage gets of it.
 //!
-//! [`split`] takes a frame of any bytes apart into one [`Part`] for each field that it has and the rest
-//! of its bytes; [`join`] puts them together again to the same frame. [`deal`] hands the parts to the
-//! branches of a stage, each of which gets a [`Version`] of its own with the fields that it touches: a
-//! part that no branch writes is lent to all that read it, one that a single branch touches is moved
-//! there, and of any other each branch that writes it has its own. [`copy`] alone makes a second part,
-//! and a [`Tally`] counts it. A function sees its branch's version through a [`View`], by its profile:
-//! it reads and writes what the profile names and nothing else. What no branch has stays in the [`Base`];
-//! behind the stage it gathers the lent parts ([`Base::gather`]), takes those that the branches wrote
-//! ([`Version::take`], [`Gathered::put`]), and is a packet again ([`Gathered::finish`]). The only branch of a
-//! stage has the whole packet with it ([`deal_whole`]) and puts it together again ([`Version::rejoin`]):
+//! [`split`] takes a frame of any bytes apart into one [`Part`] for each field that it has and the rest of its bytes;
+//! [`join`] puts them together again to the same frame. [`deal`] passes the parts to the branches of a stage, each of
+//! which gets a [`Version`] of its own with the fields that it touches: a part that no branch writes is lent to all
+//! that read it, one that a single branch touches is moved there, and of any other each branch that writes it has its
+//! own. Only [`copy`] makes a second part, and a [`Tally`] counts it. A function sees its branch's version through a
+//! [`View`], by its profile: it reads and writes what the profile names and nothing else. What no branch has stays in
+//! the [`Base`]. After the stage the base gathers the lent parts ([`Base::gather`]), takes those that the branches
+//! wrote ([`Version::take`], [`Gathered::put`]), and becomes a packet again ([`Gathered::finish`]). If a stage has only
+//! one branch, that branch has the whole packet ([`deal_whole`]) and puts it together again ([`Version::rejoin`]):
 //! there is no base, and nothing is lent.
 //!
-//! A part stays in its frame until a branch writes its field: then it is taken out, and [`join`] writes
-//! it back. The only branch of a stage writes in the frame itself, where it writes fields of fixed length
-//! alone. So a field that nobody writes is never copied, and all that a stage's branches only read is
-//! lent at once, with the frame.
+//! A part stays in its frame until a branch writes its field: then it is taken out, and [`join`] writes it back. The
+//! only branch of a stage writes in the frame itself if it writes only fields of fixed length. So a field that nobody
+//! writes is never copied, and everything that a stage's branches only read is lent at once, with the frame.
 //!
-//! What is promised: a frame that was split and joined is the same frame, whatever its bytes; each branch
-//! is dealt exactly the fields that it touches and the packet has, written by nobody; the tally rises by
-//! exactly the copies that are due; a view shows the bytes of the version, a write changes that one
-//! field and tells its writer, and no call of a view takes memory or changes a part's room. No two
-//! branches have the same part, but for one that is lent, which nobody writes. [`written_is_read`] and
-//! [`left_is_read`] say what is read after a write.
+//! The contracts promise: a frame that was split and joined is the same frame, whatever its bytes; each branch gets
+//! exactly the fields that it touches and the packet has, unwritten; the tally rises by exactly the copies that are
+//! due; a view shows the bytes of the version, a write changes only its one field and records its writer, and no call
+//! of a view allocates memory or changes a part's room. No two branches have the same part, except one that is lent,
+//! which nobody writes. [`written_is_read`] and [`left_is_read`] say what is read after a write.
 //!
-//! Contracts see a packet, a base, a version and a view as plain data: a list of ten optional parts, each
-//! with its bytes, its writer and its room, which `as_map` of `specs/Parts.antt` reads as a map from the
-//! fields (`packet_parts`, `version_parts`, and `seen_parts` of a view); beside it what the branch
-//! touches, the fixed values, what a branch has with it of the packet beside its own parts (`kept`), the
-//! profile and the position.
+//! Contracts see a packet, a base, a version and a view as plain data: a list of ten optional parts, each with its
+//! bytes, its writer and its room, which `as_map` of `specs/Parts.antt` reads as a map from the fields (`packet_parts`,
+//! `version_parts`, and `seen_parts` of a view). With it come what the branch touches, the fixed values, what a branch
+//! has of the packet besides its own parts (`kept`), the profile and the position.
 //!
-//! Which part of several prevails behind a stage is left out, and so is what a function does.
+//! Left out: which of several parts prevails after a stage, and what a function does.
 #![tactic(auto)]
 
 mod apart;

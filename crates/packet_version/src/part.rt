@@ -6,12 +6,13 @@ use smallvec::SmallVec;
 use std::alloc::{AllocError, Global};
 use std::marker::Model;
 
-// Every field of fixed length, the longest of which is an IPv6 address, and four tags lie in the part itself.
+// Every field of fixed length, the longest of which is an IPv6 address, and four tags fit in the part itself.
 const INLINE: usize = 16;
 
-/// A field's bytes, who wrote them last in this stage, and how many bytes fit without taking memory.
+/// A field's bytes, the function that wrote them last in this stage, and the number of bytes that fit without an
+/// allocation.
 ///
-/// A part can't be cloned: [`copy`] alone makes a second one, and counts it.
+/// A part can't be cloned: only [`copy`] makes a second one, and counts it.
 #[derive(Drop)]
 pub struct Part {
     bytes: SmallVec<u8, INLINE>,
@@ -37,7 +38,7 @@ impl Part {
     ghost use Rattle.packet_version.specs.Lending.{LendsBytes};
     ghost use Rattle.packet_version.specs.Splitting.{fresh};
 
-    /// A part of these bytes that nobody wrote, with room for `spare` bytes more.
+    /// An unwritten part of these bytes, with room for `spare` more bytes.
     pub(crate) fn new(alloc: Global, bytes: &[u8], spare: usize) -> Result<Part, AllocError>
         ensures { IfOk result (λ part. part ≡ fresh spare bytes.now) }
     {
@@ -53,7 +54,7 @@ impl Part {
         })
     }
 
-    /// A part of at most sixteen bytes, by this writer. It takes no memory.
+    /// A part of at most sixteen bytes, by this writer. It allocates nothing.
     pub(crate) fn few(alloc: Global, bytes: &[u8], writer: u32) -> Part
         requires { length bytes.now ≤ 16 }
         ensures { result ≡ by_writer writer (fresh 0 bytes.now) }
@@ -82,7 +83,7 @@ impl Part {
         self.writer
     }
 
-    /// The part as the next stage finds it: written by nobody.
+    /// The part as the next stage gets it: unwritten.
     pub(crate) fn unwritten(mut self) -> Part
         ensures { result ≡ unwritten self }
     {
@@ -90,7 +91,7 @@ impl Part {
         self
     }
 
-    /// The part as this function wrote it, 0 for nobody.
+    /// The part with this writer; 0 means unwritten.
     pub(crate) fn by(mut self, writer: u32) -> Part
         ensures { result ≡ by_writer writer self }
     {
@@ -98,21 +99,21 @@ impl Part {
         self
     }
 
-    /// Leaves the part as written by nobody.
+    /// Marks the part as unwritten.
     pub(crate) fn forget_writer(&mut self)
         ensures { self.new ≡ unwritten self.old }
     {
         self.writer = 0;
     }
 
-    /// How many bytes of room there are beyond those of the field.
+    /// The number of bytes of room beyond the field's length.
     pub(crate) fn spare(&self) -> usize
         ensures { self.now.room ≡ length self.now.bytes + result }
     {
         self.room - self.bytes.len()
     }
 
-    /// Writes the bytes, as many as there are.
+    /// Writes the bytes, as many as the part has.
     pub(crate) fn set(&mut self, writer: u32, bytes: &[u8])
         requires { length bytes.now ≡ length self.old.bytes }
         ensures { self.new ≡ rewritten bytes.now writer self.old }
@@ -140,7 +141,7 @@ impl Part {
         self.writer = writer;
     }
 
-    /// Takes the first four bytes away.
+    /// Removes the first four bytes.
     pub(crate) fn pop_front(&mut self, writer: u32)
         requires { 4 ≤ length self.old.bytes }
         ensures { self.new ≡ rewritten (drop 4 self.old.bytes) writer self.old }
@@ -151,7 +152,7 @@ impl Part {
         self.writer = writer;
     }
 
-    /// The greatest length in bytes that the part can have without taking memory.
+    /// The greatest length in bytes that the part can have without an allocation.
     pub fn room(&self) -> usize
         ensures room { result ≡ self.now.room }
         ensures fits { length self.now.bytes ≤ result }
@@ -179,9 +180,9 @@ pub(crate) fn edit_part(part: &mut Option<Part>, writer: u32) -> &mut [u8]
     }
 }
 
-/// A second part with the same bytes and the same room, which nobody wrote in this stage.
+/// A second part with the same bytes and the same room, unwritten in this stage.
 ///
-/// The tally of the field rises by one exactly where the copy is made.
+/// The tally of the field rises by one exactly if the copy is made.
 pub fn copy(alloc: Global, part: &Part, field: Field, tally: &mut Tally) -> Result<Part, AllocError>
     ensures same { IfOk result (λ made. made ≡ unwritten part.now) }
     ensures counted { RaisesBy (if is_ok result then 1 else 0) field tally.old tally.new }
@@ -189,9 +190,9 @@ pub fn copy(alloc: Global, part: &Part, field: Field, tally: &mut Tally) -> Resu
     copy_bytes(alloc, part.bytes(), part.spare(), field, tally)
 }
 
-/// A part of bytes of which there is another, with room for `spare` bytes more, which nobody wrote.
+/// An unwritten part of bytes of which there is another part, with room for `spare` more bytes.
 ///
-/// The tally of the field rises by one exactly where the copy is made.
+/// The tally of the field rises by one exactly if the copy is made.
 pub(crate) fn copy_bytes(
     alloc: Global,
     bytes: &[u8],

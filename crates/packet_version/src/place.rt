@@ -5,11 +5,11 @@ use crate::part::Part;
 /// Where a packet's part of a field is.
 #[derive(Drop)]
 pub(crate) enum Place {
-    /// In the frame, where the packet has the field at all.
+    /// In the frame, if the packet has the field at all.
     Inside,
     /// A branch has it.
     Gone,
-    /// Beside the frame: a branch had it.
+    /// Outside the frame: a branch had it.
     Outside(Part),
 }
 
@@ -19,7 +19,7 @@ ghost use Rattle.packet_version.specs.Places.{beside, is_outside, rewritten_plac
 ghost use Rattle.packet_version.specs.Lending.{LendsPlace};
 
 impl Place {
-    /// Leaves what is beside the frame as written by nobody.
+    /// Marks a part outside the frame as unwritten.
     pub(crate) fn forget_writer(&mut self)
         ensures { self.new ≡ unwritten_place self.old }
     {
@@ -28,7 +28,7 @@ impl Place {
         }
     }
 
-    /// Writes the bytes of what is beside the frame, as many as there are.
+    /// Writes the bytes of a part outside the frame, as many as it has.
     pub(crate) fn set(&mut self, writer: u32, bytes: &[u8])
         requires { IfSome (beside self.old) (λ p. length bytes.now ≡ length p.bytes) }
         ensures { self.new ≡ rewritten_place bytes.now writer self.old }
@@ -38,7 +38,7 @@ impl Place {
         }
     }
 
-    /// Sets the writer of what is beside the frame, and lends its bytes.
+    /// Sets the writer of a part outside the frame, and lends its bytes.
     pub(crate) fn edit(&mut self, writer: u32) -> &mut [u8]
         requires { is_outside self.old ≡ true }
         ensures* writes_back { sem 𝓛 (LendsPlace self.entry writer result) }

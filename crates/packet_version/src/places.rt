@@ -5,9 +5,9 @@ use arrayvec::ArrayVec;
 use std::marker::Model;
 use std::mem;
 
-/// A place for each field, or none listed as long as every part is in the frame. There is always room for them.
+/// A place for each field, or an empty list while every part is in the frame. The room for them is always there.
 pub(crate) struct Places {
-    // Each is inside as long as they aren't listed.
+    // Empty means that every part is in the frame.
     cells: ArrayVec<Place, 10>,
     listed: bool,
 }
@@ -30,7 +30,7 @@ impl Drop for Places {
         if listed {
             drop(cells);
         } else {
-            // Nothing stands beside the frame: there is no memory to give back.
+            // No part is outside the frame, so there is no memory to free.
             mem::forget(cells);
         }
     }
@@ -42,7 +42,7 @@ impl Places {
     ghost use Rattle.packet_version.specs.Places.{opened, unwritten_place};
     ghost use Rattle.packet_version.specs.Lending.{LendsListed};
 
-    /// None is listed.
+    /// The empty list.
     #[inline(always)]
     pub(crate) fn new() -> Places
         ensures { result ≡ [] }
@@ -53,7 +53,7 @@ impl Places {
         }
     }
 
-    /// Is none listed?
+    /// Is the list empty?
     #[inline(always)]
     pub(crate) fn is_empty(&self) -> bool
         ensures { result ≡ (length self.now == 0) }
@@ -95,7 +95,7 @@ impl Places {
         }
     }
 
-    /// Leaves every part that stands beside the frame, written by nobody.
+    /// Marks every part outside the frame as unwritten.
     pub(crate) fn forget_writers(&mut self)
         ensures { self.new ≡ map unwritten_place self.old }
     {
@@ -108,7 +108,7 @@ impl Places {
 ghost use Rattle.std.specs.Prelude.{◌≡◌, map};
 ghost use Rattle.packet_version.specs.Places.{inside_all, unwritten_place};
 
-/// Every part is in the frame.
+/// The places if every part is in the frame.
 #[inline(always)]
 fn all_inside() -> [Place; 10]
     ensures { result ≡ inside_all }
@@ -127,7 +127,7 @@ fn all_inside() -> [Place; 10]
     ]
 }
 
-/// Leaves every part that stands beside a frame, written by nobody.
+/// Marks every part outside a frame as unwritten.
 fn forget_all(places: &mut [Place])
     ensures { places.new ≡ map unwritten_place places.old }
 {

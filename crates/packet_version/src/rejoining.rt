@@ -1,4 +1,4 @@
-//! How a packet is put together again that only one branch had.
+//! How a packet that only one branch had is put together again.
 
 ghost use Rattle.std.specs.Prelude.{◌≡◌, ◌≢◌, List, Option, length, true, IsSome, IfSome};
 ghost use Rattle.packet_fields.specs.declared.field.Field.{Field};
@@ -17,9 +17,8 @@ use packet_fields::Field;
 use std::mem;
 
 impl Version {
-    /// Puts the packet together again behind a stage of one branch, which had it whole
-    /// ([`crate::deal_whole`]): of each field that the branch wrote its part, and what the branch had of the
-    /// packet beside. It takes no memory.
+    /// Puts the packet together again after a stage of one branch, which had it whole ([`crate::deal_whole`]): the
+    /// branch's part of each field that it wrote, and what else the branch had of the packet. It allocates nothing.
     #[inline(always)]
     pub fn rejoin(self) -> Apart
         requires kept { IsSome self.kept }
@@ -47,7 +46,7 @@ impl Version {
     }
 }
 
-/// Puts back the parts that the branch had of its own.
+/// Puts back the branch's own parts.
 fn put_all_back(gathered: &mut Gathered, own: &mut [Option<Part>], touch: Touch)
     requires listed { gathered.old.parts ≡ as_list (packet_parts gathered.old) }
     requires there { (f : Field) → has_write f touch ≡ true → length own.old ≡ 10 }
@@ -58,7 +57,7 @@ fn put_all_back(gathered: &mut Gathered, own: &mut [Option<Part>], touch: Touch)
     }
 }
 
-/// Puts the branch's part of a field back that it writes.
+/// Puts back the branch's part of a field that it writes.
 fn put_field_back(gathered: &mut Gathered, own: &mut [Option<Part>], touch: Touch, field: Field)
     requires listed { gathered.old.parts ≡ as_list (packet_parts gathered.old) }
     requires there { (f : Field) → has_write f touch ≡ true → length own.old ≡ 10 }
@@ -73,7 +72,7 @@ fn put_field_back(gathered: &mut Gathered, own: &mut [Option<Part>], touch: Touc
     put_part_back(gathered, part, field);
 }
 
-/// Puts a part back that the branch wrote or that the packet lacks.
+/// Puts back a part that the branch wrote or that `gathered` lacks.
 fn put_part_back(gathered: &mut Gathered, part: Option<Part>, field: Field)
     requires { gathered.old.parts ≡ as_list (packet_parts gathered.old) }
     ensures { gathered.new ≡ with_rejoined gathered.old (changed field (rejoined_part part (packet_parts gathered.old field)) (packet_parts gathered.old)) }

@@ -5,7 +5,7 @@ use packet_fields::{Field, Outline};
 use std::alloc::{AllocError, Global};
 use std::marker::Model;
 
-/// A frame whose fields are of no account, with its own outline.
+/// A frame with its own outline. The bytes of its fields have no meaning.
 #[derive(Drop)]
 pub(crate) struct Rest {
     bytes: Vec<u8>,
@@ -79,7 +79,7 @@ impl Rest {
         }
     }
 
-    /// Tags that stay as they are take no memory.
+    /// Puts the tags into their place. Tags that stay the same cost no allocation.
     fn put_tags(&mut self, alloc: Global, list: &[u8]) -> Result<(), AllocError>
         requires { Fits Field.Tag list.now self.old }
         ensures { OnOk result (self.new ≡ put_in Field.Tag list.now self.old) }

@@ -1,10 +1,10 @@
-//! How many copies were made of the parts of packets.
+//! The number of copies of the parts of packets.
 
 use action_profile::all_fields;
 use packet_fields::Field;
 use std::marker::Model;
 
-/// Counts of copies, one for each field. A count stops at 2^64 - 1.
+/// Counts of copies, one for each field. A count stays at 2^64 - 1 once it is reached.
 #[derive(Debug, Drop)]
 pub struct Tally {
     counts: [u64; 10],
@@ -24,14 +24,14 @@ impl Tally {
     ghost use Rattle.packet_version.specs.Tallies.{count_of, raised};
     ghost use Rattle.packet_version.specs.Raising.{RaisesBy};
 
-    /// No copies.
+    /// A tally of no copies.
     pub fn new() -> Self
         ensures { (f : Field) → count_of result f ≡ 0 }
     {
         Tally { counts: [0; 10] }
     }
 
-    /// How many copies were made of this field's parts.
+    /// The number of copies of this field's parts.
     pub fn of(&self, field: Field) -> u64
         ensures { result ≡ count_of self.now field }
     {
@@ -55,7 +55,7 @@ impl Tally {
         self.raise(field, 1);
     }
 
-    /// Counts so many copies of this field's parts.
+    /// Counts `by` copies of this field's parts.
     pub fn raise(&mut self, field: Field, by: u64)
         ensures { RaisesBy by field self.old self.new }
     {

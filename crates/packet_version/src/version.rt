@@ -18,11 +18,11 @@ use std::sync::Wait;
 /// branch of a stage may have the packet itself, and write in it.
 #[derive(Drop)]
 pub struct Version {
-    // The packet, where the branch writes in it. Then it has no parts of its own, and nothing is lent.
+    // The packet, if the branch writes in it. Then it has no parts of its own, and nothing is lent.
     pub(crate) within: Option<Held>,
-    // A place for each field, or none where the branch writes nothing.
+    // A place for each field, or none if the branch writes nothing.
     pub(crate) own: Vec<Option<Part>>,
-    // One loan has all that the branch only reads.
+    // One loan covers all fields that the branch only reads.
     pub(crate) lent: Option<Loan<Reader<Held>>>,
     pub(crate) touch: Touch,
     pub(crate) fixed: Fixed,
@@ -150,7 +150,7 @@ impl Version {
         }
     }
 
-    /// Lends the branch a packet that nobody wrote, of which it sees what it only reads.
+    /// Lends the branch an unwritten packet, for the fields that it only reads.
     pub(crate) fn lend(&mut self, reader: Reader<Held>)
         requires unwritten { (f : Field) → writer_in (as_map reader.parts f) ≡ 0 }
         requires formed { (f : Field) → IsPartOf f (as_map reader.parts f) }
@@ -160,7 +160,7 @@ impl Version {
         self.lent = Some(Loan::Shared(reader));
     }
 
-    /// Leaves the packet, which nobody wrote, with the branch, which is the only one of its stage.
+    /// Leaves the unwritten packet with the branch, which is the only one of its stage.
     pub(crate) fn keep(&mut self, held: Held)
         requires unwritten { (f : Field) → writer_in (as_map held.parts f) ≡ 0 }
         requires formed { (f : Field) → IsPartOf f (as_map held.parts f) }
@@ -170,8 +170,8 @@ impl Version {
         self.lent = Some(Loan::Whole(held));
     }
 
-    /// The version of a branch that has the packet, which nobody wrote, and writes in it. It is the only one
-    /// of its stage.
+    /// The version of a branch that has the unwritten packet, and writes in it. The branch is the only one of its
+    /// stage.
     #[inline(always)]
     pub(crate) fn in_packet(alloc: Global, held: Held, touch: Touch, fixed: Fixed) -> Version
         requires unwritten { (f : Field) → writer_in (as_map held.parts f) ≡ 0 }
@@ -188,7 +188,7 @@ impl Version {
         }
     }
 
-    /// Takes the branch's own part of a field away.
+    /// Takes the branch's own part of a field out.
     pub fn take(&mut self, field: Field) -> Option<Part>
         requires { has_write field self.old.touch ≡ true }
         ensures part { result ≡ version_parts self.old field }
@@ -207,7 +207,7 @@ ghost use Rattle.std.specs.Prelude.{◌≡◌, Some, None, IfOk, [], map, if◌t
 ghost use Rattle.packet_fields.specs.Writing.{all_fields as every_field};
 ghost use Rattle.action_profile.specs.FieldSets.{is_none};
 
-/// A place for each part of a branch that writes these fields, none where it writes nothing.
+/// A place for each part of a branch that writes these fields, none if it writes nothing.
 fn own_places(alloc: Global, writes: FieldSet) -> Result<Vec<Option<Part>>, AllocError>
     ensures { IfOk result (λ own. own.items ≡ (if is_none writes then [] else map (λ f. None) every_field)) }
 {
@@ -228,7 +228,7 @@ fn empty_places(alloc: Global) -> Result<Vec<Option<Part>>, AllocError>
     Ok(own)
 }
 
-/// Puts a part into its place. One that lay there is let go.
+/// Puts a part into its place. One that was there is dropped.
 fn put_part(place: &mut Option<Part>, part: Part)
     ensures { place.new ≡ Some part }
 {

@@ -49,8 +49,8 @@ impl View {
     ghost use Rattle.packet_version.specs.ViewLending.{LendsField};
     ghost use Rattle.std.specs.Borrow.{sem};
 
-    /// The bytes of a field that the profile reads, where the packet has it. There are as many as the field
-    /// has, and the tags are whole.
+    /// The bytes of a field that the profile reads, if the packet has it. The value has the field's length, and the
+    /// tags are whole.
     #[inline(always)]
     pub fn get(&self, field: Field) -> Option<&[u8]>
         requires read { reads_of self.now.profile field ≡ true }
@@ -70,7 +70,7 @@ impl View {
         self.bytes(field).is_some()
     }
 
-    /// The bytes of a field that the profile names, where the packet has it.
+    /// The bytes of a field that the profile names, if the packet has it.
     #[inline(always)]
     fn bytes(&self, field: Field) -> Option<&[u8]>
         requires named { names self.now.profile field ≡ true }
@@ -99,8 +99,8 @@ impl View {
         }
     }
 
-    /// Lends the bytes of a field that is present and that the profile reads and writes, other than the
-    /// tags. What is left there is written by this function.
+    /// Lends the bytes of a field that is present and that the profile reads and writes, other than the tags. The bytes
+    /// that are left there count as written by this function.
     pub fn edit(&mut self, field: Field) -> &mut [u8]
         requires not_tag { field ≢ Field.Tag }
         requires read { reads_of self.old.profile field ≡ true }
@@ -130,7 +130,7 @@ impl View {
         self.put_tags(part);
     }
 
-    /// Takes the first tag away, where there is one.
+    /// Removes the first tag, if there is one.
     pub fn pop_tag(&mut self)
         requires removes { self.old.profile.removes ≡ true }
         requires tagged { HasBytes self.old Field.Tag (λ tags. 0 < length tags) }
@@ -141,7 +141,7 @@ impl View {
         self.put_tags(part);
     }
 
-    /// Takes the tags away. A branch that writes tags has them beside the packet.
+    /// Takes the tags out. A branch that writes tags has them outside the packet.
     fn take_tags(&mut self) -> Option<Part>
         requires written { writes_of self.old.profile Field.Tag ≡ true }
         ensures part { result ≡ seen_parts self.old Field.Tag }
@@ -151,7 +151,7 @@ impl View {
         mem::replace(&mut self.own[Field::Tag.number()], None)
     }
 
-    /// Puts tags, or none, into their place.
+    /// Puts the tags, or `None`, into their place.
     fn put_tags(&mut self, part: Option<Part>)
         requires written { writes_of self.old.profile Field.Tag ≡ true }
         requires tags { AreTags part }
@@ -167,35 +167,37 @@ impl View {
         self.fixed.time
     }
 
-    /// The EtherType (IEEE 802.3, 3.2.6), where the frame has one.
+    /// The EtherType (IEEE 802.3, 3.2.6), if the frame has one.
     pub fn ether_type(&self) -> Option<u16>
         ensures { result ≡ self.now.version.fixed.ether_type }
     {
         self.fixed.ether_type
     }
 
-    /// The protocol of the IPv4 header (RFC 791, 3.1) or the next header of the IPv6 header (RFC 8200, 3), where it is captured.
+    /// The protocol of the IPv4 header (RFC 791, 3.1) or the next header of the IPv6 header (RFC 8200, 3), if it is
+    /// captured.
     pub fn proto(&self) -> Option<u8>
         ensures { result ≡ self.now.version.fixed.proto }
     {
         self.fixed.proto
     }
 
-    /// IPv4's total length in bytes (RFC 791, 3.1), or 40 more than IPv6's payload length (RFC 8200, 3), where it is captured.
+    /// IPv4's total length in bytes (RFC 791, 3.1), or 40 more than IPv6's payload length (RFC 8200, 3), if it is
+    /// captured.
     pub fn ip_len(&self) -> Option<u16>
         ensures { result ≡ self.now.version.fixed.ip_len }
     {
         self.fixed.ip_len
     }
 
-    /// The TCP header's byte of control bits (RFC 793, 3.1), where it is captured.
+    /// The TCP header's byte of control bits (RFC 793, 3.1), if it is captured.
     pub fn tcp_flags(&self) -> Option<u8>
         ensures { result ≡ self.now.version.fixed.tcp_flags }
     {
         self.fixed.tcp_flags
     }
 
-    /// Gives the claim back, and the version with what was written.
+    /// Gives the claim back, and returns the version with what was written.
     #[inline(always)]
     pub fn end(self) -> Version
         ensures { result ≡ self.version }
@@ -228,7 +230,7 @@ ghost use Rattle.std.specs.Option.{option_copied};
 ghost use Rattle.packet_version.specs.Parts.{AreTags, IsPartOf, as_map, values_of, rewritten as rewritten_part};
 ghost use Rattle.packet_version.specs.Versions.{lent_parts};
 
-/// The bytes of a field of what is lent.
+/// The bytes of a field of the lent packet.
 #[inline(always)]
 fn lent_bytes(lent: &Option<Loan<Shown<Held>>>, field: Field) -> Option<&[u8]>
     ensures { option_copied result ≡ values_of (lent_parts lent.now) field }
@@ -250,7 +252,7 @@ fn own_bytes(part: &Option<Part>) -> Option<&[u8]>
     }
 }
 
-/// Lends the bytes of a field of fixed length that is in the packet, where there is one.
+/// Lends the bytes of a field of fixed length that is in the packet, if the branch writes in the packet.
 fn edit_within(within: &mut Option<Held>, field: Field, writer: u32) -> &mut [u8]
     requires not_tag { field ≢ Field.Tag }
     requires not_payload { field ≢ Field.Payload }
@@ -275,7 +277,7 @@ fn set_part(part: &mut Option<Part>, writer: u32, bytes: &[u8])
     }
 }
 
-/// Tags that are there, with one more before them.
+/// The tags, if they are there, with one more before them.
 fn with_first_tag(part: Option<Part>, writer: u32, tag: [u8; 4]) -> Option<Part>
     requires identified { is_tpid (word tag 0) ≡ true }
     requires room { IsSomeAnd part (λ p. length p.bytes + 4 ≤ p.room) }
@@ -288,7 +290,7 @@ fn with_first_tag(part: Option<Part>, writer: u32, tag: [u8; 4]) -> Option<Part>
     Some(part)
 }
 
-/// Tags that are there, without the first.
+/// The tags, if they are there, without the first.
 fn without_first_tag(part: Option<Part>, writer: u32) -> Option<Part>
     requires tagged { IsSomeAnd part (λ p. 0 < length p.bytes) }
     requires tags { AreTags part }

@@ -22,7 +22,7 @@ impl FunctionLine for Pattern {
         }
     }
 
-    // No line has to be there: without a pattern none occurs.
+    // No line is required: a function without a pattern finds nothing.
     fn lacks_one(_lines: &[Pattern]) -> bool {
         false
     }

@@ -5,10 +5,10 @@ use policy_text::pattern;
 use std::alloc::{AllocError, Global};
 use std::marker::Model;
 
-/// What is written over the bytes of an occurrence: a small x.
+/// The byte that overwrites an occurrence: a small x.
 const CROSS: u8 = 0x78;
 
-/// One or more bytes that are found in others, with the search for them, which is made once.
+/// One or more bytes that are searched for in payloads, with their searcher, which is made once.
 #[derive(Debug, Drop)]
 pub struct Pattern {
     finder: Finder<'static>,
@@ -31,7 +31,7 @@ impl Pattern {
     ghost use Rattle.patterns.specs.Overwriting.{overwritten};
     ghost use Rattle.patterns.specs.Steps.{TakesNext, TakesNone};
 
-    /// The pattern of these bytes, and the search for it.
+    /// The pattern of these bytes, with its searcher.
     pub fn new(bytes: Vec<u8>) -> Pattern
         requires { 0 < length bytes.items }
         ensures { result ≡ bytes.items }
@@ -42,7 +42,7 @@ impl Pattern {
     }
 
     /// Reads a pattern of 1 to 256 bytes: `text` and the bytes of a word, or `hex` and pairs of hexadecimal digits, of either
-    /// case. Answers `None` where the words are no pattern.
+    /// case. Returns `None` if the words aren't a pattern.
     #[tactic(auto, using(crate::proofs::Reading::some_bytes))]
     pub fn read(alloc: Global, form: &[u8], word: &[u8]) -> Result<Option<Pattern>, AllocError>
         ensures { IfOk result (λ read. read ≡ pattern_of form.now word.now) }
@@ -78,7 +78,7 @@ impl Pattern {
         }
     }
 
-    // Overwrites the first occurrence that begins at this place or behind it, and tells the place behind it.
+    // Overwrites the first occurrence that begins at place `from` or later, and returns the place after it.
     fn overwrite_next(&self, payload: &mut [u8], from: usize) -> Option<usize>
         requires { from ≤ length payload.old }
         ensures { MatchOption result (TakesNone self.now from payload.old payload.new) (TakesNext self.now from payload.old payload.new) }

@@ -1,4 +1,4 @@
-//! Patterns that are looked for together.
+//! Patterns that are searched for together.
 
 use crate::pattern::Pattern;
 use crate::sieve::{GROUPS, Sieve};
@@ -8,15 +8,15 @@ use std::alloc::{AllocError, Global};
 use std::marker::Model;
 use std::sync::Arc;
 
-/// From how many patterns on one pass over a payload is cheaper than a search for each.
+/// The number of patterns from which on one pass over a payload is cheaper than a search for each.
 const MANY: usize = 8;
 
-/// Patterns in order, which several owners share and none changes, with what spares the search for most of them. A contract sees
-/// them as a list.
+/// Patterns in order, shared by several owners and changed by none, with a sieve that spares the search for most of
+/// them. A contract sees them as a list.
 #[derive(Debug, Drop)]
 pub struct PatternSet {
     patterns: SharedItems<Pattern>,
-    /// Tells which of many patterns may occur. Few are looked for one after another.
+    /// Finds which of many patterns may occur. `None` for few patterns, which are searched one after another.
     sieve: Option<Arc<Sieve>>,
 }
 
@@ -36,7 +36,8 @@ impl PatternSet {
     ghost use Rattle.std.specs.Prelude.{◌≡◌, position, IfOk};
     ghost use Rattle.patterns.specs.Occurrences.{occurs};
 
-    /// Makes patterns ready to be looked for and to be shared, with one owner so far. Its one refusal is want of memory.
+    /// Makes patterns ready to be looked for and to be shared, with one owner so far. The only error is that memory
+    /// runs out.
     pub fn new(alloc: Global, patterns: Items<Pattern>) -> Result<PatternSet, AllocError>
         ensures { IfOk result (λ set. set ≡ patterns) }
     {
@@ -45,8 +46,8 @@ impl PatternSet {
         Ok(PatternSet { patterns, sieve })
     }
 
-    /// The same patterns once more, for one more owner. It copies none and takes no memory; its one refusal is that no more owners
-    /// can be counted.
+    /// The same patterns once more, for one more owner. It copies no pattern and allocates nothing. The only error is
+    /// that no more owners can be counted.
     pub fn try_clone(&self) -> Result<PatternSet, AllocError>
         ensures { IfOk result (λ set. set ≡ self.now) }
     {
@@ -94,7 +95,7 @@ fn sieve_of(alloc: Global, patterns: &[Pattern]) -> Result<Option<Arc<Sieve>>, A
     Ok(Some(Arc::new(alloc, sieve)?))
 }
 
-/// The place of the first pattern that occurs in the payload, where the groups have all that do.
+/// The place of the first pattern that occurs in the payload, if the groups have all patterns that do.
 fn first_of_groups(patterns: &[Pattern], groups: u64, payload: &[u8]) -> Option<usize>
     requires { HasAll patterns.now payload.now groups }
     ensures { result ≡ position (λ pattern. occurs pattern payload.now) patterns.now }

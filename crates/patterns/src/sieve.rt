@@ -1,9 +1,10 @@
 //! Which of many patterns may occur in a payload, found in one pass over it.
 //!
-//! Patterns are in 64 groups, each of which is a bit of a word. Two to four bytes in a row are a window, and a table has in each of two
-//! words, which a window's two hashes name, the bits of the groups with that window in a pattern: a Bloom filter for each group. Of a
-//! pattern the windows at its first places are marked, as many as a stride. An occurrence has one of these at a place that the stride
-//! divides, so that a pass looks at those places alone.
+//! Patterns are in 64 groups, each of which is a bit of a word. Two to four bytes in a row are a window. A window has
+//! two hashes, each of which selects a word of a table, and in both words the bits are set of the groups that have this
+//! window in a pattern: a Bloom filter for each group. Of each pattern the windows at its first places are marked, as
+//! many as the stride. Every occurrence has one of these windows at a place that the stride divides, so a pass looks
+//! only at those places.
 ghost use Rattle.std.specs.Prelude.{◌≡◌, ◌+◌, ◌*◌, ◌<◌, ◌≤◌, ℕ, length, slice_index, count_by, nat_lt};
 ghost use Rattle.std.specs.Int.{bit_at};
 ghost use Rattle.patterns.specs.Sieving.{near_slot, far_slot, groups_of, Grows, HasWindows, IsMarked, IsSieveOf};
@@ -13,31 +14,31 @@ use crate::pattern::Pattern;
 use crate::width::Width;
 use std::alloc::{AllocError, Global};
 
-/// How many groups there are: the bits of a word.
+/// The number of groups: the bits of a word.
 pub(crate) const GROUPS: usize = 64;
 
-/// How many patterns may be too short for a window, so that they are looked for in any case.
+/// The number of patterns that may be too short for a window. They are always searched for.
 const FEW: usize = 4;
 
-/// How many words a table has.
+/// The number of words of a table.
 const SLOTS: usize = 4_096;
 
-/// The longest stride. Beyond it the start of a pass takes longer than what it spares.
+/// The longest stride. With a longer one the start of a pass takes longer than it saves.
 const LONGEST_STRIDE: usize = 8;
 
 /// The golden ratio by 2^32 (Knuth, The Art of Computer Programming, 6.4): the middle of a product with it depends on all bits of a window.
 const SPREAD: u64 = 2_654_435_761;
 
-/// The windows of patterns, by which a pass over a payload tells which of them may occur.
+/// The windows of patterns, by which a pass over a payload finds which of the patterns may occur.
 #[derive(Debug, Drop)]
 pub(crate) struct Sieve {
-    /// How many bytes are looked up at each place.
+    /// The number of bytes that are looked up at each place.
     width: Width,
-    /// How far the places are apart at which a pass looks.
+    /// The distance between the places at which a pass looks.
     stride: usize,
-    /// The groups with a pattern that is too short for as many windows.
+    /// The groups with a pattern that is too short for `stride` windows.
     short: u64,
-    /// The groups of the windows that have a slot.
+    /// For each slot, the groups of the windows that have it.
     table: Vec<u64>,
     ghost steps: { 0 < stride },
     ghost full: { length table.items ≡ 4096 },
@@ -77,7 +78,7 @@ impl Sieve {
     }
 }
 
-/// At how many places that the stride divides a window of this width lies within so many bytes.
+/// The number of places that the stride divides and at which a window of this width lies within `len` bytes.
 fn turns(len: usize, width: usize, stride: usize) -> usize
     requires stride { 0 < stride }
     requires width { 0 < width }
@@ -111,7 +112,7 @@ fn shorter_than(patterns: &[Pattern], len: usize) -> usize
         .count()
 }
 
-/// The stride at which all patterns with a window are known by their windows, unless it would be too long.
+/// The longest stride at which every pattern with a window has enough windows, up to the limit.
 fn stride_of(patterns: &[Pattern], width: Width) -> usize
     ensures some { 0 < result }
     ensures short { result ≤ 8 }
@@ -127,7 +128,7 @@ fn stride_of(patterns: &[Pattern], width: Width) -> usize
     stride
 }
 
-/// Marks the windows of patterns in a table, and tells the groups of those that are too short for as many.
+/// Marks the windows of patterns in a table, and returns the groups of those that are too short for `stride` windows.
 fn mark_all(table: &mut [u64], patterns: &[Pattern], width: Width, stride: usize) -> u64
     requires full { length table.old ≡ 4096 }
     requires stride { stride ≤ 8 }
@@ -146,7 +147,7 @@ fn mark_all(table: &mut [u64], patterns: &[Pattern], width: Width, stride: usize
     short
 }
 
-/// Marks the windows of a pattern for its group, or tells the group where it is too short for as many.
+/// Marks the windows of a pattern for its group, or returns the group if it is too short for `stride` windows.
 fn mark_pattern(table: &mut [u64], bytes: &[u8], width: Width, stride: usize, group: usize) -> u64
     requires full { length table.old ≡ 4096 }
     requires stride { stride ≤ 8 }
@@ -192,7 +193,7 @@ fn mark_slot(table: &mut [u64], slot: usize, group: usize)
     table[slot] |= 1 << group;
 }
 
-/// The groups that have a window, maybe with a few more.
+/// The groups that have a window, possibly with a few more.
 #[inline(always)]
 #[tactic(auto, unfolding(crate::specs::Sieving::groups_of))]
 fn groups_of(table: &[u64], window: u32) -> u64

@@ -1,4 +1,4 @@
-//! How many bytes of a payload are looked up together.
+//! The number of bytes of a payload that are looked up together.
 ghost use Rattle.std.specs.Prelude.{◌≡◌};
 ghost use Rattle.patterns.specs.Windows.{bytes_of, mask_of, four_at, window_at};
 
@@ -14,7 +14,7 @@ impl Width {
     ghost use Rattle.std.specs.Prelude.{◌≡◌, ◌≤◌, length};
     ghost use Rattle.patterns.specs.Windows.{bytes_of, mask_of, window_at};
 
-    /// How many bytes a window has.
+    /// The number of bytes of a window.
     pub(crate) fn bytes(self) -> usize
         ensures { result ≡ bytes_of self }
     {
@@ -50,7 +50,7 @@ impl Width {
 
 ghost use Rattle.std.specs.Prelude.{◌≤◌, ◌+◌, length, slice_index};
 
-/// The four bytes from a place on, as a number. Behind the end stand zeros.
+/// The four bytes from a place on, as a number. Bytes past the end count as 0.
 #[inline(always)]
 #[tactic(auto, unfolding(crate::specs::Windows::four_at))]
 fn four_at(bytes: &[u8], place: usize) -> u32

@@ -6,7 +6,7 @@ use action_profile::{Profile, profile};
 use policy_text::{FunctionDecl, name_at};
 use std::alloc::{AllocError, Global};
 
-/// The profiles of the functions in chain order, which are counted from 0 as declared.
+/// The profiles of the functions in chain order. `order` counts the functions from 0 as declared.
 pub(crate) fn profiles_in(
     alloc: Global,
     functions: &[FunctionDecl],
@@ -39,7 +39,7 @@ pub(crate) fn is_whole_at(functions: &[FunctionDecl], place: u32) -> bool
     }
 }
 
-/// The name of the function at a position of the chain, which counts from 1; none past its end.
+/// The name of the function at a position of the chain, counted from 1; empty past its end.
 pub(crate) fn name_in<'a>(functions: &'a [FunctionDecl], order: &[u32], position: u32) -> &'a [u8]
     ensures { result.now ≡ name_in functions.now order.now position }
 {

@@ -1,4 +1,4 @@
-//! What a plan of pieces is worth.
+//! A property of plans of pieces.
 
 ghost use Rattle.std.specs.Prelude.{◌≡◌, ℕ, false, List};
 ghost use Rattle.std.specs.List.{list_any};

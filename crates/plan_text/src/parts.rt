@@ -69,7 +69,7 @@ fn put_part_line(
     Ok(())
 }
 
-// How a field is handed on, and how often it is copied.
+// Adds how a field is passed on, and how often it is copied.
 fn put_mode(alloc: Global, out: &mut Vec<u8>, mode: Mode, count: usize) -> Result<(), AllocError>
     ensures { OnOk result (out.new.items ≡ out.old.items ++ mode_text mode count) }
 {

@@ -1,4 +1,4 @@
-//! The pieces of a chain, cut before and behind each function that rewrites packets whole.
+//! The pieces of a chain, cut before and after each function that rewrites packets whole.
 ghost use Rattle.std.specs.Prelude.{◌≡◌, ◌<◌, ◌≤◌, ◌+◌, ◌++◌, length, position, All, IfOk, OnOk};
 ghost use Rattle.std.specs.List.{position_or_len};
 ghost use Rattle.plan_text.specs.Plan.{cut, is_whole_at, numbered, pieces_text, stage_text, stages_of};
@@ -35,7 +35,7 @@ pub(crate) fn put_pieces(
     Ok(())
 }
 
-// How many functions the first piece has: all before the first that rewrites packets whole, or that one alone.
+// The number of functions of the first piece: all before the first that rewrites packets whole, or only that one.
 #[tactic(auto, using(crate::proofs::Cutting::whole_is_first))]
 fn first_piece(functions: &[FunctionDecl], order: &[u32]) -> usize
     requires { 0 < length order.now }
@@ -45,7 +45,7 @@ fn first_piece(functions: &[FunctionDecl], order: &[u32]) -> usize
     if plain == 0 { 1 } else { plain }
 }
 
-// How many functions stand before the first that rewrites packets whole.
+// The number of functions before the first that rewrites packets whole.
 fn plain_len(functions: &[FunctionDecl], order: &[u32]) -> usize
     ensures { result ≡ position_or_len (is_whole_at functions.now) order.now }
 {
@@ -63,7 +63,7 @@ fn first_whole(functions: &[FunctionDecl], order: &[u32]) -> Option<usize>
         .position(|place| is_whole_at(functions, *place))
 }
 
-// Adds the stages of a piece, the first with this number, and gives the number of the stage behind them.
+// Adds the stages of a piece, the first with this number, and returns the number of the stage after them.
 fn put_piece(
     alloc: Global,
     out: &mut Vec<u8>,

@@ -10,9 +10,9 @@ use std::alloc::{AllocError, Global};
 use text_lines::Piece::Text;
 use text_lines::{push_line, push_words};
 
-/// Adds the plan of a chain. The order has the chain's functions, counted from 0 as declared, in the
-/// order in which a packet passes them. Where a graph was written for the chain, its stages are shown, and else those that are compiled.
-/// The one error is want of memory; nothing is said of `out` then.
+/// Adds the plan of a chain. `order` has the chain's functions, counted from 0 as declared, in the order in which a
+/// packet passes them. If a graph was written for the chain, its stages are shown, and otherwise those that are
+/// compiled. The only error is that memory runs out; the content of `out` is then unspecified.
 #[tactic(auto, unfolding(crate::specs::Plan::chain_plan))]
 pub fn put_chain(
     alloc: Global,

@@ -5,7 +5,7 @@ use policy_check::CheckFault;
 use policy_text::TextFault;
 use std::alloc::{AllocError, AllocFailed};
 
-/// The first fault of a policy. Its OutOfMemory variants never stand here.
+/// The first fault of a policy. Its `OutOfMemory` variants don't occur here.
 #[derive(Debug, Drop)]
 pub enum PolicyFault {
     /// The text has more than 1,048,576 bytes.
@@ -17,14 +17,14 @@ pub enum PolicyFault {
     Check { chain: u32, fault: CheckFault },
 }
 
-/// A fault, and the line that tells it.
+/// A fault, and the line that reports it.
 #[derive(Debug, Drop)]
 pub struct Refusal {
     pub fault: PolicyFault,
     pub line: Items<u8>,
 }
 
-/// Why a policy text isn't taken.
+/// Why a policy text isn't accepted.
 #[derive(Debug, Drop)]
 pub enum JudgeFault {
     Refused(Refusal),

@@ -21,8 +21,8 @@ use std::alloc::{AllocError, Global};
 use text_lines::Piece::Text;
 use text_lines::line;
 
-/// Reads a policy text of at most 1,048,576 bytes: the policy with the order and the functions of each
-/// of its chains, or its first fault with the line that tells it.
+/// Reads a policy text of at most 1,048,576 bytes: returns the policy with the order and the functions of each of its
+/// chains, or its first fault with the line that reports it.
 #[tactic(auto, unfolding(crate::specs::Judging::judged), using(crate::proofs::FewFunctions::text_refused))]
 pub fn judge(alloc: Global, bytes: &[u8]) -> Result<Judged, JudgeFault>
     requires { length bytes.now ≤ 1048576 }
@@ -48,7 +48,7 @@ pub fn too_long(alloc: Global) -> JudgeFault
     )
 }
 
-// Makes all functions, which looks at their settings, and then finds the orders of the chains.
+// Makes all functions, which checks their settings, and then finds the orders of the chains.
 #[tactic(auto, using(crate::proofs::FewFunctions::few_here, crate::proofs::NoLineRefused::all_settled))]
 fn judge_policy(alloc: Global, policy: Policy) -> Result<Judged, JudgeFault>
     requires { IsSound policy.chains }

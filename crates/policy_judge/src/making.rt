@@ -28,7 +28,7 @@ pub fn functions_of(
     }
 }
 
-// Makes these functions, and takes the lines that they refuse into the least one.
+// Makes these functions, and combines the lines that they refuse with the least one so far.
 fn make_each(
     alloc: Global,
     least: &mut Option<u32>,
@@ -45,7 +45,8 @@ fn make_each(
     Ok(Items::new(functions))
 }
 
-// Makes a function, and takes the line that it refuses into the least one. None stands for one that is refused, which nobody gets.
+// Makes a function, and combines the line that it refuses with the least one so far. A refused function is `None`,
+// which nobody gets.
 #[tactic(auto, using(crate::proofs::NoLineRefused::lesser_of_none))]
 fn make_one(
     alloc: Global,

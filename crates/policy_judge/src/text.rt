@@ -1,4 +1,4 @@
-//! The lines that tell the faults of a policy.
+//! The lines that report the faults of a policy.
 ghost use Rattle.std.specs.Prelude.{◌≡◌, IfOk};
 ghost use Rattle.policy_text.specs.declared.fault.TextFault.{TextFault};
 ghost use Rattle.policy_check.specs.declared.fault.CheckFault.{CheckFault};
@@ -137,7 +137,7 @@ fn priority_line<'a>(
     )
 }
 
-/// What a function does with a packet, in words: `read src-ip`, `drop`. The one error is want of memory.
+/// What a function does with a packet, in words: `read src-ip`, `drop`. The only error is that memory runs out.
 pub fn action_text(alloc: Global, action: Action) -> Result<Vec<u8>, AllocError>
     ensures { IfOk result (λ text. text.items ≡ action_text action) }
 {

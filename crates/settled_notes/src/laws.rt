@@ -1,9 +1,10 @@
-//! What is said of functions that count.
+//! A property of functions that count.
 ghost use Rattle.chain_walk.specs.Notes.{CountsByNotes};
 
 use net_functions::Function;
 
-/// A function of any kind that counts does nothing but note a packet and settle the note, and no note depends on what was settled.
+/// A function that counts, of any kind, only notes a packet and settles the note, and no note depends on what was
+/// settled.
 pub fn functions_count_by_notes<F: Function>()
     ensures { CountsByNotes F.behaviour F.notes }
 {}

@@ -1,10 +1,10 @@
-//! What functions that count note of the packets of a burst, until it is known where each packet ends.
+//! The notes of functions that count on the packets of a burst, kept until it is known how each packet ends.
 //!
-//! A function that counts doesn't change while a packet is on its way: what it sees is noted. The functions of a branch list their
-//! notes in one list ([`ListedNote`], [`list_note`]). Behind the burst, where the fate of each packet is known, the list is settled
-//! ([`settle_listed`]), in its own order: a note of a packet that a function at an earlier position of the chain dropped is left,
-//! since in the chain the packet would never have come so far, and every other is settled, also where a later function dropped
-//! the packet.
+//! A function that counts doesn't change while a packet is on its way: what it sees is noted. The functions of a branch
+//! put their notes into one list ([`ListedNote`], [`list_note`]). After the burst, when the fate of each packet is
+//! known, the list is settled ([`settle_listed`]), in its own order. A note is discarded if a function at an earlier
+//! position of the chain dropped its packet, since in the chain the packet would never have come so far. Every other
+//! note is settled, even if a later function dropped the packet.
 #![tactic(auto)]
 
 mod laws;

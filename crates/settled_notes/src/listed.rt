@@ -1,4 +1,4 @@
-//! What the functions of a branch note of the packets of a burst, until it is known where each packet ends.
+//! The notes of the functions of a branch on the packets of a burst, kept until it is known how each packet ends.
 ghost use Rattle.std.specs.Prelude.{◌≡◌, ◌++◌, ◌∷◌, [], OnOk, OnErr};
 ghost use Rattle.burst_law.specs.Noting.{row_listed};
 

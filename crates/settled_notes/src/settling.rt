@@ -1,4 +1,4 @@
-//! Notes of a burst's packets, settled once it is known where each packet ends.
+//! Settles the notes on a burst's packets once it is known how each packet ends.
 ghost use Rattle.std.specs.Prelude.{◌≡◌, List, slice_index_or, OnOk};
 ghost use Rattle.burst_law.specs.Bursts.{Message, Message.Lost};
 ghost use Rattle.burst_law.specs.Noting.{lost_before, settled_listed, settled_one};
@@ -9,9 +9,9 @@ use chain_walk::Fate;
 use net_functions::Function;
 use std::alloc::AllocError;
 
-/// Settles what the functions of a branch, which have these positions, noted of a burst whose packets ended so: one note after
-/// another, as they were listed, but those of packets that a function at an earlier position dropped. The one refusal is want of
-/// memory.
+/// Settles the notes of the functions of a branch, which have these positions, on a burst whose packets have these
+/// fates. The notes are settled one after another, in the order of the list, except those on packets that a function at
+/// an earlier position dropped. The only error is that memory runs out.
 pub fn settle_listed<F: Function>(
     functions: &mut [F],
     positions: &[u32],

@@ -12,8 +12,8 @@ impl Marker {
     ghost use Rattle.nf_mark.specs.MarkerLines.{marker_lines};
     ghost use Rattle.nf_mark.specs.Markers.{marker_by};
 
-    /// Makes the marker that is declared, or names the least line of the declaration that is refused: one
-    /// that is no rule of a marker, as one with a clause on tags is none.
+    /// Makes the marker that is declared, or returns the least line of the declaration that is refused: one that isn't
+    /// a rule of a marker, such as one with a clause on tags.
     pub fn build(alloc: Global, decl: &FunctionDecl) -> Result<Marker, BuildFault>
         requires { decl.now.kind ≡ Kind.Marker }
         ensures { Builds marker_lines marker_by decl.now result }

@@ -27,7 +27,7 @@ impl FunctionLine for MarkRule {
         }
     }
 
-    // No line of a marker has to be there.
+    // A marker has no required line.
     fn lacks_one(_lines: &[MarkRule]) -> bool {
         false
     }

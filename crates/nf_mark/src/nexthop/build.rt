@@ -12,8 +12,8 @@ impl Nexthop {
     ghost use Rattle.nf_mark.specs.NexthopLines.{nexthop_lines};
     ghost use Rattle.nf_mark.specs.Nexthops.{nexthop_by};
 
-    /// Makes the nexthop that is declared, or names the least line of the declaration that is refused: one
-    /// that is no rule of a nexthop.
+    /// Makes the nexthop that is declared, or returns the least line of the declaration that is refused: one that isn't
+    /// a rule of a nexthop.
     pub fn build(alloc: Global, decl: &FunctionDecl) -> Result<Nexthop, BuildFault>
         requires { decl.now.kind ≡ Kind.Nexthop }
         ensures { Builds nexthop_lines nexthop_by decl.now result }

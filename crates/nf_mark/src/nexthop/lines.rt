@@ -34,7 +34,7 @@ impl FunctionLine for NexthopRule {
         }
     }
 
-    // No line of a nexthop has to be there.
+    // A nexthop has no required line.
     fn lacks_one(_lines: &[NexthopRule]) -> bool {
         false
     }

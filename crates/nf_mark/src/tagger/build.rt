@@ -12,8 +12,8 @@ impl Tagger {
     ghost use Rattle.nf_mark.specs.TaggerLines.{tagger_lines};
     ghost use Rattle.nf_mark.specs.Taggers.{tagger_by};
 
-    /// Makes the tagger that is declared, or names the least line of the declaration that is refused: one
-    /// that is no rule of a tagger, as one with a clause on anything but the source address is none.
+    /// Makes the tagger that is declared, or returns the least line of the declaration that is refused: one that isn't
+    /// a rule of a tagger, such as one with a clause on anything but the source address.
     pub fn build(alloc: Global, decl: &FunctionDecl) -> Result<Tagger, BuildFault>
         requires { decl.now.kind ≡ Kind.Tagger }
         ensures { Builds tagger_lines tagger_by decl.now result }

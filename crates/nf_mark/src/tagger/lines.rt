@@ -30,7 +30,7 @@ impl FunctionLine for TagRule {
         }
     }
 
-    // No line of a tagger has to be there.
+    // A tagger has no required line.
     fn lacks_one(_lines: &[TagRule]) -> bool {
         false
     }

@@ -15,9 +15,9 @@ impl Limiter {
     ghost use Rattle.nf_observe.specs.LimiterLines.{limiter_lines};
     ghost use Rattle.nf_observe.specs.Limiters.{unset_limiter, with_line, limiter_by};
 
-    /// Makes the limiter that is declared, which has seen no source, or names the least line of the
-    /// declaration that is refused: one that is no line of a limiter, a second `set rate` or `set burst`, or
-    /// the `fn` line where one of them is missing.
+    /// Makes the limiter that is declared, which has seen no source, or returns the least line of the declaration that
+    /// is refused: one that isn't a line of a limiter, a second `set rate` or `set burst`, or the `fn` line if one of
+    /// them is missing.
     pub fn build(alloc: Global, decl: &FunctionDecl) -> Result<Limiter, BuildFault>
         requires { decl.now.kind ≡ Kind.Limiter }
         ensures { Builds limiter_lines limiter_by decl.now result }
@@ -26,7 +26,7 @@ impl Limiter {
         Ok(Limiter::of_lines(alloc, lines))
     }
 
-    // What these lines make, one after another.
+    // The limiter that these lines set up, one after another.
     fn of_lines(alloc: Global, lines: Items<LimiterLine>) -> Limiter
         ensures { result ≡ limiter_by lines }
     {
@@ -37,7 +37,7 @@ impl Limiter {
         limiter
     }
 
-    // Before its lines are read.
+    // The limiter before its lines are read.
     fn unset(alloc: Global) -> Limiter
         ensures { result ≡ unset_limiter }
     {
@@ -48,7 +48,7 @@ impl Limiter {
         }
     }
 
-    // Does what the line says.
+    // Applies the line.
     fn take(&mut self, line: LimiterLine)
         ensures { self.new ≡ with_line self.old line }
     {

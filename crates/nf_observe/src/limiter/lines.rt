@@ -7,12 +7,12 @@ use function_lines::FunctionLine;
 use policy_text::{Word, number};
 use std::alloc::{AllocError, Global};
 
-/// What a line says.
+/// The content of a line.
 #[derive(Clone, Copy, Debug)]
 pub enum LimiterLine {
     /// The bytes that a source may send each second.
     Rate(u32),
-    /// The bytes that a source may send at once that was quiet.
+    /// The bytes that a source may send at once after it was quiet.
     Burst(u32),
 }
 
@@ -35,7 +35,7 @@ impl FunctionLine for LimiterLine {
         !has_rate(lines) || !has_burst(lines)
     }
 
-    // Each line can stand beside any others.
+    // Each line can be beside any others.
     fn clashes(_lines: &[LimiterLine], _line: &Option<LimiterLine>) -> bool {
         false
     }

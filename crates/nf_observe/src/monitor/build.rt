@@ -1,4 +1,4 @@
-//! Makes a monitor of the lines that declare it, of which there are none.
+//! Makes a monitor. No line sets it up.
 
 use crate::monitor::Monitor;
 use first_sight::FirstSeen;
@@ -6,7 +6,7 @@ use function_lines::{FunctionLine, read_lines};
 use policy_text::{BuildFault, FunctionDecl, Word};
 use std::alloc::{AllocError, Global};
 
-/// A line of a monitor: there is none.
+/// A line of a monitor. There are no such lines.
 #[derive(Drop)]
 pub enum MonitorLine {}
 
@@ -19,12 +19,12 @@ impl FunctionLine for MonitorLine {
         Ok(None)
     }
 
-    // No line of a monitor has to be there.
+    // A monitor has no required line.
     fn lacks_one(_lines: &[MonitorLine]) -> bool {
         false
     }
 
-    // Each line can stand beside any others.
+    // Each line can be beside any others.
     fn clashes(_lines: &[MonitorLine], _line: &Option<MonitorLine>) -> bool {
         false
     }
@@ -36,8 +36,8 @@ impl Monitor {
     ghost use Rattle.function_lines.specs.Builds.{Builds};
     ghost use Rattle.nf_observe.specs.Monitors.{monitor_lines, monitor_by};
 
-    /// Makes the monitor that is declared, which has seen no flow, or names the least line of the
-    /// declaration that is refused, as each is.
+    /// Makes the monitor that is declared, which has seen no flow, or returns the least line of the declaration. Each
+    /// line is refused.
     pub fn build(alloc: Global, decl: &FunctionDecl) -> Result<Monitor, BuildFault>
         requires { decl.now.kind ≡ Kind.Monitor }
         ensures { Builds monitor_lines monitor_by decl.now result }

@@ -15,8 +15,8 @@ impl Decap {
     ghost use Rattle.nf_tunnel.specs.TunnelLines.{exit_lines};
     ghost use Rattle.nf_tunnel.specs.Ends.{unset_decap, with_exit_line, decap_by};
 
-    /// Makes the exit that is declared, or names the least line of the declaration that is refused: one that is no line of an
-    /// exit, a second `set exit`, or the `fn` line where there is none.
+    /// Makes the exit that is declared, or returns the least line of the declaration that is refused: one that isn't a
+    /// line of an exit, a second `set exit`, or the `fn` line if there is no `set exit`.
     pub fn build(alloc: Global, decl: &FunctionDecl) -> Result<Decap, BuildFault>
         requires { decl.now.kind ≡ Kind.Decap }
         ensures { Builds exit_lines decap_by decl.now result }
@@ -25,7 +25,7 @@ impl Decap {
         Ok(Decap::of_lines(lines))
     }
 
-    // What these lines make, one after another.
+    // The exit that these lines set up, one after another.
     fn of_lines(lines: Items<ExitLine>) -> Decap
         ensures { result ≡ decap_by lines }
     {
@@ -36,7 +36,7 @@ impl Decap {
         decap
     }
 
-    // Before its line is read.
+    // The exit before its line is read.
     fn unset() -> Decap
         ensures { result ≡ unset_decap }
     {
@@ -45,7 +45,7 @@ impl Decap {
         }
     }
 
-    // Does what the line says.
+    // Applies the line.
     fn take(&mut self, line: ExitLine)
         ensures { self.new ≡ with_exit_line self.old line }
     {

@@ -9,7 +9,7 @@ use policy_text::Word;
 use std::alloc::{AllocError, Global};
 use std::net::Ipv4Addr;
 
-/// What a line says.
+/// The content of a line.
 #[derive(Clone, Copy, Debug)]
 pub enum ExitLine {
     /// The destination of the outer header.
@@ -34,7 +34,7 @@ impl FunctionLine for ExitLine {
         !has_exit(lines)
     }
 
-    // Each line can stand beside any others.
+    // Each line can be beside any others.
     fn clashes(_lines: &[ExitLine], _line: &Option<ExitLine>) -> bool {
         false
     }

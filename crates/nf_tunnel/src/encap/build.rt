@@ -15,8 +15,8 @@ impl Encap {
     ghost use Rattle.nf_tunnel.specs.TunnelLines.{entry_lines};
     ghost use Rattle.nf_tunnel.specs.Ends.{unset_encap, with_entry_line, encap_by};
 
-    /// Makes the entry that is declared, or names the least line of the declaration that is refused: one that is no line of an
-    /// entry, a second `set` of a key, or the `fn` line where one of the three is missing.
+    /// Makes the entry that is declared, or returns the least line of the declaration that is refused: one that isn't a
+    /// line of an entry, a second `set` of a key, or the `fn` line if one of the three is missing.
     pub fn build(alloc: Global, decl: &FunctionDecl) -> Result<Encap, BuildFault>
         requires { decl.now.kind ≡ Kind.Encap }
         ensures { Builds entry_lines encap_by decl.now result }
@@ -25,7 +25,7 @@ impl Encap {
         Ok(Encap::of_lines(lines))
     }
 
-    // What these lines make, one after another.
+    // The entry that these lines set up, one after another.
     fn of_lines(lines: Items<EntryLine>) -> Encap
         ensures { result ≡ encap_by lines }
     {
@@ -36,7 +36,7 @@ impl Encap {
         encap
     }
 
-    // Before its lines are read.
+    // The entry before its lines are read.
     fn unset() -> Encap
         ensures { result ≡ unset_encap }
     {
@@ -47,7 +47,7 @@ impl Encap {
         }
     }
 
-    // Does what the line says.
+    // Applies the line.
     fn take(&mut self, line: EntryLine)
         ensures { self.new ≡ with_entry_line self.old line }
     {

@@ -9,14 +9,14 @@ use policy_text::{Word, number};
 use std::alloc::{AllocError, Global};
 use std::net::Ipv4Addr;
 
-/// What a line says.
+/// The content of a line.
 #[derive(Clone, Copy, Debug)]
 pub enum EntryLine {
     /// The source of the outer header.
     Entry(Ipv4Addr),
-    /// Its destination.
+    /// The destination of the outer header.
     Exit(Ipv4Addr),
-    /// Its time to live.
+    /// The time to live of the outer header.
     Ttl(u8),
 }
 
@@ -38,7 +38,7 @@ impl FunctionLine for EntryLine {
         !has_entry(lines) || !has_exit(lines) || !has_ttl(lines)
     }
 
-    // Each line can stand beside any others.
+    // Each line can be beside any others.
     fn clashes(_lines: &[EntryLine], _line: &Option<EntryLine>) -> bool {
         false
     }
