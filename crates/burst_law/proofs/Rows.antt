@@ -33,8 +33,8 @@ only_tos tos f = if number_of f == number_of Tos then tos else None
 abbrev packet : List ℕ → Message
 packet tos = Here fixed (only_tos (Some tos))
 
--- functions that count their packets: from 0 on one that does nothing else, from 100 on one that drops its second packet,
--- and from 200 on one that writes its count as type of service
+-- functions that count their packets: from 0 on one that does nothing else, from 100 on one that drops its second
+-- packet, and from 200 on one that writes its count as type of service
 abbrev counted : ℕ → Shown → Step ℕ
 counted count shown = record {
   after = count + 1;

@@ -33,7 +33,7 @@ IsMarked width stride short table pattern group = (bit_at short group ≡ 1) ⊎
 pub record IsSieveOf (width : Width) (stride short : ℕ) (table : List ℕ) (patterns : List (List ℕ)) : Type 0 where
   pub each : (place : ℕ) → place < length patterns → IsMarked width stride short table (get_or patterns place []) (place % 64)
 
--- The groups that are always reported are among these, and so are those with a window at one of the places a stride apart.
+-- The groups that are always reported are among these, and so are those with a window at one of the strided places.
 pub record Tells (width : Width) (stride short : ℕ) (table payload : List ℕ) (groups : ℕ) : Type 0 where
   pub always : (group : ℕ) → bit_at short group ≡ 1 → bit_at groups group ≡ 1
   pub seen : (turn group : ℕ) → turn * stride + bytes_of width ≤ length payload → bit_at (groups_of table (window_at width payload (turn * stride))) group ≡ 1 → bit_at groups group ≡ 1
