@@ -17,8 +17,9 @@ mod help;
 mod odd;
 
 use asked::{answer, question};
+use file_desk::{FileDesk, Reason};
 use help::tell_more;
-use nfp_outside::{FileDesk, OpenGate, Reason, Slot};
+use nfp_outside::{OpenGate, Slot};
 use nfp_run::{Outcome, nfp, write_fault_text};
 use std::alloc::AllocError;
 use std::fs::File;
