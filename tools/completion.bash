@@ -1,11 +1,11 @@
-# Completes the words of nfp in bash: commands, options, the ways of --merge, and files, that of --graph too. tools/install puts it where bash-completion finds
-# it; without that: source tools/completion.bash
+# Completes the words of nfp in bash: commands, tools, options, the ways of --merge, and files, that of --graph too. tools/install puts it where
+# bash-completion finds it; without that: source tools/completion.bash
 
 _nfp() {
     local word=$2 options=' --burst --graph --merge --mergers ' due files=yes
     COMPREPLY=()
     if [[ $COMP_CWORD -eq 1 ]]; then
-        local first='plan run flows demo'
+        local first='plan run flows demo help explain report-to-csv report-to-html plan-to-dot plan-to-graph chains-apart send-flows'
         [[ $word != -* ]] || first='--help --version'
         COMPREPLY=($(compgen -W "$first" -- "$word"))
         return
@@ -15,10 +15,14 @@ _nfp() {
         run) due=4 ;;
         flows) due=2 options=' --burst --workers ' ;;
         demo) due=2 files= options=' --burst --merge --mergers ' ;;
+        explain | report-to-csv | report-to-html | plan-to-dot | plan-to-graph | chains-apart | send-flows)
+            compopt -o default
+            return
+            ;;
         *) return ;;
     esac
 
-    # What stands before the word. Bash takes --merge=inbox for three words, but where = was taken out of COMP_WORDBREAKS.
+    # What is before the word. Bash takes --merge=inbox for three words, unless = was removed from COMP_WORDBREAKS.
     local place each option= named= names=0
     for ((place = 2; place < COMP_CWORD; place++)); do
         each=${COMP_WORDS[place]}

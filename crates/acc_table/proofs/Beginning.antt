@@ -15,7 +15,7 @@ length-down : (n : ℕ) → length (down n) ≡ n
 length-down zero = refl
 length-down (suc n) = ap suc (length-down n)
 
--- so many places are linked
+-- this number of places is linked
 pub record Linked (nexts : List ℕ) (free n : ℕ) : Type 0 where
   pub chain : IsChain nexts free (down n)
   pub length : length nexts ≡ n

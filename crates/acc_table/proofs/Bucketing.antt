@@ -1,4 +1,4 @@
--- The open packets of a bucket are as many as its rows.
+-- A bucket has as many open packets as rows.
 use Rattle.std.proofs.Common.{◌≡◌, ℕ, ◌+◌, ◌%◌, zero, suc, cond, List, [], ◌∷◌, map, Option, Some, None, refl, sym, ap, ◌∙◌, arith, eqb}
 use Rattle.std.proofs.lemmas.List.{nil_from_length}
 use Rattle.std.proofs.lemmas.List.Sums.{sum_by-cons}
@@ -15,7 +15,7 @@ use Rattle.acc_table.proofs.Finding.{Entries, not_None, found-absent}
 abbrev key_of : {X : Type 0} → ℕ × X → ℕ
 key_of e = e.0
 
--- a key that is new adds what it counts
+-- a new key adds what it counts
 put_new : {X : Type 0} (g : ℕ → ℕ) (k : ℕ) (v : X) (es : List (ℕ × X)) → find nat_cmp k es ≡ None → sum_by g (map key_of (put nat_cmp k v es)) ≡ g k + sum_by g (map key_of es)
 put_new g k v [] none = sum_by-cons g k []
 put_new {X} g k v (e ∷ es) none =

@@ -1,4 +1,4 @@
--- How many rows are taken, and how many of a bucket, where one row changes.
+-- The number of taken rows, in all and in a bucket, when one row changes.
 use Rattle.std.proofs.Common.{◌≡◌, ◌≢◌, ℕ, ◌+◌, ◌%◌, ◌<◌, ◌≤◌, zero, suc, cond, List, [], ◌∷◌, length, get_or, set, replicate, Option, Some, None, refl, ap, ◌∙◌, arith, eqb}
 use Rattle.std.proofs.lemmas.List.Sums.{sum_by-set, sum_by-cons}
 use Rattle.std.specs.List.{sum_by}
@@ -35,7 +35,7 @@ pub one_in_le : (m c : ℕ) (o : Option ℕ) → one_in m c o ≤ 1
 one_in_le m c None = omega arith
 one_in_le m c (Some p) = at_bucket (λ n. n ≤ 1) (p % m) c 1 0 (λ _. omega arith) (λ _. omega arith)
 
--- where all rows are free none is taken
+-- if all rows are free, none is taken
 pub none_in : (f : Option ℕ → ℕ) (n : ℕ) → f None ≡ 0 → sum_by f (replicate n None) ≡ 0
 none_in f zero e = refl
 none_in f (suc n) e = sum_by-cons f None (replicate n None) ∙ omega (arith, e, none_in f n e)

@@ -1,4 +1,4 @@
--- Where a packet is found among the rows, and what a row that changes leaves of the others.
+-- Where a packet is found among the rows, and how a row that changes leaves the others.
 use Rattle.std.proofs.Common.{◌≡◌, ◌≢◌, ℕ, ◌+◌, ◌<◌, zero, suc, ◌⊎◌, inl, inr, Bool, true, false, cond, List, [], ◌∷◌, length, get_or, set, Option, Some, None, refl, sym, ap, ◌∙◌, subst, arith, is_some, replicate}
 use Rattle.std.proofs.lemmas.Bool.{false≢true, eqb-true, eqb-false, cases_eq, cases_order}
 use Rattle.std.proofs.lemmas.Option.{same_Some}
@@ -17,7 +17,7 @@ keys : (q p : ℕ) (b : Bool) → same q p ≡ b → ((same q p ≡ true) × (q 
 keys q p true e = inl (e, eqb-true q p (sym (unsigned_tied q p) ∙ e))
 keys q p false e = inr (e, eqb-false q p (sym (unsigned_tied q p) ∙ e))
 
--- two numbers tie exactly where they are one
+-- the test of two numbers holds exactly when they are equal
 pub tied_or_apart : (q p : ℕ) → ((same q p ≡ true) × (q ≡ p)) ⊎ ((same q p ≡ false) × (q ≢ p))
 tied_or_apart q p = keys q p (same q p) refl
 
@@ -36,7 +36,7 @@ Entries T = List (ℕ × List (Option T))
 abbrev pub found : {T : Type 0} → ℕ → List (Place T) → Option (List (Option T))
 found q rows = find nat_cmp q (opened rows)
 
--- what a row of this owner has for it
+-- what a row of this owner holds for it
 abbrev pub held : {T : Type 0} → Option ℕ → List (Option T) → Option (List (Option T))
 held None arrived = None
 held (Some p) arrived = Some arrived
@@ -104,7 +104,7 @@ found-at p rows i r lt is only own =
     ∙ (found-set p p rows i r r lt is only own own
     ∙ ap (λ b. cond b (held r.pid r.arrived) (found p rows)) (tied_itself p))
 
--- where rows are each a packet's of its own, the one at this place is the only one of its packet
+-- if rows are each a packet's own, the one at this place is the only one of its packet
 pub only_at-from_once : {T : Type 0} (p : ℕ) (rows : List (Place T)) (i : ℕ) → Once rows → i < length rows → HoldsAt (λ r. r.pid ≡ Some p) rows i → OnlyAt p rows i
 only_at-from_once p rows i once lt mine k d l n = elim (cases_order k i) [
   | inl e ↦ absurd (n e)
@@ -150,7 +150,7 @@ length_entered : {T : Type 0} (o : Option ℕ) (a : List (Option T)) (es : Entri
 length_entered None a es n = absurd (n refl)
 length_entered (Some p) a es n = omega arith
 
--- rows that are all free are nobody's
+-- rows that are all free have no owner
 pub opened-free : {T : Type 0} (n : ℕ) (a : List (Option T)) → opened (replicate n (record { pid = None; arrived = a })) ≡ []
 opened-free zero a = refl
 opened-free (suc n) a = opened-free n a

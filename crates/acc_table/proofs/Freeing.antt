@@ -1,4 +1,4 @@
--- A row is taken out of its packet's bucket, and put first into the list of the free.
+-- A row is taken out of its packet's bucket, and put first into the free list.
 use Rattle.std.proofs.Common.{◌≡◌, ◌≢◌, ℕ, ◌-◌, ◌%◌, ◌<◌, ◌≤◌, inl, inr, cond, List, ◌∷◌, length, get_or, set, Option, Some, None, refl, sym, ap, ◌∙◌, subst, arith, eqb}
 use Rattle.std.proofs.lemmas.Bool.{cases_eq}
 use Rattle.std.proofs.lemmas.Option.{same_Some}
@@ -140,7 +140,7 @@ module _ (m : ℕ) (os : List (Option ℕ)) (l : PlainLinks) (k : AreLinked m os
         (λ e. omega (arith, ap (λ d. length (k.chain d)) e, k.counts c, less, hit (p % m) c (sym e), length-without i (k.chain (p % m)) in_chain))
         (λ n. omega (arith, k.counts c, less, miss (p % m) c (λ e. n (sym e))))
 
-    -- so the rows are linked as before, with this one among the free
+    -- so the rows are linked as before, with this one among the free rows
     pub is_freed : AreLinked m (set os i None) (freed l (p % m) i before)
     is_freed = record {
       chain = chain_freeing k.chain (p % m) i;

@@ -1,4 +1,4 @@
--- A row that hands its values over, one branch after another.
+-- A row whose values are handed over, one branch after another.
 use Rattle.std.proofs.Common.{◌≡◌, ℕ, zero, ◌+◌, ◌-◌, ◌<◌, ◌++◌, List, [], ◌∷◌, map, replicate, take, drop, set, get_or, length, Option, Some, sym, ap, ◌∙◌, arith, add-one, drop-cons, append_assoc}
 use Rattle.std.proofs.lemmas.List.{get_or-append_right, length-replicate, replicate_more, set_at, take_more}
 

@@ -1,4 +1,4 @@
--- What a table shows where one row changes.
+-- What a table shows when one row changes.
 use Rattle.std.proofs.Common.{◌≡◌, ◌≢◌, ◌↔◌, ℕ, ◌<◌, inl, inr, cond, List, length, get_or, set, replicate, Option, Some, None, IsSome, refl, sym, ap, ◌∙◌, arith, is_some, unwrap_or}
 use Rattle.std.proofs.lemmas.Bool.{false≢true}
 use Rattle.std.proofs.lemmas.List.{length-replicate, length-set}
@@ -13,7 +13,7 @@ use Rattle.acc_table.proofs.Finding.{IsFor, OnlyAt, found-absent, found-at, foun
 abbrev pub shown : {T : Type 0} → ℕ → List (Place T) → Table T
 shown branches rows = record { entries = length rows; branches = branches; waiting = from_entries (opened rows) }
 
--- the row r in the place i, where a packet's values are kept
+-- the row `r` at the place `i`, at which a packet's values are kept
 pub record At {T : Type 0} (branches p : ℕ) (rows : List (Place T)) (i : ℕ) (r : Place T) : Type 0 where
   pub within : i < length rows
   pub is : r ≡ get_or rows i r
@@ -41,7 +41,7 @@ held_or : {T : Type 0} (branches : ℕ) (o : Option ℕ) (a : List (Option T)) �
 held_or branches None a k = sym (k refl)
 held_or branches (Some p) a k = refl
 
--- what the row has is what has come of the packet
+-- what the row has is what has arrived for the packet
 pub arrivals_at : {T : Type 0} (branches p : ℕ) (rows : List (Place T)) (i : ℕ) (r : Place T) → At branches p rows i r → arrivals (shown branches rows) p ≡ r.arrived
 arrivals_at branches p rows i r at =
     ap (λ o. unwrap_or o (nothing branches)) (get-from_entries nat_cmp_total (opened rows) p ∙ found-at p rows i r at.within at.is at.only at.own)
@@ -65,7 +65,7 @@ shown-keeping branches p rows i r s at own =
     ∙ (ap (λ o. cond (eq_by_cmp nat_cmp q p) (held o s.arrived) (get (from_entries {R = nat_cmp} (opened rows)) q)) own
     ∙ sym (get-insert nat_cmp_total (from_entries (opened rows)) p s.arrived q))))
 
--- its row set free
+-- its row is freed
 pub shown-forgetting : {T : Type 0} (branches p : ℕ) (rows : List (Place T)) (i : ℕ) (r s : Place T) → At branches p rows i r → s.pid ≡ None → shown branches (set rows i s) ≡ forgetting (shown branches rows) p
 shown-forgetting branches p rows i r s at own =
     same_table _ _ branches _ _ (length-set rows i s)
@@ -93,7 +93,7 @@ pub record Puts {T : Type 0} (p branch : ℕ) (value : T) (r s : Place T) : Type
 pub puts_from : {T : Type 0} (p branch : ℕ) (value : T) (r s : Place T) → s ≡ record { pid = Some p; arrived = set r.arrived branch (Some value) } → Puts p branch value r s
 puts_from p branch value r s e = record { own = ap (λ x. x.pid) e; arrived = ap (λ x. x.arrived) e }
 
--- it holds what has come of the packet now
+-- it holds what has arrived for the packet now
 pub arrived_is : {T : Type 0} (branches p branch : ℕ) (value : T) (rows : List (Place T)) (i : ℕ) (r s : Place T) (t : Table T) → shown branches rows ≡ t → At branches p rows i r → Puts p branch value r s → s.arrived ≡ with_arrival t p branch value
 arrived_is branches p branch value rows i r s t view at puts =
     puts.arrived ∙ ap (λ a. set a branch (Some value)) (sym (arrivals_at branches p rows i r at) ∙ ap (λ u. arrivals u p) view)
@@ -123,7 +123,7 @@ open_or_none : {A : Type 0} (o : Option A) → IsSome o → o ≡ None → ⊥
 open_or_none None is e = false≢true is
 open_or_none (Some x) is e = not_None x e
 
--- where no row is this packet's, some row is free
+-- if no row is this packet's, some row is free
 pub has_free_row : {T : Type 0} (branches p : ℕ) (rows : List (Place T)) (t : Table T) → shown branches rows ≡ t → AreKept branches rows → HasRoomFor t p → Absent p rows → length (opened rows) < length rows
 has_free_row branches p rows t view kept room absent =
     let none : get t.waiting p ≡ None = ap (λ u. get u.waiting p) (sym view) ∙ (get-from_entries nat_cmp_total (opened rows) p ∙ found-absent p rows absent) in
@@ -161,6 +161,6 @@ arrivals-forgets branches p rows i r s t view at free =
     ap (λ o. unwrap_or o (nothing branches)) (own_get branches p rows i r s at (inl free) ∙ ap (λ o. held o s.arrived) free)
     ∙ ap (λ u. nothing u.branches) view
 
--- nothing has come of any packet of an empty table
+-- nothing has arrived for any packet of an empty table
 pub none_waits : {T : Type 0} (branches : ℕ) (rows : List (Place T)) (n : ℕ) (a : List (Option T)) → rows ≡ replicate n (record { pid = None; arrived = a }) → (q : ℕ) → get (shown branches rows).waiting q ≡ None
 none_waits branches rows n a e q = ap (λ t. get t.waiting q) (ap (shown branches) e ∙ shown-free branches n a) ∙ get-empty nat_cmp q

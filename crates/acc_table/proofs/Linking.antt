@@ -1,4 +1,4 @@
--- Chains of places: each ends, so no place stands in one twice, and a link that is changed changes no chain without its place.
+-- Chains of places: each ends, so a place occurs once in a chain; changing a link changes only chains with its place.
 use Rattle.std.proofs.Common.{◌≡◌, ◌≢◌, ℕ, ◌+◌, ◌<◌, ◌≤◌, suc, inl, inr, true, false, cond, List, [], ◌∷◌, ◌++◌, length, get_or, set, refl, sym, ap, ◌∙◌, subst, arith, eqb}
 use Rattle.std.proofs.lemmas.Bool.{eqb-true, eqb-false, cases_eq}
 use Rattle.std.proofs.lemmas.List.{get_or-set_same, get_or-set_other, length-set, get_or_append_left, length-append}
@@ -22,7 +22,7 @@ from_here nexts h (y ∷ ys) x c a = elim a [
   | inr r ↦ let s = from_here nexts (get_or nexts y none) ys x c.2 r in (s.0, s.1, omega (arith, s.2))
 ]
 
--- no place stands behind itself
+-- no place follows itself
 pub apart : (nexts : List ℕ) (x : ℕ) (xs : List ℕ) → length nexts ≤ 65536 → x < length nexts → IsChain nexts (get_or nexts x none) xs → Among x xs → ⊥
 apart nexts x xs few lt c a =
     let s = from_here nexts (get_or nexts x none) xs x c a in
@@ -44,7 +44,7 @@ frame nexts h (x ∷ xs) k v c n = (
   subst (λ y. IsChain (set nexts k v) y xs) (sym (get_or-set_other nexts k x v none (λ e. n (inl (sym e))))) (frame nexts (get_or nexts x none) xs k v c.2 (λ a. n (inr a))),
 )
 
--- one more link, behind all
+-- one more link, after all
 pub frame_push : (nexts : List ℕ) (h : ℕ) (xs : List ℕ) (v : ℕ) → IsChain nexts h xs → IsChain (nexts ++ v ∷ []) h xs
 frame_push nexts h [] v c = c
 frame_push nexts h (x ∷ xs) v c = (
@@ -78,7 +78,7 @@ pub ended : (nexts : List ℕ) (at : ℕ) (xs : List ℕ) → length nexts ≤ 6
 ended nexts at [] few c e = refl
 ended nexts at (x ∷ xs) few c e = absurd (omega (arith, few, c.0, c.1, e))
 
--- the place behind one of a chain is of the chain
+-- the place after one of a chain is in the chain
 pub next_among : (nexts : List ℕ) (h : ℕ) (xs : List ℕ) (x : ℕ) → IsChain nexts h xs → Among x xs → get_or nexts x none ≢ none → Among (get_or nexts x none) xs
 next_among nexts h [] x c a n = a
 next_among nexts h (y ∷ ys) x c a n = elim a [
@@ -110,7 +110,7 @@ length-without i (x ∷ xs) a = at_bucket (λ ys. length ys + 1 ≡ length (x �
     (λ e. omega arith)
     (λ m. elim a [ inl f ↦ absurd (m f) | inr r ↦ omega (arith, length-without i xs r) ])
 
--- the place itself is gone
+-- the place itself is removed
 pub gone : (nexts : List ℕ) (h : ℕ) (xs : List ℕ) (i : ℕ) → length nexts ≤ 65536 → IsChain nexts h xs → Among i (without i xs) → ⊥
 gone nexts h [] i few c a = a
 gone nexts h (x ∷ xs) i few c a = at_bucket (λ ys. Among i ys → ⊥) i x xs (x ∷ without i xs)
@@ -126,7 +126,7 @@ unlinked_first nexts h (x ∷ xs) i few c a e =
     (λ f. subst (λ z. IsChain nexts (get_or nexts z none) xs) (sym f) c.2)
     (λ n. absurd (n (sym e ∙ c.0)))
 
--- the place before it is linked to what was behind it
+-- the place before it is linked to what was after it
 pub unlinked_behind : (nexts : List ℕ) (h : ℕ) (xs : List ℕ) (i before : ℕ) → length nexts ≤ 65536 → IsChain nexts h xs → Among before xs → get_or nexts before none ≡ i → i < length nexts → IsChain (set nexts before (get_or nexts i none)) h (without i xs)
 unlinked_behind nexts h [] i before few c a e lt = absurd a
 unlinked_behind nexts h (x ∷ xs) i before few c a e lt = elim (cases_eq x before) [

@@ -47,7 +47,7 @@ linked_taking m p rows l n i k lt e is =
 owners-set : {T : Type 0} (rows : List (Place T)) (i : ℕ) (s : Place T) (o : Option ℕ) → s.pid ≡ o → owners (set rows i s) ≡ set (owners rows) i o
 owners-set rows i s o e = map-set (λ r. r.pid) rows i s ∙ ap (set (owners rows) i) e
 
--- the row of this place is this packet's now, or free
+-- the row at this place is this packet's now, or free
 pub linked_set : {T : Type 0} (rows : List (Place T)) (n : PlainLinks) (i : ℕ) (s : Place T) (o : Option ℕ) → s.pid ≡ o → AreLinked (heads_for (length rows)) (set (owners rows) i o) n → AreLinked (heads_for (length (set rows i s))) (owners (set rows i s)) n
 linked_set rows n i s o e k =
     subst (λ os. AreLinked (heads_for (length (set rows i s))) os n) (sym (owners-set rows i s o e))

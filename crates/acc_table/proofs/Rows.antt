@@ -8,7 +8,7 @@ use Rattle.acc_table.specs.Arrivals.{Table, arrivals, with_arrival, keeping, for
 abbrev two_by_two : Table ℕ
 two_by_two = record { entries = 2; branches = 2; waiting = empty }
 
--- of packet 7 the first branch's value has come
+-- for packet 7 the first branch's value has arrived
 abbrev one_came : Table ℕ
 one_came = keeping two_by_two 7 (Some 10 ∷ None ∷ [])
 
@@ -27,7 +27,7 @@ another_packet = ap or_nothing (get-insert nat_cmp_total empty 7 (Some 10 ∷ No
 forgotten : arrivals (forgetting one_came 7) 7 ≡ None ∷ None ∷ []
 forgotten = ap or_nothing (get-remove nat_cmp_total (insert empty 7 (Some 10 ∷ None ∷ [])) 7 7)
 
--- as many buckets as the least power of two that is at least the entries
+-- as many buckets as the least power of two that is at least the number of entries
 four_buckets : heads_for 4 ≡ 4
 unfolding heads_for doubled_to
 four_buckets = refl

@@ -9,7 +9,7 @@ use Rattle.acc_table.proofs.Linking.{Opened, opened_some, at_bucket, apart, fram
 use Rattle.acc_table.proofs.Counting.{hit, miss, one_more_in, one_more_taken}
 use Rattle.acc_table.proofs.Finding.{not_None}
 
--- the list of the free rows has a first one, which is free
+-- the free list has a first row, which is free
 pub record FirstFree (os : List (Option ℕ)) (l : PlainLinks) (spare : List ℕ) : Type 0 where
   pub opened : Opened l.nexts l.free spare
   pub within : l.free < length os

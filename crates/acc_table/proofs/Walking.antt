@@ -1,4 +1,4 @@
--- Walks along a chain: what is still to come of it, and that it ends.
+-- Walks along a chain: what is still ahead, and that the chain ends.
 use Rattle.std.proofs.Common.{◌≡◌, ◌≢◌, ℕ, ◌+◌, ◌%◌, ◌<◌, ◌≤◌, inl, inr, List, [], ◌∷◌, length, get_or, Option, Some, None, sym, ap, ◌∙◌, subst, arith}
 use Rattle.std.proofs.lemmas.List.{get_or-map, get_or_read, length-map, nil_from_length}
 use Rattle.std.specs.List.{sum_by}
@@ -57,7 +57,7 @@ owner_at rows i d lt = get_or-map (λ r. r.pid) rows i d None lt
 absent_from : {T : Type 0} (rows : List (Place T)) (p : ℕ) → ((i : ℕ) → get_or (owners rows) i None ≢ Some p) → Absent p rows
 absent_from rows p h k d lt own = h k (owner_at rows k d lt ∙ own)
 
--- where the chain ends the packet has no row
+-- if the chain has ended, the packet has no row
 pub absent_at_end : {T : Type 0} (rows : List (Place T)) (nexts : List ℕ) (p at step : ℕ) → Seeks (owners rows) nexts p at step → at ≡ none → Absent p rows
 absent_at_end rows nexts p at step s e = absent_from rows p (none_left (owners rows) p s.rest (ended nexts at s.rest s.few s.chain e) s.ahead)
 
@@ -65,7 +65,7 @@ pub absent_after : {T : Type 0} (rows : List (Place T)) (nexts : List ℕ) (p at
 absent_after rows nexts p at step s e =
     absent_from rows p (none_left (owners rows) p s.rest (nil_from_length s.rest (omega (arith, s.short, e, length-map rows (λ r. r.pid)))) s.ahead)
 
--- so many of a chain are passed
+-- this number of a chain's places is passed
 pub record Counts (nexts : List ℕ) (at step all : ℕ) : Type 0 where
   pub rest : List ℕ
   pub chain : IsChain nexts at rest

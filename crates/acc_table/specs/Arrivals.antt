@@ -1,11 +1,11 @@
--- For proofs: what has come so far of each packet, by branch: a finite map from a packet's number.
+-- For proofs: what has arrived so far for each packet, by branch: a finite map from a packet's number.
 use Rattle.std.specs.Prelude.{ℕ, zero, suc, ◌*◌, ◌%◌, ◌<◌, ◌⊎◌, nat_eq, nat_le, cond, count_by, List, Option, Some, None, IsSome, replicate, slice_set, unwrap_or, Contains, refl}
 use Rattle.std.specs.Ordering.{nat_cmp}
 use Rattle.std.specs.Coded.{Coded, code_by, coded×, coded_ℕ, coded_list, coded_option}
 use Rattle.std.specs.FinMap as finite
 
--- room for so many packets, of so many branches each, and the packets of which something has come:
--- by its number what has come of it, by branch
+-- room for this number of packets, of this number of branches each, and the packets for which something has arrived:
+-- by the packet's number what has arrived for it, by branch
 pub record Table (T : Type 0) : Type 0 where
   pub entries : ℕ
   pub branches : ℕ
@@ -19,19 +19,19 @@ table_code {T} code =
     (λ p. record { entries = p.0; branches = p.1.0; waiting = p.1.1 })
     (λ _. refl)
 
--- of no branch has anything come
+-- nothing has arrived from any branch
 abbrev pub nothing : {T : Type 0} → ℕ → List (Option T)
 nothing branches = replicate branches None
 
--- what has come of the packet of this number, by branch
+-- what has arrived for the packet of this number, by branch
 abbrev pub arrivals : {T : Type 0} → Table T → ℕ → List (Option T)
 arrivals t pid = unwrap_or (finite.get t.waiting pid) (nothing t.branches)
 
--- what has come of it with the value of one more branch
+-- what has arrived for it with the value of one more branch
 abbrev pub with_arrival : {T : Type 0} → Table T → ℕ → ℕ → T → List (Option T)
 with_arrival t pid branch value = slice_set (arrivals t pid) branch (Some value)
 
--- something has come of it, and not all
+-- something has arrived for it, and not all
 abbrev pub IsOpen : {T : Type 0} → Table T → ℕ → Type 0
 IsOpen t pid = IsSome (finite.get t.waiting pid)
 
@@ -41,7 +41,7 @@ open_count t = finite.len t.waiting
 abbrev pub with_waiting : {T : Type 0} → Table T → finite.FinMap nat_cmp (List (Option T)) → Table T
 with_waiting t waiting = record t { waiting = waiting }
 
--- the table with this instead of what had come of the packet
+-- the table with this instead of what had arrived for the packet
 abbrev pub keeping : {T : Type 0} → Table T → ℕ → List (Option T) → Table T
 keeping t pid arrived = with_waiting t (finite.insert t.waiting pid arrived)
 
@@ -49,7 +49,7 @@ keeping t pid arrived = with_waiting t (finite.insert t.waiting pid arrived)
 abbrev pub forgetting : {T : Type 0} → Table T → ℕ → Table T
 forgetting t pid = with_waiting t (finite.remove t.waiting pid)
 
--- something more may come of this packet: it is open, or there is a place for it
+-- something more may arrive for this packet: it is open, or there is a place for it
 abbrev pub HasRoomFor : {T : Type 0} → Table T → ℕ → Type 0
 HasRoomFor t pid = IsOpen t pid ⊎ (open_count t < t.entries)
 
@@ -57,7 +57,7 @@ HasRoomFor t pid = IsOpen t pid ⊎ (open_count t < t.entries)
 abbrev pub IsOpenAmong : {T : Type 0} → Table T → List ℕ → Type 0
 IsOpenAmong t pids = (p : ℕ) → IsOpen t p → Contains pids p
 
--- the first of a number and its doubles, so many at most, that is at least this one
+-- the first of a number and its doubles, at most this many, that is at least this one
 unfoldable pub doubled_to : ℕ → ℕ → ℕ → ℕ
 doubled_to zero power least = power
 doubled_to (suc more) power least = cond (nat_le least power) power (doubled_to more (2 * power) least)
@@ -66,6 +66,6 @@ doubled_to (suc more) power least = cond (nat_le least power) power (doubled_to 
 unfoldable pub heads_for : ℕ → ℕ
 heads_for entries = doubled_to 16 1 entries
 
--- how many packets are open in this packet's bucket
+-- the number of packets that are open in this packet's bucket
 abbrev pub bucket_len : {T : Type 0} → Table T → ℕ → ℕ
 bucket_len t pid = count_by (λ p. nat_eq (p % heads_for t.entries) (pid % heads_for t.entries)) (finite.keys t.waiting)

@@ -1,13 +1,14 @@
--- For proofs: how the rows of a table are linked by their places: the free rows in one list, and in each bucket of numbers the rows of its packets.
+-- For proofs: how the rows of a table are linked: the free rows in one list, each bucket's rows in another.
 use Rattle.std.specs.Prelude.{ℕ, ◌+◌, ◌%◌, ◌≡◌, ◌<◌, ◌≤◌, ◌⊎◌, nat_eq, cond, List, [], ◌∷◌, Option, Some, None, length, map, slice_index_or, slice_set, sum_by}
 use Rattle.acc_table.specs.Arrivals.{heads_for}
 use Rattle.acc_table.specs.Rows.{AreKept, Place}
 
--- where no place follows
+-- if no place follows
 abbrev pub none : ℕ
 none = 4294967295
 
--- the place behind each place, the first place of each bucket, the first free place, and the number of places that aren't free
+-- the place after each place, the first place of each bucket, the first free place, and the number of places that
+-- aren't free
 pub record PlainLinks : Type 0 where
   pub nexts : List ℕ
   pub heads : List ℕ
@@ -23,7 +24,7 @@ abbrev pub Among : ℕ → List ℕ → Type 0
 Among i [] = ⊥
 Among i (x ∷ xs) = (i ≡ x) ⊎ Among i xs
 
--- whose each row is
+-- the owner of each row
 abbrev pub owners : {T : Type 0} → List (Place T) → List (Option ℕ)
 owners rows = map (λ r. r.pid) rows
 
@@ -35,7 +36,7 @@ abbrev pub one_in : ℕ → ℕ → Option ℕ → ℕ
 one_in buckets bucket None = 0
 one_in buckets bucket (Some p) = cond (nat_eq (p % buckets) bucket) 1 0
 
--- Each row of a packet stands in the list of its number's bucket, each free row in the list of the free, each once, and each list ends.
+-- Each packet's row is in the list of its number's bucket, each free row in the free list, each once; each list ends.
 pub record AreLinked (buckets : ℕ) (os : List (Option ℕ)) (l : PlainLinks) : Type 0 where
   pub chain : ℕ → List ℕ
   pub spare : List ℕ
@@ -52,7 +53,7 @@ pub record AreLinked (buckets : ℕ) (os : List (Option ℕ)) (l : PlainLinks) :
   pub spares : length spare + l.taken ≡ length os
   pub all : l.taken ≡ sum_by one_taken os
 
--- the first free place taken out, and put first into a bucket
+-- the first free place, taken out and put first into a bucket
 abbrev pub taking : PlainLinks → ℕ → PlainLinks
 taking l b =
     record {
@@ -70,17 +71,17 @@ pub record IsIn (l : PlainLinks) (b place : ℕ) : Type 0 where
   pub few : length l.nexts ≤ 65536
   pub among : Among place chain
 
--- the place of the bucket behind which this one comes, or none where it is the first
+-- the place of the bucket that this one follows, or none if it is the first
 abbrev pub IsBefore : PlainLinks → ℕ → ℕ → Option ℕ → Type 0
 IsBefore l b place None = slice_index_or l.heads b none ≡ place
 IsBefore l b place (Some before) = (before < length l.nexts) × (slice_index_or l.nexts before none ≡ place) × ((xs : List ℕ) → IsChain l.nexts (slice_index_or l.heads b none) xs → Among before xs)
 
--- the place is taken out of its bucket: what was before it has what was behind it
+-- the place is taken out of its bucket: what was before it now comes before what was after it
 abbrev pub unlinking : PlainLinks → ℕ → ℕ → Option ℕ → PlainLinks
 unlinking l b place None = record l { heads = slice_set l.heads b (slice_index_or l.nexts place none) }
 unlinking l b place (Some before) = record l { nexts = slice_set l.nexts before (slice_index_or l.nexts place none) }
 
--- and put first into the list of the free
+-- and put first into the free list
 abbrev pub freeing : PlainLinks → ℕ → PlainLinks
 freeing l place =
     record {

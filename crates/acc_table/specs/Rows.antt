@@ -3,7 +3,7 @@ use Rattle.std.specs.Prelude.{ℕ, ◌≡◌, ◌≢◌, ◌<◌, ◌≤◌, ◌
 use Rattle.std.specs.List.{AllPairs, HoldsAt}
 use Rattle.acc_table.specs.Arrivals.{nothing}
 
--- one row: whose it is, and what has come, by branch
+-- one row: its owner, and what has arrived, by branch
 pub record Place (T : Type 0) : Type 0 where
   pub pid : Option ℕ
   pub arrived : List (Option T)
@@ -34,7 +34,7 @@ pub record AreKept {T : Type 0} (branches : ℕ) (rs : List (Place T)) : Type 0 
   pub each : All (IsKept branches) rs
   pub once : Once rs
 
--- the place of this packet: its own, or where it has none a free one
+-- the place of this packet: its own, or a free one if it has none
 pub record IsPlaceFor {T : Type 0} (p : ℕ) (rs : List (Place T)) (i : ℕ) : Type 0 where
   pub within : i < length rs
   pub either : HoldsAt (λ r. r.pid ≡ Some p) rs i ⊎ (HoldsAt (λ r. r.pid ≡ None) rs i × Absent p rs)

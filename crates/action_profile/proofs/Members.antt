@@ -44,6 +44,6 @@ has_folded set (g ∷ fs) f =
 has_none : (f : Field) → has (record { 0 = 0 }) f ≡ false
 has_none f = ap (λ (b : ℕ). b == 1) (bit_at-zero (number_of f))
 
--- a field is in the set of a list where the list has it
+-- a field is in the set of a list if the list has it
 pub has_fields : (fs : List Field) (f : Field) → has (fields fs) f ≡ list_any (λ g. number_of g == number_of f) fs
 has_fields fs f = has_folded (record { 0 = 0 }) fs f ∙ ap (λ (b : Bool). b || list_any (λ g. number_of g == number_of f) fs) (has_none f)

@@ -30,7 +30,7 @@ untagger_writes = refl
 untagger_reads_no_address : reads_of (profile_of Untagger) SrcIp ≡ false
 untagger_reads_no_address = refl
 
--- both ends of a tunnel rewrite a packet whole and tell of no field
+-- both ends of a tunnel rewrite a packet whole and list no field
 entry_is_whole : profile_of Encap ≡ record { reads = record { 0 = 0 }; writes = record { 0 = 0 }; drops = false; state = false; counts = false; adds = false; removes = false; whole = true }
 entry_is_whole = refl
 

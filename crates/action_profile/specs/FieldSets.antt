@@ -7,7 +7,7 @@ use Rattle.packet_fields.specs.declared.field.Field.{Field}
 use Rattle.packet_fields.specs.declared.field.Field.TheVariants.{LinkDst, LinkSrc, Tag, Tos, Ttl, SrcIp, DstIp, SrcPort, DstPort, Payload}
 use Rattle.action_profile.specs.declared.field_set.FieldSet.{FieldSet}
 
--- a field is in a set where the bit of its number is 1
+-- a field is in a set if the bit of its number is 1
 abbrev pub has : FieldSet → Field → Bool
 has set f = bit_at set.0 (number_of f) == 1
 
@@ -27,7 +27,7 @@ joined a b = record { 0 = bit_or a.0 b.0 }
 abbrev pub all_fields : List Field
 all_fields = LinkDst ∷ LinkSrc ∷ Tag ∷ Tos ∷ Ttl ∷ SrcIp ∷ DstIp ∷ SrcPort ∷ DstPort ∷ Payload ∷ []
 
--- a set and one field more
+-- a set with one more field
 abbrev pub with_field : FieldSet → Field → FieldSet
 with_field set f = joined set (alone f)
 

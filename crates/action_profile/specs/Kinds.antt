@@ -28,6 +28,6 @@ kinds = Firewall ∷ Signature ∷ Nat ∷ Balancer ∷ Monitor ∷ Limiter ∷ 
 abbrev pub is_name_of : List ℕ → Kind → Bool
 is_name_of word kind = bytes_eq (kind_name kind) word
 
--- the kind that has this word for its name
+-- the kind with this name
 abbrev pub kind_named : List ℕ → Option Kind
 kind_named word = find (is_name_of word) kinds

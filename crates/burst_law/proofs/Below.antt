@@ -1,4 +1,4 @@
--- What the laws of graphs say, for functions of one type.
+-- The laws of graphs for functions of one type.
 use Rattle.std.proofs.Common.{◌≡◌, ℕ, List, length, map}
 use Rattle.std.specs.Prelude.{is_some, IsTrue}
 use Rattle.std.specs.List.{list_any}

@@ -63,7 +63,7 @@ tails_same e = cc
 is_or_not : (m n : ℕ) → (m ≡ n) ⊎ (m ≢ n)
 is_or_not m n = grind arith
 
--- a position that stands in a list stands first or later
+-- a position that is in a list is first or later
 times_elsewhere : (r q : ℕ) (qs : List ℕ) → q ≢ r → times r (q ∷ qs) ≡ times r qs
 times_elsewhere r q qs ne = let none : one_if (q == r) ≡ 0 = ap one_if (ne_eqb q r ne) in omega (arith, times-cons r q qs, none)
 

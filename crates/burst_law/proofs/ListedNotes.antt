@@ -1,4 +1,4 @@
--- A branch that settles what it listed, note by note, settles the notes of each packet, packet by packet.
+-- A branch that settles its list, note by note, settles the notes of each packet, packet by packet.
 use Rattle.std.proofs.Common.{◌≡◌, ◌≤◌, ◌+◌, ◌∙◌, ℕ, suc, List, ◌∷◌, [], ◌++◌, length, set, sym, ap, refl, arith, Bool, true, false, Some, None, if◌then◌else◌, append_assoc, length-append}
 use Rattle.std.specs.Prelude.{Option, slice_get, slice_index_or}
 use Rattle.std.proofs.Math.Seq.{set-append_seam}
@@ -27,7 +27,7 @@ unfolding settled_listed
 listed_append notes positions ends fs [] ys = refl
 listed_append notes positions ends fs (x ∷ xs) ys = listed_append notes positions ends (settled_one notes positions ends fs x) xs ys
 
--- what is settled of a row whose first note is this
+-- what is settled in a list whose first note is this
 pub all_nothing : {F N : Type 0} (notes : Notes F N) (fs : List F) (gone : ℕ → Bool) (qs : List ℕ) → settled_all notes fs (kept gone qs []) ≡ fs
 unfolding settled_all kept
 all_nothing notes [] gone qs = refl
@@ -42,7 +42,7 @@ none_choice : {F N : Type 0} (notes : Notes F N) (f : F) (c : Bool) → settled 
 none_choice notes f true = refl
 none_choice notes f false = refl
 
--- the notes of one packet, from a function on: those before it are left as they are
+-- the notes of one packet, from a function on: those before it stay
 row_settles : {F N : Type 0} (notes : Notes F N) (ends : List Message) (end : Message) (packet index : ℕ) (first later : List ℕ) (front back : List F) (row : List (Option N)) →
     slice_index_or ends packet (Lost 0) ≡ end → length first ≡ index → length front ≡ index → length back ≡ length later → length row ≤ length later →
     settled_listed notes (first ++ later) ends (front ++ back) (row_listed packet index row) ≡ front ++ settled_all notes back (kept (lost_before end) later row)
@@ -118,7 +118,7 @@ rows_settle {F} {N} notes positions before (end ∷ ends) packet fs (row ∷ row
     ∙ ap (λ l. settled_listed notes positions l next (rows_listed (packet + 1) rows)) (sym (append_assoc before (end ∷ []) ends))
     ∙ rows_settle notes positions (before ++ end ∷ []) ends (packet + 1) next rows (let n = length-append before (end ∷ []) in omega arith) (omega arith) (length_settled notes fs (kept (lost_before end) positions row) ∙ size) few.1
 
--- as many notes as functions, and functions stay as many
+-- as many notes as functions, and the number of functions stays
 turned_few : {F N : Type 0} (b : Behaviour F) (notes : Notes F N) (fixed : Fixed) (qs : List ℕ) (fs : List F) (a : BranchEnd) → length (turned_notes b notes fixed qs fs a) ≤ length qs
 unfolding turned_notes
 turned_few b notes fixed [] fs a = omega arith

@@ -1,4 +1,4 @@
--- What comes of each packet behind a stage.
+-- What becomes of each packet after a stage.
 use Rattle.std.proofs.Common.{◌≡◌, ◌+◌, ◌∙◌, ℕ, zero, suc, List, ◌∷◌, [], length, ap, refl, subst, arith, Some}
 use Rattle.std.specs.Prelude.{slice_get, zip}
 use Rattle.chain_walk.specs.Step.{Behaviour}

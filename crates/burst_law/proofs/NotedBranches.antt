@@ -1,4 +1,4 @@
--- The notes of packets may be settled one packet after another: without counting, what is settled changes nothing of what comes later.
+-- The notes of packets may be settled packet after packet: without counting, settling changes nothing later.
 use Rattle.std.proofs.Common.{◌≡◌, ◌∙◌, ℕ, List, ◌∷◌, [], map, sym, ap, refl, Bool, true, false, None, if◌then◌else◌}
 use Rattle.std.specs.Prelude.{Option, zip}
 use Rattle.action_profile.specs.declared.parts.Touch.{Touch}
@@ -37,7 +37,7 @@ fits_same b (f ∷ fs) (g ∷ gs) (_ ∷ made) same fit =
     let rest : map b.profile gs ≡ map b.profile fs = cc in
     (λ none. fit.0 (ap (λ q. q.counts) (sym here) ∙ none), fits_same b fs gs made rest fit.1)
 
--- one function, and what comes to it
+-- one function, and what arrives at it
 noted_fits : {F N : Type 0} (b : Behaviour F) (notes : Notes F N) (fixed : Fixed) (f : F) (a : BranchEnd) → (b.profile f).counts ≡ false → noted_of (quiet b) notes fixed f a ≡ None
 unfolding noted_of
 noted_fits b notes fixed f (Nil q) none = refl
@@ -117,7 +117,7 @@ kept_fits b gone (q ∷ qs) (f ∷ fs) (note ∷ made) fit = (λ none. go (gone 
     go true e = refl
     go false e = e
 
--- the functions of a branch behind one packet, once their notes of it are settled
+-- the functions of a branch after one packet, when their notes about it are settled
 abbrev pub turn_settled : {F N : Type 0} → Behaviour F → Notes F N → (ℕ → Bool) → Branch × Touch → List F → Message → List F
 turn_settled b notes gone x fs m = settled_all notes (branch_turn b x fs m).state (kept gone x.0.positions (branch_notes b notes x fs m))
 
@@ -139,7 +139,7 @@ turn_noted : {F N : Type 0} (b : Behaviour F) (notes : Notes F N) (x : Branch ×
 turn_noted b notes x fs made (Here fixed values) by_notes fit = turned_noted b notes fixed x.0.positions fs made (dealt x.1 values) by_notes fit
 turn_noted b notes x fs made (Lost p) by_notes fit = refl
 
--- all packets that come to a branch
+-- all packets that arrive at a branch
 stream_after : {F N : Type 0} (b : Behaviour F) (notes : Notes F N) (x : Branch × Touch) (fs : List F) (made : List (Option N)) (ms : List Message) → KeepsProfile (quiet b) → CountsByNotes b notes → Fits b fs made →
     ◌≡◌ {A = Turn (List F) (List BranchEnd)} (branch_stream (quiet b) x (settled_all notes fs made) ms) (record { state = settled_all notes (branch_stream (quiet b) x fs ms).state made; gives = (branch_stream (quiet b) x fs ms).gives })
 unfolding one_by_one
@@ -179,7 +179,7 @@ branch_split {F} {N} b notes end ends x fs m ms law by_notes =
     made : List (Option N)
     made = kept (lost_before end) x.0.positions (branch_notes (quiet b) notes x fs m)
 
--- the branches of a stage behind one packet
+-- the branches of a stage after one packet
 unfoldable pub stage_once : {F N : Type 0} → Behaviour F → Notes F N → (ℕ → Bool) → List (Branch × Touch) → List (List F) → Message → List (List F)
 stage_once b notes gone [] own m = own
 stage_once b notes gone (x ∷ posts) [] m = []
@@ -210,7 +210,7 @@ stage_gives {F} b notes gone s own m ms law by_notes =
     ap (λ t. t.gives) (burst_is_turns (quiet b) s own (m ∷ ms))
     ∙ ap (λ l. (stage_turn (quiet b) s own m).gives ∷ l) (ap (λ t. t.gives) (sym (burst_is_turns (quiet b) s next ms)) ∙ ap (λ streams. merged_from 0 ms streams) (streams_same b notes gone (zip s.branches s.parts.touches) own m ms law by_notes))
 
--- all stages behind one packet
+-- all stages after one packet
 unfoldable pub graph_once : {F N : Type 0} → Behaviour F → Notes F N → (ℕ → Bool) → List Stage → List (List (List F)) → Message → List (List (List F))
 graph_once b notes gone [] own m = own
 graph_once b notes gone (s ∷ stages) [] m = []

@@ -1,4 +1,4 @@
--- A burst behind which each branch settles its notes leaves the functions as packets that walk leave them.
+-- A burst after which each branch settles its notes leaves the functions as packets that walk leave them.
 use Rattle.std.proofs.Common.{◌≡◌, ◌∙◌, ℕ, List, ◌∷◌, [], length, map, sym, ap, refl, subst}
 use Rattle.std.specs.Prelude.{Option}
 use Rattle.chain_walk.specs.Counting.{quiet, IsQuiet}
@@ -23,7 +23,7 @@ use Rattle.burst_law.proofs.Bursting.{functions_once}
 use Rattle.burst_law.proofs.NotedBranches.{graph_once, graph_split, graph_none}
 use Rattle.burst_law.proofs.NotedPackets.{packet_is, graph_gone}
 
--- what the laws of graphs say of notes
+-- what the laws of graphs say about notes
 pub record BelowNotes (F N : Type 0) : Type 0 where
   pub walk : (b : Behaviour F) (notes : Notes F N) (fixed : Fixed) (position : ℕ) (functions : List F) (values : Values) → CountsByNotes b notes →
       ◌≡◌ {A = Ended F} (walk_fields b fixed position functions values)

@@ -1,4 +1,4 @@
--- One packet through all stages: each branch is left with those of the walk's functions that it owns, once its notes are settled.
+-- One packet through all stages leaves each branch with those of the walk's functions that it owns, with notes settled.
 use Rattle.std.proofs.Common.{◌≡◌, ◌≢◌, ◌<◌, ◌≤◌, ◌-◌, ◌∙◌, ℕ, zero, suc, List, ◌∷◌, [], length, map, set, sym, ap, refl, subst, arith, Bool, true, false, Some, None, if◌then◌else◌, length-set}
 use Rattle.std.specs.Prelude.{Option, slice_get, zip}
 use Rattle.std.specs.List.{cons_option}
@@ -118,7 +118,7 @@ stage_is {F} {N} b notes gone fixed (x ∷ branches) (t ∷ touches) values fs b
           (once_apart (length fs) x.positions later h q some);
     })
 
--- where nothing was noted nothing is settled
+-- if nothing was noted nothing is settled
 settled_nothing : {F N A : Type 0} (notes : Notes F N) (xs : List F) (gs : List A) → settled_all notes xs (map (λ g. None) gs) ≡ xs
 unfolding settled_all
 settled_nothing notes [] gs = refl
@@ -137,7 +137,7 @@ kept_nothing gone (q ∷ qs) = λ i. none_chosen (gone q) i ∷ kept_nothing gon
 row_nothing : {F N : Type 0} (notes : Notes F N) (gone : ℕ → Bool) (fs : List F) (qs : List ℕ) → settled_all notes fs (kept gone qs (map (λ q. None) qs)) ≡ fs
 row_nothing notes gone fs qs = ap (settled_all notes fs) (kept_nothing gone qs) ∙ settled_nothing notes fs qs
 
--- a packet that is gone leaves all functions, and nobody notes it
+-- a dropped packet changes no function, and no function notes it
 stage_gone : {F N : Type 0} (b : Behaviour F) (notes : Notes F N) (gone : ℕ → Bool) (posts : List (Branch × Touch)) (own : List (List F)) (p : ℕ) → stage_once b notes gone posts own (Lost p) ≡ own
 unfolding stage_once
 stage_gone b notes gone [] own p = refl

@@ -1,4 +1,4 @@
--- One packet's notes, settled among all functions of the chain by their positions, leave the functions as its walk leaves them.
+-- One packet's notes, settled among all functions of the chain by position, leave the functions as its walk does.
 use Rattle.std.proofs.Common.{◌≡◌, ◌≢◌, ◌≤◌, ◌-◌, ◌∙◌, ℕ, List, ◌∷◌, [], ◌++◌, length, map, sym, ap, refl, subst, arith, Bool, true, false, Some, None, if◌then◌else◌, length-set}
 use Rattle.std.specs.Prelude.{Option, slice_get}
 use Rattle.std.specs.List.{cons_option}
@@ -34,7 +34,7 @@ unfolding settled_placed
 placed_append notes gone fs [] ys = refl
 placed_append notes gone fs (x ∷ xs) ys = placed_append notes gone (settled_where notes gone fs x) xs ys
 
--- one note more of the function at position q, or none
+-- one more note of the function at position `q`, or none
 abbrev one_more : {F N : Type 0} → Notes F N → (ℕ → Bool) → ℕ → Option N → List F → List F
 one_more notes gone q None fs = fs
 one_more notes gone q (Some n) fs = settled_where notes gone fs (record { position = q; note = n })

@@ -1,4 +1,4 @@
--- Positions of a chain that stand once each, and the functions that stand there.
+-- Positions of a chain that occur once each, and the functions at them.
 use Rattle.std.proofs.Common.{subst, zero, suc, Some, ◌≡◌, ◌<◌, ◌≤◌, ◌+◌, ◌-◌, ℕ, List, ◌∷◌, [], ◌++◌, length, ap, refl, arith, inl, inr, eq-eqb, sym, ◌∙◌}
 use Rattle.std.specs.Prelude.{◌⊎◌, ◌==◌, slice_get}
 use Rattle.std.specs.List.{cons_option}
@@ -12,7 +12,7 @@ use Rattle.graph_compile.proofs.FiveFacts.{times-stages}
 use Rattle.graph_compile.proofs.Times.{times-cons, times-append}
 use Rattle.burst_law.specs.Owned.{owned, owned_in, owned_by}
 
--- each of these positions stands once, and is one of so many functions
+-- each of these positions occurs once, and is at most this number of functions
 pub record AreOnce (n : ℕ) (qs : List ℕ) : Type 0 where
   pub once : (q : ℕ) → times q qs ≤ 1
   pub within : (q : ℕ) → 1 ≤ times q qs → (1 ≤ q) × (q ≤ n)
@@ -44,7 +44,7 @@ once_back n xs ys h = record {
 pub once_apart : (n : ℕ) (xs ys : List ℕ) → AreOnce n (xs ++ ys) → (q : ℕ) → 1 ≤ times q xs → times q ys ≡ 0
 once_apart n xs ys h q some = let t = times-append q xs ys in let o = h.once q in omega arith
 
--- a stage and those behind it
+-- a stage and those after it
 pub stage_front : (n : ℕ) (s : Stage) (stages : List Stage) → AreOnce n (all_positions (s ∷ stages)) → AreOnce n (positions_of s.branches)
 stage_front n s stages h = record {
   once = λ q. let t = times-stages q s stages in let o = h.once q in omega arith;
@@ -66,7 +66,7 @@ behind_apart n s stages h q some = let t = times-stages q s stages in let o = h.
 in_or_out : (q n : ℕ) → ((1 ≤ q) × (q ≤ n)) ⊎ ((q < 1) ⊎ (n < q))
 in_or_out q n = grind arith
 
--- those of a lawful graph do
+-- those of a lawful graph occur once
 pub lawful_once : (graph : Graph) (chain : List Profile) → IsLawful graph chain → AreOnce (length chain) (all_positions graph.stages)
 lawful_once graph chain h = record { once = λ q. count q (in_or_out q (length chain)); within = λ q some. inside q some (in_or_out q (length chain)) }
   where
@@ -78,7 +78,7 @@ lawful_once graph chain h = record { once = λ q. count q (in_or_out q (length c
     inside q some (inl l) = l
     inside q some (inr o) = absurd (let none = h.no_other q o in omega arith)
 
--- the same functions stand at these positions
+-- the same functions are at these positions
 pub record AreSame {F : Type 0} (qs : List ℕ) (fs gs : List F) : Type 0 where
   pub same : (q : ℕ) → 1 ≤ times q qs → slice_get gs (q - 1) ≡ slice_get fs (q - 1)
 

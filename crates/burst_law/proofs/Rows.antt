@@ -22,7 +22,7 @@ use Rattle.burst_law.specs.Bursts.{Message, Message.Here, Message.Lost, stage_bu
 use Rattle.burst_law.specs.Copies.{graph_copies, chain_copies}
 use Rattle.burst_law.specs.Frames.{fates_of}
 
--- the fixed values play no part
+-- the fixed values don't matter
 abbrev fixed : Fixed
 fixed = record { time = 7; ether_type = Some 0x0800; proto = Some 17; ip_len = Some 28; tcp_flags = None }
 
@@ -33,8 +33,8 @@ only_tos tos f = if number_of f == number_of Tos then tos else None
 abbrev packet : List ℕ → Message
 packet tos = Here fixed (only_tos (Some tos))
 
--- functions that count their packets: from 0 on one that does nothing else, from 100 on one that drops its second packet, and from
--- 200 on one that writes its count as type of service
+-- functions that count their packets: from 0 on one that does nothing else, from 100 on one that drops its second
+-- packet, and from 200 on one that writes its count as type of service
 abbrev counted : ℕ → Shown → Step ℕ
 counted count shown = record {
   after = count + 1;
@@ -61,11 +61,11 @@ stages = stage_of (1 ∷ []) (2 ∷ 3 ∷ []) ∷ stage_of (4 ∷ []) (5 ∷ [])
 abbrev functions : List ℕ
 functions = 0 ∷ 100 ∷ 200 ∷ 0 ∷ 250 ∷ []
 
--- two packets, and one that a chain before has dropped
+-- two packets, and one that an earlier chain dropped
 abbrev packets : List Message
 packets = packet (7 ∷ []) ∷ packet (8 ∷ []) ∷ Lost 9 ∷ []
 
--- where a packet was dropped, and else its type of service
+-- the position that dropped a packet, or else its type of service
 abbrev told : Message → ℕ × Option (List ℕ)
 told (Here _ values) = (0, values Tos)
 told (Lost position) = (position, None)
@@ -76,12 +76,12 @@ owned_row = refl
 split_row : owned_by stages functions ≡ ((0 ∷ []) ∷ (100 ∷ 200 ∷ []) ∷ []) ∷ ((0 ∷ []) ∷ (250 ∷ []) ∷ []) ∷ []
 split_row = refl
 
--- what is short has nothing at a later place
+-- a list that is too short has nothing at a later place
 across_row : across {Y = ℕ} 1 ((5 ∷ 6 ∷ []) ∷ (7 ∷ []) ∷ (8 ∷ 9 ∷ []) ∷ []) ≡ 6 ∷ 9 ∷ []
 across_row = refl
 
--- the first branch sees both packets, the second drops the second packet at its first function, whose other function never sees it, and
--- the stage behind sees the first packet alone
+-- the first branch sees both packets; the second drops the second packet at its first function, and its other function
+-- never sees it; the stage after sees the first packet alone
 states_row : (graph_burst counting stages (owned_by stages functions) packets).state ≡ ((2 ∷ []) ∷ (102 ∷ 201 ∷ []) ∷ []) ∷ ((1 ∷ []) ∷ (251 ∷ []) ∷ []) ∷ []
 unfolding one_by_one along beside stage_burst turned moved_function moved_end merged least_nil latest gone_or
 states_row = refl
@@ -91,7 +91,7 @@ ends_row : map told (graph_burst counting stages (owned_by stages functions) pac
 unfolding one_by_one along beside stage_burst turned moved_function moved_end merged least_nil latest gone_or
 ends_row = refl
 
--- behind the first stage alone
+-- after the first stage alone
 stage_row : map told (stage_burst counting (stage_of (1 ∷ []) (2 ∷ 3 ∷ [])) ((0 ∷ []) ∷ (100 ∷ 200 ∷ []) ∷ []) packets).gives ≡ (0, Some (200 ∷ [])) ∷ (2, None) ∷ (9, None) ∷ []
 unfolding one_by_one beside stage_burst turned moved_function moved_end merged least_nil latest gone_or
 stage_row = refl
@@ -105,7 +105,7 @@ walked_row : map told (chain_burst counting functions packets).gives ≡ (0, Som
 unfolding one_by_one walk_fields
 walked_row = refl
 
--- each stage copies the type of service once: of both packets in the first, and of the one that is left in the second
+-- each stage copies the type of service once: for both packets in the first, and for the remaining one in the second
 copies_row : graph_copies counting stages Tos (owned_by stages functions) packets ≡ 3
 unfolding one_by_one along beside weight_along stage_burst turned moved_function moved_end merged least_nil latest gone_or copies mode_of
 copies_row = refl
@@ -119,7 +119,7 @@ no_copies_row : graph_copies counting stages Ttl (owned_by stages functions) pac
 unfolding one_by_one along beside weight_along stage_burst turned moved_function moved_end merged least_nil latest gone_or copies mode_of
 no_copies_row = refl
 
--- a packet that goes out has its own frame, with what was written of it; here nothing was
+-- a packet that goes out has its own frame, with what was written to it; here nothing was
 fates_row : fates_of (record { time = 0; frame = 10 ∷ [] } ∷ record { time = 1; frame = 11 ∷ [] } ∷ []) (Here fixed (only_tos None) ∷ Lost 3 ∷ []) ≡ Out (10 ∷ []) ∷ Gone 3 ∷ []
 unfolding written_in
 fates_row = refl

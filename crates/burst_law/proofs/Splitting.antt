@@ -43,7 +43,7 @@ in_turn_others {F} b fixed (q ∷ qs) fs a r low lows none =
     other : q ≢ r
     other e = let t = times_here q qs in let same : times q (q ∷ qs) ≡ times r (q ∷ qs) = ap (λ p. times p (q ∷ qs)) e in omega arith
 
--- the functions of a branch as it leaves them, and what comes from it
+-- the functions of a branch as it leaves them, and what leaves the branch
 abbrev pub parted : {F : Type 0} → List ℕ → Ran F → Turn (List F) BranchEnd
 parted qs r = record { state = owned qs r.functions; gives = r.arrival }
 

@@ -115,7 +115,7 @@ beside_branched {F} b fixed (x ∷ branches) (t ∷ touches) values fs below h =
           (once_apart (length fs) x.positions later h q some);
     })
 
--- a packet that is gone leaves all functions
+-- a dropped packet changes no function
 pub beside_gone : {F : Type 0} (b : Behaviour F) (branches : List Branch) (touches : List Touch) (own : List (List F)) (q : ℕ) →
     (beside (branch_turn b) (zip branches touches) own (Lost q)).state ≡ own
 unfolding beside
@@ -140,7 +140,7 @@ pub turn_is_staged : {F : Type 0} (b : Behaviour F) (fixed : Fixed) (stage : Sta
 turn_is_staged b fixed stage values fs below h =
     ap (λ t. record { state = t.state; gives = ended fixed (merged values t.gives) }) (beside_branched b fixed stage.branches stage.parts.touches values fs below h)
 
--- what stands in the stages behind one is left by it, and what stands in it is left by those
+-- the stages after one leave its part unchanged, and it leaves theirs unchanged
 pub left_by_stage : {F : Type 0} (b : Behaviour F) (fixed : Fixed) (s : Stage) (stages : List Stage) (values : Values) (fs : List F) → AreOnce (length fs) (all_positions (s ∷ stages)) →
     owned_by stages (staged b fixed s values fs).functions ≡ owned_by stages fs
 left_by_stage b fixed s stages values fs h = owned_by_same stages fs (staged b fixed s values fs).functions (record {

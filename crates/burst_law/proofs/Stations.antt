@@ -1,4 +1,4 @@
--- Values through stations: in whichever order, each station meets the same values in the same states.
+-- Values through stations: in either order, each station meets the same values in the same states.
 use Rattle.std.proofs.Common.{◌≡◌, ◌∙◌, ℕ, suc, List, ◌∷◌, [], ap, refl}
 use Rattle.std.specs.Prelude.{slice_get}
 use Rattle.std.specs.List.{cons_option}
@@ -78,7 +78,7 @@ streams_later step [] ss x xs k = refl
 streams_later step (p ∷ ps) [] x xs k = refl
 streams_later step (p ∷ ps) (s ∷ ss) x xs k = ap (cons_option (slice_get (one_by_one (step p) (step p s x).state xs).gives k)) (streams_later step ps ss x xs k)
 
--- a step that is another one seen otherwise, as long as something holds of the state
+-- a step that is another one under a view, as long as something holds for the state
 pub seen_otherwise : {S T X Y : Type 0} (Holds : S → Type 0) (see : S → T) (step : S → X → Turn S Y) (other : T → X → Turn T Y) (s : S) (xs : List X) → Holds s →
     ((s : S) (x : X) → Holds s → Holds (step s x).state) →
     ((s : S) (x : X) → Holds s → ◌≡◌ {A = Turn T Y} (other (see s) x) (record { state = see (step s x).state; gives = (step s x).gives })) →

@@ -29,7 +29,7 @@ use Rattle.burst_law.proofs.Positions.{AreOnce, behind_apart, stage_front, stage
 use Rattle.burst_law.proofs.Staging.{stage_turn, burst_is_turns, turn_is_staged, left_by_stage}
 use Rattle.burst_law.proofs.Stations.{through}
 
--- what a value weighs at the stations that it goes through
+-- the weight of a value at the stations that it goes through
 unfoldable weight_through : {P S X : Type 0} → (P → S → X → Turn S X) → (P → X → ℕ) → List P → List S → X → ℕ
 weight_through step weigh [] ss x = 0
 weight_through step weigh (p ∷ ps) [] x = 0
@@ -75,7 +75,7 @@ weight_same f g weigh (p ∷ ps) [] xs same = refl
 weight_same f g weigh (p ∷ ps) (s ∷ ss) xs same =
     ap (λ n. sum_by (weigh p) xs + n) (ap (λ t. weight_along f weigh ps ss t.gives) (same p s xs) ∙ weight_same f g weigh ps ss (g p s xs).gives same)
 
--- a position that stands in stages is one of theirs
+-- a position that is in stages is one of theirs
 branch_times : (q : ℕ) (branches : List Branch) → list_any (holds q) branches ≡ true → 1 ≤ times q (positions_of branches)
 branch_times q [] e = absurd cc
 branch_times q (x ∷ branches) e = go (holds q x) refl e (λ h. branch_times q branches h)
@@ -92,7 +92,7 @@ stage_times q (s ∷ stages) e = go (stands q s) refl e (λ h. stage_times q sta
     go true is e later = let c = branch_times q s.branches is in let t = times-stages q s stages in omega arith
     go false is e later = let c = later e in let t = times-stages q s stages in omega arith
 
--- one that stands behind a stage doesn't stand in it
+-- a position after a stage isn't in it
 not_in_both : (n q : ℕ) (s : Stage) (stages : List Stage) → AreOnce n (all_positions (s ∷ stages)) → list_any (stands q) stages ≡ true → stands q s ≡ false
 not_in_both n q s stages h e = go (stands q s) refl
   where
@@ -100,14 +100,14 @@ not_in_both n q s stages h e = go (stands q s) refl
     go false is = is
     go true is = absurd (let c = branch_times q s.branches is in let none = behind_apart n s stages h q (stage_times q stages e) in omega arith)
 
--- a packet that is gone makes no copies
+-- a dropped packet makes no copies
 gone_weighs : {F : Type 0} (b : Behaviour F) (f : Field) (stages : List Stage) (own : List (List (List F))) (q : ℕ) → weight_through (stage_turn b) (due_in f) stages own (Lost q) ≡ 0
 unfolding weight_through
 gone_weighs b f [] own q = refl
 gone_weighs b f (s ∷ stages) [] q = refl
 gone_weighs b f (s ∷ stages) (o ∷ own) q = let rest = gone_weighs b f stages own q in omega arith
 
--- what is behind a stage, where the packet has the field
+-- the stages after one, if the packet has the field
 after_stage : (f : Field) (s : Stage) (stages : List Stage) (fixed : Fixed) (values : Values) (end last : End) (rest : ℕ) → rest ≡ copies_for stages f (ended fixed end) (ended fixed last) →
     ((after : Values) → end ≡ Out after → is_some (after f) ≡ is_some (values f)) → ((q : ℕ) → end ≡ Gone q → (last ≡ Gone q) × (stands q s ≡ true)) → ((after : Values) (q : ℕ) → end ≡ Out after → last ≡ Gone q → stands q s ≡ false) →
     due_in f s (Here fixed values) + rest ≡ copies_for (s ∷ stages) f (Here fixed values) (ended fixed last)

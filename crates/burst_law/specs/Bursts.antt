@@ -1,4 +1,4 @@
--- For proofs: a burst of packets through the stages of a graph: in each, every branch takes all packets, in their order.
+-- For proofs: a burst of packets through the stages of a graph: every branch takes all packets, in their order.
 use Rattle.std.specs.Prelude.{ℕ, suc, List, [], ◌∷◌, zip}
 use Rattle.action_profile.specs.declared.parts.Touch.{Touch}
 use Rattle.chain_walk.specs.Shown.{Values}
@@ -12,7 +12,7 @@ use Rattle.graph_law.specs.Merging.{merged}
 use Rattle.burst_law.specs.Owned.{turned}
 use Rattle.burst_law.specs.Stations.{Turn, one_by_one, along, beside, across}
 
--- A packet between two stages: the values that no function writes and the values of its fields, or the position of the function that dropped it.
+-- A packet between stages: its fields' values and those that no function writes, or the position that dropped it.
 pub data Message : Type 0 where
   Here : (fixed : Fixed) (values : Values) → Message
   Lost : (position : ℕ) → Message
@@ -22,12 +22,12 @@ abbrev pub ended : Fixed → End → Message
 ended fixed (Out values) = Here fixed values
 ended fixed (Gone p) = Lost p
 
--- what comes of a packet behind a stage
+-- what becomes of a packet after a stage
 abbrev pub behind : Message → List BranchEnd → Message
 behind (Here fixed values) arrivals = ended fixed (merged values arrivals)
 behind (Lost p) arrivals = Lost p
 
--- a branch, which is dealt what it touches of a packet; one that is gone passes on as such
+-- a branch, which gets what it touches of a packet; a dropped packet passes as such
 abbrev pub branch_turn : {F : Type 0} → Behaviour F → Branch × Touch → List F → Message → Turn (List F) BranchEnd
 branch_turn b x fs (Here fixed values) = turned b fixed x.0.positions fs (dealt x.1 values)
 branch_turn b x fs (Lost p) = record { state = fs; gives = Nil p }
@@ -36,7 +36,7 @@ branch_turn b x fs (Lost p) = record { state = fs; gives = Nil p }
 abbrev pub branch_stream : {F : Type 0} → Behaviour F → Branch × Touch → List F → List Message → Turn (List F) (List BranchEnd)
 branch_stream b x fs ms = one_by_one (branch_turn b x) fs ms
 
--- what comes of the packets from this place on, of which each branch gave these
+-- what becomes of the packets from this place on, for which each branch gave these results
 abbrev pub merged_from : ℕ → List Message → List (List BranchEnd) → List Message
 merged_from k [] streams = []
 merged_from k (m ∷ ms) streams = behind m (across k streams) ∷ merged_from (suc k) ms streams
@@ -45,7 +45,7 @@ merged_from k (m ∷ ms) streams = behind m (across k streams) ∷ merged_from (
 abbrev pub stage_streams : {F : Type 0} → Behaviour F → Stage → List (List F) → List Message → Turn (List (List F)) (List (List BranchEnd))
 stage_streams b stage own ms = beside (branch_stream b) (zip stage.branches stage.parts.touches) own ms
 
--- and what comes of the packets behind them
+-- and what becomes of the packets after them
 unfoldable pub stage_burst : {F : Type 0} → Behaviour F → Stage → List (List F) → List Message → Turn (List (List F)) (List Message)
 stage_burst b stage own ms = record {
   state = (stage_streams b stage own ms).state;
@@ -56,7 +56,7 @@ stage_burst b stage own ms = record {
 abbrev pub graph_burst : {F : Type 0} → Behaviour F → List Stage → List (List (List F)) → List Message → Turn (List (List (List F))) (List Message)
 graph_burst b stages own ms = along (stage_burst b) stages own ms
 
--- the walk of a packet, where it is still there, from the function at this position on
+-- the walk of a packet, if it is still there, from the function at this position on
 abbrev pub chain_turn : {F : Type 0} → Behaviour F → ℕ → List F → Message → Turn (List F) Message
 chain_turn b position fs (Here fixed values) = record {
   state = (walk_fields b fixed position fs values).functions;

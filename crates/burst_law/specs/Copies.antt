@@ -14,22 +14,22 @@ abbrev pub due_in : Field → Stage → Message → ℕ
 due_in f stage (Here fixed values) = if is_some (values f) then copies stage.parts f else 0
 due_in f stage (Lost p) = 0
 
--- the stages that a packet reaches which ends so: all where it goes out, and else those up to the one in which the
--- function stands that dropped it
+-- The stages that a packet with this end reaches: all if it goes out, and else those up to the one with the
+-- function that dropped it.
 abbrev pub reached_by : List Stage → Message → List Stage
 reached_by [] end = []
 reached_by (s ∷ later) (Here fixed values) = s ∷ reached_by later (Here fixed values)
 reached_by (s ∷ later) (Lost p) = s ∷ (if stands p s then [] else reached_by later (Lost p))
 
--- the copies of a field that are made of a packet which comes so, and ends so
+-- the copies of a field that are made of a packet that arrives so, and ends so
 abbrev pub copies_for : List Stage → Field → Message → Message → ℕ
 copies_for stages f (Here fixed values) end = if is_some (values f) then sum_by (λ s. copies s.parts f) (reached_by stages end) else 0
 copies_for stages f (Lost p) end = 0
 
--- of packets that walk through the chain
+-- for packets that walk through the chain
 abbrev pub chain_copies : {F : Type 0} → Behaviour F → List Stage → Field → List F → List Message → ℕ
 chain_copies b stages f fs ms = sum_by (λ x. copies_for stages f x.0 x.1) (zip ms (chain_burst b fs ms).gives)
 
--- of a burst, stage by stage
+-- for a burst, stage by stage
 abbrev pub graph_copies : {F : Type 0} → Behaviour F → List Stage → Field → List (List (List F)) → List Message → ℕ
 graph_copies b stages f own ms = weight_along (stage_burst b) (due_in f) stages own ms

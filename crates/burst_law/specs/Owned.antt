@@ -7,7 +7,7 @@ use Rattle.graph_compile.specs.declared.graph.Stage.{Stage}
 use Rattle.graph_law.specs.Branches.{BranchEnd, moved_function, moved_end}
 use Rattle.burst_law.specs.Stations.{Turn, then_state}
 
--- the functions that stand at these positions of a chain, which count from 1
+-- the functions at these positions of a chain, which count from 1
 abbrev pub owned : {F : Type 0} → List ℕ → List F → List F
 owned positions fs = filter_map (λ q. slice_get fs (q - 1)) positions
 
@@ -19,7 +19,7 @@ owned_in branches fs = map (λ x. owned x.positions fs) branches
 abbrev pub owned_by : {F : Type 0} → List Stage → List F → List (List (List F))
 owned_by stages fs = map (λ s. owned_in s.branches fs) stages
 
--- the functions of a branch, which have these positions, one after another on what comes to it
+-- the functions of a branch, which have these positions, one after another on what arrives
 unfoldable pub turned : {F : Type 0} → Behaviour F → Fixed → List ℕ → List F → BranchEnd → Turn (List F) BranchEnd
 turned b fixed [] fs a = record { state = fs; gives = a }
 turned b fixed (q ∷ qs) [] a = record { state = []; gives = a }

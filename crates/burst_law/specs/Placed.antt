@@ -1,4 +1,4 @@
--- For proofs: one packet's notes, each with the position of the function that made it, settled among all functions of the chain.
+-- For proofs: one packet's notes, each with its function's position, settled among all functions of the chain.
 use Rattle.std.specs.Prelude.{ℕ, ◌-◌, List, [], ◌∷◌, ◌++◌, Bool, if◌then◌else◌, set, slice_get, Option, Some, None}
 use Rattle.chain_walk.specs.Notes.{Notes}
 use Rattle.graph_compile.specs.declared.graph.Branch.{Branch}
@@ -28,12 +28,12 @@ placed_by [] rows = []
 placed_by (s ∷ stages) [] = []
 placed_by (s ∷ stages) (row ∷ rows) = placed_in s.branches row ++ placed_by stages rows
 
--- the function at the note's position, where there is one, settles it
+-- the function at the note's position, if there is one, settles it
 unfoldable pub settled_there : {F N : Type 0} → Notes F N → PlacedNote N → Option F → List F → List F
 settled_there notes o None fs = fs
 settled_there notes o (Some f) fs = set fs (o.position - 1) (notes.settle f o.note)
 
--- a note is left where the packet was dropped before its position, and else settled
+-- a note is skipped if the packet was dropped before its position, and else settled
 abbrev pub settled_where : {F N : Type 0} → Notes F N → (ℕ → Bool) → List F → PlacedNote N → List F
 settled_where notes gone fs o = if gone o.position then fs else settled_there notes o (slice_get fs (o.position - 1)) fs
 

@@ -1,4 +1,4 @@
--- For proofs: values on their way through stations, each of which finds its state as the value before left it.
+-- For proofs: values on their way through stations, each of which is in the state in which the value before left it.
 use Rattle.std.specs.Prelude.{ℕ, ◌+◌, List, [], ◌∷◌, slice_get, filter_map}
 use Rattle.std.specs.List.{sum_by}
 
@@ -27,7 +27,7 @@ along step [] ss xs = record { state = ss; gives = xs }
 along step (p ∷ ps) [] xs = record { state = []; gives = xs }
 along step (p ∷ ps) (s ∷ ss) xs = then_state (step p s xs).state (along step ps ss (step p s xs).gives)
 
--- one and the same value to stations side by side
+-- the same value to stations side by side
 unfoldable pub beside : {P S X Y : Type 0} → (P → S → X → Turn S Y) → List P → List S → X → Turn (List S) (List Y)
 beside step [] ss x = record { state = ss; gives = [] }
 beside step (p ∷ ps) [] x = record { state = []; gives = [] }
@@ -37,7 +37,7 @@ beside step (p ∷ ps) (s ∷ ss) x = then_both (step p s x) (beside step ps ss 
 abbrev pub across : {Y : Type 0} → ℕ → List (List Y) → List Y
 across k streams = filter_map (λ stream. slice_get stream k) streams
 
--- what all values weigh, each at each station to which they come
+-- the weight of all values, each at each station that it reaches
 unfoldable pub weight_along : {P S X : Type 0} → (P → S → List X → Turn S (List X)) → (P → X → ℕ) → List P → List S → List X → ℕ
 weight_along step weigh [] ss xs = 0
 weight_along step weigh (p ∷ ps) [] xs = 0

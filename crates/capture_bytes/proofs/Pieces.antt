@@ -1,4 +1,4 @@
--- How the pieces that a read gives add up.
+-- How the pieces that reads give add up.
 use Rattle.std.proofs.Common.{◌≡◌, ◌≢◌, ◌≤◌, ◌<◌, ◌+◌, ◌++◌, ◌∙◌, ℕ, List, length, take, drop, refl, ap, sym, subst, length-append, length-drop, arith}
 use Rattle.std.specs.Prelude.{Option, Some, None, MatchOption}
 use Rattle.std.proofs.Math.Seq.{take-add, take-append-add}
@@ -8,7 +8,7 @@ use Rattle.nfp_outside.specs.declared.slot.Slot.TheVariants.{Capture}
 use Rattle.nfp_outside.specs.Outside.{SlotView, Reads, Takes}
 use Rattle.capture_bytes.specs.Filling.{Fills, FillsFrom}
 
--- so many of the bytes that were left are at the front of the buffer
+-- this number of the bytes that remained is at the front of the buffer
 pub record IsFront (done : ℕ) (bytes buffer : List ℕ) (now : Option (List ℕ)) : Type 0 where
   pub some_left : done ≤ length bytes
   pub front : take done buffer ≡ take done bytes
@@ -38,7 +38,7 @@ told_more buffer piece done k (Some bytes) mid new within reads told =
       rest = takes.rest ∙ ap (λ l. Some l) (drop-drop k done bytes);
     }
 
--- one piece more
+-- one more piece
 pub filled_more : {D : Type 0} (slots : D → Slot → SlotView) (buffer piece : List ℕ) (done k : ℕ) (old mid new : D) → HasFilled slots buffer done old mid →
     length piece + done ≡ length buffer → Reads k piece (slots mid Capture) (slots new Capture) → (slots mid Capture).faults ≤ (slots new Capture).faults →
     ((s : Slot) → s ≢ Capture → slots new s ≡ slots mid s) → HasFilled slots (take done buffer ++ piece) (done + k) old new
@@ -50,7 +50,7 @@ filled_more slots buffer piece done k old mid new so_far room reads later others
   others = λ s other. others s other ∙ so_far.others s other;
 }
 
--- a read that gave nothing: nothing more was left
+-- a read that gave nothing: nothing more remained
 told_end : (buffer piece : List ℕ) (done : ℕ) (before : Option (List ℕ)) (mid new : SlotView) → done ≤ length buffer → 0 < length piece → Reads 0 piece mid new →
     MatchOption before (mid.bytes ≡ None) (λ bytes. IsFront done bytes buffer mid.bytes) → MatchOption before (new.bytes ≡ None) (λ bytes. FillsFrom done bytes (take done buffer ++ piece) new)
 told_end buffer piece done None mid new within some reads told = subst (λ o. MatchOption o (new.bytes ≡ None) (λ bytes. Takes 0 bytes piece new)) told reads.told

@@ -1,9 +1,9 @@
--- For proofs: what reading up to a number of bytes takes off what is left in a slot.
+-- For proofs: how reading up to a number of bytes takes bytes off those that remain in a slot.
 use Rattle.std.specs.Prelude.{◌≡◌, ◌≤◌, ◌<◌, ℕ, List, ◌++◌, length, take, drop, Some, None, MatchOption}
 use Rattle.std.specs.Option.{option_map}
 use Rattle.nfp_outside.specs.Outside.{SlotView}
 
--- the first k bytes that were left are at the front of the buffer; fewer than it holds only where no more were left
+-- the first `k` bytes that remained are at the front of the buffer; fewer than it holds only if no more remained
 pub record FillsFrom (k : ℕ) (bytes buffer : List ℕ) (new : SlotView) : Type 0 where
   pub some_left : k ≤ length bytes
   pub front : take k buffer ≡ take k bytes

@@ -1,4 +1,4 @@
--- For proofs: what a buffer that was filled says of what was left, and how takings add up.
+-- For proofs: what a filled buffer says about the bytes that remained, and how steps of taking add up.
 use Rattle.std.proofs.Common.{◌≡◌, ◌≤◌, ◌+◌, ◌-◌, ◌∙◌, ℕ, List, [], ◌++◌, length, take, drop, refl, ap, sym, subst, length-append, length-drop, arith}
 use Rattle.std.specs.Prelude.{Option, Some, None, MatchOption, IfSome}
 use Rattle.std.specs.Option.{option_map}
@@ -10,7 +10,7 @@ use Rattle.std.proofs.lemmas.List.{drop-drop, length-take-le}
 use Rattle.nfp_outside.specs.Outside.{SlotView, TakesFront}
 use Rattle.capture_bytes.specs.Filling.{Fills, FillsFrom, unread}
 
--- what a slot shows after a filled buffer, by what it showed
+-- what a slot shows after a filled buffer, by what it showed before
 pub told_some : (k : ℕ) (buffer bytes : List ℕ) (old new : SlotView) → Fills k buffer old new → old.bytes ≡ Some bytes → FillsFrom k bytes buffer new
 told_some k buffer bytes old new fills is = subst (λ o. MatchOption o (new.bytes ≡ None) (λ left. FillsFrom k left buffer new)) is fills.told
 
@@ -32,7 +32,7 @@ fills_taken k buffer old new fills = record {
       (λ (bytes : List ℕ) (is : old.bytes ≡ Some bytes). (k, fills.within, (told_some k buffer bytes old new fills is).rest));
 }
 
--- two takings are one
+-- two steps of taking are one
 pub taken_twice : (a b : ℕ) (x y z : SlotView) → TakesFront a x y → TakesFront b y z → TakesFront (a + b) x z
 taken_twice a b x y z first second = record { same_name = second.same_name ∙ first.same_name; told = twice x.bytes first.told }
   where
@@ -50,7 +50,7 @@ taken_less a b x y less taken = record { same_name = taken.same_name; told = mor
     more None h = h
     more (Some bytes) h = (h.0, omega (arith, h.1), h.2)
 
--- what was filled behind bytes that were read before
+-- what was filled after bytes that were read before
 fills_more : (first bytes buffer : List ℕ) (k : ℕ) (new : SlotView) → FillsFrom k bytes buffer new → FillsFrom (length first + k) (first ++ bytes) (first ++ buffer) new
 fills_more first bytes buffer k new fills = record {
   some_left = omega (arith, fills.some_left, length-append first bytes);
@@ -89,7 +89,7 @@ put_end done buffer piece within room =
     middle : (done : ℕ) (buffer piece : List ℕ) → done ≤ length buffer → length piece + done ≡ length buffer → length piece ≡ length (mid_of done (length buffer - done) buffer)
     middle done buffer piece within room = let e : length (mid_of done (length buffer - done) buffer) ≡ length buffer - done = length-take-le (length buffer - done) (drop done buffer) (omega (arith, length-drop done buffer)) in omega (arith, e)
 
--- a buffer with known bytes at its front, whose other n were written anew
+-- a buffer with known bytes at its front, whose other `n` were written anew
 pub put_behind : (n : ℕ) (first buffer piece : List ℕ) → take (length first) buffer ≡ first → length first + n ≡ length buffer → length piece ≡ length (mid_of (length first) n buffer) →
     put_mid (length first) n buffer piece ≡ first ++ piece
 put_behind n first buffer piece front whole size =

@@ -1,4 +1,4 @@
--- For proofs: how numbers and their bytes go together.
+-- For proofs: laws of numbers and their bytes.
 use Rattle.std.proofs.Common.{◌≡◌, ◌≤◌, ◌<◌, ◌+◌, ◌-◌, ◌^◌, ◌∙◌, ℕ, zero, suc, List, [], ◌∷◌, length, take, drop, get_or, refl, ap, sym, length-drop, arith}
 use Rattle.std.proofs.lemmas.List.{get_or-drop, drop-take}
 use Rattle.std.proofs.lemmas.Nat.{le_bytes_2, le_bytes_4, be_bytes_2, be_bytes_4}
@@ -42,7 +42,7 @@ first_2 Big (a ∷ b ∷ xs) long small = be_bytes_2 (a ∷ b ∷ []) (number_at
 first_2 Little (a ∷ b ∷ xs) long small = le_bytes_2 (a ∷ b ∷ []) (number_at Little 2 0 (a ∷ b ∷ xs)) refl (two a b xs small) (omega arith)
 first_2 order xs long small = absurd (omega arith)
 
--- the bytes of what follows are bytes
+-- the bytes of the rest are bytes
 pub bytes_behind : (n : ℕ) (xs : List ℕ) → IsBytes xs → IsBytes (drop n xs)
 bytes_behind n xs small i = rw (get_or-drop n xs i 0) (small (n + i))
 

@@ -4,12 +4,12 @@ use Rattle.byteorder.specs.Endian.{big_number, little_number, big_bytes, little_
 use Rattle.capture_bytes.specs.declared.order.Endian.{Endian}
 use Rattle.capture_bytes.specs.declared.order.Endian.TheVariants.{Big, Little}
 
--- the number in n bytes at a place, in this order
+-- the number in `n` bytes at a place, in this order
 abbrev pub number_at : Endian → ℕ → ℕ → List ℕ → ℕ
 number_at Big n at bytes = big_number n (drop at bytes)
 number_at Little n at bytes = little_number n (drop at bytes)
 
--- the n bytes of a number, in this order
+-- the `n` bytes of a number, in this order
 abbrev pub bytes_of : Endian → ℕ → ℕ → List ℕ
 bytes_of Big n x = big_bytes n x
 bytes_of Little n x = little_bytes n x

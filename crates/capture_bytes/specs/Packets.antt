@@ -1,4 +1,4 @@
--- Believed: a packet as a capture has it.
+-- Believed: a packet in a capture.
 use Rattle.std.specs.Prelude.{◌≤◌, ◌+◌, ◌*◌, ℕ, length}
 use Rattle.capture_bytes.specs.declared.packet.PcapRecord.{PcapRecord}
 use Rattle.capture_bytes.specs.declared.packet.Unit.{Unit as TimeUnit}
@@ -9,6 +9,6 @@ abbrev pub time_of : TimeUnit → PcapRecord → ℕ
 time_of Micro r = r.seconds * 1000000000 + r.fraction * 1000
 time_of Nano r = r.seconds * 1000000000 + r.fraction
 
--- a frame of a length that is accepted
+-- a frame of an accepted length
 abbrev pub IsShort : PcapRecord → Type 0
 IsShort r = length r.frame ≤ 262144

@@ -17,7 +17,7 @@ use Rattle.chain_walk.specs.FieldWalk.{End.Out, End.Gone, Ended, walk_fields, wa
 use Rattle.chain_walk.specs.declared.fixed.Fixed.{Fixed}
 use Rattle.chain_walk.proofs.WellFormedFields.{old_tags, old_length}
 
--- Values for a frame: each can stand in its field's place, and there is one wherever the frame has the field.
+-- Values for a frame: each fits its field's place, and there is one exactly when the frame has the field.
 pub record IsFilled (values : Values) (frame : List ℕ) : Type 0 where
   pub fits : AllFit values frame
   pub whole : (f : Field) → over values (fields_of frame) f ≡ values f
@@ -33,14 +33,14 @@ own_filled frame = record { fits = fields_fit frame; whole = λ f. or_itself (va
 same_values : (v w : Values) → ((f : Field) → v f ≡ w f) → v ≡ w
 same_values v w same = λ i f. same f i
 
--- what stands in the frame once it is filled
+-- what the frame holds after it is filled
 pub filled_values : (values : Values) (frame : List ℕ) → IsFilled values frame → fields_of (written values frame) ≡ values
 filled_values values frame filled = same_values (fields_of (written values frame)) values (λ f. value-written values frame filled.fits f ∙ filled.whole f)
 
 same_fixed : (time : ℕ) (values : Values) (frame : List ℕ) → SameFixed frame (written values frame) → fixed_of time (written values frame) ≡ fixed_of time frame
 same_fixed time values frame same = cc
 
--- bytes of the length of others have the length of what those stand for
+-- bytes of the length of others have the length of the bytes that those replace
 has_length : (new old own : Option (List ℕ)) → IfSome new (λ n. IsSomeAnd old (λ o. length n ≡ length o)) → IfSome old (λ o. IsSomeAnd own (λ w. length o ≡ length w)) → IfSome new (λ n. IsSomeAnd own (λ w. length n ≡ length w))
 has_length None old own a b = tt
 has_length (Some n) None own a b = absurd a
@@ -76,7 +76,7 @@ whole_or : (new old own : Option (List ℕ)) → option_or old own ≡ old → o
 whole_or None old own h = h
 whole_or (Some n) old own h = refl
 
--- a frame stays filled by what a step writes over its values
+-- a frame stays filled after a step writes over its values
 step_fills : {F : Type 0} (b : Behaviour F) (fixed : Fixed) (f : F) (values : Values) (frame : List ℕ) → KeepsProfile b → IsFilled values frame →
     IsFilled (over (stepped b fixed f values).written values) frame
 step_fills b fixed f values frame keeps filled = record {
@@ -131,7 +131,7 @@ ends_filled b fixed position (f ∷ later) values after frame keeps filled is =
     ends_filled b fixed (position + 1) later (over (stepped b fixed f values).written values) after frame keeps (step_fills b fixed f values frame keeps filled)
     (if_out (is_drop (stepped b fixed f values).verdict) (stepped b fixed f values).after later position (walk_fields b fixed (position + 1) later (over (stepped b fixed f values).written values)) after is)
 
--- values that fill a frame fill what is left of it
+-- values that fill a frame also fill the frame without its fields
 over_blank : (f : Field) (new own : Option (List ℕ)) → option_or new own ≡ new → option_or new (option_map (blank f) own) ≡ new
 over_blank f None None h = refl
 over_blank f None (Some w) h = absurd cc
@@ -142,7 +142,7 @@ built_again values frame filled =
     written-written values (blanks frame) frame filled.fits (blanks_fit frame)
     ∙ ap (λ (v : Values). written v frame) (same_values (over values (blanks frame)) values (λ f. over_blank f (values f) (value f frame) (filled.whole f)))
 
--- so a frame is put together of what is left of it, its own fields and what a step wrote over them
+-- so a frame is joined from the frame without its fields, its own fields and what a step wrote over them
 pub put_together : {F : Type 0} (b : Behaviour F) (fixed : Fixed) (f : F) (frame : List ℕ) → KeepsProfile b →
     written (over (stepped b fixed f (fields_of frame)).written (fields_of frame)) (rest_of frame) ≡ written (stepped b fixed f (fields_of frame)).written frame
 put_together b fixed f frame keeps =

@@ -1,4 +1,4 @@
--- Packets in a row, and the positions at which they may be gone.
+-- Packets in a row, and the positions at which they may be dropped.
 use Rattle.std.proofs.Common.{◌≡◌, ◌≤◌, ◌+◌, ℕ, suc, Bool, true, false, List, [], ◌∷◌, ◌++◌, length, ap, refl, arith}
 use Rattle.std.specs.Prelude.{if◌then◌else◌}
 use Rattle.chain_walk.specs.Step.{Behaviour, is_drop}
@@ -22,7 +22,7 @@ unfolding fates
 count_of_fates b functions [] = refl
 count_of_fates b functions (p ∷ packets) = let rest = count_of_fates b (walk b p.time 1 functions p.frame).functions packets in omega (arith, rest)
 
--- a packet that is gone is so at a position from the first on, of so many
+-- a packet that was dropped was dropped at a position from the first on, below this number
 abbrev IsGoneFrom : ℕ → ℕ → Fate → Type 0
 IsGoneFrom first n (Out frame) = Unit {0}
 IsGoneFrom first n (Gone position) = (first ≤ position) × (position + 1 ≤ first + n)

@@ -1,4 +1,4 @@
--- Functions whose counting is left out keep to their profiles, and those that count are quiet.
+-- Functions whose counting is left out obey their profiles, and those that count are quiet.
 use Rattle.std.proofs.Common.{◌≡◌, length, ap, refl, Bool, true, false, None, if◌then◌else◌}
 use Rattle.std.specs.Prelude.{◌+◌, ◌≤◌, drop, IfSome, IsSomeAnd}
 use Rattle.packet_fields.specs.Frames.{is_tag_list}
@@ -7,7 +7,7 @@ use Rattle.chain_walk.specs.Counting.{idle, quiet, IsQuiet}
 use Rattle.chain_walk.specs.Laws.{KeepsProfile}
 use Rattle.chain_walk.specs.Step.{Step, Behaviour, stepped, is_drop}
 
--- what holds of a step and of one that does nothing holds of either
+-- what holds for a step and for one that does nothing holds for either
 either : {F : Type 0} (P : Step F → Type 0) (c : Bool) (f : F) (t : Step F) → P (idle f) → P t → P (if c then idle f else t)
 either P true f t h k = h
 either P false f t h k = k

@@ -1,4 +1,4 @@
--- How a walk goes on from the function where it stands.
+-- How a walk continues from the function that it has reached.
 use Rattle.std.proofs.Common.{◌≡◌, ◌+◌, ℕ, List, ◌∷◌, ap}
 use Rattle.std.specs.Prelude.{true, false, if◌then◌else◌}
 use Rattle.chain_walk.specs.Step.{Behaviour, is_drop}

@@ -29,13 +29,13 @@ value_span f frame (Some s) is inside has = subst (IsLengthOf f) (sym (length-ta
 value_length : (f : Field) (frame : List ℕ) → IfSome (value f frame) (λ bytes. IsLengthOf f (length bytes))
 value_length f frame = value_span f frame (span f frame) refl (span-inside f frame) (span-len f frame)
 
--- bytes that can stand in a field's place have its length
+-- bytes that fit a field's place have its length
 by_length : (f : Field) (old own : Option (List ℕ)) → IfSome own (λ w. IsLengthOf f (length w)) → IfSome old (λ o. IsSomeAnd own (λ w. length o ≡ length w)) → IfSome old (λ o. IsLengthOf f (length o))
 by_length f None own has fits = tt
 by_length f (Some o) None has fits = absurd fits
 by_length f (Some o) (Some w) has fits = subst (IsLengthOf f) (sym fits) has
 
--- whole tags are so many times four bytes
+-- the length of whole tags is a multiple of four bytes
 pub whole_tags : (tags : List ℕ) → is_tag_list tags ≡ true → length tags % 4 ≡ 0
 unfolding is_tag_list
 whole_tags [] e = refl
@@ -60,7 +60,7 @@ old_length SrcPort old frame fits = by_length SrcPort old (value SrcPort frame) 
 old_length DstPort old frame fits = by_length DstPort old (value DstPort frame) (value_length DstPort frame) fits
 old_length Payload old frame fits = by_length Payload old (value Payload frame) (value_length Payload frame) fits
 
--- what fits a frame is as the fields of a frame have it
+-- what fits a frame has the form of a frame's fields
 pub form_by_fit : (values : Values) (frame : List ℕ) → AllFit values frame → AreWellFormed values
 form_by_fit values frame fits = record {
   lengths = λ f. old_length f (values f) frame (fits f);

@@ -9,7 +9,7 @@ use Rattle.chain_walk.specs.declared.verdict.Verdict.TheVariants.{Pass}
 abbrev pub idle : {F : Type 0} → F → Step F
 idle f = record { after = f; verdict = Pass; written = nothing }
 
--- the same functions with the same profiles, of which those that count do nothing
+-- the same functions with the same profiles, but those that count do nothing
 abbrev pub quiet : {F : Type 0} → Behaviour F → Behaviour F
 quiet b = record { profile = b.profile; step = λ f shown. if (b.profile f).counts then idle f else b.step f shown }
 

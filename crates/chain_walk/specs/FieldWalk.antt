@@ -1,4 +1,4 @@
--- For proofs: the same way of a packet, seen of its fields alone.
+-- For proofs: the walk of a packet, in terms of its fields alone.
 use Rattle.std.specs.Prelude.{ℕ, ◌+◌, List, [], ◌∷◌, if◌then◌else◌}
 use Rattle.packet_fields.specs.Writing.{written, over}
 use Rattle.chain_walk.specs.Shown.{Values}
@@ -13,16 +13,16 @@ pub data End : Type 0 where
   Out : (values : Values) → End
   Gone : (position : ℕ) → End
 
--- Where it ended, and the functions as it left them.
+-- Where it ended, and the state in which it left the functions.
 pub record Ended (F : Type 0) : Type 0 where
   pub functions : List F
   pub end : End
 
--- the first function is left so, and the rest of the way was this
+-- the first function is left in this state, and the rest of the walk was this
 abbrev pub then_ended : {F : Type 0} → F → Ended F → Ended F
 then_ended f rest = record { functions = f ∷ rest.functions; end = rest.end }
 
--- The walk from the function at this position on: what a function writes stands over what was there.
+-- The walk from the function at this position on: what a function writes replaces what was there.
 unfoldable pub walk_fields : {F : Type 0} → Behaviour F → Fixed → ℕ → List F → Values → Ended F
 walk_fields b fixed position [] values = record { functions = []; end = Out values }
 walk_fields b fixed position (f ∷ later) values =

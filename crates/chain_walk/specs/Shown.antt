@@ -1,4 +1,4 @@
--- Believed: what a network function is shown of a packet.
+-- Believed: what a network function sees of a packet.
 use Rattle.std.specs.Prelude.{◌≡◌, ℕ, List, length, Bool, true, ◌&&◌, if◌then◌else◌, Option, None, is_some, IfSome}
 use Rattle.packet_fields.specs.Frames.{packet, is_tag_list}
 use Rattle.packet_fields.specs.Packets.{total_len, protocol, control_bits}
@@ -25,7 +25,7 @@ pub record Shown : Type 0 where
   pub has : Field → Bool
   pub fixed : Fixed
 
--- what a function with this profile is shown of a packet
+-- what a function with this profile sees of a packet
 abbrev pub shown_by : Profile → Fixed → Values → Shown
 shown_by profile fixed values = record {
   values = λ f. if reads_of profile f then values f else None;
@@ -33,7 +33,7 @@ shown_by profile fixed values = record {
   fixed = fixed;
 }
 
--- the values of a frame that no function writes, and when it was captured, in nanoseconds
+-- the values of a frame that no function writes, and the time of its capture, in nanoseconds
 abbrev pub fixed_of : ℕ → List ℕ → Fixed
 fixed_of time frame = record {
   time = time;

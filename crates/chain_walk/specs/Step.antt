@@ -6,13 +6,13 @@ use Rattle.chain_walk.specs.declared.fixed.Fixed.{Fixed}
 use Rattle.chain_walk.specs.declared.verdict.Verdict.{Verdict}
 use Rattle.chain_walk.specs.declared.verdict.Verdict.TheVariants.{Pass, Drop}
 
--- The function as it is afterwards, what it decided, and the new value of each field that it wrote.
+-- The function in its new state, what it decided, and the new value of each field that it wrote.
 pub record Step (F : Type 0) : Type 0 where
   pub after : F
   pub verdict : Verdict
   pub written : Values
 
--- How the functions of a type behave: what each may do, and what it does by what it is shown.
+-- How the functions of a type behave: what each may do, and what it does with what it is shown.
 pub record Behaviour (F : Type 0) : Type 0 where
   pub profile : F → Profile
   pub step : F → Shown → Step F

@@ -18,7 +18,7 @@ either false xs ys rs qs all p q = q
 one_more : (held items : List Item) (i : Item) → (held ++ i ∷ []) ++ items ≡ held ++ i ∷ items
 one_more held items i = append_assoc held (i ∷ []) items
 
--- the bursts in a row, and the open one behind them, are what was held and the packets
+-- the bursts joined, and the open one after them, are what was held and the packets
 pub bursts_in_a_row : (limit : ℕ) (held items : List Item) → in_a_row (bursts_from limit held items) ++ rest_from limit held items ≡ held ++ items
 unfolding bursts_from rest_from
 bursts_in_a_row limit held [] = sym (append-nil held)
@@ -77,7 +77,7 @@ same_case : (b : Bool) (limit : ℕ) (more rs qs : List Item) → cond b (bursts
 same_case true limit more rs qs = refl
 same_case false limit more rs qs = refl
 
--- more packets are cut where the open burst was left
+-- more packets are cut from where the open burst ended
 pub bursts_more : (limit : ℕ) (held items more : List Item) → bursts_from limit held (items ++ more) ≡ bursts_from limit held items ++ bursts_from limit (rest_from limit held items) more
 unfolding bursts_from rest_from
 bursts_more limit held [] more = refl
@@ -114,7 +114,7 @@ not_full_before limit xs ys e =
     (lt-leb limit (length xs) (omega (arith, leb-false limit (length (xs ++ ys)) parts.0, length-append xs ys)))
     (lt-leb 67108864 (captured xs) (omega (arith, leb-false 67108864 (captured (xs ++ ys)) parts.1, sum_by-append (λ (i : Item). length i.packet.frame) xs ys)))
 
--- packets that leave the open burst open only join it
+-- packets that don't close the open burst only join it
 joined_bursts : (limit : ℕ) (held xs more : List Item) → is_full limit (held ++ xs) ≡ false → bursts_from limit held (xs ++ more) ≡ bursts_from limit (held ++ xs) more
 unfolding bursts_from
 joined_bursts limit held [] more e = ap (λ l. bursts_from limit l more) (sym (append-nil held))

@@ -35,7 +35,7 @@ all_fail : {A : Type 0} (p : A → Bool) (xs : List A) → position p xs ≡ Non
 all_fail p xs e k d less =
     fails_before_first p xs k d (omega (arith, less, ltb-false (position_or_len p xs) (length xs) (no_value _ (position_or_len p xs) e)))
 
--- and where all fail there is no answer
+-- and if all fail there is no answer
 no_answer : {A : Type 0} (p : A → Bool) (xs : List A) → All (λ x. p x ≡ false) xs → position p xs ≡ None
 no_answer p [] all = refl
 no_answer p (x ∷ xs) all =

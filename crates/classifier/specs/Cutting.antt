@@ -12,7 +12,7 @@ captured items = sum_by (λ i. length i.packet.frame) items
 abbrev pub is_full : ℕ → List Item → Bool
 is_full limit items = nat_le limit (length items) || nat_le 67108864 (captured items)
 
--- what a cutter is: how many packets make a burst, how many were added, and those of the open burst
+-- a cutter: the number of packets in a burst, the number of packets added, and those of the open burst
 pub record Cutting : Type 0 where
   pub limit : ℕ
   pub added : ℕ
@@ -45,7 +45,7 @@ numbered n (p ∷ ps) = record { number = n; class = p.1; packet = p.0 } ∷ num
 abbrev pub unnumbered : Item → PcapRecord × Option ℕ
 unnumbered i = (i.packet, i.class)
 
--- the bursts of these packets, where some are held already: each is closed by the first packet that makes it full
+-- the bursts of these packets, if some are held already: each is closed by the first packet that makes it full
 unfoldable pub bursts_from : ℕ → List Item → List Item → List (List Item)
 bursts_from limit held [] = []
 bursts_from limit held (i ∷ items) =
@@ -70,8 +70,8 @@ in_a_row (b ∷ bs) = b ++ in_a_row bs
 abbrev pub IsClosedByLast : ℕ → List Item → Type 0
 IsClosedByLast limit burst = (front : List Item) × (last : Item) × (burst ≡ front ++ last ∷ []) × (is_full limit front ≡ false) × (is_full limit burst ≡ true)
 
--- a way to cut packets: bursts and an open one that in a row are the packets, where each burst was closed by its last packet and
--- the open one isn't full
+-- a way to cut packets: bursts and an open one that joined are the packets, if each burst was closed by its last packet
+-- and the open one isn't full
 pub record IsCut (limit : ℕ) (items : List Item) (bursts : List (List Item)) (rest : List Item) : Type 0 where
   pub row : in_a_row bursts ++ rest ≡ items
   pub closed : All (IsClosedByLast limit) bursts

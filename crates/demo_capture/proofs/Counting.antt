@@ -1,4 +1,4 @@
--- The record that is next, and those behind it.
+-- The next record, and those after it.
 use Rattle.std.proofs.Common.{◌≡◌, ◌≤◌, ◌<◌, ◌+◌, ◌-◌, ◌^◌, ◌∙◌, ℕ, suc, [], ◌∷◌, ap, sym, refl, arith}
 use Rattle.capture_bytes.specs.declared.packet.PcapRecord.{PcapRecord}
 use Rattle.capture_bytes.specs.Packets.{IsShort}

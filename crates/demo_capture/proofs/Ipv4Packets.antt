@@ -1,4 +1,4 @@
--- A packet of IPv4 has a transport header, by what stands in its header.
+-- A packet of IPv4 has a transport header, if its header says so.
 use Rattle.std.proofs.Common.{◌≡◌, ◌<◌, ◌*◌, ◌%◌, ◌+◌, ℕ, List, length, Bool, true, false, refl, arith}
 use Rattle.std.specs.Prelude.{Some, None, is_some, nat_le, nat_lt, if◌then◌else◌, ◌==◌, ◌&&◌, ◌||◌}
 use Rattle.std.proofs.lemmas.Bool.{le-leb, lt-ltb}
@@ -23,7 +23,7 @@ pub transport_there : (p : List ℕ) → is_ipv4 p ≡ true → is_ipv6 p ≡ fa
 unfolding has_transport
 transport_there p is_four is_six long known first fits = by (is_ipv4 p) (is_ipv6 p) is_four is_six
   where
-    -- the same of each answer to which version it is
+    -- the same for each answer to which version it is
     told : Bool → Bool → Bool
     told four six =
         (is_some (byte_within (four || six) (length p) p (in_header (if six then 6 else 9))) && ((header_byte p (if six then 6 else 9) == 6) || (header_byte p (if six then 6 else 9) == 17)))

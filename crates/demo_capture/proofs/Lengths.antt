@@ -1,4 +1,4 @@
--- How long a payload, a segment and a frame are, and one more letter.
+-- The lengths of a payload, a segment and a frame, and one more letter.
 use Rattle.std.proofs.Common.{append_assoc, sym, ◌≡◌, ◌≤◌, ◌+◌, ◌-◌, ◌∙◌, ℕ, List, [], ◌∷◌, ◌++◌, length, length-append, Bool, true, false, ap, refl, arith}
 use Rattle.std.specs.Prelude.{codes, if◌then◌else◌, ◌==◌, ◌/◌, ◌%◌, nat_le}
 use Rattle.std.proofs.lemmas.Bool.{and_parts, leb-true, cond-true}
@@ -26,7 +26,7 @@ letters_begin r from xs =
     let none : from - from ≡ 0 = omega arith in
     sym (ap (λ (ys : List ℕ). xs ++ ys) (ap (λ (n : ℕ). letters r from n) none ∙ letters_none r from) ∙ append-nil xs)
 
--- one letter more
+-- one more letter
 pub letters_step : (r : Draws) (from place letter : ℕ) (xs before after : List ℕ) → from ≤ place → before ≡ xs ++ letters r from (place - from) → letter ≡ letter_at r place → after ≡ before ++ letter ∷ []
     → after ≡ xs ++ letters r from (place + 1 - from)
 letters_step r from place letter xs before after far is_before is_letter is_after =

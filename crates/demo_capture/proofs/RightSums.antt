@@ -19,7 +19,7 @@ use Rattle.demo_capture.proofs.Ipv4Packets.{alone_false, transport_there}
 use Rattle.demo_capture.proofs.Lengths.{length_frame, length_segment, length_segment_with}
 use Rattle.demo_capture.proofs.Sums.{sum_pseudo}
 
--- a sum and its complement, of which 0 is written as ones
+-- a sum and its complement, with 0 written as ones
 
 ones_core : (s f total : ℕ) → 0 < s → f ≡ (s - 1) % 0xffff + 1 → 0xffff - f ≡ 0 → total ≡ s + 0xffff → (total - 1) % 0xffff + 1 ≡ 0xffff
 ones_core s f total some is_f none is_total = omega arith
@@ -49,7 +49,7 @@ written_some false c is =
     (cases_eq c 0)
 
 -- an IPv4 packet of the demo, from its EtherType on: its total length, protocol and checksum, the bytes of its addresses that
--- vary, and what stands behind its header
+-- vary, and what follows its header
 abbrev ip_packet : ℕ → ℕ → ℕ → ℕ → ℕ → ℕ → List ℕ → List ℕ
 ip_packet total protocol k net host to xs =
     8 ∷ 0 ∷ 0x45 ∷ 0 ∷ (total / 256) ∷ (total % 256) ∷ 0 ∷ 0 ∷ 0 ∷ 0 ∷ 64 ∷ protocol ∷ (k / 256) ∷ (k % 256) ∷ 10 ∷ 0 ∷ net ∷ host ∷ 198 ∷ 51 ∷ 100 ∷ to ∷ xs
@@ -189,7 +189,7 @@ segment_sum c r = sum_by (is_tcp r) c r (payload_of r)
 same_len : (c : ℕ) (r : Draws) → 20 + segment_len r ≡ 20 + length (segment_with c r)
 same_len c r = omega (arith, length_segment r, length_segment_with c r)
 
--- the whole sum behind a checksum
+-- the whole sum after a checksum
 whole_sum : (c : ℕ) (r : Draws) → sum (pseudo_header_in (packet_of c r) ++ words (segment_of (packet_of c r))) ≡ sum (words (pseudo_header r ++ segment_with 0 r)) + c
 whole_sum c r =
     let front = sum-append (pseudo_header_in (packet_of c r)) (words (segment_of (packet_of c r))) in
@@ -204,7 +204,7 @@ segment_right r =
     written_right (is_tcp r) (sum (words (pseudo_header r ++ segment_with 0 r))) (checksum_of (pseudo_header r ++ segment_with 0 r)) (sum (pseudo_header_in (packet_of (segment_checksum r) r) ++ words (segment_of (packet_of (segment_checksum r) r))))
     (omega (arith, sum_pseudo r (segment_with 0 r), own_pseudo_sum r)) refl (whole_sum (segment_checksum r) r)
 
--- where the checksum of UDP lies, it isn't 0
+-- the checksum of UDP in its place isn't 0
 
 udp_by : (b : Bool) (total k net host to c : ℕ) (r : Draws) (xs : List ℕ) → (b ≡ false → c ≢ 0)
     → is_udp (ip_packet total (if b then 6 else 17) k net host to ((if b then tcp_header c r else udp_header c r) ++ xs)) ≡ true
@@ -223,7 +223,7 @@ header_len_by : (b : Bool) (n m : ℕ) → m ≡ (if b then 20 else 8) + n → (
 header_len_by true n m is = omega arith
 header_len_by false n m is = omega arith
 
--- what is to be shown of a packet
+-- what has to be shown for a packet
 record IsWritten (p : List ℕ) : Type 0 where
   header_is : IsSome (header_sum_at p)
   header_is_right : IsRight (words (header_of p))
@@ -256,7 +256,7 @@ frame_writes : (i : ℕ) (r : Draws) → WritesSums (record_of i r).frame
 unfolding record_of
 frame_writes i r = let w = frame_written r in record { header = w.header_is; segment = w.segment_at_is; udp = w.udp_is }
 
--- what holds of each record that is made holds of all
+-- what holds for each record that is made holds for all
 each_made : (P : PcapRecord → Type 0) → ((i : ℕ) (r : Draws) → P (record_of i r)) → (n i x : ℕ) → All P (records_from n i x)
 unfolding records_from
 each_made P each zero i x k d h = absurd (omega arith)

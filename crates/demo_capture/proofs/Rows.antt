@@ -36,7 +36,7 @@ third =
     ++ (4 ∷ 59 ∷ 0 ∷ 53 ∷ 0 ∷ 0 ∷ 0 ∷ 0 ∷ 0 ∷ 0 ∷ 0 ∷ 0 ∷ 80 ∷ 16 ∷ 0 ∷ 0 ∷ 213 ∷ 107 ∷ 0 ∷ 0 ∷ [])
     ++ codes "vwxyzabcdefghijklmnopqrstuvwxyzabcdefghijklmnopqrstuvwxyz"
 
--- record 4: TCP, with nothing but the secret
+-- record 4: TCP, with only the secret
 abbrev fourth : List ℕ
 fourth =
     link ++ (69 ∷ 0 ∷ 0 ∷ 46 ∷ 0 ∷ 0 ∷ 0 ∷ 0 ∷ 64 ∷ 6 ∷ 70 ∷ 86 ∷ 10 ∷ 0 ∷ 0 ∷ 64 ∷ 198 ∷ 51 ∷ 100 ∷ 1 ∷ [])

@@ -1,4 +1,4 @@
--- The sum of a segment and of what stands before it.
+-- The sum of a segment and of what is before it.
 use Rattle.std.proofs.Common.{◌≡◌, ◌+◌, ◌-◌, ◌∙◌, ℕ, List, ◌++◌, sum, length, take, drop, ap, arith}
 use Rattle.std.proofs.lemmas.List.{take_rest}
 use Rattle.packet_fields.specs.Checksums.{folded, words}
@@ -7,7 +7,7 @@ use Rattle.internet_checksum.specs.Checksums.{checksum_of}
 use Rattle.demo_capture.specs.declared.draws.Draws.{Draws}
 use Rattle.demo_capture.specs.DemoFrames.{frame_with, ip_header, pseudo_header, segment_with}
 
--- a segment behind what stands before it in its sum
+-- a segment after what is before it in its sum
 pub sum_pseudo : (r : Draws) (xs : List ℕ) → sum (words (pseudo_header r ++ xs)) ≡ sum (words (pseudo_header r)) + sum (words xs)
 unfolding words
 sum_pseudo r xs = sum-append (words (pseudo_header r)) (words xs)

@@ -50,11 +50,11 @@ policy_text = flat_map (λ line. line_of (line ∷ [])) policy_lines
 abbrev pub demo_head : CaptureHead
 demo_head = record { order = Little; unit = Micro; zone = 0; sigfigs = 0; snaplen = 262144 }
 
--- the record of this number, counted from 1, with these draws: one a millisecond, captured whole
+-- the record of this number, counted from 1, with these draws: one each millisecond, captured whole
 unfoldable pub record_of : ℕ → Draws → PcapRecord
 record_of i r = record { seconds = i / 1000; fraction = (i % 1000) * 1000; wire = length (frame_of r); frame = frame_of r }
 
--- so many records from this number on, whose draws follow a number of the generator
+-- this number of records from this number on, whose draws follow a number of the generator
 unfoldable pub records_from : ℕ → ℕ → ℕ → List PcapRecord
 records_from zero i x = []
 records_from (suc n) i x = record_of i (draws_after x) ∷ records_from n (i + 1) (number_after 4 x)

@@ -1,5 +1,5 @@
--- Believed: the frame of a record of the demo: Ethernet (IEEE 802.3, 3.1.1), IPv4 (RFC 791, 3.1), and TCP (RFC 793, 3.1) or UDP (RFC 768),
--- with right checksums (RFC 1071).
+-- Believed: the frame of a record of the demo: Ethernet (IEEE 802.3, 3.1.1), IPv4 (RFC 791, 3.1), and TCP
+-- (RFC 793, 3.1) or UDP (RFC 768), with right checksums (RFC 1071).
 use Rattle.std.specs.Prelude.{ℕ, ◌+◌, List, [], ◌∷◌, ◌++◌, length, if◌then◌else◌, ◌==◌}
 use Rattle.packet_fields.specs.Checksums.{word_bytes}
 use Rattle.internet_checksum.specs.Checksums.{checksum_of}
@@ -28,7 +28,7 @@ segment_with checksum r = (if is_tcp r then tcp_header checksum r else udp_heade
 abbrev pub segment_len : Draws → ℕ
 segment_len r = length (segment_with 0 r)
 
--- what stands before the segment in its sum: both addresses, a zero byte, the protocol, and the segment's length
+-- what is before the segment in its sum: both addresses, a zero byte, the protocol, and the segment's length
 abbrev pub pseudo_header : Draws → List ℕ
 pseudo_header r = source_of r ++ destination_of r ++ (0 ∷ protocol_of r ∷ []) ++ word_bytes (segment_len r)
 
@@ -39,7 +39,7 @@ written_checksum r checksum = if is_tcp r then checksum else (if checksum == 0 t
 unfoldable pub segment_checksum : Draws → ℕ
 segment_checksum r = written_checksum r (checksum_of (pseudo_header r ++ segment_with 0 r))
 
--- an IPv4 header with this checksum: five words, Tos 0, total length, identification, flags and fragment offset 0, Ttl 64, protocol, addresses
+-- an IPv4 header with this checksum: five words, Tos 0, total length, Id, flags and offset 0, Ttl 64, protocol, addresses
 abbrev pub ip_header_with : ℕ → Draws → List ℕ
 ip_header_with checksum r =
     (0x45 ∷ 0 ∷ []) ++ word_bytes (20 + segment_len r) ++ (0 ∷ 0 ∷ 0 ∷ 0 ∷ []) ++ (64 ∷ protocol_of r ∷ []) ++ word_bytes checksum

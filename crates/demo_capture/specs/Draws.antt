@@ -1,22 +1,22 @@
--- Believed: the draws of the demo, and what a record says by its four draws.
+-- Believed: the draws of the demo, and the content of a record by its four draws.
 use Rattle.std.specs.Prelude.{codes, ℕ, zero, suc, ◌+◌, ◌-◌, ◌*◌, ◌/◌, ◌%◌, ◌^◌, List, [], ◌∷◌, ◌++◌, map, Bool, if◌then◌else◌, ◌==◌, ◌&&◌, nat_le}
 use Rattle.std.specs.List.{range_with_len}
 use Rattle.demo_capture.specs.declared.draws.Draws.{Draws}
 
--- the number behind a number: a linear congruential generator modulo 2^64
+-- the number after a number: a linear congruential generator modulo 2^64
 unfoldable pub next_number : ℕ → ℕ
 next_number x = (x * 6364136223846793005 + 1442695040888963407) % 2 ^ 64
 
--- the number so many steps behind a number
+-- the number that is this number of steps after a number
 abbrev pub number_after : ℕ → ℕ → ℕ
 number_after zero x = x
 number_after (suc n) x = number_after n (next_number x)
 
--- the draw of this place behind a number: the high bits of the number there
+-- the draw of this place after a number: the high bits of the number there
 abbrev pub draw_after : ℕ → ℕ → ℕ
 draw_after n x = number_after n x / 2 ^ 33
 
--- the four draws behind a number
+-- the four draws after a number
 abbrev pub draws_after : ℕ → Draws
 draws_after x = record { a = draw_after 1 x; b = draw_after 2 x; c = draw_after 3 x; d = draw_after 4 x }
 
@@ -41,7 +41,7 @@ is_tcp r = r.d % 2 == 0
 abbrev pub protocol_of : Draws → ℕ
 protocol_of r = if is_tcp r then 6 else 17
 
--- how long the payload is
+-- the length of the payload
 abbrev pub payload_len : Draws → ℕ
 payload_len r = (r.d / 2) % 64
 
@@ -53,7 +53,7 @@ has_secret r = ((r.d / 128) % 4 == 0) && nat_le 6 (payload_len r)
 abbrev pub letter_at : Draws → ℕ → ℕ
 letter_at r j = 97 + (r.c + j) % 26
 
--- so many letters from a place on
+-- this number of letters from a place on
 unfoldable pub letters : Draws → ℕ → ℕ → List ℕ
 letters r from n = map (letter_at r) (range_with_len from n)
 

@@ -56,7 +56,7 @@ among_fields SrcPort = inr (inr (inr (inr (inr (inr (inr (inl refl)))))))
 among_fields DstPort = inr (inr (inr (inr (inr (inr (inr (inr (inl refl))))))))
 among_fields Payload = inr (inr (inr (inr (inr (inr (inr (inr (inr (inl refl)))))))))
 
--- every action stands among all
+-- every action is among all
 among_all : (a : Action) → Among a all_actions
 unfolding all_actions Among
 among_all (Read f) = among_left (Read f) (map (λ f. Read f) all_fields ++ map (λ f. Write f) all_fields) (Drop ∷ State ∷ Count ∷ Whole ∷ Pass ∷ [])

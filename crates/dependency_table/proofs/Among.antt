@@ -1,9 +1,9 @@
--- What stands in a list, and what tests and searches find there.
+-- Membership in a list, and what tests and searches find there.
 use Rattle.std.proofs.Common.{◌≡◌, true, false, Bool, ap, refl, List, [], ◌∷◌, ◌++◌, inl, inr, cond}
 use Rattle.std.specs.Prelude.{◌⊎◌, ◌||◌, Some, None, map, filter, find}
 use Rattle.std.specs.List.{list_any, flat_map}
 
--- x stands in the list
+-- x is in the list
 unfoldable pub Among : {X : Type 0} → X → List X → Type 0
 Among x [] = ⊥
 Among x (y ∷ ys) = (x ≡ y) ⊎ Among x ys
@@ -107,7 +107,7 @@ find_among p x (y ∷ ys) h = step (p y) refl h (λ s. find_among p x ys s)
 abbrev pub side : {X : Type 0} → X → X → X × X
 side x y = (x, y)
 
--- each of the one list beside each of the other
+-- each element of one list beside each of the other
 abbrev pub sides : {X : Type 0} → List X → List X → List (X × X)
 sides xs ys = flat_map (λ a. map (λ b. (a, b)) ys) xs
 

@@ -59,7 +59,7 @@ copied_complete x y f true w er ew h = copied_by x y f (Read f) (Write f) er h (
 copied_complete x y f false true er ew h = copied_by x y f (Write f) (Write f) ew h (both (is_same f f) (is_same f f) (is_same_field f) (is_same_field f))
 copied_complete x y f false false er ew h = cc
 
--- a field is copied where the earlier function reads or writes it and the later one writes it
+-- a field is copied if the earlier function reads or writes it and the later one writes it
 pub is_copied_is : (x y : Profile) (f : Field) → is_copied x y f ≡ ((reads_of x f || writes_of x f) && writes_of y f)
 is_copied_is x y f = same_bool (is_copied x y f) ((reads_of x f || writes_of x f) && writes_of y f) (copied_sound x y f) (copied_complete x y f (reads_of x f) (writes_of x f) refl refl)
 

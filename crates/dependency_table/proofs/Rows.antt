@@ -22,7 +22,7 @@ drop_before_state : pair_of (profile_of Firewall) (profile_of Nat) ≡ Forbidden
 unfolding pair_of first_forbidden pairs actions all_actions copied is_copied
 drop_before_state = refl
 
--- what a firewall drops, a monitor beside it counts only once it knows
+-- a monitor beside a firewall counts a packet only after it is known whether the firewall drops it
 drop_before_count : pair_of (profile_of Firewall) (profile_of Monitor) ≡ Free
 unfolding pair_of first_forbidden pairs actions all_actions copied is_copied
 drop_before_count = refl
@@ -47,7 +47,7 @@ two_that_drop : pair_of (profile_of Firewall) (profile_of Signature) ≡ Free
 unfolding pair_of first_forbidden pairs actions all_actions copied is_copied
 two_that_drop = refl
 
--- the data, read by the one and written by the other
+-- the data, read by one and written by the other
 data_copied : pair_of (profile_of Signature) (profile_of Redactor) ≡ Copy (fields (Payload ∷ []))
 unfolding pair_of first_forbidden pairs actions all_actions copied is_copied
 data_copied = refl

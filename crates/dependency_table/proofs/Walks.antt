@@ -48,7 +48,7 @@ first_miss p xs ys i d inside has miss =
     ∙ first_of_cons x rest ys
     ∙ ap (λ (o : Option Action). option_or (option_map (side x) o) (first_of rest ys)) miss
 
--- this action is none of the profile's
+-- the profile doesn't have this action
 pub first_skip : (p : Action → Bool) (xs ys : List Action) (i : ℕ) (d : Action) → i < length xs → p (get_or xs i d) ≡ false →
     first_of (filter p (drop i xs)) ys ≡ first_of (filter p (drop (i + 1) xs)) ys
 first_skip p xs ys i d inside has =

@@ -21,7 +21,7 @@ may p Count = p.counts
 may p Whole = p.whole
 may p Pass = false
 
--- a profile has the actions that it may do, and Pass where there is none
+-- a profile has the actions that it may do, and Pass if it may do none
 abbrev pub has_action : Profile → Action → Bool
 has_action p Pass = not (list_any (may p) all_actions)
 has_action p action = may p action

@@ -1,4 +1,4 @@
--- Believed: the dependency table: function x stands before function y, each action of x against each of y.
+-- Believed: the dependency table: function x is before function y, each action of x against each of y.
 use Rattle.std.specs.Prelude.{List, Bool, true, false, ◌==◌, ◌&&◌, if◌then◌else◌, Option, map, filter, find}
 use Rattle.std.specs.Option.{option_map_or}
 use Rattle.std.specs.List.{list_any, flat_map}
@@ -17,8 +17,8 @@ use Rattle.dependency_table.specs.declared.action.Answer.TheVariants.{Free, Copy
 abbrev pub is_same : Field → Field → Bool
 is_same f g = number_of f == number_of g
 
--- An action of x forbids one of y beside it: y would read what x writes, keep a state of what x drops, or either works on the frame as a whole.
--- What y counts is forbidden by no drop of x: its note of a packet waits until it is known whether x drops it.
+-- An action of x forbids one of y: x or y works on the whole frame, y reads what x writes, or keeps a state of drops.
+-- No drop of x forbids y to count: y's note of a packet waits until it is known whether x drops the packet.
 abbrev pub forbids : Action → Action → Bool
 forbids Whole b = true
 forbids a Whole = true
@@ -49,7 +49,7 @@ is_copied x y f = list_any (λ p. copies f p.0 p.1) (pairs x y)
 unfoldable pub copied : Profile → Profile → FieldSet
 copied x y = fields (filter (is_copied x y) all_fields)
 
--- Copy where some field is copied
+-- Copy if some field is copied
 abbrev pub free_or_copy : FieldSet → Answer
 free_or_copy set = if is_none set then Free else Copy set
 

@@ -47,7 +47,7 @@ others eq laws key first [] same none = tt
 others eq laws key first (k ∷ keys) same none = (laws.congr key first k same ∙ none.0, others eq laws key first keys same none.1)
 
 module _ {K V : Type 0} (eq : K → K → Bool) where
-  -- behind an entry of the key itself, and behind one of another key
+  -- after an entry of the key itself, and after one of another key
   noted_own : (e : K × V) (seen : List (K × V)) (key : K) (value : V) → eq key e.0 ≡ true → noted eq (e ∷ seen) key value ≡ (e.0, value) ∷ map (with_value eq key value) seen
   noted_own e seen key value same =
       ap (λ b. if b || is_seen eq (keys_of seen) key then (if b then (e.0, value) else e) ∷ map (with_value eq key value) seen else e ∷ (seen ++ (key, value) ∷ [])) same
@@ -85,7 +85,7 @@ module _ {K V : Type 0} (eq : K → K → Bool) where
   order seen key value = keys_noted seen key value ∙ ap (λ b. if b then keys_of seen else keys_of seen ++ key ∷ []) (sym (found_is_seen seen key))
 
   module _ (laws : IsEquivalence eq) where
-    -- where no key is this one, nothing is given
+    -- if no key is this one, nothing is returned
     untouched : (seen : List (K × V)) (key : K) (value : V) → AllByRecursion (λ k. eq key k ≡ false) (keys_of seen) → map (with_value eq key value) seen ≡ seen
     untouched [] key value none = refl
     untouched (e ∷ seen) key value none = λ i. (if none.0 i then (e.0, value) else e) ∷ untouched seen key value none.1 i
@@ -122,7 +122,7 @@ module _ {K V : Type 0} (eq : K → K → Bool) where
         let at = place_found (eq key) (keys_of seen) place found in
         ap (λ p. set_value_at seen p value) (sym at.0) ∙ set_at_place seen key value (subst (λ p. p < length (keys_of seen)) (sym at.0) at.1) distinct
 
-    -- a key that is asked for, and is another, finds what it found
+    -- a key that is looked up, and is another, finds what it found
     aside_of : (seen : List (K × V)) (key asked : K) (value : V) → eq asked key ≡ false → belonging eq (map (with_value eq key value) seen) asked ≡ belonging eq seen asked
     aside_of [] key asked value other = refl
     aside_of (e ∷ seen) key asked value other = by (eq key e.0) refl (aside_of seen key asked value other)

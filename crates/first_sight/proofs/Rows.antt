@@ -24,7 +24,7 @@ finds_own = refl
 finds_none : belonging nat_eq three 5 ≡ None
 finds_none = refl
 
--- places are counted from 0, and that of a new key is behind the others
+-- places are counted from 0, and that of a new key is after the others
 second_place : place_of nat_eq (keys_of three) 4 ≡ 1
 second_place = refl
 
@@ -34,7 +34,7 @@ new_place = refl
 sees_again : seen_with nat_eq (seen_with nat_eq (keys_of three) 5) 7 ≡ 7 ∷ 4 ∷ 9 ∷ 5 ∷ []
 sees_again = refl
 
--- each line knows its place
+-- each line gets its place
 tells_places : lines_by (λ place e. place ∷ e.0 ∷ e.1 ∷ []) three ≡ 0 ∷ 7 ∷ 70 ∷ 1 ∷ 4 ∷ 40 ∷ 2 ∷ 9 ∷ 90 ∷ []
 tells_places = refl
 

@@ -1,4 +1,4 @@
--- Lines that are told one after another, behind what was there.
+-- Lines that are reported one after another, after what was there.
 use Rattle.std.proofs.Common.{◌≡◌, ◌+◌, ◌∙◌, ℕ, zero, suc, List, [], ◌∷◌, ◌++◌, length, map, take, refl, sym, ap, append_assoc, arith}
 use Rattle.std.specs.Prelude.{slice_get, slice_index_or, Some, Result, Ok, Err, OnOk, is_ok, if◌then◌else◌}
 use Rattle.std.specs.List.{flat_map, enumerate_from}
@@ -48,7 +48,7 @@ module _ {X : Type 0} (line : ℕ → X → List ℕ) (before out : List ℕ) (p
   pub kept : ArePushed line before out place rest all → take (length before) out ≡ before
   kept pushed = ap (take (length before)) pushed.so_far ∙ take-append_seam before pushed.done
 
--- lines that tell nothing but the place and the key
+-- lines that report only the place and the key
 keys_from : {K V : Type 0} (line : ℕ → K → List ℕ) (place : ℕ) (seen : List (K × V)) → lines_from (λ p entry. line p entry.0) place seen ≡ lines_from line place (keys_of seen)
 keys_from line place [] = refl
 keys_from line place (e ∷ seen) = ap (λ l. line place e.0 ++ l) (keys_from line (place + 1) seen)

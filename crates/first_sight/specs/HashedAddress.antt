@@ -1,4 +1,4 @@
--- For proofs: what a hasher is fed of an address and a port there: as few numbers as hold both.
+-- For proofs: what a hasher is fed for an address and a port there: as few numbers as hold both.
 use Rattle.std.specs.Prelude.{◌≡◌, ◌+◌, ◌*◌, ◌++◌, ℕ, true}
 use Rattle.std.proofs.Common.{ap}
 use Rattle.std.specs.Int.{w32, w128, from_be_bytes}
@@ -14,7 +14,7 @@ abbrev pub endpoint_writes : IpAddr → ℕ → HashWrites
 endpoint_writes (V4 a) port = fed.u64 (ipv4_bits a * 65536 + port)
 endpoint_writes (V6 a) port = fed.u128 (ipv6_bits a) ++ fed.u16 port
 
--- the same addresses with the same port are fed alike
+-- the same addresses with the same port feed the same
 pub same_endpoint_fed : (a b : IpAddr) (port : ℕ) → is_same_address a b ≡ true → endpoint_writes a port ≡ endpoint_writes b port
 unfolding ipv4_bits ipv6_bits
 same_endpoint_fed (V4 a) (V4 b) port same =

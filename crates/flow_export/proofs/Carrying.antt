@@ -7,7 +7,7 @@ use Rattle.flow_line.specs.declared.line.FlowLine.{FlowLine}
 use Rattle.flow_export.specs.Collecting.{carried_by, carried_in, packets_of}
 use Rattle.flow_export.specs.Exports.{exported, lines_of}
 
--- the lines of so many packets from this one on
+-- the lines of this number of packets from this one on
 in_a_row : (lines : List FlowLine) (first count : ℕ) → flat_map (lines_of lines) (range_with_len first count) ≡ take (30 * count) (drop (30 * first) lines)
 in_a_row lines first zero = refl
 in_a_row lines first (suc count) =

@@ -35,7 +35,7 @@ record_of_nine =
     ∷ 0 ∷ 0 ∷ 0 ∷ 1 ∷ 0 ∷ 0 ∷ 0 ∷ 0x1c ∷ 0 ∷ 0 ∷ 0x03 ∷ 0xe8 ∷ 0 ∷ 0 ∷ 0x03 ∷ 0xe8
     ∷ 0x03 ∷ 0xe8 ∷ 0 ∷ 0x35 ∷ 0 ∷ 0 ∷ 0x11 ∷ 0 ∷ 0 ∷ 0 ∷ 0 ∷ 0 ∷ 0 ∷ 0 ∷ 0 ∷ 0 ∷ []
 
--- one packet of both, and the flow of IPv6 isn't among them
+-- one packet for both, and the flow of IPv6 isn't among them
 exports_both : export_bytes two_seconds (of_one ∷ of_six ∷ of_nine ∷ []) ≡ header ++ record_of_one ++ record_of_nine
 unfolding packets_bytes header_bytes record_bytes
 exports_both = refl
@@ -49,7 +49,7 @@ exports_nothing = refl
 takes_packets : packet_count 0 ∷ packet_count 1 ∷ packet_count 30 ∷ packet_count 31 ∷ packet_count 60 ∷ packet_count 61 ∷ [] ≡ 0 ∷ 1 ∷ 1 ∷ 2 ∷ 2 ∷ 3 ∷ []
 takes_packets = refl
 
--- numbers stop at the largest of 32 bits, and times before the first record are its own
+-- numbers stop at the largest of 32 bits, and times before the first record count as the first record's
 abbrev early : Span5
 early = record { origin = 5000000000; greatest = 9223372036854775807 }
 

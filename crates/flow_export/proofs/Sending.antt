@@ -21,11 +21,11 @@ use Rattle.flow_export.specs.Exports.{exported, lines_of, packet_bytes, packet_c
 abbrev pub numbered : Span5 → List FlowLine → ℕ → List ℕ
 numbered span lines number = packet_bytes span (30 * number) (lines_of (exported lines) number)
 
--- so many packets from this number on
+-- this number of packets from this number on
 unfoldable pub packets_from : Span5 → List FlowLine → ℕ → ℕ → List ℕ
 packets_from span lines first count = flat_map (numbered span lines) (range_with_len first count)
 
--- So many packets are sent, and these lines are left. `old` are the slots as they were, and `new` as they are.
+-- This number of packets are sent, and these lines remain. `old` are the slots before, and `new` the slots now.
 pub record AreSent (span : Span5) (lines : List FlowLine) (old new : Slot → SlotView) (sent : ℕ) (rest : List FlowLine) : Type 0 where
   pub left : exported rest ≡ drop (30 * sent) (exported lines)
   pub fits : All HasFittingKey rest
@@ -133,7 +133,7 @@ cause_of_last old mid new r earlier cause = record {
     risen (inl h) = inl (omega (arith, earlier, h))
     risen (inr h) = inr h
 
--- the same fault of a call that gives something else has the same cause
+-- the same fault of a call that returns something else has the same cause
 pub same_cause : {T U : Type 0} (old new : SlotView) (fault : OutsideFault) → WriteCause {T = T} Out old new (Err fault) → WriteCause {T = U} Out old new (Err fault)
 same_cause {T = T} {U = U} old new fault cause = record {
   later = cause.later;

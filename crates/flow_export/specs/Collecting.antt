@@ -1,4 +1,4 @@
--- For proofs: what a collector has of the packets, one behind the other.
+-- For proofs: what a collector knows from the packets, one after the other.
 use Rattle.std.specs.Prelude.{ℕ, ◌*◌, List, length}
 use Rattle.std.specs.List.{flat_map, range_with_len}
 use Rattle.flow_line.specs.declared.line.FlowLine.{FlowLine}
@@ -6,7 +6,7 @@ use Rattle.flow_export.specs.declared.layout.Header.{Header}
 use Rattle.flow_export.specs.declared.span.Span5.{Span5}
 use Rattle.flow_export.specs.Exports.{exported, header_of, lines_of, packet_count}
 
--- how many packets all lines take
+-- the number of packets that all lines take
 abbrev pub packets_of : List FlowLine → ℕ
 packets_of lines = packet_count (length (exported lines))
 
@@ -14,7 +14,7 @@ packets_of lines = packet_count (length (exported lines))
 abbrev pub carried_by : List FlowLine → ℕ → List FlowLine
 carried_by lines number = lines_of (exported lines) number
 
--- those of the first packets, so many
+-- those of the first packets, this number of them
 abbrev pub carried_in : List FlowLine → ℕ → List FlowLine
 carried_in lines count = flat_map (carried_by lines) (range_with_len 0 count)
 

@@ -1,4 +1,4 @@
--- Believed: what is exported of lines of flows, as packets of NetFlow version 5.
+-- Believed: what is exported for lines of flows, as packets of NetFlow version 5.
 use Rattle.std.specs.Prelude.{ℕ, ◌+◌, ◌-◌, ◌*◌, ◌/◌, ◌%◌, ◌^◌, min, List, ◌++◌, filter, length, take, drop, Bool, not, unwrap_or}
 use Rattle.std.specs.Int.{div_ceil}
 use Rattle.std.specs.List.{flat_map, range_with_len}
@@ -23,7 +23,7 @@ uptime span = millis span span.greatest
 abbrev pub export_time : Span5 → ℕ
 export_time span = span.origin + uptime span * 1000000
 
--- the header of a packet of so many records, before which so many were sent
+-- the header of a packet of this number of records, after this number of sent records
 abbrev pub header_of : Span5 → ℕ → ℕ → Header
 header_of span before count = record {
   version = 5;
@@ -37,7 +37,7 @@ header_of span before count = record {
   sampling_interval = 0;
 }
 
--- the record of a line: what a capture doesn't know of a flow is 0, and so is an absent port
+-- the record of a line: what a capture doesn't show about a flow is 0, and so is an absent port
 abbrev pub record_of : Span5 → FlowLine → Record
 record_of span line = record {
   srcaddr = line.key.src;
@@ -62,14 +62,14 @@ record_of span line = record {
   pad2 = 0;
 }
 
--- version 5 has no addresses of IPv6, so the lines of IPv4 alone are exported
+-- version 5 has no addresses of IPv6, so only the lines of IPv4 are exported
 abbrev pub is_exported : FlowLine → Bool
 is_exported line = not line.key.wide
 
 abbrev pub exported : List FlowLine → List FlowLine
 exported lines = filter is_exported lines
 
--- the packet of these lines, before whose records so many were sent: a header, and a record of each line
+-- the packet of these lines, after this number of sent records: a header, and a record for each line
 abbrev pub packet_bytes : Span5 → ℕ → List FlowLine → List ℕ
 packet_bytes span before lines = header_bytes (header_of span before (length lines)) ++ flat_map (λ line. record_bytes (record_of span line)) lines
 
@@ -77,14 +77,14 @@ packet_bytes span before lines = header_bytes (header_of span before (length lin
 abbrev pub lines_of : List FlowLine → ℕ → List FlowLine
 lines_of lines number = take 30 (drop (30 * number) lines)
 
--- how many packets so many records take, at thirty a packet
+-- the number of packets that this number of records takes, at thirty a packet
 abbrev pub packet_count : ℕ → ℕ
 packet_count records = div_ceil records 30
 
--- the packets one behind the other, each of thirty records but the last, which has what is left
+-- the packets one after the other, each of thirty records but the last, which has the rest
 unfoldable pub packets_bytes : Span5 → List FlowLine → List ℕ
 packets_bytes span lines = flat_map (λ number. packet_bytes span (30 * number) (lines_of lines number)) (range_with_len 0 (packet_count (length lines)))
 
--- what is exported of all lines
+-- what is exported for all lines
 abbrev pub export_bytes : Span5 → List FlowLine → List ℕ
 export_bytes span lines = packets_bytes span (exported lines)

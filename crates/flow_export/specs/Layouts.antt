@@ -13,7 +13,7 @@ field_bytes (Byte x) = x ∷ []
 field_bytes (Short x) = big_bytes 2 x
 field_bytes (Long x) = big_bytes 4 x
 
--- fields one behind the other
+-- fields one after the other
 abbrev pub spelled : List Field → List ℕ
 spelled fields = flat_map field_bytes fields
 

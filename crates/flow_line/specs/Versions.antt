@@ -1,4 +1,4 @@
--- For proofs: how large the addresses of a flow are.
+-- For proofs: the size of a flow's addresses.
 use Rattle.std.specs.Prelude.{◌≡◌, ◌<◌, ◌^◌, false}
 use Rattle.flow_line.specs.declared.key.FlowKey.{FlowKey}
 use Rattle.flow_line.specs.declared.line.FlowLine.{FlowLine}
@@ -8,6 +8,6 @@ pub record FitsVersion (key : FlowKey) : Type 0 where
   pub src : key.wide ≡ false → key.src < 2 ^ 32
   pub dst : key.wide ≡ false → key.dst < 2 ^ 32
 
--- the addresses of a line's flow are so
+-- the addresses of a line's flow have this size
 abbrev pub HasFittingKey : FlowLine → Type 0
 HasFittingKey line = FitsVersion line.key

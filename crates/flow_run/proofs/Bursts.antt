@@ -1,4 +1,4 @@
--- One packet more behind those of the open burst.
+-- One more packet after those of the open burst.
 use Rattle.std.proofs.Common.{◌≡◌, ◌<◌, ◌+◌, ◌∙◌, ℕ, List, [], ◌∷◌, ◌++◌, Bool, true, false, refl, sym, ap, subst, arith, rules}
 use Rattle.std.specs.Prelude.{IsTrue, IfSome, Option, None, filter_map, if◌then◌else◌}
 use Rattle.std.proofs.lemmas.Bool.{false≢true}
@@ -26,7 +26,7 @@ last_more : (last : ℕ) (held : List Item) (item : Item) → last_of last (held
 last_more last [] item = refl
 last_more last (x ∷ held) item = last_more x.number held item
 
--- the packets of the open burst with one more go on with the numbers
+-- the packets of the open burst with one more continue the numbers
 pub rising_with : (records : ℕ) (cut : Cutting) (shards : ShardsView) (span : Option Span5) (packet : PcapRecord) (items : List Item) → IsCounting records cut shards span → items ≡ with_packet cut packet None → AreRising shards.last items
 rising_with records cut shards span packet items is are =
     let last = is.last in

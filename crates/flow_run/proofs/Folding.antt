@@ -1,4 +1,4 @@
--- What is counted record by record is what is counted of all records.
+-- What is counted record by record is what is counted for all records.
 use Rattle.std.proofs.Common.{◌≡◌, ◌∙◌, ℕ, ◌+◌, List, [], ◌∷◌, length, refl, sym, ap, arith}
 use Rattle.std.specs.Prelude.{fold, Some, unwrap_or}
 use Rattle.std.specs.Map.{values_of}

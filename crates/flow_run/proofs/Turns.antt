@@ -1,4 +1,4 @@
--- A capture read record by record: what is counted so far and what is left come to what all of it comes to.
+-- A capture read record by record: what is counted so far and what is left give what all of it gives.
 use Rattle.std.proofs.Common.{◌≡◌, ◌≢◌, ◌≤◌, ◌∙◌, ℕ, [], false, refl, sym, ap, subst}
 use Rattle.std.specs.Prelude.{Option, Some, None, IfNone, IfOk, IfSome, Result, Ok, Err, unwrap_or}
 use Rattle.std.specs.Option.{option_map}
@@ -18,7 +18,7 @@ use Rattle.flow_run.specs.Counting.{CountingView, IsCountOf, IsCountedWith, Stop
 use Rattle.flow_run.specs.declared.count.Counted.{Counted}
 use Rattle.flow_run.proofs.Folding.{counted_whole}
 
--- what is counted once this is read as well, and the fault that ends it
+-- what is counted after this is read too, and the fault that ends it
 abbrev pub ends : CountingView → Body → CountingView × Option CaptureFault
 ends c body = (with_body c body, body.fault)
 
@@ -56,18 +56,18 @@ ended unit c fault counted (Some b) (Some e) same end is =
     let pair : ends (nothing_counted unit) b ≡ (c, fault) = ap (λ o. unwrap_or o (c, fault)) same ∙ ap (ends c) end in
     counted_whole unit b counted (subst (λ (p : CountingView × Option CaptureFault). IsCountedWith p.0 p.1 counted) (sym pair) is)
 
--- what holds of all that was counted, if memory sufficed
+-- what holds for all that was counted, if memory sufficed
 pub when_counted : (r : Result Counted DeskFault) (P Q : Counted → Type 0) → ((x : Counted) → P x → Q x) → IfOk r P → IfOk r Q
 when_counted (Ok x) P Q f p = f x p
 when_counted (Err e) P Q f p = tt
 
--- what holds of all that was counted up to a fault of the capture
+-- what holds for all that was counted up to a fault of the capture
 pub when_stopped : (c : CountingView) (refusal : PcapFault) (r : Result Counted DeskFault) (Q : Counted → Type 0) → StopsAt c refusal r → ((fault : CaptureFault) (x : Counted) → refusal ≡ refusals.Capture fault → IsCountedWith c (Some fault) x → Q x) → IfOk r Q
 when_stopped c (refusals.Capture fault) r Q stops f = when_counted r (IsCountedWith c (Some fault)) Q (λ x is. f fault x refl is) stops.0
 when_stopped c (refusals.ReadFault slot) r Q stops f = subst (λ r. IfOk r Q) (sym stops) tt
 when_stopped c refusals.OutOfMemory r Q stops f = subst (λ r. IfOk r Q) (sym stops) tt
 
--- the fault of a record is none of the head
+-- the fault of a record is no fault of the head
 pub behind_head : (given : ℕ) (fault : CaptureFault) → IsRecordFault given fault → ¬ IsHeadFault fault
 behind_head given BadMagic is head = is
 behind_head given BadVersion is head = is

@@ -1,4 +1,4 @@
--- For proofs: what is counted so far, record by record, and what it comes to.
+-- For proofs: what is counted so far, record by record, and the final result.
 use Rattle.std.specs.Prelude.{◌≡◌, ◌<◌, ℕ, ◌+◌, ◌^◌, max, [], ◌∷◌, length, fold, Option, Some, None, IfOk, IfSome, IsErrOf, Result, Err, unwrap_or}
 use Rattle.std.specs.Map.{values_of}
 use Rattle.capture_bytes.specs.Packets.{time_of}
@@ -27,7 +27,7 @@ pub record CountingView : Type 0 where
 abbrev pub nothing_counted : TimeUnit → CountingView
 nothing_counted unit = record { unit = unit; records = 0; lines = []; span = None }
 
--- a span, with a time behind the others
+-- a span, with a time after the others
 abbrev pub with_time : Option Span5 → ℕ → Span5
 with_time None time = record { origin = time; greatest = time }
 with_time (Some span) time = record { origin = span.origin; greatest = max span.greatest time }
@@ -50,7 +50,7 @@ pub record FitsSpan (span : Span5) : Type 0 where
   pub origin : span.origin < 2 ^ 63
   pub greatest : span.greatest < 2 ^ 63
 
--- the open burst goes on with the numbers of the packets that were fed
+-- the open burst continues the numbers of the packets that were fed
 pub record IsCounting (records : ℕ) (cutter : Cutting) (shards : ShardsView) (span : Option Span5) : Type 0 where
   pub added : records ≡ cutter.added
   pub rising : AreRising shards.last cutter.held
@@ -67,13 +67,13 @@ pub record IsCountedWith (c : CountingView) (fault : Option CaptureFault) (count
   pub span : counted.span ≡ unwrap_or c.span no_span
   pub same_fault : counted.fault ≡ fault
 
--- a call that stops where the next record is refused: a fault of the capture ends what is counted
+-- a call that stops if the next record is refused: a fault of the capture ends what is counted
 abbrev pub StopsAt : CountingView → PcapFault → Result Counted DeskFault → Type 0
 StopsAt c (refusals.Capture fault) result = IfOk result (IsCountedWith c (Some fault)) × (¬ IsErrOf result Failed)
 StopsAt c (refusals.ReadFault slot) result = result ≡ Err Failed
 StopsAt c refusals.OutOfMemory result = result ≡ Err NoMemory
 
--- this is what is counted of a body
+-- this is what is counted for a body
 pub record IsCountOf (unit : TimeUnit) (body : Body) (counted : Counted) : Type 0 where
   pub records : counted.records ≡ length body.records
   pub lines : counted.lines ≡ flow_lines unit body.records

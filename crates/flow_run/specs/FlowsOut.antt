@@ -1,4 +1,4 @@
--- Believed: the flows of a capture's records, and what is exported of them.
+-- Believed: the flows of a capture's records, and what is exported for them.
 use Rattle.std.specs.Prelude.{ℕ, ◌+◌, max, List, [], ◌∷◌, None, fold}
 use Rattle.capture_bytes.specs.Packets.{time_of}
 use Rattle.capture_bytes.specs.declared.packet.PcapRecord.{PcapRecord}
@@ -31,6 +31,6 @@ abbrev pub span_of : TimeUnit → List PcapRecord → Span5
 span_of unit [] = record { origin = 0; greatest = 0 }
 span_of unit (r ∷ rs) = record { origin = time_of unit r; greatest = greatest_of unit (time_of unit r) rs }
 
--- what is exported of a capture's flows
+-- what is exported for a capture's flows
 abbrev pub flows_out : TimeUnit → List PcapRecord → List ℕ
 flows_out unit records = export_bytes (span_of unit records) (flow_lines unit records)

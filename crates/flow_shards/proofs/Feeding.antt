@@ -1,4 +1,4 @@
--- What workers counted, each of its own packets, are the shards of what was counted of all.
+-- What workers counted, each its own packets, are the shards of what was counted for all.
 use Rattle.std.proofs.Common.{◌≡◌, ◌<◌, ◌∙◌, ℕ, List, [], map, filter, length, get_or, refl, sym, ap, subst, arith}
 use Rattle.std.specs.Prelude.{All, Result, Ok, filter_map}
 use Rattle.std.specs.List.{range_with_len, zip}
@@ -53,7 +53,7 @@ module _ {E : Type 0} (tables after : List Lines) (counted : List (Result Lines 
       (each k (record { worker = 0; table = [] }) (Ok []) (omega (arith, size, inside)))) in
       own ∙ ap (λ n. counted_all (get_or tables k []) (filter (is_own n k) sights)) are
 
--- where the shards were the parts of lines, they are the parts of the lines with these packets
+-- if the shards were the parts of lines, they are the parts of the lines with these packets
 after_is : (workers : ℕ) (lines : Lines) (tables after : List Lines) (sights : List Sight) → tables ≡ parts workers lines → length tables ≡ workers → length after ≡ length tables →
     ((k : ℕ) → k < length tables → get_or after k [] ≡ counted_all (get_or tables k []) (filter (is_own (length tables) k) sights)) → after ≡ parts workers (counted_all lines sights)
 after_is workers lines tables after sights are size same each =

@@ -14,7 +14,7 @@ use Rattle.flow_shards.specs.Flows.{Lines}
 use Rattle.flow_shards.specs.Sharding.{placed, in_order, IsRising}
 use Rattle.flow_shards.proofs.Ordering.{unequal}
 
--- each was first seen before those behind it
+-- each was first seen before those after it
 abbrev Above : FlowLine → List FlowLine → Type 0
 Above x ys = AllByRecursion (λ y. x.first < y.first) ys
 
@@ -103,7 +103,7 @@ climbs [] other up = tt
 climbs (y ∷ ys) other up =
     (strictly y ys other.0 (λ j d inside. up 0 (suc j) d (omega arith) (omega (arith, inside))), climbs ys other.1 (λ i j d h inside. up (suc i) (suc j) d (omega (arith, h)) (omega (arith, inside))))
 
--- to put lines in order only moves them
+-- putting lines in order only moves them
 placed_moves : (line : FiveTuple × FlowLine) (lines : Lines) → IsPermutation (line ∷ lines) (placed line lines)
 placed_moves line [] = IsPermutation-refl (line ∷ [])
 placed_moves line (next ∷ lines) = by (nat_le line.1.first next.1.first) (placed_moves line lines)

@@ -1,4 +1,4 @@
--- What is counted of all packets is, in the shard of a worker, what is counted of the packets of that worker alone.
+-- The count of all packets, in the shard of a worker, is the count of the packets of that worker alone.
 use Rattle.std.proofs.Common.{◌≡◌, ◌∙◌, List, [], ◌∷◌, ◌++◌, map, filter, Bool, true, false, refl, sym, ap}
 use Rattle.std.specs.Prelude.{◌||◌, if◌then◌else◌}
 use Rattle.std.specs.Map.{keys_of}
@@ -67,7 +67,7 @@ module _ {K V : Type 0} (eq : K → K → Bool) (p : K → Bool) (alike : (a b :
       by true = kept-renewed key value seen
       by false = kept-last key value true passes seen
 
-  -- and another leaves them as they are
+  -- and another leaves them unchanged
   pub kept-left : (key : K) (value : V) → p key ≡ false → (seen : List (K × V)) → kept (noted eq seen key value) ≡ kept seen
   kept-left key value fails seen = by (is_seen eq (keys_of seen) key)
     where

@@ -13,7 +13,7 @@ use Rattle.flow_shards.specs.Sharding.{HasFittingFlow, IsKeyed, in_shard, is_in_
 use Rattle.flow_shards.specs.declared.sight.Sight.{Sight}
 use Rattle.flow_shards.proofs.SameKeys.{same_key}
 
--- what is counted of a packet's flow so far has the key of that flow
+-- what is counted for a packet's flow so far has the key of that flow
 abbrev line_before : Lines → Sight → FlowLine
 line_before lines s = unwrap_or (belonging is_same_flow lines s.flow) (first_line s)
 
@@ -53,7 +53,7 @@ all_keyed [] lines keyed fits = keyed
 all_keyed (s ∷ sights) lines keyed fits =
     all_keyed sights (counted lines s) (one_keyed lines s keyed (All-head HasFittingFlow s sights fits)) (All-tail HasFittingFlow s sights fits)
 
--- so their addresses are as large as their version has them
+-- so their addresses have the size of their version
 pub all_fit : (lines : Lines) → All IsKeyed lines → All HasFittingKey (values_of lines)
 all_fit lines keyed =
     All-map HasFittingKey (λ line. line.1) lines

@@ -1,4 +1,4 @@
--- Keys, packets and bytes are what a monitor counts, and bursts go on with what was counted before.
+-- Keys, packets and bytes are what a monitor counts, and bursts continue what was counted before.
 use Rattle.std.proofs.Common.{◌≡◌, ◌≤◌, ◌<◌, ◌∙◌, ℕ, List, [], ◌∷◌, ◌++◌, map, Bool, true, false, refl, sym, ap, arith}
 use Rattle.std.specs.Prelude.{if◌then◌else◌, Option, Some, None, unwrap_or, filter_map}
 use Rattle.std.specs.Map.{keys_of}

@@ -1,4 +1,4 @@
--- The shards of lines that stand in the order of first sight are those lines, once they are put into that order again.
+-- The shards of lines in the order of first sight are those lines, after they are put into that order again.
 use Rattle.std.proofs.Common.{◌≡◌, ◌≢◌, ◌≤◌, ◌<◌, ◌+◌, ◌∙◌, ℕ, zero, suc, [], ◌∷◌, ◌++◌, map, filter, Bool, true, false, inl, inr, refl, sym, ap, append_assoc, arith}
 use Rattle.std.specs.Prelude.{◌==◌, ◌⊎◌, nat_le, if◌then◌else◌}
 use Rattle.std.specs.List.{range_with_len, AllByRecursion}
@@ -13,7 +13,7 @@ use Rattle.flow_shards.specs.Sharding.{shard_of, in_shard, parts, flat, placed, 
 abbrev Line : Type 0
 Line = FiveTuple × FlowLine
 
--- these lines were first seen behind that one
+-- these lines were first seen after that one
 abbrev pub Behind : Line → Lines → Type 0
 Behind line lines = AllByRecursion (λ next. line.1.first < next.1.first) lines
 
@@ -49,12 +49,12 @@ placed_first line (x ∷ xs) h = ap (λ b. if b then line ∷ x ∷ xs else x �
 placed_behind : (line x : Line) (xs : Lines) → line.1.first < x.1.first → placed x (line ∷ xs) ≡ line ∷ placed x xs
 placed_behind line x xs h = ap (λ b. if b then x ∷ line ∷ xs else line ∷ placed x xs) (lt-leb x.1.first line.1.first h)
 
--- the line before all others comes first, wherever it stands
+-- the line before all others comes first, wherever it is
 first_of_all : (line : Line) (front back : Lines) → Behind line front → Behind line back → in_order (front ++ line ∷ back) ≡ line ∷ in_order (front ++ back)
 first_of_all line [] back h g = placed_first line (in_order back) (behind-in_order line back g)
 first_of_all line (x ∷ front) back h g = ap (placed x) (first_of_all line front back h.1 g) ∙ placed_behind line x (in_order (front ++ back)) h.0
 
--- the shards of some workers from this one on, one behind the other
+-- the shards of some workers from this one on, one after the other
 abbrev pieces : ℕ → ℕ → ℕ → Lines → Lines
 pieces workers first count lines = flat (map (λ worker. filter (in_shard workers worker) lines) (range_with_len first count))
 
@@ -76,7 +76,7 @@ others_have line xs workers first zero h = refl
 others_have line xs workers first (suc count) h =
     λ i. (if unequal (shard_of workers (key_of line.0)) first h i then line ∷ filter (in_shard workers first) xs else filter (in_shard workers first) xs) ++ others_have line xs workers (first + 1) count (omega (arith, h)) i
 
--- where a line stands in the shards of which it is before all others
+-- the place of a line in the shards of which it is before all others
 record Found (line : Line) (xs whole without : Lines) : Type 0 where
   front : Lines
   back : Lines

@@ -72,7 +72,7 @@ increasing_last : (last more : ℕ) (ns : List ℕ) → last < more → AreUpTo 
 increasing_last last more [] h up rise = (tt, tt)
 increasing_last last more (n ∷ ns) h up rise = (above_last n last more ns up.0 h rise.0, increasing_last last more ns h up.1 rise.1)
 
--- where a flow isn't among keys, nothing is given
+-- if a flow isn't among keys, nothing is returned
 none_given : (flow : FiveTuple) (value : FlowLine) (lines : Lines) → AllByRecursion (λ k. is_same_flow flow k ≡ false) (keys_of lines) → map (with_value is_same_flow flow value) lines ≡ lines
 none_given flow value [] none = refl
 none_given flow value (line ∷ lines) none = λ i. (if none.0 i then (line.0, value) else line) ∷ none_given flow value lines none.1 i
@@ -109,7 +109,7 @@ firsts_last : (line : FiveTuple × FlowLine) (lines : Lines) → firsts (lines +
 firsts_last line [] = refl
 firsts_last line (x ∷ lines) = ap (λ l. x.1.first ∷ l) (firsts_last line lines)
 
--- the numbers of the first packets, once one more is counted
+-- the numbers of the first packets, after one more is counted
 firsts_counted : (s : Sight) (lines : Lines) → IsDistinct is_same_flow (keys_of lines) →
     firsts (counted lines s) ≡ (if is_seen is_same_flow (keys_of lines) s.flow then firsts lines else firsts lines ++ s.number ∷ [])
 firsts_counted s lines distinct = by (is_seen is_same_flow (keys_of lines) s.flow) refl
@@ -166,7 +166,7 @@ numbers_counted last s lines ordered above = subst (Numbers s.number) (sym (firs
     by true = record { increasing = rising; up_to = more }
     by false = record { increasing = increasing_last last s.number (firsts lines) above within rising; up_to = up_to_last s.number (firsts lines) more }
 
--- a packet makes at most one line more
+-- a packet makes at most one more line
 few_counted : (last : ℕ) (s : Sight) (lines : Lines) → AreOrdered last lines → last < s.number → length (counted lines s) ≤ s.number
 few_counted last s lines ordered above =
     let size : length (firsts (counted lines s)) ≡ length (counted lines s) = length-map (counted lines s) (λ line. line.1.first) in

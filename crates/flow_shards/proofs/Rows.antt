@@ -16,7 +16,7 @@ udp_from host =
     2 ∷ 0 ∷ 0 ∷ 0 ∷ 0 ∷ 2 ∷ 2 ∷ 0 ∷ 0 ∷ 0 ∷ 0 ∷ 1 ∷ 8 ∷ 0 ∷ 0x45 ∷ 0 ∷ 0 ∷ 28 ∷ 0 ∷ 0 ∷ 0 ∷ 0 ∷ 64 ∷ 17 ∷ 0x66 ∷ 0xcf ∷ 10 ∷ 0 ∷ 0 ∷ host
     ∷ 10 ∷ 0 ∷ 0 ∷ 2 ∷ 3 ∷ 0xe8 ∷ 0 ∷ 53 ∷ 0 ∷ 8 ∷ 0 ∷ 0 ∷ []
 
--- TCP of the same addresses and ports, with SYN and ACK
+-- TCP with the same addresses and ports, with SYN and ACK
 abbrev tcp : List ℕ
 tcp =
     2 ∷ 0 ∷ 0 ∷ 0 ∷ 0 ∷ 2 ∷ 2 ∷ 0 ∷ 0 ∷ 0 ∷ 0 ∷ 1 ∷ 8 ∷ 0 ∷ 0x45 ∷ 0 ∷ 0 ∷ 40 ∷ 0 ∷ 0 ∷ 0 ∷ 0 ∷ 64 ∷ 6 ∷ 0 ∷ 0 ∷ 10 ∷ 0 ∷ 0 ∷ 1
@@ -28,7 +28,7 @@ item number seconds frame = record { number = number; class = None; packet = rec
 abbrev key : ℕ → ℕ → FlowKey
 key proto src = record { wide = false; proto = proto; src = src; sport = Some 1000; dst = 0x0a000002; dport = Some 53 }
 
--- a flow that comes again keeps its place, a frame without a packet is of none, and protocols are apart
+-- a flow that comes again keeps its place, a frame without a packet belongs to none, and protocols are distinct
 counts : flows Micro (item 1 0 (udp_from 1) ∷ item 2 1 (udp_from 9) ∷ item 3 1 [] ∷ item 4 2 (udp_from 1) ∷ item 5 3 tcp ∷ []) ≡
     record { key = key 17 0x0a000001; packets = 2; bytes = 56; first = 1; begun = 0; last = 2000000000; flags = 0 }
     ∷ record { key = key 17 0x0a000009; packets = 1; bytes = 28; first = 2; begun = 1000000000; last = 1000000000; flags = 0 }

@@ -1,4 +1,4 @@
--- What is seen of one packet more goes behind what was seen of those before.
+-- What is seen of one more packet goes after what was seen of those before.
 use Rattle.std.proofs.Common.{◌≡◌, ◌<◌, ◌∙◌, ℕ, ◌+◌, List, [], ◌∷◌, ◌++◌, length, get_or, take, sym, ap}
 use Rattle.std.specs.Prelude.{Option, filter_map}
 use Rattle.std.specs.List.{cons_option}

@@ -1,4 +1,4 @@
--- Believed: what is counted of the flows of a capture, packet by packet.
+-- Believed: what is counted for the flows of a capture, packet by packet.
 use Rattle.std.specs.Prelude.{ℕ, List, [], Bool, ◌||◌, true, false, Option, Some, None, unwrap_or, fold, filter_map}
 use Rattle.std.specs.Int.RustNames.{bit_or}
 use Rattle.std.specs.Map.{values_of}
@@ -21,7 +21,7 @@ use Rattle.flow_line.specs.declared.key.FlowKey.{FlowKey}
 use Rattle.flow_line.specs.declared.line.FlowLine.{FlowLine}
 use Rattle.flow_shards.specs.declared.sight.Sight.{Sight}
 
--- an address as a number, most significant byte first, and whether it is one of IPv6
+-- an address as a number, most significant byte first, and whether it is an IPv6 address
 abbrev pub address_number : IpAddr → ℕ
 address_number (V4 a) = ipv4_bits a
 address_number (V6 a) = ipv6_bits a
@@ -30,7 +30,7 @@ abbrev pub is_wide : IpAddr → Bool
 is_wide (V4 a) = false
 is_wide (V6 a) = true
 
--- the key of a flow: it is wide where it has an address of IPv6
+-- the key of a flow: it is wide if it has an IPv6 address
 abbrev pub key_of : FiveTuple → FlowKey
 key_of flow = record {
   wide = is_wide flow.source.address || is_wide flow.destination.address;
@@ -45,7 +45,7 @@ key_of flow = record {
 abbrev pub flow_in : List ℕ → Option FiveTuple
 flow_in frame = flow_of (λ f. value f frame) (protocol (packet frame))
 
--- what is seen of a packet, where its flow and its IP length are known
+-- what is seen of a packet, if its flow and its IP length are known
 abbrev pub sight_by : Option FiveTuple → Option ℕ → ℕ → ℕ → ℕ → Option Sight
 sight_by (Some flow) (Some bytes) number time flags = Some (record { flow = flow; bytes = bytes; number = number; time = time; flags = flags })
 sight_by flow bytes number time flags = None
@@ -79,10 +79,10 @@ counted lines s = noted is_same_flow lines s.flow (with_sight (unwrap_or (belong
 abbrev pub counted_all : Lines → List Sight → Lines
 counted_all lines sights = fold counted lines sights
 
--- the lines once these packets were counted as well
+-- the lines after these packets were counted too
 abbrev pub flows_from : TimeUnit → Lines → List Item → Lines
 flows_from unit lines items = counted_all lines (filter_map (sight_of unit) items)
 
--- what is counted of a capture with these packets
+-- what is counted for a capture with these packets
 abbrev pub flows : TimeUnit → List Item → List FlowLine
 flows unit items = values_of (flows_from unit [] items)

@@ -11,7 +11,7 @@ use Rattle.nf_observe.specs.declared.flow.FiveTuple.{FiveTuple}
 use Rattle.flow_shards.specs.declared.sight.Sight.{Sight}
 use Rattle.flow_shards.specs.Flows.{Lines, counted, key_of}
 
--- which of so many workers, counted from 0, has the flow of this key
+-- which of this number of workers, counted from 0, has the flow of this key
 abbrev pub shard_of : ℕ → FlowKey → ℕ
 shard_of workers key = (key.src % 65536 + key.dst % 65536 + unwrap_or key.sport 0 + unwrap_or key.dport 0 + key.proto) % workers
 
@@ -27,16 +27,16 @@ in_shard workers worker line = has_flow workers worker line.0
 abbrev pub is_in_shard : ℕ → ℕ → FlowLine → Bool
 is_in_shard workers worker line = shard_of workers line.key == worker
 
--- the addresses of a packet's flow are as large as their version of IP has them
+-- the addresses of a packet's flow have the size of their version of IP
 abbrev pub HasFittingFlow : Sight → Type 0
 HasFittingFlow s = FitsVersion (key_of s.flow)
 
--- a line has the key of its flow, and that one's addresses are so
+-- a line has the key of its flow, and that flow's addresses have their size
 pub record IsKeyed (line : FiveTuple × FlowLine) : Type 0 where
   pub key : line.1.key ≡ key_of line.0
   pub fits : FitsVersion (key_of line.0)
 
--- a packet is of the worker's shard
+-- a packet is in the worker's shard
 abbrev pub is_own : ℕ → ℕ → Sight → Bool
 is_own workers worker s = has_flow workers worker s.flow
 
@@ -47,7 +47,7 @@ counted_if_own workers worker lines s = if is_own workers worker s then counted 
 abbrev pub parts : ℕ → Lines → List Lines
 parts workers lines = map (λ worker. filter (in_shard workers worker) lines) (range_with_len 0 workers)
 
--- lines of several shards, one shard behind the other
+-- lines of several shards, one shard after the other
 abbrev pub flat : List Lines → Lines
 flat tables = flat_map (λ table. table) tables
 
@@ -61,7 +61,7 @@ abbrev pub in_order : Lines → Lines
 in_order [] = []
 in_order (line ∷ lines) = placed line (in_order lines)
 
--- what shards are: the number of workers, the number of the last packet that was fed, and one list of lines
+-- the shards: the number of workers, the number of the last packet that was fed, and one list of lines
 pub record ShardsView : Type 0 where
   pub workers : ℕ
   pub last : ℕ
@@ -79,13 +79,13 @@ AreRising last (item ∷ items) = (last < item.number) × AreRising item.number 
 abbrev pub last_of : ℕ → List Item → ℕ
 last_of last items = fold (λ before item. item.number) last items
 
--- each line was first seen before those behind it
+-- each line was first seen before those after it
 abbrev pub IsRising : Lines → Type 0
 IsRising [] = ⊤
 IsRising (line ∷ lines) = AllByRecursion (λ next. line.1.first < next.1.first) lines × IsRising lines
 
--- For the proofs alone: lines in the order of first sight, each flow once, none of them first seen behind this packet, and no more
--- than there were packets.
+-- For the proofs alone: lines in the order of first sight, each flow once, none of them first seen after this packet,
+-- and at most as many as packets.
 pub record AreOrdered (last : ℕ) (lines : Lines) : Type 0 where
   pub rising : IsRising lines
   pub distinct : IsDistinct is_same_flow (keys_of lines)

@@ -1,7 +1,8 @@
 // Whole texts through desks, with ample memory.
 use crate::plenty::had;
+use file_desk::FileDesk;
 use nfp_outside::{
-    Desk, FileDesk, FixedDesk, MemDesk, OutsideFault, Scales, Slot, Weight, read_all, write_whole,
+    Desk, FixedDesk, MemDesk, OutsideFault, Scales, Slot, Weight, read_all, write_whole,
 };
 use std::alloc::Global;
 use std::fs;

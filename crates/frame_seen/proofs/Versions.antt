@@ -1,4 +1,4 @@
--- Of which version the addresses are that a frame shows.
+-- The version of the addresses that a frame shows.
 use Rattle.std.proofs.Common.{◌≡◌, ◌≤◌, ◌+◌, ◌∙◌, ℕ, List, length, true, false, refl, ap}
 use Rattle.std.specs.Prelude.{◌==◌, Option, Some, None, IfSome}
 use Rattle.std.specs.Option.{option_map, option_and_then}
@@ -15,7 +15,7 @@ use Rattle.policy_text.specs.Meeting.{is_met}
 use Rattle.policy_text.specs.declared.clause.Clause.TheVariants.{Src, Dst, Src6, Dst6}
 use Rattle.frame_seen.specs.Seeing.{address_of, seen_of}
 
--- bytes of another length are no address of this one
+-- bytes of another length are no address of this version
 none_of : (o : Option Span) (frame : List ℕ) (n size : ℕ) → IfSome o (λ s. s.at + s.len ≤ length frame) → IfSome o (λ s. s.len ≡ n) → (n == size) ≡ false → option_and_then (address_of size) (option_map (bytes_at frame) o) ≡ None
 none_of None frame n size inside len other = refl
 none_of (Some s) frame n size inside len other =

@@ -12,20 +12,20 @@ use Rattle.policy_text.specs.declared.seen.Seen.{Seen}
 use Rattle.policy_text.specs.declared.seen.TagSeen.{TagSeen}
 use Rattle.policy_text.specs.declared.seen.TagSeen.TheVariants.{Absent, Bare, Id}
 
--- the VLAN id of a tag: the low twelve bits of its control information, which stands behind the two bytes of the tag's
+-- the VLAN id of a tag: the low twelve bits of its control information, which follows the two bytes of the tag's
 -- own identifier (IEEE 802.1Q, 9.6)
 abbrev pub vlan_id : List ℕ → ℕ
 vlan_id tag = big_number 2 (take 2 (drop 2 tag)) % 4096
 
--- the outermost tag stands first
+-- the outermost tag is first
 abbrev pub outermost : List ℕ → TagSeen
 outermost tags = if length tags == 0 then Bare else Id (vlan_id tags)
 
--- an address of so many bytes as a number: 4 bytes are one of IPv4 (RFC 791, 3.1), 16 one of IPv6 (RFC 8200, 3)
+-- an address of this number of bytes as a number: 4 bytes are IPv4 (RFC 791, 3.1), 16 IPv6 (RFC 8200, 3)
 abbrev pub address_of : ℕ → List ℕ → Option ℕ
 address_of size bytes = if length bytes == size then Some (big_number size bytes) else None
 
--- the address of either version that these bytes are
+-- the address, of either version, that these bytes are
 abbrev pub ip_address_of : List ℕ → Option IpAddr
 ip_address_of bytes =
     if length bytes == 4 then Some (V4 (record { octets = bytes })) else
@@ -38,7 +38,7 @@ source_address values = option_and_then ip_address_of (values SrcIp)
 abbrev pub destination_address : (Field → Option (List ℕ)) → Option IpAddr
 destination_address values = option_and_then ip_address_of (values DstIp)
 
--- what is seen where the fields have these values, by the protocol of the IP header
+-- what is seen if the fields have these values, by the protocol of the IP header
 abbrev pub seen_by : (Field → Option (List ℕ)) → Option ℕ → Seen
 seen_by values protocol = record {
   tag = option_map_or outermost (values Tag) Absent;

@@ -1,4 +1,4 @@
--- A function acts on a frame that was taken apart, and the frame is put together again.
+-- A function acts on a frame that was split, and the frame is joined again.
 use Rattle.std.proofs.Common.{◌≡◌, ◌≢◌, ◌∙◌, ◌<◌, ◌≤◌, ◌+◌, ◌*◌, ℕ, zero, suc, Bool, true, false, List, [], ◌∷◌, ◌++◌, map, length, sym, ap, refl, subst, arith}
 use mathlib.Core.Path.{fun_ext}
 use Rattle.std.specs.Prelude.{Option, Some, None, is_some, ◌&&◌, ◌||◌, option_map, IsSome, IfSome, IsSomeAnd, if◌then◌else◌, slice_index_or, Result, Ok, Err, OnErr, position, count_by, nat_lt, not, ◌==◌}
@@ -32,7 +32,7 @@ use Rattle.merge_ops.specs.Taking.{arrival_at}
 use Rattle.merge_ops.specs.declared.arrival.Arrival.{Arrival}
 use Rattle.merge_ops.specs.declared.arrival.Arrival.TheVariants.{Version as of_version}
 
--- a frame in parts, with room for so many tags more
+-- a frame in parts, with room for this number of tags more
 pub record IsApart (whole : PlainApart) (taggers time : ℕ) (frame : List ℕ) : Type 0 where
   pub parts : packet_parts whole ≡ split_parts taggers frame
   pub rest : whole.rest ≡ rest_of frame
@@ -46,11 +46,11 @@ bytes_fresh spare (Some bytes) = refl
 values_apart : (whole : PlainApart) (taggers time : ℕ) (frame : List ℕ) → IsApart whole taggers time frame → values_of (packet_parts whole) ≡ fields_of frame
 values_apart whole taggers time frame apart = ap values_of apart.parts ∙ fun_ext (λ f. bytes_fresh (spare_room taggers f) (value f frame))
 
--- the version that the only branch is dealt, as its function sees it
+-- the version that the only branch gets, as its function sees it
 abbrev pub dealt_view : PlainApart → Touch → Profile → PlainView
 dealt_view whole touch profile = record { version = dealt whole touch; profile = profile; position = 1 }
 
--- what is read of a version that was dealt
+-- what is read from a version that a branch got
 abbrev pub IsReadAs : PlainApart → Touch → Type 0
 IsReadAs whole touch = version_parts (dealt whole touch) ≡ dealt_parts touch (packet_parts whole)
 
@@ -67,7 +67,7 @@ bytes_touched true None e = refl
 bytes_touched true (Some p) e = refl
 bytes_touched false o e = absurd cc
 
--- a function is shown the same of what its branch is dealt as of the whole packet
+-- a function sees the same of what its branch gets as of the whole packet
 shown_same : (p : Profile) (fixed : Fixed) (touch : Touch) (parts : Parts) → HoldsNamed p touch → shown_by p fixed (values_of (dealt_parts touch parts)) ≡ shown_by p fixed (values_of parts)
 shown_same p fixed touch parts holds = λ i. record {
   values = fun_ext (λ f. read f (reads_of p f) refl) i;
@@ -92,7 +92,7 @@ step_same b f whole touch taggers time frame apart read holds =
     ∙ ap (λ (v : Values). b.step f (shown_by (b.profile f) whole.fixed v)) (values_apart whole taggers time frame apart)
     ∙ ap (λ (x : Fixed). b.step f (shown_by (b.profile f) x (fields_of frame))) apart.fixed
 
--- a tag fits where there is room for one
+-- a tag fits if there is room for one
 room_dealt : (t : Bool) (o : Option (List ℕ)) (n : ℕ) → n ≡ 1 → IsSome (if t then option_map unwritten (option_map (fresh (4 * n)) o) else None) →
     IsSomeAnd (if t then option_map unwritten (option_map (fresh (4 * n)) o) else None) (λ part. length part.bytes + 4 ≤ part.room)
 room_dealt true None n one there = absurd cc
@@ -105,7 +105,7 @@ has_room whole touch p taggers time frame apart read one there =
     subst (λ (m : Parts). IsSomeAnd (m Tag) (λ part. length part.bytes + 4 ≤ part.room)) (sym is)
     (room_dealt (has_touch Tag touch) (value Tag frame) taggers one (subst (λ (m : Parts). IsSome (m Tag)) is there))
 
--- what a function wrote stands in its version
+-- what a function wrote is in its version
 abbrev bytes_in : Option PlainPart → Option (List ℕ)
 bytes_in part = option_map (λ p. p.bytes) part
 
@@ -124,7 +124,7 @@ length_after None o h = refl
 length_after (Some w) None h = refl
 length_after (Some w) (Some p) h = ap (λ (n : ℕ). Some n) h
 
--- what is read of a view in which these values were written
+-- what is read from a view in which these values were written
 abbrev pub IsWrittenAs : PlainView → Values → Type 0
 IsWrittenAs view new = (f : Field) → seen_parts (wrote_all new view) f ≡ rewritten_by (new f) view.position (seen_parts view f)
 
@@ -149,7 +149,7 @@ from_one whole base touch version fits behind made = record { fits = fits; behin
     each zero less = made
     each (suc k) less = absurd (omega arith)
 
--- the laws of merging that this rests on
+-- the laws of merging on which this rests
 abbrev pub NoneWrote : Type 0
 NoneWrote = (arrivals : List Arrival) (f : Field) (branch : ℕ) → last_writer arrivals f ≡ None → writer_of f (arrival_at arrivals branch) ≡ 0
 
@@ -175,7 +175,7 @@ false_and : (a c : Bool) → c ≡ false → (a && c) ≡ false
 false_and true c e = e
 false_and false c e = refl
 
--- behind the branch each field has the value that was written, or the packet's own
+-- after the branch each field has the value that was written, or the packet's own
 pub value_written : {F : Type 0} (b : Behaviour F) (f : F) (whole : PlainApart) (touch : Touch) (new : Values) → NoneWrote → OneWrote → KeepsProfile b → IsReadAs whole touch → new ≡ (viewed b f (dealt_view whole touch (b.profile f))).written →
     IsWrittenAs (dealt_view whole touch (b.profile f)) new → value_behind whole (of_version (wrote_all new (dealt_view whole touch (b.profile f))).version ∷ []) ≡ over new (values_of (packet_parts whole))
 value_written b f whole touch new none_wrote one_wrote keeps read is after = fun_ext (λ x. by_last x (last_writer arrivals x) refl)
@@ -198,7 +198,7 @@ value_written b f whole touch new none_wrote one_wrote keeps read is after = fun
         ap bytes_in (after x) ∙ new_bytes (new x) (seen_parts view x) (values_of (packet_parts whole) x) (unwritten_yet x) (subst (λ (o : Option PlainPart). 0 < writer_in o) (after x) wrote)
     by_last x (Some (suc k)) some = absurd (let less = (one_wrote arrivals x (suc k) some).0 in omega arith)
 
--- the frame is put together with what was written
+-- the frame is joined with what was written
 abbrev pub PutTogether : {F : Type 0} → Behaviour F → ℕ → F → List ℕ → Type 0
 PutTogether b time f frame = written (over (applied b time f frame).written (fields_of frame)) (rest_of frame) ≡ frame_after b time f frame
 
@@ -210,7 +210,7 @@ frame_made b f whole taggers time frame out new behind apart together is values 
     ∙ ap (written (over (applied b time f frame).written (fields_of frame))) apart.rest
     ∙ together
 
--- a function's turn: the view of what it is dealt, and what it does there
+-- a function's turn: the view of what it gets, and what it does there
 pub record IsTurn {F : Type 0} (b : Behaviour F) (f : F) (whole : PlainApart) (touch : Touch) (taggers time : ℕ) (frame : List ℕ) (view : PlainView) : Type 0 where
   pub apart : IsApart whole taggers time frame
   pub read : IsReadAs whole touch
@@ -241,11 +241,11 @@ turn_room b f whole touch taggers time frame view profile turn own count adds th
     let one : taggers ≡ 1 = count ∙ ap (λ (t : Bool). if t then 1 else 0) (ap (λ (p : Profile). p.adds) own ∙ adds) in
     subst HasTagRoom (sym turn.is) (has_room whole touch (b.profile f) taggers time frame turn.apart turn.read one (subst (λ (v : PlainView). IsSome (seen_parts v Tag)) turn.is there))
 
--- what is read of any view in which any values were written
+-- what is read from any view in which any values were written
 abbrev pub WritesAreRead : Type 0
 WritesAreRead = (view : PlainView) (new : Values) (f : Field) → seen_parts (wrote_all new view) f ≡ rewritten_by (new f) view.position (seen_parts view f)
 
--- the version behind a turn
+-- the version after a turn
 pub version_behind : {F : Type 0} (b : Behaviour F) (f : F) (whole : PlainApart) (touch : Touch) (taggers time : ℕ) (frame : List ℕ) (view after : PlainView) (version : PlainVersion) → IsTurn b f whole touch taggers time frame view →
     after ≡ wrote_all (viewed b f view).written view → version ≡ after.version → version ≡ (wrote_all (viewed b f (dealt_view whole touch (b.profile f))).written (dealt_view whole touch (b.profile f))).version
 version_behind b f whole touch taggers time frame view after version turn wrote ends = ends ∙ ap (λ (v : PlainView). v.version) wrote ∙ ap (λ (v : PlainView). (wrote_all (viewed b f v).written v).version) turn.is
@@ -269,12 +269,12 @@ turn_made {F} b f whole touch taggers time frame out view after version turn rea
     let values = ap (λ (v : PlainVersion). value_behind whole (of_version v ∷ [])) (version_behind b f whole touch taggers time frame view after version turn wrote ends) ∙ value_written b f whole touch new none_wrote one_wrote keeps turn.read refl (read seen new) in
     frame_made b f whole taggers time frame out new (value_behind whole (of_version version ∷ [])) turn.apart together is values made
 
--- what the function decided is what it decides of the frame
+-- what the function decided is what it decides for the frame
 pub turn_verdict : {F : Type 0} (b : Behaviour F) (f : F) (whole : PlainApart) (touch : Touch) (taggers time : ℕ) (frame : List ℕ) (view : PlainView) (told verdict : Verdict) → IsTurn b f whole touch taggers time frame view → told ≡ (viewed b f view).verdict → told ≡ verdict →
     is_drop (applied b time f frame).verdict ≡ is_drop verdict
 turn_verdict {F} b f whole touch taggers time frame view told verdict turn decided is = ap is_drop (sym (decided ∙ ap (λ (s : Step F). s.verdict) turn.step) ∙ is)
 
--- what holds anyway holds on an error
+-- what always holds also holds on an error
 pub on_err : {T E : Type 0} (r : Result T E) (P : Type 0) → P → OnErr r P
 on_err (Ok x) P p = tt
 on_err (Err e) P p = p

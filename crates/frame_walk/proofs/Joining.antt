@@ -1,4 +1,4 @@
--- What is put together behind the only branch of a stage.
+-- What is joined after the only branch of a stage.
 use Rattle.std.proofs.Common.{◌≡◌, ◌∙◌, List, [], ◌∷◌, ap, refl}
 use mathlib.Core.Path.{fun_ext}
 use Rattle.std.specs.Prelude.{Result, Ok, Err, IfOk}
@@ -23,7 +23,7 @@ LastValues = (whole : PlainApart) (touches : List Touch) (base : PlainApart) (ar
 abbrev pub SameRest : Type 0
 SameRest = (whole : PlainApart) (touches : List Touch) (base : PlainApart) (arrivals : List Arrival) → AreFrom whole touches base arrivals → (merged_packet base arrivals).rest ≡ whole.rest
 
--- a version alone is neither a drop nor want of memory
+-- a version alone is neither a drop nor out of memory
 alone : (base : PlainApart) (version : PlainVersion) (whole : PlainApart) → Whole whole ≡ merged base (of_version version ∷ []) → whole ≡ merged_packet base (of_version version ∷ [])
 unfolding decision_of
 alone base version whole is = cc

@@ -1,4 +1,4 @@
--- How a walk goes on from the function where it stands.
+-- How a walk continues from the function that it has reached.
 use Rattle.std.proofs.Common.{◌≡◌, ◌<◌, ◌≤◌, ◌+◌, ◌∙◌, ℕ, ◌⊎◌, inl, inr, drop-drop, Bool, List, [], ◌∷◌, ◌++◌, length, take, drop, set, get_or, get_or-drop, refl, sym, ap, subst, add-one, append_assoc, arith}
 use Rattle.std.specs.Prelude.{true, false, if◌then◌else◌, Option, Some, None}
 use Rattle.std.proofs.lemmas.List.{append-nil, drop_more, drop-set-lt, drop_all, set_split, take_all, take_more, take_more_set, set-get_or}
@@ -40,7 +40,7 @@ front_more {F} b time (x ∷ xs) position frame current y is passes = by_test (i
         ∙ ap (then_walked after) (rest (sym (ap (λ w. w.fate) here) ∙ is))
         ∙ sym (ap (λ w. record { functions = w.functions ++ (applied b time y current).after ∷ []; fate = Out (frame_after b time y current) }) here)
 
--- the functions before this place passed the packet on, those from it on are as before, and the walk goes on there
+-- the functions before this place passed the packet on, those from it on are unchanged, and the walk continues there
 -- with this frame
 pub record IsUnderWay {F : Type 0} (b : Behaviour F) (time : ℕ) (first : List F) (frame : List ℕ) (i : ℕ) (now : List F) (current : List ℕ) : Type 0 where
   pub same : led (take i now) (walk b time (i + 1) (drop i now) current) ≡ walk b time 1 first frame
@@ -53,7 +53,7 @@ pub walk_begins : {F : Type 0} (b : Behaviour F) (time : ℕ) (first : List F) (
 unfolding walk
 walk_begins b time first frame = record { same = refl; passed = refl; front = refl; later = refl; size = refl }
 
--- the list with the function at this place as its step left it
+-- the list with the function at this place in the state in which its step left it
 parted : {F : Type 0} (now : List F) (i : ℕ) (y : F) (w : Walked F) → i < length now → led (take (i + 1) (set now i y)) w ≡ led (take i now) (then_walked y w)
 parted now i y w inside = ap (λ front. led front w) (take_more_set now i y inside) ∙ ap (λ l. record { functions = l; fate = w.fate }) (append_assoc (take i now) (y ∷ []) w.functions)
 
@@ -126,7 +126,7 @@ stops_in_turn b time first frame i now current d y way inside (inl same) =
 stops_in_turn b time first frame i now current d y way inside (inr seen) =
     (i + 1, stops_here b time first frame (i + 1) (set now i y) (frame_after b time (get_or now i d) current) (walk_goes_on b time first frame i now current (frame_after b time (get_or now i d) current) d y way inside seen.1 refl seen.0) (let size = way.size in omega arith))
 
--- a function handed this frame on
+-- a function passed this frame on
 pub handed_next : {F : Type 0} (b : Behaviour F) (time : ℕ) (f : F) (frame next : List ℕ) → Some next ≡ handed_on b time f frame → (is_drop (applied b time f frame).verdict ≡ false) × (next ≡ frame_after b time f frame)
 handed_next b time f frame next is = by_test (is_drop (applied b time f frame).verdict) refl is
   where
@@ -134,7 +134,7 @@ handed_next b time f frame next is = by_test (is_drop (applied b time f frame).v
     by_test true e same = absurd cc
     by_test false e same = (e, cc)
 
--- a function handed none on
+-- a function passed none on
 pub handed_none : {F : Type 0} (b : Behaviour F) (time : ℕ) (f : F) (frame : List ℕ) → None ≡ handed_on b time f frame → is_drop (applied b time f frame).verdict ≡ true
 handed_none b time f frame is = by_test (is_drop (applied b time f frame).verdict) refl is
   where

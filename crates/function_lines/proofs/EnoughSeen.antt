@@ -1,4 +1,4 @@
--- A packet of which all is seen that rules ask for meets the same rule.
+-- A view of a packet that shows all that the rules look at meets the same rule as the packet.
 use Rattle.std.proofs.Common.{◌≡◌, List, [], ◌∷◌, Bool, true, false, ◌&&◌, refl, ap, subst}
 use Rattle.std.specs.Prelude.{◌==◌, Some, cond}
 use Rattle.std.specs.List.{list_all, list_any}
@@ -15,7 +15,7 @@ use Rattle.function_lines.specs.declared.asking.Asked.{Asked}
 use Rattle.function_lines.specs.declared.asking.Value.{Value}
 use Rattle.function_lines.specs.declared.asking.Value.TheVariants as values
 
--- what is asked for by these tests of values
+-- what these tests of values look at
 abbrev asked_by : (Value → Bool) → Asked
 asked_by asks = record {
   tag = asks values.Tag;
@@ -26,7 +26,7 @@ asked_by asks = record {
 }
 
 module _ (full seen : Seen) where
-  -- where less is asked for
+  -- if the tests look at less
   less : (few many : Value → Bool) → ((v : Value) → few v ≡ true → many v ≡ true) → Shows (asked_by many) full seen → Shows (asked_by few) full seen
   less few many within s = record {
     tag = λ h. s.tag (within values.Tag h);

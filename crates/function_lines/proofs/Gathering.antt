@@ -17,7 +17,7 @@ pub record AreRead {L : Type 0} (lines : KindLines L) (settings : List Setting) 
 pub begins : {L : Type 0} (lines : KindLines L) (settings : List Setting) → AreRead lines settings 0 [] None
 begins lines settings = record { said_so_far = refl; refused = refl }
 
--- one more line behind the others
+-- one more line after the others
 refused_more : {L : Type 0} (lines : KindLines L) (before settings : List Setting) (s : Setting) → refused_behind lines before (settings ++ s ∷ []) ≡ refused_behind lines before settings ++ (if is_refused lines (before ++ settings) s then s.line ∷ [] else [])
 refused_more lines before [] s =
     append-nil (if is_refused lines before s then s.line ∷ [] else [])

@@ -13,7 +13,7 @@ abbrev Among : ℕ → List ℕ → Type 0
 Among n [] = ⊥
 Among n (m ∷ ns) = (n ≡ m) ⊎ Among n ns
 
--- what was the least before isn't less than what is in the end
+-- the least so far isn't less than the least in the end
 still_below : (first : Option ℕ) (lines : List ℕ) (l : ℕ) → fold lesser first lines ≡ Some l → IfSome first (λ k. l ≤ k)
 still_below None lines l e = tt
 still_below (Some k) [] l e = let same : k ≡ l = cc in omega arith
@@ -42,7 +42,7 @@ is_among first (n ∷ lines) l e = elim (is_among (lesser first n) lines l e) [
   | inl is ↦ elim (one_of first n l is) [ inl was ↦ inl was | inr same ↦ inr (inl (sym same)) ]
 ]
 
--- a least that was found stays one
+-- a least that was found remains one
 is_some_least : (k : ℕ) (lines : List ℕ) → fold lesser (Some k) lines ≡ None → ⊥
 is_some_least k [] e = cc
 is_some_least k (n ∷ lines) e = is_some_least (min k n) lines e
@@ -66,7 +66,7 @@ in_second : (n : ℕ) (xs ys : List ℕ) → Among n ys → Among n (xs ++ ys)
 in_second n [] ys h = h
 in_second n (m ∷ xs) ys h = inr (in_second n xs ys h)
 
--- a line that is told where it is refused
+-- a line that is reported, if it is refused
 told : (refused : Bool) (line n : ℕ) → Among n (if refused then line ∷ [] else []) → (refused ≡ true) × (line ≡ n)
 told true line n (inl same) = (refl, sym same)
 told true line n (inr h) = absurd h

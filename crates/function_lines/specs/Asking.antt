@@ -1,4 +1,4 @@
--- For proofs: which values of a packet rules ask for, so that no other has to be seen.
+-- For proofs: which values of a packet the rules look at, so that no other has to be seen.
 use Rattle.std.specs.Prelude.{◌≡◌, List, Bool, true, false}
 use Rattle.std.specs.List.{list_any}
 use Rattle.policy_text.specs.declared.clause.Clause.{Clause}
@@ -38,7 +38,7 @@ asked_of fit rules = record {
   destination_port = rules_ask fit values.DestinationPort rules;
 }
 
--- what is seen has the values that are asked for, and the protocol
+-- what is seen has the values that the rules look at, and the protocol
 pub record Shows (asked : Asked) (full seen : Seen) : Type 0 where
   pub tag : asked.tag ≡ true → seen.tag ≡ full.tag
   pub src : asked.source ≡ true → seen.src ≡ full.src

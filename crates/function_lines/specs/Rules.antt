@@ -1,4 +1,4 @@
--- Believed: rules that ask for clauses: how the clauses are read, and which rule is the first that a packet meets.
+-- Believed: rules of clauses: how the clauses are read, and which rule is the first that a packet meets.
 use Rattle.std.specs.Prelude.{ℕ, List, Option, Some, None, Result, Ok, Err, find}
 use Rattle.policy_text.specs.declared.clause.Clause.{Clause}
 use Rattle.policy_text.specs.declared.clause.Match.{Match}
@@ -10,7 +10,7 @@ abbrev pub fit_by : Result (List Clause) ℕ → Option Match
 fit_by (Ok clauses) = Some (record { clauses = clauses })
 fit_by (Err place) = None
 
--- the clauses that the words spell, none where they are no clauses
+-- the clauses that the words spell, none if they are no clauses
 abbrev pub fit_of : List (List ℕ) → Option Match
 fit_of words = fit_by (clauses_of words)
 

@@ -1,5 +1,5 @@
--- For proofs: a function for tests, which writes into the type of service how many packets have passed since it last dropped
--- one, and drops every third packet.
+-- For proofs: a function for tests, which writes into the type of service the number of packets that passed since it
+-- last dropped one, and drops every third packet.
 use Rattle.std.specs.Prelude.{◌≡◌, ◌≤◌, ◌+◌, ℕ, List, [], ◌∷◌, length, Bool, true, false, ◌&&◌, if◌then◌else◌, nat_le, Option, Some, None, is_some, IfSome, IsSomeAnd, refl}
 use Rattle.std.proofs.Common.{ap, sym}
 use Rattle.packet_fields.specs.Frames.{is_tag_list}
@@ -17,12 +17,12 @@ use Rattle.chain_walk.specs.declared.verdict.Verdict.TheVariants.{Pass, Drop}
 abbrev pub painter_profile : Profile
 painter_profile = record (plain [] (Tos ∷ [])) { drops = true; state = true }
 
--- the type of service, where it is there
+-- the type of service, if it is present
 abbrev pub painted : Bool → ℕ → Values
 painted there count Tos = if there then Some (count ∷ []) else None
 painted there count f = None
 
--- the painters of a type, by the count that each has and how one is made of a count
+-- the painters of a type, by the count of each and how one is made from a count
 abbrev pub painter_behaviour : {F : Type 0} → (F → ℕ) → (ℕ → F) → Behaviour F
 painter_behaviour count make = record {
   profile = λ f. painter_profile;

@@ -24,7 +24,7 @@ rises-longer low p (x ∷ xs) h below l =
     let rest = rises-longer (suc x) p xs after (λ q i. below q (grind arith)) (omega arith) in
     grind arith
 
--- a function that no branch holds back is forbidden behind none of the stage
+-- a function that no branch holds back is forbidden after none of the stage
 none_forbidden : (chain : List Profile) (first next : ℕ) (bs : List Branch) → Stands chain first next bs → count_by (holds_back chain next) bs ≡ 0 → (q : ℕ) → first ≤ q → q < next → is_forbidden chain q next ≡ false
 unfolding holds_back
 none_forbidden chain first next bs s none q l h =
@@ -96,7 +96,7 @@ size-grown chain p (b ∷ bs) =
     one_longer true = length-append b.positions (p ∷ [])
     one_longer false = omega arith
 
--- A test that only those pass that also pass the other, and that no fewer pass: then all that pass the other pass it.
+-- A test whose passers all pass the other test, and are no fewer: then all that pass the other pass it.
 pub all-from_count : (p h : Branch → Bool) → ((b : Branch) → p b ≡ true → h b ≡ true) → (bs : List Branch) → count_by h bs ≤ count_by p bs → AllByRecursion (λ b. h b ≡ true → p b ≡ true) bs
 all-from_count p h f [] l = tt
 all-from_count p h f (b ∷ bs) l =
@@ -124,7 +124,7 @@ all-from_count p h f (b ∷ bs) l =
         let z : one_if (p b) ≡ 0 = ap one_if e in
         omega (arith, l, count-cons h b bs, count-cons p b bs, z)
 
--- the branch that holds a function back has each that is forbidden before it
+-- the branch that holds a function back has each function that is forbidden before it
 pub record HoldsAll (chain : List Profile) (first next : ℕ) (b : Branch) : Type 0 where
   pub has : (q : ℕ) → first ≤ q → q < next → is_forbidden chain q next ≡ true → holds_back chain next b ≡ true → holds q b ≡ true
 
@@ -145,7 +145,7 @@ all_held chain first next bs s one =
     let once = s.once q a.from a.before in
     all-from_count (holds q) (holds_back chain next) (λ b i. any-at (λ x. is_forbidden chain x next) b.positions q i a.forbidden) bs (omega (arith, once, one))))
 
--- what is known of one branch before a function comes
+-- what holds for one branch before a function is placed
 record Before (chain : List Profile) (first next : ℕ) (b : Branch) : Type 0 where
   pub rise : Rises first b
   pub end : EndsBelow next b
@@ -161,7 +161,7 @@ before chain first next bs s one =
 pub not_held : (next : ℕ) (b : Branch) → EndsBelow next b → holds next b ≡ false
 not_held next b e = elim (holds next b) as (λ t. holds next b ≡ t → t ≡ false) [ true ↦ λ i. let l = e.below next i in absurd (omega (arith, l)) | false ↦ λ i. refl ] refl
 
--- what is known of it afterwards
+-- what holds for it afterwards
 record After (chain : List Profile) (first next : ℕ) (b c : Branch) : Type 0 where
   pub rise : Rises first c
   pub end : EndsBelow (next + 1) c

@@ -21,7 +21,7 @@ pub AllByRecursion-map : {X Y : Type 0} (P : Y → Type 0) (f : X → Y) (xs : L
 AllByRecursion-map P f [] h = tt
 AllByRecursion-map P f (x ∷ xs) h = (h.0, AllByRecursion-map P f xs h.1)
 
--- 1 where a test passes
+-- 1 if a test passes
 abbrev pub one_if : Bool → ℕ
 one_if b = cond b 1 0
 

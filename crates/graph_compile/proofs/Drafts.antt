@@ -7,7 +7,7 @@ use Rattle.action_profile.specs.declared.rights.Profile.{Profile}
 use Rattle.graph_compile.specs.declared.draft.Draft.{Draft}
 use Rattle.graph_compile.specs.Stages.{holds_back, placed, placed_by, nothing_placed, finished, graph_of}
 
--- a draft, and then the functions from a place on, which counts from 0
+-- a draft, and then the functions from a place on, counted from 0
 unfoldable pub rest_placed : List Profile → Draft → ℕ → Draft
 rest_placed chain draft index = fold (placed chain) draft (range_with_len (index + 1) (length chain - index))
 
@@ -28,7 +28,7 @@ few_placed_by zero chain draft position = simp (length-append) (omega arith)
 few_placed_by (suc zero) chain draft position = simp (length-map) (omega arith)
 few_placed_by (suc (suc n)) chain draft position = omega arith
 
--- a function opens one branch at most
+-- a function opens at most one branch
 pub few_placed : (chain : List Profile) (draft : Draft) (position : ℕ) → length (placed chain draft position).branches ≤ length draft.branches + 1
 unfolding placed
 few_placed chain draft position = few_placed_by (count_by (holds_back chain position) draft.branches) chain draft position

@@ -17,7 +17,7 @@ use Rattle.graph_compile.specs.Stages.{is_forbidden, holds_back, alone, longer, 
 use Rattle.graph_compile.proofs.Counting.{AllByRecursion-push, AllByRecursion-map, AllByRecursion-weaker}
 use Rattle.graph_compile.proofs.FiveFacts.{each-at}
 
--- each function but the first has one before it that is forbidden before it
+-- each function but the first comes after one that is forbidden before it
 abbrev AreJoined : List Profile → List ℕ → Type 0
 AreJoined chain qs = (k r : ℕ) → slice_get qs (suc k) ≡ Some r → list_any (λ q. is_forbidden chain q r) (take (suc k) qs) ≡ true
 
@@ -147,7 +147,7 @@ IsKept-rest : (chain : List Profile) (draft : Draft) (p n : ℕ) → IsKept chai
 IsKept-rest chain draft p zero k = k
 IsKept-rest chain draft p (suc n) k = IsKept-rest chain (placed chain draft p) (p + 1) n (IsKept-placed chain draft p k)
 
--- of all stages
+-- for all stages
 record IsSound (chain : List Profile) (stages : List Stage) : Type 0 where
   pub filled : AllByRecursion (IsFilled chain) stages
   pub caused : IsCaused chain stages

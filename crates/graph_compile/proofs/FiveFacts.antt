@@ -1,4 +1,4 @@
--- Stages that follow each other are what the five facts say, and the other way round.
+-- Stages follow each other exactly when the five facts hold.
 use Rattle.std.proofs.Common.{◌≡◌, ◌≢◌, ℕ, zero, suc, ◌+◌, ◌-◌, ◌<◌, ◌≤◌, Bool, true, false, ◌||◌, List, [], ◌∷◌, length, refl, sym, ap, ◌∙◌, subst, arith, Some, inl, inr}
 use Rattle.std.specs.Prelude.{◌==◌, nat_le, nat_lt, count_by, flat_map, slice_get}
 use Rattle.std.specs.List.{list_any, AllByRecursion}
@@ -185,7 +185,7 @@ place-of chain first (t ∷ stages) next h (suc i) s e =
     let low = p.from in
     record { first = p.first; from = omega (arith, low); to = p.to; lawful = p.lawful }
 
--- a position that stands in a stage is within the stage's range
+-- a position that is in a stage is within the stage's range
 stands-inside : (chain : List Profile) (first : ℕ) (s : Stage) → IsLawfulStage chain first s → (q : ℕ) → stands q s ≡ true → (first ≤ q) × (q < first + size s.branches)
 stands-inside chain first s l q i =
     let st = l.stands in
@@ -239,7 +239,7 @@ record HasFacts (chain : List Profile) (first last : ℕ) (stages : List Stage) 
 pub rising-each : (bs : List Branch) → AreRising bs → AllByRecursion RisesFrom bs
 rising-each bs r = each-from RisesFrom bs (λ j b e. record { low = 0; rise = r j b e })
 
--- a position that is counted stands in some stage
+-- a position that is counted is in some stage
 stands-counted : (q : ℕ) (s : Stage) → AreRising s.branches → times q (positions_of s.branches) ≢ 0 → stands q s ≡ true
 stands-counted q s r n =
     let counted = times-stage q s.branches (rising-each s.branches r) in
@@ -276,7 +276,7 @@ rises-higher low (x ∷ xs) h f =
     let least : low ≤ x = f x (grind arith) in
     grind (arith, nat_tests)
 
--- a stage of which each position of a range stands once, and no other
+-- a stage in which each position of a range occurs once, and no other
 facts-stand : (chain : List Profile) (first : ℕ) (bs : List Branch) → ((q : ℕ) → times q (positions_of bs) ≡ inside first (first + size bs) q) → AreRising bs → AreApart chain bs → Stands chain first (first + size bs) bs
 facts-stand chain first bs t r a = record {
   count = refl;
@@ -345,7 +345,7 @@ facts-staged chain first last (s ∷ stages) h =
       }),
     )
 
--- where each stage is below the next and each has a function, each is below all that follow
+-- if each stage is below the next and each has a function, each is below all that follow
 record HasFunction (s : Stage) : Type 0 where
   pub at : ℕ
   pub here : stands at s ≡ true

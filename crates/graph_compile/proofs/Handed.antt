@@ -1,4 +1,4 @@
--- How a field is handed on, from what each branch does with it.
+-- How a field is passed on, from what each branch does with it.
 use Rattle.std.proofs.Common.{◌≡◌, ◌≢◌, ℕ, zero, suc, ◌<◌, ◌≤◌, Bool, true, false, ◌||◌, cond, List, [], ◌∷◌, length, refl, sym, ap, ◌∙◌, subst, arith, Some, None}
 use Rattle.std.specs.Prelude.{◌==◌, nat_lt, Option, count_by, position, slice_get}
 use Rattle.std.specs.Option.{option_map_or}
@@ -82,7 +82,7 @@ written-is : (touches : List Touch) (f : Field) (k : ℕ) → position (has_writ
 unfolding mode_of
 written-is touches f k e = ap (λ (o : Option ℕ). option_map_or (written_mode touches f) o Shared) e
 
--- one that writes touches
+-- a branch that writes also touches
 touch-write : (f : Field) (touches : List Touch) (k : ℕ) → passes_at (has_write f) touches k ≡ true → passes_at (has_touch f) touches k ≡ true
 touch-write f [] k h = cc
 touch-write f (t ∷ ts) zero h = or-right (has t.reads f) (has t.writes f) h

@@ -53,7 +53,7 @@ range-rises low (suc n) =
     let rest : rises (suc low) (range_with_len (low + 1) n) ≡ true = subst P (omega arith) (range-rises (low + 1) n) in
     grind arith
 
--- the branches of the row stand from the first position on
+-- the row has the positions from the first on
 row-stands : (chain : List Profile) (n : ℕ) → Stands chain 1 (1 + n) (row_of n)
 row-stands chain zero = record { count = refl; rise = tt; end = tt; once = λ q l h. absurd (omega arith); join = tt }
 row-stands chain (suc n) = record {

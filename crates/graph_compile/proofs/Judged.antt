@@ -1,4 +1,4 @@
--- What the tests of a graph say is what the five facts say.
+-- The tests of a graph pass exactly when the five facts hold.
 use Rattle.std.proofs.Common.{◌≡◌, ◌≢◌, ◌↔◌, ℕ, zero, suc, ◌+◌, ◌-◌, ◌<◌, ◌≤◌, ◌⊎◌, Bool, true, false, ◌||◌, not, List, [], ◌∷◌, ◌++◌, length, refl, sym, ap, ◌∙◌, subst, arith, Some, None, inl, inr}
 use Rattle.std.specs.Prelude.{◌==◌, ◌&&◌, Option, nat_le, nat_lt, count_by, slice_get, IsTrue}
 use Rattle.std.specs.List.{list_any, list_all, AllByRecursion}
@@ -18,7 +18,7 @@ use Rattle.graph_compile.proofs.FiveFacts.{each-at, each-from, count-at, count-t
 use Rattle.graph_compile.proofs.Testing.{list_all-from, list_all-at, range_all-from, range_all-at, all-from_recursion, recursion-from_all}
 use Rattle.graph_compile.proofs.Times.{times-stage}
 
--- a position stands in a stage where it is among the stage's positions
+-- a position is in a stage if it is among the stage's positions
 
 any-append : (p : ℕ → Bool) (xs ys : List ℕ) → list_any p (xs ++ ys) ≡ (list_any p xs || list_any p ys)
 any-append p [] ys = refl
@@ -28,7 +28,7 @@ stands-listed : (q : ℕ) (bs : List Branch) → list_any (λ x. x == q) (positi
 stands-listed q [] = refl
 stands-listed q (b ∷ bs) = any-append (λ x. x == q) b.positions (positions_of bs) ∙ ap (λ (t : Bool). holds q b || t) (stands-listed q bs)
 
--- how often a position stands
+-- how often a position occurs
 
 none-counted : (q : ℕ) (xs : List ℕ) → list_any (λ x. x == q) xs ≡ false → times q xs ≡ 0
 none-counted q xs none =
@@ -37,7 +37,7 @@ none-counted q xs none =
       | false ↦ λ e. let some : times q xs ≢ 0 = grind (arith, nat_tests) in let any = any-from_count (λ x. x == q) xs (omega (arith, some)) in cc
     ] refl
 
--- one branch at most, where the stage has the position at all
+-- one branch at most, if the stage has the position at all
 stands-held : (q : ℕ) (s : Stage) → count_by (holds q) s.branches ≤ 1 → one_if (stands q s) ≡ count_by (holds q) s.branches
 stands-held q s l =
     elim (stands q s) as (λ b. stands q s ≡ b → one_if b ≡ count_by (holds q) s.branches) [
@@ -78,7 +78,7 @@ stage-times q zero s (t ∷ stages) e =
     subst P same (omega (arith, times-stages q t stages))
 stage-times q (suc i) s (t ∷ stages) e = omega (arith, times-stages q t stages, stage-times q i s stages e)
 
--- a stage for itself
+-- a stage alone
 
 rising-tested : (bs : List Branch) → list_all (λ b. rises 0 b.positions) bs ≡ true → AreRising bs
 rising-tested bs h j b e = each-at (λ b. rises 0 b.positions ≡ true) bs (recursion-from_all (λ b. rises 0 b.positions) bs h) j b e
@@ -263,6 +263,6 @@ lawful-judged graph chain h = record {
               ] refl
         ] refl
 
--- an answer that is true just where all tests pass is true just where the five facts hold
+-- an answer that is true exactly when all tests pass is true exactly when the five facts hold
 pub lawful-answer : (answer : Bool) (graph : Graph) (chain : List Profile) → IsTrue answer ↔ AreJudged chain graph.stages → IsTrue answer ↔ IsLawful graph chain
 lawful-answer answer graph chain h = (λ e. judged-lawful graph chain (h.0 e), λ l. h.1 (lawful-judged graph chain l))

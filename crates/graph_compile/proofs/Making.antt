@@ -12,7 +12,7 @@ use Rattle.graph_compile.proofs.Following.{IsStaged-push}
 use Rattle.graph_compile.proofs.BranchesInOrder.{Stands-new, Stands-alone, Stands-grown}
 use Rattle.graph_compile.proofs.Testing.{IsLawfulStage-made}
 
--- the stages that are closed follow each other, and the open one stands behind them, up to the next position
+-- the closed stages follow each other, and the open one comes after them, up to the next position
 pub record IsMade (chain : List Profile) (draft : Draft) (next : ℕ) : Type 0 where
   pub first : ℕ
   pub closed : IsStaged chain 1 draft.stages first
@@ -64,7 +64,7 @@ graph-staged chain =
     let end : 1 + length chain ≡ suc (length chain) = omega arith in
     subst P end (IsStaged-finished chain draft.stages m.first (1 + length chain) draft.branches m.closed m.current)
 
--- what holds of a value holds of an answer that equals it
+-- what holds for a value holds for an answer that equals it
 pub if_ok-same : {T E : Type 0} (r : Result T E) (x : T) (P : T → Type 0) → IfOk r (λ y. y ≡ x) → P x → IfOk r P
 if_ok-same (Ok y) x P e p = subst P (sym e) p
 if_ok-same (Err e) x P h p = tt

@@ -30,7 +30,7 @@ get-map f [] i x e = cc
 get-map f (y ∷ ys) zero x e = let same : y ≡ x = cc in ap (λ z. Some (f z)) same
 get-map f (y ∷ ys) (suc i) x e = get-map f ys i x e
 
--- where one alone passes, it is the first
+-- if exactly one passes, it is the first
 first-at : (p : Branch → Bool) (xs : List Branch) (i : ℕ) (x : Branch) → slice_get xs i ≡ Some x → p x ≡ true → count_by p xs ≡ 1 → position_or_len p xs ≡ i
 first-at p [] i x e h o = cc
 first-at p (y ∷ ys) zero x e h o =
@@ -79,7 +79,7 @@ first-of p (x ∷ xs) h =
           first-next p x xs t (first-of p xs (omega (arith, count-cons p x xs, none, h)))
     ] refl
 
--- numbers that rise are those of their range that stand among them
+-- numbers that rise are those of their range that are among them
 
 below-out : (low q : ℕ) (xs : List ℕ) → q < low → rises low xs ≡ true → list_any (λ x. x == q) xs ≡ false
 below-out low q [] l h = refl

@@ -39,7 +39,7 @@ copies_of_stage s = map (copies s.parts) all_fields
 abbrev copied_in : List Profile → List (List ℕ)
 copied_in chain = map copies_of_stage (graph_of chain).stages
 
--- a firewall and a signature may drop a packet, of which a translator behind them has a state
+-- a firewall and a signature may drop a packet; a translator after them keeps a state of it
 abbrev filtered : List Profile
 filtered = profile_of Firewall ∷ profile_of Signature ∷ profile_of Nat ∷ []
 
@@ -52,7 +52,7 @@ filtered_modes : modes filtered ≡ (Shared ∷ Shared ∷ Shared ∷ Shared ∷
 unfolding graph_of placed holds_back is_forbidden pair_of first_forbidden pairs actions all_actions copied is_copied stage_parts touch_of branch_reads branch_writes mode_of
 filtered_modes = refl
 
--- a tagger, a limiter, a marker and a translator, which stands behind the limiter alone
+-- a tagger, a limiter, a marker and a translator, which comes after the limiter alone
 abbrev tagged : List Profile
 tagged = profile_of Tagger ∷ profile_of Limiter ∷ profile_of Marker ∷ profile_of Nat ∷ []
 

@@ -8,7 +8,7 @@ use Rattle.graph_compile.specs.declared.graph.Branch.{Branch}
 use Rattle.graph_compile.specs.Lawful.{Stands, IsLawfulStage}
 use Rattle.graph_compile.specs.Stages.{stage_of}
 
--- a test of each number that stands in a list
+-- a test of each number that is in a list
 pub list_all-from : (p : ℕ → Bool) (xs : List ℕ) → ((q : ℕ) → list_any (λ x. x == q) xs ≡ true → p q ≡ true) → list_all p xs ≡ true
 list_all-from p [] h = refl
 list_all-from p (x ∷ xs) h =

@@ -1,4 +1,4 @@
--- How often a position stands.
+-- How often a position occurs.
 use Rattle.std.proofs.Common.{◌≡◌, ◌≢◌, ℕ, zero, suc, ◌+◌, ◌<◌, ◌≤◌, Bool, true, false, ◌&&◌, ◌||◌, not, cond, List, [], ◌∷◌, ◌++◌, length, refl, sym, ap, ◌∙◌, subst, arith}
 use Rattle.std.specs.Prelude.{◌==◌, nat_le, nat_lt, count_by, filter}
 use Rattle.std.specs.List.{list_any, AllByRecursion}
@@ -9,7 +9,7 @@ use Rattle.graph_compile.specs.Facts.{times, rises, positions_of}
 use Rattle.graph_compile.specs.Positions.{holds}
 use Rattle.graph_compile.proofs.Counting.{one_if, count-cons}
 
--- 1 where a number is within bounds, the first of them included
+-- 1 if a number is within bounds, the first of them included
 abbrev pub inside : ℕ → ℕ → ℕ → ℕ
 inside low high q = one_if (nat_le low q && nat_lt q high)
 
@@ -65,7 +65,7 @@ times-cons q x xs = count-cons (λ y. y == q) x xs
 pub times-append : (q : ℕ) (xs ys : List ℕ) → times q (xs ++ ys) ≡ times q xs + times q ys
 times-append q xs ys = sum_by-append (λ x. one_if (x == q)) xs ys
 
--- positions that rise stand once, and none below the least
+-- positions that rise occur once, and none below the least
 pub times-rising_low : (q low : ℕ) (xs : List ℕ) → rises low xs ≡ true → q < low → times q xs ≡ 0
 times-rising_low q low [] h l = refl
 times-rising_low q low (x ∷ xs) h l =
@@ -145,7 +145,7 @@ none-empty (x ∷ xs) h =
     let none = h x in
     absurd (omega (arith, times-cons x x xs, here, none))
 
--- each number of a range stands once, in one of two lists, and those of the first are below those of the second
+-- each number of a range occurs once, in one of two lists, and those of the first are below those of the second
 pub record IsParted (low high : ℕ) (xs ys : List ℕ) : Type 0 where
   pub order : low ≤ high
   pub each : (q : ℕ) → times q xs + times q ys ≡ inside low high q
@@ -174,7 +174,7 @@ front-none low high xs ys p e =
           | false ↦ λ e. let more : low ≤ q = grind (arith, nat_tests) in inside-high low (low + 0) q (omega arith)
         ] refl
 
--- the least number of the range stands in the first list
+-- the least number of the range is in the first list
 parted-next : (low high : ℕ) (xs ys : List ℕ) → low < high → IsParted low high xs ys → times low xs ≡ 1 → IsParted (low + 1) high (without low xs) ys
 parted-next low high xs ys less p one = record {
   order = omega arith;

@@ -75,7 +75,7 @@ pub copies-by_touches : (chain : List Profile) (branches : List Branch) (f : Fie
 unfolding copies stage_parts
 copies-by_touches chain branches f = ap (λ (m : Mode). copies_by_mode m (touches_of chain branches) f) (modes-at (touches_of chain branches) f)
 
--- a search finds just where a test passes
+-- a search finds exactly when a test passes
 pub position-none : (p : Touch → Bool) (ts : List Touch) → list_any p ts ≡ false → position p ts ≡ None
 position-none p ts h =
     elim (nat_lt (position_or_len p ts) (length ts)) as (λ b. nat_lt (position_or_len p ts) (length ts) ≡ b → cond b (Some (position_or_len p ts)) None ≡ None) [

@@ -15,7 +15,7 @@ positions_of branches = flat_map (λ b. b.positions) branches
 abbrev pub all_positions : List Stage → List ℕ
 all_positions stages = positions_of (flat_map (λ s. s.branches) stages)
 
--- how often a number stands in a list
+-- how often a number occurs in a list
 abbrev pub times : ℕ → List ℕ → ℕ
 times q qs = count_by (λ x. x == q) qs
 
@@ -28,7 +28,7 @@ rises low (q ∷ qs) = nat_le low q && rises (suc q) qs
 abbrev pub AreRising : List Branch → Type 0
 AreRising branches = (j : ℕ) (b : Branch) → slice_get branches j ≡ Some b → IsTrue (rises 0 b.positions)
 
--- of two functions in different branches, the one that is earlier in the chain isn't forbidden before the other
+-- of two functions in different branches, the earlier one in the chain isn't forbidden before the other
 abbrev pub AreApart : List Profile → List Branch → Type 0
 AreApart chain branches = (j k : ℕ) (b c : Branch) → j ≢ k → slice_get branches j ≡ Some b → slice_get branches k ≡ Some c →
     (q r : ℕ) → IsTrue (holds q b) → IsTrue (holds r c) → q < r → is_forbidden chain q r ≡ false
@@ -38,7 +38,7 @@ abbrev pub IsBelow : Stage → Stage → Type 0
 IsBelow s t = (q r : ℕ) → IsTrue (stands q s) → IsTrue (stands r t) → q < r
 
 pub record IsLawful (graph : Graph) (chain : List Profile) : Type 0 where
-  -- each position of the chain stands once, and no other number stands
+  -- each position of the chain occurs once, and no other number occurs
   pub each_once : (q : ℕ) → 1 ≤ q → q ≤ length chain → times q (all_positions graph.stages) ≡ 1
   pub no_other : (q : ℕ) → (q < 1) ⊎ (length chain < q) → times q (all_positions graph.stages) ≡ 0
   -- positions rise within each branch

@@ -1,4 +1,4 @@
--- For proofs: the tests that tell whether a graph is lawful.
+-- For proofs: the tests that show whether a graph is lawful.
 use Rattle.std.specs.Prelude.{◌≡◌, ◌==◌, ◌-◌, ◌+◌, ◌&&◌, ◌||◌, ℕ, Bool, true, not, nat_le, nat_lt, List, length, Option, Some, count_by, slice_get, All}
 use Rattle.std.specs.List.{list_any, list_all, range_with_len}
 use Rattle.action_profile.specs.declared.rights.Profile.{Profile}
@@ -9,15 +9,15 @@ use Rattle.graph_compile.specs.Parts.{stage_parts}
 use Rattle.graph_compile.specs.Positions.{holds, stands}
 use Rattle.graph_compile.specs.Stages.{is_forbidden}
 
--- a position stands in one stage, and in one of its branches
+-- a position is in one stage, and in one of its branches
 abbrev pub stands_once : ℕ → List Stage → Bool
 stands_once position stages = (count_by (stands position) stages == 1) && list_all (λ s. nat_le (count_by (holds position) s.branches) 1) stages
 
--- each position below this one does
+-- each position below this one is
 abbrev pub stand_once : ℕ → List Stage → Bool
 stand_once end stages = list_all (λ q. stands_once q stages) (range_with_len 1 (end - 1))
 
--- no other number stands
+-- no other number occurs
 abbrev pub stand_within : ℕ → List Stage → Bool
 stand_within end stages = list_all (λ q. nat_le 1 q && nat_lt q end) (all_positions stages)
 
@@ -43,7 +43,7 @@ joins chain branches branch position = list_all (λ q. not (is_forbidden chain q
 abbrev pub is_joined : List Profile → List Branch → Branch → Bool
 is_joined chain branches branch = list_all (joins chain branches branch) branch.positions
 
--- what is asked of each stage for itself
+-- what is required of each stage alone
 pub record IsSound (chain : List Profile) (stage : Stage) : Type 0 where
   pub rising : list_all (λ b. rises 0 b.positions) stage.branches ≡ true
   pub joined : list_all (is_joined chain stage.branches) stage.branches ≡ true

@@ -9,7 +9,7 @@ use Rattle.graph_compile.specs.Parts.{stage_parts}
 use Rattle.graph_compile.specs.Positions.{holds}
 use Rattle.graph_compile.specs.Stages.{is_forbidden}
 
--- so many functions
+-- this number of functions
 abbrev pub size : List Branch → ℕ
 size branches = sum_by (λ b. length b.positions) branches
 
@@ -21,7 +21,7 @@ pub record Rises (first : ℕ) (b : Branch) : Type 0 where
 pub record EndsBelow (high : ℕ) (b : Branch) : Type 0 where
   pub below : (q : ℕ) → holds q b ≡ true → q < high
 
--- each function stands in the branch of those that are forbidden before it, as far as they are in this stage
+-- each function is in the branch of those that are forbidden before it, as far as they are in this stage
 pub record Joins (chain : List Profile) (first : ℕ) (b : Branch) : Type 0 where
   pub joins : (q r : ℕ) → holds r b ≡ true → first ≤ q → q < r → is_forbidden chain q r ≡ true → holds q b ≡ true
 

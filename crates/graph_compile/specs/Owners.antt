@@ -23,10 +23,10 @@ pub record HasOwners (chain : List Profile) (first : ℕ) (stage : Stage) : Type
   pub owned : (q : ℕ) → first ≤ q → q < first + size stage.branches → owner stage.branches q < length stage.branches
   -- a branch has those that it owns, in order
   pub listed : (j : ℕ) (b : Branch) → slice_get stage.branches j ≡ Some b → b.positions ≡ filter (λ q. owner stage.branches q == j) (range_with_len first (size stage.branches))
-  -- functions of different branches may stand side by side
+  -- functions of different branches may run side by side
   pub beside : (q r : ℕ) (x y : Profile) → first ≤ q → q < r → r < first + size stage.branches → owner stage.branches q ≢ owner stage.branches r →
       profile_at chain q ≡ Some x → profile_at chain r ≡ Some y → IsTrue (is_allowed (pair_of x y))
-  -- a branch is dealt what its functions read and write
+  -- a branch gets what its functions read and write
   pub touches : length stage.parts.touches ≡ length stage.branches
   pub reads : (q : ℕ) (x : Profile) (t : Touch) (f : Field) → first ≤ q → q < first + size stage.branches →
       profile_at chain q ≡ Some x → slice_get stage.parts.touches (owner stage.branches q) ≡ Some t → IsTrue (reads_of x f) → has t.reads f ≡ true

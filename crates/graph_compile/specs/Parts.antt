@@ -1,4 +1,4 @@
--- Believed: how a stage hands on the fields of a packet to its branches.
+-- Believed: how a stage passes on the fields of a packet to its branches.
 use Rattle.std.specs.Prelude.{◌-◌, ℕ, Bool, false, List, Option, map, filter, position, slice_get}
 use Rattle.std.specs.List.{list_any}
 use Rattle.std.specs.Option.{option_map_or}
@@ -39,7 +39,7 @@ touch_of chain branch = record {
 abbrev pub touches_of : List Profile → List Branch → List Touch
 touches_of chain branches = map (touch_of chain) branches
 
--- the parts of a stage: what each branch touches, and the mode of each field by that
+-- the parts of a stage: what each branch touches, and from that the mode of each field
 unfoldable pub stage_parts : List Profile → List Branch → StageParts
 stage_parts chain branches = record {
   modes = modes_of (touches_of chain branches);

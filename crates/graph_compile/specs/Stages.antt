@@ -1,4 +1,4 @@
--- Believed: which functions of a chain run side by side: they are taken in chain order, each into the open stage where it can be.
+-- Believed: which functions of a chain run side by side: each in turn is put into the open stage if possible.
 use Rattle.std.specs.Prelude.{ℕ, zero, suc, Bool, false, not, if◌then◌else◌, List, [], ◌∷◌, ◌++◌, length, Option, Some, map, fold, count_by}
 use Rattle.std.specs.List.{list_any, range_with_len}
 use Rattle.action_profile.specs.declared.rights.Profile.{Profile}
@@ -13,7 +13,7 @@ abbrev pub is_forbidden_pair : Option Profile → Option Profile → Bool
 is_forbidden_pair (Some x) (Some y) = not (is_allowed (pair_of x y))
 is_forbidden_pair x y = false
 
--- the function at one position may not stand beside the one at a later position
+-- the function at one position may not be beside the one at a later position
 unfoldable pub is_forbidden : List Profile → ℕ → ℕ → Bool
 is_forbidden chain earlier later = is_forbidden_pair (profile_at chain earlier) (profile_at chain later)
 
@@ -38,7 +38,7 @@ stage_of chain branches = record { branches = branches; parts = stage_parts chai
 abbrev pub nothing_placed : Draft
 nothing_placed = record { stages = []; branches = [] }
 
--- The next function, where so many branches of the open stage hold one that is forbidden before it: with none it opens a new branch, with one it comes to that branch's end, with more it closes the stage and opens the next.
+-- The next function: if no branch holds it back, it opens a branch; if one does, it joins it; else it opens a stage.
 abbrev pub placed_by : ℕ → List Profile → Draft → ℕ → Draft
 placed_by zero chain draft position = record draft { branches = draft.branches ++ alone position ∷ [] }
 placed_by (suc zero) chain draft position = record draft { branches = map (grown chain position) draft.branches }
@@ -47,7 +47,7 @@ placed_by (suc (suc more)) chain draft position = record { stages = draft.stages
 unfoldable pub placed : List Profile → Draft → ℕ → Draft
 placed chain draft position = placed_by (count_by (holds_back chain position) draft.branches) chain draft position
 
--- the stages, the open one among them where it has a branch
+-- the stages, with the open one if it has a branch
 abbrev pub all_stages : List Profile → List Stage → List Branch → List Stage
 all_stages chain stages [] = stages
 all_stages chain stages (b ∷ bs) = stages ++ stage_of chain (b ∷ bs) ∷ []

@@ -1,4 +1,4 @@
--- A packet that is gone behind a stage was dropped at a position of the stage.
+-- A packet that is gone after a stage was dropped at a position of the stage.
 use Rattle.std.proofs.Common.{◌≡◌, ◌-◌, ◌∙◌, ℕ, List, ◌∷◌, [], ap, refl, arith, Bool, true, false, Some, None, inl, inr, min, eq-eqb}
 use Rattle.std.specs.Prelude.{Option, ◌⊎◌, ◌==◌, if◌then◌else◌, slice_get, IsTrue}
 use Rattle.std.specs.List.{list_any}
@@ -18,7 +18,7 @@ use Rattle.graph_law.specs.Merging.{least_nil, lesser, gone_or, merged}
 nil_same : {p q : ℕ} → Nil p ≡ Nil q → p ≡ q
 nil_same e = cc
 
--- what a function hands on as dropped came so, or it dropped it
+-- a drop that a function passes on arrived at it, or is its own
 moved_nil : {F : Type 0} (b : Behaviour F) (fixed : Fixed) (q : ℕ) (f : F) (a : BranchEnd) (p : ℕ) → moved_end b fixed q f a ≡ Nil p → (a ≡ Nil p) ⊎ (q ≡ p)
 unfolding moved_end
 moved_nil b fixed q f (Nil r) p e = inl e

@@ -21,7 +21,7 @@ use Rattle.graph_law.proofs.Sides.{sides}
 use Rattle.graph_law.proofs.Staging.{sides_fit}
 use Rattle.graph_law.proofs.Walking.{then_walk, length_walk, walk_keeps}
 
--- what the crates below say of lawful stages, and of functions side by side
+-- what the lower crates say about lawful stages, and about functions side by side
 pub record Lower : Type 0 where
   pub independent : Independent
   pub owners : (chain : List Profile) (first : ℕ) (stage : Stage) → IsLawfulStage chain first stage → HasOwners chain first stage
@@ -31,7 +31,7 @@ pub record Lower : Type 0 where
 abbrev led : {F : Type 0} → List F → Ended F → Ended F
 led pre w = record { functions = pre ++ w.functions; end = w.end }
 
--- a walk with the functions before it and behind it
+-- a walk with the functions before it and after it
 abbrev pub between : {F : Type 0} → List F → Ended F → List F → Ended F
 between pre w post = record { functions = pre ++ (w.functions ++ post); end = w.end }
 
@@ -55,7 +55,7 @@ stage_fits {F} b fixed chain stage p pre mid post values law calm free owners is
     (omega arith) (λ q low high. let l = owners.owned q low (omega arith) in let m = owners.touches in omega arith) in
     (λ i. record { functions = (is i).functions; end = merged values (is i).arrivals }) ∙ ap (λ w. between pre w post) fits
 
--- what walks behind some functions that have walked, where the packet is still there
+-- the walk after some functions that have walked, if the packet is still there
 unfoldable pub then_rest : {F : Type 0} → List F → End → List F → (Values → Ended F) → Ended F
 then_rest done (Gone q) later on = record { functions = done ++ later; end = Gone q }
 then_rest done (Out values) later on = record { functions = done ++ (on values).functions; end = (on values).end }
@@ -81,7 +81,7 @@ walk_append {F} b fixed p (x ∷ xs) ys values = go (is_drop t.verdict) (walk_ap
     go false ih = ap (then_ended t.after) ih ∙ rest_more t.after (walk_fields b fixed (p + 1) xs (over t.written values)).functions (walk_fields b fixed (p + 1) xs (over t.written values)).end ys (walk_fields b fixed (p + 1 + length xs) ys)
         ∙ ap (λ q. then_rest (t.after ∷ (walk_fields b fixed (p + 1) xs (over t.written values)).functions) (walk_fields b fixed (p + 1) xs (over t.written values)).end ys (walk_fields b fixed q ys)) (omega arith)
 
--- one stage more
+-- one more stage
 flow_more : {F : Type 0} (b : Behaviour F) (fixed : Fixed) (s : Stage) (stages : List Stage) (p : ℕ) (pre mid post : List F) (values : Values) →
     KeepsProfile b → suc (length pre) ≡ p → staged b fixed s values (pre ++ (mid ++ post)) ≡ between pre (walk_fields b fixed p mid values) post →
     ((done : List F) (after : Values) → suc (length done) ≡ p + length mid → map b.profile (done ++ post) ≡ map b.profile (pre ++ (mid ++ post)) → flow b fixed stages after (done ++ post) ≡ led done (walk_fields b fixed (p + length mid) post after)) →
@@ -107,7 +107,7 @@ flow_more {F} b fixed s stages p pre mid post values law at_p is on =
     go (Out after) = ap (flow b fixed stages after) (sym (append_assoc pre w.functions post)) ∙ on (pre ++ w.functions) after size_kept profiles_kept
         ∙ (λ i. record { functions = append_assoc pre w.functions (walk_fields b fixed (p + length mid) post after).functions i; end = (walk_fields b fixed (p + length mid) post after).end })
 
--- the stages from the one that begins at position p on, with the functions before it
+-- the stages from the one that begins at position `p` on, with the functions before it
 flow_fits : {F : Type 0} (b : Behaviour F) (fixed : Fixed) (chain : List Profile) (stages : List Stage) (p : ℕ) (pre rest : List F) (values : Values) →
     KeepsProfile b → IsQuiet b → Lower → chain ≡ map b.profile (pre ++ rest) → suc (length pre) ≡ p → IsStaged chain p stages (suc (length chain)) →
     flow b fixed stages values (pre ++ rest) ≡ led pre (walk_fields b fixed p rest values)

@@ -94,7 +94,7 @@ kept_listed gone side c p n [] (row ∷ rows) h same = absurd (omega arith)
 kept_listed gone side c p n (x ∷ branches) [] h same = absurd (omega arith)
 kept_listed gone side c p n (x ∷ branches) (row ∷ rows) h same = λ i. kept gone (h.0 i) row ∷ kept_listed gone side (c + 1) p n branches rows h.1 (omega arith) i
 
--- what stands at a branch's positions among all functions stands on its side among those of its stage
+-- what is at a branch's positions among all functions is on its side among those of its stage
 taken_side : {A : Type 0} (side : ℕ → ℕ) (c p : ℕ) (before ws behind : List A) → suc (length before) ≡ p → taken (places side c p (length ws)) (before ++ (ws ++ behind)) ≡ picked side c p ws
 unfolding picked
 taken_side side c p before [] behind e = refl
@@ -144,7 +144,7 @@ length_notes {F} {N} b notes fixed (f ∷ fs) values = go (is_drop t.verdict) (l
     go true ih = ap suc (length-map fs (λ h. None))
     go false ih = ap suc ih
 
--- a lawful stage to which the packet comes
+-- a lawful stage at which the packet arrives
 stage_notes_fit : {F N : Type 0} (b : Behaviour F) (notes : Notes F N) (fixed : Fixed) (chain : List Profile) (stage : Stage) (p : ℕ) (gone : ℕ → Bool) (pre mid post : List F) (before behind : List (Option N)) (values : Values) →
     KeepsProfile b → Independent → HasOwners chain p stage → chain ≡ map b.profile (pre ++ (mid ++ post)) → suc (length pre) ≡ p → suc (length before) ≡ p → length mid ≡ size stage.branches →
     ((q : ℕ) → p ≤ q → q < p + length mid → gone q ≡ gone_before (walk_fields b fixed p mid values).end q) →
@@ -198,7 +198,7 @@ none_listed {F} {N} gone side c p n (x ∷ branches) (t ∷ touches) mid count s
     kept_none gone x.positions ∙ ap (λ qs. map (λ q. None) qs) (h.0 ∙ ap (places side c p) (sym count)) ∙ picked_none side c p mid in
     λ i. here i ∷ none_listed gone side (c + 1) p n branches touches mid count (omega arith) h.1 i
 
--- a stage behind the one in which the packet was dropped
+-- a stage after the one in which the packet was dropped
 stage_none_fit : {F N : Type 0} (chain : List Profile) (stage : Stage) (p : ℕ) (gone : ℕ → Bool) (mid : List F) (before behind : List (Option N)) → HasOwners chain p stage → suc (length before) ≡ p → length mid ≡ size stage.branches →
     kept_in gone stage.branches (map (λ x. map (λ q. None) x.positions) stage.branches) ≡ taken_in stage.branches (before ++ (map (λ f. None) mid ++ behind))
 stage_none_fit chain stage p gone mid before behind owners at_before count =
@@ -207,7 +207,7 @@ stage_none_fit chain stage p gone mid before behind owners at_before count =
     none_listed gone side 0 p (size stage.branches) stage.branches stage.parts.touches mid count owners.touches listed
     ∙ sym (taken_listed side 0 p (size stage.branches) stage.branches stage.parts.touches before (map (λ f. None) mid) behind at_before (length-map mid (λ f. None) ∙ count) owners.touches listed)
 
--- the notes of functions to which a packet comes so
+-- the notes of functions at which a packet arrives in this state
 unfoldable notes_behind : {F N : Type 0} → Behaviour F → Notes F N → Fixed → List F → End → List (Option N)
 notes_behind b notes fixed rest (Out values) = walk_notes b notes fixed rest values
 notes_behind b notes fixed rest (Gone d) = map (λ f. None) rest
@@ -245,13 +245,13 @@ end_append {F} b fixed p xs ys values = ap (λ w. w.end) (walk_append b fixed p 
     go (Out after) = refl
     go (Gone d) = refl
 
--- what is gone before a position of the front is so behind the front
+-- what is dropped before a position of the front is also dropped before it after the front
 front_gone : {F : Type 0} (b : Behaviour F) (fixed : Fixed) (p : ℕ) (ys : List F) (end : End) (q : ℕ) → q ≤ p → gone_before (end_behind b fixed p ys end) q ≡ gone_before end q
 unfolding end_behind
 front_gone b fixed p ys (Out after) q low = begun b fixed p ys after q low
 front_gone b fixed p ys (Gone d) q low = refl
 
--- The functions from position p on, which are those of one stage and those behind it.
+-- The functions from position `p` on, which are those of one stage and those after it.
 record Parted {F : Type 0} (b : Behaviour F) (chain : List Profile) (s : Stage) (stages : List Stage) (p : ℕ) (pre rest : List F) : Type 0 where
   mid : List F
   post : List F
@@ -280,7 +280,7 @@ parted_at {F} b chain s stages p pre rest lower is at_p staged = record {
     many : length (take (size s.branches) rest) ≡ size s.branches
     many = length-take-le (size s.branches) rest long
 
--- the stages from the one that begins at position p on, to which the packet comes so
+-- the stages from the one that begins at position `p` on, at which the packet arrives in this state
 flow_notes_fit : {F N : Type 0} (b : Behaviour F) (notes : Notes F N) (fixed : Fixed) (chain : List Profile) (gone : ℕ → Bool) (stages : List Stage) (p : ℕ) (pre rest : List F) (before : List (Option N)) (end : End) →
     KeepsProfile b → IsQuiet b → Lower → chain ≡ map b.profile (pre ++ rest) → suc (length pre) ≡ p → suc (length before) ≡ p → IsStaged chain p stages (suc (length chain)) →
     ((q : ℕ) → p ≤ q → q < p + length rest → gone q ≡ gone_before (end_behind b fixed p rest end) q) →

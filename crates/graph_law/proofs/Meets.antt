@@ -1,4 +1,4 @@
--- A branch against the walk through all functions of the stage.
+-- A branch compared with the walk through all functions of the stage.
 use Rattle.std.proofs.Common.{◌≡◌, ◌≢◌, ◌≤◌, ◌+◌, ◌∙◌, ℕ, List, ◌∷◌, [], map, sym, ap, refl, arith, Bool, true, false, inl, inr, if◌then◌else◌}
 use Rattle.std.specs.Prelude.{◌⊎◌}
 use Rattle.packet_fields.specs.Writing.{over}
@@ -15,7 +15,7 @@ use Rattle.graph_law.proofs.Quiet.{Late, Late.live, Late.late, ran_quiet}
 use Rattle.graph_law.proofs.Rights.{Reads, Writes, Stateless, Apart}
 use Rattle.graph_law.proofs.Sides.{ran, ran_here, ran_elsewhere, ran_nil, is_or_not, Agree, agree_trans}
 
--- the last writers once the walk is over
+-- the last writers after the walk
 unfoldable pub last_of : {F : Type 0} → Behaviour F → Fixed → ℕ → List F → Values → (Field → ℕ) → Field → ℕ
 last_of b fixed p [] values last = last
 last_of b fixed p (f ∷ fs) values last =
@@ -23,7 +23,7 @@ last_of b fixed p (f ∷ fs) values last =
     then last
     else last_of b fixed (p + 1) fs (over (stepped b fixed f values).written values) (marks p (stepped b fixed f values).written last)
 
--- What comes from branch c fits where the walk ends: a version like the walk's packet, and no drop, where it goes out; and where it is gone at p, a drop there if p is on side c, and else none before p.
+-- Branch c's result fits the walk: if it goes out, a like version; if it drops at p, a drop on side c, or none before.
 abbrev pub Meets : (ℕ → ℕ) → ℕ → End → (Field → ℕ) → BranchEnd → Type 0
 Meets side c (Out values) last (Live v) = Same side c values last v
 Meets side c (Out values) last (Nil q) = ⊥

@@ -1,4 +1,4 @@
--- The merge of arrivals that fit where a walk ends is that end.
+-- The merge of arrivals that fit the end of a walk is that end.
 use Rattle.std.proofs.Common.{◌≡◌, ◌≢◌, ◌<◌, ◌≤◌, ◌+◌, ◌∙◌, ℕ, List, ◌∷◌, [], length, sym, ap, refl, arith, Bool, true, false, Some, None, inl, inr, min, ltb-true, ltb-false}
 use Rattle.std.specs.Prelude.{Option, ◌⊎◌, nat_lt}
 use Rattle.packet_fields.specs.declared.field.Field.{Field}
@@ -21,7 +21,7 @@ none_nil side c values last [] h = refl
 none_nil side c values last (Live v ∷ rest) h = none_nil side (c + 1) values last rest h.1
 none_nil side c values last (Nil q ∷ rest) h = absurd h.0
 
--- no drop before p
+-- no drop before `p`
 data NotBefore (p : ℕ) : Option ℕ → Type 0 where
   nobody : NotBefore p None
   somebody : (q : ℕ) → p ≤ q → NotBefore p (Some q)
@@ -91,7 +91,7 @@ best_at_end side c values last x best (Live v ∷ rest) h all = best_at_end side
     one_more = omega arith
 best_at_end side c values last x best (Nil q ∷ rest) h all = absurd all.0
 
--- all arrivals fit where the walk ends, and what nobody wrote is as it came
+-- all arrivals fit the end of the walk, and a field that no function wrote is unchanged
 pub merged_fits : (side : ℕ → ℕ) (values : Values) (end : End) (last : Field → ℕ) (rest : List BranchEnd) → ((p : ℕ) → end ≡ Gone p → side p < length rest) → ((x : Field) → 0 < last x → side (last x) < length rest) →
     AllMeet side 0 end last rest → ((after : Values) → end ≡ Out after → (x : Field) → last x ≡ 0 → after x ≡ values x) → merged values rest ≡ end
 unfolding merged gone_or

@@ -13,20 +13,20 @@ use Rattle.chain_walk.specs.declared.fixed.Fixed.{Fixed}
 use Rattle.graph_law.specs.Branches.{Version, writer_by, written_at}
 use Rattle.graph_law.proofs.Rights.{Reads, Writes}
 
--- Beside the walk, `last x` is the position of the function that wrote x last, and 0 where none did. The version has the walk's value where it has the walk's last writer.
+-- In the walk, `last x` is the position of x's last writer, 0 if none. A version with that writer has the walk's value.
 pub record Same (side : ℕ → ℕ) (c : ℕ) (values : Values) (last : Field → ℕ) (v : Version) : Type 0 where
   pub below : (x : Field) → v.writers x ≤ last x
   pub same : (x : Field) → v.writers x ≡ last x → 0 < last x → v.values x ≡ values x
   pub mine : (x : Field) → 0 < last x → side (last x) ≡ c → v.writers x ≡ last x
 
--- What the functions still to come are shown is the same.
+-- The functions still to come see the same.
 pub record Near (side : ℕ → ℕ) (c p : ℕ) (fs : List Profile) (values : Values) (last : Field → ℕ) (v : Version) : Type 0 where
   pub reads : (x : Field) → Reads side c p fs x → v.values x ≡ values x
   pub has : (x : Field) → Writes side c p fs x → is_some (v.values x) ≡ is_some (values x)
   pub same : Same side c values last v
   pub past : (x : Field) → last x < p
 
--- the last writers once the function at position p wrote these values
+-- the last writers after the function at position `p` wrote these values
 abbrev pub marks : ℕ → Values → (Field → ℕ) → Field → ℕ
 marks p new last = λ x. writer_by (new x) p (last x)
 
@@ -38,7 +38,7 @@ same_has : (r v w : Bool) → (r ≡ true → v ≡ w) → (r && v) ≡ (r && w)
 same_has true v w h = h refl
 same_has false v w h = refl
 
--- a function is shown the same where what it reads and what it may write are the same
+-- a function sees the same if what it reads and what it may write are the same
 pub shown_same : (f : Profile) (fixed : Fixed) (v w : Values) → ((x : Field) → reads_of f x ≡ true → v x ≡ w x) → ((x : Field) → writes_of f x ≡ true → is_some (v x) ≡ is_some (w x)) → shown_by f fixed v ≡ shown_by f fixed w
 shown_same f fixed v w reads has = λ i. record {
   values = λ x. same_shown (reads_of f x) (v x) (w x) (reads x) i;
@@ -97,7 +97,7 @@ none_written : (new old : Option (List ℕ)) → new ≡ None → option_or new 
 none_written None old e = refl
 none_written (Some y) old e = absurd cc
 
--- a step never changes which fields are there
+-- a step never changes which fields are present
 pub still_there : (new old : Option (List ℕ)) (writes : Bool) → ((writes && is_some old) ≡ false → new ≡ None) → is_some (option_or new old) ≡ is_some old
 still_there None old writes h = refl
 still_there (Some y) (Some z) writes h = refl

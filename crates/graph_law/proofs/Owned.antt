@@ -1,4 +1,4 @@
--- What a lawful stage says of its functions one by one is what the proof goes over.
+-- What a lawful stage says about its functions, one by one; the proof follows this.
 use Rattle.std.proofs.Common.{◌≡◌, ◌≢◌, ◌<◌, ◌+◌, ◌-◌, ◌∙◌, ℕ, zero, suc, List, ◌∷◌, [], ◌++◌, length, ap, refl, arith, Bool, true, false, Some, inl, inr}
 use Rattle.std.specs.Prelude.{◌||◌, slice_get, IsTrue}
 use Rattle.std.proofs.lemmas.Option.{slice_get_within}
@@ -14,12 +14,12 @@ use Rattle.graph_compile.specs.Parts.{profile_at}
 use Rattle.graph_compile.specs.declared.graph.Stage.{Stage}
 use Rattle.graph_law.proofs.Rights.{Reads, Writes, Stateless, Apart, Touched, AllTouched}
 
--- what it is worth that two functions may stand side by side
+-- what follows from two functions being allowed side by side
 pub record Independent : Type 0 where
   pub unread : (x y : Profile) (f : Field) → IsTrue (is_allowed (pair_of x y)) → IsTrue (writes_of x f) → reads_of y f ≡ false
   pub stateless : (x y : Profile) → IsTrue (is_allowed (pair_of x y)) → IsTrue x.drops → y.state ≡ false
 
--- functions from position p on, of which two of different branches may stand side by side
+-- functions from position `p` on, of which two of different branches may be side by side
 record Allowed (side : ℕ → ℕ) (p : ℕ) (fs : List Profile) : Type 0 where
   pairs : (i j : ℕ) (x y : Profile) → i < j → slice_get fs i ≡ Some x → slice_get fs j ≡ Some y → side (p + i) ≢ side (p + j) → IsTrue (is_allowed (pair_of x y))
 
@@ -90,7 +90,7 @@ get_between [] (y ∷ mid) post (suc i) (suc j) x at e = get_between [] mid post
 get_between (z ∷ pre) mid post zero j x at e = absurd (omega arith)
 get_between (z ∷ pre) mid post (suc i) j x at e = get_between pre mid post i j x (omega arith) e
 
--- the stage whose first function has position p, and what its branches own
+-- the stage whose first function has position `p`, and what its branches own
 record Owned (chain : List Profile) (p : ℕ) (stage : Stage) (pre mid post : List Profile) : Type 0 where
   owners : HasOwners chain p stage
   parted : chain ≡ pre ++ (mid ++ post)

@@ -1,4 +1,4 @@
--- A packet that comes out has the fields that it came in with.
+-- A packet that goes out has the fields that it came in with.
 use Rattle.std.proofs.Common.{◌≡◌, ◌<◌, ◌-◌, ◌∙◌, ℕ, List, ◌∷◌, [], sym, ap, refl, arith, Bool, true, false, Some, None, ltb-true}
 use Rattle.std.specs.Prelude.{Option, ◌&&◌, is_some, if◌then◌else◌, slice_get, nat_lt}
 use Rattle.std.specs.Option.{option_or}
@@ -17,7 +17,7 @@ use Rattle.graph_law.specs.Branches.{Version, BranchEnd, BranchEnd.Live, BranchE
 use Rattle.graph_law.specs.Flow.{branched, staged, then_flow, flow}
 use Rattle.graph_law.specs.Merging.{later, latest, unwritten, gone_or, merged}
 
--- A branch's version of a packet has a field only where the packet has it, and where a function wrote it.
+-- A branch's version of a packet has a field only if the packet has it or a function wrote it.
 record Has (x : Field) (old : Option (List ℕ)) (v : Version) : Type 0 where
   only : is_some (v.values x) ≡ true → is_some old ≡ true
   wrote : 0 < v.writers x → is_some (v.values x) ≡ true
@@ -33,7 +33,7 @@ dealt_only false old h = absurd cc
 dealt_has : (x : Field) (t : Touch) (values : Values) → BranchEndHas x (values x) (dealt t values)
 dealt_has x t values = record { only = dealt_only (has_touch x t) (values x); wrote = λ l. absurd (omega arith) }
 
--- what is written where it may be is a field that is there
+-- a field that is written is present
 may_write : (writes : Bool) (new was : Option (List ℕ)) → ((writes && is_some was) ≡ false → new ≡ None) → is_some new ≡ true → is_some was ≡ true
 may_write writes new (Some y) h e = refl
 may_write true new None h e = absurd (let none = h refl in let e' = ap is_some none in cc)

@@ -1,4 +1,4 @@
--- A branch of functions without state, of which those that count are quiet, leaves them as they are, whatever it is shown.
+-- A branch of functions without state, of which those that count are quiet, leaves them unchanged, whatever it sees.
 use Rattle.std.proofs.Common.{◌≡◌, ◌≢◌, ◌≤◌, ◌+◌, ℕ, List, ◌∷◌, [], map, sym, refl, arith, Bool, true, false, inl, inr}
 use Rattle.std.specs.Prelude.{◌⊎◌}
 use Rattle.chain_walk.specs.Counting.{IsQuiet}
@@ -10,7 +10,7 @@ use Rattle.graph_law.specs.Branches.{Version, BranchEnd, BranchEnd.Live, BranchE
 use Rattle.graph_law.proofs.Rights.{Stateless}
 use Rattle.graph_law.proofs.Sides.{ran, ran_here, ran_elsewhere, ran_nil, is_or_not, Agree, agree_refl}
 
--- no drop before position p
+-- no drop before position `p`
 pub data Late (p : ℕ) : BranchEnd → Type 0 where
   live : (v : Version) → Late p (Live v)
   late : (q : ℕ) → p ≤ q → Late p (Nil q)

@@ -7,7 +7,7 @@ use Rattle.action_profile.specs.Profiles.{reads_of, writes_of}
 use Rattle.action_profile.specs.declared.parts.Touch.{Touch}
 use Rattle.action_profile.specs.declared.rights.Profile.{Profile}
 
--- some function of branch c, from position p on, reads x
+-- some function of branch `c`, from position `p` on, reads x
 unfoldable pub Reads : (ℕ → ℕ) → ℕ → ℕ → List Profile → Field → Type 0
 Reads side c p [] x = ⊥
 Reads side c p (f ∷ fs) x = ((side p ≡ c) × (reads_of f x ≡ true)) ⊎ Reads side c (p + 1) fs x
@@ -16,7 +16,7 @@ unfoldable pub Writes : (ℕ → ℕ) → ℕ → ℕ → List Profile → Field
 Writes side c p [] x = ⊥
 Writes side c p (f ∷ fs) x = ((side p ≡ c) × (writes_of f x ≡ true)) ⊎ Writes side c (p + 1) fs x
 
--- no function of branch c, from position p on, has a state
+-- no function of branch `c`, from position `p` on, has a state
 unfoldable pub Stateless : (ℕ → ℕ) → ℕ → ℕ → List Profile → Type 0
 Stateless side c p [] = Unit {0}
 Stateless side c p (f ∷ fs) = (side p ≡ c → f.state ≡ false) × Stateless side c (p + 1) fs
@@ -35,7 +35,7 @@ pub record Touched (side : ℕ → ℕ) (c p : ℕ) (fs : List Profile) (t : Tou
   pub reads : (x : Field) → Reads side c p fs x → has_touch x t ≡ true
   pub writes : (x : Field) → Writes side c p fs x → has_touch x t ≡ true
 
--- the same of each branch from branch c on
+-- the same for each branch from branch `c` on
 unfoldable pub AllTouched : (ℕ → ℕ) → ℕ → ℕ → List Profile → List Touch → Type 0
 AllTouched side c p fs [] = Unit {0}
 AllTouched side c p fs (t ∷ touches) = Touched side c p fs t × AllTouched side (c + 1) p fs touches

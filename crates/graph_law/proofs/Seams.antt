@@ -1,4 +1,4 @@
--- A stage's functions among all functions of the chain: those before them, and those behind.
+-- A stage's functions among all functions of the chain: those before them, and those after.
 use Rattle.std.proofs.Common.{◌≡◌, ◌≢◌, ◌+◌, ◌-◌, ◌∙◌, ℕ, suc, List, ◌∷◌, [], ◌++◌, length, set, sym, ap, refl, arith, Some, inl, inr, eq-eqb, ne_eqb, append_assoc, length-append}
 use Rattle.std.specs.Prelude.{◌⊎◌, ◌==◌, slice_get, filter}
 use Rattle.std.specs.List.{range_with_len}
@@ -12,7 +12,7 @@ use Rattle.graph_law.specs.Branches.{BranchEnd, Ran, dealt, met, in_turn, moved_
 use Rattle.graph_law.specs.Flow.{then_branched, branched}
 use Rattle.graph_law.proofs.Sides.{ran, ran_here, ran_elsewhere, length_ran, sides, is_or_not}
 
--- the positions on side c, among n from p on
+-- the positions on side `c`, among `n` from `p` on
 abbrev pub places : (ℕ → ℕ) → ℕ → ℕ → ℕ → List ℕ
 places side c p n = filter (λ q. side q == c) (range_with_len p n)
 
@@ -58,7 +58,7 @@ in_turn_ran {F} b fixed side c p pre (f ∷ mid) post a e = go (is_or_not (side 
         on : (y : F) (a : BranchEnd) → in_turn b fixed (places side c (p + 1) (length mid)) (pre ++ (y ∷ (mid ++ post))) a ≡ record { functions = pre ++ (y ∷ ((ran b fixed side c (p + 1) mid a).functions ++ post)); arrival = (ran b fixed side c (p + 1) mid a).arrival }
         on y a = rw (← shift y (mid ++ post), ← shift y ((ran b fixed side c (p + 1) mid a).functions ++ post)) (ih y a)
 
--- each branch from branch c on has the positions on its side
+-- each branch from branch `c` on has the positions on its side
 unfoldable pub Listed : (ℕ → ℕ) → ℕ → ℕ → ℕ → List Branch → Type 0
 Listed side c p n [] = Unit {0}
 Listed side c p n (x ∷ branches) = (x.positions ≡ places side c p n) × Listed side (c + 1) p n branches

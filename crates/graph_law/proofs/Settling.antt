@@ -1,4 +1,4 @@
--- A walk of functions that count is the walk without their counting, behind which each settles what it noted.
+-- A walk of functions that count is the walk without their counting, after which each settles what it noted.
 use Rattle.std.proofs.Common.{◌≡◌, ◌+◌, ◌∙◌, ℕ, List, ◌∷◌, [], ◌++◌, length, map, sym, ap, refl, Bool, true, false, Some, None, if◌then◌else◌}
 use Rattle.std.specs.Prelude.{Option, slice_get}
 use Rattle.packet_fields.specs.Writing.{over, fields_of}
@@ -14,11 +14,11 @@ use Rattle.chain_walk.specs.declared.fixed.Fixed.{Fixed}
 use Rattle.graph_law.specs.NotedWalk.{walk_notes, settled_all, packet_notes, settled_in_turn}
 use Rattle.graph_law.proofs.Walking.{then_walk, walk_keeps}
 
--- a step behind which a note is settled
+-- a step after which a note is settled
 abbrev settled_step : {F N : Type 0} → Notes F N → Step F → Option N → Step F
 settled_step notes t note = record { after = settled notes t.after note; verdict = t.verdict; written = t.written }
 
--- a function's step is its step without counting, behind which it settles what it noted
+-- a function's step is its step without counting, after which it settles what it noted
 step_settles : {F N : Type 0} (b : Behaviour F) (notes : Notes F N) (fixed : Fixed) (f : F) (v : Values) → CountsByNotes b notes →
     stepped b fixed f v ≡ settled_step notes (stepped (quiet b) fixed f v) (noted b notes fixed f v)
 step_settles {F} {N} b notes fixed f v by_notes = go (b.profile f).counts refl
@@ -28,11 +28,11 @@ step_settles {F} {N} b notes fixed f v by_notes = go (b.profile f).counts refl
     go true is = by_notes.step fixed f v is ∙ ap (λ c. settled_step notes (idle f) (if c then notes.look f (shown_by (b.profile f) fixed v) else None)) is
     go false is = refl
 
--- a walk behind which notes are settled
+-- a walk after which notes are settled
 abbrev settled_end : {F N : Type 0} → Notes F N → List (Option N) → Ended F → Ended F
 settled_end notes made w = record { functions = settled_all notes w.functions made; end = w.end }
 
--- where nothing was noted nothing is settled
+-- if nothing was noted, nothing is settled
 settled_none : {F N : Type 0} (notes : Notes F N) (xs gs : List F) → settled_all notes xs (map (λ g. None) gs) ≡ xs
 unfolding settled_all
 settled_none notes [] gs = refl
@@ -115,7 +115,7 @@ quiet_settled {F} {N} b notes fixed p (f ∷ fs) (note ∷ made) values by_notes
     go true ih = refl
     go false ih = ap (then_ended (settled notes s.after note)) ih
 
--- what comes of a note and of those behind it
+-- what becomes of a note and of those after it
 abbrev then_notes : {F N : Type 0} → Option N → List F → List (Option N) → Bool → List (Option N)
 then_notes note later rest drops = note ∷ (if drops then map (λ g. None) later else rest)
 
@@ -167,7 +167,7 @@ fit_notes {F} {N} b notes fixed (f ∷ fs) values = (
     go true ih = fit_none N b fs
     go false ih = ih
 
--- what is said of whole frames that walk
+-- what is said about whole frames that walk
 abbrev pub WalkAsFields : Type 0 → Type 0
 WalkAsFields F = (b : Behaviour F) (time position : ℕ) (functions : List F) (frame : List ℕ) → KeepsProfile b →
     ◌≡◌ {A = Walked F} (walk b time position functions frame) (walked_by frame (walk_fields b (fixed_of time frame) position functions (fields_of frame)))
@@ -196,7 +196,7 @@ frame_quiet b notes fs made p walks quiet_law by_notes fit =
 frame_keeps : {F : Type 0} (b : Behaviour F) (fs : List F) (p : Packet) → WalkAsFields F → KeepsProfile b → map b.profile (walk b p.time 1 fs p.frame).functions ≡ map b.profile fs
 frame_keeps b fs p walks law = ap (λ w. map b.profile w.functions) (walks b p.time 1 fs p.frame law) ∙ walk_keeps b (fixed_of p.time p.frame) 1 fs (fields_of p.frame) law
 
--- What packets do to functions whose notes are settled, without counting, they do to the functions as they were.
+-- Packets change functions whose notes are settled, without counting, as they change the functions before that.
 record LaterQuiet {F N : Type 0} (b : Behaviour F) (notes : Notes F N) (fs : List F) (made : List (Option N)) (packets : List Packet) : Type 0 where
   ends : fates (quiet b) (settled_all notes fs made) packets ≡ fates (quiet b) fs packets
   after : functions_after (quiet b) (settled_all notes fs made) packets ≡ settled_all notes (functions_after (quiet b) fs packets) made
@@ -217,7 +217,7 @@ later_quiet {F} {N} b notes fs made (p ∷ packets) walks quiet_law by_notes fit
           ∙ (λ i. notes_settled b notes (fixed_of p.time p.frame) fs made (fields_of p.frame) by_notes fit i ∷ later.same i);
     }
 
--- Packets walk as they do without counting, and behind them all notes are settled.
+-- Packets walk as they do without counting, and after them all notes are settled.
 pub record Settles {F N : Type 0} (b : Behaviour F) (notes : Notes F N) (fs : List F) (packets : List Packet) : Type 0 where
   pub ends : fates b fs packets ≡ fates (quiet b) fs packets
   pub after : functions_after b fs packets ≡ settled_in_turn notes (functions_after (quiet b) fs packets) (packet_notes (quiet b) notes fs packets)
@@ -237,7 +237,7 @@ packets_settle {F} {N} b notes fs (p ∷ packets) walks law quiet_law by_notes =
       after = ap (λ x. functions_after b x.functions packets) here ∙ ih.after ∙ (λ i. settled_in_turn notes (later.after i) (later.same i));
     }
 
--- a function notes what it is shown of what the functions before it let out
+-- a function notes what it sees of what the functions before it passed on
 pub noted_reached : {F N : Type 0} (b : Behaviour F) (notes : Notes F N) (fixed : Fixed) (p : ℕ) (first : List F) (f : F) (later : List F) (values after : Values) →
     (walk_fields b fixed p first values).end ≡ Out after → slice_get (walk_notes b notes fixed (first ++ f ∷ later) values) (length first) ≡ Some (noted b notes fixed f after)
 unfolding walk_fields walk_notes
@@ -261,7 +261,7 @@ none_at : {F N : Type 0} (first : List F) (f : F) (later : List F) → ◌≡◌
 none_at [] f later = refl
 none_at (g ∷ first) f later = none_at first f later
 
--- and nothing of what one of them drops
+-- and nothing about what one of them drops
 pub noted_dropped : {F N : Type 0} (b : Behaviour F) (notes : Notes F N) (fixed : Fixed) (p : ℕ) (first : List F) (f : F) (later : List F) (values : Values) (position : ℕ) →
     (walk_fields b fixed p first values).end ≡ Gone position → slice_get (walk_notes b notes fixed (first ++ f ∷ later) values) (length first) ≡ Some None
 unfolding walk_fields walk_notes

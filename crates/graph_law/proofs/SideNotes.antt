@@ -1,4 +1,4 @@
--- The notes of a branch, against those of the walk through all functions of the stage.
+-- The notes of a branch, compared with those of the walk through all functions of the stage.
 use Rattle.std.proofs.Common.{◌≡◌, ◌≢◌, ◌<◌, ◌≤◌, ◌+◌, ◌∙◌, ℕ, suc, List, ◌∷◌, [], length, map, sym, ap, refl, arith, Bool, true, false, None, inl, inr, if◌then◌else◌, eq-eqb, ne_eqb}
 use Rattle.std.specs.Prelude.{Option, ◌⊎◌, ◌==◌, nat_lt}
 use Rattle.std.proofs.lemmas.Bool.Decides.{nat_tests}
@@ -21,7 +21,7 @@ use Rattle.graph_law.proofs.Sides.{ran, is_or_not, Agree, agree_trans, ran_other
 use Rattle.graph_law.proofs.Staging.{near_dealt}
 use Rattle.graph_law.proofs.Walking.{then_walk, walk_gone}
 
--- the notes of the functions of branch c, among those from position p on
+-- the notes of the functions of branch `c`, among those from position `p` on
 unfoldable pub side_notes : {F N : Type 0} → Behaviour F → Notes F N → Fixed → (ℕ → ℕ) → ℕ → ℕ → List F → BranchEnd → List (Option N)
 side_notes b notes fixed side c p [] a = []
 side_notes b notes fixed side c p (f ∷ fs) a =
@@ -29,7 +29,7 @@ side_notes b notes fixed side c p (f ∷ fs) a =
     then noted_of b notes fixed f a ∷ side_notes b notes fixed side c (p + 1) fs (moved_end b fixed p f a)
     else side_notes b notes fixed side c (p + 1) fs a
 
--- what stands on side c, from position p on
+-- what is on side `c`, from position `p` on
 unfoldable pub picked : {A : Type 0} → (ℕ → ℕ) → ℕ → ℕ → List A → List A
 picked side c p [] = []
 picked side c p (x ∷ xs) = if side p == c then x ∷ picked side c (p + 1) xs else picked side c (p + 1) xs
@@ -71,7 +71,7 @@ some_where : {N : Type 0} (c : Bool) (o : Option N) → c ≡ false → (if c th
 some_where true o e = absurd cc
 some_where false o e = refl
 
--- nothing is settled of a packet that is gone before all these functions
+-- nothing is settled for a packet that is dropped before all these functions
 kept_gone : {F N : Type 0} (b : Behaviour F) (notes : Notes F N) (fixed : Fixed) (side : ℕ → ℕ) (c p : ℕ) (gone : ℕ → Bool) (fs gs : List F) (a : BranchEnd) → Agree side c p fs gs →
     ((q : ℕ) → p ≤ q → q < p + length fs → gone q ≡ true) →
     kept gone (places side c p (length gs)) (side_notes b notes fixed side c p gs a) ≡ picked side c p (map (λ f. None) fs)
@@ -96,7 +96,7 @@ lt_true m n l = grind (arith, nat_tests)
 lt_false : (m n : ℕ) → n ≤ m → nat_lt m n ≡ false
 lt_false m n l = grind (arith, nat_tests)
 
--- no walk is gone before it begins
+-- no walk ends in a drop before it begins
 pub begun : {F : Type 0} (b : Behaviour F) (fixed : Fixed) (p : ℕ) (fs : List F) (values : Values) (q : ℕ) → q ≤ p → gone_before (walk_fields b fixed p fs values).end q ≡ false
 begun b fixed p fs values q low = go (walk_fields b fixed p fs values).end (walk_gone b fixed p fs values)
   where
@@ -158,7 +158,7 @@ notes_meet {F} {N} b notes fixed side c p gone (f ∷ fs) (g ∷ gs) values last
         ∙ ap (λ l. noted b notes fixed f values ∷ l) (ih (marks p t.written last) (written_at p t.written v) (near_own side c p (b.profile f) (map b.profile fs) values t.written last v n) (λ q low high. all q (omega arith) (omega arith)))
         ∙ sym (picked_here side c p (noted b notes fixed f values) rest here)
 
--- the branches from branch c on
+-- the branches from branch `c` on
 unfoldable pub sides_notes : {F N : Type 0} → Behaviour F → Notes F N → Fixed → (ℕ → ℕ) → ℕ → ℕ → List Touch → Values → List F → List (List (Option N))
 sides_notes b notes fixed side c p [] values fs = []
 sides_notes b notes fixed side c p (t ∷ touches) values fs =

@@ -1,4 +1,4 @@
--- A branch among the functions of its stage alone: of the functions in chain order it takes those whose position is on its side.
+-- A branch among the functions of its stage alone: it takes, in chain order, those whose position is on its side.
 use Rattle.std.proofs.Common.{◌≡◌, ◌≢◌, ◌<◌, ◌≤◌, ◌+◌, ◌∙◌, ℕ, List, ◌∷◌, [], length, sym, ap, refl, arith, eq-eqb, ne_eqb, inl, inr}
 use Rattle.std.specs.Prelude.{◌==◌, ◌⊎◌, if◌then◌else◌}
 use Rattle.action_profile.specs.declared.parts.Touch.{Touch}
@@ -11,20 +11,20 @@ use Rattle.graph_law.specs.Flow.{Branched, then_branched}
 abbrev pub then_ran : {F : Type 0} → F → Ran F → Ran F
 then_ran f rest = record { functions = f ∷ rest.functions; arrival = rest.arrival }
 
--- the functions of branch c, among those from position p on
+-- the functions of branch `c`, among those from position `p` on
 unfoldable pub ran : {F : Type 0} → Behaviour F → Fixed → (ℕ → ℕ) → ℕ → ℕ → List F → BranchEnd → Ran F
 ran b fixed side c p [] a = record { functions = []; arrival = a }
 ran b fixed side c p (f ∷ fs) a = if side p == c
     then then_ran (moved_function b fixed f a) (ran b fixed side c (p + 1) fs (moved_end b fixed p f a))
     else then_ran f (ran b fixed side c (p + 1) fs a)
 
--- the branches from branch c on, each dealt what it touches
+-- the branches from branch `c` on, each with what it touches
 unfoldable pub sides : {F : Type 0} → Behaviour F → Fixed → (ℕ → ℕ) → ℕ → ℕ → List Touch → Values → List F → Branched F
 sides b fixed side c p [] values fs = record { functions = fs; arrivals = [] }
 sides b fixed side c p (t ∷ touches) values fs =
     then_branched (ran b fixed side c p fs (dealt t values)).arrival (sides b fixed side (c + 1) p touches values (ran b fixed side c p fs (dealt t values)).functions)
 
--- two numbers are one, or not
+-- two numbers are equal, or not
 pub is_or_not : (m n : ℕ) → (m ≡ n) ⊎ (m ≢ n)
 is_or_not m n = grind arith
 
@@ -62,7 +62,7 @@ unfolding sides
 length_sides b fixed side c p [] values fs = refl
 length_sides b fixed side c p (t ∷ touches) values fs = length_sides b fixed side (c + 1) p touches values (ran b fixed side c p fs (dealt t values)).functions ∙ length_ran b fixed side c p fs (dealt t values)
 
--- the same functions on side c
+-- the same functions on side `c`
 unfoldable pub Agree : {F : Type 0} → (ℕ → ℕ) → ℕ → ℕ → List F → List F → Type 0
 Agree side c p [] [] = Unit {0}
 Agree side c p [] (g ∷ gs) = ⊥
@@ -82,7 +82,7 @@ agree_trans side c p (x ∷ xs) [] zs h k = absurd h
 agree_trans side c p (x ∷ xs) (y ∷ ys) [] h k = absurd k
 agree_trans side c p (x ∷ xs) (y ∷ ys) (z ∷ zs) h k = (λ e. h.0 e ∙ k.0 e, agree_trans side c (p + 1) xs ys zs h.1 k.1)
 
--- lists of one length that agree on each side are one
+-- lists of one length that agree on each side are equal
 pub agree_all : {F : Type 0} (side : ℕ → ℕ) (n p : ℕ) (xs ys : List F) → ((q : ℕ) → p ≤ q → q < p + length xs → side q < n) → ((c : ℕ) → c < n → Agree side c p xs ys) → length xs ≡ length ys → xs ≡ ys
 unfolding Agree
 agree_all side n p [] [] inside h long = refl

@@ -21,7 +21,7 @@ use Rattle.graph_law.proofs.Rights.{Apart, Touched, AllTouched}
 use Rattle.graph_law.proofs.Sides.{ran, sides, is_or_not, Agree, agree_refl, agree_trans, agree_all, ran_others, length_sides}
 use Rattle.graph_law.proofs.Walking.{walk_gone, length_walk, last_within, untouched}
 
--- each branch is dealt what its functions are shown
+-- each branch gets what its functions see
 pub near_dealt : (side : ℕ → ℕ) (c p : ℕ) (fs : List Profile) (t : Touch) (values : Values) → 0 < p → Touched side c p fs t →
     Near side c p fs values (λ x. 0) (record { values = λ x. if has_touch x t then values x else None; writers = λ x. 0 })
 near_dealt side c p fs t values pos touched = record {
@@ -31,7 +31,7 @@ near_dealt side c p fs t values pos touched = record {
   past = λ x. pos;
 }
 
--- the branches from branch c on, against the walk
+-- the branches from branch `c` on, compared with the walk
 record AllEnd {F : Type 0} (side : ℕ → ℕ) (c n p : ℕ) (gs : List F) (w : Ended F) (last : Field → ℕ) (r : Branched F) : Type 0 where
   arrivals : AllMeet side c w.end last r.arrivals
   count : length r.arrivals ≡ n

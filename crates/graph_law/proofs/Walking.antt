@@ -14,7 +14,7 @@ use Rattle.graph_law.specs.Branches.{writer_by}
 use Rattle.graph_law.proofs.Meets.{last_of}
 use Rattle.graph_law.proofs.Near.{still_there, marks}
 
--- the function at position p steps, and those behind it walk on where it lets the packet pass
+-- the function at position `p` steps, and those after it walk on if it passes the packet
 abbrev pub then_walk : {F : Type 0} → Behaviour F → Fixed → ℕ → Step F → List F → Values → Bool → Ended F
 then_walk b fixed p t fs values drops =
     if drops then record { functions = t.after ∷ fs; end = Gone p } else then_ended t.after (walk_fields b fixed (p + 1) fs (over t.written values))
@@ -33,7 +33,7 @@ walk_there {F} b fixed p (f ∷ fs) values after x law e = go (is_drop t.verdict
     go true e ih = absurd cc
     go false e ih = ih e ∙ still_there (t.written x) (values x) (writes_of (b.profile f) x) (law.writes fixed f values x)
 
--- the function that drops stands among those walked
+-- the function that drops is among those walked
 pub walk_gone : {F : Type 0} (b : Behaviour F) (fixed : Fixed) (p : ℕ) (fs : List F) (values : Values) (q : ℕ) → (walk_fields b fixed p fs values).end ≡ Gone q → (p ≤ q) × (q < p + length fs)
 unfolding walk_fields
 walk_gone b fixed p [] values q e = absurd cc
@@ -79,7 +79,7 @@ marked_within : (new : Option (List ℕ)) (low p n : ℕ) → low ≤ p → (0 <
 marked_within None low p n l h s = let a = h s in let below = a.0 in let above = a.1 in (below, omega arith)
 marked_within (Some y) low p n l h s = (l, omega arith)
 
--- the last writer stands among the functions walked
+-- the last writer is among the functions walked
 pub last_within : {F : Type 0} (b : Behaviour F) (fixed : Fixed) (low p : ℕ) (fs : List F) (values : Values) (last : Field → ℕ) (x : Field) → low ≤ p → (0 < last x → (low ≤ last x) × (last x < p)) → 0 < last_of b fixed p fs values last x →
     (low ≤ last_of b fixed p fs values last x) × (last_of b fixed p fs values last x < p + length fs)
 unfolding last_of
@@ -104,7 +104,7 @@ unmarked : (new old first : Option (List ℕ)) (p n : ℕ) → 0 < p → (n ≡ 
 unmarked None old first p n pos h e = h e
 unmarked (Some y) old first p n pos h e = absurd (omega arith)
 
--- what nobody wrote is as it came
+-- a field that no function wrote is unchanged
 pub untouched : {F : Type 0} (b : Behaviour F) (fixed : Fixed) (p : ℕ) (fs : List F) (first values after : Values) (last : Field → ℕ) → 0 < p → ((x : Field) → last x ≡ 0 → values x ≡ first x) →
     (walk_fields b fixed p fs values).end ≡ Out after → (x : Field) → last_of b fixed p fs values last x ≡ 0 → after x ≡ first x
 unfolding walk_fields last_of

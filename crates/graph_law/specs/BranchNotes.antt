@@ -1,4 +1,4 @@
--- For proofs: what the functions of branches note of a packet on their way through a graph, and which of these notes are settled.
+-- For proofs: what the functions of branches note about a packet in a graph, and which of these notes are settled.
 use Rattle.std.specs.Prelude.{ℕ, ◌-◌, nat_lt, List, [], ◌∷◌, Bool, false, map, filter_map, slice_get, if◌then◌else◌, Option, Some, None}
 use Rattle.action_profile.specs.declared.parts.Touch.{Touch}
 use Rattle.chain_walk.specs.FieldWalk.{End, End.Out, End.Gone}
@@ -11,12 +11,12 @@ use Rattle.graph_compile.specs.declared.graph.Stage.{Stage}
 use Rattle.graph_law.specs.Branches.{BranchEnd, BranchEnd.Live, BranchEnd.Nil, met, in_turn, dealt}
 use Rattle.graph_law.specs.Flow.{staged}
 
--- what a function notes of what comes to it: nothing of a packet that is gone
+-- what a function notes about what arrives at it: nothing if the packet was dropped
 unfoldable pub noted_of : {F N : Type 0} → Behaviour F → Notes F N → Fixed → F → BranchEnd → Option N
 noted_of b notes fixed f (Live v) = noted b notes fixed f v.values
 noted_of b notes fixed f (Nil q) = None
 
--- the function at a position, where there is one
+-- the function at a position, if there is one
 unfoldable pub noted_at : {F N : Type 0} → Behaviour F → Notes F N → Fixed → Option F → BranchEnd → Option N
 noted_at b notes fixed None a = None
 noted_at b notes fixed (Some f) a = noted_of b notes fixed f a
@@ -36,11 +36,11 @@ branched_notes b notes fixed (x ∷ branches) (t ∷ touches) values fs =
 branched_notes b notes fixed [] touches values fs = []
 branched_notes b notes fixed (x ∷ branches) [] values fs = []
 
--- nobody in these stages notes anything
+-- no function in these stages notes anything
 abbrev pub no_notes : {N : Type 0} → List Stage → List (List (List (Option N)))
 no_notes stages = map (λ s. map (λ x. map (λ q. None) x.positions) s.branches) stages
 
--- what comes after a stage, where the packet is still there
+-- what follows a stage, if the packet is still there
 unfoldable pub then_notes : {F N : Type 0} → List Stage → List F → End → (Values → List F → List (List (List (Option N)))) → List (List (List (Option N)))
 then_notes stages fs (Gone p) on = no_notes stages
 then_notes stages fs (Out values) on = on values fs
@@ -57,7 +57,7 @@ abbrev pub gone_before : End → ℕ → Bool
 gone_before (Out values) q = false
 gone_before (Gone p) q = nat_lt p q
 
--- of the notes that the functions at these positions made, those that are settled: `gone` says before which positions the packet was dropped
+-- the settled ones of the notes of functions at these positions; `gone` says before which the packet was dropped
 unfoldable pub kept : {N : Type 0} → (ℕ → Bool) → List ℕ → List (Option N) → List (Option N)
 kept gone [] made = []
 kept gone (q ∷ qs) [] = []
@@ -75,7 +75,7 @@ kept_by gone [] rows = []
 kept_by gone (s ∷ stages) [] = []
 kept_by gone (s ∷ stages) (row ∷ rows) = kept_in gone s.branches row ∷ kept_by gone stages rows
 
--- what stands at these positions, which count from 1
+-- the items at these positions, which count from 1
 abbrev pub taken : {A : Type 0} → List ℕ → List A → List A
 taken positions xs = filter_map (λ q. slice_get xs (q - 1)) positions
 

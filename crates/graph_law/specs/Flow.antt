@@ -1,4 +1,4 @@
--- For proofs: a packet goes through the stages of a graph: in each, every branch has a version of it, and the versions are merged.
+-- For proofs: a packet goes through the stages of a graph: each branch has a version, and the versions are merged.
 use Rattle.std.specs.Prelude.{List, [], ◌∷◌}
 use Rattle.action_profile.specs.declared.parts.Touch.{Touch}
 use Rattle.chain_walk.specs.Shown.{Values}
@@ -10,7 +10,7 @@ use Rattle.graph_compile.specs.declared.graph.Stage.{Stage}
 use Rattle.graph_law.specs.Branches.{BranchEnd, in_turn, dealt}
 use Rattle.graph_law.specs.Merging.{merged}
 
--- The functions of a chain as the branches of a stage leave them, and what comes from each branch.
+-- The functions of a chain as the branches of a stage leave them, and what leaves each branch.
 pub record Branched (F : Type 0) : Type 0 where
   pub functions : List F
   pub arrivals : List BranchEnd
@@ -18,7 +18,7 @@ pub record Branched (F : Type 0) : Type 0 where
 abbrev pub then_branched : {F : Type 0} → BranchEnd → Branched F → Branched F
 then_branched a rest = record { functions = rest.functions; arrivals = a ∷ rest.arrivals }
 
--- the branches of a stage, one after another, each on the version that it is dealt
+-- the branches of a stage, one after another, each on the version that it gets
 unfoldable pub branched : {F : Type 0} → Behaviour F → Fixed → List Branch → List Touch → Values → List F → Branched F
 branched b fixed (x ∷ branches) (t ∷ touches) values fs =
     then_branched (in_turn b fixed x.positions fs (dealt t values)).arrival
@@ -26,14 +26,14 @@ branched b fixed (x ∷ branches) (t ∷ touches) values fs =
 branched b fixed [] touches values fs = record { functions = fs; arrivals = [] }
 branched b fixed (x ∷ branches) [] values fs = record { functions = fs; arrivals = [] }
 
--- a stage: its branches, and what comes of the packet behind them
+-- a stage: its branches, and what becomes of the packet after them
 abbrev pub staged : {F : Type 0} → Behaviour F → Fixed → Stage → Values → List F → Ended F
 staged b fixed stage values fs = record {
   functions = (branched b fixed stage.branches stage.parts.touches values fs).functions;
   end = merged values (branched b fixed stage.branches stage.parts.touches values fs).arrivals;
 }
 
--- what comes after a stage, where the packet is still there
+-- what follows a stage, if the packet is still there
 unfoldable pub then_flow : {F : Type 0} → List F → End → (Values → List F → Ended F) → Ended F
 then_flow fs (Gone p) on = record { functions = fs; end = Gone p }
 then_flow fs (Out values) on = on values fs

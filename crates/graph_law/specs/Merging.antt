@@ -1,10 +1,10 @@
--- For proofs: what comes of a packet behind a stage.
+-- For proofs: what becomes of a packet after a stage.
 use Rattle.std.specs.Prelude.{ℕ, min, nat_lt, List, [], ◌∷◌, if◌then◌else◌, Option, Some, None}
 use Rattle.chain_walk.specs.Shown.{Values}
 use Rattle.chain_walk.specs.FieldWalk.{End, End.Out, End.Gone}
 use Rattle.graph_law.specs.Branches.{Version, BranchEnd, BranchEnd.Live, BranchEnd.Nil}
 
--- the lesser of two positions, where there are two
+-- the lesser of two positions, if there are two
 abbrev pub lesser : ℕ → Option ℕ → Option ℕ
 lesser p None = Some p
 lesser p (Some q) = Some (min p q)
@@ -22,13 +22,13 @@ later best v = record {
   writers = λ f. if nat_lt (best.writers f) (v.writers f) then v.writers f else best.writers f;
 }
 
--- field by field, what was written last
+-- field by field, the value written last
 unfoldable pub latest : Version → List BranchEnd → Version
 latest best [] = best
 latest best (Live v ∷ others) = latest (later best v) others
 latest best (Nil p ∷ others) = latest best others
 
--- a packet as it came to the stage, which nobody wrote
+-- a packet as it arrived at the stage, with no writer
 abbrev pub unwritten : Values → Version
 unwritten values = record { values = values; writers = λ f. 0 }
 
@@ -36,6 +36,6 @@ unfoldable pub gone_or : Option ℕ → Values → End
 gone_or (Some p) values = Gone p
 gone_or None values = Out values
 
--- gone at the least position where it was dropped, else each field as it was written last, and as it came where nobody wrote it
+-- dropped at the least position, if it was dropped; else each field as written last, or as it arrived if it wasn't
 unfoldable pub merged : Values → List BranchEnd → End
 merged values arrivals = gone_or (least_nil arrivals) (latest (unwritten values) arrivals).values

@@ -1,4 +1,4 @@
--- What is merged behind a stage is what the law of graphs says, and the packet may go on.
+-- The merge after a stage is as the law of graphs says, and the packet may go on.
 use Rattle.std.proofs.Common.{◌≡◌, ◌∙◌, ◌<◌, ◌≤◌, ◌+◌, ◌*◌, ℕ, zero, suc, Bool, true, false, List, [], ◌∷◌, map, length, sym, ap, refl, subst, arith}
 use mathlib.Core.Path.{fun_ext}
 use Rattle.std.specs.Prelude.{if◌then◌else◌, nat_lt, Option, Some, None, option_map, IfSome, slice_index_or}
@@ -32,7 +32,7 @@ use Rattle.graph_run.proofs.Listed.{map_of_list}
 use Rattle.graph_run.proofs.RoomForTags.{room_later}
 use Rattle.graph_run.proofs.Latest.{AreVersions, Unwritten, values_behind}
 
--- the laws of merging that a run rests on
+-- the laws of merging on which a run rests
 abbrev pub LastValues : Type 0
 LastValues = (whole : PlainApart) (touches : List Touch) (base : PlainApart) (arrivals : List Arrival) (ops : List MergeOp) (f : Field) → AreFrom whole touches base arrivals → decision_of arrivals ≡ decisions.Take ops → values_of (packet_parts (merged_packet base arrivals)) f ≡ value_behind whole arrivals f
 
@@ -143,7 +143,7 @@ latest_formed chain whole high (t ∷ touches) (cames.Short ∷ arrivals) best a
 latest_formed chain whole high [] (a ∷ arrivals) best all formed = absurd all
 latest_formed chain whole high (t ∷ touches) [] best all formed = absurd all
 
--- what is merged ends as the law says, and a packet that goes on may go on
+-- the merge ends as the law says, and a packet that goes on may go on
 pub record Behind (chain : List Profile) (whole base : PlainApart) (high : ℕ) (arrivals : List Arrival) : Type 0 where
   pub end : as_end (merged base arrivals) ≡ merged_by_law (values_in whole) (map as_branch_end arrivals)
   pub leaves : LeavesStage chain high whole (merged base arrivals)

@@ -1,4 +1,4 @@
--- The branches of a stage, one after another: how far they have come.
+-- The branches of a stage, one after another: the state so far.
 use Rattle.std.proofs.Common.{◌≡◌, ◌∙◌, ◌<◌, ◌≤◌, ◌+◌, ◌*◌, ℕ, zero, suc, Bool, true, false, List, [], ◌∷◌, ◌++◌, map, length, take, drop, get_or, sym, ap, refl, subst, arith, add-one}
 use mathlib.Core.Path.{fun_ext}
 use Rattle.std.specs.Prelude.{if◌then◌else◌, Option, Some, None, option_map, IfSome, slice_get}
@@ -50,7 +50,7 @@ nobody true None = refl
 nobody true (Some p) = refl
 nobody false o = refl
 
--- a branch is dealt what the law says
+-- a branch gets what the law says
 pub dealt_is : (whole : PlainApart) (touch : Touch) → Live (as_version (dealt whole touch)) ≡ dealt_by_law touch (values_in whole)
 dealt_is whole touch =
     let read = map_of_list (dealt_parts touch (packet_parts whole)) in
@@ -68,7 +68,7 @@ room_dealt true None n h = tt
 room_dealt true (Some p) n h = h
 room_dealt false o n h = tt
 
--- what a branch is dealt may go on from the stage's first position
+-- what a branch gets may go on from the stage's first position
 pub dealt_carried : (chain : List Profile) (whole : PlainApart) (touch : Touch) (first : ℕ) → DealtIsMade → GoesFrom chain first whole → IsCarried chain whole touch first (dealt whole touch)
 dealt_carried chain whole touch first made goes =
     let read = map_of_list (dealt_parts touch (packet_parts whole)) in
@@ -83,11 +83,11 @@ dealt_carried chain whole touch first made goes =
       room = subst (λ (m : Parts). IfSome (m Tag) (λ p. length p.bytes + 4 * adders_from chain first ≤ p.room)) (sym read) (room_dealt (has_touch Tag touch) (packet_parts whole Tag) (4 * adders_from chain first) goes.room);
     }
 
--- what the branches before have given, beside what the others give
+-- the results of the branches before, and those of the others
 abbrev pub before : {F : Type 0} → List BranchEnd → Branched F → Branched F
 before done rest = record { functions = rest.functions; arrivals = done ++ rest.arrivals }
 
--- so many branches have run, and the rest of them gives what all give
+-- this number of branches have run, and the rest of them gives what all give
 pub record HasRun {F : Type 0} (b : Behaviour F) (stage : Stage) (whole : PlainApart) (first now : List F) (j : ℕ) (done : List Arrival) (rest : List PlainVersion) : Type 0 where
   pub same : before (map as_branch_end done) (branched b whole.fixed (drop j stage.branches) (drop j stage.parts.touches) (values_in whole) now) ≡ branched b whole.fixed stage.branches stage.parts.touches (values_in whole) first
   pub left : rest ≡ map (dealt whole) (drop j stage.parts.touches)
@@ -104,7 +104,7 @@ branches_begin b stage whole first done rest versions none all is = record {
   came = λ at ready. subst (λ (l : List Arrival). AllCarried (map b.profile first) whole (end_of at stage) [] l) (sym none) tt;
 }
 
--- what is known of the touch of the branch that is next
+-- what is known about the touch of the next branch
 pub record NextTouch (whole : PlainApart) (touches : List Touch) (j next : ℕ) (version : PlainVersion) (rest : List PlainVersion) : Type 0 where
   pub touch : Touch
   pub cut : drop j touches ≡ touch ∷ drop next touches
@@ -219,7 +219,7 @@ branch_more {F} b stage whole first now after j done more was rest version a d o
           subst (λ (ts : List Touch). AllCarried chain whole (end_of at stage) ts more) (sym next.front) (subst (λ (l : List Arrival). AllCarried chain whole (end_of at stage) (take j stage.parts.touches ++ next.touch ∷ []) l) (sym push) (all_more chain whole (end_of at stage) (take j stage.parts.touches) done next.touch a (run.came at is_ready) here));
     }
 
--- the same, where the branch's positions are known by an equation
+-- the same, if the branch's positions are known by an equation
 pub branch_taken : {F : Type 0} (b : Behaviour F) (stage : Stage) (whole : PlainApart) (first now after : List F) (j : ℕ) (done more : List Arrival) (was rest : List PlainVersion) (version : PlainVersion) (a : Arrival) (d : Branch) (positions : List ℕ) →
     Owned → DealtIsMade → StaysInBranch F → KeepsProfile b → HasRun b stage whole first now j done was → was ≡ version ∷ rest → ReadySomewhere b first stage whole → positions ≡ (get_or stage.branches j d).positions →
     after ≡ (in_turn b version.fixed positions now (Live (as_version version))).functions →

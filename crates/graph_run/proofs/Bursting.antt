@@ -1,4 +1,4 @@
--- The packets of a burst, one after another: how far they have come.
+-- The packets of a burst, one after another: the state so far.
 use Rattle.std.proofs.Common.{◌≡◌, ◌∙◌, ◌<◌, ◌≤◌, ◌+◌, ℕ, zero, suc, Bool, true, false, List, [], ◌∷◌, ◌++◌, map, length, take, drop, get_or, sym, ap, refl, subst, arith, take-append-drop}
 use Rattle.std.specs.Prelude.{if◌then◌else◌, filter, All, count_by}
 use Rattle.std.specs.List.{sum_by, zip}
@@ -55,7 +55,7 @@ sum_append f (x ∷ xs) ys = plus _ _ _ _ _ _ (sum_by-cons f x (xs ++ ys)) (sum_
     plus : (all here rest front tail both : ℕ) → all ≡ here + rest → front ≡ here + tail → rest ≡ tail + both → all ≡ front + both
     plus all here rest front tail both a b c = omega arith
 
--- the copies that packets make which end as they walk
+-- the copies of packets that end as they walk
 abbrev pub walked_copies : {F : Type 0} → Behaviour F → List Stage → List F → List Packet → Field → ℕ
 walked_copies b stages functions packets f = copies_made stages packets (fates b functions packets) f
 
@@ -67,7 +67,7 @@ copies_in_a_row b stages functions first later f rows many =
     ∙ ap (sum_by (λ x. copies_of stages x.0.frame x.1 f)) (zip_append first later (fates b functions first) (fates b (functions_after b functions first) later) (many b functions first))
     ∙ sum_append (λ x. copies_of stages x.0.frame x.1 f) (zip first (fates b functions first)) (zip later (fates b (functions_after b functions first) later))
 
--- so many items have run, and the functions, fates and counts are those of their packets
+-- this number of items have run, and the functions, fates and counts are those of their packets
 pub record HasRunItems {F : Type 0} (b : Behaviour F) (graph : Graph) (unit : TimeUnit) (chain : ℕ) (items : List Item) (first now : List F) (i : ℕ) (done : List Fate) (old new : List ℕ) : Type 0 where
   pub functions : now ≡ functions_after b first (packets_taken unit chain (take i items))
   pub fates_are : done ≡ fates b first (packets_taken unit chain (take i items))
@@ -107,7 +107,7 @@ item_more {F} b graph unit chain items first now after i done more old new newer
           ∙ ap (λ (l : List F). walked_copies b graph.stages first before f + walked_copies b graph.stages l here f) (sym run.functions));
     }
 
--- all that a whole list makes is at least what its front and the item behind it make
+-- all that a whole list makes is at least what its front and the item after it make
 pub bounded : (c a m n all now new : ℕ) → now ≡ raised c a → now ≤ new → new ≤ raised now m → all ≡ a + (m + n) → (c ≤ new) × (new ≤ raised c all)
 bounded c a m n all now new x low high e = (omega arith, omega arith)
 
@@ -163,7 +163,7 @@ all_within b fs (p ∷ packets) keeps law =
     all_cons (EndsWithin (length fs)) (walk b p.time 1 fs p.frame).fate (fates b (walk b p.time 1 fs p.frame).functions packets) (law b p.time fs p.frame)
     (subst (λ n. All (EndsWithin n) (fates b (walk b p.time 1 fs p.frame).functions packets)) (same_length b (walk b p.time 1 fs p.frame).functions fs (walk_profiles b p.time 1 fs p.frame keeps)) (all_within b (walk b p.time 1 fs p.frame).functions packets keeps law))
 
--- the functions that were left run in the same graph
+-- the functions after the walk run in the same graph
 pub runs_on : {F : Type 0} (b : Behaviour F) (graph : Graph) (first now : List F) → IsRunning b first graph → map b.profile now ≡ map b.profile first → IsRunning b now graph
 runs_on b graph first now running same = record {
   few = let few = running.few in let count = same_length b now first same in omega arith;
@@ -171,6 +171,6 @@ runs_on b graph first now running same = record {
   full = running.full;
 }
 
--- how many of the first functions add a tag
+-- the number of the first functions that add a tag
 abbrev pub adders_among : {F : Type 0} → Behaviour F → List F → ℕ → ℕ
 adders_among b fs i = count_by (λ p. p.adds) (map b.profile (take i fs))

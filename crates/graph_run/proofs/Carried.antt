@@ -28,7 +28,7 @@ false_and : (a b : Bool) → b ≡ false → (a && b) ≡ false
 false_and true b e = e
 false_and false b e = refl
 
--- a function writes only what is there, and what its profile writes
+-- a function writes only what is present, and what its profile writes
 pub only_there : {F : Type 0} (b : Behaviour F) (fixed : Fixed) (f : F) (v : PlainVersion) → KeepsProfile b → (x : Field) → is_some (version_parts v x) ≡ false → (stepped b fixed f (values_of (version_parts v))).written x ≡ None
 only_there b fixed f v keeps x e = keeps.writes fixed f (values_of (version_parts v)) x (false_and (writes_of (b.profile f) x) _ (none_there (version_parts v x) e))
   where
@@ -45,7 +45,7 @@ room_after (Some w) q None adds now later is h room = tt
 room_after (Some w) q (Some p) true now later is h room = let len = h.1 in omega arith
 room_after (Some w) q (Some p) false now later is h room = let len = h.1 in omega arith
 
--- a function that keeps to its profile leaves values well formed
+-- a function that obeys its profile leaves values well formed
 abbrev pub StaysFormed : Type 0 → Type 0
 StaysFormed F = (b : Behaviour F) (fixed : Fixed) (f : F) (values : Values) → KeepsProfile b → AreWellFormed values → AreWellFormed (over (stepped b fixed f values).written values)
 

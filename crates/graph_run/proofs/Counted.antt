@@ -27,7 +27,7 @@ reached_out (s ∷ later) frame = ap (λ (l : List Stage). s ∷ l) (reached_out
 one_more : (n : ℕ) → suc n ≡ 1 + n
 one_more n = omega arith
 
--- one that is dropped reaches those up to the first in which the function stands that dropped it
+-- one that is dropped reaches those up to the first with the function that dropped it
 reached_drop : (stages : List Stage) (p : ℕ) → reached stages (Gone p) ≡ take (suc (position_or_len (stands p) stages)) stages
 reached_drop [] p = refl
 reached_drop (s ∷ later) p = by_test (stands p s) (reached_drop later p)
@@ -76,11 +76,11 @@ copies_next f stages i made more d inside was is =
     let here : min (made + more) (2 ^ 64 - 1) ≡ min (copies_in (take (suc i) stages) f) (2 ^ 64 - 1) = omega (arith, front, was, is) in
     here ∙ ap (λ (k : ℕ). min (copies_in (take k stages) f) (2 ^ 64 - 1)) (sym (behind i))
 
--- what a packet makes, up to what a count holds
+-- the copies of a packet, up to what a count holds
 abbrev pub most_of : List Stage → List ℕ → Fate → Field → ℕ
 most_of stages frame fate f = min (copies_of stages frame fate f) (2 ^ 64 - 1)
 
--- a packet more, and those behind it
+-- one more packet, and those after it
 zip_none : {A B : Type 0} (xs : List A) → zip {K = A} {X = B} xs [] ≡ []
 zip_none [] = refl
 zip_none (x ∷ xs) = refl
@@ -143,7 +143,7 @@ with_fate stages shown unit chain item frame fate ended later old new is all fra
     ∙ (λ i. copies_of (sym all i) (sym framed i) fate f) in
     was f ∙ ap (raised (count_of old f)) (sym same)
 
--- The copies of the items before one are counted, and these fates are left for those from it on.
+-- The copies of the items before one are counted, and these fates remain for those from it on.
 pub record HasCounted (stages : List Stage) (unit : TimeUnit) (chain : ℕ) (items : List Item) (ended left : List Fate) (i : ℕ) (old new : List ℕ) : Type 0 where
   pub made : Field → ℕ
   pub counted : RaisesAll made old new

@@ -1,4 +1,5 @@
--- Functions in a row: what is led through a graph that copies nothing, with the copies counted that another graph makes, is led through that other.
+-- Functions in a row: packets that ran through a graph without copies, with the copies of another graph counted, ran
+-- through that other graph.
 use Rattle.std.proofs.Common.{◌≡◌, ◌∙◌, ℕ, Bool, true, false, List, [], ◌∷◌, map, sym, ap, refl, subst, arith}
 use Rattle.std.specs.Prelude.{◌==◌, if◌then◌else◌, Option, Some, None, is_some}
 use Rattle.std.specs.List.{list_all, sum_by, zip}
@@ -75,7 +76,7 @@ made_none stages packets ended f h = sum_none (λ (x : Packet × Fate). copies_o
 pub none_counted : (stages : List Stage) (packets : List Packet) (ended : List Fate) (tally : List ℕ) → copies_nothing stages ≡ true → RaisesAll (copies_made stages packets ended) tally tally
 none_counted stages packets ended tally h f = let none = made_none stages packets ended f h in omega (arith, none)
 
--- the functions that were left run in it too
+-- the functions after the walk run in it too
 row_stays : {F : Type 0} (b : Behaviour F) (functions after : List F) (row : Graph) → map b.profile after ≡ map b.profile functions → IsRow b functions row → IsRow b after row
 row_stays b functions after row same is = record { runs = runs_on b row functions after is.runs same; copies = is.copies }
 
@@ -83,7 +84,7 @@ pub row_left : {F : Type 0} (b : Behaviour F) (functions after : List F) (beside
 row_left b functions after (Some row) same is = row_stays b functions after row same is
 row_left b functions after None same is = tt
 
--- what was led through the row, and counted behind it
+-- what ran through the row, with the count after it
 led_in_a_row : {F : Type 0} (b : Behaviour F) (run : PlainRunning F) (row : Graph) (packets : List Packet) (old mid new : List ℕ) (after : PlainRunning F) (ended : List Fate) → IsRow b run.functions row →
     Leads b (record { functions = run.functions; graph = row }) packets old mid after ended → RaisesAll (copies_made run.graph.stages packets ended) mid new → Leads b run packets old new (record { functions = after.functions; graph = run.graph }) ended
 led_in_a_row b run row packets old mid new after ended is led counted = record {
@@ -112,7 +113,7 @@ led_back {F} b run shown functions left graph row packets old mid new after ende
     (led_in_a_row b (record { functions = functions; graph = graph }) row packets old mid new after ended is
     (subst (λ (r : PlainRunning F). Leads b r packets old mid after ended) through led) counted))
 
--- where memory ran out in the row, nothing was counted
+-- if it ran out of memory in the row, nothing was counted
 pub refused_back : {F : Type 0} (b : Behaviour F) (run shown : PlainRunning F) (functions : List F) (graph row : Graph) (packets : List Packet) (old new : List ℕ) →
     ◌≡◌ {A = PlainRunning F} (record { functions = functions; graph = graph }) run → shown ≡ record { functions = functions; graph = row } → IsRow b functions row →
     RaisesUpTo (copies_made shown.graph.stages packets (fates b shown.functions packets)) old new → RaisesUpTo (copies_made run.graph.stages packets (fates b run.functions packets)) old new
@@ -128,7 +129,7 @@ refused_back {F} b run shown functions graph row packets old new whole through i
 pub row_there : {F : Type 0} (b : Behaviour F) (shown functions : List F) (row : Graph) → shown ≡ functions → IsRow b shown row → IsRow b functions row
 row_there {F} b shown functions row same is = subst (λ (fs : List F). IsRow b fs row) same is
 
--- the functions that came back run in their own graph, with the row beside it
+-- the returned functions run in their own graph, with the row beside it
 pub row_back : {F : Type 0} (b : Behaviour F) (shown : PlainRunning F) (functions left : List F) (graph row back : Graph) (packets : List Packet) (old new : List ℕ) (after : PlainRunning F) (ended : List Fate) → KeepsProfile b →
     shown ≡ record { functions = functions; graph = row } → left ≡ after.functions → back ≡ after.graph → IsRunning b functions graph → IsRow b functions row → IsRunning b left back → Leads b shown packets old new after ended →
     IsRunning b left graph × IsRow b left back

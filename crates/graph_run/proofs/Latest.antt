@@ -38,7 +38,7 @@ first_else : (g : ℕ) (a : Arrival) (others : List Arrival) (f : Field) → wri
 unfolding first_by
 first_else g a others f e = ap (λ (t : Bool). if t then part_of f a else first_by g others f) (ne_eqb (writer_of f a) g e)
 
--- the value that is written last, beside a best that came before
+-- the value that is written last, with a best one from before
 abbrev pick : Option (List ℕ) → ℕ → ℕ → List Arrival → Field → Option (List ℕ)
 pick value writer g arrivals f = if nat_lt writer g then bytes_in (first_by g arrivals f) else value
 
@@ -96,7 +96,7 @@ nobody_wrote : (arrivals : List Arrival) (f : Field) → ((k : ℕ) → writer_o
 nobody_wrote [] f none = refl
 nobody_wrote (a ∷ others) f none = let here = none 0 in let rest = nobody_wrote others f (λ k. none (suc k)) in omega arith
 
--- where no branch wrote a field last, each writer is 0
+-- if no branch wrote a field last, each writer is 0
 abbrev pub Unwritten : Type 0
 Unwritten = (arrivals : List Arrival) (f : Field) (branch : ℕ) → last_writer arrivals f ≡ None → writer_of f (arrival_at arrivals branch) ≡ 0
 
@@ -123,6 +123,6 @@ value_is whole arrivals f law = by_test (greatest_writer arrivals f == 0) refl
         ∙ by_place (position test arrivals) refl (λ zero. absurd (let t : (g == 0) ≡ true = (Decides-eqb g 0).1 zero in cc))
         (λ none. nobody_wrote arrivals f (λ k. law arrivals f k (ap (λ (t : Bool). if t then None else position test arrivals) is ∙ none)))
 
--- the value of each field behind a stage is the one that was written last
+-- the value of each field after a stage is the one that was written last
 pub values_behind : (whole : PlainApart) (arrivals : List Arrival) → Unwritten → AreVersions arrivals → (f : Field) → value_behind whole arrivals f ≡ (latest (unwritten (values_in whole)) (map as_branch_end arrivals)).values f
 values_behind whole arrivals law versions f = value_is whole arrivals f law ∙ sym (latest_is (unwritten (values_in whole)) arrivals f versions)

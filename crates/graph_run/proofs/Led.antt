@@ -1,4 +1,4 @@
--- Once all items of a burst have run, its packets are led.
+-- After all items of a burst have run, its packets are through.
 use Rattle.std.proofs.Common.{◌≡◌, ◌∙◌, ◌≤◌, ℕ, List, length, take, ap, sym, subst}
 use Rattle.std.specs.Prelude.{All}
 use Rattle.std.proofs.lemmas.List.{take_all}

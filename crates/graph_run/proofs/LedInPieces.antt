@@ -1,4 +1,4 @@
--- A burst that is led in pieces.
+-- A burst that runs in pieces.
 use Rattle.std.proofs.Common.{◌≡◌, ◌∙◌, ◌+◌, ℕ, List, [], ◌++◌, length, refl, sym, ap, subst, arith}
 use Rattle.std.specs.Prelude.{All}
 use Rattle.packet_fields.specs.declared.field.Field.{Field}
@@ -24,7 +24,7 @@ led_none b run tally = record {
   counted = λ f. let none = nothing_yet b run.graph.stages run.functions f in omega (arith, none);
 }
 
--- the copies of the first pieces, and of those behind them
+-- the copies of the first pieces, and of those after them
 behind : {F : Type 0} (b : Behaviour F) (run between : PlainRunning F) (first later : List Packet) (f : Field) → FatesInARow F → AsManyFates F → between.functions ≡ functions_after b run.functions first →
     walked_copies b run.graph.stages run.functions (first ++ later) f ≡ walked_copies b run.graph.stages run.functions first f + walked_copies b run.graph.stages between.functions later f
 behind {F} b run between first later f rows many left =

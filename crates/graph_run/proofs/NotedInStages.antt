@@ -1,4 +1,4 @@
--- What the branches of a stage note, and the stages of a graph: what is still due.
+-- What the branches of a stage note, and the stages of a graph: what is still to come.
 use Rattle.std.proofs.Common.{◌≡◌, ◌∙◌, ◌≤◌, ◌<◌, ◌+◌, ℕ, List, [], ◌∷◌, ◌++◌, append_assoc, length, drop, map, get_or, sym, ap, refl, arith}
 use Rattle.std.specs.Prelude.{Option, None}
 use Rattle.std.proofs.lemmas.List.{drop_more, drop_all, append-nil}
@@ -26,7 +26,7 @@ use Rattle.graph_run.specs.Carrying.{as_version, values_in, as_end}
 use Rattle.graph_run.proofs.Branching.{Owned, HasRun, ReadySomewhere, next_touch, branch_inside, dealt_is}
 use Rattle.graph_run.proofs.WayThroughStages.{IsFlowing, split_values}
 
--- what was noted, and what the branches that are left note, is what all note
+-- what was noted, and what the remaining branches note, is what all note
 abbrev pub BranchesNoted : {F N : Type 0} → Behaviour F → Notes F N → Stage → PlainApart → List F → List F → ℕ → List (PlacedNote N) → List (PlacedNote N) → Type 0
 BranchesNoted b notes stage whole first now j before listed =
     listed ++ placed_in (drop j stage.branches) (branched_notes b notes whole.fixed (drop j stage.branches) (drop j stage.parts.touches) (values_in whole) now)
@@ -43,7 +43,7 @@ unfolding placed_in branched_notes
 no_branch b notes fixed [] values fs = refl
 no_branch b notes fixed (x ∷ branches) values fs = refl
 
--- one branch more
+-- one more branch
 pub branch_noted : {F N : Type 0} (b : Behaviour F) (notes : Notes F N) (stage : Stage) (whole : PlainApart) (first now after : List F) (j : ℕ) (done : List Arrival) (was rest : List PlainVersion) (version : PlainVersion) (d : Branch) (positions : List ℕ) (before listed more : List (PlacedNote N)) →
     Owned → HasRun b stage whole first now j done was → was ≡ version ∷ rest → ReadySomewhere b first stage whole → positions ≡ (get_or stage.branches j d).positions →
     after ≡ (in_turn b version.fixed positions now (Live (as_version version))).functions →
@@ -81,7 +81,7 @@ branches_noted b notes stage whole first now j done rest before listed run none 
     ∙ ap (λ (l : List Touch). listed ++ placed_in (drop j stage.branches) (branched_notes b notes whole.fixed (drop j stage.branches) l (values_in whole) now)) (sym (map_none (dealt whole) (drop j stage.parts.touches) (sym none ∙ run.left)))
     ∙ due
 
--- the only branch of a stage, which has the packet whole
+-- the only branch of a stage, which has the whole packet
 pub only_noted : {F N : Type 0} (b : Behaviour F) (notes : Notes F N) (stage : Stage) (whole : PlainApart) (first : List F) (t : Touch) (v : PlainVersion) (d : Branch) (positions : List ℕ) (before after : List (PlacedNote N)) → length stage.branches ≡ 1 →
     stage.parts.touches ≡ t ∷ [] → v ≡ dealt_whole whole t → positions ≡ (get_or stage.branches 0 d).positions →
     after ≡ before ++ placed positions (in_turn_notes b notes v.fixed positions first (Live (as_version v))) →
@@ -105,7 +105,7 @@ only_noted {F} {N} b notes stage whole first t v d positions before after one to
     single (y ∷ []) e = refl
     single (y ∷ z ∷ bs) e = absurd (omega arith)
 
--- what was noted, and what is noted in the stages that are left, is what is noted in all
+-- what was noted, and what is noted in the remaining stages, is what is noted in all
 abbrev pub StagesNoted : {F N : Type 0} → Behaviour F → Notes F N → Graph → ℕ → List ℕ → List F → List F → ℕ → PlainApart → List (PlacedNote N) → List (PlacedNote N) → Type 0
 StagesNoted b notes graph time frame first now i whole before listed =
     listed ++ placed_by (drop i graph.stages) (flow_notes b notes (fixed_of time frame) (drop i graph.stages) (values_in whole) now)
@@ -122,7 +122,7 @@ one_stage : {F N : Type 0} (b : Behaviour F) (notes : Notes F N) (fixed : Fixed)
 unfolding placed_by flow_notes
 one_stage b notes fixed s stages values fs = refl
 
--- one stage more, whatever comes of it
+-- one more stage, whatever its result
 stage_more : {F N : Type 0} (b : Behaviour F) (notes : Notes F N) (graph : Graph) (time : ℕ) (frame : List ℕ) (first now after : List F) (i : ℕ) (whole : PlainApart) (old new : List ℕ) (s : Stage) (end : End) (before listed more : List (PlacedNote N)) →
     IsFlowing b graph time frame first now i whole old new → i < length graph.stages → s ≡ get_or graph.stages i s →
     after ≡ (staged b whole.fixed s (values_in whole) now).functions → end ≡ (staged b whole.fixed s (values_in whole) now).end →
@@ -165,7 +165,7 @@ unfolding placed_by
 none_by [] = refl
 none_by {N} (s ∷ stages) = (λ j. none_in {N = N} s.branches j ++ none_by {N = N} stages j)
 
--- the packet goes on behind the stage
+-- the packet goes on after the stage
 pub stage_noted : {F N : Type 0} (b : Behaviour F) (notes : Notes F N) (graph : Graph) (time : ℕ) (frame : List ℕ) (first now after : List F) (i : ℕ) (whole next : PlainApart) (old new : List ℕ) (s : Stage) (merged : Merged) (before listed more : List (PlacedNote N)) →
     IsFlowing b graph time frame first now i whole old new → i < length graph.stages → s ≡ get_or graph.stages i s →
     after ≡ (staged b whole.fixed s (values_in whole) now).functions → as_end merged ≡ (staged b whole.fixed s (values_in whole) now).end → merged ≡ ends.Whole next →
@@ -187,7 +187,7 @@ stage_dropped {F} {N} b notes graph time frame first now after i p whole old new
     ∙ ap (λ l. more ++ placed_by (drop (i + 1) graph.stages) l) (sym (then_gone (drop (i + 1) graph.stages) after p (flow_notes b notes (fixed_of time frame) (drop (i + 1) graph.stages))))
     ∙ stage_more b notes graph time frame first now after i whole old new s (Gone p) before listed more way inside is fs (ap as_end (sym goes) ∙ comes) due push
 
--- all stages are behind the packet
+-- all stages are after the packet
 pub stages_noted : {F N : Type 0} (b : Behaviour F) (notes : Notes F N) (graph : Graph) (time : ℕ) (frame : List ℕ) (first now : List F) (i : ℕ) (whole : PlainApart) (before listed : List (PlacedNote N)) → length graph.stages ≤ i →
     StagesNoted b notes graph time frame first now i whole before listed → listed ≡ before ++ placed_by graph.stages (flow_notes b notes (fixed_of time frame) graph.stages (fields_of frame) first)
 unfolding placed_by flow_notes

@@ -1,4 +1,4 @@
--- What the functions of a branch note, in turn: what is still due.
+-- What the functions of a branch note, in turn: what is still to come.
 use Rattle.std.proofs.Common.{◌≡◌, ◌≢◌, ◌∙◌, ◌≤◌, ◌<◌, ◌+◌, ◌-◌, ℕ, List, [], ◌∷◌, ◌++◌, append_assoc, length, drop, map, set, get_or, sym, ap, refl}
 use Rattle.std.specs.Prelude.{Option, Some, None, slice_get}
 use Rattle.std.proofs.lemmas.List.{drop_more, drop_all, append-nil}
@@ -15,7 +15,7 @@ use Rattle.graph_run.specs.Carrying.{as_version, as_branch_end}
 use Rattle.graph_run.specs.Staging.{IsReady}
 use Rattle.graph_run.proofs.TurnsInBranch.{InTurn, HasTurn, has_turn, turn_is}
 
--- a note is added to those before, where there is one
+-- a note is added to those before, if there is one
 pub noted_down : {N : Type 0} (q : ℕ) (note : Option N) (n : N) (before after : List (PlacedNote N)) → note ≡ Some n → after ≡ before ++ record { position = q; note = n } ∷ [] → after ≡ before ++ placed (q ∷ []) (note ∷ [])
 unfolding placed
 noted_down q made n before after is all = all ∙ ap (λ o. before ++ placed (q ∷ []) (o ∷ [])) (sym is)
@@ -29,19 +29,19 @@ unfolding placed
 placed_one q None qs made = refl
 placed_one q (Some n) qs made = refl
 
--- what was noted, and what the turns that are left note, is what all note
+-- what was noted, and what the remaining turns note, is what all note
 abbrev pub TurnsNoted : {F N : Type 0} → Behaviour F → Notes F N → List ℕ → List F → List F → PlainVersion → BranchEnd → ℕ → List (PlacedNote N) → List (PlacedNote N) → Type 0
 TurnsNoted b notes positions first now v0 a i before listed =
     listed ++ placed (drop i positions) (in_turn_notes b notes v0.fixed (drop i positions) now a) ≡ before ++ placed positions (in_turn_notes b notes v0.fixed positions first (Live (as_version v0)))
 
--- one turn: the function at a position that there is
+-- one turn: a function at a position that exists
 in_turn_more : {F N : Type 0} (b : Behaviour F) (notes : Notes F N) (fixed : Fixed) (q : ℕ) (qs : List ℕ) (fs : List F) (f : F) (v : PlainVersion) → slice_get fs (q - 1) ≡ Some f →
     in_turn_notes b notes fixed (q ∷ qs) fs (Live (as_version v)) ≡ noted b notes fixed f (as_version v).values ∷ in_turn_notes b notes fixed qs (set fs (q - 1) (moved_function b fixed f (Live (as_version v)))) (moved_end b fixed q f (Live (as_version v)))
 unfolding in_turn_notes noted_at noted_of met
 in_turn_more b notes fixed q qs fs f v is =
     ap (λ o. noted_at b notes fixed o (Live (as_version v)) ∷ in_turn_notes b notes fixed qs (met b fixed q o fs (Live (as_version v))).functions (met b fixed q o fs (Live (as_version v))).arrival) is
 
--- the turn of a function, whatever comes of it
+-- the turn of a function, whatever its result
 pub turn_noted : {F N : Type 0} (b : Behaviour F) (notes : Notes F N) (positions : List ℕ) (first now : List F) (v0 v : PlainVersion) (i : ℕ) (f d : F) (came : BranchEnd) (note : Option N) (before listed more : List (PlacedNote N)) →
     InTurn b positions first now v0 v i → IsReady (map b.profile first) positions v0 → i < length positions →
     f ≡ moved_function b v.fixed (get_or now (get_or positions i 0 - 1) d) (Live (as_version v)) →
@@ -65,7 +65,7 @@ turn_noted {F} {N} b notes positions first now v0 v i f d came note before liste
     ∙ ap (λ l. placed l (in_turn_notes b notes v0.fixed l now (Live (as_version v)))) (sym (drop_more positions i 0 inside)))
     ∙ due
 
--- nobody notes a packet that is gone
+-- no function notes a packet that was dropped
 notes_gone : {F N : Type 0} (b : Behaviour F) (notes : Notes F N) (fixed : Fixed) (qs : List ℕ) (fs : List F) (p : ℕ) → placed qs (in_turn_notes b notes fixed qs fs (Nil p)) ≡ []
 unfolding placed in_turn_notes noted_at noted_of met moved_end
 notes_gone b notes fixed [] fs p = refl
@@ -83,7 +83,7 @@ unfolding in_turn_notes placed
 noted_over b notes positions first now v0 v i before listed past due =
     sym (append-nil listed) ∙ ap (λ l. listed ++ placed l (in_turn_notes b notes v0.fixed l now (Live (as_version v)))) (sym (drop_all i positions past)) ∙ due
 
--- or the packet is gone
+-- or the packet was dropped
 pub noted_dropped : {F N : Type 0} (b : Behaviour F) (notes : Notes F N) (positions : List ℕ) (first now : List F) (v0 : PlainVersion) (i : ℕ) (came : Arrival) (before listed : List (PlacedNote N)) → ((w : PlainVersion) → came ≢ cames.Version w) →
     TurnsNoted b notes positions first now v0 (as_branch_end came) i before listed → listed ≡ before ++ placed positions (in_turn_notes b notes v0.fixed positions first (Live (as_version v0)))
 noted_dropped b notes positions first now v0 i (cames.Version w) before listed no_version due = absurd (no_version w refl)

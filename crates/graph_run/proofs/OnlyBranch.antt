@@ -1,4 +1,4 @@
--- The only branch of a stage, which has the packet whole: it leaves what it would leave of a version that it was dealt beside others.
+-- The only branch of a stage, which has the whole packet: it leaves what it would leave of a version beside others.
 use Rattle.std.proofs.Common.{◌≡◌, ◌∙◌, ◌+◌, ℕ, List, [], ◌∷◌, map, length, get_or, sym, ap, refl, subst, arith}
 use Rattle.action_profile.specs.declared.parts.Touch.{Touch}
 use Rattle.action_profile.specs.declared.rights.Profile.{Profile}
@@ -27,7 +27,7 @@ only_touch b stage whole first d owned ready one = single stage.parts.touches (l
     single (t ∷ []) is = refl
     single (t ∷ u ∷ ts) is = absurd (omega arith)
 
--- what a version needs to go on, it needs whatever it has of the packet beside
+-- what a version needs to go on, it needs whatever else it has of the packet
 carried_whole : (chain : List Profile) (packet whole : PlainApart) (touch t : Touch) (at : ℕ) → IsCarried chain packet touch at (dealt whole t) → IsCarried chain packet touch at (dealt_whole whole t)
 carried_whole chain packet whole touch t at c = record {
   made = record { touched = c.made.touched; there = c.made.there; own = c.made.own; lengths = c.made.lengths };
@@ -36,7 +36,7 @@ carried_whole chain packet whole touch t at c = record {
   room = c.room;
 }
 
--- what the branch is dealt, beside others
+-- what the branch gets, beside others
 begun : {F : Type 0} (b : Behaviour F) (stage : Stage) (whole : PlainApart) (first : List F) (t : Touch) → stage.parts.touches ≡ t ∷ [] → HasRun b stage whole first first 0 [] (dealt whole t ∷ [])
 begun b stage whole first t touches = branches_begin b stage whole first [] (dealt whole t ∷ []) (dealt whole t ∷ []) refl refl (ap (map (dealt whole)) (sym touches))
 
@@ -47,7 +47,7 @@ only_ready b stage whole first t v d positions owned made touches is ready at =
     subst (IsReady (map b.profile first) positions) (sym is)
     (record { whole = r.whole; low = r.low; high = r.high; holds = r.holds; carried = carried_whole (map b.profile first) r.whole whole t t r.low r.carried })
 
--- it has run, as the one of several that it is
+-- it has run, as one of several would
 pub only_ran : {F : Type 0} (b : Behaviour F) (stage : Stage) (whole : PlainApart) (first after : List F) (t : Touch) (v : PlainVersion) (a : Arrival) (d : Branch) (positions : List ℕ) → Owned → DealtIsMade → StaysInBranch F → KeepsProfile b →
     stage.parts.touches ≡ t ∷ [] → v ≡ dealt_whole whole t → ReadySomewhere b first stage whole → positions ≡ (get_or stage.branches 0 d).positions →
     after ≡ (in_turn b v.fixed positions first (Live (as_version v))).functions →
@@ -65,7 +65,7 @@ only_ran b stage whole first after t v a d positions owned made stays keeps touc
     refl)
     refl ready
 
--- the base of the stage, which the branch had with it
+-- the base of the stage, which the branch had
 pub only_base : (stage : Stage) (whole : PlainApart) (t : Touch) → stage.parts.touches ≡ t ∷ [] → based (t ∷ []) whole ≡ based stage.parts.touches whole
 only_base stage whole t touches = ap (λ (ts : List Touch). based ts whole) (sym touches)
 

@@ -1,4 +1,4 @@
--- One stage more, and the end of the way.
+-- One more stage, and the end of the way.
 use Rattle.std.proofs.Common.{◌≡◌, ◌∙◌, ◌<◌, ◌≤◌, ◌+◌, ℕ, suc, Bool, true, false, List, [], ◌∷◌, ◌++◌, map, length, take, drop, get_or, sym, ap, refl, subst, arith}
 use Rattle.std.specs.Prelude.{if◌then◌else◌, Option, Some, None, is_some}
 use Rattle.std.specs.List.{list_any}
@@ -55,7 +55,7 @@ part_there : (o : Option PlainPart) → is_some (bytes_in o) ≡ is_some o
 part_there None = refl
 part_there (Some p) = refl
 
--- the copies of one stage more
+-- the copies of one more stage
 one_more : (stages : List Stage) (i : ℕ) (d : Stage) (f : Field) → i < length stages → copies_in (take (i + 1) stages) f ≡ copies_in (take i stages) f + copies (get_or stages i d).parts f
 one_more stages i d f inside =
     ap (λ l. copies_in l f) (take_more stages i d inside) ∙ copies_append (take i stages) (get_or stages i d ∷ []) f ∙ ap (λ n. copies_in (take i stages) f + n) (sum_by-cons (λ s. copies s.parts f) (get_or stages i d) [] ∙ no_more (copies (get_or stages i d).parts f))
@@ -67,14 +67,14 @@ raised_on : (t : Bool) (c a m all now new : ℕ) → now ≡ raised c (if t then
 raised_on true c a m all now new x y e = omega arith
 raised_on false c a m all now new x y e = omega arith
 
--- the counts behind one stage more
+-- the counts after one stage more
 counted_more : (graph : Graph) (frame : List ℕ) (i : ℕ) (whole : PlainApart) (old now new : List ℕ) (d : Stage) → i < length graph.stages → ((f : Field) → is_some (values_in whole f) ≡ is_some (value f frame)) →
     RaisesAll (made_in graph.stages i frame) old now → RaisesAll (stage_copies (get_or graph.stages i d) whole) now new → RaisesAll (made_in graph.stages (i + 1) frame) old new
 counted_more graph frame i whole old now new d inside there before here = λ f.
     raised_on (is_some (value f frame)) (count_of old f) (copies_in (take i graph.stages) f) (copies (get_or graph.stages i d).parts f) (copies_in (take (i + 1) graph.stages) f) (count_of now f) (count_of new f)
     (before f) (here f ∙ ap (λ (t : Bool). raised (count_of now f) (if t then copies (get_or graph.stages i d).parts f else 0)) (sym (part_there (packet_parts whole f)) ∙ there f)) (one_more graph.stages i d f inside)
 
--- one stage more, behind which the packet goes on
+-- one more stage, after which the packet goes on
 pub stage_passed : {F : Type 0} (b : Behaviour F) (graph : Graph) (time : ℕ) (frame : List ℕ) (first now after : List F) (i : ℕ) (whole next : PlainApart) (old new newer : List ℕ) (d : Stage) → Rising → StageKeepsFields F → StageKeepsProfiles F → KeepsProfile b →
     IsRunning b first graph → IsFlowing b graph time frame first now i whole old new → i < length graph.stages →
     after ≡ (staged b whole.fixed (get_or graph.stages i d) (values_in whole) now).functions → Out (values_in next) ≡ (staged b whole.fixed (get_or graph.stages i d) (values_in whole) now).end →
@@ -98,13 +98,13 @@ stage_passed b graph time frame first now after i whole next old new newer d ris
       counted = counted_more graph frame i whole old new newer d inside way.there way.counted counted;
     }
 
--- what comes of a packet, and of the functions and counts
+-- what becomes of a packet, and of the functions and counts
 pub record Ends {F : Type 0} (b : Behaviour F) (graph : Graph) (time : ℕ) (frame : List ℕ) (first after : List F) (came : Fate) (old new : List ℕ) : Type 0 where
   pub functions : after ≡ (walk b time 1 first frame).functions
   pub fate : came ≡ (walk b time 1 first frame).fate
   pub counted : RaisesAll (copies_of graph.stages frame (walk b time 1 first frame).fate) old new
 
--- where a packet is gone on what is left of the way, a stage that is left has the position
+-- if a packet is dropped on the rest of the way, a remaining stage has the position
 abbrev pub GoneLater : Type 0 → Type 0
 GoneLater F = (b : Behaviour F) (fixed : Fixed) (stages : List Stage) (functions : List F) (values : Values) (position : ℕ) → (flow b fixed stages values functions).end ≡ Gone position → list_any (stands position) stages ≡ true
 
@@ -117,11 +117,11 @@ cut_here {F} b graph time frame first now i whole old new gone running way walks
     ∙ reached_cut graph (map b.profile first) i frame e.end running.full running.lawful (λ p is. gone b (fixed_of time frame) (drop i graph.stages) now (values_in whole) p (ap (λ r. r.end) way.same ∙ is))
     ∙ ap (λ w. take i graph.stages ++ reached (drop i graph.stages) w.fate) (sym walks)
 
--- the counts, where the packet reaches no more stages than these
+-- the counts, if the packet reaches no more stages than these
 counted_all : (graph : Graph) (frame : List ℕ) (i : ℕ) (fate : Fate) (old new : List ℕ) → reached graph.stages fate ≡ take i graph.stages → RaisesAll (made_in graph.stages i frame) old new → RaisesAll (copies_of graph.stages frame fate) old new
 counted_all graph frame i fate old new is counted = λ f. counted f ∙ ap (λ l. raised (count_of old f) (if is_some (value f frame) then copies_in l f else 0)) (sym is)
 
--- a packet that is dropped in the stage that is next
+-- a packet that is dropped in the next stage
 pub stage_drops : {F : Type 0} (b : Behaviour F) (graph : Graph) (time : ℕ) (frame : List ℕ) (first now after : List F) (i p : ℕ) (whole : PlainApart) (old new newer : List ℕ) (d : Stage) → GoneLater F →
     ((b : Behaviour F) (fixed : Fixed) (stage : Stage) (functions : List F) (values : Values) (position : ℕ) → (staged b fixed stage values functions).end ≡ Gone position → stands position stage ≡ true) →
     IsRunning b first graph → IsFlowing b graph time frame first now i whole old new → IsWalk b graph time frame first → i < length graph.stages →
@@ -173,7 +173,7 @@ up_to : (t : Bool) (c a m all now new total : ℕ) → now ≡ raised c (if t th
 up_to true c a m all now new total x low high e le = (omega arith, omega arith)
 up_to false c a m all now new total x low high e le = (omega arith, omega arith)
 
--- where memory runs out in a stage, the counts are within those of the whole way
+-- if a stage runs out of memory, the counts are within those of the whole way
 pub stage_fails : {F : Type 0} (b : Behaviour F) (graph : Graph) (time : ℕ) (frame : List ℕ) (first now : List F) (i : ℕ) (whole : PlainApart) (old new newer : List ℕ) (d : Stage) → GoneLater F → IsRunning b first graph → IsFlowing b graph time frame first now i whole old new →
     IsWalk b graph time frame first → i < length graph.stages → RaisesUpTo (stage_copies (get_or graph.stages i d) whole) new newer → RaisesUpTo (copies_of graph.stages frame (walk b time 1 first frame).fate) old newer
 stage_fails b graph time frame first now i whole old new newer d gone running way walks inside within = λ f.

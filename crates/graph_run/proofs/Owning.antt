@@ -35,7 +35,7 @@ either_true false true true y f g e = refl
 either_true false true false y f g e = g refl
 either_true false false x y f g e = absurd cc
 
--- what a branch's touch has of the functions that it owns
+-- which of a branch's fields its functions touch
 pub owned_named : (chain : List Profile) (first : ℕ) (stage : Stage) (j q : ℕ) (p : Profile) (touch : Touch) → HasOwners chain first stage → slice_get stage.parts.touches j ≡ Some touch → first ≤ q → q < end_of first stage →
     owner stage.branches q ≡ j → profile_at chain q ≡ Some p → HoldsNamed p touch
 owned_named chain first stage j q p touch owners is low high owns at =
@@ -45,7 +45,7 @@ owned_named chain first stage j q p touch owners is low high owns at =
       written = λ f e. owners.writes q p touch f low high at mine e;
     }
 
--- the positions of a branch among so many from one on
+-- the positions of a branch among this number of positions from one on
 owned_from : (chain : List Profile) (first : ℕ) (stage : Stage) (j : ℕ) (touch : Touch) (low n : ℕ) → HasOwners chain first stage → slice_get stage.parts.touches j ≡ Some touch →
     1 ≤ first → end_of first stage ≤ suc (length chain) → first ≤ low → low + n ≡ end_of first stage →
     Holds chain touch low (end_of first stage) (filter (λ q. owner stage.branches q == j) (range_with_len low n))

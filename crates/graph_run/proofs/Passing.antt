@@ -1,4 +1,4 @@
--- What a stage gave, by what was merged.
+-- The result of a stage, by the result of the merge.
 use Rattle.std.proofs.Common.{◌≡◌, ◌∙◌, ◌<◌, ◌+◌, ℕ, true, List, map, length, get_or, sym, ap, subst}
 use Rattle.chain_walk.specs.Shown.{Values}
 use Rattle.chain_walk.specs.Step.{Behaviour}
@@ -21,14 +21,14 @@ use Rattle.graph_run.specs.Stages.{end_of, IsStageReady, LeavesStage, stage_copi
 use Rattle.graph_run.proofs.WayThroughStages.{IsFlowing, Rising, stage_ready}
 use Rattle.graph_run.proofs.Onward.{StageKeepsFields, StageKeepsProfiles, GoneLater, IsWalk, Ends, stage_passed, stage_drops, stage_fails}
 
--- what running a stage gave
+-- the result of running a stage
 pub record Gave {F : Type 0} (b : Behaviour F) (stage : Stage) (whole : PlainApart) (now after : List F) (merged : Merged) (new newer : List ℕ) : Type 0 where
   pub functions : after ≡ (staged b whole.fixed stage (values_in whole) now).functions
   pub end : as_end merged ≡ (staged b whole.fixed stage (values_in whole) now).end
   pub leaves : (at : ℕ) → IsStageReady (map b.profile now) at stage whole → LeavesStage (map b.profile now) (end_of at stage) whole merged
   pub counted : RaisesAll (stage_copies stage whole) new newer
 
--- the stage that is next is ready
+-- the next stage is ready
 pub next_ready : {F : Type 0} (b : Behaviour F) (graph : Graph) (time : ℕ) (frame : List ℕ) (first now : List F) (i : ℕ) (whole : PlainApart) (old new : List ℕ) (s : Stage) → Rising → IsRunning b first graph →
     IsFlowing b graph time frame first now i whole old new → i < length graph.stages → s ≡ get_or graph.stages i s → (at : ℕ) × IsStageReady (map b.profile now) at s whole
 next_ready b graph time frame first now i whole old new s rising running way inside is = (

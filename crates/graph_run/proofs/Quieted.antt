@@ -1,4 +1,4 @@
--- One function of a branch, its counting left out, as the law of graphs sees it.
+-- One function of a branch, without its counting, as the law of graphs sees it.
 use Rattle.std.proofs.Common.{◌≡◌, ◌∙◌, ℕ, Bool, true, false, refl, sym, ap}
 use Rattle.std.specs.Prelude.{if◌then◌else◌, Option, None}
 use Rattle.packet_version.specs.Views.{PlainView, viewed, wrote_all, seen_values}
@@ -17,7 +17,7 @@ use Rattle.graph_run.specs.Carrying.{as_version, as_branch_end}
 use Rattle.graph_run.specs.Staging.{IsWhatWasWritten}
 use Rattle.graph_run.proofs.Stepped.{seen_at, function_moved, passes, drops}
 
--- what came of a version at one function, and what that noted of it
+-- the result for a version at one function, and what the function noted
 pub record Acts {F N : Type 0} (b : Behaviour F) (notes : Notes F N) (q : ℕ) (f after : F) (v : PlainVersion) (arrives : Arrival) (note : Option N) : Type 0 where
   pub function : after ≡ moved_function (quiet b) v.fixed f (Live (as_version v))
   pub arrival : as_branch_end arrives ≡ moved_end (quiet b) v.fixed q f (Live (as_version v))
@@ -35,7 +35,7 @@ idles {F} b f view e = sym (ap (λ (t : Bool). if t then idle f else viewed b f 
 unnoted : {F N : Type 0} (b : Behaviour F) (notes : Notes F N) (f : F) (v : PlainVersion) → (b.profile f).counts ≡ false → None ≡ noted b notes v.fixed f (as_version v).values
 unnoted {F} {N} b notes f v e = sym (ap (λ (t : Bool). if t then notes.look f (shown_by (b.profile f) v.fixed (as_version v).values) else None) e)
 
--- a function that passes the packet, by what its step is
+-- a function that passes the packet, by its step
 passed : {F N : Type 0} (b : Behaviour F) (notes : Notes F N) (q : ℕ) (p : Profile) (f after : F) (v left : PlainVersion) (view wrote : PlainView) (note : Option N) (s : Step F) → KeepsProfile (quiet b) → s ≡ viewed (quiet b) f view →
     view ≡ seen_at q p v → Pass ≡ s.verdict → after ≡ s.after → wrote ≡ wrote_all s.written view → left ≡ wrote.version → note ≡ noted b notes v.fixed f (as_version v).values → Acts b notes q f after v (came.Version left) note
 passed b notes q p f after v left view wrote made s keeps is sees decided moved writes ends notes_so =

@@ -17,7 +17,7 @@ use Rattle.graph_compile.specs.declared.graph.Stage.{Stage}
 use Rattle.graph_compile.proofs.FiveFacts.{lawful-rises}
 use Rattle.graph_run.specs.Counting.{reached, copies_in}
 
--- a packet that is gone was dropped in none of so many stages
+-- a packet that is gone was dropped in none of this number of stages
 abbrev pub NotIn : ℕ → List Stage → ℕ → Type 0
 NotIn i stages p = (k : ℕ) (s : Stage) → k < i → slice_get stages k ≡ Some s → stands p s ≡ false
 
@@ -33,7 +33,7 @@ cut_gone (s ∷ later) (suc i) p none =
     ap (λ (t : Bool). s ∷ (if t then [] else reached later (fates.Gone p))) (none 0 s (omega arith) refl)
     ∙ ap (λ l. s ∷ l) (cut_gone later i p (λ k t less is. none (suc k) t (omega arith) is))
 
--- where a list has one, one stands at some place
+-- if a list has one, one is at some place
 some_at : (p : ℕ) (stages : List Stage) → list_any (stands p) stages ≡ true → (j : ℕ) × (t : Stage) × (slice_get stages j ≡ Some t) × (stands p t ≡ true)
 some_at p [] e = absurd cc
 some_at p (s ∷ later) e = by_test (λ none. some_at p later (sym (ap (λ (t : Bool). t || list_any (stands p) later) none) ∙ e)) (stands p s) refl
@@ -72,7 +72,7 @@ copies_append (x ∷ xs) ys f = let more = copies_append xs ys f in let one = su
     plus : (all here rest front tail both : ℕ) → all ≡ here + rest → front ≡ here + tail → rest ≡ tail + both → all ≡ front + both
     plus all here rest front tail both a b c = omega arith
 
--- at least the first stage that is left is reached
+-- at least the first remaining stage is reached
 pub first_reached : (s : Stage) (later : List Stage) (fate : Fate) (f : Field) → copies s.parts f ≤ copies_in (reached (s ∷ later) fate) f
 first_reached s later (fates.Out frame) f = let one = sum_by-cons (λ s. copies s.parts f) s (reached later (fates.Out frame)) in bound _ _ _ one
   where
@@ -83,6 +83,6 @@ first_reached s later (fates.Gone p) f = let one = sum_by-cons (λ s. copies s.p
     bound : (all here rest : ℕ) → all ≡ here + rest → here ≤ all
     bound all here rest e = omega arith
 
--- where it is dropped there, it reaches no other
+-- if it is dropped there, it reaches no other
 pub last_reached : (s : Stage) (later : List Stage) (p : ℕ) → stands p s ≡ true → reached (s ∷ later) (fates.Gone p) ≡ s ∷ []
 last_reached s later p is = ap (λ (t : Bool). s ∷ (if t then [] else reached later (fates.Gone p))) is

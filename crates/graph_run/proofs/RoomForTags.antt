@@ -1,4 +1,4 @@
--- Room for tags that is still there.
+-- Room for tags that remains.
 use Rattle.std.proofs.Common.{◌≡◌, ◌∙◌, ◌≤◌, ◌+◌, ◌-◌, ◌*◌, ℕ, zero, suc, List, [], ◌∷◌, length, drop, ap, arith}
 use Rattle.std.specs.Prelude.{Option, Some, None, IfSome, count_by, if◌then◌else◌, slice_get}
 use Rattle.std.proofs.Math.Seq.{drop-nil}
@@ -12,7 +12,7 @@ use Rattle.graph_run.specs.Rooms.{adders_from, HasRoomFrom}
 abbrev adds_one : Profile → ℕ
 adds_one p = if p.adds then 1 else 0
 
--- the function at an index, and those behind it
+-- the function at an index, and those after it
 count_at : (chain : List Profile) (n : ℕ) (p : Profile) → slice_get chain n ≡ Some p → count_by (λ p. p.adds) (drop n chain) ≡ adds_one p + count_by (λ p. p.adds) (drop (suc n) chain)
 count_at [] n p is = absurd cc
 count_at (x ∷ chain) zero p is = sum_by-cons adds_one x chain ∙ ap (λ y. adds_one y + count_by (λ p. p.adds) chain) (same_Some x p is)

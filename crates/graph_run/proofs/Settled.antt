@@ -24,7 +24,7 @@ use Rattle.graph_run.specs.Running.{IsRunning}
 use Rattle.graph_run.specs.Settling.{gone_at}
 use Rattle.graph_run.proofs.Onward.{all_made}
 
--- so many notes are settled, and the rest of them gives what all give
+-- this number of notes are settled, and the rest of them gives what all give
 abbrev pub SettlesOn : {F N : Type 0} → Notes F N → (ℕ → Bool) → List F → List F → List (PlacedNote N) → ℕ → Type 0
 SettlesOn notes gone first now listed i = settled_placed notes gone now (drop i listed) ≡ settled_placed notes gone first listed
 
@@ -74,7 +74,7 @@ none_settles {F} {N} notes fs o i p n is at past =
     ap (λ (x : Option F). settled_there notes (record { position = p; note = n }) x fs) (sym (none_at fs i past) ∙ ap (slice_get fs) at)
     ∙ ap (λ (x : PlacedNote N). settled_there notes x (slice_get fs (x.position - 1)) fs) is
 
--- the walks of whole frames, with the counting and without it, and what the laws say of them
+-- the walks of whole frames, with the counting and without it, and what the laws say about them
 pub record Walks {F N : Type 0} (b : Behaviour F) (notes : Notes F N) (graph : Graph) (time : ℕ) (frame : List ℕ) (first : List F) : Type 0 where
   pub chain : flow (quiet b) (fixed_of time frame) graph.stages (fields_of frame) first ≡ walk_fields (quiet b) (fixed_of time frame) 1 first (fields_of frame)
   pub quiet_frames : walk (quiet b) time 1 first frame ≡ walked_by frame (walk_fields (quiet b) (fixed_of time frame) 1 first (fields_of frame))
@@ -83,7 +83,7 @@ pub record Walks {F N : Type 0} (b : Behaviour F) (notes : Notes F N) (graph : G
   pub placed_so : settled_placed notes (gone_before (flow (quiet b) (fixed_of time frame) graph.stages (fields_of frame) first).end) (flow (quiet b) (fixed_of time frame) graph.stages (fields_of frame) first).functions
       (placed_by graph.stages (flow_notes (quiet b) notes (fixed_of time frame) graph.stages (fields_of frame) first)) ≡ (walk_fields b (fixed_of time frame) 1 first (fields_of frame)).functions
 
--- the functions run as well with the counting left out
+-- the functions also run without the counting
 pub runs_quiet : {F : Type 0} (b : Behaviour F) (functions : List F) (graph : Graph) → IsRunning b functions graph → IsRunning (quiet b) functions graph
 runs_quiet b functions graph running = record { few = running.few; lawful = running.lawful; full = running.full }
 

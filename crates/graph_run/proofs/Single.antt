@@ -82,7 +82,7 @@ walks_up_to b stages fs unit chain item time frame old new is at framed within =
     ap (λ (l : List Packet). walked_copies b stages fs l f) (one_of unit chain item is) ∙ one_copies b stages fs (packet_of unit item) f ∙ sym (λ i. copies_of stages (framed i) (walk b (at i) 1 fs (framed i)).fate f) in
     ((within f).0, subst (λ n. count_of new f ≤ raised (count_of old f) n) (sym same) (within f).1)
 
--- what was written back of a list is that list
+-- a list written back is that list
 pub wrote_back : {A : Type 0} (n : ℕ) (xs ys : List A) → length xs ≡ n → take n (xs ++ drop (length xs) ys) ≡ xs
 wrote_back n xs ys e = ap (λ k. take k (xs ++ drop (length xs) ys)) (sym e) ∙ front xs (drop (length xs) ys)
   where
@@ -90,7 +90,7 @@ wrote_back n xs ys e = ap (λ k. take k (xs ++ drop (length xs) ys)) (sym e) ∙
     front [] ys = refl
     front (x ∷ xs) ys = ap (λ l. x ∷ l) (front xs ys)
 
--- an item more, where the functions were lent and written back
+-- one more item, if the functions were lent and written back
 pub item_taken : {F : Type 0} (b : Behaviour F) (graph : Graph) (unit : TimeUnit) (chain : ℕ) (items : List Item) (first now lent after back : List F) (i : ℕ) (done more : List Fate) (old new newer : List ℕ) (item : Item) → FatesInARow F → FunctionsInARow F → AsManyFates F → KeepsProfile b →
     HasRunItems b graph unit chain items first now i done old new → i < length items → item ≡ get_or items i item → lent ≡ now → back ≡ after →
     after ≡ functions_after b lent (packets_taken unit chain (item ∷ [])) → more ≡ done ++ fates b lent (packets_taken unit chain (item ∷ [])) →

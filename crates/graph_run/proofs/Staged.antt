@@ -45,7 +45,7 @@ branched_none : {F : Type 0} (b : Behaviour F) (stage : Stage) (whole : PlainApa
 unfolding branched
 branched_none b stage whole touches fs = refl
 
--- every branch has run, and what came from each may be merged
+-- every branch has run, and their results may be merged
 pub record AllRan {F : Type 0} (b : Behaviour F) (stage : Stage) (whole : PlainApart) (first now : List F) (done : List Arrival) : Type 0 where
   pub same : ◌≡◌ {A = Branched F} (record { functions = now; arrivals = map as_branch_end done }) (branched b whole.fixed stage.branches stage.parts.touches (values_in whole) first)
   pub came : (at : ℕ) → IsStageReady (map b.profile first) at stage whole → AllCarried (map b.profile first) whole (end_of at stage) stage.parts.touches done
@@ -85,7 +85,7 @@ few_arrivals b stage whole first now done owned ran ready =
     let few = ready.1.few in
     omega arith
 
--- what comes out behind the stage
+-- what leaves the stage
 pub stage_ends : {F : Type 0} (b : Behaviour F) (stage : Stage) (whole base : PlainApart) (first now : List F) (done : List Arrival) (result : Merged) → Unwritten → LastValues → AllRan b stage whole first now done → base ≡ based stage.parts.touches whole →
     IsWhole (packet_parts whole) whole.rest → ReadySomewhere b first stage whole → result ≡ merged base done → as_end result ≡ (staged b whole.fixed stage (values_in whole) first).end
 stage_ends b stage whole base first now done result unwritten last ran is fits ready merges =
@@ -136,7 +136,7 @@ stage_counted_up stage whole old new modes due = λ f. let is = stage_counted st
 pub stage_refused : (stage : Stage) (whole : PlainApart) (old new : List ℕ) → stage.parts.modes ≡ modes_of stage.parts.touches → RaisesWithinDue stage.parts.touches (packet_parts whole) old new → RaisesUpTo (stage_copies stage whole) old new
 stage_refused stage whole old new modes due = λ f. ((due f).0, subst (λ n. count_of new f ≤ raised (count_of old f) n) (due_is stage whole f modes) (due f).1)
 
--- nothing is left of a list without length
+-- nothing remains of a list without length
 pub nothing_left : {A : Type 0} (xs : List A) (n : ℕ) → n ≡ 0 → length xs ≡ n → xs ≡ []
 nothing_left [] n none e = refl
 nothing_left (x ∷ xs) n none e = absurd (omega arith)

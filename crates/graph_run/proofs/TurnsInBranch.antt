@@ -1,4 +1,4 @@
--- The functions of a branch, in turn: how far the turns have come.
+-- The functions of a branch, in turn: the state so far.
 use Rattle.std.proofs.Common.{◌≡◌, ◌∙◌, ◌≤◌, ◌<◌, ◌+◌, ◌-◌, ◌*◌, ℕ, zero, suc, Bool, true, false, List, [], ◌∷◌, length, drop, map, set, get_or, sym, ap, refl, subst, arith}
 use Rattle.std.specs.Prelude.{◌≢◌, Option, Some, None, option_map, IfSome, slice_get, if◌then◌else◌}
 use Rattle.std.proofs.Math.Seq.{map-set_same}
@@ -30,7 +30,7 @@ pub record Goes (chain : List Profile) (whole : PlainApart) (touch : Touch) (hig
   pub holds : Holds chain touch at high rest
   pub carried : IsCarried chain whole touch at v
 
--- so many positions had their turn, and the rest of the turns gives what all give
+-- this number of positions had their turn, and the remaining turns give what all give
 pub record InTurn {F : Type 0} (b : Behaviour F) (positions : List ℕ) (first now : List F) (v0 v : PlainVersion) (i : ℕ) : Type 0 where
   pub same : in_turn b v0.fixed (drop i positions) now (Live (as_version v)) ≡ in_turn b v0.fixed positions first (Live (as_version v0))
   pub profiles : map b.profile now ≡ map b.profile first
@@ -50,7 +50,7 @@ turns_begin b positions first v = record {
   goes = λ whole low high holds carried. record { at = low; holds = holds; carried = carried };
 }
 
--- the function that has its turn: it is there, its branch holds what it names, and there is room for a tag that it adds
+-- the function that has its turn: it exists, its branch holds what it names, and there is room for a tag that it adds
 pub record HasTurn {F : Type 0} (b : Behaviour F) (now : List F) (q : ℕ) (v : PlainVersion) : Type 0 where
   pub function : F
   pub position : 1 ≤ q
@@ -72,7 +72,7 @@ four_more None adds here later is e room = tt
 four_more (Some p) true here later is e room = omega arith
 four_more (Some p) false here later is e room = absurd cc
 
--- what is held of the next position, and of those behind it
+-- what holds for the next position, and for those after it
 record Next (chain : List Profile) (touch : Touch) (low high q : ℕ) (rest : List ℕ) : Type 0 where
   position : 1 ≤ q
   rises : low ≤ q
@@ -85,7 +85,7 @@ next_of : (chain : List Profile) (touch : Touch) (low high q : ℕ) (rest : List
 unfolding Holds
 next_of chain touch low high q rest h = record { position = h.0; rises = h.1; profile = h.2.0; is = h.2.1; named = h.2.2; later = h.3 }
 
--- the next of the positions that are left
+-- the next of the remaining positions
 next_in : (chain : List Profile) (touch : Touch) (low high : ℕ) (positions : List ℕ) (i : ℕ) → i < length positions → Holds chain touch low high (drop i positions) → Next chain touch low high (get_or positions i 0) (drop (i + 1) positions)
 next_in chain touch low high positions i inside holds = next_of chain touch low high (get_or positions i 0) (drop (i + 1) positions) (subst (Holds chain touch low high) (drop_more positions i 0 inside) holds)
 
@@ -127,13 +127,13 @@ turn_is b now q v d turn = got now (q - 1) turn.function d turn.is
     got (y ∷ xs) zero x d e = same_Some y x e
     got (y ∷ xs) (suc n) x d e = got xs n x d e
 
--- one turn: the function at a position that there is
+-- one turn: a function at a position that exists
 in_turn_more : {F : Type 0} (b : Behaviour F) (fixed : Fixed) (q : ℕ) (qs : List ℕ) (fs : List F) (f : F) (a : BranchEnd) → slice_get fs (q - 1) ≡ Some f →
     in_turn b fixed (q ∷ qs) fs a ≡ in_turn b fixed qs (set fs (q - 1) (moved_function b fixed f a)) (moved_end b fixed q f a)
 unfolding in_turn met
 in_turn_more b fixed q qs fs f a is = ap (λ o. in_turn b fixed qs (met b fixed q o fs a).functions (met b fixed q o fs a).arrival) is
 
--- a packet that is gone leaves every function as it is
+-- a packet that was dropped leaves every function unchanged
 in_turn_gone : {F : Type 0} (b : Behaviour F) (fixed : Fixed) (qs : List ℕ) (fs : List F) (p : ℕ) → in_turn b fixed qs fs (Nil p) ≡ record { functions = fs; arrival = Nil p }
 unfolding in_turn met moved_function moved_end
 in_turn_gone b fixed [] fs p = refl
@@ -187,7 +187,7 @@ turn_taken {F} b positions first now v0 v after i f d stays keeps turn ready ins
           };
     }
 
--- the same, of what comes from the function's step
+-- the same, for the result of the function's step
 pub turn_passed : {F : Type 0} (b : Behaviour F) (positions : List ℕ) (first now : List F) (v0 v after : PlainVersion) (i : ℕ) (f d : F) (came : Arrival) → StaysFormed F → KeepsProfile b →
     InTurn b positions first now v0 v i → IsReady (map b.profile first) positions v0 → i < length positions →
     f ≡ moved_function b v.fixed (get_or now (get_or positions i 0 - 1) d) (Live (as_version v)) →
@@ -213,7 +213,7 @@ carried_over b positions first now v0 v i turn past whole low high holds carried
     let goes = turn.goes whole low high holds carried in
     carried_later (map b.profile first) whole v0.touch goes.at high v (subst (Holds (map b.profile first) v0.touch goes.at high) (drop_all i positions past) goes.holds) goes.carried
 
--- what comes of a branch in which a function dropped the packet
+-- what becomes of a branch in which a function dropped the packet
 pub record Dropped {F : Type 0} (b : Behaviour F) (positions : List ℕ) (first now : List F) (v0 : PlainVersion) (came : Arrival) : Type 0 where
   pub functions : now ≡ (in_turn b v0.fixed positions first (Live (as_version v0))).functions
   pub arrival : as_branch_end came ≡ (in_turn b v0.fixed positions first (Live (as_version v0))).arrival

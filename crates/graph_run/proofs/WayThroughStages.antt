@@ -1,4 +1,4 @@
--- A packet on its way through the stages of a graph: how far it has come.
+-- A packet on its way through the stages of a graph: the state so far.
 use Rattle.std.proofs.Common.{◌≡◌, ◌∙◌, ◌<◌, ◌≤◌, ◌+◌, ◌*◌, ℕ, zero, suc, Bool, true, false, List, [], ◌∷◌, map, length, take, drop, get_or, sym, ap, refl, subst, arith}
 use mathlib.Core.Path.{fun_ext}
 use Rattle.std.specs.Prelude.{if◌then◌else◌, Option, Some, None, option_map, is_some, IfSome, slice_get}
@@ -29,18 +29,18 @@ use Rattle.graph_run.specs.Running.{IsRunning}
 use Rattle.graph_run.specs.Stages.{end_of, GoesFrom, IsStageReady}
 use Rattle.graph_run.proofs.Writing.{bytes_in}
 
--- the copies that were made of a packet in so many stages
+-- the copies that were made of a packet in this number of stages
 abbrev pub made_in : List Stage → ℕ → List ℕ → Field → ℕ
 made_in stages i frame f = if is_some (value f frame) then copies_in (take i stages) f else 0
 
--- the packet may go on through the stages that are left, which are staged from a position on
+-- the packet may go on through the remaining stages, which are staged from a position on
 pub record OnItsWay (chain : List Profile) (stages : List Stage) (whole : PlainApart) : Type 0 where
   pub at : ℕ
   pub position : 1 ≤ at
   pub staged_on : IsStaged chain at stages (suc (length chain))
   pub goes : GoesFrom chain at whole
 
--- so many stages are behind the packet, and the rest of the way gives what the whole way gives
+-- this number of stages are after the packet, and the rest of the way gives what the whole way gives
 pub record IsFlowing {F : Type 0} (b : Behaviour F) (graph : Graph) (time : ℕ) (frame : List ℕ) (first now : List F) (i : ℕ) (whole : PlainApart) (old new : List ℕ) : Type 0 where
   pub same : flow b (fixed_of time frame) (drop i graph.stages) (values_in whole) now ≡ flow b (fixed_of time frame) graph.stages (fields_of frame) first
   pub profiles : map b.profile now ≡ map b.profile first
@@ -50,7 +50,7 @@ pub record IsFlowing {F : Type 0} (b : Behaviour F) (graph : Graph) (time : ℕ)
   pub way : OnItsWay (map b.profile first) (drop i graph.stages) whole
   pub counted : RaisesAll (made_in graph.stages i frame) old new
 
--- the laws of graphs that a run rests on
+-- the laws of graphs on which a run rests
 abbrev pub LawfulIsStaged : Type 0
 LawfulIsStaged = (graph : Graph) (chain : List Profile) → IsFull graph → IsLawful graph chain → IsStaged chain 1 graph.stages (suc (length chain))
 
@@ -114,7 +114,7 @@ enough (b ∷ bs) each = let here = each 0 b refl in let rest = enough bs (λ j 
     more : (n m k all : ℕ) → 0 < n → m ≤ k → all ≡ n + k → suc m ≤ all
     more n m k all pos le e = omega arith
 
--- the stage that is next is ready for the packet
+-- the next stage is ready for the packet
 pub stage_ready : {F : Type 0} (b : Behaviour F) (graph : Graph) (time : ℕ) (frame : List ℕ) (first now : List F) (i : ℕ) (whole : PlainApart) (old new : List ℕ) (d : Stage) → Rising → IsRunning b first graph →
     (way : IsFlowing b graph time frame first now i whole old new) → i < length graph.stages → IsStageReady (map b.profile first) way.way.at (get_or graph.stages i d) whole
 stage_ready b graph time frame first now i whole old new d rising running way inside =
@@ -142,7 +142,7 @@ pub then_gone : {F : Type 0} (fs : List F) (p : ℕ) (on : Values → List F →
 unfolding then_flow
 then_gone fs p on = refl
 
--- what is left of the way, where the stage that is next leaves functions so and ends so
+-- the rest of the way, if the next stage leaves the functions in this state and ends so
 pub way_on : {F : Type 0} (b : Behaviour F) (graph : Graph) (time : ℕ) (frame : List ℕ) (first now after : List F) (i : ℕ) (whole : PlainApart) (old new : List ℕ) (d : Stage) (end : End) → IsFlowing b graph time frame first now i whole old new → i < length graph.stages →
     after ≡ (staged b whole.fixed (get_or graph.stages i d) (values_in whole) now).functions → end ≡ (staged b whole.fixed (get_or graph.stages i d) (values_in whole) now).end →
     then_flow after end (flow b (fixed_of time frame) (drop (i + 1) graph.stages)) ≡ flow b (fixed_of time frame) graph.stages (fields_of frame) first

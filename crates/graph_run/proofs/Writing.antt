@@ -32,7 +32,7 @@ writer_after None o q h = refl
 writer_after (Some w) None q h = absurd (none-some w (sym (h refl)))
 writer_after (Some w) (Some p) q h = refl
 
--- what is written where there is a field is written in the version that the law sees
+-- a field that is written if it is present is written in the version that the law sees
 pub as_wrote : (q : ℕ) (new : Values) (v : PlainVersion) → ((f : Field) → is_some (version_parts v f) ≡ false → new f ≡ None) → as_version (wrote_at q new v) ≡ written_at q new (as_version v)
 as_wrote q new v there = λ i. record {
   values = fun_ext (λ f. ap bytes_in (part_after q new v f) ∙ bytes_after (new f) (version_parts v f) q (there f)) i;

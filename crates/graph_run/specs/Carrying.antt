@@ -16,7 +16,7 @@ use Rattle.merge_ops.specs.declared.merging.Merged.TheVariants as ends
 abbrev pub as_version : PlainVersion → Version
 as_version version = record { values = values_of (version_parts version); writers = writers_of (version_parts version) }
 
--- what comes from a branch; no branch of a run is short
+-- a branch's result; no branch of a run is short
 abbrev pub as_branch_end : Arrival → BranchEnd
 as_branch_end (came.Version version) = Live (as_version version)
 as_branch_end (came.Nil position) = Nil position
@@ -26,12 +26,12 @@ as_branch_end came.Short = Nil 0
 abbrev pub values_in : PlainApart → Values
 values_in whole = values_of (packet_parts whole)
 
--- what comes of a packet behind a stage; no packet of a run is short
+-- what becomes of a packet after a stage; no packet of a run is short
 abbrev pub as_end : Merged → End
 as_end (ends.Whole whole) = Out (values_in whole)
 as_end (ends.Gone position) = Gone position
 as_end ends.Short = Gone 0
 
--- the version once the function at this position wrote these values
+-- the version after the function at this position wrote these values
 abbrev pub wrote_at : ℕ → Values → PlainVersion → PlainVersion
 wrote_at position new version = record version { parts = as_list (λ f. rewritten_by (new f) position (version_parts version f)) }

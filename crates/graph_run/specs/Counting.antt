@@ -1,4 +1,4 @@
--- Believed: how many copies a graph makes of the packets that go through it.
+-- Believed: the number of copies that a graph makes of the packets that go through it.
 use Rattle.std.specs.Prelude.{ℕ, ◌≤◌, List, [], ◌∷◌, ◌≡◌, if◌then◌else◌, is_some}
 use Rattle.std.specs.List.{sum_by, zip}
 use Rattle.packet_fields.specs.Fields.{value}
@@ -11,8 +11,8 @@ use Rattle.graph_compile.specs.Positions.{stands}
 use Rattle.graph_compile.specs.declared.graph.Stage.{Stage}
 use Rattle.packet_version.specs.Tallies.{count_of, raised}
 
--- the stages that a packet reaches which ends so: all where it goes out, and else those up to the one in which the
--- function stands that dropped it
+-- The stages that a packet with this end reaches: all if it goes out, and else those up to the one with the
+-- function that dropped it.
 abbrev pub reached : List Stage → Fate → List Stage
 reached [] fate = []
 reached (s ∷ later) (Out frame) = s ∷ reached later (Out frame)
@@ -22,7 +22,7 @@ reached (s ∷ later) (Gone p) = s ∷ (if stands p s then [] else reached later
 abbrev pub copies_in : List Stage → Field → ℕ
 copies_in stages f = sum_by (λ s. copies s.parts f) stages
 
--- the copies of a field that are made of a packet with this frame that ends so
+-- the copies of a field that are made of a packet with this frame and this end
 abbrev pub copies_of : List Stage → List ℕ → Fate → Field → ℕ
 copies_of stages frame fate f = if is_some (value f frame) then copies_in (reached stages fate) f else 0
 

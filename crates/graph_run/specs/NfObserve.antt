@@ -1,2 +1,2 @@
--- For proofs: words of nf_observe, for the crates above.
+-- For proofs: names of nf_observe, for the higher crates.
 pub use Rattle.nf_observe.specs.declared.note.FlowNote.{FlowNote}

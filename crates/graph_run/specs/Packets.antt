@@ -10,7 +10,7 @@ use Rattle.classifier.specs.declared.burst.Item.{Item}
 abbrev pub is_of : ℕ → Item → Bool
 is_of chain item = option_map_or (λ class. class == chain) item.class false
 
--- a packet's frame, and when it was captured, in nanoseconds
+-- a packet's frame, and the time of its capture, in nanoseconds
 abbrev pub packet_of : TimeUnit → Item → Packet
 packet_of unit item = record { time = time_of unit item.packet; frame = item.packet.frame }
 

@@ -21,7 +21,7 @@ pub record IsRunning {F : Type 0} (b : Behaviour F) (functions : List F) (graph 
   pub lawful : IsLawful graph (profiles_of b functions)
   pub full : IsFull graph
 
--- The functions run as well in this graph, which copies no field.
+-- The functions run also in this graph, which copies no field.
 pub record IsRow {F : Type 0} (b : Behaviour F) (functions : List F) (row : Graph) : Type 0 where
   pub runs : IsRunning b functions row
   pub copies : copies_nothing row.stages ≡ true

@@ -15,7 +15,7 @@ use Rattle.graph_run.specs.Carrying.{values_in}
 use Rattle.graph_run.specs.Rooms.{HasRoomFrom}
 use Rattle.graph_run.specs.Staging.{IsCarriedBy}
 
--- the position behind the last of a stage
+-- the position after the last of a stage
 abbrev pub end_of : ℕ → Stage → ℕ
 end_of first stage = first + size stage.branches
 
@@ -33,24 +33,24 @@ pub record IsStageReady (chain : List Profile) (first : ℕ) (stage : Stage) (wh
   pub few : length stage.branches ≤ 64
   pub goes : GoesFrom chain first whole
 
--- Behind a stage a packet may go on, with its own rest and fixed values.
+-- After a stage a packet may go on, with its own rest and fixed values.
 pub record IsBehind (chain : List Profile) (next : ℕ) (whole after : PlainApart) : Type 0 where
   pub rest : after.rest ≡ whole.rest
   pub fixed : after.fixed ≡ whole.fixed
   pub goes : GoesFrom chain next after
 
--- what comes out behind a stage: a packet that may go on, or a drop
+-- what leaves a stage: a packet that may go on, or a drop
 abbrev pub LeavesStage : List Profile → ℕ → PlainApart → Merged → Type 0
 LeavesStage chain next whole (Whole after) = IsBehind chain next whole after
 LeavesStage chain next whole (Gone p) = Unit {0}
 LeavesStage chain next whole Short = ⊥
 
--- what came from the branches with these touches, one from each
+-- the results of the branches with these touches, one from each
 unfoldable pub AllCarried : List Profile → PlainApart → ℕ → List Touch → List Arrival → Type 0
 AllCarried chain whole high [] [] = Unit {0}
 AllCarried chain whole high (t ∷ touches) (a ∷ arrivals) = IsCarriedBy chain whole t high a × AllCarried chain whole high touches arrivals
 AllCarried chain whole high touches arrivals = ⊥
 
--- the copies of a field that a stage makes of a packet, where it has the field
+-- the copies of a field that a stage makes of a packet, if it has the field
 abbrev pub stage_copies : Stage → PlainApart → Field → ℕ
 stage_copies stage whole f = if is_some (packet_parts whole f) then copies stage.parts f else 0

@@ -33,19 +33,19 @@ pub record IsReady (chain : List Profile) (positions : List ℕ) (version : Plai
   pub holds : Holds chain version.touch low high positions
   pub carried : IsCarried chain whole version.touch low version
 
--- what comes from a branch: a version that goes on from a position, or a drop
+-- a branch's result: a version that goes on from a position, or a drop
 abbrev pub IsCarriedBy : List Profile → PlainApart → Touch → ℕ → Arrival → Type 0
 IsCarriedBy chain whole touch position (came.Version version) = IsCarried chain whole touch position version
 IsCarriedBy chain whole touch position (came.Nil p) = Unit {0}
 IsCarriedBy chain whole touch position came.Short = ⊥
 
--- a version that comes has the same of the packet with it as the one that was there
+-- a version in the result has the same of the packet as the one before
 abbrev pub KeepsPacket : PlainVersion → Arrival → Type 0
 KeepsPacket version (came.Version after) = after.kept ≡ version.kept
 KeepsPacket version (came.Nil p) = Unit {0}
 KeepsPacket version came.Short = ⊥
 
--- a version that comes is the one that was there, with what the function at this position wrote
+-- a version in the result is the one before, with what the function at this position wrote
 abbrev pub IsWhatWasWritten : ℕ → Values → PlainVersion → Arrival → Type 0
 IsWhatWasWritten position new version (came.Version after) = after ≡ wrote_at position new version
 IsWhatWasWritten position new version (came.Nil p) = Unit {0}

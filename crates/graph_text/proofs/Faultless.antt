@@ -22,7 +22,7 @@ use Rattle.graph_text.proofs.Lawfulness.{all_stand, same_forbidden}
 use Rattle.graph_text.proofs.Leading.{any_standing}
 use Rattle.graph_text.proofs.Tests.{and_true, count_none, each_at}
 
--- nothing is found where nothing passes
+-- nothing is found if nothing passes
 nothing : (test : ℕ → Bool) (a n : ℕ) → ((q : ℕ) → a ≤ q → q < a + n → test q ≡ false) → find test (range_with_len a n) ≡ None
 nothing test a zero h = refl
 nothing test a (suc n) h =
@@ -46,7 +46,7 @@ no_pair_at test end h =
     let none : least (has_behind test end) end ≡ None = nothing_least (has_behind test end) end (λ p one lt. ap is_some (nothing_behind test end p (λ q less within. h p q one less within))) in
     ap (λ o. option_and_then {U = ℕ × ℕ} (λ p. option_map {U = ℕ × ℕ} (λ q. (p, q)) (least_behind test end p)) o) none
 
--- where an item passes there is one, and where one leads another there are two
+-- if an item passes there is one, and if one comes before another there are two
 record IsAt {A : Type 0} (f : A → Bool) (xs : List A) : Type 0 where
   place : ℕ
   item : A

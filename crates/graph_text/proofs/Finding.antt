@@ -8,7 +8,7 @@ use Rattle.std.proofs.lemmas.Option.{some_pair_parts}
 use Rattle.graph_text.specs.Standing.{least, least_behind, has_behind, least_pair}
 use Rattle.graph_text.proofs.Tests.{and_true}
 
--- none is found where none passes, and what is found passes
+-- none is found if none passes, and what is found passes
 at_or_above : (a q : ℕ) → a ≤ q → (q ≡ a) ⊎ (a + 1 ≤ q)
 at_or_above a q le = elim (nat_lt a q) as (λ b. nat_lt a q ≡ b → (q ≡ a) ⊎ (a + 1 ≤ q)) [
   | true ↦ λ e. let lt : a < q = grind (arith, nat_tests) in inr (omega arith)

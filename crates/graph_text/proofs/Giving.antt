@@ -26,7 +26,7 @@ use Rattle.graph_text.proofs.Lawfulness.{no_fault, lawful_made, full_made}
 use Rattle.graph_text.proofs.Whole.{of_due}
 use Rattle.graph_text.proofs.Reading.{then_keeps, cond_keeps, all_sound}
 
--- What holds of a graph that stands for a chain.
+-- What holds for a graph of a chain.
 pub record IsTaken (chain : List Profile) (graph : Graph) : Type 0 where
   pub lawful : IsLawful graph chain
   pub full : IsFull graph
@@ -66,7 +66,7 @@ ok_at : {A E : Type 0} (P : A → Type 0) (r : Result A E) (x : A) → IfOk r P 
 ok_at P (Ok y) x h e = let same : y ≡ x = cc in subst P same h
 ok_at P (Err f) x h e = cc
 
--- What holds of the graphs of all chains.
+-- What holds for the graphs of all chains.
 pub record AreTaken (chains : List ChainPolicy) (orders : List Order) (graphs : List (Option Graph)) : Type 0 where
   pub each : EachGraph IsTaken chains orders graphs
   pub many : length graphs ≡ length chains
@@ -107,7 +107,7 @@ text_taken text chains orders =
 pub given : (text : List ℕ) (chains : List ChainPolicy) (orders : List Order) (graphs : List (Option Graph)) → graphs_of text chains orders ≡ Ok graphs → AreTaken chains orders graphs
 given text chains orders graphs e = ok_at (AreTaken chains orders) (graphs_of text chains orders) graphs (text_taken text chains orders) e
 
--- what was given, where it is what is due
+-- what was given, if it is the due value
 pub answer : {A : Type 0} (view : A → List (Option Graph)) (r : Result A GraphReadFault) (text : List ℕ) (chains now : List ChainPolicy) (orders : List Order) → chains ≡ now →
     Gives view r (graphs_of text chains orders) → IfOk r (λ v. AreTaken now orders (view v))
 answer view r text chains now orders same e =

@@ -1,4 +1,4 @@
--- The latest of a list, changed in its place.
+-- The latest of a list, changed in place.
 use Rattle.std.proofs.Common.{◌≡◌, ◌∙◌, ◌-◌, suc, List, [], ◌∷◌, ◌++◌, length, Some, sym, ap, refl, arith}
 use Rattle.std.specs.Prelude.{slice_get}
 use Rattle.std.specs.List.{AllByRecursion}
@@ -9,7 +9,7 @@ latest_cons x y ys =
     let e : length (x ∷ y ∷ ys) - 1 ≡ suc (length (y ∷ ys) - 1) = omega arith in
     ap (slice_get (x ∷ y ∷ ys)) e
 
--- what holds of each holds with the latest changed
+-- what holds for each holds after the latest is changed
 pub all_latest : {A : Type 0} (P : A → Type 0) (f : A → A) (xs : List A) → AllByRecursion P xs → ((x : A) → latest xs ≡ Some x → P x → P (f x)) → AllByRecursion P (change_latest f xs)
 all_latest P f [] all h = tt
 all_latest P f (x ∷ []) all h = (h x refl all.0, tt)

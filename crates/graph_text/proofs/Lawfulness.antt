@@ -28,7 +28,7 @@ use Rattle.graph_text.proofs.Leading.{leads_at, leads_first, leads_second, any_s
 use Rattle.graph_text.proofs.Repeats.{part_once, times_once}
 use Rattle.graph_text.proofs.Tests.{or_false, or_left, or_right, and_both, and_true, not_false, any_at, each_at, all_from, all_at, count_none, count_some}
 
--- Every function of a chain of so many stands; none stands against the order; none beside one that is forbidden before it.
+-- Each of this number of functions is there, none against the order, none beside one that is forbidden before it.
 pub record AreFaultless (count : ℕ) (profiles : List Profile) (stages : List (List Branch)) : Type 0 where
   pub placed : (p : ℕ) → 1 ≤ p → p ≤ count → is_placed p stages ≡ true
   pub ordered : (p q : ℕ) → 1 ≤ p → p < q → q ≤ count → comes_before q p stages ≡ false
@@ -75,7 +75,7 @@ no_fault chain order profiles stages u e =
       free = λ p q one less le. no_pair (is_forbidden_beside profiles stages) end p q none_forbidden one less (omega arith);
     }
 
--- the positions of a graph are those that stand
+-- the positions of a graph are those in its branches
 pub all_stand : (profiles : List Profile) (stages : List (List Branch)) → all_positions (map (stage_of profiles) stages) ≡ standing stages
 all_stand profiles [] = refl
 all_stand profiles (s ∷ ss) =
@@ -112,7 +112,7 @@ by_map profiles stages i s (Some bs) is e = record { branches = bs; there = is; 
 stage_at : (profiles : List Profile) (stages : List (List Branch)) (i : ℕ) (s : Stage) → slice_get (map (stage_of profiles) stages) i ≡ Some s → IsStageAt profiles stages i s
 stage_at profiles stages i s e = by_map profiles stages i s (slice_get stages i) refl (sym (slice_get-map (stage_of profiles) stages i) ∙ e)
 
--- positions of a list that stand once and of which none comes before a lesser one rise
+-- positions of a list that occur once and of which none comes before a lesser one rise
 higher : (x : ℕ) (xs : List ℕ) (y : ℕ) → list_any (λ z. z == x) xs ≡ false → list_any (λ z. z == y) xs ≡ true → (y < x → ⊥) → suc x ≤ y
 higher x xs y none some low =
     let P : ℕ → Type 0 = λ n. list_any (λ z. z == n) xs ≡ true in
@@ -134,11 +134,11 @@ rises_from (x ∷ xs) low above once order =
     let rest = rises_from xs (suc x) more here.1 (λ p q lt l. order p q lt (or_right ((x == q) && list_any (λ y. y == p) xs) (leads (λ y. y == q) (λ y. y == p) xs) l)) in
     and_both (nat_le low x) (rises (suc x) xs) (at_least low x above.0) rest
 
--- what is so and not so
+-- a statement and its negation
 clash : (b : Bool) → b ≡ true → b ≡ false → ⊥
 clash b e f = cc
 
--- a branch, and what stands in it
+-- a branch, and its positions
 in_branch : (stages : List (List Branch)) (i j p : ℕ) (bs : List Branch) (b : Branch) → slice_get stages i ≡ Some bs → slice_get bs j ≡ Some b → holds p b ≡ true → is_placed p stages ≡ true
 in_branch stages i j p bs b at in_it h = any_at (is_in p) stages i bs at (any_at (holds p) bs j b in_it h)
 
@@ -168,7 +168,7 @@ stage_below count profiles stages sound free i bs cs at next q r here there =
       | false ↦ λ e. let le : q ≤ r = grind (arith, nat_tests) in omega (arith, differ)
     ] refl
 
--- the table's word on two functions is the same either way
+-- the table's answer for two functions is the same either way
 same_answer : (answer : Answer) → not (is_allowed answer) ≡ is_some (actions_in answer)
 same_answer answers.Free = refl
 same_answer (answers.Copy set) = refl

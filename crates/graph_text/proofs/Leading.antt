@@ -34,14 +34,14 @@ leads_second f g (x ∷ xs) e =
       | false ↦ λ i j. or_right (g x) (list_any g xs) (leads_second f g xs j)
     ] refl e
 
--- a position stands where the list of all positions has it
+-- a position is there if the list of all positions has it
 pub any_position : (p : ℕ) (branches : List Branch) → list_any (λ q. q == p) (positions_of branches) ≡ is_in p branches
 any_position p branches = any_flat (λ q. q == p) (λ (b : Branch). b.positions) branches
 
 pub any_standing : (p : ℕ) (stages : List (List Branch)) → list_any (λ q. q == p) (standing stages) ≡ is_placed p stages
 any_standing p stages = any_flat (λ q. q == p) positions_of stages ∙ any_same (λ bs. list_any (λ q. q == p) (positions_of bs)) (is_in p) stages (any_position p)
 
--- a position in two stages stands twice
+-- a position in two stages occurs twice
 pub leads_itself : (q : ℕ) (stages : List (List Branch)) → leads (is_in q) (is_in q) stages ≡ true → repeats (standing stages) ≡ true
 leads_itself q [] e = absurd (cc)
 leads_itself q (s ∷ ss) e =

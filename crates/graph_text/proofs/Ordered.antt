@@ -1,4 +1,4 @@
--- The orders of chains, and how many branches a stage of them has.
+-- The orders of chains, and the number of branches in a stage of them.
 use Rattle.std.proofs.Common.{◌<◌, ◌≤◌, ◌^◌, ℕ, zero, suc, List, [], ◌∷◌, length, arith, length-append}
 use Rattle.std.specs.Prelude.{All}
 use Rattle.std.specs.List.{AllByRecursion, AllZip}
@@ -36,7 +36,7 @@ inside_at (c ∷ cs) [] i h = absurd h
 inside_at (c ∷ cs) (o ∷ os) zero h = h.0.inside
 inside_at (c ∷ cs) (o ∷ os) (suc i) h = inside_at cs os i h.1
 
--- each branch has a function, and no function stands twice
+-- each branch has a function, and no function occurs twice
 long_stage : (bs : List Branch) → AllByRecursion HasFunction bs → length bs ≤ length (positions_of bs)
 long_stage [] h = omega arith
 long_stage (b ∷ bs) h = omega (arith, length-append b.positions (positions_of bs), h.0.some, long_stage bs h.1)

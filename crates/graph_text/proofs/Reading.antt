@@ -27,7 +27,7 @@ use Rattle.graph_text.proofs.Leading.{any_standing}
 use Rattle.graph_text.proofs.Repeats.{joined_once}
 use Rattle.graph_text.proofs.Tests.{or_false, not_true, any_same, all_append}
 
--- what holds of the value of steps
+-- what holds for the value of steps
 pub then_keeps : {A B E : Type 0} (P : B → Type 0) (r : Result A E) (f : A → Result B E) → ((x : A) → r ≡ Ok x → IfOk (f x) P) → IfOk (r >>= f) P
 then_keeps P (Ok x) f h = h x refl
 then_keeps P (Err e) f h = tt
@@ -83,7 +83,7 @@ of_words functions order (word ∷ words) positions e =
     word_more (length order) word words positions (position_named functions order word.text) (positions_named functions order words)
     (λ p is. of_place order p (position (is_function word.text) functions) is) (λ ps is. of_words functions order words ps is) e
 
--- a branch more
+-- one more branch
 standing_push : (stages : List (List Branch)) (b : Branch) → standing (stages ++ (b ∷ []) ∷ []) ≡ standing stages ++ b.positions
 standing_push stages b =
     flat_map-append positions_of stages ((b ∷ []) ∷ []) ∙ ap (λ xs. standing stages ++ xs) (append-nil (b.positions ++ []) ∙ append-nil b.positions)
@@ -100,7 +100,7 @@ standing_latest (s ∷ t ∷ ss) b some =
 full_push : (bs : List Branch) (b : Branch) → HasBranch bs → HasFunction b → HasBranch (with_branch_in b bs)
 full_push bs b h k = record { some = omega (arith, length-append bs (b ∷ [])); each = all_append HasFunction bs (b ∷ []) h.each (k, tt) }
 
--- positions that stand nowhere yet
+-- positions that are in no branch yet
 apart : (stages : List (List Branch)) (positions : List ℕ) → list_any (λ p. is_placed p stages) positions ≡ false → list_any (λ p. list_any (λ q. q == p) (standing stages)) positions ≡ false
 apart stages positions e = any_same (λ p. list_any (λ q. q == p) (standing stages)) (λ p. is_placed p stages) positions (λ p. any_standing p stages) ∙ e
 

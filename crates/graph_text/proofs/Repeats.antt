@@ -1,4 +1,4 @@
--- Numbers that stand once in a list.
+-- Numbers that occur once in a list.
 use Rattle.std.proofs.Common.{◌≡◌, ◌≤◌, ◌+◌, ◌∙◌, ℕ, zero, suc, true, false, ◌||◌, List, [], ◌∷◌, ◌++◌, length, sym, ap, refl, arith, subst, eqb}
 use Rattle.std.specs.Prelude.{◌==◌, flat_map, slice_get, Some}
 use Rattle.std.specs.List.{list_any, AllByRecursion, IsDistinct}
@@ -8,7 +8,7 @@ use Rattle.graph_compile.specs.Facts.{times}
 use Rattle.graph_text.specs.Standing.{repeats}
 use Rattle.graph_text.proofs.Tests.{or_false, or_none, or_left, or_right, any_append, any_weaker, count_none, count_cons, one_if_so, one_if_not, eqb_sym, all_at}
 
--- of two lists one behind the other
+-- two lists, one after the other
 pub parts_once : (xs ys : List ℕ) → repeats (xs ++ ys) ≡ false → (repeats xs ≡ false) × (repeats ys ≡ false)
 parts_once [] ys e = (refl, e)
 parts_once (x ∷ xs) ys e =
@@ -41,13 +41,13 @@ joined_once (x ∷ xs) ys e f none =
     let rest = joined_once xs ys here.1 f (any_weaker (λ p. list_any (λ q. q == p) xs) (λ p. list_any (λ q. q == p) (x ∷ xs)) ys (λ p i. or_right (x == p) (list_any (λ q. q == p) xs) i) none) in
     or_none (list_any (λ q. q == x) (xs ++ ys)) (repeats (xs ++ ys)) (any_append (λ q. q == x) xs ys ∙ or_none (list_any (λ q. q == x) xs) (list_any (λ q. q == x) ys) here.0 apart) rest
 
--- of lists that are parts of one
+-- lists that are parts of one
 pub part_once : {A : Type 0} (g : A → List ℕ) (xs : List A) (i : ℕ) (x : A) → slice_get xs i ≡ Some x → repeats (flat_map g xs) ≡ false → repeats (g x) ≡ false
 part_once g [] i x e h = cc
 part_once g (y ∷ ys) zero x e h = let same : y ≡ x = cc in ap (λ z. repeats (g z)) (sym same) ∙ (parts_once (g y) (flat_map g ys) h).0
 part_once g (y ∷ ys) (suc i) x e h = part_once g ys i x e (parts_once (g y) (flat_map g ys) h).1
 
--- how often a number stands
+-- how often a number occurs
 pub times_once : (q : ℕ) (xs : List ℕ) → repeats xs ≡ false → times q xs ≤ 1
 times_once q [] e = omega arith
 times_once q (x ∷ xs) e =
@@ -60,7 +60,7 @@ times_once q (x ∷ xs) e =
       | false ↦ λ i. omega (arith, count_cons (λ y. y == q) x xs, one_if_not (x == q) i, times_once q xs here.1)
     ] refl
 
--- numbers up to a greatest that stand once are at most so many and one more
+-- numbers up to a greatest that occur once are at most one more than the greatest
 none_equal : (x : ℕ) (ys : List ℕ) → list_any (λ q. q == x) ys ≡ false → AllByRecursion (λ y. eqb x y ≡ false) ys
 none_equal x [] e = tt
 none_equal x (y ∷ ys) e =

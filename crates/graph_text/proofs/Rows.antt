@@ -22,7 +22,7 @@ a name kind = record { name = name; line = 1; kind = kind; settings = [] }
 chain_of : List ℕ → List FunctionDecl → ChainPolicy
 chain_of name functions = record { name = name; line = 2; fit = record { clauses = [] }; functions = functions; statements = [] }
 
--- `fn m marker`, `fn f firewall` and `fn b balancer` in one chain, and in another a monitor that is declared before a firewall and comes behind it
+-- one chain of a marker, a firewall and a balancer; another whose monitor is declared before a firewall but comes later
 chains : List ChainPolicy
 chains = chain_of (codes "main") (a (codes "m") Marker ∷ a (codes "f") Firewall ∷ a (codes "b") Balancer ∷ []) ∷ chain_of (codes "rest") (a (codes "mon") Monitor ∷ a (codes "fw") Firewall ∷ []) ∷ []
 
@@ -47,12 +47,12 @@ none_listed : graphs_of_utf8 (codes "nfp-graph 1") chains orders ≡ Ok (None �
 unfolding graphs_of_utf8 listed_by chains
 none_listed = refl
 
--- the table forbids a firewall beside a balancer behind it
+-- the table forbids a firewall beside a balancer after it
 drop_beside_state : graphs_of_utf8 (codes "nfp-graph 1\nchain main\nstage\nbranch m f\nbranch b") chains orders ≡ Err (Forbidden 0 1 2 Drop State)
 unfolding graphs_of_utf8 listed_by after_line graph_due faultless a chain_of chains orders branch pair_of first_forbidden pairs actions all_actions is_copied copied
 drop_beside_state = refl
 
--- functions are told as they are declared, though the order of the chain is another
+-- functions are reported as declared, even if the order of the chain differs
 monitor_first : graphs_of_utf8 (codes "nfp-graph 1\nchain rest\nstage\nbranch mon fw") chains orders ≡ Err (OutOfOrder 1 1 0)
 unfolding graphs_of_utf8 listed_by after_line graph_due faultless a chain_of chains orders branch
 monitor_first = refl
@@ -91,7 +91,7 @@ branch_before_stage : graphs_of_utf8 (codes "nfp-graph 1\nchain rest\nstage\nbra
 unfolding graphs_of_utf8 listed_by after_line a chain_of chains orders branch
 branch_before_stage = refl
 
--- a stage without a branch is told before a later line that has no form, also where that line was meant to be the branch
+-- a stage without a branch is reported before a later line that has no form, even one meant to be the branch
 stage_alone : graphs_of_utf8 (codes "nfp-graph 1\nchain main\nstage\nbranch\n") chains orders ≡ Err (Syntax 3)
 unfolding graphs_of_utf8 listed_by after_line a chain_of chains
 stage_alone = refl
@@ -108,7 +108,7 @@ unknown_chain : graphs_of_utf8 (codes "nfp-graph 1\nchain other\n") chains order
 unfolding graphs_of_utf8 listed_by after_line a chain_of chains
 unknown_chain = refl
 
--- a function of another chain, though another function of the line stands twice
+-- a function of another chain, though another function of the line occurs twice
 function_elsewhere : graphs_of_utf8 (codes "nfp-graph 1\nchain main\nstage\nbranch m m fw\n") chains orders ≡ Err (UnknownName 4)
 unfolding graphs_of_utf8 listed_by after_line a chain_of chains orders
 function_elsewhere = refl

@@ -77,7 +77,7 @@ any_weaker f g (x ∷ xs) h e =
       | false ↦ λ i. any_weaker f g xs h parts.1
     ] refl
 
--- what holds of each number that stands in a list holds of all
+-- what holds for each number in a list holds for all
 pub all_from : (P : ℕ → Type 0) (xs : List ℕ) → ((q : ℕ) → list_any (λ x. x == q) xs ≡ true → P q) → AllByRecursion P xs
 all_from P [] h = tt
 all_from P (x ∷ xs) h =
@@ -95,7 +95,7 @@ pub all_append : {A : Type 0} (P : A → Type 0) (xs ys : List A) → AllByRecur
 all_append P [] ys h k = k
 all_append P (x ∷ xs) ys h k = (h.0, all_append P xs ys h.1 k)
 
--- how many pass
+-- the number of items that pass
 pub one_if : Bool → ℕ
 one_if b = cond b 1 0
 

@@ -38,7 +38,7 @@ part_text text chains orders n short valid =
     let test : (utf8_valid_len text == length text) ≡ false = ne_eqb _ _ (omega (arith, same, valid.short)) in
     short_text text chains orders short ∙ rw test (ap (λ k. Err (NotUtf8 k)) same)
 
--- what holds of what is due holds of what was given
+-- what holds for the due value holds for what was given
 pub of_due : {A B : Type 0} (view : A → B) (P : B → Type 0) (r : Result A GraphReadFault) (due : Result B GraphFault) → Gives view r due → ((x : B) → due ≡ Ok x → P x) → IfOk r (λ x. P (view x))
 of_due view P (Ok x) due e h = h (view x) e
 of_due view P (Err fault) due e h = tt

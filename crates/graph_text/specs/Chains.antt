@@ -1,4 +1,4 @@
--- Believed: the chains of a policy, each with its order, as a graph text speaks of them.
+-- Believed: the chains of a policy, each with its order, as a graph text refers to them.
 use Rattle.std.specs.Prelude.{ℕ, ◌+◌, ◌-◌, List, [], ◌∷◌, Bool, ◌==◌, map, position, slice_get, Option, Some, option_and_then}
 use Rattle.std.specs.List.{list_any}
 use Rattle.std.specs.Option.{option_map, option_map_or}
@@ -33,7 +33,7 @@ profiles_in functions order = map (profile_in functions) order
 abbrev pub has_whole : List FunctionDecl → Bool
 has_whole functions = list_any (λ f. (profile_of f.kind).whole) functions
 
--- the position in the chain, counted from 1, of the function at a place, and of the one of a name
+-- the position in the chain, counted from 1, of the function at a place, and of the one with a name
 abbrev pub position_of : List ℕ → ℕ → Option ℕ
 position_of order place = option_map (λ k. k + 1) (position (λ f. f == place) order)
 

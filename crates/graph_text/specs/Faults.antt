@@ -1,4 +1,4 @@
--- Believed: what is wrong with the stages in which the functions of a chain stand.
+-- Believed: the faults of the stages that hold the functions of a chain.
 use Rattle.std.specs.Prelude.{ℕ, ◌+◌, List, length, Bool, ◌&&◌, not, is_some, Option, Some, None, option_and_then, Result}
 use Rattle.std.specs.Option.{option_map}
 use Rattle.action_profile.specs.declared.rights.Profile.{Profile}
@@ -14,7 +14,7 @@ use Rattle.graph_text.specs.Standing.{is_placed, comes_before, are_beside, least
 use Rattle.graph_text.specs.declared.fault.GraphFault.{GraphFault}
 use Rattle.graph_text.specs.declared.fault.GraphFault.TheVariants.{Missing, OutOfOrder, Forbidden}
 
--- a function of the chain doesn't stand: the least position below this end
+-- a function of the chain is missing: the least position below this end
 abbrev pub missing : ℕ → List (List Branch) → Option ℕ
 missing end stages = least (λ p. not (is_placed p stages)) end
 
@@ -25,7 +25,7 @@ is_out_of_order stages p q = comes_before q p stages
 abbrev pub out_of_order : ℕ → List (List Branch) → Option (ℕ × ℕ)
 out_of_order end stages = least_pair (is_out_of_order stages) end
 
--- the actions for which the table forbids one function before another
+-- the actions because of which the table forbids one function before another
 abbrev pub actions_in : Answer → Option (Action × Action)
 actions_in (answers.Forbidden a b) = Some (a, b)
 actions_in answer = None
@@ -34,14 +34,14 @@ abbrev pub actions_between : List Profile → ℕ → ℕ → Option (Action × 
 actions_between profiles p q =
     option_and_then (λ x. option_and_then (λ y. actions_in (pair_of x y)) (profile_at profiles q)) (profile_at profiles p)
 
--- two functions stand in different branches of a stage though the table forbids the earlier one before the later
+-- two functions are in different branches of a stage though the table forbids the earlier one before the later
 abbrev pub is_forbidden_beside : List Profile → List (List Branch) → ℕ → ℕ → Bool
 is_forbidden_beside profiles stages p q = are_beside p q stages && is_some (actions_between profiles p q)
 
 abbrev pub forbidden : ℕ → List Profile → List (List Branch) → Option (ℕ × ℕ)
 forbidden end profiles stages = least_pair (is_forbidden_beside profiles stages) end
 
--- each told of the chain at a place of the policy, whose functions are counted from 0 as declared
+-- each reported for the chain at a place of the policy, whose functions are counted from 0 as declared
 abbrev pub missing_fault : ℕ → List ℕ → List (List Branch) → Option GraphFault
 missing_fault chain order stages = option_map (λ p. Missing chain (declared order p)) (missing (length order + 1) stages)
 

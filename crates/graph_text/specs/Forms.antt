@@ -25,7 +25,7 @@ abbrev pub is_branch : List PlacedWord → Bool
 is_branch (word ∷ name ∷ names) = bytes_eq word.text (codes "branch") && list_all (λ w. is_name w.text) (name ∷ names)
 is_branch words = false
 
--- the words behind the first
+-- the words after the first
 abbrev pub names_of : List PlacedWord → List PlacedWord
 names_of [] = []
 names_of (word ∷ names) = names

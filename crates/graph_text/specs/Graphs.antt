@@ -1,4 +1,4 @@
--- Believed: the graphs that a graph text gives chains of a policy, or its first fault.
+-- Believed: the graphs that a graph text gives to chains of a policy, or its first fault.
 use Rattle.std.specs.Prelude.{ℕ, List, [], ◌∷◌, length, map, ◌==◌, nat_lt, if◌then◌else◌, slice_set, Option, Some, None, Result, Ok, Err}
 use Rattle.std.specs.Str.Lossy.{utf8_valid_len}
 use Rattle.graph_compile.specs.Stages.{stage_of}
@@ -17,7 +17,7 @@ use Rattle.graph_text.specs.declared.fault.GraphFault.{GraphFault}
 use Rattle.graph_text.specs.declared.fault.GraphFault.TheVariants.{TooLong, NotUtf8}
 use Rattle.graph_text.specs.declared.listed.Listed.{Listed}
 
--- the graph of these stages, whose parts are those that their branches need
+-- the graph of these stages, with the parts that their branches need
 abbrev pub graph_of_stages : List Profile → List (List Branch) → Graph
 graph_of_stages profiles stages = record { stages = map (stage_of profiles) stages }
 
@@ -38,13 +38,13 @@ graphs_with chains orders graphs (l ∷ listed) = do
   graph ← graph_due (functions_at chains l.chain) (order_at orders l.chain) l
   graphs_with chains orders (slice_set graphs l.chain (Some graph)) listed
 
--- the graph of each chain that a text in UTF-8 lists, and of the others none
+-- the graph of each chain that a text in UTF-8 lists; the other chains have none
 unfoldable pub graphs_of_utf8 : List ℕ → List ChainPolicy → List Order → Result (List (Option Graph)) GraphFault
 graphs_of_utf8 text chains orders = do
   listed ← listed_by chains orders (lines_of text)
   graphs_with chains orders (map no_graph chains) listed
 
--- the same for any bytes: they have to be UTF-8 (RFC 3629), and the place from which on they aren't is told first
+-- the same for any bytes: they have to be UTF-8 (RFC 3629); if not, the first place that isn't is reported first
 unfoldable pub graphs_of_bytes : List ℕ → List ChainPolicy → List Order → Result (List (Option Graph)) GraphFault
 graphs_of_bytes text chains orders =
     if utf8_valid_len text == length text then graphs_of_utf8 text chains orders else Err (NotUtf8 (utf8_valid_len text))

@@ -30,7 +30,7 @@ chain_line chains listed line = do
   _ ← demand (not (has_whole (functions_at chains chain))) (WholeChain line.number)
   Ok (listed ++ no_stage chain ∷ [])
 
--- a stage is opened in a chain; it stands from its first branch on
+-- a stage is opened in a chain; it counts from its first branch on
 abbrev pub with_stage : Listed → Listed
 with_stage l = record { chain = l.chain; opened = true; stages = l.stages }
 
@@ -40,7 +40,7 @@ stage_line listed line later = do
   _ ← demand (nat_lt 0 (length listed) && has_branch later) (Syntax line.number)
   Ok (change_latest with_stage listed)
 
--- a branch more in a stage, and in the stages of a chain of which the latest may be open without one
+-- a branch more in a stage, and in the stages of a chain, of which the latest may still have none
 abbrev pub with_branch_in : Branch → List Branch → List Branch
 with_branch_in branch branches = branches ++ branch ∷ []
 
@@ -50,7 +50,7 @@ stages_with opened stages branch = if opened then stages ++ (branch ∷ []) ∷ 
 abbrev pub with_branch : Branch → Listed → Listed
 with_branch branch l = record { chain = l.chain; opened = false; stages = stages_with l.opened l.stages branch }
 
--- the branch of a line: it stands in a stage of the current chain, and its functions are of that chain and stand nowhere yet
+-- the branch of a line: it is in a stage of the current chain; its functions are of that chain and in no branch yet
 abbrev pub branch_in : List ChainPolicy → List Order → Listed → Line → Result (List ℕ) GraphFault
 branch_in chains orders here line = do
   _ ← demand (here.opened || nat_lt 0 (length here.stages)) (Syntax line.number)
@@ -72,7 +72,7 @@ branch_line chains orders listed line = do
   positions ← branch_of chains orders listed line
   Ok (with_positions listed positions)
 
--- what is listed so far with one line more, behind which these come, or the line's fault
+-- what is listed so far with one more line, followed by these lines, or the line's fault
 unfoldable pub after_line : List ChainPolicy → List Order → List Listed → Line → List Line → Result (List Listed) GraphFault
 after_line chains orders listed line later =
     if is_chain line.words then chain_line chains listed line else

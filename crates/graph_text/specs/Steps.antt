@@ -1,4 +1,4 @@
--- Believed: what a call gave: what is due, or the fault that is due, unless memory ran out.
+-- Believed: what a call gave: the due value, or the due fault, unless it ran out of memory.
 use Rattle.std.specs.Prelude.{◌≡◌, Result, Ok, Err}
 use Rattle.graph_text.specs.declared.fault.GraphFault.{GraphFault}
 use Rattle.graph_text.specs.declared.fault.GraphReadFault.{GraphReadFault}
@@ -8,7 +8,7 @@ abbrev pub IsFaultOf : {A : Type 0} → GraphReadFault → Result A GraphFault �
 IsFaultOf OutOfMemory due = Unit {0}
 IsFaultOf (Graph fault) due = due ≡ Err fault
 
--- A call gave what is due, as `view` sees it, or the fault that is due, unless memory ran out.
+-- A call gave the due value, as `view` sees it, or the due fault, unless it ran out of memory.
 abbrev pub Gives : {A B : Type 0} → (A → B) → Result A GraphReadFault → Result B GraphFault → Type 0
 Gives view (Ok x) due = due ≡ Ok (view x)
 Gives view (Err fault) due = IsFaultOf fault due

@@ -8,7 +8,7 @@ rfc_1071 : checksum_of (0x00 ∷ 0x01 ∷ 0xf2 ∷ 0x03 ∷ 0xf4 ∷ 0xf5 ∷ 0x
 unfolding checksum_of words
 rfc_1071 = refl
 
--- without bytes nothing is summed
+-- the sum of no bytes is 0
 no_bytes : checksum_of [] ≡ 0xffff
 unfolding checksum_of words
 no_bytes = refl

@@ -1,9 +1,9 @@
--- For proofs: what a checksum is worth.
+-- For proofs: when bytes with their checksum are right.
 use Rattle.std.specs.Prelude.{◌≡◌, ◌<◌, ℕ, ◌%◌, List, ◌++◌, length, sum}
 use Rattle.packet_fields.specs.Checksums.{words, word_bytes, IsRight}
 use Rattle.internet_checksum.specs.Checksums.{checksum_of}
 
--- bytes whose checksum stands between others, of which there is an even number before it
+-- bytes with their checksum in the middle, after an even number of bytes
 abbrev pub with_checksum : List ℕ → ℕ → List ℕ → List ℕ
 with_checksum before checksum behind = before ++ (word_bytes checksum ++ behind)
 

@@ -1,4 +1,4 @@
--- A board begins empty, and its seats are dealt out one after another.
+-- A board begins empty, and its seats are given out one after another.
 use Rattle.std.proofs.Common.{◌≡◌, ◌≢◌, ◌⊎◌, ℕ, zero, suc, ◌+◌, ◌*◌, ◌%◌, ◌<◌, true, true≢false, List, [], ◌∷◌, ◌++◌, length, get_or, set, replicate, Option, Some, None, refl, sym, ap, ◌∙◌, subst, inl, inr, ⊎_elim, arith, length-set, length-append}
 use Rattle.std.proofs.lemmas.List.{get_or-replicate, length-replicate, length-map}
 use Rattle.std.proofs.lemmas.Nat.Bits.{bit_at-zero}
@@ -14,7 +14,7 @@ use Rattle.merge_board.specs.declared.rule.View.{View}
 use Rattle.merge_board.specs.Rule.{has, maker, seated, HasDealt, Cell, Stands, IsBoard}
 
 module _ {T : Type 0} (fits : T → T → Type 0) (k : Sizes) where
-  -- before the first seat is dealt out it is open what is due
+  -- before the first seat is given out, it is open what is due
   rechosen : (s : State (Option T) (View T)) (r : IsBoard fits k s) (id : ℕ) (v : View T) (due : List (List T))
       → get_elem? s.views id ≡ some v → v.makes ≡ true → (v.role ≡ 0) ⊎ (v.due ≡ due)
       → (t : IsBoard fits k s) × (t.due ≡ due)

@@ -40,11 +40,11 @@ has_more x p xs e = ap (λ b. (x == p) || b) e ∙ or_true (x == p)
 pub has_else : (x p : ℕ) (xs : List ℕ) → p ≢ x → has (x ∷ xs) p ≡ has xs p
 has_else x p xs ne = ap (λ b. b || has xs p) (ne_eqb x p (λ e. ne (sym e)))
 
--- two widths of rows that make one area of as many rows are one
+-- two widths that give as many rows the same area are equal
 one_width : (n a b : ℕ) → 0 < n → n * a ≡ n * b → a ≡ b
 one_width n a b some_rows e = sym (mul-div_cancel_left a some_rows) ∙ ap (λ z. z / n) e ∙ mul-div_cancel_left b some_rows
 
--- a seat of the board knows how many branches it has, since the table tells it
+-- a seat of the board knows its number of branches, since the table holds it
 pub width_is : (t : TableId) (s z : Sized) (b : ℕ) → s ≡ z → t ≡ z.board → s.board.words ≡ s.pids
     → s.board.slots ≡ s.pids * s.branches → 0 < s.pids → t.slots ≡ t.words * b → b ≡ z.branches
 width_is t s z b is same words slots some_rows wide =
@@ -66,7 +66,7 @@ all_set? (suc n) word = elim (all_set? n word) [
   | no ne ↦ no (λ h. ne (λ b few. h b (omega arith)))
 ]
 
--- a word with each bit of the mask has all, and the other way round
+-- a word with each bit of the mask has all, and conversely
 pub whole_test : (branches word mask : ℕ) → mask ≡ 2 ^ branches - 1
     → (IsTrue (bit_and word mask == mask) → AllSet branches word) × (AllSet branches word → IsTrue (bit_and word mask == mask))
 whole_test branches word mask is = (
@@ -81,7 +81,7 @@ whole_test branches word mask is = (
 pub mask_is : (branches : ℕ) → branches ≤ 64 → (2 ^ 64 - 1) / 2 ^ (64 - branches) ≡ 2 ^ branches - 1
 mask_is branches most = ones_shr 64 (64 - branches) (omega arith) ∙ ap (λ z. 2 ^ z - 1) (let e : 64 - (64 - branches) ≡ branches = omega arith in e)
 
--- a word that has not all bits lacks one
+-- a word that doesn't have all bits lacks one
 pub lacks_one : (branches word : ℕ) → (AllSet branches word → ⊥) → LacksBit branches word
 lacks_one zero word out = absurd (out (λ b few. absurd (omega arith)))
 lacks_one (suc n) word out = dite (ℕ_discrete (bit_at word n) 1)
@@ -92,7 +92,7 @@ abbrev none_of : (A : Type 0) → Option A
 none_of A = None
 
 module _ {A : Type 0} where
-  -- the value at b, when those before it were taken
+  -- the value at `b`, after those before it were taken
   pub next_value : (xs : List A) (b : ℕ) → b < length xs
       → (x : A) × (drop b xs ≡ x ∷ drop (suc b) xs) × (take (suc b) xs ≡ take b xs ++ x ∷ [])
   next_value [] b few = absurd (omega arith)
@@ -108,7 +108,7 @@ module _ {A : Type 0} where
       → seats ++ x ∷ [] ≡ each made (n + 1)
   each_more made n seats x before is = (λ i. before i ++ is i ∷ []) ∙ ap (each made) (sym (add-one n))
 
-  -- the front place of what is left of the shelf
+  -- the front place of the rest of the shelf
   pub front_place : (base b : ℕ) (got : List A) (c ys : List (ℕ × Option A)) → c ≡ shelf base b (drop b got) ++ ys
       → b < length got
       → (x : A) × (c ≡ (base + b, Some x) ∷ rest c) × (rest c ≡ shelf base (b + 1) (drop (b + 1) got) ++ ys) × (take (b + 1) got ≡ take b got ++ x ∷ [])

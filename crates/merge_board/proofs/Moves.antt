@@ -18,7 +18,7 @@ use Rattle.merge_board.specs.declared.rule.View.{View}
 use Rattle.merge_board.specs.Rule.{has, bit, AllSet, IsFit, Cell, Stands, IsBoard}
 use Rattle.merge_board.specs.Steps.{shelf, took, announced, AreDue, seen, completed, looked}
 
--- the word of q, where that of p became n
+-- the word of `q`, if that of `p` became `n`
 word_at : (ws : List ℕ) (p n q : ℕ) (F : ℕ → Type 0) → p < length ws → (q ≡ p → F n) → (q ≢ p → F (get_or ws q 0))
     → F (get_or (set ws p n) q 0)
 word_at ws p n q F near here there = dite (ℕ_discrete q p)
@@ -26,7 +26,7 @@ word_at ws p n q F near here there = dite (ℕ_discrete q p)
     (λ e. subst F (sym (get_or-set_other ws p q n 0 e)) (there e))
 
 module _ {T : Type 0} where
-  -- a fact of the view at j lasts where the view at id became w
+  -- a fact about the view at `j` lasts when the view at `id` becomes `w`
   sees : (views : List (View T)) (id j : ℕ) (v w : View T) (P : View T → Type 0) → get_elem? views id ≡ some v
       → (j ≡ id → P v → P w)
       → ((u : View T) × (get_elem? views j ≡ some u) × P u)
@@ -198,7 +198,7 @@ module _ {T : Type 0} (fits : T → T → Type 0) (k : Sizes) where
         (refl, refl),
       )
 
-  -- the slots of packet p from branch b on have these values, each of which fits
+  -- the slots of packet `p` from branch `b` on have these values, each of which fits
   abbrev Lies : Homes → List (List T) → ℕ → ℕ → List T → Type 0
   Lies homes due p b [] = Unit {0}
   Lies homes due p b (x ∷ xs) = (get_elem? homes (p * k.branches + b) ≡ some (some (Some x))) × IsFit fits due b p x × Lies homes due p (b + 1) xs
@@ -238,7 +238,7 @@ module _ {T : Type 0} (fits : T → T → Type 0) (k : Sizes) where
   lies_due homes due p b [] lies = tt
   lies_due homes due p b (x ∷ xs) lies = (lies.1, lies_due homes due p (b + 1) xs lies.2)
 
-  -- what stands in the slots of a packet from branch b on, where all bits are set
+  -- what is in the slots of a packet from branch `b` on, if all bits are set
   collect : (homes : Homes) (due : List (List T)) (p m b : ℕ)
       → ((a : ℕ) → a < k.branches → (x : T) × (get_elem? homes (p * k.branches + a) ≡ some (some (Some x))) × IsFit fits due a p x)
       → b + m ≡ k.branches → (xs : List T) × (length xs ≡ m) × Lies homes due p b xs

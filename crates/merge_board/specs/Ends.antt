@@ -11,17 +11,17 @@ pub record Sized : Type 0 where
   pub branches : ℕ
   pub mergers : ℕ
 
--- by which a branch puts: of which board and branch it is, what is due, by branch and packet, and the packets that were
--- put, the last first
+-- A branch puts with it: its board and branch, what is due, by branch and packet, and the packets that were
+-- put, the last first.
 pub record BranchEnd (T : Type 0) : Type 0 where
   pub board : TableId
   pub branch : ℕ
   pub due : List (List T)
   pub put : List ℕ
 
--- By which a merger polls: of which board and merger it is, what is due, by branch and packet, and the packets that are
--- complete, the last first. It keeps how often it has loaded a word, and the packet and the word of the last load; only a
--- load changes these three.
+-- A merger polls with it: its board and merger, what is due, by branch and packet, and the packets that are
+-- complete, the last first. It also has the number of loads of a word so far, and the packet and the word of the last
+-- load; only a load changes these three.
 pub record MergerEnd (T : Type 0) : Type 0 where
   pub board : TableId
   pub merger : ℕ
@@ -31,19 +31,19 @@ pub record MergerEnd (T : Type 0) : Type 0 where
   pub pid : ℕ
   pub word : ℕ
 
--- so many in a row, of which the number i, from 0, is `made i`
+-- this number in a row, of which number `i`, from 0, is `made i`
 abbrev pub each : {S : Type 0} → (ℕ → S) → ℕ → List S
 each made zero = []
 each made (suc n) = each made n ++ made n ∷ []
 
--- the seat of branch i, which has put nothing
+-- the seat of branch `i`, which has put nothing
 abbrev pub new_branch : {T : Type 0} → TableId → List (List T) → ℕ → BranchEnd T
 new_branch board due i = record { board = board; branch = i; due = due; put = [] }
 
--- the seat of merger i, which has loaded nothing
+-- the seat of merger `i`, which has loaded nothing
 abbrev pub new_merger : {T : Type 0} → TableId → List (List T) → ℕ → MergerEnd T
 new_merger board due i = record { board = board; merger = i; due = due; done = []; loads = 0; pid = 0; word = 0 }
 
--- there are so many, and each is of this board
+-- there is this number of them, and each is of this board
 abbrev pub AreAllOf : {S : Type 0} → TableId → ℕ → (S → TableId) → List S → Type 0
 AreAllOf {S} board n of seats = (length seats ≡ n) × ((i : ℕ) (s : S) → get_elem? seats i ≡ some s → of s ≡ board)

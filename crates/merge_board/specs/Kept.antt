@@ -5,7 +5,7 @@ use Rattle.atomic_table.specs.Table.{Me}
 use Rattle.merge_board.specs.declared.rule.Sizes.{Sizes}
 use Rattle.merge_board.specs.declared.rule.View.{View}
 
--- the table tells the sizes, and has a word for each packet and a slot for each packet and branch
+-- the table holds the sizes, and has a word for each packet and a slot for each packet and branch
 pub record IsSized (told sizes : Sizes) (table : TableId) : Type 0 where
   pub key : told ≡ sizes
   pub words : table.words ≡ sizes.pids
@@ -26,7 +26,7 @@ module _ {T : Type 0} (table : TableId) (me : Me (Option T) (View T)) where
     pub empty : me.1 ≡ []
     pub wide : table.slots ≡ table.words * me.0.branches
 
-  -- the seat has the role of this merger; the roles of mergers come behind those of branches
+  -- the seat has the role of this merger; the roles of mergers come after those of branches
   pub record IsMerger (merger : ℕ) : Type 0 where
     pub plays : me.0.makes ≡ false
     pub role : me.0.role ≡ me.0.branches + merger

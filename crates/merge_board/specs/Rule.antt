@@ -33,7 +33,7 @@ due_at [] b p = none
 due_at (row ∷ rows) zero p = get_elem? row p
 due_at (row ∷ rows) (suc b) p = due_at rows b p
 
--- the view of the maker's seat, which deals out the others, when so many roles are given
+-- the view of the maker's seat, which gives out the others, after this number of roles were given
 abbrev pub maker : {T : Type 0} → ℕ → ℕ → List (List T) → View T
 maker branches given due =
     record {
@@ -65,8 +65,8 @@ seated branches role due =
       got = [];
     }
 
--- the view of the maker's seat of a board of so many branches, with what is due, when so many roles are given: before the
--- first it isn't said yet what is due
+-- The view of the maker's seat of a board of this number of branches, with what is due, after this number of roles were
+-- given: before the first it is still open what is due.
 pub record HasDealt {T : Type 0} (branches given : ℕ) (due : List (List T)) (v : View T) : Type 0 where
   pub makes : v.makes ≡ true
   pub sized : v.branches ≡ branches
@@ -84,7 +84,7 @@ module _ {T : Type 0} (fits : T → T → Type 0) where
       abbrev pub IsEmpty : Type 0
       IsEmpty = (bit_at (slice_index words p) b ≡ 0) × (get_elem? homes (p * k.branches + b) ≡ some (some None))
 
-      -- the bit isn't set: the seat of the branch has the packet in hand, which it hasn't announced
+      -- the bit isn't set: the seat of the branch has the packet in hand, and hasn't announced it
       abbrev pub IsHeld : Type 0
       IsHeld =
           (bit_at (slice_index words p) b ≡ 0)
@@ -102,22 +102,23 @@ module _ {T : Type 0} (fits : T → T → Type 0) where
           (bit_at (slice_index words p) b ≡ 1)
           × ((v : View T) × (get_elem? views (suc (k.branches + p % k.mergers)) ≡ some v) × (has v.pids p ≡ true))
 
-      -- How the slot of packet p and branch b stands. While the bit isn't set, it is at home and empty, but for the one
-      -- packet that the branch's seat has in hand. While it is set and no view has the packet as done, it is at home with
-      -- a value that fits.
+      -- The state of the slot of packet `p` and branch `b`. While the bit isn't set, it is at home and empty, except
+      -- for the packet that the branch's seat has in hand. While it is set and no view has the packet as done, it is at
+      -- home with a value that fits.
       abbrev pub Cell : Type 0
       Cell = IsEmpty ⊎ IsHeld ⊎ IsFilled ⊎ IsDone
 
-    -- what the seat number j knows, of so many seats
+    -- what seat number `j` knows, of this number of seats
     pub record Stands (count j : ℕ) (v : View T) : Type 0 where
-      -- each seat knows how many branches there are
+      -- each seat knows the number of branches
       pub sized : v.branches ≡ k.branches
-      -- Seat 0 is the maker's, and has given as many roles as there are other seats. Once it has given one, it knows what is due.
+      -- Seat 0 is the maker's, and has given as many roles as there are other seats. After the first, it knows what is
+      -- due.
       pub makes : v.makes ≡ true → (j ≡ 0) × (count ≡ suc v.role) × ((v.role ≡ 0) ⊎ (v.due ≡ due))
-      -- Any other seat has the role of its number: so no two seats have the same role, and a role that wasn't given stands
-      -- in no view. It knows what is due.
+      -- Any other seat has the role of its number. So no two seats have the same role, and a role that wasn't given is
+      -- in no view. The seat knows what is due.
       pub plays : v.makes ≡ false → (j ≡ suc v.role) × (v.due ≡ due)
-      -- where a seat has a branch's role, the branch's bit of a packet's word is set exactly where the seat's view has the
+      -- if a seat has a branch's role, the branch's bit of a packet's word is set exactly when the seat's view has the
       -- packet
       pub branch : v.makes ≡ false → v.role < k.branches
           → (p : ℕ) → p < k.pids → bit_at (slice_index words p) v.role ≡ bit (has v.pids p)

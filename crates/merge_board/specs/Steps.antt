@@ -1,13 +1,13 @@
--- For proofs: what each step on a word tells the seat that makes it, whose own view alone it changes. The other steps are
--- exchanges in a slot that the seat holds, and change no view: a branch puts its value, and a merger takes the values of a
--- packet that is done.
+-- For proofs: what each step on a word shows to the seat that makes it; it changes that seat's view alone. The other
+-- steps are exchanges in a slot that the seat holds, and change no view: a branch puts its value, and a merger takes
+-- the values of a packet that is done.
 use Rattle.std.specs.Prelude.{◌≡◌, ℕ, ◌+◌, ◌*◌, List, [], ◌∷◌, ◌++◌, length, Option, Some, None}
 use Rattle.atomic_table.specs.Table.{Me, Step, rest}
 use Rattle.merge_board.specs.declared.rule.View.{View}
 use Rattle.merge_board.specs.Rule.{AllSet, IsFit}
 
 module _ {T : Type 0} where
-  -- the slots from base + b on, with these values
+  -- the slots from `base` + `b` on, with these values
   abbrev pub shelf : ℕ → ℕ → List T → List (ℕ × Option T)
   shelf base b [] = []
   shelf base b (x ∷ xs) = (base + b, Some x) ∷ shelf base (b + 1) xs
@@ -21,12 +21,12 @@ module _ {T : Type 0} where
   abbrev pub announced : Step (Option T) → Me (Option T) (View T) → Me (Option T) (View T) → Type 0
   announced st m n = (n.0 ≡ record m.0 { pids = st.word ∷ m.0.pids; hand = None }) × (n.1 ≡ rest m.1)
 
-  -- these are values for the packet p, one from each branch from b on, and each fits what is due from its branch
+  -- these are values for the packet `p`, one from each branch from `b` on, and each fits what is due from its branch
   abbrev pub AreDue : (T → T → Type 0) → List (List T) → ℕ → ℕ → List T → Type 0
   AreDue fits due p b [] = Unit {0}
   AreDue fits due p b (x ∷ xs) = IsFit fits due b p x × AreDue fits due p (b + 1) xs
 
-  -- the view after a load that finds a bit lacking: the load counts, and the packet and the word stand in it
+  -- the view after a load that finds a bit missing: the load counts, and the packet and the word are in it
   abbrev pub seen : View T → ℕ → ℕ → View T
   seen v p word = record v { loads = v.loads + 1; pid = p; word = word }
 

@@ -1,4 +1,4 @@
--- What is known of the arrivals that go on, and of the branch that wrote a field last.
+-- What is known about the arrivals that go on, and about the branch that wrote a field last.
 use Rattle.std.proofs.Common.{◌≡◌, ◌≢◌, ◌∙◌, ◌<◌, ◌≤◌, ℕ, zero, suc, Bool, true, false, List, [], ◌∷◌, map, sym, refl, length, arith, max}
 use Rattle.std.specs.Prelude.{if◌then◌else◌, ◌==◌, Option, Some, None, position}
 use Rattle.std.specs.List.{list_any}
@@ -53,7 +53,7 @@ versions_at (a ∷ others) (suc b) long kept below = versions_at others b long.1
 pub version_at : (arrivals : List Arrival) (ops : List MergeOp) (b : ℕ) → GoesOn arrivals ops → b < length arrivals → is_version (arrival_at arrivals b) ≡ true
 version_at arrivals ops b on below = versions_at arrivals b (none-any is_short arrivals on.long) on.kept below
 
--- nobody wrote later than the greatest writer
+-- no writer is later than the greatest
 below_greatest : (arrivals : List Arrival) (f : Field) (b : ℕ) → writer_of f (arrival_at arrivals b) ≤ greatest_writer arrivals f
 below_greatest [] f b = omega arith
 below_greatest (a ∷ others) f zero = le-max_left (writer_of f a) (greatest_writer others f)
@@ -62,7 +62,7 @@ below_greatest (a ∷ others) f (suc b) = (let r = below_greatest others f b in 
 max_is : (a b : ℕ) → max a b ≢ a → max a b ≡ b
 max_is a b apart = omega arith
 
--- and somebody is the greatest
+-- and some writer is the greatest
 reached : (arrivals : List Arrival) (f : Field) (m : ℕ) → m ≡ greatest_writer arrivals f → m ≢ 0 → NoneOf (λ a. writer_of f a == m) arrivals → ⊥
 reached [] f m is some none = some is
 reached (a ∷ others) f m is some none =
@@ -98,7 +98,7 @@ greatest_none : (arrivals : List Arrival) (f : Field) → last_writer arrivals f
 unfolding last_writer
 greatest_none arrivals f e = unwritten_by arrivals f (greatest_writer arrivals f == 0) refl e
 
--- where there is none, nobody wrote it
+-- if there is none, there was no writer
 pub last_none : (arrivals : List Arrival) (f : Field) (b : ℕ) → last_writer arrivals f ≡ None → writer_of f (arrival_at arrivals b) ≡ 0
 last_none arrivals f b e = let g = greatest_none arrivals f e in let r = below_greatest arrivals f b in omega arith
 

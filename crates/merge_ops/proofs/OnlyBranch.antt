@@ -1,4 +1,4 @@
--- A packet that only one branch had is put together of what it kept and what it wrote.
+-- A packet that only one branch had is joined from what the branch kept and what it wrote.
 use Rattle.std.proofs.Common.{◌≡◌, ◌∙◌, ℕ, Bool, true, false, List, [], ◌∷◌, map, sym, ap, refl, subst, arith}
 use mathlib.Core.Path.{fun_ext}
 use Rattle.std.specs.Prelude.{if◌then◌else◌, ◌==◌, ◌||◌, ◌&&◌, Option, Some, None, IfSome, is_some, max, position}
@@ -26,7 +26,7 @@ use Rattle.merge_ops.specs.Behind.{KeepsBase}
 use Rattle.merge_ops.proofs.Same.{position-map}
 use Rattle.merge_ops.proofs.Writable.{none_first, none_last}
 
--- a field that nobody wrote and no branch writes stays the base's
+-- a field that has no writer and that no branch writes stays the base's
 pub untouched_merged : (base : PlainApart) (arrivals : List Arrival) (f : Field) → greatest_writer arrivals f ≡ 0 → position (writes_in f) arrivals ≡ None → merged_parts base arrivals f ≡ packet_parts base f
 unfolding merged_parts
 untouched_merged base arrivals f zero none =
@@ -45,14 +45,14 @@ no_field s f none = by_test (has s f) refl
     by_test true e = absurd (some_field s f e none)
     by_test false e = e
 
--- where no branch writes any field, the packet is the base
+-- if no branch writes any field, the packet is the base
 pub untouched_packet : (base : PlainApart) (arrivals : List Arrival) (writable : FieldSet) → base.parts ≡ as_list (packet_parts base) → is_none writable ≡ true → ((f : Field) → has writable f ≡ list_any (writes_in f) arrivals) → ((f : Field) → has writable f ≡ false → greatest_writer arrivals f ≡ 0) →
     base ≡ with_parts base (merged_parts base arrivals)
 untouched_packet base arrivals writable listed none fields unwritten =
     ap (λ (ps : List (Option PlainPart)). let b : PlainApart = record { parts = ps; rest = base.rest; fixed = base.fixed } in b)
     (listed ∙ ap as_list (sym (fun_ext (λ f. untouched_merged base arrivals f (unwritten f (no_field writable f none)) (none_first arrivals f (sym (fields f) ∙ no_field writable f none))))))
 
--- who wrote a field last, by the only part of it
+-- the last writer of a field, by its only part
 abbrev last_by : Option PlainPart → Option ℕ
 last_by part = if max (writer_in part) 0 == 0 then None else position (λ b. b) ((writer_in part == max (writer_in part) 0) ∷ [])
 
@@ -70,7 +70,7 @@ none_wrote v f zero = ap (λ (n : ℕ). max n 0) zero
 unwritable_merged : (base : PlainApart) (v : PlainVersion) (f : Field) → has_write f v.touch ≡ false → writers_of (version_parts v) f ≡ 0 → merged_parts base (Version v ∷ []) f ≡ packet_parts base f
 unwritable_merged base v f not zero = untouched_merged base (Version v ∷ []) f (none_wrote v f zero) (none_writes v f not)
 
--- so does one that the branch didn't write, where the packet has it
+-- so does one that the branch didn't write, if the packet has it
 kept_merged : (base : PlainApart) (v : PlainVersion) (f : Field) → writers_of (version_parts v) f ≡ 0 → is_some (packet_parts base f) ≡ true → merged_parts base (Version v ∷ []) f ≡ packet_parts base f
 unfolding merged_parts
 kept_merged base v f zero there =
@@ -93,7 +93,7 @@ wrote_last f v some =
 writes_first : (f : Field) (v : PlainVersion) → has_write f v.touch ≡ true → position (writes_in f) (Version v ∷ []) ≡ Some 0
 writes_first f v w = sym (position-map (writes_in f) (Version v ∷ [])) ∙ ap (λ (t : Bool). position (λ b. b) (t ∷ [])) w
 
--- the branch's part, where it has one, of a field that it wrote or that the packet lacks
+-- the branch's part, if it has one, for a field that it wrote or that the packet lacks
 taken_merged : (base : PlainApart) (v : PlainVersion) (f : Field) → has_write f v.touch ≡ true → (writers_of (version_parts v) f ≡ 0 → is_some (packet_parts base f) ≡ false) → merged_parts base (Version v ∷ []) f ≡ option_or (version_parts v f) (packet_parts base f)
 unfolding merged_parts
 taken_merged base v f writes lacks = by_test (writer_in (version_parts v f) == 0) refl
@@ -106,7 +106,7 @@ taken_merged base v f writes lacks = by_test (writer_in (version_parts v f) == 0
         ∙ ap (λ (o : Option ℕ). option_or (part_from f (Version v ∷ []) o) (packet_parts base f)) (writes_first f v writes))
     by_test false e = ap (λ (o : Option ℕ). part_behind f (Version v ∷ []) o (packet_parts base f)) (wrote_last f v e)
 
--- so what is put together is what comes of the one arrival
+-- so the joined packet is the result of the one arrival
 pub only_merged : (base : PlainApart) (v : PlainVersion) → ((f : Field) → has_write f v.touch ≡ false → writers_of (version_parts v) f ≡ 0) → rejoined_parts v base ≡ merged_parts base (Version v ∷ [])
 only_merged base v unwritten = fun_ext (λ f. by_write f (has_write f v.touch) refl)
   where
@@ -156,7 +156,7 @@ pub alone_goes_on : (v : PlainVersion) → Take (map (op_of (Version v ∷ [])) 
 unfolding decision_of
 alone_goes_on v = refl
 
--- what comes of the only branch
+-- what becomes of the only branch's result
 pub alone_whole : (base : PlainApart) (a : Arrival) (v : PlainVersion) (made : PlainApart) → a ≡ Version v → KeepsBase base a → IfSome v.kept (λ b. made ≡ merged_packet b (Version v ∷ [])) → Whole made ≡ merged base (a ∷ [])
 alone_whole base a v made is keeps merges =
     ap (λ (w : PlainApart). Whole w) (subst (λ (o : Option PlainApart). IfSome o (λ b. made ≡ merged_packet b (Version v ∷ []))) (subst (KeepsBase base) is keeps) merges)

@@ -16,11 +16,11 @@ use Rattle.merge_ops.specs.declared.arrival.Arrival.TheVariants.{Version, Nil, S
 use Rattle.merge_ops.specs.declared.decision.MergeOp.TheVariants.{Keep, Modify, SetTags}
 use Rattle.merge_ops.specs.declared.decision.Decision.TheVariants.{Take, Gone, Short as Halted}
 
--- the fixed values play no part
+-- the fixed values don't matter
 abbrev fixed : Fixed
 fixed = record { time = 7; ether_type = Some 0x0800; proto = Some 17; ip_len = Some 28; tcp_flags = None }
 
--- a branch that has this one field, written last by this function
+-- a branch that has this one field, last written by this function
 abbrev pub branch_with : Field → List ℕ → ℕ → Arrival
 branch_with f bytes writer = Version (record {
   parts = as_list (λ g. if is_field f g then Some (record { bytes = bytes; writer = writer; room = 4 }) else None);
@@ -43,7 +43,7 @@ unwritten : decision_of (branch_with Tos (8 ∷ []) 1 ∷ branch_with Tos (16 �
 unfolding decision_of last_writer
 unwritten = refl
 
--- nobody wrote
+-- without a writer
 untouched : decision_of (branch_with Tos (8 ∷ []) 0 ∷ []) ≡ Take (Keep ∷ Keep ∷ Keep ∷ Keep ∷ Keep ∷ Keep ∷ Keep ∷ Keep ∷ Keep ∷ Keep ∷ [])
 unfolding decision_of last_writer
 untouched = refl
@@ -61,7 +61,7 @@ dropped_first : decision_of (Nil 2 ∷ Nil 4 ∷ []) ≡ Gone 2
 unfolding decision_of last_writer
 dropped_first = refl
 
--- a want of memory goes before a drop
+-- running out of memory takes precedence over a drop
 halted : decision_of (Nil 4 ∷ Nil 2 ∷ Short ∷ []) ≡ Halted
 unfolding decision_of last_writer
 halted = refl
@@ -77,7 +77,7 @@ kept_base = record {
 abbrev pub bare_base : PlainApart
 bare_base = record { parts = as_list (λ g. None); rest = []; fixed = fixed }
 
--- 8 by the first function and 16 by the second give 16; with the second unwritten they give 8; with none written, the base's own
+-- 8 by the first function and 16 by the second give 16; without the second 8; without both, the base's own
 later_value : values_of (merged_parts kept_base (branch_with Tos (8 ∷ []) 1 ∷ branch_with Tos (16 ∷ []) 2 ∷ [])) Tos ≡ Some (16 ∷ [])
 unfolding merged_parts last_writer
 later_value = refl
@@ -90,7 +90,7 @@ own_value : values_of (merged_parts kept_base (branch_with Tos (8 ∷ []) 0 ∷ 
 unfolding merged_parts last_writer
 own_value = refl
 
--- the original that a branch was given comes back from there
+-- the original that a branch got comes back from there
 given_value : values_of (merged_parts bare_base (Nil 3 ∷ branch_with Tos (16 ∷ []) 0 ∷ [])) Tos ≡ Some (16 ∷ [])
 unfolding merged_parts last_writer
 given_value = refl

@@ -1,4 +1,4 @@
--- A part that is taken leaves every other field of the arrivals as it was.
+-- A part that is taken leaves every other field of the arrivals unchanged.
 use Rattle.std.proofs.Common.{◌≡◌, ◌≢◌, ◌∙◌, ◌<◌, ◌+◌, ℕ, Bool, true, false, List, map, sym, ap, refl, get_or, length, set, arith, subst}
 use mathlib.Core.Path.{fun_ext}
 use Rattle.std.specs.Prelude.{if◌then◌else◌, not, Option, Some, None, is_some, nat_lt, position}
@@ -24,7 +24,7 @@ use Rattle.merge_ops.specs.declared.arrival.Arrival.TheVariants.{Version, Nil, S
 use Rattle.merge_ops.specs.declared.decision.MergeOp.{MergeOp}
 use Rattle.merge_ops.proofs.Latest.{last_there}
 
--- two fields have two numbers
+-- different fields have different numbers
 other_field : (f g : Field) → f ≢ g → is_field g f ≡ false
 other_field f g apart = by_test (is_field g f) refl
   where
@@ -42,14 +42,14 @@ without_writes f g (Version v) = refl
 without_writes f g (Nil p) = refl
 without_writes f g Short = refl
 
--- the arrivals behind a part that was taken
+-- the arrivals after a part that was taken
 pub same_taken : (f g : Field) (arrivals : List Arrival) (b : ℕ) (new d : Arrival) → f ≢ g → new ≡ without g (get_or arrivals b d) → SameIn f arrivals (set arrivals b new)
 same_taken f g arrivals b new d apart is = record {
   parts = map-set_same (part_of f) arrivals b new d (ap (λ (a : Arrival). part_of f a) is ∙ without_part f g (get_or arrivals b d) apart);
   writes = map-set_same (writes_in f) arrivals b new d (ap (λ (a : Arrival). writes_in f a) is ∙ without_writes f g (get_or arrivals b d));
 }
 
--- and those behind two
+-- and those after two
 pub same_on : (f : Field) (first old new : List Arrival) → SameIn f first old → SameIn f old new → SameIn f first new
 same_on f first old new s t = record { parts = t.parts ∙ s.parts; writes = t.writes ∙ s.writes }
 
@@ -57,7 +57,7 @@ turned : (b : Bool) (n : ℕ) → (if not b then n else 0) ≡ (if b then 0 else
 turned true n = refl
 turned false n = refl
 
--- the first that passes is known by the tests
+-- the tests determine the first that passes
 pub position-map : {A : Type 0} (p : A → Bool) (xs : List A) → position (λ b. b) (map p xs) ≡ position p xs
 position-map p xs =
     let first : position_or_len (λ b. b) (map p xs) ≡ position_or_len p xs = is_position_or_len (λ ys. position_or_len (λ b. b) (map p ys)) p refl (λ y ys. turned (p y) (1 + position_or_len (λ b. b) (map p ys))) xs in
@@ -82,7 +82,7 @@ same_from : (f : Field) (old new : List Arrival) (branch : Option ℕ) → SameI
 same_from f old new None s = refl
 same_from f old new (Some b) s = same_at f old new b s
 
--- the part behind the stage is the same of such arrivals
+-- the part after the stage is the same for such arrivals
 pub same_behind : (f : Field) (old new : List Arrival) (last : Option ℕ) (own : Option PlainPart) → SameIn f old new → part_behind f new last own ≡ part_behind f old last own
 same_behind f old new last own s =
     ap (λ (b : Option ℕ). option_or (part_from f new b) own) (same_source f old new last own s)
@@ -119,7 +119,7 @@ last_written f arrivals (Some b) e = last_there arrivals f b e
 pub written_op : (f : Field) (op : MergeOp) (old new : List Arrival) → op ≡ op_of old f → SameIn f old new → IsWritten f new (branch_of op)
 written_op f op old new is s = subst (λ (b : Option ℕ). IsWritten f new b) (sym (ap branch_of is ∙ op_branch f (last_writer old f))) (still_written f old new (last_writer old f) s (last_written f old (last_writer old f) refl))
 
--- the parts behind the stage for the fields before an index, and those that were there for the others
+-- the parts after the stage for the fields before an index, and those that were there for the others
 abbrev pub way : ℕ → Parts → Parts → Parts
 way i done left g = if nat_lt (number_of g) i then done g else left g
 
@@ -161,7 +161,7 @@ merged_by_op f op first old now is s =
 pub way_here : (f : Field) (i : ℕ) (first was : PlainApart) (old : List Arrival) → number_of f ≡ i → was ≡ on_way i first old → packet_parts was f ≡ packet_parts first f
 way_here f i first was old is e = ap (λ (m : Parts). m f) (way_parts i first was old e) ∙ way_by i (merged_parts first old) (packet_parts first) f false (lt_self (number_of f) i is)
 
--- one part more
+-- one more part
 pub put_more : (f : Field) (i : ℕ) (part : Option PlainPart) (first was next : PlainApart) (old : List Arrival) → number_of f ≡ i → part ≡ merged_parts first old f → was ≡ on_way i first old → next ≡ with_parts was (changed f part (packet_parts was)) → next ≡ on_way (i + 1) first old
 put_more f i part first was next old is made e step =
     step

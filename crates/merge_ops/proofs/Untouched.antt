@@ -1,4 +1,4 @@
--- What was dealt and nobody wrote comes back as it was.
+-- What branches got and didn't write comes back unchanged.
 use Rattle.std.proofs.Common.{◌≡◌, ◌∙◌, ℕ, Bool, true, false, List, [], ◌∷◌, map, sym, ap, refl, subst, get_or, arith}
 use mathlib.Core.Path.{fun_ext}
 use Rattle.std.specs.Prelude.{if◌then◌else◌, ◌==◌, Option, Some, None, is_some, option_map, position}
@@ -25,7 +25,7 @@ use Rattle.merge_ops.specs.declared.decision.Decision.{Decision}
 use Rattle.merge_ops.specs.declared.decision.Decision.TheVariants.{Take, Short as Halted}
 use Rattle.merge_ops.proofs.Whole.{merged_value}
 
--- a field behind the stage, of the values
+-- a field after the stage, by the values
 pub packet_value : (whole : PlainApart) (touches : List Touch) (base : PlainApart) (arrivals : List Arrival) (ops : List MergeOp) (f : Field) → AreFrom whole touches base arrivals → decision_of arrivals ≡ Take ops → values_of (packet_parts (merged_packet base arrivals)) f ≡ value_behind whole arrivals f
 packet_value whole touches base arrivals ops f from on =
     ap (λ (m : Parts). values_of m f) (as_map-listed (merged_parts base arrivals)) ∙ merged_value whole touches base arrivals ops f from on
@@ -35,7 +35,7 @@ nobody true None = refl
 nobody true (Some p) = refl
 nobody false o = refl
 
--- nobody wrote what a branch is dealt
+-- what a branch gets has no writer
 dealt_writer : (whole : PlainApart) (touch : Touch) (f : Field) → writers_of (version_parts (dealt whole touch)) f ≡ 0
 dealt_writer whole touch f = ap (λ (m : Parts). writers_of m f) (as_map-listed (dealt_parts touch (packet_parts whole))) ∙ nobody (has_touch f touch) (packet_parts whole f)
 

@@ -1,4 +1,4 @@
--- What is put together from the arrivals of a base is a whole packet.
+-- The packet joined from the arrivals of a base is whole.
 use Rattle.std.proofs.Common.{◌≡◌, ◌≢◌, ◌∙◌, ◌<◌, ℕ, Bool, true, false, List, length, sym, ap, refl, subst, get_or, arith}
 use Rattle.std.specs.Prelude.{if◌then◌else◌, ◌||◌, Option, Some, None, is_some, option_map, IfSome, position}
 use Rattle.std.specs.Option.{option_or, option_map_or}
@@ -55,7 +55,7 @@ touch_write : (r w : Bool) → w ≡ true → (r || w) ≡ true
 touch_write true w e = refl
 touch_write false w e = e
 
--- a branch that writes a field is dealt it
+-- a branch that writes a field gets it
 dealt_write : (touch : Touch) (parts : Parts) (f : Field) → has_write f touch ≡ true → dealt_parts touch parts f ≡ option_map unwritten (parts f)
 dealt_write touch parts f w = ap (λ (b : Bool). if b then option_map unwritten (parts f) else None) (touch_write (has touch.reads f) (has touch.writes f) w)
 
@@ -65,7 +65,7 @@ made_alike whole touch v f m d = record {
   lengths = λ apart. m.lengths f apart ∙ (ap length_in d ∙ unwritten_length (packet_parts whole f));
 }
 
--- a branch that is dealt a field has the packet's part
+-- a branch that gets a field has the packet's part
 dealt_there : (touch : Touch) (parts : Parts) (f : Field) → is_some (dealt_parts touch parts f) ≡ true → dealt_parts touch parts f ≡ option_map unwritten (parts f)
 dealt_there touch parts f there = by_test (has_touch f touch) there
   where
@@ -128,7 +128,7 @@ shared_mode : (touches : List Touch) (f : Field) → position (has_write f) touc
 unfolding mode_of
 shared_mode touches f e = ap (λ (o : Option ℕ). option_map_or (written_mode touches f) o Shared) e
 
--- no branch is given a field that no arrival's branch writes
+-- no branch has a field that no arrival's branch writes
 none_writes : (whole : PlainApart) (touches : List Touch) (base : PlainApart) (arrivals : List Arrival) (ops : List MergeOp) (f : Field) → AreFrom whole touches base arrivals → GoesOn arrivals ops → position (writes_in f) arrivals ≡ None → (o : Option ℕ) → position (has_write f) touches ≡ o → o ≡ None
 none_writes whole touches base arrivals ops f from on none None e = refl
 none_writes whole touches base arrivals ops f from on none (Some b) e =
@@ -139,7 +139,7 @@ none_writes whole touches base arrivals ops f from on none (Some b) e =
     let nobody = any-none (writes_in f) arrivals (none-position (writes_in f) arrivals none) in
     absurd (cc)
 
--- The part of a field behind the stage: it has the shape of the packet's own, and the value that was written last.
+-- The part of a field after the stage: it has the shape of the packet's own, and the value that was written last.
 record IsBehind (whole : PlainApart) (arrivals : List Arrival) (f : Field) (last : Option ℕ) (part : Option PlainPart) : Type 0 where
   alike : Alike f part (packet_parts whole f)
   value : bytes_in part ≡ value_by whole arrivals f last
@@ -204,7 +204,7 @@ tags_by false (Some p) frame fits = fits.1
 pub kept_tags : (whole : PlainApart) (touches : List Touch) (base : PlainApart) (arrivals : List Arrival) → AreFrom whole touches base arrivals → AreTags (packet_parts base Tag)
 kept_tags whole touches base arrivals from = subst AreTags (sym (based_part whole touches base Tag from.behind)) (tags_by (is_given (mode_of touches Tag)) (packet_parts whole Tag) whole.rest (from.fits.fits Tag))
 
--- so what is put together fits the rest
+-- so the joined parts fit the rest
 pub whole_behind : (whole : PlainApart) (touches : List Touch) (base made : PlainApart) (arrivals : List Arrival) (ops : List MergeOp) → AreFrom whole touches base arrivals → Take ops ≡ decision_of arrivals → made ≡ with_parts base (merged_parts base arrivals) → AreTags (packet_parts made Tag) → IsWhole (packet_parts made) made.rest
 whole_behind whole touches base made arrivals ops from on is tags =
     let done = goes_on arrivals ops on in

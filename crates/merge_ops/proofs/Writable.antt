@@ -1,4 +1,4 @@
--- The fields that some branch writes, and who wrote the others: nobody.
+-- The fields that some branch writes; the others have no writer.
 use Rattle.std.proofs.Common.{◌≡◌, ◌∙◌, ◌<◌, ◌+◌, ℕ, zero, suc, Bool, true, false, List, [], ◌∷◌, take, sym, ap, refl, get_or, length, arith, add-one}
 use Rattle.std.specs.Prelude.{if◌then◌else◌, ◌||◌, ◌==◌, Option, Some, None, position}
 use Rattle.std.specs.List.{list_any}
@@ -11,7 +11,7 @@ use Rattle.merge_ops.specs.Taking.{writes_in}
 use Rattle.merge_ops.specs.declared.arrival.Arrival.{Arrival}
 use Rattle.merge_ops.specs.declared.arrival.Arrival.TheVariants.{Short}
 
--- neither of two, where their disjunction doesn't hold
+-- neither of two, if their disjunction doesn't hold
 pub neither : (a b : Bool) → (a || b) ≡ false → (a ≡ false) × (b ≡ false)
 neither true b e = absurd (false≢true (sym e))
 neither false b e = (refl, e)
@@ -33,11 +33,11 @@ zero_suc (a ∷ others) f (suc k) d below before here =
     let more = zero_suc others f k d (omega arith) rest here in
     omega arith
 
--- nobody wrote the field in one branch more
+-- no writer of the field in one more branch
 pub zero_next : (arrivals : List Arrival) (f : Field) (k : ℕ) (d : Arrival) → k < length arrivals → greatest_writer (take k arrivals) f ≡ 0 → writer_of f (get_or arrivals k d) ≡ 0 → greatest_writer (take (k + 1) arrivals) f ≡ 0
 zero_next arrivals f k d below before here = ap (λ (n : ℕ). greatest_writer (take n arrivals) f) (add-one k) ∙ zero_suc arrivals f k d below before here
 
--- a field that nobody wrote is kept
+-- a field without a writer is kept
 pub none_last : (arrivals : List Arrival) (f : Field) → greatest_writer arrivals f ≡ 0 → last_writer arrivals f ≡ None
 unfolding last_writer
 none_last arrivals f e = ap (λ (n : ℕ). if n == 0 then None else position (λ a. writer_of f a == n) arrivals) e

@@ -18,7 +18,7 @@ use Rattle.merge_ops.specs.Behind.{IsMadeOf}
 abbrev length_in : Option PlainPart → Option ℕ
 length_in part = option_map (λ p. length p.bytes) part
 
--- what holds of the new part and of each other one holds of every field
+-- what holds for the new part and for each other one holds for every field
 changed_cases : (f g : Field) (part : Option PlainPart) (v : PlainVersion) (P : Option PlainPart → Type 0) → (f ≡ g → P part) → P (version_parts v g) → P (version_parts (with_part f part v) g)
 changed_cases f g part v P own other = by_test (is_field f g) refl
   where
@@ -36,7 +36,7 @@ made_on whole touch v f old new m w is by len =
       lengths = λ g. changed_cases f g (Some new) v (λ o. g ≢ Tag → length_in o ≡ length_in (dealt g)) (λ e apart. ap (λ (n : ℕ). Some n) (len (λ t. apart (sym e ∙ t))) ∙ (sym (ap length_in is) ∙ (m.lengths f (λ t. apart (sym e ∙ t)) ∙ ap (λ (h : Field). length_in (dealt h)) e))) (m.lengths g);
     }
 
--- a field that the packet lacks stays so
+-- a field that the packet lacks remains absent
 pub made_absent : (whole : PlainApart) (touch : Touch) (v : PlainVersion) (f : Field) → IsMadeOf whole touch v → version_parts v f ≡ None → IsMadeOf whole touch (with_part f None v)
 made_absent whole touch v f m is =
     let dealt = dealt_parts touch (packet_parts whole) in

@@ -1,4 +1,4 @@
--- For proofs: what comes of a packet behind a stage: the part of each field that was written last, or a drop.
+-- For proofs: what becomes of a packet after a stage: the part of each field that was written last, or a drop.
 use Rattle.std.specs.Prelude.{◌==◌, ℕ, Bool, true, false, if◌then◌else◌, List, [], ◌∷◌, Option, Some, None, max, min, map, position}
 use Rattle.std.specs.List.{list_any}
 use Rattle.packet_fields.specs.declared.field.Field.{Field}
@@ -13,7 +13,7 @@ use Rattle.merge_ops.specs.declared.decision.MergeOp.TheVariants.{Keep, Modify, 
 use Rattle.merge_ops.specs.declared.decision.Decision.{Decision}
 use Rattle.merge_ops.specs.declared.decision.Decision.TheVariants.{Take, Gone, Short as Halted}
 
--- a worker found no memory
+-- a worker ran out of memory
 abbrev pub is_short : Arrival → Bool
 is_short Short = true
 is_short arrival = false
@@ -29,11 +29,11 @@ part_of f (Version v) = version_parts v f
 part_of f (Nil p) = None
 part_of f Short = None
 
--- who wrote the field last in the branch, 0 for nobody
+-- the last writer of the field in the branch, 0 if none
 abbrev pub writer_of : Field → Arrival → ℕ
 writer_of f arrival = writer_in (part_of f arrival)
 
--- the lesser of two positions, where there are two
+-- the lesser of two positions, if there are two
 abbrev pub lesser : Option ℕ → Option ℕ → Option ℕ
 lesser None q = q
 lesser (Some p) None = Some p
@@ -44,12 +44,12 @@ abbrev pub least_nil : List Arrival → Option ℕ
 least_nil [] = None
 least_nil (arrival ∷ others) = lesser (nil_of arrival) (least_nil others)
 
--- the greatest writer of a field, 0 where nobody wrote it
+-- the greatest writer of a field, 0 if there is none
 abbrev pub greatest_writer : List Arrival → Field → ℕ
 greatest_writer [] f = 0
 greatest_writer (arrival ∷ others) f = max (writer_of f arrival) (greatest_writer others f)
 
--- the branch that wrote the field last, where one wrote it
+-- the branch that wrote the field last, if one wrote it
 unfoldable pub last_writer : List Arrival → Field → Option ℕ
 last_writer arrivals f =
     if greatest_writer arrivals f == 0
@@ -65,11 +65,11 @@ op_from f (Some branch) = Modify branch
 abbrev pub op_of : List Arrival → Field → MergeOp
 op_of arrivals f = op_from f (last_writer arrivals f)
 
--- gone where it was dropped, else an operation for each field
+-- dropped if it was dropped, else an operation for each field
 abbrev pub decided_by : List Arrival → Option ℕ → Decision
 decided_by arrivals (Some p) = Gone p
 decided_by arrivals None = Take (map (op_of arrivals) all_fields)
 
--- what comes of the packet
+-- what becomes of the packet
 unfoldable pub decision_of : List Arrival → Decision
 decision_of arrivals = if list_any is_short arrivals then Halted else decided_by arrivals (least_nil arrivals)

@@ -37,7 +37,7 @@ branch_of Keep = None
 branch_of (Modify branch) = Some branch
 branch_of (SetTags branch) = Some branch
 
--- the branch that a part is taken from: the one that wrote the field last, else none where the base has it, else the first that writes the field, which has the original
+-- The branch that gives a part: the field's last writer; else none if the base has it, else the original's branch.
 abbrev pub source : Field → List Arrival → Option ℕ → Option PlainPart → Option ℕ
 source f arrivals (Some branch) own = Some branch
 source f arrivals None own = if is_some own then None else position (writes_in f) arrivals
@@ -66,19 +66,19 @@ merged_by base arrivals (Take ops) = Whole (merged_packet base arrivals)
 merged_by base arrivals (IsGone p) = Gone p
 merged_by base arrivals IsShort = Halted
 
--- what comes out behind the stage
+-- what leaves the stage
 abbrev pub merged : PlainApart → List Arrival → Merged
 merged base arrivals = merged_by base arrivals (decision_of arrivals)
 
--- this branch, where there is one, writes the field
+-- this branch, if there is one, writes the field
 abbrev pub IsWriting : Field → List Arrival → Option ℕ → Type 0
 IsWriting f arrivals branch = IfSome branch (λ b. (b < length arrivals) × (writes_in f (arrival_at arrivals b) ≡ true))
 
--- this branch, where there is one, wrote the field
+-- this branch, if there is one, wrote the field
 abbrev pub IsWritten : Field → List Arrival → Option ℕ → Type 0
 IsWritten f arrivals branch = IfSome branch (λ b. (b < length arrivals) × (0 < writer_of f (arrival_at arrivals b)))
 
--- two lists of arrivals that have the same of a field
+-- two lists of arrivals that have the same for a field
 pub record SameIn (f : Field) (old new : List Arrival) : Type 0 where
   pub parts : map (part_of f) new ≡ map (part_of f) old
   pub writes : map (writes_in f) new ≡ map (writes_in f) old

@@ -1,4 +1,4 @@
--- Believed: which function a policy declares, and what making it answers.
+-- Believed: which function a policy declares, and the result of making it.
 use Rattle.std.specs.Prelude.{◌≡◌, ℕ, List, Option, Some, None, Result, Ok, Err}
 use Rattle.action_profile.specs.declared.kind.Kind.{Kind}
 use Rattle.action_profile.specs.declared.kind.Kind.TheVariants as kinds
@@ -64,17 +64,17 @@ making_of kinds.Decap = of_lines exit_lines decap_by (λ f. Decap f)
 abbrev pub function_of : FunctionDecl → Made
 function_of decl = (making_of decl.kind).made decl
 
--- the least line of a declaration that is refused, none where each may stand
+-- the least line of a declaration that is refused, none if each is accepted
 abbrev pub refused_line : FunctionDecl → Option ℕ
 refused_line decl = (making_of decl.kind).refused decl
 
--- the function that is declared, where no line is refused, or the least refused line; memory may run out
+-- the function that is declared, if no line is refused, or the least refused line; it may run out of memory
 abbrev pub Builds : FunctionDecl → Result Made BuildFault → Type 0
 Builds decl (Ok f) = (refused_line decl ≡ None) × (f ≡ function_of decl)
 Builds decl (Err (BadSetting line)) = refused_line decl ≡ Some line
 Builds decl (Err OutOfMemory) = Unit {0}
 
--- the same answer, where it is known that no end of a tunnel is declared
+-- the same answer, if it is known that no end of a tunnel is declared
 abbrev pub as_made : Result NetFunction BuildFault → Result Made BuildFault
 as_made (Ok f) = Ok (Function f)
 as_made (Err fault) = Err fault

@@ -44,7 +44,7 @@ record IsKind {F : Type 0} (b : Behaviour F) (make : F → NetFunction) : Type 0
   profile : (f : F) → net_behaviour.profile (make f) ≡ b.profile f
   step : (f : F) (shown : Shown) → net_behaviour.step (make f) shown ≡ as_any make (b.step f shown)
 
--- one function keeps to its profile
+-- one function obeys its profile
 record Keeps (f : NetFunction) : Type 0 where
   stays : (fixed : Fixed) (v : Values) → net_behaviour.profile (stepped net_behaviour fixed f v).after ≡ net_behaviour.profile f
   writes : (fixed : Fixed) (v : Values) (x : Field) → (writes_of (net_behaviour.profile f) x && is_some (v x)) ≡ false → (stepped net_behaviour fixed f v).written x ≡ None

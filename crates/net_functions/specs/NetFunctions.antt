@@ -54,7 +54,7 @@ step_by (Redactor f) shown = as_any Redactor (redactor_behaviour.step f shown)
 abbrev pub net_behaviour : Behaviour NetFunction
 net_behaviour = record { profile = profile_by; step = step_by }
 
--- the lines in which a function tells its state
+-- the lines in which a function reports its state
 unfoldable pub lines_of : NetFunction → List ℕ
 lines_of (Firewall f) = []
 lines_of (Nat n) = mapping_lines n

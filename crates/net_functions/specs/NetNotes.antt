@@ -1,4 +1,4 @@
--- For proofs: what functions of any kind note of packets that they count, and how a note is settled: a monitor counts, and no other.
+-- For proofs: what functions of any kind note about counted packets, and how a note is settled; only a monitor counts.
 use Rattle.std.specs.Prelude.{◌≡◌, false, true, Option, Some, None, refl}
 use Rattle.std.proofs.Common.{◌∙◌, ap}
 use Rattle.chain_walk.specs.Notes.{Notes, noted, settled, CountsByNotes}
@@ -14,12 +14,12 @@ use Rattle.net_functions.specs.NetFunctions.{as_any, net_behaviour, profile_by, 
 use Rattle.net_functions.specs.declared.net_function.NetFunction.{NetFunction}
 use Rattle.net_functions.specs.declared.net_function.NetFunction.TheVariants.{Firewall, Nat, Balancer, Monitor, Limiter, Marker, Hop, Tagger, Untagger, Signature, Nexthop, Redactor}
 
--- a note, of a monitor alone
+-- a note, which only a monitor makes
 unfoldable pub look_by : NetFunction → Shown → Option FlowNote
 look_by (Monitor m) shown = note_of shown
 look_by f shown = None
 
--- a function once a note is settled: a monitor has counted it, and every other is the same
+-- a function after a note is settled: a monitor has counted it, and every other is the same
 unfoldable pub settle_by : NetFunction → FlowNote → NetFunction
 settle_by (Monitor m) note = Monitor (settled_note m note)
 settle_by f note = f

@@ -1,4 +1,4 @@
--- For proofs: the lines in which a function of any kind tells its state, each by itself.
+-- For proofs: the lines in which a function of any kind reports its state, each by itself.
 use Rattle.std.specs.Prelude.{ℕ, List, []}
 use Rattle.nf_translate.specs.StateRows.{flow_rows, mapping_rows}
 use Rattle.nf_observe.specs.StateRows.{limiter_rows, monitor_rows}

@@ -1,4 +1,4 @@
--- A guard lets through what meets the clauses.
+-- A guard passes what meets the clauses.
 use Rattle.std.proofs.Common.{◌≡◌, ◌≤◌, ◌-◌, ◌+◌, ◌*◌, ◌/◌, ◌%◌, ◌^◌, ◌∙◌, ℕ, List, [], ◌∷◌, sym, ap, refl, true, false, Bool, arith, bit_and}
 use Rattle.std.specs.Prelude.{◌==◌, ◌&&◌, Option, Some, None, fold}
 use Rattle.std.specs.Option.{option_map_or}
@@ -59,7 +59,7 @@ open_lets seen =
     and_from (covers open_guard.source seen.src) (covers open_guard.destination seen.dst)
     (eq-eqb _ 0 (and_zero_r (option_map_or (λ a. a) seen.src 0))) (eq-eqb _ 0 (and_zero_r (option_map_or (λ a. a) seen.dst 0)))
 
--- what a guard doesn't let through doesn't meet the clauses
+-- what a guard doesn't pass doesn't meet the clauses
 pub not_let : (guard : Guard) (fit : Match) (seen : Seen) → guard ≡ guard_of fit → lets guard seen ≡ false → is_fitting fit seen ≡ false
 not_let guard fit seen is h = false_from_ne_true (is_fitting fit seen) (λ met.
     both_ways (lets guard seen) h (ap (λ g. lets g seen) is ∙ all_more fit.clauses open_guard seen (open_lets seen) met))

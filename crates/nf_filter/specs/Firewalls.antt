@@ -20,7 +20,7 @@ use Rattle.nf_filter.specs.Verdicts.{verdict_by}
 abbrev pub open_firewall : Firewall
 open_firewall = record { default = true; rules = [] }
 
--- a firewall with what one more line says
+-- a firewall with the content of one more line
 abbrev pub with_line : Firewall → FirewallLine → Firewall
 with_line f (lines.Default allow) = record f { default = allow }
 with_line f (lines.Rule rule) = record f { rules = f.rules ++ rule ∷ [] }
@@ -37,7 +37,7 @@ firewall_of decl = firewall_by (said_by firewall_lines decl.settings)
 unfoldable pub passes : Firewall → Seen → Bool
 passes f seen = option_map_or (λ rule. rule.allow) (first_met (λ rule. rule.fit) seen f.rules) f.default
 
--- a firewall judges by what it is shown, writes nothing, and stays as it is
+-- a firewall judges by what it is shown, writes nothing, and stays unchanged
 abbrev pub firewall_step : Firewall → Shown → Step Firewall
 firewall_step f shown = record { after = f; verdict = verdict_by (passes f (seen_by shown.values shown.fixed.proto)); written = nothing }
 

@@ -1,4 +1,4 @@
--- For proofs: what a rule asks of a packet's IPv4 addresses.
+-- For proofs: what a rule requires of a packet's IPv4 addresses.
 use Rattle.std.specs.Prelude.{ℕ, ◌-◌, ◌^◌, Bool, ◌==◌, ◌&&◌, Option, fold, bit_and}
 use Rattle.std.specs.Option.{option_map_or}
 use Rattle.policy_text.specs.declared.clause.Clause.{Clause}
@@ -15,7 +15,7 @@ mask_of bits = 4294967296 - 2 ^ (32 - bits)
 abbrev pub prefix_of : ℕ → ℕ → Prefix
 prefix_of prefix bits = record { mask = mask_of bits; bits = bit_and prefix (mask_of bits) }
 
--- the address has the bits; where there is none, the bits of 0 are compared, which tell nothing wrong
+-- the address has the bits; if there is none, the bits of 0 are compared, which is never wrong
 abbrev pub covers : Prefix → Option ℕ → Bool
 covers prefix address = bit_and (option_map_or (λ a. a) address 0) prefix.mask == prefix.bits
 
@@ -24,7 +24,7 @@ with_clause guard (Src prefix bits) = record guard { source = prefix_of prefix b
 with_clause guard (Dst prefix bits) = record guard { destination = prefix_of prefix bits }
 with_clause guard clause = guard
 
--- a guard that asks for nothing
+-- a guard that requires nothing
 abbrev pub open_guard : Guard
 open_guard = record { source = record { mask = 0; bits = 0 }; destination = record { mask = 0; bits = 0 } }
 

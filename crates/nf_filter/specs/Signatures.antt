@@ -20,12 +20,12 @@ signature_by patterns = record { patterns = patterns }
 abbrev pub signature_of : FunctionDecl → Signature
 signature_of decl = signature_by (said_by pattern_lines decl.settings)
 
--- one of the patterns occurs in the payload, where there is one
+-- one of the patterns occurs in the payload, if there is one
 abbrev pub is_found : List (List ℕ) → Option (List ℕ) → Bool
 is_found patterns (Some payload) = some_occurs patterns payload
 is_found patterns None = false
 
--- a signature drops what it finds a pattern in, writes nothing, and stays as it is
+-- a signature drops a packet in which it finds a pattern, writes nothing, and stays unchanged
 abbrev pub signature_step : Signature → Shown → Step Signature
 signature_step s shown = record { after = s; verdict = verdict_by (not (is_found s.patterns (shown.values Payload))); written = nothing }
 

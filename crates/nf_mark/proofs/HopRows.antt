@@ -27,7 +27,7 @@ living ttl f = None
 abbrev step : Option (List ℕ) → Step Hop
 step ttl = stepped hop_behaviour shown (hop_by []) (living ttl)
 
--- of 64 are left 63
+-- 64 becomes 63
 sends_on : (step (Some (64 ∷ []))).written Ttl ≡ Some (63 ∷ [])
 sends_on = refl
 

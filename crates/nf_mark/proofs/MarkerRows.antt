@@ -57,7 +57,7 @@ packet tos src dst f = None
 written : Option (List ℕ) → List ℕ → List ℕ → Option (List ℕ)
 written tos src dst = (stepped marker_behaviour udp (marker_of declared) (packet tos src dst)).written Tos
 
--- a packet that meets both rules gets what the first says
+-- a packet that meets both rules gets the first one's value
 first_rule : written (Some (0 ∷ [])) (10 ∷ 0 ∷ 0 ∷ 9 ∷ []) (198 ∷ 51 ∷ 100 ∷ 3 ∷ []) ≡ Some (16 ∷ [])
 unfolding line_of declared udp packet written tos_for
 first_rule = refl
@@ -71,7 +71,7 @@ no_rule : written (Some (0 ∷ [])) (10 ∷ 0 ∷ 0 ∷ 8 ∷ []) (198 ∷ 51 �
 unfolding line_of declared udp packet written tos_for
 no_rule = refl
 
--- and where there is no type of service nothing is written
+-- and if there is no type of service, nothing is written
 no_field : written None (10 ∷ 0 ∷ 0 ∷ 9 ∷ []) (198 ∷ 51 ∷ 100 ∷ 3 ∷ []) ≡ None
 unfolding line_of declared udp packet written tos_for
 no_field = refl

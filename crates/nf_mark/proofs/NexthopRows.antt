@@ -62,7 +62,7 @@ second_to : written (Some (198 ∷ 51 ∷ 101 ∷ 7 ∷ [])) LinkDst ≡ Some (2
 unfolding line_of declared udp packet written
 second_to = refl
 
--- a packet without a destination stays as it is
+-- a packet without a destination stays unchanged
 no_destination : written None LinkDst ≡ None
 unfolding line_of declared udp packet written
 no_destination = refl

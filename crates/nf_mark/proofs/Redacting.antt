@@ -25,7 +25,7 @@ finds patterns payload (Some place) first = record {
   same = cond-true (some_occurs patterns payload) (Some (redacted patterns payload)) None first.some ∙ ap Some (sym first.same);
 }
 
--- a payload with bytes is there
+-- a payload with bytes is present
 some_part : (part : Option PlainPart) → IsSome (option_map (λ p. p.bytes) part) → IsSome part
 some_part None h = h
 some_part (Some part) h = h

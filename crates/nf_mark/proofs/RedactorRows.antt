@@ -44,12 +44,12 @@ packet payload f = None
 written : Option (List ℕ) → Option (List ℕ)
 written payload = (stepped redactor_behaviour udp (redactor_of (declared two)) (packet payload)).written Payload
 
--- the second pattern finds what the first left
+-- the second pattern is searched in what the first left
 one_after_another : written (Some (codes "abc")) ≡ Some (codes "xxx")
 unfolding line_of declared two packet written udp
 one_after_another = refl
 
--- where no pattern occurs nothing is written
+-- if no pattern occurs, nothing is written
 unwritten : written (Some (codes "a bc")) ≡ None
 unfolding line_of declared two packet written udp
 unwritten = refl

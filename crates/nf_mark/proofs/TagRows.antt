@@ -63,7 +63,7 @@ left_of tags = (stepped untagger_behaviour udp (untagger_by []) (packet tags (10
 two_tags : List ℕ
 two_tags = 0x88 ∷ 0xa8 ∷ 0x00 ∷ 0x64 ∷ 0x81 ∷ 0x00 ∷ 0x00 ∷ 0x0a ∷ []
 
--- the new tag stands before them
+-- the new tag is before them
 outermost : tagged_with (Some two_tags) (10 ∷ 0 ∷ 0 ∷ 1 ∷ []) ≡ Some (0x81 ∷ 0x00 ∷ 0x00 ∷ 0x07 ∷ 0x88 ∷ 0xa8 ∷ 0x00 ∷ 0x64 ∷ 0x81 ∷ 0x00 ∷ 0x00 ∷ 0x0a ∷ [])
 unfolding line_of declared udp packet tagged_with two_tags control_for
 outermost = refl

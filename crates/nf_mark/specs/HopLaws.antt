@@ -7,7 +7,7 @@ use Rattle.chain_walk.specs.Laws.{KeepsProfile}
 use Rattle.nf_mark.specs.Hops.{ttl_of, new_ttl, hop_behaviour}
 use Rattle.nf_mark.specs.Keeping.{writes_only, lengths_only}
 
--- the byte of what is left, in the place of an old one
+-- the byte of the remaining time, in the place of an old one
 abbrev renewed : Option (List ℕ) → Option (List ℕ)
 renewed old = option_map (λ ttl. ttl ∷ []) (new_ttl (ttl_of old))
 

@@ -15,7 +15,7 @@ use Rattle.nf_mark.specs.declared.no_lines.NoLine.{NoLine}
 use Rattle.nf_mark.specs.NoLines.{no_lines}
 use Rattle.nf_mark.specs.OneField.{only}
 
--- all hops are alike
+-- all hops are equal
 abbrev pub hop_by : List NoLine → Hop
 hop_by said = record {}
 
@@ -23,7 +23,7 @@ hop_by said = record {}
 abbrev pub hop_of : FunctionDecl → Hop
 hop_of decl = hop_by (said_by no_lines decl.settings)
 
--- the time to live is one byte of the IPv4 header (RFC 791, 3.1), or as the hop limit of the IPv6 header (RFC 8200, 3)
+-- the time to live is one byte of the IPv4 header (RFC 791, 3.1), and the hop limit of the IPv6 header (RFC 8200, 3)
 abbrev pub ttl_of : Option (List ℕ) → Option ℕ
 ttl_of field = option_map (λ bytes. slice_index bytes 0) field
 
@@ -32,12 +32,12 @@ abbrev pub verdict_by : Option ℕ → Verdict
 verdict_by None = Pass
 verdict_by (Some ttl) = if nat_le ttl 1 then Drop else Pass
 
--- what is left of the time to live of a packet that is sent on, none where there is none or the packet is dropped
+-- what remains of the time to live of a packet that is sent on, none if there is none or the packet is dropped
 abbrev pub new_ttl : Option ℕ → Option ℕ
 new_ttl None = None
 new_ttl (Some ttl) = if nat_le ttl 1 then None else Some (ttl - 1)
 
--- nothing else is written, and a hop stays as it is
+-- nothing else is written, and a hop stays unchanged
 abbrev pub hop_step : Hop → Shown → Step Hop
 hop_step h shown = record {
   after = h;

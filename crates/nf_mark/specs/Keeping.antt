@@ -1,4 +1,4 @@
--- For proofs: what writes one field, and that only where it is there, keeps to a profile that writes the field.
+-- For proofs: a step that writes one field, and only if it is present, obeys a profile that writes the field.
 use Rattle.std.specs.Prelude.{◌≡◌, ◌≢◌, ℕ, List, length, Bool, true, false, ◌&&◌, ◌==◌, if◌then◌else◌, Option, None, is_some, IfSome, IsSomeAnd, refl}
 use Rattle.std.proofs.Common.{◌∙◌, sym, ap, subst}
 use Rattle.std.proofs.lemmas.Bool.{eqb-true}
@@ -34,7 +34,7 @@ same_field : (f x : Field) → (number_of f == number_of x) ≡ true → f ≡ x
 same_field f x is = let same : number_of f ≡ number_of x = eqb-true (number_of f) (number_of x) is in sym (at_number f) ∙ ap field_at same ∙ at_number x
 
 module _ (p : Profile) (v : Values) (f : Field) (new : Option (List ℕ)) where
-  -- it is written where it is there
+  -- it is written if it is there
   pub writes_only : writes_of p f ≡ true → (is_some (v f) ≡ false → new ≡ None) → (x : Field) → (writes_of p x && is_some (v x)) ≡ false → only f new x ≡ None
   writes_only does there x h = by (number_of f == number_of x) refl
     where

@@ -13,6 +13,6 @@ link_of bytes = record {
   5 = slice_index bytes 5;
 }
 
--- its bytes, as they stand in a frame
+-- its bytes, as they are in a frame
 abbrev pub link_bytes : LinkAddress → List ℕ
 link_bytes a = a.0 ∷ a.1 ∷ a.2 ∷ a.3 ∷ a.4 ∷ a.5 ∷ []

@@ -29,12 +29,12 @@ marker_of decl = marker_by (said_by marker_lines decl.settings)
 unfoldable pub tos_for : Marker → Seen → Option ℕ
 tos_for m seen = option_map (λ rule. rule.tos) (first_met (λ rule. rule.fit) seen m.rules)
 
--- the type of service that a packet gets which has one, none where it keeps its own
+-- the type of service that is written to a packet that has one, none if it keeps its own
 abbrev pub new_tos : Marker → Shown → Option ℕ
 new_tos m shown = if shown.has Tos then tos_for m (seen_by shown.values shown.fixed.proto) else None
 
 -- The type of service is one byte, the second of the IPv4 header (RFC 791, 3.1), whose high six bits are the DSCP
--- (RFC 2474, 3). Nothing else is written, every packet passes, and a marker stays as it is.
+-- (RFC 2474, 3). Nothing else is written, every packet passes, and a marker stays unchanged.
 abbrev pub marker_step : Marker → Shown → Step Marker
 marker_step m shown = record { after = m; verdict = Pass; written = only Tos (option_map (λ tos. tos ∷ []) (new_tos m shown)) }
 

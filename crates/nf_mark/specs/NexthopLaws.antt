@@ -39,11 +39,11 @@ from_length : (rule : Option NexthopRule) → IfSome (links_by rule LinkSrc) (λ
 from_length None = tt
 from_length (Some rule) = refl
 
--- the rule is followed where both are there
+-- the rule is followed if both are present
 abbrev followed : Option (List ℕ) → Option (List ℕ) → Option NexthopRule → Option NexthopRule
 followed to from rule = if is_some to && is_some from then rule else None
 
--- where one is absent, nothing is written
+-- if one is absent, nothing is written
 unwritten : (to from : Option (List ℕ)) (rule : Option NexthopRule) (x : Field) → (is_some to ≡ true → is_some from ≡ true → ⊥) → links_by (followed to from rule) x ≡ None
 unwritten None from rule x never = refl
 unwritten (Some old) None rule x never = refl

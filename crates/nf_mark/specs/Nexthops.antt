@@ -28,18 +28,18 @@ nexthop_of decl = nexthop_by (said_by nexthop_lines decl.settings)
 abbrev pub rule_for : Nexthop → Shown → Option NexthopRule
 rule_for n shown = if shown.has LinkDst && shown.has LinkSrc then first_met (λ rule. rule.fit) (seen_by shown.values shown.fixed.proto) n.rules else None
 
--- these link addresses are written, where the frame goes and where it comes from (IEEE 802.3, 3.1.1), and nothing else
+-- these link addresses are written, of the frame's destination and source (IEEE 802.3, 3.1.1), and nothing else
 abbrev pub links : LinkAddress → LinkAddress → Values
 links to from LinkDst = Some (link_bytes to)
 links to from LinkSrc = Some (link_bytes from)
 links to from f = None
 
--- where there is a rule
+-- if there is a rule
 abbrev pub links_by : Option NexthopRule → Values
 links_by (Some rule) = links rule.link_dst rule.link_src
 links_by None = nothing
 
--- every packet passes, and a nexthop stays as it is
+-- every packet passes, and a nexthop stays unchanged
 abbrev pub nexthop_step : Nexthop → Shown → Step Nexthop
 nexthop_step n shown = record { after = n; verdict = Pass; written = links_by (rule_for n shown) }
 

@@ -16,7 +16,7 @@ use Rattle.nf_mark.specs.declared.redactor.Redactor.{Redactor}
 use Rattle.nf_mark.specs.Redactors.{redacted_payload, redactor_behaviour}
 
 module _ (patterns : List (List ℕ)) where
-  -- where there is no payload nothing is written
+  -- if there is no payload, nothing is written
   absent : (payload : Option (List ℕ)) → is_some payload ≡ false → redacted_payload patterns payload ≡ None
   absent None none = refl
   absent (Some payload) none = absurd (true≢false none)

@@ -21,17 +21,17 @@ redactor_by patterns = record { patterns = patterns }
 abbrev pub redactor_of : FunctionDecl → Redactor
 redactor_of decl = redactor_by (said_by pattern_lines decl.settings)
 
--- the payload with the patterns overwritten, none where none of them occurs in it
+-- the payload with the patterns overwritten, none if none of them occurs in it
 abbrev pub redacted_payload : List (List ℕ) → Option (List ℕ) → Option (List ℕ)
 redacted_payload patterns (Some payload) = if some_occurs patterns payload then Some (redacted patterns payload) else None
 redacted_payload patterns None = None
 
--- this is written as the payload, where there is something to write, and nothing else
+-- this is written as the payload, if there is something to write, and nothing else
 abbrev pub to_payload : Option (List ℕ) → Values
 to_payload new Payload = new
 to_payload new f = None
 
--- a redactor overwrites its patterns in the payload, lets every packet pass, and stays as it is
+-- a redactor overwrites its patterns in the payload, passes every packet, and stays unchanged
 abbrev pub redactor_step : Redactor → Shown → Step Redactor
 redactor_step r shown = record { after = r; verdict = Pass; written = to_payload (redacted_payload r.patterns (shown.values Payload)) }
 

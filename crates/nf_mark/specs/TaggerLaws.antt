@@ -12,7 +12,7 @@ there None old absent = refl
 there (Some c) None absent = refl
 there (Some c) (Some tags) absent = absurd (true≢false absent)
 
--- a tag more before whole tags makes whole tags
+-- one more tag before whole tags makes whole tags
 one_more : (c : ℕ) (tags : List ℕ) → is_tag_list tags ≡ true → is_tag_list (tag_of c ++ tags) ≡ true
 unfolding is_tag_list
 one_more c tags whole = whole

@@ -26,7 +26,7 @@ tagger_by said = record { rules = said }
 abbrev pub tagger_of : FunctionDecl → Tagger
 tagger_of decl = tagger_by (said_by tagger_lines decl.settings)
 
--- a customer tag: the two bytes of its identifier 0x8100 (IEEE 802.1Q, 9.5), and its control information, the high byte first
+-- a customer tag: its identifier 0x8100 (IEEE 802.1Q, 9.5), and its control information, the high byte first
 abbrev pub tag_of : ℕ → List ℕ
 tag_of control = 0x81 ∷ 0x00 ∷ to_be_bytes w16 control
 
@@ -34,15 +34,15 @@ tag_of control = 0x81 ∷ 0x00 ∷ to_be_bytes w16 control
 unfoldable pub control_for : Tagger → Seen → Option ℕ
 control_for t seen = option_map (λ rule. rule.control) (first_met (λ rule. rule.fit) seen t.rules)
 
--- the same for a packet that has a place for tags, none where it gets no tag
+-- the same for a packet that has a place for tags, none if it gets no tag
 abbrev pub new_control : Tagger → Shown → Option ℕ
 new_control t shown = if shown.has Tag then control_for t (seen_by shown.values shown.fixed.proto) else None
 
--- the tags with one more, the outermost, which stands first
+-- the tags with one more, the outermost, which is first
 abbrev pub tagged : Option ℕ → Option (List ℕ) → Option (List ℕ)
 tagged control old = option_and_then (λ c. option_map (λ tags. tag_of c ++ tags) old) control
 
--- nothing else is written, every packet passes, and a tagger stays as it is
+-- nothing else is written, every packet passes, and a tagger stays unchanged
 abbrev pub tagger_step : Tagger → Shown → Step Tagger
 tagger_step t shown = record { after = t; verdict = Pass; written = only Tag (tagged (new_control t shown) (shown.values Tag)) }
 

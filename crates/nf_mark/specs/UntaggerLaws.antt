@@ -12,7 +12,7 @@ there : (old : Option (List ℕ)) → is_some old ≡ false → untagged old ≡
 there None absent = refl
 there (Some bytes) absent = absurd (true≢false absent)
 
--- what is left of whole tags are whole tags
+-- the rest of whole tags is whole tags
 left_whole : (tags : List ℕ) → is_tag_list tags ≡ true → is_tag_list (drop 4 tags) ≡ true
 unfolding is_tag_list
 left_whole [] whole = whole

@@ -13,7 +13,7 @@ use Rattle.nf_mark.specs.declared.untagger.Untagger.{Untagger}
 use Rattle.nf_mark.specs.NoLines.{no_lines}
 use Rattle.nf_mark.specs.OneField.{only}
 
--- all untaggers are alike
+-- all untaggers are equal
 abbrev pub untagger_by : List NoLine → Untagger
 untagger_by said = record {}
 
@@ -21,12 +21,12 @@ untagger_by said = record {}
 abbrev pub untagger_of : FunctionDecl → Untagger
 untagger_of decl = untagger_by (said_by no_lines decl.settings)
 
--- the tags without the outermost, which stands first and has four bytes (IEEE 802.1Q, 9.3); none where there is no tag
+-- the tags without the outermost, which is first and has four bytes (IEEE 802.1Q, 9.3); none if there is no tag
 abbrev pub untagged : Option (List ℕ) → Option (List ℕ)
 untagged None = None
 untagged (Some tags) = if length tags == 0 then None else Some (drop 4 tags)
 
--- nothing else is written, every packet passes, and an untagger stays as it is
+-- nothing else is written, every packet passes, and an untagger stays unchanged
 abbrev pub untagger_step : Untagger → Shown → Step Untagger
 untagger_step u shown = record { after = u; verdict = Pass; written = only Tag (untagged (shown.values Tag)) }
 

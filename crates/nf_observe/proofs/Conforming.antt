@@ -6,7 +6,7 @@ use Rattle.nf_observe.specs.Buckets.{tokens_of, full, filled, affords, paid}
 use Rattle.nf_observe.specs.Spending.{Arrival, bytes_paid, bytes_of, IsCovered, IsConforming}
 use Rattle.nf_observe.specs.declared.bucket.TokenBucket.{TokenBucket}
 
--- what two coverings give a third for each packet, they give it for all
+-- if two coverings give a third for each packet, they give it for all
 moved : (rate : ℕ) (k1 m1 s1 k2 m2 s2 k3 m3 s3 : ℕ) →
     ((time bytes : ℕ) → tokens_of (s1 + bytes) ≤ k1 + (time - m1) * rate → tokens_of (s2 + bytes) ≤ k2 + (time - m2) * rate → tokens_of (s3 + bytes) ≤ k3 + (time - m3) * rate) →
     (packets : List Arrival) → IsCovered rate k1 m1 s1 packets → IsCovered rate k2 m2 s2 packets → IsCovered rate k3 m3 s3 packets

@@ -12,7 +12,7 @@ use Rattle.nf_observe.specs.Counting.{Sight, flows_with, counts_of, of_flow, tot
 use Rattle.nf_observe.specs.declared.flow.FiveTuple.{FiveTuple}
 use Rattle.nf_observe.specs.declared.flow.FlowCounts.{FlowCounts}
 
--- what is noted of a flow is found
+-- what is noted for a flow is found
 abbrev IsFound : Type 0
 IsFound = (flows : List (FiveTuple × FlowCounts)) (flow asked : FiveTuple) (counts : FlowCounts) →
     belonging is_same_flow (noted is_same_flow flows flow counts) asked ≡ (if is_same_flow asked flow then Some counts else belonging is_same_flow flows asked)

@@ -1,4 +1,4 @@
--- What comes from one source changes its own bucket alone.
+-- Packets from one source change its own bucket alone.
 use Rattle.std.proofs.Common.{◌≡◌, ◌∙◌, ℕ, List, Bool, true, false, Option, Some, refl, ap, subst}
 use Rattle.std.specs.Prelude.{if◌then◌else◌}
 use Rattle.std.specs.Option.{option_map_or}
@@ -20,7 +20,7 @@ IsFoundBy eq = (seen : List (IpAddr × TokenBucket)) (key asked : IpAddr) (value
 abbrev pub IsFound : Type 0
 IsFound = IsFoundBy is_same_address
 
--- how the code compares addresses is whether they are the same
+-- the code's comparison of addresses decides whether they are the same
 agrees : (a b : IpAddr) → addresses.ghosts.eq a b ≡ is_same_address a b
 agrees (V4 a) (V4 b) = refl
 agrees (V4 a) (V6 b) = refl

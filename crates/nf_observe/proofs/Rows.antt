@@ -1,4 +1,4 @@
--- Worked rows: what a monitor counts and tells of a few packets, and how a limiter is set up and judges.
+-- Worked rows: what a monitor counts and reports for a few packets, and how a limiter is configured and judges.
 use Rattle.std.proofs.Common.{◌≡◌, ◌-◌, ◌^◌, List, [], ◌∷◌, refl}
 use Rattle.std.specs.Prelude.{ℕ, Some, None, codes, filter_map}
 use Rattle.std.specs.Fmt.{digits}
@@ -50,11 +50,11 @@ without_ports = record { proto = 17; source = record { address = ten; port = Non
 abbrev flows_seen : List (FiveTuple × FlowCounts)
 flows_seen = (with_ports, record { packets = 2; bytes = 104 }) ∷ (without_ports, record { packets = 1; bytes = 65535 }) ∷ []
 
--- a new flow goes last, a known one keeps its place, and an absent port is like no number
+-- a new flow goes last, a known one keeps its place, and an absent port never equals a number
 counts_flows : flows_after (flows_after (flows_after (monitor_by []).flows (Some with_ports) (Some 20)) (Some without_ports) (Some 65535)) (Some with_ports) (Some 84) ≡ flows_seen
 counts_flows = refl
 
--- a packet without a protocol, an address or a length counts nowhere
+-- a packet without a protocol, an address or a length isn't counted
 skips_others : flows_after (flows_after flows_seen None (Some 20)) (Some with_ports) None ≡ flows_seen
 skips_others = refl
 
@@ -69,11 +69,11 @@ values_6 SrcPort = Some (3 ∷ 232 ∷ [])
 values_6 DstPort = Some (0 ∷ 53 ∷ [])
 values_6 field = None
 
--- from the address of IPv6 that is the same number as 10.1.2.3, else like the flow from there
+-- from the IPv6 address that is the same number as 10.1.2.3, otherwise like the flow from there
 abbrev from_ten_6 : FiveTuple
 from_ten_6 = record with_ports { source = record { address = as_ten; port = Some 53 } }
 
--- sixteen bytes are an address of IPv6, and four one of IPv4
+-- sixteen bytes are an IPv6 address, and four an IPv4 address
 sees_flow : flow_of values_6 (Some 17) ≡ Some of_version_6
 sees_flow = refl
 
@@ -86,7 +86,7 @@ parts_versions = refl
 stops : with_packet (record { packets = 2 ^ 64 - 1; bytes = 2 ^ 64 - 2 }) 20 ≡ record { packets = 2 ^ 64 - 1; bytes = 2 ^ 64 - 1 }
 stops = refl
 
--- an absent port is told as `-`, and port 0 as a number
+-- an absent port is reported as `-`, and port 0 as a number
 tells_absent_port : endpoint_text without_ports.source ≡ codes "10.1.2.3 -"
 unfolding endpoint_text dotted digits ipv4_bits
 tells_absent_port = refl
@@ -95,7 +95,7 @@ tells_port : endpoint_text with_ports.destination ≡ codes "192.168.0.255 0"
 unfolding endpoint_text dotted digits ipv4_bits
 tells_port = refl
 
--- an address of IPv6 is told by all of its eight groups
+-- an IPv6 address is reported with all of its eight groups
 tells_flow : flow_line of_version_6 (record { packets = 1; bytes = 48 }) ≡ codes "  flow 17 2001:db8:0:0:0:0:0:1 1000 2001:db8:0:0:0:0:0:2 53 packets 1 bytes 48\n"
 unfolding flow_line endpoint_text hex digits
 tells_flow = refl
@@ -115,7 +115,7 @@ with_bucket tokens moment = record limiter { sources = (ten, record { tokens = t
 abbrev said_lines : List ℕ → List ℕ → List LimiterLine
 said_lines rate burst = filter_map line_of ((codes "set" ∷ codes "rate" ∷ rate ∷ []) ∷ (codes "set" ∷ codes "burst" ∷ burst ∷ []) ∷ [])
 
--- both settings are read; 0 and what is more than 32 bits are refused
+-- both settings are read; 0 and numbers of more than 32 bits are refused
 reads_settings : limiter_by (said_lines (codes "1000") (codes "01500")) ≡ limiter
 unfolding line_of
 reads_settings = refl
@@ -132,7 +132,7 @@ refuses_wide = refl
 pays_burst : limited limiter ten 1500 5 ≡ record { after = with_bucket 0 5; verdict = Pass; written = nothing }
 pays_burst = refl
 
--- in a millisecond comes one byte, which is not enough for two; the bucket is filled all the same
+-- a millisecond brings one byte, which is not enough for two; the bucket is still filled by it
 drops_two : limited (with_bucket 0 5) ten 2 1000005 ≡ record { after = with_bucket 1000000000 1000005; verdict = Drop; written = nothing }
 drops_two = refl
 
@@ -144,7 +144,7 @@ stays_filled = refl
 fills_up : filled 1000 1500 (2 ^ 64 - 1) (record { tokens = 3; moment = 0 }) ≡ full 1500 (2 ^ 64 - 1)
 fills_up = refl
 
--- what one source spends, another doesn't lack, and a new source stands last
+-- what one source spends, another doesn't lack, and a new source is last
 abbrev two_sources : IpAddr → Limiter
 two_sources other = record limiter { sources = (ten, record { tokens = 0; moment = 5 }) ∷ (other, record { tokens = 500000000000; moment = 6 }) ∷ [] }
 

@@ -1,4 +1,4 @@
--- A bucket pays for no more than it had and what came.
+-- A bucket pays for no more than it had and what came in.
 use Rattle.std.proofs.Common.{◌≡◌, ◌≤◌, ◌+◌, ◌-◌, ◌*◌, ◌∙◌, ℕ, List, [], ◌∷◌, ◌++◌, refl, sym, ap, subst, arith}
 use Rattle.std.proofs.Math.Nat.{add-mul, mul-le-mul_right}
 use Rattle.std.specs.Prelude.{if◌then◌else◌}
@@ -45,7 +45,7 @@ holds_no_more rate burst b (p ∷ later) few =
     let now = filled rate burst p.0 b in
     holds_no_more rate burst (paid now p.1) later (omega (arith, fills_no_more rate burst p.0 b few, pays_no_less now p.1))
 
--- packets in two lots are packets in a row
+-- packets in two groups are packets in a row
 in_a_row : (rate burst : ℕ) (b : TokenBucket) (earlier packets : List Arrival) → left_by rate burst b (earlier ++ packets) ≡ left_by rate burst (left_by rate burst b earlier) packets
 in_a_row rate burst b [] packets = refl
 in_a_row rate burst b (p ∷ earlier) packets = in_a_row rate burst (paid (filled rate burst p.0 b) p.1) earlier packets

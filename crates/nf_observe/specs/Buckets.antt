@@ -6,7 +6,7 @@ use Rattle.nf_observe.specs.declared.bucket.TokenBucket.{TokenBucket}
 abbrev pub tokens_of : ℕ → ℕ
 tokens_of bytes = bytes * 1000000000
 
--- a full bucket, which holds the tokens of so many bytes
+-- a full bucket, which holds the tokens of this number of bytes
 abbrev pub full : ℕ → ℕ → TokenBucket
 full burst time = record { tokens = tokens_of burst; moment = time }
 
@@ -15,10 +15,10 @@ abbrev pub filled : ℕ → ℕ → ℕ → TokenBucket → TokenBucket
 filled rate burst time b =
     if nat_lt b.moment time then record { tokens = min (tokens_of burst) (b.tokens + (time - b.moment) * rate); moment = time } else b
 
--- it has the tokens of so many bytes
+-- it has the tokens of this number of bytes
 abbrev pub affords : TokenBucket → ℕ → Bool
 affords b bytes = nat_le (tokens_of bytes) b.tokens
 
--- the bucket once it paid for so many bytes, where it can
+-- the bucket after it paid for this number of bytes, if it can
 abbrev pub paid : TokenBucket → ℕ → TokenBucket
 paid b bytes = if affords b bytes then record b { tokens = b.tokens - tokens_of bytes } else b

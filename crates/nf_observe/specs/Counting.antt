@@ -1,4 +1,4 @@
--- For proofs: what is counted of a flow, over packets in a row.
+-- For proofs: what is counted for a flow, over packets in a row.
 use Rattle.std.specs.Prelude.{ℕ, List, length, filter, fold, unwrap_or}
 use Rattle.std.specs.List.{sum_by}
 use Rattle.first_sight.specs.FirstSight.{belonging}
@@ -11,11 +11,11 @@ use Rattle.nf_observe.specs.declared.flow.FlowCounts.{FlowCounts}
 abbrev pub Sight : Type 0
 Sight = FiveTuple × ℕ
 
--- the flows once these packets were counted
+-- the flows after these packets were counted
 abbrev pub flows_with : List (FiveTuple × FlowCounts) → List Sight → List (FiveTuple × FlowCounts)
 flows_with flows packets = fold (λ l p. counted l p.0 p.1) flows packets
 
--- what is counted of a flow
+-- what is counted for a flow
 abbrev pub counts_of : List (FiveTuple × FlowCounts) → FiveTuple → FlowCounts
 counts_of flows flow = unwrap_or (belonging is_same_flow flows flow) no_packets
 
@@ -23,6 +23,6 @@ counts_of flows flow = unwrap_or (belonging is_same_flow flows flow) no_packets
 abbrev pub of_flow : FiveTuple → List Sight → List Sight
 of_flow flow packets = filter (λ p. is_same_flow flow p.0) packets
 
--- how many packets these are, and how many bytes they have
+-- the number of these packets, and the number of their bytes
 abbrev pub totals : List Sight → FlowCounts
 totals packets = record { packets = count_up_to (length packets); bytes = count_up_to (sum_by (λ p. p.1) packets) }

@@ -1,4 +1,4 @@
--- Believed: the lines that set a limiter up: `set rate N`, in bytes a second, and `set burst N`, in bytes. Both have to be there.
+-- Believed: the lines of a limiter, both required: `set rate N`, in bytes a second, and `set burst N`, in bytes.
 use Rattle.std.specs.Prelude.{ℕ, List, [], ◌∷◌, Bool, true, false, ◌==◌, if◌then◌else◌, Option, Some, None, codes}
 use Rattle.std.specs.Option.{option_map}
 use Rattle.std.specs.Str.{bytes_eq}
@@ -21,7 +21,7 @@ setting_of key amount =
     if bytes_eq key (codes "rate") then option_map (λ n. lines.Rate n) amount else
     if bytes_eq key (codes "burst") then option_map (λ n. lines.Burst n) amount else None
 
--- what a line says, none where it is no line of a limiter
+-- what a line says, none if it is no line of a limiter
 unfoldable pub line_of : List (List ℕ) → Option LimiterLine
 line_of (lead ∷ key ∷ word ∷ []) = if bytes_eq lead (codes "set") then setting_of key (amount_of word) else None
 line_of words = None
@@ -34,6 +34,6 @@ abbrev pub is_burst : LimiterLine → Bool
 is_burst (lines.Rate n) = false
 is_burst (lines.Burst n) = true
 
--- the lines of a limiter, both of which have to be there
+-- the lines of a limiter, both of which are required
 abbrev pub limiter_lines : KindLines LimiterLine
 limiter_lines = record { line_of = line_of; required = is_rate ∷ is_burst ∷ []; clashes = never_clash }

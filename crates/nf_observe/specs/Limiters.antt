@@ -1,4 +1,4 @@
--- Believed: a limiter: how it is declared, what it lets pass, and the lines that tell its state.
+-- Believed: a limiter: how it is declared, what it lets pass, and the lines that report its state.
 use Rattle.std.specs.Prelude.{ℕ, List, [], Bool, true, false, Option, Some, fold}
 use Rattle.std.specs.Option.{option_map_or}
 use Rattle.std.specs.declared.net.ip_addr.IpAddr.{IpAddr}
@@ -22,7 +22,7 @@ use Rattle.nf_observe.specs.declared.limiter.lines.LimiterLine.TheVariants as li
 abbrev pub unset_limiter : Limiter
 unset_limiter = record { rate = 0; burst = 0; sources = [] }
 
--- a limiter with what one more line says
+-- a limiter with the content of one more line
 abbrev pub with_line : Limiter → LimiterLine → Limiter
 with_line l (lines.Rate n) = record l { rate = n }
 with_line l (lines.Burst n) = record l { burst = n }
@@ -40,7 +40,7 @@ abbrev pub verdict_by : Bool → Verdict
 verdict_by true = Pass
 verdict_by false = Drop
 
--- the source's bucket pays for a packet of so many bytes at this time
+-- the source's bucket pays for a packet of this number of bytes at this time
 abbrev pub limited : Limiter → IpAddr → ℕ → ℕ → Step Limiter
 limited l source bytes time = record {
   after = record l { sources = noted is_same_address l.sources source (paid (bucket_of l source time) bytes) };
@@ -53,8 +53,8 @@ abbrev pub limited_by : Limiter → Option IpAddr → Option ℕ → ℕ → Ste
 limited_by l (Some source) (Some bytes) time = limited l source bytes time
 limited_by l source bytes time = record { after = l; verdict = Pass; written = nothing }
 
--- A limiter judges by the source and the IP length, and writes nothing. The IP length is IPv4's total length (RFC 791, 3.1), and of
--- IPv6 the 40 bytes of the header and its payload length (RFC 8200, 3).
+-- A limiter judges by the source and the IP length, and writes nothing. The IP length is IPv4's total length
+-- (RFC 791, 3.1), and for IPv6 the 40 bytes of the header and its payload length (RFC 8200, 3).
 abbrev pub limiter_step : Limiter → Shown → Step Limiter
 limiter_step l shown = limited_by l (source_address shown.values) shown.fixed.ip_len shown.fixed.time
 

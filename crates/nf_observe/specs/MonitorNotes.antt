@@ -1,4 +1,4 @@
--- For proofs: what a monitor notes of a packet, and how it settles a note; its step is both at once.
+-- For proofs: what a monitor notes about a packet, and how it settles a note; its step is both at once.
 use Rattle.std.specs.Prelude.{◌≡◌, ℕ, Option, Some, None, refl}
 use Rattle.std.proofs.Common.{ap}
 use Rattle.action_profile.specs.Profiles.{profile_of}
@@ -13,16 +13,16 @@ use Rattle.nf_observe.specs.declared.flow.FiveTuple.{FiveTuple}
 use Rattle.nf_observe.specs.declared.monitor.Monitor.{Monitor}
 use Rattle.nf_observe.specs.declared.note.FlowNote.{FlowNote}
 
--- a note, where flow and length are known
+-- a note, if flow and length are known
 abbrev pub note_by : Option FiveTuple → Option ℕ → Option FlowNote
 note_by (Some flow) (Some bytes) = Some (record { flow = flow; bytes = bytes })
 note_by flow bytes = None
 
--- the note of a packet that is shown so
+-- the note about a packet that shows this
 abbrev pub note_of : Shown → Option FlowNote
 note_of shown = note_by (flow_of shown.values shown.fixed.proto) shown.fixed.ip_len
 
--- a monitor once a note is settled: the flow has one packet more
+-- a monitor after a note is settled: the flow has one more packet
 abbrev pub settled_note : Monitor → FlowNote → Monitor
 settled_note m note = record { flows = counted m.flows note.flow note.bytes }
 

@@ -1,4 +1,4 @@
--- Believed: a monitor: how it is declared, what it counts, and the lines that tell its state.
+-- Believed: a monitor: how it is declared, what it counts, and the lines that report its state.
 use Rattle.std.specs.Prelude.{ℕ, List, [], Option, Some, None}
 use Rattle.std.specs.Option.{option_map}
 use Rattle.std.specs.declared.net.ip_addr.IpAddr.{IpAddr}
@@ -26,29 +26,29 @@ monitor_lines = record { line_of = λ words. None; required = []; clashes = neve
 abbrev pub monitor_by : List MonitorLine → Monitor
 monitor_by said = record { flows = [] }
 
--- an address and a port, where the address is known
+-- an address and a port, if the address is known
 abbrev pub endpoint_by : Option IpAddr → Option ℕ → Option Endpoint
 endpoint_by address port = option_map (λ known. record { address = known; port = port }) address
 
--- the flow, where protocol and both endpoints are known
+-- the flow, if protocol and both endpoints are known
 abbrev pub flow_by : Option ℕ → Option Endpoint → Option Endpoint → Option FiveTuple
 flow_by (Some proto) (Some source) (Some destination) = Some (record { proto = proto; source = source; destination = destination })
 flow_by proto source destination = None
 
--- the flow of a packet whose fields have these values, by the protocol of the header of IPv4 (RFC 791, 3.1) or the next header of that
--- of IPv6 (RFC 8200, 3)
+-- the flow of a packet whose fields have these values, by the protocol of the IPv4 header (RFC 791, 3.1) or the next
+-- header of the IPv6 header (RFC 8200, 3)
 abbrev pub flow_of : Values → Option ℕ → Option FiveTuple
 flow_of values protocol =
     let seen = seen_by values protocol in
     flow_by protocol (endpoint_by (source_address values) seen.sport) (endpoint_by (destination_address values) seen.dport)
 
--- the flows after a packet, which is counted where its flow and its length are known
+-- the flows after a packet, which is counted if its flow and its length are known
 abbrev pub flows_after : List (FiveTuple × FlowCounts) → Option FiveTuple → Option ℕ → List (FiveTuple × FlowCounts)
 flows_after flows (Some flow) (Some bytes) = counted flows flow bytes
 flows_after flows flow bytes = flows
 
--- A monitor counts what it is shown by its IP length, passes it and writes nothing. The IP length is IPv4's total length (RFC 791, 3.1),
--- and of IPv6 the 40 bytes of the header and its payload length (RFC 8200, 3).
+-- A monitor counts a packet by its IP length, passes it and writes nothing. The IP length is IPv4's total length
+-- (RFC 791, 3.1), and for IPv6 the 40 bytes of the header and its payload length (RFC 8200, 3).
 abbrev pub monitor_step : Monitor → Shown → Step Monitor
 monitor_step m shown = record {
   after = record { flows = flows_after m.flows (flow_of shown.values shown.fixed.proto) shown.fixed.ip_len };

@@ -5,8 +5,8 @@ use Rattle.first_sight.specs.SameAddress.{is_same_address}
 use Rattle.nf_observe.specs.declared.flow.Endpoint.{Endpoint}
 use Rattle.nf_observe.specs.declared.flow.FiveTuple.{FiveTuple}
 
--- addresses and ports are the same: an address of one version of IP is like none of the other, and a port that is absent is like no
--- number
+-- Addresses and ports are the same. An address of one version of IP never equals one of the other, and an absent port
+-- never equals a number.
 abbrev pub is_same_endpoint : Endpoint → Endpoint → Bool
 is_same_endpoint a b = is_same_address a.address b.address && option_eq ◌==◌ a.port b.port
 

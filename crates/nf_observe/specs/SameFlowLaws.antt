@@ -20,7 +20,7 @@ same_endpoint = and_equiv (on_equiv (λ (e : Endpoint). e.address) same_address)
 pub same_flow : IsEquivalence is_same_flow
 same_flow = and_equiv (and_equiv (on_equiv (λ (t : FiveTuple). t.proto) nat_eq_equiv) (on_equiv (λ (t : FiveTuple). t.source) same_endpoint)) (on_equiv (λ (t : FiveTuple). t.destination) same_endpoint)
 
--- what a hasher is fed of an endpoint
+-- what a hasher is fed for an endpoint
 abbrev pub flow_end_writes : Endpoint → HashWrites
 flow_end_writes e = endpoint_writes e.address (unwrap_or e.port 0)
 

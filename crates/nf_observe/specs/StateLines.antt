@@ -1,4 +1,4 @@
--- Believed: the lines that tell a state.
+-- Believed: the lines that report a state.
 use Rattle.std.specs.Prelude.{ℕ, List, [], ◌∷◌, Option, codes}
 use Rattle.std.specs.Fmt.{decimal}
 use Rattle.std.specs.Option.{option_map_or}
@@ -10,7 +10,7 @@ use Rattle.nf_observe.specs.declared.flow.Endpoint.{Endpoint}
 use Rattle.nf_observe.specs.declared.flow.FiveTuple.{FiveTuple}
 use Rattle.nf_observe.specs.declared.flow.FlowCounts.{FlowCounts}
 
--- a port, and `-` where it is absent
+-- a port, and `-` if it is absent
 abbrev pub port_text : Option ℕ → List ℕ
 port_text port = option_map_or decimal port (codes "-")
 

@@ -1,4 +1,4 @@
--- For proofs: the lines that tell a state, each by itself.
+-- For proofs: the lines that report a state, each by itself.
 use Rattle.std.specs.Prelude.{ℕ, List}
 use Rattle.first_sight.specs.Lines.{rows_by}
 use Rattle.nf_observe.specs.StateLines.{flow_line, source_line}

@@ -81,7 +81,7 @@ again_written : (step twice first).written DstIp ≡ Some (10 ∷ 0 ∷ 1 ∷ 1 
 unfolding line_of declared step twice once first other packet tcp
 again_written = refl
 
--- a packet to another address goes on as it is, and is no flow
+-- a packet to another address goes on unchanged, and is no flow
 passed_by : (step once (packet (192 ∷ 168 ∷ 0 ∷ 9 ∷ []) (1 ∷ 0 ∷ []) (10 ∷ 0 ∷ 0 ∷ 2 ∷ []))).written DstIp ≡ None
 unfolding line_of declared step once first packet tcp
 passed_by = refl
@@ -126,7 +126,7 @@ one_line6 : flow_lines (step6 first6).after ≡ codes "  flow 17 2001:db8:0:0:0:
 unfolding line_of address6_of declared6 step6 first6 address6 packet udp flow_line digits hex
 one_line6 = refl
 
--- a packet to an address that has the same first eight bytes goes on as it is
+-- a packet to an address that has the same first eight bytes goes on unchanged
 passed_by6 : (step6 (packet (address6 1) (3 ∷ 232 ∷ []) (address6 3))).written DstIp ≡ None
 unfolding line_of address6_of declared6 step6 address6 packet udp
 passed_by6 = refl
@@ -150,7 +150,7 @@ other_version6 : refused_lines balancer_lines (lines (vip 4 (codes "2001:db8::2"
 unfolding line_of address6_of lines vip backend
 other_version6 = refl
 
--- so is one that stands before the virtual address
+-- so is one before the virtual address
 backend_before : refused_lines balancer_lines (lines (backend 4 (codes "2001:db8::9") ∷ backend 5 (codes "10.0.1.1") ∷ vip 6 (codes "10.0.0.1") ∷ [])) ≡ 4 ∷ []
 unfolding line_of address6_of lines vip backend
 backend_before = refl
@@ -160,7 +160,7 @@ first_counts : refused_lines balancer_lines (lines (vip 4 (codes "10.0.0.1") ∷
 unfolding line_of address6_of lines vip backend
 first_counts = refl
 
--- without a virtual address that can be read, no backend is refused, but the `fn` line is
+-- without a valid virtual address, no backend is refused, but the `fn` line is
 unread : refused_lines balancer_lines (lines (vip 4 (codes "10.0.0") ∷ backend 5 (codes "10.0.1.1") ∷ backend 6 (codes "2001:db8::9") ∷ [])) ≡ 4 ∷ 3 ∷ []
 unfolding line_of address6_of lines vip backend
 unread = refl

@@ -1,4 +1,4 @@
--- A balancer that may stand has a backend.
+-- A balancer that is accepted has a backend.
 use Rattle.std.proofs.Common.{◌≡◌, ◌<◌, List, [], ◌∷◌, ◌++◌, length, true, false, refl, ap, arith, rules}
 use Rattle.std.specs.Prelude.{filter_map}
 use Rattle.std.specs.List.{list_any}
@@ -14,7 +14,7 @@ come [] h = absurd cc
 come (lines.VirtualAddress a ∷ said) h = come said h
 come (lines.Backend a ∷ said) h = omega arith
 
--- one more line adds its backend, where it has one
+-- one more line adds its backend, if it has one
 pub one_more : (said : List BalancerLine) (line : BalancerLine) → filter_map backend_in (said ++ line ∷ []) ≡ filter_map backend_in said ++ option_to_list (backend_in line)
 one_more [] (lines.VirtualAddress a) = refl
 one_more [] (lines.Backend a) = refl

@@ -24,7 +24,7 @@ same_is a b h =
 one_more : (place : ℕ) → suc place ≡ 1 + place
 one_more place = omega arith
 
--- what was known stands in front of what is known later
+-- what was known is in front of what is known later
 pub record IsLater {K : Type 0} (known later : List K) : Type 0 where
   pub more : List K
   pub is : later ≡ known ++ more
@@ -33,7 +33,7 @@ module _ {K : Type 0} where
   pub same_later : (known : List K) → IsLater known known
   same_later known = record { more = []; is = sym (append-nil known) }
 
-  -- a key stands at its place once it was seen
+  -- a key is at its place after it was seen
   found : (b c : Bool) (x e : K) (known more : List K) (place : ℕ) → (b ≡ true → x ≡ e) → slice_get (if c then known else more) place ≡ Some e → slice_get (if b || c then x ∷ known else x ∷ more) (cond (not b) (1 + place) 0) ≡ Some e
   found true c x e known more place same h = ap Some (same refl)
   found false true x e known more place same h = subst (λ k. slice_get (x ∷ known) k ≡ Some e) (one_more place) h
@@ -56,7 +56,7 @@ module _ {K : Type 0} (eq : K → K → Bool) where
       by true h rest = refl
       by false h rest = rest h
 
-  -- one that isn't known is behind the others, and one that is known among them
+  -- one that isn't known comes after the others, and one that is known is among them
   pub new_place : (known : List K) (e : K) → is_seen eq known e ≡ false → place_of eq known e ≡ length known
   new_place [] e h = refl
   new_place (x ∷ known) e h = by (eq e x) h (new_place known e)
@@ -80,7 +80,7 @@ module _ {K : Type 0} (eq : K → K → Bool) where
       by true = same_later known
       by false = record { more = e ∷ []; is = refl }
 
-  -- how many are known once one was seen
+  -- the number of known keys after one was seen
   pub seen_length : (known : List K) (e : K) (most : ℕ) → length known ≤ most → place_of eq known e < most → length (seen_with eq known e) ≤ most
   seen_length known e most before inside = by (is_seen eq known e) refl
     where
@@ -111,7 +111,7 @@ module _ {K : Type 0} (eq : K → K → Bool) where
         by true h = h
         by false h = last_known known e
 
-  -- and stands at its place, if keys that are the same are equal
+  -- and is at its place, if keys that are the same are equal
   module _ (same : (a b : K) → eq a b ≡ true → a ≡ b) where
     pub at_place : (known : List K) (e : K) → slice_get (seen_with eq known e) (place_of eq known e) ≡ Some e
     at_place [] e = refl

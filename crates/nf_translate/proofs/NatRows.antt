@@ -92,7 +92,7 @@ second_port : (step once 6 (leaves 6)).written SrcPort ≡ Some (15 ∷ 161 ∷ 
 unfolding line_of declared step once leaves packet with_protocol
 second_port = refl
 
--- an endpoint that is known keeps its port, and a third finds none left
+-- a known endpoint keeps its port, and a third finds none left
 again_port : (step twice 6 (leaves 5)).written SrcPort ≡ Some (15 ∷ 160 ∷ [])
 unfolding line_of declared step twice once leaves packet with_protocol
 again_port = refl
@@ -101,7 +101,7 @@ none_left : (step twice 6 (leaves 7)).verdict ≡ Drop
 unfolding line_of declared step twice once leaves packet with_protocol
 none_left = refl
 
--- what returns comes to the endpoint that has the port, if it is of its protocol
+-- a reply goes to the endpoint that has the port, if it is of its protocol
 back_address : (step twice 6 returns).written DstIp ≡ Some (10 ∷ 0 ∷ 0 ∷ 5 ∷ [])
 unfolding line_of declared step twice once leaves returns packet with_protocol
 back_address = refl
@@ -118,7 +118,7 @@ nobody_there : (step (nat_of declared) 6 returns).verdict ≡ Drop
 unfolding line_of declared step returns packet with_protocol
 nobody_there = refl
 
--- a packet of IPv6, here from 2001:db8::1 to 2001:db8::2 (RFC 3849), passes as it is
+-- a packet of IPv6, here from 2001:db8::1 to 2001:db8::2 (RFC 3849), passes unchanged
 address6 : ℕ → List ℕ
 address6 host = 32 ∷ 1 ∷ 13 ∷ 184 ∷ 0 ∷ 0 ∷ 0 ∷ 0 ∷ 0 ∷ 0 ∷ 0 ∷ 0 ∷ 0 ∷ 0 ∷ 0 ∷ host ∷ []
 

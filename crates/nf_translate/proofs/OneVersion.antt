@@ -39,7 +39,7 @@ as_many (V4 a) (V6 b) ha hb h = absurd (true≢false (sym h))
 as_many (V6 a) (V4 b) ha hb h = absurd (true≢false (sym h))
 as_many (V6 a) (V6 b) ha hb h = hb ∙ sym ha
 
--- so has each that a line says
+-- so has each that a line gives
 abbrev IsWholeLine : BalancerLine → Type 0
 IsWholeLine (lines.VirtualAddress a) = IsWhole a
 IsWholeLine (lines.Backend a) = IsWhole a
@@ -67,7 +67,7 @@ line_whole (lead ∷ key ∷ text ∷ []) = by (bytes_eq lead (codes "set")) (by
     by false false vip backend address whole = tt
 line_whole (lead ∷ key ∷ text ∷ more ∷ words) = tt
 
--- where no line is the least, there is none
+-- if no line is the least, there is none
 some_stays : (k : ℕ) (ns : List ℕ) → fold lesser (Some k) ns ≡ None → ⊥
 some_stays k [] e = cc
 some_stays k (n ∷ ns) e = some_stays (min k n) ns e
@@ -159,7 +159,7 @@ pub keeps_settings : (b : PlainBalancer) (destination : Option (List ℕ)) (flow
 keeps_settings b destination None = refl
 keeps_settings b destination (Some flow) = refl
 
--- as many segments as pairs of bytes, and the other way round
+-- there are as many segments as pairs of bytes, and conversely
 pairs : (bytes : List ℕ) (n : ℕ) → length bytes ≡ n + n → length (segments_of bytes) ≡ n
 pairs [] n h = omega (arith, h)
 pairs (a ∷ []) n h = absurd (omega (arith, h))

@@ -1,4 +1,4 @@
--- Flows keep their backends, packets come back, and ports run out once all are taken.
+-- Flows keep their backends, replies come back, and ports run out after all are taken.
 use Rattle.std.proofs.Common.{◌≡◌, ◌<◌, ◌≤◌, ◌+◌, ◌-◌, ◌*◌, ◌∙◌, ℕ, zero, suc, List, [], ◌∷◌, ◌++◌, length, Bool, true, false, Option, Some, None, slice_get, slice_index_or, refl, sym, ap, arith}
 use Rattle.std.specs.Prelude.{if◌then◌else◌, nat_le, ◌==◌}
 use Rattle.std.specs.Option.{option_and_then}
@@ -27,7 +27,7 @@ pub keeps_backend : (flow : Client) (b : PlainBalancer) (destination : Option (L
 keeps_backend flow b destination None known = record { known = known; backend = refl }
 keeps_backend flow b destination (Some other) known = keeps_by flow b (with_client b.flows other) (seen_later is_same_client b.flows other) known
 
--- a translation as it is later: what was mapped stands in front
+-- a translation at a later time: what was mapped is in front
 record IsLaterNat (n later : PlainNat) : Type 0 where
   settings : later.settings ≡ n.settings
   mappings : IsLater n.mappings later.mappings
@@ -145,7 +145,7 @@ given_once n a b port ha hb pa pb =
 pub takes_turn : (b : PlainBalancer) (destination : Option (List ℕ)) (flow : Client) → is_known_client b.flows flow ≡ false → (balanced b destination (Some flow)).written ≡ to_address (backend_at b.settings (length b.flows)) destination
 takes_turn b destination flow new = ap (λ place. to_address (backend_at b.settings place) destination) (new_place is_same_client b.flows flow new)
 
--- as they are listed
+-- in the order of the list
 item_at : {X : Type 0} (items : List X) (place : ℕ) (other : X) → place < length items → slice_get items place ≡ Some (slice_index_or items place other)
 item_at [] place other inside = absurd (omega (arith, inside))
 item_at (x ∷ items) zero other inside = refl

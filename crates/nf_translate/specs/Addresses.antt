@@ -16,7 +16,7 @@ address_bytes address = to_be_bytes w32 address
 abbrev pub port_bytes : ℕ → List ℕ
 port_bytes port = to_be_bytes w16 port
 
--- the bytes of an address of either version, the highest first: four of IPv4 (RFC 791, 3.1), sixteen of IPv6 (RFC 8200, 3)
+-- the bytes of an address, the highest first: four for IPv4 (RFC 791, 3.1), sixteen for IPv6 (RFC 8200, 3)
 abbrev pub ip_address_bytes : IpAddr → List ℕ
 ip_address_bytes (V4 address) = ipv4_octets address
 ip_address_bytes (V6 address) = ipv6_octets address
@@ -27,13 +27,13 @@ is_same_version (V4 a) (V4 b) = true
 is_same_version (V6 a) (V6 b) = true
 is_same_version a b = false
 
--- the address of IPv4 that is this number of 32 bits, and that of IPv6 that is this number of 128 bits
+-- the IPv4 address that is this number of 32 bits, and the IPv6 address that is this number of 128 bits
 abbrev pub ipv4_address : ℕ → IpAddr
 ipv4_address bits = V4 (record { octets = to_be_bytes w32 bits })
 
 abbrev pub ipv6_address : ℕ → IpAddr
 ipv6_address bits = V6 (record { segments = segments_of (to_be_bytes w128 bits) })
 
--- the address of either version that a text spells: none is both, since one of IPv6 has a colon (RFC 4291, 2.2)
+-- the address of either version that a text spells; no text spells both, since IPv6 has a colon (RFC 4291, 2.2)
 abbrev pub ip_address_of : List ℕ → Option IpAddr
 ip_address_of text = option_or (option_map ipv4_address (address_of text)) (option_map ipv6_address (address6_of text))

@@ -33,7 +33,7 @@ unwritten b destination (Some flow) SrcPort other = refl
 unwritten b destination (Some flow) DstPort other = refl
 unwritten b destination (Some flow) Payload other = refl
 
--- a packet without a destination is written none
+-- to a packet without a destination none is written
 unsent : (b : PlainBalancer) (destination : Option (List ℕ)) (flow : Option Client) → is_some destination ≡ false → (balanced b destination flow).written DstIp ≡ None
 unsent b destination None absent = refl
 unsent b None (Some flow) absent = refl

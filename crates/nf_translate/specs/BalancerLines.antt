@@ -1,5 +1,5 @@
--- Believed: the lines that set a balancer up: `set vip` with an address, once, and `rule backend` with an address of the same version of IP, at
--- least once.
+-- Believed: the lines of a balancer: `set vip` with an address, once, and `rule backend` with an address of the same
+-- version of IP, at least once.
 use Rattle.std.specs.Prelude.{ℕ, List, [], ◌∷◌, Bool, true, false, not, if◌then◌else◌, Option, Some, None, find, codes}
 use Rattle.std.specs.Option.{option_map, option_map_or, option_and_then}
 use Rattle.std.specs.Str.{bytes_eq}
@@ -16,7 +16,7 @@ virtual_address_of key text = if bytes_eq key (codes "vip") then option_map (λ 
 abbrev pub backend_of : List ℕ → List ℕ → Option BalancerLine
 backend_of key text = if bytes_eq key (codes "backend") then option_map (λ address. lines.Backend address) (ip_address_of text) else None
 
--- what a line says, none where it is no line of a balancer
+-- what a line says, none if it is no line of a balancer
 unfoldable pub line_of : List (List ℕ) → Option BalancerLine
 line_of (lead ∷ key ∷ text ∷ []) =
     if bytes_eq lead (codes "set") then virtual_address_of key text else
@@ -45,11 +45,11 @@ backend_in line = None
 abbrev pub virtual_address_by : List BalancerLine → Option IpAddr
 virtual_address_by said = option_and_then virtual_in (find is_virtual_address said)
 
--- a backend can't stand beside a virtual address of the other version of IP
+-- a backend can't be beside a virtual address of the other version of IP
 abbrev pub clashes : List BalancerLine → BalancerLine → Bool
 clashes said (lines.Backend address) = option_map_or (λ virtual. not (is_same_version virtual address)) (virtual_address_by said) false
 clashes said line = false
 
--- the lines of a balancer: the virtual address and some backend have to be there
+-- the lines of a balancer: the virtual address and some backend are required
 abbrev pub balancer_lines : KindLines BalancerLine
 balancer_lines = record { line_of = line_of; required = is_virtual_address ∷ is_backend ∷ []; clashes = clashes }

@@ -23,12 +23,12 @@ use Rattle.nf_translate.specs.Addresses.{ip_address_bytes, ipv4_address}
 use Rattle.nf_translate.specs.BalancerLines.{balancer_lines, virtual_address_by, backend_in}
 use Rattle.nf_translate.specs.Clients.{place_of, with_client, source_of}
 
--- How a balancer is set up, and the clients whose flows it has seen, in the order of first sight.
+-- How a balancer is configured, and the clients whose flows it has seen, in the order of first sight.
 pub record PlainBalancer : Type 0 where
   pub settings : BalancerSettings
   pub flows : List Client
 
--- what these lines say: 0.0.0.0 stands where no line sets the virtual address, which no declaration may leave out
+-- what these lines say: 0.0.0.0 if no line sets the virtual address, which every declaration has to set
 abbrev pub settings_by : List BalancerLine → BalancerSettings
 settings_by said = record { virtual_address = unwrap_or (virtual_address_by said) (ipv4_address 0); backends = filter_map backend_in said }
 
@@ -48,7 +48,7 @@ backend_at s place = slice_index_or s.backends (place % length s.backends) s.vir
 abbrev pub flow_of : BalancerSettings → Values → Option ℕ → Option Client
 flow_of s values proto = option_and_then (λ address. if is_same_address address s.virtual_address then source_of values proto else None) (destination_address values)
 
--- new bytes in place of those of a field, where they are as many
+-- new bytes in place of those of a field, if they are as many
 abbrev pub in_place_of : Option (List ℕ) → List ℕ → Option (List ℕ)
 in_place_of (Some old) new = if length new == length old then Some new else None
 in_place_of None new = None
@@ -58,7 +58,7 @@ abbrev pub to_address : IpAddr → Option (List ℕ) → Values
 to_address address destination DstIp = in_place_of destination (ip_address_bytes address)
 to_address address destination f = None
 
--- a packet of a flow goes to the flow's backend, and any other goes on as it is
+-- a packet of a flow goes to the flow's backend, and any other goes on unchanged
 abbrev pub balanced : PlainBalancer → Option (List ℕ) → Option Client → Step PlainBalancer
 balanced b destination (Some flow) = record { after = record b { flows = with_client b.flows flow }; verdict = Pass; written = to_address (backend_at b.settings (place_of b.flows flow)) destination }
 balanced b destination None = record { after = b; verdict = Pass; written = nothing }
@@ -74,6 +74,6 @@ balancer_behaviour = record { profile = λ b. profile_of kinds.Balancer; step = 
 unfoldable pub flow_line : BalancerSettings → ℕ → Client → List ℕ
 flow_line s place flow = line_of (codes "  flow " ∷ decimal flow.proto ∷ codes " " ∷ address_text flow.address ∷ codes " " ∷ decimal flow.port ∷ codes " backend " ∷ address_text (backend_at s place) ∷ [])
 
--- the lines in which a balancer tells its flows
+-- the lines in which a balancer reports its flows
 abbrev pub flow_lines : PlainBalancer → List ℕ
 flow_lines b = lines_by (flow_line b.settings) b.flows

@@ -15,7 +15,7 @@ use Rattle.nf_translate.specs.declared.client.Client.{Client}
 pub same_client : IsEquivalence is_same
 same_client = and_equiv (on_equiv (λ (c : Client). c.proto) nat_eq_equiv) (and_equiv (on_equiv (λ (c : Client). c.address) same_address) (on_equiv (λ (c : Client). c.port) nat_eq_equiv))
 
--- what a hasher is fed of a client
+-- what a hasher is fed for a client
 abbrev pub client_writes : Client → HashWrites
 client_writes c = fed.u8 c.proto ++ endpoint_writes c.address c.port
 

@@ -11,7 +11,7 @@ use Rattle.nf_translate.specs.declared.client.Client.{Client}
 abbrev pub is_same : Client → Client → Bool
 is_same a b = a.proto == b.proto && (is_same_address a.address b.address && a.port == b.port)
 
--- the place of a client, counted from 0; one that isn't known goes behind the others
+-- the place of a client, counted from 0; one that isn't known goes after the others
 abbrev pub place_of : List Client → Client → ℕ
 place_of known client = sight.place_of is_same known client
 
@@ -19,11 +19,11 @@ place_of known client = sight.place_of is_same known client
 abbrev pub is_known : List Client → Client → Bool
 is_known known client = sight.is_seen is_same known client
 
--- the clients that are known once this one was seen
+-- the clients that are known after this one was seen
 abbrev pub with_client : List Client → Client → List Client
 with_client known client = sight.seen_with is_same known client
 
--- a client, where its protocol, its address and its port are there
+-- a client, if its protocol, its address and its port are present
 abbrev pub client_of : Option ℕ → Option IpAddr → Option ℕ → Option Client
 client_of (Some proto) (Some address) (Some port) = Some (record { proto = proto; address = address; port = port })
 client_of proto address port = None

@@ -29,7 +29,7 @@ is_end SrcPort = true
 is_end DstPort = true
 is_end x = false
 
--- how many bytes an end's address and port have in a packet of IPv4
+-- the number of bytes of an end's address and port in an IPv4 packet
 abbrev size_of : Field → ℕ
 size_of SrcIp = 4
 size_of DstIp = 4
@@ -37,7 +37,7 @@ size_of SrcPort = 2
 size_of DstPort = 2
 size_of x = 0
 
--- nothing but the two ends is written, and each value has its field's length in a packet of IPv4
+-- only the two ends are written, and each value has its field's length in an IPv4 packet
 record IsTame (told : Step PlainNat) : Type 0 where
   others : (x : Field) → is_end x ≡ false → told.written x ≡ None
   lengths : (x : Field) → IfSome (told.written x) (λ new. length new ≡ size_of x)
@@ -111,7 +111,7 @@ tame n (Some ends) =
     either (is_within n.settings.inside n.settings.inside_bits ends.0.address) _ _ (leaving_tame n ends.0 (port_at n.settings (place_of n.mappings ends.0)))
     (either (ends.1.address == n.settings.public_address) _ _ (coming_tame n (mapped n ends.1)) (passed_tame n))
 
--- Where an address of IPv4 or a port is absent, nothing is written.
+-- If an IPv4 address or a port is absent, nothing is written.
 module _ (n : PlainNat) (tag : TagSeen) (src6 dst6 : Option ℕ) where
   -- what is done with a packet of which this is seen
   abbrev done : (proto src dst sport dport : Option ℕ) → Step PlainNat
@@ -125,7 +125,7 @@ module _ (n : PlainNat) (tag : TagSeen) (src6 dst6 : Option ℕ) where
   quiet (Some p) (Some a) (Some c) (Some b) None never x = refl
   quiet (Some p) (Some a) (Some c) (Some b) (Some d) never x = absurd (never refl refl refl refl)
 
--- what isn't there isn't seen
+-- what is absent isn't seen
 unseen_address : (bytes : Option (List ℕ)) → is_some bytes ≡ false → is_some (option_and_then (address_of 4) bytes) ≡ false
 unseen_address None absent = refl
 unseen_address (Some b) absent = absurd (true≢false absent)
@@ -140,7 +140,7 @@ port_length old None absent was is = tt
 port_length None (Some w) absent was is = absurd (let e : Some w ≡ None = absent refl in cc)
 port_length (Some o) (Some w) absent was is = is ∙ sym was
 
--- a value that is written where an address of IPv4 was seen
+-- a value that is written where an IPv4 address was seen
 in_place : (number : ℕ) (o w : List ℕ) (b : Bool) → (b ≡ true → length o ≡ 4) → (is_some (if b then Some number else None) ≡ false → Some w ≡ None) → length w ≡ 4 → length w ≡ length o
 in_place number o w true four unseen is = is ∙ sym (four refl)
 in_place number o w false four unseen is = absurd (let e : Some w ≡ None = unseen refl in cc)
@@ -154,7 +154,7 @@ module _ (fixed : Fixed) (n : PlainNat) (v : Values) where
   abbrev seen : Seen
   seen = seen_by v fixed.proto
 
-  -- where one of these isn't seen, nothing is written
+  -- if one of these isn't seen, nothing is written
   unwritten : (is_some seen.src ≡ true → is_some seen.dst ≡ true → is_some seen.sport ≡ true → is_some seen.dport ≡ true → ⊥) → (x : Field) → (stepped nat_behaviour fixed n v).written x ≡ None
   unwritten never x = quiet n Absent None None fixed.proto seen.src seen.dst seen.sport seen.dport never x
 

@@ -1,4 +1,4 @@
--- Believed: the lines that set a translation up: `set inside` with a prefix, `set public` with an address, and `set ports` with two ports and a dash between them, each once.
+-- Believed: a translation's lines: `set inside` a prefix, `set public` an address, `set ports` two ports, each once.
 use Rattle.std.specs.Prelude.{ℕ, List, [], ◌∷◌, Bool, true, false, if◌then◌else◌, ◌==◌, Option, Some, None, codes}
 use Rattle.std.specs.List.{list_any}
 use Rattle.std.specs.Option.{option_map, option_and_then}
@@ -16,14 +16,14 @@ has_dash text = list_any (λ b. b == 45) text
 abbrev pub ports_of : List ℕ → Option NatLine
 ports_of text = if has_dash text then option_and_then (λ ports. if ports.0 == 0 then None else Some (lines.Ports ports.0 ports.1)) (range_of text) else None
 
--- what is set to what
+-- what is set, and to which value
 abbrev pub value_of : List ℕ → List ℕ → Option NatLine
 value_of key text =
     if bytes_eq key (codes "inside") then option_map (λ p. lines.Inside p.0 p.1) (prefix_of text) else
     if bytes_eq key (codes "public") then option_map (λ address. lines.Public address) (address_of text) else
     if bytes_eq key (codes "ports") then ports_of text else None
 
--- what a line says, none where it is no line of a translation
+-- what a line says, none if it is no line of a translation
 unfoldable pub line_of : List (List ℕ) → Option NatLine
 line_of (lead ∷ key ∷ text ∷ []) = if bytes_eq lead (codes "set") then value_of key text else None
 line_of words = None
@@ -40,6 +40,6 @@ abbrev pub is_ports : NatLine → Bool
 is_ports (lines.Ports low high) = true
 is_ports line = false
 
--- the lines of a translation, all of which have to be there
+-- the lines of a translation, all of which are required
 abbrev pub nat_lines : KindLines NatLine
 nat_lines = record { line_of = line_of; required = is_inside ∷ is_public ∷ is_ports ∷ []; clashes = never_clash }

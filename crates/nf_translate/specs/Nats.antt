@@ -1,4 +1,4 @@
--- Believed: a translation of addresses and ports of IPv4 (RFC 3022): how it is declared, what it does as a function of a chain, and the lines of its state.
+-- Believed: a translation of IPv4 addresses and ports (RFC 3022): its declaration, its step and the lines of its state.
 use Rattle.std.specs.Prelude.{ℕ, ◌+◌, ◌-◌, List, [], ◌∷◌, slice_get, ◌==◌, nat_le, if◌then◌else◌, Option, Some, None, fold, codes}
 use Rattle.std.specs.Option.{option_and_then}
 use Rattle.std.specs.Fmt.{decimal}
@@ -23,7 +23,7 @@ use Rattle.nf_translate.specs.Addresses.{address_bytes, port_bytes}
 use Rattle.nf_translate.specs.Endpoints.{place_of, with_endpoint, ends_of}
 use Rattle.nf_translate.specs.NatLines.{nat_lines}
 
--- How a translation is set up, and the endpoints inside that have a public port, in the order of first sight.
+-- How a translation is configured, and the endpoints inside that have a public port, in the order of first sight.
 pub record PlainNat : Type 0 where
   pub settings : NatSettings
   pub mappings : List Endpoint
@@ -32,7 +32,7 @@ pub record PlainNat : Type 0 where
 abbrev pub no_settings : NatSettings
 no_settings = record { inside = 0; inside_bits = 0; public_address = 0; low = 0; high = 0 }
 
--- the settings with what one more line says
+-- the settings with the content of one more line
 abbrev pub with_line : NatSettings → NatLine → NatSettings
 with_line s (lines.Inside prefix bits) = record s { inside = prefix; inside_bits = bits }
 with_line s (lines.Public address) = record s { public_address = address }
@@ -54,7 +54,7 @@ nat_of decl = nat_by (said_by nat_lines decl.settings)
 abbrev pub public_port : NatSettings → ℕ → ℕ
 public_port s place = s.low + place
 
--- the same, where it is one of the ports that are set; past the last of them there is none left for a new mapping
+-- the same, if it is one of the ports that are set; past the last of them no port remains for a new mapping
 abbrev pub port_at : NatSettings → ℕ → Option ℕ
 port_at s place = if nat_le (public_port s place) s.high then Some (public_port s place) else None
 
@@ -62,11 +62,11 @@ port_at s place = if nat_le (public_port s place) s.high then Some (public_port 
 abbrev pub place_at : NatSettings → ℕ → Option ℕ
 place_at s port = if nat_le s.low port then Some (port - s.low) else None
 
--- the endpoint, where its protocol is this
+-- the endpoint, if its protocol is this
 abbrev pub of_protocol : ℕ → Endpoint → Option Endpoint
 of_protocol proto inside = if inside.proto == proto then Some inside else None
 
--- the endpoint inside whose public port is this, where its protocol is this too
+-- the endpoint inside whose public port is this, if its protocol is this too
 abbrev pub mapped : PlainNat → Endpoint → Option Endpoint
 mapped n public = option_and_then (of_protocol public.proto) (option_and_then (slice_get n.mappings) (place_at n.settings public.port))
 
@@ -88,12 +88,12 @@ passed n = record { after = n; verdict = Pass; written = nothing }
 abbrev pub dropped : PlainNat → Step PlainNat
 dropped n = record { after = n; verdict = Drop; written = nothing }
 
--- a packet from inside leaves from the public address and the port of its source, whose mapping is noted where it is new
+-- a packet from inside leaves from the public address and its source's port; a new mapping is noted
 abbrev pub leaving : PlainNat → Endpoint → Option ℕ → Step PlainNat
 leaving n source (Some port) = record { after = record n { mappings = with_endpoint n.mappings source }; verdict = Pass; written = from n.settings.public_address port }
 leaving n source None = dropped n
 
--- a packet to the public address comes to the endpoint that has the port
+-- a packet to the public address goes to the endpoint that has the port
 abbrev pub coming : PlainNat → Option Endpoint → Step PlainNat
 coming n (Some inside) = record { after = n; verdict = Pass; written = to inside.address inside.port }
 coming n None = dropped n
@@ -117,6 +117,6 @@ nat_behaviour = record { profile = λ n. profile_of kinds.Nat; step = nat_step }
 unfoldable pub mapping_line : NatSettings → ℕ → Endpoint → List ℕ
 mapping_line s place inside = line_of (codes "  map " ∷ decimal inside.proto ∷ codes " " ∷ dotted inside.address ∷ codes " " ∷ decimal inside.port ∷ codes " port " ∷ decimal (public_port s place) ∷ [])
 
--- the lines in which a translation tells its mappings
+-- the lines in which a translation reports its mappings
 abbrev pub mapping_lines : PlainNat → List ℕ
 mapping_lines n = lines_by (mapping_line n.settings) n.mappings

@@ -1,4 +1,4 @@
--- For proofs: what the flows of a balancer and the mappings of a translation are worth, in other words than their steps.
+-- For proofs: what a balancer's flows and a translation's mappings guarantee, in other words than their steps.
 use Rattle.std.specs.Prelude.{◌≡◌, ◌≤◌, ◌+◌, true, length, All}
 use Rattle.std.specs.declared.net.ip_addr.IpAddr.{IpAddr}
 use Rattle.nf_translate.specs.declared.balancer.BalancerSettings.{BalancerSettings}
@@ -12,7 +12,7 @@ use Rattle.nf_translate.specs.Nats.{PlainNat}
 abbrev pub backend_of : PlainBalancer → Client → IpAddr
 backend_of b flow = backend_at b.settings (place_of b.flows flow)
 
--- A flow is known to a balancer that comes of this one, and has the backend that it had.
+-- A flow is known to a balancer that results from this one, and has the backend that it had.
 pub record KeepsBackend (flow : Client) (b later : PlainBalancer) : Type 0 where
   pub known : is_known later.flows flow ≡ true
   pub backend : backend_of later flow ≡ backend_of b flow

@@ -1,4 +1,4 @@
--- A frame behind the entry of a tunnel.
+-- A frame after the entry of a tunnel.
 use Rattle.std.proofs.Common.{◌≡◌, ◌≢◌, ◌∙◌, ℕ, List, ◌++◌, take, drop, true, false, sym, ap, subst, ⊎_elim}
 use Rattle.std.proofs.lemmas.Bool.{cases_Bool, cond-true, cond-false}
 use Rattle.std.proofs.lemmas.List.{drop-drop}
@@ -23,7 +23,7 @@ around_is tunnel frame test = cond-true (enters (packet frame)) (around tunnel f
 pub stays_out : (tunnel : Encap) (frame : List ℕ) → enters (packet frame) ≡ false → encapsulated tunnel frame ≡ frame
 stays_out tunnel frame test = cond-false (enters (packet frame)) (around tunnel frame) frame test
 
--- a frame that an entry changes goes in
+-- a frame that an entry changes enters the tunnel
 pub went_in : (tunnel : Encap) (frame : List ℕ) → encapsulated tunnel frame ≢ frame → enters (packet frame) ≡ true
 went_in tunnel frame changed =
     ⊎_elim
@@ -31,7 +31,7 @@ went_in tunnel frame changed =
     (λ (is : enters (packet frame) ≡ false). absurd (changed (stays_out tunnel frame is)))
     (cases_Bool (enters (packet frame)))
 
--- what is known of it behind the entry
+-- what is known about it after the entry
 pub record WentIn (tunnel : Encap) (frame new : List ℕ) : Type 0 where
   pub inner : Enters (packet frame)
   pub whole : new ≡ around tunnel frame

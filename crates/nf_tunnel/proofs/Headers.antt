@@ -1,4 +1,4 @@
--- What a packet with an IPv4 header has, by the tests that it meets.
+-- Properties of a packet with an IPv4 header, by the tests that it meets.
 use Rattle.std.proofs.Common.{◌≡◌, ◌≤◌, ◌+◌, ◌∙◌, ℕ, List, length, Bool, true, false, ◌&&◌, sym, ap, refl, arith}
 use Rattle.std.specs.Prelude.{Option, Some, None, if◌then◌else◌, nat_le}
 use Rattle.std.proofs.lemmas.Option.{none-some}
@@ -34,11 +34,11 @@ pub no_some : (b : Bool) (x : ℕ) → (if b then Some x else None) ≡ None →
 no_some false x none = refl
 no_some true x none = absurd (none-some x (sym none))
 
--- a test of a packet that is told for the same bytes
+-- a test of a packet, stated for the same bytes
 pub same_test : (test : List ℕ → Bool) (q p : List ℕ) (told b : Bool) → q ≡ p → told ≡ test q → told ≡ b → test p ≡ b
 same_test test q p told b same is here = sym (ap test same) ∙ (sym is ∙ here)
 
--- an outer header behind the EtherType at this place
+-- an outer header after the EtherType at this place
 abbrev pub span_at : ℕ → ℕ → Option Span
 span_at start len = Some (record { at = start + 2; len = len })
 

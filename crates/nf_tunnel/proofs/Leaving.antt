@@ -1,4 +1,4 @@
--- A frame behind the exit of a tunnel.
+-- A frame after the exit of a tunnel.
 use Rattle.std.proofs.Common.{◌≡◌, ◌≢◌, ◌<◌, ◌+◌, ◌*◌, ◌/◌, ◌%◌, ◌∙◌, ℕ, List, ◌++◌, length, take, drop, get_or, length-drop, length-append, true, false, ◌&&◌, sym, ap, arith, ⊎_elim}
 use Rattle.std.specs.Prelude.{nat_lt, ◌==◌}
 use Rattle.std.specs.Cmp.Lexicographic.{bytes_decides}
@@ -20,7 +20,7 @@ use Rattle.nf_tunnel.proofs.Outer.{HasAddresses, HasOuter, length_outer}
 use Rattle.nf_tunnel.proofs.Replacing.{length_front}
 use Rattle.nf_tunnel.proofs.Entering.{behind_entry}
 
--- the frame with an outer header out of it
+-- the frame without its outer header
 abbrev pub without_outer : List ℕ → List ℕ
 without_outer frame = take (header_at frame) frame ++ drop (header_at frame + header_len (packet frame)) frame
 
@@ -61,7 +61,7 @@ outer_leaves entry exit p q one e o =
     (and_from (nat_lt (segment_at q) (length q)) (get_or q (segment_at q) 0 / 16 == 4) (lt-ltb (segment_at q) (length q) (omega (arith, place, room)))
     (eq-eqb (get_or q (segment_at q) 0 / 16) 4 version))))))
 
--- what an entry put on, an exit takes off
+-- an exit takes off what an entry put on
 pub undone : (entry : Encap) (exit : Decap) (frame : List ℕ) → HasAddresses entry → exit.exit ≡ entry.exit → encapsulated entry frame ≢ frame → decapsulated exit (encapsulated entry frame) ≡ frame
 undone entry exit frame h one changed =
     let w = behind_entry entry frame h changed in

@@ -1,4 +1,4 @@
--- How long a frame is behind the entry of a tunnel and behind its exit, and what stays of it.
+-- The length of a frame after the entry of a tunnel and after its exit, and what stays of it.
 use Rattle.std.proofs.Common.{◌≡◌, ◌≢◌, ◌≤◌, ◌+◌, ◌∙◌, ℕ, List, ◌++◌, length, take, drop, length-drop, length-append, true, false, ap, arith, ⊎_elim}
 use Rattle.std.proofs.lemmas.Bool.{cases_Bool}
 use Rattle.std.proofs.lemmas.List.{take_at}
@@ -27,7 +27,7 @@ entry_longer tunnel frame h test =
 pub entry_adds : (tunnel : Encap) (frame : List ℕ) → HasAddresses tunnel → encapsulated tunnel frame ≢ frame → length (encapsulated tunnel frame) ≡ length frame + 20
 entry_adds tunnel frame h changed = entry_longer tunnel frame h (went_in tunnel frame changed)
 
--- what goes in is changed
+-- a frame that enters is changed
 pub entry_changes : (tunnel : Encap) (frame : List ℕ) → HasAddresses tunnel → enters (packet frame) ≡ true → encapsulated tunnel frame ≢ frame
 entry_changes tunnel frame h test = λ same. absurd (omega (arith, entry_longer tunnel frame h test, ap (λ (xs : List ℕ). length xs) same))
 

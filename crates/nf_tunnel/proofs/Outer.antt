@@ -54,7 +54,7 @@ spelled_ipv4 a b c tunnel p source destination rest kind =
     and_from (nat_lt 2 (length q)) ((a * 256 + b == 0x0800) && true) (lt-ltb 2 (length q) (omega arith))
     (and_from (a * 256 + b == 0x0800) true (eq-eqb (a * 256 + b) 0x0800 kind) refl)
 
--- what is known of such a packet
+-- what is known about such a packet
 pub record HasOuter (tunnel : Encap) (p q : List ℕ) : Type 0 where
   pub header : HasHeader q
   pub len : header_len q ≡ 20

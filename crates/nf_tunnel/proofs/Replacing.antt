@@ -20,14 +20,14 @@ long_frame frame room =
     (λ (long : 14 ≤ length frame). long)
     (cases_lt (length frame) 14)
 
--- where its IP header begins, as much is captured
+-- up to the place of its IP header, the frame is captured
 pub front_inside : (frame : List ℕ) → 2 < length (packet frame) → header_at frame ≤ length frame
 front_inside frame room = (has_type frame (long_frame frame room)).room
 
 pub length_front : (frame : List ℕ) → 2 < length (packet frame) → length (take (header_at frame) frame) ≡ header_at frame
 length_front frame room = length-take-le (header_at frame) frame (front_inside frame room)
 
--- what is known of a frame that has other bytes from its IP header on
+-- what is known about a frame that has other bytes from its IP header on
 pub record Replaced (frame rest new : List ℕ) : Type 0 where
   pub place : packet_at new ≡ packet_at frame
   pub packet_is : packet new ≡ take 2 (packet frame) ++ rest

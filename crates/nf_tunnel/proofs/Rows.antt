@@ -1,4 +1,4 @@
--- Frames before and behind a tunnel, worked out by hand.
+-- Frames before and after a tunnel, worked out by hand.
 use Rattle.std.proofs.Common.{◌≡◌, ℕ, List, [], ◌∷◌, ◌++◌, length, refl}
 use Rattle.packet_fields.specs.Frames.{tags_len}
 use Rattle.packet_fields.specs.Packets.{is_ipv4, is_ipv6}
@@ -24,7 +24,7 @@ elsewhere = record { exit = record { octets = 192 ∷ 0 ∷ 2 ∷ 3 ∷ [] } }
 abbrev link : List ℕ
 link = 2 ∷ 0 ∷ 0 ∷ 0 ∷ 0 ∷ 2 ∷ 2 ∷ 0 ∷ 0 ∷ 0 ∷ 0 ∷ 1 ∷ 8 ∷ 0 ∷ []
 
--- UDP from 10.0.0.1, port 1000, to 10.0.0.2, port 53, without data, with this type of service, length, fragment bytes and checksum
+-- UDP from 10.0.0.1:1000 to 10.0.0.2:53, without data, with this type of service, length, fragment bytes, checksum
 abbrev datagram : ℕ → List ℕ → List ℕ → List ℕ → List ℕ
 datagram tos len fragment sum =
     (0x45 ∷ tos ∷ len) ++ (0 ∷ 0 ∷ fragment) ++ (64 ∷ 17 ∷ sum) ++ (10 ∷ 0 ∷ 0 ∷ 1 ∷ 10 ∷ 0 ∷ 0 ∷ 2 ∷ []) ++ (3 ∷ 0xe8 ∷ 0 ∷ 53 ∷ 0 ∷ 8 ∷ 0 ∷ 0 ∷ [])
@@ -62,7 +62,7 @@ stays_for_another : decapsulated elsewhere (encapsulated entry plain) ≡ encaps
 unfolding enters leaves outer_header checksum_of words tags_len is_ipv4 is_ipv6
 stays_for_another = refl
 
--- behind a tag
+-- after a tag
 abbrev tag : List ℕ
 tag = 0x81 ∷ 0 ∷ 0 ∷ 7 ∷ []
 
@@ -89,7 +89,7 @@ too_short_stays : length (encapsulated entry (link ++ datagram 0 (two 0 19) (two
 unfolding enters tags_len is_ipv4 is_ipv6
 too_short_stays = refl
 
--- a fragment of an outer packet stays, be it the first or a later one; Don't Fragment is none
+-- a fragment of an outer packet stays, whether the first or a later one; Don't Fragment makes no fragment
 abbrev carrier : List ℕ → List ℕ
 carrier fragment = link ++ (outer 0 (two 0 0x30) fragment (two 0 0) ++ datagram 0 (two 0 28) (two 0 0) (two 0x66 0xcf))
 
@@ -105,7 +105,7 @@ unfragmented_comes_out : decapsulated exit (carrier (two 0x40 0)) ≡ plain
 unfolding leaves tags_len is_ipv4 is_ipv6
 unfragmented_comes_out = refl
 
--- an outer header of six words goes whole
+-- an outer header of six words is removed whole
 options_go : decapsulated exit (link ++ ((0x46 ∷ 0 ∷ 0 ∷ 0x34 ∷ 0 ∷ 0 ∷ 0 ∷ 0 ∷ 64 ∷ 4 ∷ 0 ∷ 0 ∷ []) ++ (10 ∷ 0 ∷ 0 ∷ 9 ∷ 0xc0 ∷ 0 ∷ 2 ∷ 2 ∷ 1 ∷ 1 ∷ 1 ∷ 0 ∷ []) ++ datagram 0 (two 0 28) (two 0 0) (two 0x66 0xcf))) ≡ plain
 unfolding leaves tags_len is_ipv4 is_ipv6
 options_go = refl

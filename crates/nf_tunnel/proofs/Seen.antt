@@ -1,4 +1,4 @@
--- What the functions behind the entry of a tunnel see.
+-- What the functions after the entry of a tunnel see.
 use Rattle.std.proofs.Common.{◌≡◌, ◌≢◌, ◌<◌, ◌+◌, ◌∙◌, ℕ, List, [], ◌∷◌, length, take, drop, get_or, true, ◌&&◌, sym, ap, refl, arith}
 use Rattle.std.specs.Prelude.{Option, Some, None, option_map, nat_le, nat_lt}
 use Rattle.std.specs.Net.Addr.{ipv4_octets}
@@ -26,7 +26,7 @@ in_packet frame o at len is =
 one_byte : (xs : List ℕ) (at : ℕ) → at < length xs → take 1 (drop at xs) ≡ get_or xs at 0 ∷ []
 one_byte xs at inside = ap (λ (ys : List ℕ). take 1 ys) (drop_more xs at 0 inside)
 
--- where the fields of an IPv4 header lie that is captured
+-- where the fields of a captured IPv4 header lie
 source_span : (q : List ℕ) → HasHeader q → packet_span SrcIp q ≡ Some (record { at = 14; len = 4 })
 source_span q h = let four = h.there in let six = is_ipv4-alone q h.there in rw (four, six) (cond-true (nat_le 18 (length q)) (Some (record { at = 14; len = 4 })) None (le-leb 18 (length q) (omega (arith, h.room))))
 

@@ -12,7 +12,7 @@ use Rattle.nf_tunnel.specs.TunnelLines.{ipv4_address}
 abbrev pub unset_encap : Encap
 unset_encap = record { entry = ipv4_address 0; exit = ipv4_address 0; ttl = 0 }
 
--- an entry with what one more line says
+-- an entry with the content of one more line
 abbrev pub with_entry_line : Encap → EntryLine → Encap
 with_entry_line e (entries.Entry a) = record e { entry = a }
 with_entry_line e (entries.Exit a) = record e { exit = a }
@@ -26,7 +26,7 @@ encap_by said = fold with_entry_line unset_encap said
 abbrev pub unset_decap : Decap
 unset_decap = record { exit = ipv4_address 0 }
 
--- an exit with what one more line says
+-- an exit with the content of one more line
 abbrev pub with_exit_line : Decap → ExitLine → Decap
 with_exit_line d (exits.Exit a) = record d { exit = a }
 

@@ -18,7 +18,7 @@ outer_len p = datagram_len p + 20
 abbrev pub flags : List ℕ → ℕ
 flags p = ((header_byte p 6 / 0x40) % 2) * 0x40
 
--- with this checksum, in five lines as the standard draws them: version 4, five words, type of service and total length;
+-- with this checksum, in five lines as the standard draws them: version 4, five words, type of service, total length;
 -- identification 0, flags and fragment offset 0; time to live, the protocol IP in IP, which is 4, and the checksum; the
 -- source, which is the entry; and the destination, which is the exit (RFC 791, 3.1; RFC 2003, 3.1)
 abbrev pub outer_with : ℕ → Encap → List ℕ → List ℕ

@@ -1,5 +1,5 @@
--- Believed: the lines that set the ends of a tunnel up: of its entry `set entry` and `set exit`, each with an IPv4 address, and `set ttl` with a
--- number from 1 to 255; of its exit `set exit` with an IPv4 address. All of them have to be there.
+-- Believed: the required lines of a tunnel's ends. Entry: `set entry` and `set exit`, each with an IPv4 address, and
+-- `set ttl` with a number from 1 to 255. Exit: `set exit` with an IPv4 address.
 use Rattle.std.specs.Prelude.{ℕ, List, [], ◌∷◌, Bool, true, false, ◌==◌, if◌then◌else◌, Option, Some, None, codes}
 use Rattle.std.specs.Int.{w32, to_be_bytes}
 use Rattle.std.specs.Option.{option_map}
@@ -29,14 +29,14 @@ positive (Some n) = if n == 0 then None else Some n
 abbrev pub ttl_of : List ℕ → Option ℕ
 ttl_of word = positive (number_of 20 255 word)
 
--- what is set to what at an entry
+-- what is set at an entry, and to which value
 abbrev pub entry_setting_of : List ℕ → List ℕ → Option EntryLine
 entry_setting_of key text =
     if bytes_eq key (codes "entry") then option_map (λ a. entries.Entry a) (address_by text) else
     if bytes_eq key (codes "exit") then option_map (λ a. entries.Exit a) (address_by text) else
     if bytes_eq key (codes "ttl") then option_map (λ n. entries.Ttl n) (ttl_of text) else None
 
--- what a line says, none where it is no line of an entry
+-- what a line says, none if it is no line of an entry
 unfoldable pub entry_line_of : List (List ℕ) → Option EntryLine
 entry_line_of (lead ∷ key ∷ text ∷ []) = if bytes_eq lead (codes "set") then entry_setting_of key text else None
 entry_line_of words = None
@@ -53,15 +53,15 @@ abbrev pub is_ttl : EntryLine → Bool
 is_ttl (entries.Ttl n) = true
 is_ttl line = false
 
--- the lines of an entry, all of which have to be there
+-- the lines of an entry, all of which are required
 abbrev pub entry_lines : KindLines EntryLine
 entry_lines = record { line_of = entry_line_of; required = is_entry ∷ is_entry_exit ∷ is_ttl ∷ []; clashes = never_clash }
 
--- what is set to what at an exit
+-- what is set at an exit, and to which value
 abbrev pub exit_setting_of : List ℕ → List ℕ → Option ExitLine
 exit_setting_of key text = if bytes_eq key (codes "exit") then option_map (λ a. exits.Exit a) (address_by text) else None
 
--- what a line says, none where it is no line of an exit
+-- what a line says, none if it is no line of an exit
 unfoldable pub exit_line_of : List (List ℕ) → Option ExitLine
 exit_line_of (lead ∷ key ∷ text ∷ []) = if bytes_eq lead (codes "set") then exit_setting_of key text else None
 exit_line_of words = None
@@ -69,6 +69,6 @@ exit_line_of words = None
 abbrev pub is_exit : ExitLine → Bool
 is_exit (exits.Exit a) = true
 
--- the line of an exit, which has to be there
+-- the line of an exit, which is required
 abbrev pub exit_lines : KindLines ExitLine
 exit_lines = record { line_of = exit_line_of; required = is_exit ∷ []; clashes = never_clash }

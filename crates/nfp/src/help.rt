@@ -3,7 +3,8 @@
 //! The line and the status are what the program promises. Where there is no memory for more, or no standard error, there is no more.
 
 use crate::odd::tell_odd;
-use nfp_outside::{Reason, Slot};
+use file_desk::Reason;
+use nfp_outside::Slot;
 use nfp_run::{Option4, Outcome, UsageFault};
 use operator_help::capture::{Captured, Purpose};
 use operator_help::graph::GraphText;

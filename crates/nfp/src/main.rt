@@ -5,15 +5,21 @@
 //! What that call promises is the program's theorem. Where bytes that the desk had gathered for a file were lost, no line
 //! was put, and the program tells that file itself.
 //!
+//! Words that ask for help or for the version are answered before that call, which takes none of them for a command.
+//!
 //! The desk is watched. Where the environment has `NFP_PROGRESS=1` and standard error is a terminal, a long run shows there how far
 //! it is; what is to be done about an outcome is told on standard error too. Nothing that is promised speaks of either.
 #![tactic(auto)]
 
+mod asked;
+mod build;
 mod help;
 mod odd;
 
+use asked::{answer, question};
+use file_desk::{FileDesk, Reason};
 use help::tell_more;
-use nfp_outside::{FileDesk, OpenGate, Reason, Slot};
+use nfp_outside::{OpenGate, Slot};
 use nfp_run::{Outcome, nfp, write_fault_text};
 use std::alloc::AllocError;
 use std::fs::File;
@@ -32,8 +38,14 @@ fn main(rt: HostRuntime) -> ExitCode {
         place_of(&rt, "/proc/self/fd/1"),
         place_of(&rt, "/proc/self/fd/2"),
     );
+    let words = command_line(&rt);
+    if let Ok(words) = &words {
+        if let Some(question) = question(words) {
+            return ExitCode::from(answer(&rt, question).status());
+        }
+    }
     let files: Result<_, _> = rt.clone();
-    let outcome = match (command_line(&rt), files) {
+    let outcome = match (words, files) {
         (Ok(words), Ok(files)) => {
             let watch = watch(&rt, rt.stderr().is_terminal());
             let mut desk = Watched::new(FileDesk::new(files), watch);

@@ -7,7 +7,7 @@ use Rattle.nfp_outside.specs.declared.slot.Slot.{Slot}
 use Rattle.nfp_outside.specs.Outside.{SlotView, Appends, TakesFront, Reads, Takes, Writes, KeepsSlot}
 use Rattle.nfp_outside.specs.Adding.{appends_none, appends_more}
 
--- what a run of calls that append to one slot keeps: these bytes were put there, and all else stays
+-- what a sequence of calls that append to one slot keeps: these bytes were put there, and nothing else changed
 pub record Puts {D : Type 0} (slots : D → Slot → SlotView) (slot : Slot) (bytes : List ℕ) (old new : D) : Type 0 where
   pub appended : Appends bytes (slots old slot) (slots new slot)
   pub later : (slots old slot).faults ≤ (slots new slot).faults
@@ -51,7 +51,7 @@ has_written_more slots slot bytes rest old mid new k so_far more writes later ot
         let none : length bytes ≡ 0 = ap length empty in
         omega arith
 
--- what is known of the bytes of a read slot when these were taken
+-- what holds for the bytes of a read slot after these were taken
 abbrev pub Taken : List ℕ → Option (List ℕ) → Option (List ℕ) → Type 0
 Taken all None now = now ≡ None
 Taken all (Some bytes) now = (rest : List ℕ) × (now ≡ Some rest) × (bytes ≡ all ++ rest)
@@ -82,7 +82,7 @@ has_read_more slots slot all buffer max k old mid new so_far reads room later ot
   others = λ s other. others s other ∙ so_far.others s other;
 }
 
--- what was taken is off the front of what was left
+-- what was taken is off the front of the bytes that remained
 pub taken_front : {D : Type 0} (slots : D → Slot → SlotView) (slot : Slot) (all : List ℕ) (max : ℕ) (old mid : D) (new : SlotView) →
     HasRead slots slot all max old mid → KeepsSlot (slots mid slot) new → TakesFront (max + 1) (slots old slot) new
 taken_front slots slot all max old mid new so_far keeps = record {

@@ -7,7 +7,7 @@ use Rattle.nfp_outside.specs.declared.weight.Weight.{Weight}
 use Rattle.nfp_outside.specs.Weights.{sum_from, weight_of, no_weight, with_byte, heavier}
 use Rattle.nfp_outside.specs.Adding.{heavier_more}
 
--- one byte more of a list
+-- a list with one more byte
 pub heavier_byte : (bytes : List ℕ) (i d : ℕ) (w : Weight) → i < length bytes → heavier (take (i + 1) bytes) w ≡ with_byte (heavier (take i bytes) w) (slice_index_or bytes i d)
 unfolding heavier
 heavier_byte bytes i d w inside = ap (λ l. heavier l w) (take_more bytes i d inside) ∙ sym (heavier_more (take i bytes) (slice_index_or bytes i d ∷ []) w)
@@ -27,7 +27,7 @@ weighs (x ∷ bytes) n s =
     ap (λ t. heavier bytes (weight_at (n + 1) t)) (mod-add-mod s (2 ^ 64) ((n + 1) * x)) ∙ weighs bytes (n + 1) (s + (n + 1) * x) ∙
     ap (λ t. weight_at (n + 1 + length bytes) (t % 2 ^ 64)) all ∙ ap (λ c. weight_at c ((s + ((n + 1) * x + sum_from (n + 1 + 1) bytes)) % 2 ^ 64)) count
 
--- from nothing, bytes weigh what their list weighs
+-- starting from nothing, the weight of bytes is the weight of their list
 pub heavier_none : (bytes : List ℕ) → heavier bytes no_weight ≡ weight_of bytes
 unfolding weight_at
 heavier_none bytes =

@@ -1,4 +1,4 @@
--- For proofs: how what is put into a slot adds up, call by call.
+-- For proofs: how the effects of calls that put bytes into a slot add up.
 use Rattle.std.proofs.Common.{◌≡◌, ◌++◌, ◌∙◌, ℕ, List, [], ◌∷◌, refl, ap, sym, append_assoc}
 use Rattle.std.specs.Prelude.{Option, Some, None}
 use Rattle.std.specs.Option.{option_map}
@@ -7,7 +7,7 @@ use Rattle.nfp_outside.specs.declared.weight.Weight.{Weight}
 use Rattle.nfp_outside.specs.Weights.{with_byte, heavier}
 use Rattle.nfp_outside.specs.Outside.{SlotView, Appends, AppendsPrefix}
 
--- bytes behind bytes weigh what both weigh at once
+-- the weight of two pieces, one put after the other, is the weight of the joined piece
 pub heavier_more : (a b : List ℕ) (w : Weight) → heavier b (heavier a w) ≡ heavier (a ++ b) w
 unfolding heavier
 heavier_more [] b w = refl

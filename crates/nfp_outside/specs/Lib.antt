@@ -1,7 +1,6 @@
 pub mod Adding
 pub mod Memory
 pub mod Outside
-pub mod Port
 pub mod Scales
 pub mod Slots
 pub mod Weights

@@ -8,11 +8,11 @@ use Rattle.nfp_outside.specs.declared.scales.Scales.{Scales}
 use Rattle.nfp_outside.specs.Outside.{SlotView}
 use Rattle.nfp_outside.specs.Slots.{at_slot}
 
--- the name that a slot has: Capture, Out, Report and Graph have the empty one from the start
+-- the name of a slot; Capture, Out, Report and Graph start with the empty name
 abbrev pub named_in : Scales → Slot → Option (List ℕ)
 named_in d s = at_slot (option_map string_bytes d.policy) (Some []) (Some []) (Some []) None (Some []) s
 
--- what was put into a write slot weighs so much
+-- the weight of the bytes that were put into a write slot
 abbrev pub weighed_in : Scales → Slot → Option Weight
 weighed_in d s = at_slot None None (Some d.out) (Some d.report) (Some d.note) None s
 

@@ -25,7 +25,7 @@ one_joined old new n e = record { all = ap (map ends_at) e ∙ map-append ends_a
 pub record WillJoin {F : Type 0} (all : List NodeEnds) (nodes : List (Node F)) (more : List NodeEnds) : Type 0 where
   pub so_far : map ends_at nodes ++ more ≡ all
 
--- the replicas behind the others
+-- the replicas after the others
 
 no_replica : {F : Type 0} (n : Node F) → ((b : Branch F) → n ≢ node.Replica b) → (as_lead (ends_at n) ≡ ends_at n ∷ []) × (as_replica (ends_at n) ≡ [])
 no_replica (node.Dealer d) never = (refl, refl)
@@ -45,7 +45,7 @@ replica_joined old new n b is e = record { all = (one_joined old new (node.Repli
 pub replica_elsewhere : {F : Type 0} (old new : List (Node F)) (n : Node F) (b : Branch F) → n ≡ node.Replica b → new ≡ old → HaveJoined (as_lead (ends_at n)) old new
 replica_elsewhere old new n b is e = record { all = ap (map ends_at) e ∙ sym (append-nil (map ends_at old)) ∙ ap (λ (y : Node _). map ends_at old ++ as_lead (ends_at y)) (sym is) }
 
--- some are in order, but for these
+-- some are in order, except for these
 pub record AreOrdered {F : Type 0} (all front behind todo : List (Node F)) : Type 0 where
   pub leads_are : map ends_at front ++ leads (map ends_at todo) ≡ leads (map ends_at all)
   pub replicas_are : map ends_at behind ++ replicas (map ends_at todo) ≡ replicas (map ends_at all)

@@ -19,7 +19,7 @@ use Rattle.node_run.proofs.Turning.{made_first}
 abbrev pub is_ample_done : {F : Type 0} → Done F → Type 0
 is_ample_done d = d.short ≡ false
 
--- so many were kept
+-- this number was kept
 pub record AreKept {F : Type 0} (all rest : List (Done F)) (functions : List F) (tally : List ℕ) : Type 0 where
   pub found : All is_ample_done rest → All is_ample_done all
   pub gives : functions ++ given_by rest ≡ given_by all

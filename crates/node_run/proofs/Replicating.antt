@@ -41,7 +41,7 @@ ran_share k f h m zero (x ∷ xs) =
     ∙ ap (λ g. gave k f x ∷ share m (pred m) (ran k g xs)) (sym same)
 ran_share k f h m (suc i) (x ∷ xs) = ran_share k f h m i xs ∙ ap (λ g. share m i (ran k g xs)) (sym (moved_same k f h x))
 
--- and they may take it, of the packets whose numbers lie so far from each other
+-- and they may take it, for packets whose numbers are this far from each other
 
 may_share : {F : Type 0} (k : Kit F) (may : F → ℕ → PlainVersion → Type 0) (f : F) → KeepsNothing k f → (m i p : ℕ) (xs : List (PlainMessage PlainVersion)) → 0 < m → MayTakeAll k may f p xs → MayTakeEach k may m f (p + i) (share m i xs)
 unfolding MayTakeAll MayTakeEach share
@@ -146,7 +146,7 @@ first_fits k may f m count versions inlets ends lt h =
     let e : m ≡ suc (m - 1) = omega (arith, lt) in
     subst (λ c. ReplicasFit k may f m 0 c count versions inlets ends) e h
 
--- Replicas are still to get their nodes, for the mergers from i on, of m.
+-- Replicas are still to get their nodes, for the mergers from `i` on, of `m`.
 pub record AreComing {F : Type 0} (k : Kit F) (may : F → ℕ → PlainVersion → Type 0) (f : F) (m i count : ℕ) (todo : List F) (inlets ends : List (List (PlainMessage PlainVersion))) : Type 0 where
   pub versions : List (PlainMessage PlainVersion)
   pub many : i + length todo ≡ m
@@ -195,13 +195,13 @@ comes_next {F} k may f replica m i count was todo inlets ends h t =
       };
     }
 
--- all of them: the functions that the branch is left with are those that it had
+-- all of them: the functions that the branch has at the end are those that it had before
 pub replicas_added : {F : Type 0} (k : Kit F) (may : F → ℕ → PlainVersion → Type 0) (f : F) (versions : List (PlainMessage PlainVersion)) (old new : List (Node F))
     → KeepsNothing k f → ((fs : List F) (c : Field → ℕ) → AreNodes k may old fs c → AreNodes k may new (fs ++ f ∷ []) c)
     → (fs : List F) (c : Field → ℕ) → AreNodes k may old fs c → AreNodes k may new (fs ++ left k f versions ∷ []) c
 replicas_added k may f versions old new h more fs c a = subst (λ g. AreNodes k may new (fs ++ g ∷ []) c) (sym (left_same k f h versions)) (more fs c a)
 
--- the functions, so many times
+-- the functions, this number of times
 
 pub record AreMade {F : Type 0} (k : Kit F) (f : F) (i : ℕ) (made : List F) : Type 0 where
   pub many : length made ≡ i

@@ -119,7 +119,7 @@ to_collect comes count source all many takes = record {
   found = All-nil is_found;
 }
 
--- what holds of a result that isn't refused
+-- what holds for a result that isn't refused
 pub ok_so : {A E : Type 0} (P Q : A → Type 0) (result : Result A E) → IfOk result P → ((a : A) → P a → Q a) → IfOk result Q
 ok_so P Q (Ok a) h f = f a h
 ok_so P Q (Err e) h f = tt
@@ -175,7 +175,7 @@ laid_more k may m count packets functions copies was todo s source next laid new
           omega (arith, h.counted f, b, c);
     }
 
--- its nodes are pushed behind the others
+-- its nodes are pushed after the others
 pub pushed_more : {F : Type 0} (k : Kit F) (may : F → ℕ → PlainVersion → Type 0) (m count : ℕ) (packets : List (PlainMessage PlainApart)) (functions : List F) (copies : Field → ℕ) (was todo : List (PlainStage F)) (s : PlainStage F) (source : List (List (PlainMessage PlainApart))) (w : WiredStage F (List (List (PlainMessage PlainApart)))) (next : List (List (PlainMessage PlainApart))) (laid new : List (Node F))
     → 0 < m → AreLaid k may count packets functions copies was source laid → was ≡ s ∷ todo
     → IsWired k may ComesFrom m count s (in_turn count source) source w → next ≡ w.next → new ≡ laid ++ node.Dealer w.dealer ∷ w.nodes.items
@@ -195,7 +195,7 @@ all_laid k may count packets functions copies todo source laid h t =
           (λ f. let b : copies_along k todo h.coming f ≡ 0 = ap (λ y. copies_along k y h.coming f) t in omega (arith, h.counted f, b));
     }
 
--- the first stage is laid, and those behind it are still to be laid
+-- the first stage is laid, and those after it are still to be laid
 pub first_laid : {F S : Type 0} (k : Kit F) (may : F → ℕ → PlainVersion → Type 0) (comes : S → List (PlainMessage PlainApart) → Type 0) (m count : ℕ) (all todo : List (PlainStage F)) (s : PlainStage F) (xs : List (PlainMessage PlainApart)) (source : S) (w : WiredStage F S)
     → 0 < m → length xs ≡ count → MayPassAll k may all xs → all ≡ s ∷ todo → IsWired k may comes m count s xs source w
     → AreLaid k may count (through k all xs) (flat (ends_of k all xs)) (λ f. copies_along k todo (passed k s xs) f) todo w.next w.nodes.items
@@ -240,7 +240,7 @@ can_run k may comes count room packets made first behind nodes crews started h c
   takes = h.takes;
 }
 
--- what is said of the nodes of crews is said of the nodes
+-- what is said about the nodes of crews is said about the nodes
 pub ran_so : {F : Type 0} (k : Kit F) (copies : Field → ℕ) (ran nodes : List (Node F)) (due : List (PlainMessage PlainApart)) (functions : List F) (fates : List Fate) (tally : List ℕ)
     → ran ≡ nodes → HasRun k copies ran due functions fates tally → HasRun k copies nodes due functions fates tally
 ran_so k copies ran nodes due functions fates tally e r = subst (λ y. HasRun k copies y due functions fates tally) e r

@@ -9,7 +9,7 @@ use Rattle.packet_messages.proofs.Turning.{last_share, first_share, turned_share
 use Rattle.stage_nodes.specs.Dues.{ComesFrom}
 use Rattle.node_run.specs.Nodes.{in_turn}
 
--- links that share a stream give it when they are asked in turn
+-- links that share a stream give it back when they are asked in turn
 taken_in_turn : {P : Type 0} (m : ℕ) (xs : List (PlainMessage P)) → 0 < m → in_turn (length xs) (shares m xs) ≡ xs
 unfolding in_turn
 taken_in_turn m [] lt = refl

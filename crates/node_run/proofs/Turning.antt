@@ -37,7 +37,7 @@ pub dealer_turned : {F : Type 0} (k : Kit F) (may : F → ℕ → PlainVersion �
     → ((total : Field → ℕ) → DealerOwes ComesFrom total old → DealerOwes ComesFrom total new) → (new.to.short ≡ false → old.to.short ≡ false) → HasTurned k may n (node.Dealer new)
 dealer_turned k may n old new e g owes ample = subst (λ y. HasTurned k may y (node.Dealer new)) (sym e) (turned_dealer k may old new (subst (is_going k may) e g) owes ample)
 
--- the functions that are left in the end
+-- the functions that remain in the end
 branch_end : {F : Type 0} (k : Kit F) (may : F → ℕ → PlainVersion → Type 0) (end : F) (b : Branch F) → BranchOwes k may end b → b.to.short ≡ false → left k b.work b.inlet ≡ end
 branch_end k may end b d w = ap (λ g. left k g b.inlet) (d.same w) ∙ d.ends
 

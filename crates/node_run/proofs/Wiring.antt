@@ -327,7 +327,7 @@ share_merged m zero (b ∷ bases) columns =
     ∙ ap (λ y. joined b (map first (map (share m 0) columns)) ∷ y) (share_merged m (pred m) bases (map rest columns) ∙ ap (merged_rows (share m (pred m) bases)) (sym (share_next m columns)))
 share_merged m (suc i) (b ∷ bases) columns = share_merged m i bases (map rest columns) ∙ ap (merged_rows (share m i bases)) (sym (share_later m i columns))
 
--- and what belongs together does so in each share
+-- and parts of one packet are together in each share
 share_belong : (m i : ℕ) (bases : List (PlainMessage PlainApart)) (columns : List (List (PlainMessage PlainVersion))) → AllBelong bases columns → AllBelong (share m i bases) (map (share m i) columns)
 unfolding share AllBelong
 share_belong m i [] columns h = tt

@@ -14,7 +14,7 @@ unfoldable pub made_by_all : {F : Type 0} → Field → List (Node F) → ℕ
 made_by_all f [] = 0
 made_by_all f (n ∷ ns) = made_by f n + made_by_all f ns
 
--- Of nodes after some turns the same is due as before, if all have had memory.
+-- After some turns the same is due from nodes as before, if none ran out of memory.
 pub record OweSame {F : Type 0} (k : Kit F) (old new : List (Node F)) : Type 0 where
   pub ample : All is_ample old
   pub functions : gather k new ≡ gather k old
@@ -44,11 +44,11 @@ pub record CrewGives {F : Type 0} (k : Kit F) (nodes : List (Node F)) (done : Cr
   pub functions : done.functions.items ≡ gather k nodes
   pub copies : (f : Field) → count_of done.tally f ≡ raised 0 (copies_by_all f nodes)
 
--- and does so unless memory was short
+-- and does so unless it ran out of memory
 abbrev pub CrewKeeps : {F : Type 0} → Kit F → List (Node F) → CrewDone F → Type 0
 CrewKeeps k nodes done = done.short ≡ false → CrewGives k nodes done
 
--- what nodes gave back together: the functions, in order, and the copies of a field that they tell
+-- what nodes gave back together: the functions, in order, and the copies of a field that they report
 unfoldable pub given_by : {F : Type 0} → List (Done F) → List F
 given_by [] = []
 given_by (d ∷ ds) = added d.function (given_by ds)
@@ -63,8 +63,8 @@ pub record GivesTogether {F : Type 0} (dones : List (Done F)) (crew : CrewDone F
   pub gives : crew.functions.items ≡ given_by dones
   pub counted : (f : Field) → count_of crew.tally f ≡ raised 0 (told_by f dones)
 
--- Nodes are sorted, those that give functions back before the others, but for these; of all these functions are given back, and so
--- many copies made.
+-- Nodes are sorted, those that give functions back before the others, except for these. Of all these functions are
+-- given back, and this number of copies is made.
 pub record AreSorted {F : Type 0} (k : Kit F) (may : F → ℕ → PlainVersion → Type 0) (functions : List F) (copies : Field → ℕ) (first others todo : List (Node F)) : Type 0 where
   pub ready_first : All (is_ready k may) first
   pub ready_others : All (is_ready k may) others

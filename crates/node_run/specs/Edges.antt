@@ -1,5 +1,5 @@
--- For proofs: what is due on every end of every link and board of a stage, to which some packets come: of each edge its `stream`, or the
--- share of it that is one merger's.
+-- For proofs: what is due on every end of every link and board of a stage, to which some packets come: for each edge
+-- its `stream`, or one merger's share of it.
 use Rattle.std.specs.Prelude.{◌≡◌, ◌++◌, ℕ, zero, suc, pred, Bool, false, true, List, [], ◌∷◌, length, map}
 use Rattle.action_profile.specs.declared.parts.Touch.{Touch}
 use Rattle.packet_version.specs.Splitting.{PlainApart}
@@ -12,9 +12,9 @@ use Rattle.node_run.specs.declared.node.Node.{Node}
 use Rattle.node_run.specs.declared.node.Node.TheVariants.{Dealer, Branch, Replica, Merger}
 use Rattle.node_run.specs.declared.wire.WiredStage.{WiredStage}
 
--- What is due on the ends of a node: of a dealer, on those of the links from whoever supplies it, to the nodes of each branch and to the
--- mergers; of a branch or of a replica, on those from the dealer and to each merger that it gives; of a merger, on those from the dealer,
--- from each branch, and onwards.
+-- What is due on the ends of a node: for a dealer, on those of the links from its supply, to the nodes of each branch
+-- and to the mergers; for a branch or a replica, on those from the dealer and to each of its mergers; for a merger, on
+-- those from the dealer, from each branch, and onwards.
 pub data NodeEnds : Type 0 where
   DealerEnds : (source : List (List (PlainMessage PlainApart))) (versions : List (List (List (PlainMessage PlainVersion)))) (bases : List (List (PlainMessage PlainApart))) → NodeEnds
   BranchEnds : (inlet : List (PlainMessage PlainVersion)) (outlets : List (List (PlainMessage PlainVersion))) → NodeEnds
@@ -27,13 +27,13 @@ ends_at (Branch b) = BranchEnds b.inlet b.to.ends
 ends_at (Replica b) = ReplicaEnds b.inlet b.to.ends
 ends_at (Merger m) = MergerEnds m.base m.inlets m.to.ends
 
--- so many replicas of a branch with this touch and these functions, for the mergers from i on, of m: each has its merger's share of what
--- is due to the branch, and of what is due from it
+-- This number of replicas of a branch with this touch and these functions, for the mergers from `i` on, of `m`: each
+-- has its merger's share of what is due to the branch, and of what is due from it.
 unfoldable pub replica_ends : {F : Type 0} → Kit F → ℕ → List (PlainMessage PlainApart) → Touch → F → ℕ → ℕ → List NodeEnds
 replica_ends k m xs t f i zero = []
 replica_ends k m xs t f i (suc c) = ReplicaEnds (share m i (stream k xs (ToBranch t))) (share m i (stream k xs (FromBranch t f)) ∷ []) ∷ replica_ends k m xs t f (suc i) c
 
--- the nodes of a branch: one for all mergers, or, where it is split, one for the first and replicas for the others
+-- the nodes of a branch: one for all mergers, or, if it is split, one for the first and replicas for the others
 abbrev pub branch_ends : {F : Type 0} → Kit F → ℕ → List (PlainMessage PlainApart) → Bool → Touch → F → List NodeEnds
 branch_ends k m xs false t f = BranchEnds (stream k xs (ToBranch t)) (shares m (stream k xs (FromBranch t f))) ∷ []
 branch_ends k m xs true t f = BranchEnds (share m 0 (stream k xs (ToBranch t))) (share m 0 (stream k xs (FromBranch t f)) ∷ []) ∷ replica_ends k m xs t f 1 (pred m)
@@ -55,14 +55,15 @@ versions_ends k m xs [] touches = []
 versions_ends k m xs (split ∷ splits) [] = []
 versions_ends k m xs (split ∷ splits) (t ∷ touches) = version_ends k m xs split t ∷ versions_ends k m xs splits touches
 
--- so many mergers of a stage, from merger i on, of m: each has its share of what is due from the dealer, from each branch, and onwards
+-- this number of a stage's mergers, from `i` on, of `m`: each has its share from the dealer and each branch, and
+-- onwards
 unfoldable pub merger_ends : {F : Type 0} → Kit F → ℕ → PlainStage F → List (PlainMessage PlainApart) → ℕ → ℕ → List NodeEnds
 merger_ends k m s xs i zero = []
 merger_ends k m s xs i (suc c) =
     MergerEnds (share m i (stream k xs (ToMergers s.parts.touches))) (map (share m i) (came_from k s.parts.touches s.branches xs)) (share m i (stream k xs (Behind s)))
     ∷ merger_ends k m s xs (suc i) c
 
--- the replicas stand behind the others
+-- the replicas follow the others
 abbrev pub as_lead : NodeEnds → List NodeEnds
 as_lead (DealerEnds source versions bases) = DealerEnds source versions bases ∷ []
 as_lead (BranchEnds inlet outlets) = BranchEnds inlet outlets ∷ []
@@ -86,8 +87,9 @@ replicas (n ∷ ns) = as_replica n ++ replicas ns
 abbrev pub replicas_behind : List NodeEnds → List NodeEnds
 replicas_behind nodes = leads nodes ++ replicas nodes
 
--- A stage with m mergers, to which these packets come, has these nodes and no others, and on each of their ends this is due; so it is on
--- the dealer's, and on those from which packets come behind the stage. Of each branch it is told whether it is split.
+-- A stage with `m` mergers, to which these packets come, has these nodes and no others, and on each of their ends this
+-- is due; so it is on the dealer's, and on those from which packets come after the stage. For each branch it says if it
+-- is split.
 pub record IsOnEdges {F S : Type 0} (k : Kit F) (m : ℕ) (s : PlainStage F) (xs : List (PlainMessage PlainApart)) (w : WiredStage F S) : Type 0 where
   pub split : List Bool
   pub each : length split ≡ length s.parts.touches
@@ -96,7 +98,7 @@ pub record IsOnEdges {F S : Type 0} (k : Kit F) (m : ℕ) (s : PlainStage F) (xs
   pub nodes : map ends_at w.nodes.items ≡ replicas_behind (branches_ends k m xs split s.parts.touches s.branches) ++ merger_ends k m s xs 0 m
   pub next : w.next ≡ shares m (stream k xs (Behind s))
 
--- How these nodes come to be there: ends are given out one after another.
+-- How these nodes come about: ends are given out one after another.
 
 -- to mergers, each of which takes the first of each kind that are left
 unfoldable pub to_mergers : List (List (PlainMessage PlainApart)) → List (List (List (PlainMessage PlainVersion))) → List (List (PlainMessage PlainApart)) → List NodeEnds
@@ -121,7 +123,7 @@ to_split (i ∷ inlets) (e ∷ ends) = BranchEnds i (e ∷ []) ∷ to_replicas i
 pub record HaveJoined {F : Type 0} (more : List NodeEnds) (old new : List (Node F)) : Type 0 where
   pub all : map ends_at new ≡ map ends_at old ++ more
 
--- the replicas were put behind the others
+-- the replicas were appended after the others
 pub record AreBehind {F : Type 0} (old new : List (Node F)) : Type 0 where
   pub all : map ends_at new ≡ replicas_behind (map ends_at old)
 

@@ -11,14 +11,14 @@ use Rattle.node_run.specs.declared.first.Dealt.{Dealt}
 use Rattle.node_run.specs.declared.first.First.{First}
 use Rattle.node_run.specs.declared.first.First.TheVariants.{Due, Over}
 
--- its links fit, it made no copies yet, and it is due to make so many of each field
+-- its links fit, it made no copies yet, and this number of copies of each field is due from it
 pub record IsDue {S : Type 0} (comes : S → List (PlainMessage PlainApart) → Type 0) (copies : Field → ℕ) (d : Dealer S) : Type 0 where
   pub coming : List (PlainMessage PlainApart)
   pub due : DealerDue comes d.parts d.count coming d.source d.to.ends.versions d.to.ends.bases
   pub none : (f : Field) → count_of d.tally f ≡ 0
   pub makes : (f : Field) → dealer_copies d.parts.touches coming f ≡ copies f
 
--- it made so many, unless memory was short
+-- it made this number, unless it ran out of memory
 abbrev pub HasDealt : (Field → ℕ) → Dealt → Type 0
 HasDealt copies dealt = dealt.short ≡ false → (f : Field) → count_of dealt.tally f ≡ raised 0 (copies f)
 

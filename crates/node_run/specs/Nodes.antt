@@ -15,7 +15,7 @@ use Rattle.node_run.specs.declared.node.Node.{Node}
 use Rattle.node_run.specs.declared.node.Node.TheVariants.{Dealer, Branch, Replica, Merger}
 use Rattle.node_run.specs.declared.node.Done.{Done}
 
--- so many messages that come from some links, which are asked in turn
+-- this number of messages that come from some links, which are asked in turn
 unfoldable pub in_turn : {P : Type 0} → ℕ → List (List (PlainMessage P)) → List (PlainMessage P)
 in_turn zero inlets = []
 in_turn (suc n) inlets = first (front inlets) ∷ in_turn n (turned inlets)
@@ -36,14 +36,14 @@ is_ready k may (Branch b) = branch_ready k may b
 is_ready k may (Replica b) = branch_ready k may b
 is_ready k may (Merger m) = merger_ready m
 
--- they fit, whether some of its turns are over or none
+-- they fit, whether or not some of its turns are over
 abbrev pub is_going : {F : Type 0} → Kit F → (F → ℕ → PlainVersion → Type 0) → Node F → Type 0
 is_going k may (Dealer d) = DealerDue ComesFrom d.parts d.count (in_turn d.count d.source) d.source d.to.ends.versions d.to.ends.bases
 is_going {F} k may (Branch b) = (end : F) × BranchOwes k may end b
 is_going {F} k may (Replica b) = (end : F) × BranchOwes k may end b
 is_going k may (Merger m) = MergerOwes m
 
--- a node whose turns tell what it found has had memory so far
+-- a node whose turns show that it hasn't run out of memory so far
 abbrev pub is_ample : {F : Type 0} → Node F → Type 0
 is_ample (Dealer d) = d.to.short ≡ false
 is_ample (Branch b) = b.to.short ≡ false
@@ -76,11 +76,11 @@ pub record GivesBack {F : Type 0} (k : Kit F) (node : Node F) (done : Done F) : 
   pub functions : done.function ≡ left_by k node
   pub copies : (f : Field) → count_of done.tally f ≡ made_by f node
 
--- and does so unless memory was short
+-- and does so unless it ran out of memory
 abbrev pub Keeps : {F : Type 0} → Kit F → Node F → Done F → Type 0
 Keeps k node done = done.short ≡ false → GivesBack k node done
 
--- Of a node after some turns the same is due as before, if it has had memory.
+-- After some turns the same is due from a node as before, if it hasn't run out of memory.
 pub record OwesSame {F : Type 0} (k : Kit F) (old new : Node F) : Type 0 where
   pub ample : is_ample old
   pub functions : left_by k new ≡ left_by k old

@@ -1,4 +1,4 @@
--- For proofs: how the nodes of a stage hang together.
+-- For proofs: how the nodes of a stage are connected.
 use Rattle.std.specs.Prelude.{◌≡◌, ◌<◌, ◌≤◌, ◌+◌, ◌++◌, ℕ, Bool, false, List, [], ◌∷◌, length, map, drop, All}
 use Rattle.packet_fields.specs.declared.field.Field.{Field}
 use Rattle.action_profile.specs.declared.parts.Touch.{Touch}
@@ -16,7 +16,7 @@ use Rattle.node_run.specs.declared.branches.Branches.{Branches}
 use Rattle.node_run.specs.declared.meeting.Meeting.{Meeting}
 use Rattle.node_run.specs.declared.wire.WiredStage.{WiredStage}
 
--- branches with these touches and functions may meet m mergers, for so many packets, which are these
+-- branches with these touches and functions may meet `m` mergers, for this number of packets, which are these
 pub record MayMeet {F : Type 0} (touches : List Touch) (fs : List F) (m count : ℕ) (xs : List (PlainMessage PlainApart)) : Type 0 where
   pub branches : (0 < length touches) × (length touches ≤ 64)
   pub owners : length fs ≡ length touches
@@ -24,22 +24,22 @@ pub record MayMeet {F : Type 0} (touches : List Touch) (fs : List F) (m count : 
   pub few : count < 65537
   pub many : length xs ≡ count
 
--- what comes from each branch meets m mergers: both the branches' ends and the merger's have its share of each branch's
+-- what comes from each branch meets `m` mergers: both the branches' ends and the mergers' have their share of each
 pub record Meets (m : ℕ) (rows : List (List (PlainMessage PlainVersion))) (w : Meeting) : Type 0 where
   pub ends : w.ends.items ≡ columns m rows
   pub inlets : w.inlets.items ≡ columns m rows
 
--- j branches of a stage have their links to merger i of m; those behind them are still to get theirs
+-- `j` branches of a stage have their links to merger `i` of `m`; those after them are still to get theirs
 pub record AreLinked {F : Type 0} (k : Kit F) (touches : List Touch) (fs : List F) (m i : ℕ) (xs : List (PlainMessage PlainApart)) (j : ℕ) (ends : List (List (PlainMessage PlainVersion))) : Type 0 where
   pub many : length ends ≡ j
   pub inside : j ≤ length touches
   pub shared : ends ++ map (share m i) (came_from k (drop j touches) (drop j fs) xs) ≡ map (share m i) (came_from k touches fs xs)
 
--- one stream more is shared in turn
+-- one more stream is shared in turn
 abbrev pub IsFanned : List (PlainMessage PlainVersion) → List (List (List (PlainMessage PlainVersion))) → List (List (List (PlainMessage PlainVersion))) → Type 0
 IsFanned xs old new = (fan : List (List (PlainMessage PlainVersion))) × AreShared fan xs × (new ≡ old ++ fan ∷ [])
 
--- a branch may be wired to m mergers, into these ends, for so many packets, which are these
+-- a branch may be wired to `m` mergers, into these ends, for this number of packets, which are these
 pub record MayWire {F : Type 0} (k : Kit F) (may : F → ℕ → PlainVersion → Type 0) (touch : Touch) (f : F) (m count : ℕ) (xs : List (PlainMessage PlainApart)) (given : List (List (PlainMessage PlainVersion))) : Type 0 where
   pub some : 0 < m
   pub few_mergers : m ≤ 16
@@ -48,7 +48,7 @@ pub record MayWire {F : Type 0} (k : Kit F) (may : F → ℕ → PlainVersion �
   pub take : MayTakeAll k may f 0 (map (parted touch) xs)
   pub ends : given ≡ shares m (stream k xs (FromBranch touch f))
 
--- one branch more is wired: it is given its part of these packets, and gives back the functions that are left after them
+-- one more branch is wired: it gets its part of these packets, and gives back the functions that remain after them
 pub record HasWired {F : Type 0} (k : Kit F) (may : F → ℕ → PlainVersion → Type 0) (touch : Touch) (f : F) (m : ℕ) (xs : List (PlainMessage PlainApart)) (old new : Branches F) : Type 0 where
   pub versions : IsFanned (stream k xs (ToBranch touch)) old.versions new.versions
   pub split : Bool
@@ -65,7 +65,7 @@ pub record AreWired {F : Type 0} (k : Kit F) (may : F → ℕ → PlainVersion �
   pub on : map ends_at w.nodes.items ≡ branches_ends k m xs split touches fs
   pub nodes : AreNodes k may w.nodes.items (stayed k touches fs xs) no_copies
 
--- j branches of a stage; those behind them are still to be wired, and these ends to be given to them
+-- `j` branches of a stage; those after them are still to be wired, and these ends to be given to them
 pub record AreWiring {F : Type 0} (k : Kit F) (may : F → ℕ → PlainVersion → Type 0) (touches : List Touch) (fs : List F) (m : ℕ) (xs : List (PlainMessage PlainApart)) (j : ℕ) (todo : List F) (given : List (List (List (PlainMessage PlainVersion)))) (w : Branches F) : Type 0 where
   pub many : j + length todo ≡ length touches
   pub versions : (later : List (List (List (PlainMessage PlainVersion)))) → AreFanned (drop j touches) xs later → AreFanned touches xs (w.versions ++ later)
@@ -90,7 +90,7 @@ pub record IsWired {F S : Type 0} (k : Kit F) (may : F → ℕ → PlainVersion 
   pub nodes : AreNodes k may w.nodes.items (stayed k s.parts.touches s.branches xs) no_copies
   pub next : w.next ≡ shares m (stream k xs (Behind s))
 
--- the ends of c mergers, of m, from merger i on
+-- the ends of `c` mergers, of `m`, from merger `i` on
 pub record MergersFit (m i c count : ℕ) (bases : List (List (PlainMessage PlainApart))) (inlets : List (List (List (PlainMessage PlainVersion)))) (outlets : List (List (PlainMessage PlainApart))) : Type 0 where
   pub coming : List (PlainMessage PlainApart)
   pub columns : List (List (PlainMessage PlainVersion))

@@ -101,7 +101,7 @@ segment_changed_none addresses start p q none first second same far even inside 
 pub applied-adjusted : (old new : List ℕ) (change : Change) (checksum : ℕ) → IsChange old new change → applied checksum change ≡ adjusted checksum (words old) (words new)
 applied-adjusted old new change checksum is = cong2 (λ (b : Bool) (n : ℕ). if b then 0xffff - folded ((0xffff - checksum) + n) else checksum) is.some_word is.total
 
--- the header's bytes up to where it ends or the capture does
+-- the header's bytes up to the header's end or the capture's
 header_tail : (p : List ℕ) (h end : ℕ) → 20 ≤ h → end ≡ min (h + 2) (length p) → take (end - 14) (drop 14 p) ≡ take (h - 12) (drop 14 p)
 header_tail p h end least is =
     ⊎_elim

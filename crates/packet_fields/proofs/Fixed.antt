@@ -1,4 +1,4 @@
--- The fixed values of a frame stay where its fields are written.
+-- The fixed values of a frame stay when its fields are written.
 use Rattle.std.proofs.Common.{◌≡◌, ◌≤◌, ◌<◌, ◌+◌, ◌*◌, ◌∙◌, ℕ, List, length, length-drop, Bool, sym, arith, ⊎_elim}
 use Rattle.std.specs.Prelude.{Option, Some, None, if◌then◌else◌, nat_le}
 use Rattle.std.proofs.lemmas.Bool.{cases_lt, le-leb, lt-leb}
@@ -45,7 +45,7 @@ same_fixed before after shape = record {
   flags = control_bits-same (packet before) (packet after) shape;
 }
 
--- the fixed values of a frame that was written to
+-- the fixed values of a frame after a write
 pub fixed-written : (values : Field → Option (List ℕ)) (frame : List ℕ) → AllFit values frame → SameFixed frame (written values frame)
 fixed-written values frame fits =
     same_fixed frame (written values frame) (part_in all_fields values frame (record { at = length (packet frame); len = 0 }) fits (nowhere (packet frame))).shape

@@ -1,4 +1,4 @@
--- What the format of a header's version tells of the packet's fields.
+-- What the format of a header's version says about the packet's fields.
 use Rattle.std.proofs.Common.{◌≡◌, ◌≤◌, ◌<◌, ◌+◌, ◌^◌, ◌∙◌, ℕ, List, length, Bool, true, false, not, ◌&&◌, ◌||◌, sym, ap, refl, arith, ⊎_elim}
 use Rattle.std.specs.Prelude.{Option, Some, None, SomeIff, if◌then◌else◌, nat_le, ◌==◌}
 use Rattle.std.proofs.lemmas.Bool.{and_from, and_right, or_right, or_cases, or_from, cases_lt, cases_Bool, eqb-true, le-leb, leb-true, lt-leb, cond-true, cond-false, false≢true}
@@ -62,7 +62,7 @@ datagram_short p f n t form small word_is =
     (λ (fits : nat_le (datagram_len p) 65535 ≡ true). let below = leb-true (datagram_len p) 65535 fits in omega arith)
     (or_cases (is_ipv4 p) (nat_le (datagram_len p) 65535) t.short)
 
--- where no transport header begins there are no places
+-- if no transport header begins, there are no places
 abbrev pub no_segment_plan : SegmentPlan
 no_segment_plan = record { src_port = None; dst_port = None; payload = None; control_bits = None; sum_at = None }
 

@@ -1,4 +1,4 @@
--- A frame taken apart into its addresses, its tags and its packet, and put together from such parts.
+-- A frame split into its addresses, its tags and its packet, and joined from such parts.
 use Rattle.std.proofs.Common.{◌≡◌, ◌≤◌, ◌+◌, ◌-◌, ◌*◌, ◌∙◌, ℕ, suc, List, [], ◌∷◌, ◌++◌, length, take, drop, length-drop, length-append, length-take-le, true, false, sym, ap, subst, refl, arith, ⊎_elim}
 use Rattle.std.specs.Prelude.{Some, None, nat_le}
 use Rattle.std.proofs.lemmas.Bool.{and_cases, and_parts, and_from, leb-false, le-leb, cond-true, cases_Bool, false≢true, and_right}
@@ -27,7 +27,7 @@ take_four a b c d n m xs is = let e : m ≡ suc (suc (suc (suc n))) = omega arit
 drop_four : (a b c d : ℕ) (n m : ℕ) (xs : List ℕ) → m ≡ n + 4 → drop m (a ∷ b ∷ c ∷ d ∷ xs) ≡ drop n xs
 drop_four a b c d n m xs is = let e : m ≡ suc (suc (suc (suc n))) = omega arith in rw e refl
 
--- what the walk leaves behind it and before it
+-- what the walk has passed and what is still ahead
 pub record Splits (xs : List ℕ) : Type 0 where
   pub whole : is_tag_list (take (tags_len xs) xs) ≡ true
   pub ends : begins_tag (drop (tags_len xs) xs) ≡ false
@@ -69,7 +69,7 @@ framed frame long =
       ends = rw (packet-long frame long) s.ends;
     }
 
--- what is known of a frame that was put together
+-- what holds for a frame that was joined from parts
 pub record HasParts (addresses tags p frame : List ℕ) : Type 0 where
   pub long : 14 ≤ length frame
   pub place : packet_at frame ≡ length tags + 12

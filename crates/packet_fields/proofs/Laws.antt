@@ -48,7 +48,7 @@ same_len : (new other : List ℕ) (o : Option (List ℕ)) → IsSomeAnd o (λ ol
 same_len new other None fits fits_other = absurd fits
 same_len new other (Some old) fits fits_other = fits ∙ sym fits_other
 
--- a value fits where another value of the field fits that was put
+-- a value still fits a field after another value of the field that fits was put
 fits_own_by : (f : Field) (new other a b : List ℕ) → value f b ≡ Some other → Fits f new a → Fits f other a → Fits f new b
 fits_own_by Tag new other a b same fits fits_other = (ap (λ (o : Option (List ℕ)). is_some o) same, fits.1)
 fits_own_by LinkDst new other a b same fits fits_other = subst (λ (o : Option (List ℕ)). IsSomeAnd o (λ old. length new ≡ length old)) (sym same) (same_len new other (value LinkDst a) fits fits_other)
@@ -64,7 +64,7 @@ fits_own_by Payload new other a b same fits fits_other = subst (λ (o : Option (
 pub fits-put_own : (f : Field) (new other frame : List ℕ) → Fits f new frame → Fits f other frame → Fits f new (put f other frame)
 fits-put_own f new other frame fits fits_other = fits_own_by f new other frame (put f other frame) (value-put_own f other frame fits_other) fits fits_other
 
--- the later value of a field stands
+-- the later value of a field prevails
 twice_span : (f : Field) (new old frame : List ℕ) → f ≢ Tag → Fits f new frame → Fits f old frame → put f new (put f old frame) ≡ put f new frame
 twice_span f new old frame no_tag fits fits_old =
     let p = puts_at f new frame no_tag fits in
@@ -94,7 +94,7 @@ put-put_own SrcPort new old frame fits fits_old = twice_span SrcPort new old fra
 put-put_own DstPort new old frame fits fits_old = twice_span DstPort new old frame (λ e. cc) fits fits_old
 put-put_own Payload new old frame fits fits_old = twice_span Payload new old frame (λ e. cc) fits fits_old
 
--- a field that is put as it is
+-- a field that is put with its own value
 own_span : (f : Field) (frame : List ℕ) (s : Span) (old : List ℕ) → f ≢ Tag → span f frame ≡ Some s → value f frame ≡ Some old → put f old frame ≡ frame
 own_span f frame s old no_tag found is =
     let old_is : bytes_at frame s ≡ old = same_Some (bytes_at frame s) old (sym (ap (λ (o : Option Span). option_map (bytes_at frame) o) found) ∙ is) in
@@ -138,7 +138,7 @@ comm_spans f g new other frame f_no g_no differ fits fits_g =
     ∙ (comm_apart p.at.at q.at.at new other frame p.at q.at (apart_in_frame f g frame p.at q.at differ (lies_at f frame p.at p.found) (lies_at g frame q.at q.found)) refl refl p.len q.len p.inside q.inside
     ∙ (sym (ap (λ (xs : List ℕ). overwritten q.at.at other xs) (put_is f new frame p.at f_no p.found)) ∙ sym (put_is g other (put f new frame) q.at g_no found_g))))
 
--- what stands before the EtherType is written and re-tagged in either order
+-- a write before the EtherType and a change of tags commute
 link_tags : (s : Span) (other tags frame : List ℕ) → 14 ≤ length frame → is_tag_list tags ≡ true → length other ≡ s.len → s.at + s.len ≤ 12 → with_tags tags (overwritten s.at other frame) ≡ overwritten s.at other (with_tags tags frame)
 link_tags s other tags frame long whole len front =
     let f = framed frame long in

@@ -1,4 +1,4 @@
--- A field's number tells it from every other field.
+-- A field's number distinguishes it from every other field.
 use Rattle.std.proofs.Common.{◌≡◌, ◌≢◌, ◌∙◌, ℕ, get_or, sym, ap, refl, ⊎_elim, ◌⊎◌, inl, inr}
 use Rattle.std.proofs.lemmas.Bool.{cases_eq}
 use Rattle.packet_fields.specs.Fields.{number_of}

@@ -25,7 +25,7 @@ use Rattle.packet_fields.proofs.Puts.{put_keeps}
 pub start_inside : (frame : List ℕ) (o : Outline) → o ≡ outline_of frame → o.start ≤ length frame
 start_inside frame o own = let start : o.start ≡ packet_at frame = ap (λ (x : Outline). x.start) own in omega (arith, packet_at-inside frame)
 
--- what an outline tells of a segment
+-- what an outline says about a segment
 pub record HasSegment (frame : List ℕ) (o : Outline) (s : Segment) : Type 0 where
   pub there : has_transport (packet frame) ≡ true
   pub ends : s.end ≡ datagram_end (packet frame)
@@ -59,19 +59,19 @@ payload_below frame o s at h is =
     let below : data_at p ≤ datagram_end p = leb-true (data_at p) (datagram_end p) (and_parts (has_data p) (nat_le (data_at p) (datagram_end p)) test.0).1 in
     omega (arith, begins, below, h.ends)
 
--- no segment begins where no IP header does
+-- no segment begins if no IP header does
 pub no_segment : (p : List ℕ) → None ≡ version_of p → None ≡ segment_in p
 no_segment p gone = let none = no_transport p gone in cc
 
--- the version that an outline tells is the packet's
+-- the version in an outline is the packet's
 pub version_told : (frame : List ℕ) (o : Outline) (v : Option IpVersion) → o ≡ outline_of frame → o.version ≡ v → version_of (packet frame) ≡ v
 version_told frame o v own is = sym (ap (λ (x : Outline). x.version) own) ∙ is
 
--- a place that is a field's lies in the frame
+-- a place of a field lies in the frame
 pub inside_by : (f : Field) (frame : List ℕ) (o : Option Span) → o ≡ span f frame → IfSome o (λ s. s.at + s.len ≤ length frame)
 inside_by f frame o is = subst (λ (x : Option Span). IfSome x (λ s. s.at + s.len ≤ length frame)) (sym is) (span-inside f frame)
 
--- the outline stays where a field is written
+-- the outline stays when a field is written
 outline-same : (frame new : List ℕ) → KeepsPlaces frame new → outline_of new ≡ outline_of frame
 outline-same frame new k =
     let p = packet frame in

@@ -61,7 +61,7 @@ overwritten_own at n xs inside =
     let len : length (take n (drop at xs)) ≡ n = length-take-le n (drop at xs) (omega (arith, length-drop at xs)) in
     ap (λ (k : ℕ). take at xs ++ (take n (drop at xs) ++ drop k (drop at xs))) len ∙ (ap (λ (ys : List ℕ). take at xs ++ ys) (take-append-drop n (drop at xs)) ∙ take-append-drop at xs)
 
--- what is overwritten at two places that lie apart may be overwritten in either order
+-- two overwritten places that lie apart may be overwritten in either order
 pub overwritten_comm : (a b : ℕ) (new other xs : List ℕ) → a + length new ≤ b → b + length other ≤ length xs → overwritten a new (overwritten b other xs) ≡ overwritten b other (overwritten a new xs)
 overwritten_comm a b new other xs apart inside =
     let ia : a + length new ≤ length xs = omega arith in

@@ -110,11 +110,11 @@ lies_at SrcPort frame s is = in_frame_at SrcPort frame s is
 lies_at DstPort frame s is = in_frame_at DstPort frame s is
 lies_at Payload frame s is = in_frame_at Payload frame s is
 
--- from where each field of a frame lies, if its packet begins at a and has these places in its header and this segment
+-- where each field of a frame lies, if its packet begins at `a` and has these places in its header and this segment
 abbrev from : ℕ → ℕ → ℕ → ℕ → ℕ → List ℕ
 from a ttl source destination s = 0 ∷ 6 ∷ 12 ∷ (a + 3) ∷ (a + ttl) ∷ (a + source) ∷ (a + destination) ∷ (a + s) ∷ (a + s + 2) ∷ (a + s + 8) ∷ []
 
--- the same of a packet
+-- the same for a packet
 abbrev from_of : ℕ → List ℕ → List ℕ
 from_of a p = from a (in_header (ttl_at p)) (in_header (source_at p)) (in_header (destination_at p)) (max (fields_end p) (segment_at p))
 
@@ -201,7 +201,7 @@ apart_in_frame f g frame s t differ b c =
     inr (before g f frame t s (let other : number_of f ≢ number_of g = λ e. differ (same_number f g e) in omega arith) (between g frame t c) (between f frame s b)))
     (cases_lt (number_of f) (number_of g))
 
--- overwriting in what was joined
+-- overwriting in joined bytes
 pub overwritten-front : (at : ℕ) (new xs ys : List ℕ) → at + length new ≤ length xs → overwritten at new (xs ++ ys) ≡ overwritten at new xs ++ ys
 overwritten-front at new xs ys inside =
     let front : take at (xs ++ ys) ≡ take at xs = take-append-le at xs ys (omega arith) in
@@ -216,7 +216,7 @@ overwritten-behind at new (x ∷ xs) ys n is =
     let e : n ≡ suc (length xs + at) = omega arith in
     rw e (ap (λ (zs : List ℕ). x ∷ zs) (overwritten-behind at new xs ys (length xs + at) refl))
 
--- what stays of a frame's places
+-- which of a frame's places stay
 pub record KeepsPlaces (frame new : List ℕ) : Type 0 where
   pub len : length new ≡ length frame
   pub place : packet_at new ≡ packet_at frame

@@ -1,4 +1,4 @@
--- What `put` does to the fields of a frame.
+-- How `put` changes the fields of a frame.
 use Rattle.std.proofs.Common.{◌≡◌, ◌≢◌, ◌≤◌, ◌<◌, ◌+◌, ◌-◌, ◌∙◌, ℕ, List, length, take, drop, length-take, length-drop, length-take-le, Bool, true, sym, ap, refl, arith, subst, ⊎_elim}
 use Rattle.std.specs.Prelude.{Option, Some, None, IsSome, IsSomeAnd, option_map, is_some, if◌then◌else◌, nat_le}
 use Rattle.std.proofs.lemmas.Bool.{cases_lt, le-leb, lt-leb, cond-true, false≢true}
@@ -170,7 +170,7 @@ value-put_other SrcPort g new frame differ fits = other_bytes SrcPort g new fram
 value-put_other DstPort g new frame differ fits = other_bytes DstPort g new frame (λ e. cc) differ fits
 value-put_other Payload g new frame differ fits = other_bytes Payload g new frame (λ e. cc) differ fits
 
--- what was written is what `put` says
+-- the result of the writes is `put`
 pub record IsPut (f : Field) (new before after : List ℕ) : Type 0 where
   pub written : value f after ≡ Some new
   pub others : (g : Field) → f ≢ g → value g after ≡ value g before
@@ -191,7 +191,7 @@ fits_len f new frame s no_tag fits is =
     let p = puts_at f new frame no_tag fits in
     p.len ∙ ap (λ (s : Span). s.len) (same_Some p.at s (sym p.found ∙ is))
 
--- what was made is what `with_tags` says
+-- the result is `with_tags`
 pub record IsRetagged (tags before after : List ℕ) : Type 0 where
   pub tags_are : value Tag after ≡ Some tags
   pub others : (g : Field) → Tag ≢ g → value g after ≡ value g before

@@ -1,4 +1,4 @@
--- The rest of a frame stays where one field is written.
+-- The rest of a frame stays when one field is written.
 use Rattle.std.proofs.Common.{◌≡◌, ◌∙◌, ℕ, List, sym, ap, refl}
 use Rattle.std.specs.Prelude.{Option, Some, None, if◌then◌else◌, ◌==◌}
 use Rattle.packet_fields.specs.Fields.{number_of}

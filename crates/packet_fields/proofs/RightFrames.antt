@@ -1,4 +1,4 @@
--- The sealed frame's checksums are right where the frame's were, and nothing but fields changed.
+-- The sealed frame's checksums are right if the frame's were, and nothing but fields changed.
 use Rattle.std.proofs.Common.{◌≡◌, ◌≢◌, ◌≤◌, ◌<◌, ◌+◌, ◌-◌, ◌∙◌, ℕ, List, [], ◌∷◌, sum, length, take, drop, get_or, length-drop, Bool, true, false, ◌&&◌, ◌||◌, sym, ap, refl, arith, subst, ⊎_elim, inl, inr}
 use Rattle.std.specs.Prelude.{IfSome, Option, Some, None, IsSome, is_some, if◌then◌else◌, ◌==◌}
 use Rattle.std.proofs.lemmas.Bool.{and_from, or_left, or_right, or_cases, cases_lt, eq-eqb, false≢true}
@@ -84,7 +84,7 @@ part_in (f ∷ fs) values frame t fits apart =
 rest_part : (frame : List ℕ) (t : Span) → IsNoField (packet frame) t → KeepsPart (packet frame) (packet (rest_of frame)) t
 rest_part frame t apart = part_in all_fields (blanks frame) frame t (blanks_fit frame) apart
 
--- a span of no bytes far behind is apart from every field
+-- a span of no bytes far back is apart from every field
 pub nowhere : (p : List ℕ) → IsNoField p (record { at = length p; len = 0 })
 nowhere p = λ f s found. inl (inside_at f p s found)
 
@@ -163,7 +163,7 @@ places_same p q there s =
     (all7 (spans_equal Tos p q s) (spans_equal Ttl p q s) (spans_equal SrcIp p q s) (spans_equal DstIp p q s) (numbers_equal (protocol p) (protocol q) (protocol-same p q s)) (numbers_equal (total_len p) (total_len q) (total_len-same p q s)) (numbers_equal (header_sum_at p) (header_sum_at q) (header_sum_at-same p q s)))
     (all5 (spans_equal SrcPort p q s) (spans_equal DstPort p q s) (spans_equal Payload p q s) (numbers_equal (control_bits p) (control_bits q) (control_bits-same p q s)) (numbers_equal (segment_sum_at p) (segment_sum_at q) (segment_sum_at-same p q s)))
 
--- the bytes of a transport header behind its ports, but for its checksum, are no field
+-- the bytes of a transport header after its ports, except its checksum, are no field
 first_apart : (f : Field) (p : List ℕ) (at : ℕ) (s : Span) → HasSum p at → InBounds f p s → Apart s (record { at = segment_at p + 4; len = at - (segment_at p + 4) })
 first_apart LinkDst p at s h b = absurd b
 first_apart LinkSrc p at s h b = absurd b
@@ -207,7 +207,7 @@ same_head before after at same h =
       second = same_rest_part before after (record { at = at + 2; len = head_end p (data_span p) - (at + 2) }) same (λ f s found. second_apart f p at s h (bounds_at f p s found) (λ is. payload_end p at f s h found is));
     }
 
--- sealing the header leaves what lies behind it
+-- sealing the header leaves what follows it
 head_behind : (p q : List ℕ) (at : ℕ) (o : Option Span) (n : ℕ) → 22 ≤ segment_at p → segment_at p + 6 ≤ at → 14 ≤ length q → SameHeader q (overwritten 12 (word_bytes n) q) → SameHead p q at o → SameHead p (overwritten 12 (word_bytes n) q) at o
 head_behind p q at o n far behind long header head = record {
   kind = header.kind ∙ head.kind;
@@ -216,7 +216,7 @@ head_behind p q at o n far behind long header head = record {
   second = bytes_behind 12 (word_bytes n) q (at + 2) (head_end p o - (at + 2)) long (omega arith) ∙ head.second;
 }
 
--- the sealed header, and behind it the sealed segment
+-- the sealed header, followed by the sealed segment
 header_of_kept : (q : List ℕ) (o : Option ℕ) (n : ℕ) → segment_sum_at q ≡ o → header_of (word_put o n q) ≡ header_of q
 header_of_kept q None n is = refl
 header_of_kept q (Some at) n is =
@@ -294,7 +294,7 @@ sealed_packet before after =
 header_back : (p q : List ℕ) → SameShape p q → has_header q ≡ true → has_same_places p q ≡ true
 header_back p q s there = let h = same_header p q s in places_same p q (sym (cong2 (λ (a b : Bool). a || b) h.four h.six) ∙ there) s
 
--- where a frame's checksums are right, those of the sealed frame are, if the two differ in their fields alone
+-- if a frame's checksums are right, those of the sealed frame are, if the two differ in their fields alone
 pub right_sums-sealed : (before after : List ℕ) → IsBytes before → rest_of before ≡ rest_of after → HasRightSums before → HasRightSums (sealed before after)
 right_sums-sealed before after bytes same right =
     let p = packet before in

@@ -1,4 +1,4 @@
--- The sum of a TCP segment or UDP datagram in its parts, and a right checksum that stays right.
+-- The sum of a TCP segment or UDP datagram in its parts, and that a right checksum stays right.
 use Rattle.std.proofs.Common.{lit<, ◌≡◌, ◌≤◌, ◌<◌, ◌+◌, ◌-◌, ◌*◌, ◌%◌, ◌∙◌, ℕ, List, [], ◌∷◌, ◌++◌, sum, length, take, drop, length-append, Bool, true, false, ◌&&◌, ◌||◌, min, sym, ap, refl, arith, subst, ⊎_elim, ◌⊎◌, inl, inr}
 use Rattle.std.specs.Prelude.{Option, Some, None, if◌then◌else◌, nat_le, nat_lt, ◌==◌}
 use Rattle.std.proofs.lemmas.Bool.{and_parts, or_cases, cases_Bool, cases_eq, leb-true, eqb-true, ne_eqb, eq-eqb, cond-true, cond-false, cond_both, false≢true}
@@ -27,7 +27,7 @@ cut_from a b e p low high =
     cut_at (b - a) (e - b) (e - a) (drop a p) (omega arith)
     ∙ ap (λ (zs : List ℕ). take (b - a) (drop a p) ++ take (e - b) zs) (drop-drop (b - a) a p ∙ drop_to (a + (b - a)) b p (omega arith))
 
--- where the transport header ends: at its data, or with the captured bytes where there is none
+-- where the transport header ends: at its data, or with the captured bytes if there is none
 abbrev pub head_end : List ℕ → Option Span → ℕ
 head_end p None = datagram_end p
 head_end p (Some s) = s.at
@@ -87,7 +87,7 @@ data_at_sum p at (Some d) s is =
       even = inl numbers.1;
     }
 
--- the sum of a segment: its checksum, what a network function can write, and the others
+-- the sum of a segment: its checksum, what a network function can write, and the rest
 abbrev others : List ℕ → ℕ → Option Span → ℕ
 others p at o = header_byte p (protocol_at p) + ((datagram_len p - header_len p) + (sum (words (take (at - (segment_at p + 4)) (drop (segment_at p + 4) p))) + sum (words (take (head_end p o - (at + 2)) (drop (at + 2) p)))))
 
@@ -264,7 +264,7 @@ others_same p q at o same head =
     let second : take (head_end q o - (at + 2)) (drop (at + 2) q) ≡ take (head_end p o - (at + 2)) (drop (at + 2) p) = ap (λ (k : ℕ). take (k - (at + 2)) (drop (at + 2) q)) (head_end_same p q o same.len head.total) ∙ head.second in
     cong2 (λ (a b : ℕ). a + b) head.kind (cong2 (λ (a b : ℕ). a + b) (cong2 (λ (a b : ℕ). a - b) head.total (sym same.header)) (cong2 (λ (xs ys : List ℕ). sum (words xs) + sum (words ys)) first second))
 
--- in UDP no checksum stays none
+-- in UDP a missing checksum stays missing
 none_stays : (p q : List ℕ) → segment_sum_at p ≡ Some (checksum_at p) → SameSegment p q → header_byte q (protocol_at q) ≡ header_byte p (protocol_at p) → is_udp p ≡ true → word p (checksum_at p) ≡ 0 → IsRightSegment (segment_sealed p q) (checksum_at p)
 none_stays p q is_at same kind udp zero =
     let at = checksum_at p in

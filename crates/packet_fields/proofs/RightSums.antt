@@ -18,7 +18,7 @@ use Rattle.packet_fields.proofs.Rightness.{all_words, sum-cons, sum-append, adju
 take-add : (m n : ℕ) (xs : List ℕ) → take (m + n) xs ≡ take m xs ++ take n (drop m xs)
 take-add m n xs = sym (take-append-drop m (take (m + n) xs)) ∙ cong2 (λ (a b : List ℕ). a ++ b) (take-take m (m + n) xs (omega arith)) (drop-take m n xs)
 
--- bytes from m to n and from n on
+-- bytes from `m` to `n` and from `n` on
 pub cut_at : (m n k : ℕ) (xs : List ℕ) → k ≡ m + n → take k xs ≡ take m xs ++ take n (drop m xs)
 cut_at m n k xs is = ap (λ (j : ℕ). take j xs) is ∙ take-add m n xs
 

@@ -88,7 +88,7 @@ sum-cons x xs = sum_by-cons (λ (n : ℕ). n) x xs
 pub sum-append : (xs ys : List ℕ) → sum (xs ++ ys) ≡ sum xs + sum ys
 sum-append xs ys = sum_by-append (λ (n : ℕ). n) xs ys
 
--- what changed is the difference of the sums, up to multiples of 0xffff
+-- the change is the difference of the sums, up to multiples of 0xffff
 record Differs (old new : List ℕ) : Type 0 where
   pub times : ℕ
   pub is : change_sum old new + sum old ≡ sum new + 0xffff * times

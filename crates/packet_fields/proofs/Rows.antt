@@ -45,7 +45,7 @@ source : value SrcIp plain ≡ Some inside
 unfolding tags_len is_ipv4 is_ipv6
 source = refl
 
--- behind tags
+-- after tags
 source_behind_tags : value SrcIp (with_tags two_tags plain) ≡ Some inside
 unfolding tags_len is_ipv4 is_ipv6
 source_behind_tags = refl
@@ -97,7 +97,7 @@ fifteen_words : value DstPort (addresses ++ (header 0x4f 80 0 6 (0 ∷ 0 ∷ [])
 unfolding tags_len is_ipv4 is_ipv6 has_transport
 fifteen_words = refl
 
--- data offsets of 4, 5 and 15 words, where the datagram ends with its header or a byte before
+-- data offsets of 4, 5 and 15 words, if the datagram ends with its header or a byte before
 offset_four : value Payload (addresses ++ (header 0x45 40 0 6 (0 ∷ 0 ∷ []) inside ++ tcp 0x40)) ≡ None
 unfolding tags_len is_ipv4 is_ipv6 has_transport
 offset_four = refl
@@ -114,7 +114,7 @@ offset_past_end : value Payload (addresses ++ (header 0x45 79 0 6 (0 ∷ 0 ∷ [
 unfolding tags_len is_ipv4 is_ipv6 has_transport
 offset_past_end = refl
 
--- a frame of 60 bytes gets a third tag
+-- a third tag is added to a frame of 60 bytes
 retagged : length (with_tags (0x81 ∷ 0 ∷ 0 ∷ 7 ∷ two_tags) (with_tags two_tags plain ++ replicate 10 0)) ≡ 64
 unfolding tags_len
 retagged = refl
@@ -140,7 +140,7 @@ rest : rest_of (with_tags two_tags plain) ≡ replicate 12 0 ++ (8 ∷ 0 ∷ 0x4
 unfolding tags_len is_ipv4 is_ipv6 has_transport written_in
 rest = refl
 
--- IPv6 from 2001:db8::1 to an address of 2001:db8:: with this last byte, with this first byte, payload length and next header, and what is behind it
+-- IPv6 from 2001:db8::1 to 2001:db8:: with this last byte; first byte, payload length, next header, and what follows
 abbrev prefix : List ℕ
 prefix = 0x20 ∷ 1 ∷ 0x0d ∷ 0xb8 ∷ replicate 11 0
 
@@ -188,12 +188,12 @@ other_version : value SrcIp (six 0x45 (0 ∷ 8 ∷ []) 17 2 (udp port_1000 (0 �
 unfolding tags_len is_ipv4 is_ipv6
 other_version = refl
 
--- a fragment header stands behind the IPv6 header, and is not followed
+-- a fragment header follows the IPv6 header, and is not followed further
 extension_port : value SrcPort (six 0x60 (0 ∷ 16 ∷ []) 44 2 (17 ∷ replicate 7 0 ++ udp port_1000 (0 ∷ 0 ∷ []))) ≡ None
 unfolding tags_len is_ipv4 is_ipv6 has_transport
 extension_port = refl
 
--- with the header's 40 bytes the length 65,495 can be stated in 16 bits, and 65,496 cannot
+-- with the header's 40 bytes the length 65,495 fits in 16 bits, and 65,496 doesn't
 longest : value DstPort (six 0x60 (0xff ∷ 0xd7 ∷ []) 17 2 (udp port_1000 (0 ∷ 0 ∷ []))) ≡ Some (0 ∷ 53 ∷ [])
 unfolding tags_len is_ipv4 is_ipv6 has_transport
 longest = refl
@@ -202,7 +202,7 @@ too_long : value DstPort (six 0x60 (0xff ∷ 0xd8 ∷ []) 17 2 (udp port_1000 (0
 unfolding tags_len is_ipv4 is_ipv6 has_transport
 too_long = refl
 
--- the payload length ends the datagram before the capture does
+-- the payload length ends the datagram before the capture ends
 six_data : value Payload (six 0x60 (0 ∷ 21 ∷ []) 6 2 (tcp 0x50 ++ (9 ∷ 9 ∷ []))) ≡ Some (9 ∷ [])
 unfolding tags_len is_ipv4 is_ipv6 has_transport
 six_data = refl

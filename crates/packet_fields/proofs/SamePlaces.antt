@@ -38,7 +38,7 @@ other_headers p q headers = places_split p q ∙ and_left (has_same_headers p q)
 pub other_segment : (p q : List ℕ) → false ≡ same_segment_plan (segment_plan_of p) (segment_plan_of q) → has_same_places p q ≡ false
 other_segment p q segment = places_split p q ∙ and_right (has_same_headers p q) (same_segment_plan (segment_plan_of p) (segment_plan_of q)) (sym segment)
 
--- what sealing a packet then is
+-- what sealing a packet does then
 pub stays : (p q : List ℕ) → has_same_places p q ≡ false → q ≡ packet_sealed p q
 stays p q other = sym (cond-false (has_same_places p q) (segment_sealed p (header_sealed p q)) q other)
 
@@ -53,7 +53,7 @@ other_version p q gone =
     and_left (has_same_version p q) ((length p == length q) && ((header_len p == header_len q) && (same_header_plan (header_plan_of p) (header_plan_of q) && same_segment_plan (segment_plan_of p) (segment_plan_of q))))
     (or_from (is_ipv4 p && is_ipv4 q) (is_ipv6 p && is_ipv6 q) (and_left (is_ipv4 p) (is_ipv4 q) none.0) (and_left (is_ipv6 p) (is_ipv6 q) none.1))
 
--- what the test of two headers tells
+-- what the test of two headers shows
 pub record SameHeaders (p q : List ℕ) : Type 0 where
   pub version : SameVersion p q
   pub len : length p ≡ length q
@@ -96,7 +96,7 @@ total_len_is p t =
     let short = is_ipv4 p || nat_le (datagram_len p) 65535 in
     cond-true (has_header p && (captured && short)) (Some (datagram_len p)) None (and_from (has_header p) (captured && short) t.header (and_from captured short (le-leb (in_header (length_at p + 2)) (length p) t.length_there) t.short))
 
--- what two packets with the same headers share of their transport headers
+-- what two packets with the same headers share in their transport headers
 pub record SameTransport (p q : List ℕ) : Type 0 where
   pub start : segment_at q ≡ segment_at p
   pub ends : datagram_end q ≡ datagram_end p
@@ -143,7 +143,7 @@ some_span (Some s) there = (s, refl)
 only_numbers : (a b c d e f g : Bool) → a ≡ true → b ≡ true → c ≡ true → d ≡ true → g ≡ true → (a && (b && (c && (d && (e && (f && g)))))) ≡ (e && f)
 only_numbers a b c d e f g is_a is_b is_c is_d is_g = rw (is_a, is_b, is_c, is_d, is_g) (and_last e f)
 
--- of two packets of one version and length only these can differ in their headers
+-- two packets of one version and length can differ in their headers only in these
 pub header_same : (v : IpVersion) (p q : List ℕ) → version_of p ≡ Some v → version_of q ≡ Some v → length p ≡ length q
     → (same_number (protocol p) (protocol q) && same_number (total_len p) (total_len q)) ≡ same_header_plan (header_plan_of p) (header_plan_of q)
 header_same v p q is is_q len =
@@ -207,7 +207,7 @@ ports_transport p there =
     let test = cond_some (has_transport p && nat_le (in_segment p 0 + 2) (datagram_end p)) (record { at = in_segment p 0; len = 2 }) s.0 s.1 in
     (and_parts (has_transport p) (nat_le (in_segment p 0 + 2) (datagram_end p)) test.0).0
 
--- where the old packet has ports, only these can differ
+-- if the old packet has ports, only these can differ
 pub segment_same : (p q : List ℕ) → SameHeaders p q → is_some (packet_span SrcPort p) ≡ true
     → same_segment_plan (segment_plan_of p) (segment_plan_of q) ≡ (has_transport q && (is_udp p || same_data p q))
 segment_same p q h there =
@@ -221,7 +221,7 @@ segment_same p q h there =
 pub udp_segment : (p q : List ℕ) → SameHeaders p q → is_some (packet_span SrcPort p) ≡ true → has_transport q ≡ true → is_udp p ≡ true → is_udp p ≡ same_segment_plan (segment_plan_of p) (segment_plan_of q)
 udp_segment p q h there new udp = udp ∙ sym (segment_same p q h there ∙ and_from (has_transport q) (is_udp p || same_data p q) new (or_left (is_udp p) (same_data p q) udp))
 
--- a packet that is no UDP packet, and has a transport header, is a TCP packet
+-- a packet that isn't UDP and has a transport header is TCP
 pub tcp_kind : (p q : List ℕ) → SameHeaders p q → is_some (packet_span SrcPort p) ≡ true → has_transport q ≡ true → is_udp p ≡ false → is_tcp q ≡ true
 tcp_kind p q h there new other =
     let t = same_transport p q h (transport_parts p (ports_transport p there)) in

@@ -1,4 +1,4 @@
--- What sealing leaves as it is.
+-- What sealing leaves unchanged.
 use Rattle.std.proofs.Common.{◌≡◌, ◌≤◌, ◌<◌, ◌+◌, ◌∙◌, ℕ, List, [], ◌∷◌, ◌++◌, length, take, get_or, length-drop, length-append, Bool, true, false, ◌&&◌, sym, ap, refl, arith, subst, ⊎_elim, inl, inr}
 use Rattle.std.specs.Prelude.{Option, Some, None, if◌then◌else◌, ◌==◌, option_map}
 use Rattle.std.proofs.lemmas.Bool.{and_parts, or_parts, or_from, cases_lt, cases_Bool, eqb-true, cond-true, cond-false, and_left, and_right, false≢true}
@@ -21,7 +21,7 @@ use Rattle.packet_fields.proofs.Framing.{framed, parts, HasParts}
 use Rattle.packet_fields.proofs.OverwrittenField.{begins_tag-same}
 use Rattle.packet_fields.proofs.Puts.{parts_value, value-parts, own_parts}
 
--- what the test of two packets tells
+-- what the test of two packets shows
 pub record SamePlaces (p q : List ℕ) : Type 0 where
   pub version : SameVersion p q
   pub len : length p ≡ length q
@@ -178,7 +178,7 @@ header_keeps p q same = header_put_keeps q (header_sum_at p) (adjusted (word p 1
 pub segment_keeps : (p q : List ℕ) → segment_sum_at p ≡ segment_sum_at q → KeepsFields q (segment_sealed p q)
 segment_keeps p q same = segment_put_keeps q (segment_sum_at p) (segment_checksum p q) (sym same)
 
--- what stays the same once the header is sealed
+-- what stays the same after the header is sealed
 pub record SameSegment (p q : List ℕ) : Type 0 where
   pub version : SameVersion p q
   pub len : length p ≡ length q
@@ -243,7 +243,7 @@ front_is frame long =
     let len : length (take 12 frame ++ tags_of frame) ≡ packet_at frame = length-append (take 12 frame) (tags_of frame) ∙ omega (arith, f.addresses_len, h.place) in
     ap (λ (xs : List ℕ). take (packet_at frame) xs) (f.joined ∙ sym (append_assoc (take 12 frame) (tags_of frame) (packet frame))) ∙ take_at (take 12 frame ++ tags_of frame) (packet frame) (packet_at frame) len
 
--- a sealed frame is made of its old addresses and tags and the sealed packet
+-- a sealed frame consists of its old addresses and tags and the sealed packet
 pub sealed_parts : (before after : List ℕ) → 14 ≤ length after → HasParts (take 12 after) (tags_of after) (packet_sealed (packet before) (packet after)) (sealed before after)
 sealed_parts before after long =
     let f = framed after long in

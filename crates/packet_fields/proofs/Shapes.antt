@@ -14,7 +14,7 @@ use Rattle.packet_fields.proofs.Spans.{if_some, packet_span-inside}
 use Rattle.packet_fields.proofs.Versions.{by_six, numbers, fields_end, segment_at-transport}
 use Rattle.packet_fields.proofs.Overwriting.{cong2, length-overwritten, get_or-before, get_or-behind, bytes_before, bytes_behind}
 
--- the bytes that decide where fields lie are the same: of IPv6's header bytes 9 and 11 belong to fields
+-- the bytes that decide where fields lie are the same; IPv6's header bytes 9 and 11 belong to fields
 pub record SameShape (p q : List ℕ) : Type 0 where
   pub len : length q ≡ length p
   pub byte0 : get_or q 0 0 ≡ get_or p 0 0
@@ -80,7 +80,7 @@ is_udp-same p q s = ap (λ (n : ℕ). n == 17) (same_header p q s).kind
 pub is_tcp-same : (p q : List ℕ) → SameShape p q → is_tcp q ≡ is_tcp p
 is_tcp-same p q s = ap (λ (n : ℕ). n == 6) (same_header p q s).kind
 
--- the span of the data, as a function of what decides it
+-- the span of the data, as a function of the bytes that decide it
 abbrev pub data_span_by : Bool → Bool → ℕ → ℕ → ℕ → Option Span
 data_span_by there udp offset start end =
     if (there && (udp || (nat_lt (start + 12) end && nat_le 5 offset))) && nat_le (if udp then start + 8 else 4 * offset + start) end
@@ -206,7 +206,7 @@ pub record OutsideAll (p : List ℕ) (s : Span) : Type 0 where
   pub offset : has_transport p ≡ true → is_udp p ≡ false → Outside s (segment_at p + 12)
   pub control : has_transport p ≡ true → is_udp p ≡ false → Outside s (segment_at p + 13)
 
--- a span that begins behind byte 8, and of IPv4 behind byte 11 or at byte 10
+-- a span that begins after byte 8, and in IPv4 after byte 11 or at byte 10
 pub outside_behind : (p : List ℕ) (s : Span) → 8 < s.at → (is_ipv6 p ≡ false → Outside s 9) → (is_ipv6 p ≡ false → Outside s 11) → (has_transport p ≡ true → is_udp p ≡ false → Outside s (segment_at p + 12)) → (has_transport p ≡ true → is_udp p ≡ false → Outside s (segment_at p + 13)) → OutsideAll p s
 outside_behind p s behind byte9 byte11 offset control = record { byte0 = inl (omega arith); byte1 = inl (omega arith); byte2 = inl (omega arith); byte4 = inl (omega arith); byte5 = inl (omega arith); byte6 = inl (omega arith); byte7 = inl (omega arith); byte8 = inl behind; byte9 = byte9; byte11 = byte11; offset = offset; control = control }
 

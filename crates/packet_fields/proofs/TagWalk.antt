@@ -37,7 +37,7 @@ packet_at-long frame long = cond-true _ _ _ (le-leb 14 (length frame) long)
 pub packet_at-short : (frame : List ℕ) → length frame < 14 → packet_at frame ≡ length frame
 packet_at-short frame short = cond-false _ _ _ (lt-leb 14 (length frame) short)
 
--- where a frame has an EtherType, it stands behind the addresses, and its two bytes are captured
+-- if a frame has an EtherType, it follows the addresses, and its two bytes are captured
 pub record HasType (frame : List ℕ) : Type 0 where
   pub long : 14 ≤ length frame
   pub same : packet_at frame ≡ tags_len (drop 12 frame) + 12

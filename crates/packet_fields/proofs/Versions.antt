@@ -1,4 +1,4 @@
--- The two versions of IP: which one a packet has, and where the fields of its header stand.
+-- The two versions of IP: which one a packet has, and where the fields of its header are.
 use Rattle.std.proofs.Common.{◌≡◌, ◌≤◌, ◌<◌, ◌+◌, ◌*◌, ◌/◌, ◌%◌, ◌∙◌, ℕ, List, length, get_or, Bool, true, false, ◌&&◌, ◌||◌, sym, refl, arith, subst, ⊎_elim}
 use Rattle.std.specs.Prelude.{Some, None, if◌then◌else◌, nat_le, nat_lt, is_some, ◌==◌}
 use Rattle.std.proofs.lemmas.Bool.{and_parts, or_cases, or_left, or_right, cases_Bool, leb-true, ltb-true, eqb-true, cond-true, cond-false, false≢true}
@@ -12,7 +12,7 @@ use Rattle.packet_fields.specs.declared.packet.IpVersion.TheVariants.{V4, V6}
 use Rattle.packet_fields.specs.declared.packet.HeaderFormat.{HeaderFormat}
 use Rattle.packet_fields.proofs.Overwriting.{cong2}
 
--- the EtherType and the first byte of a header tell its version
+-- the EtherType and the first byte of a header determine its version
 pub record BeginsIpv4 (p : List ℕ) : Type 0 where
   pub room : 2 < length p
   pub kind : word p 0 ≡ 0x0800
@@ -76,7 +76,7 @@ pub by_six : (P : Bool → Type 0) (b : Bool) → (b ≡ true → P true) → (b
 by_six P true six four = six refl
 by_six P false six four = four refl
 
--- the numbers of a header, in which one, six, is 1 for IPv6 and else 0
+-- the numbers of a header, in which `six` is 1 for IPv6 and else 0
 pub record Numbers (b : Bool) : Type 0 where
   pub six : ℕ
   pub few : six ≤ 1
@@ -94,11 +94,11 @@ numbers_by false = record { six = 0; few = omega arith; none = λ _. refl; ttl =
 pub numbers : (p : List ℕ) → Numbers (is_ipv6 p)
 numbers p = numbers_by (is_ipv6 p)
 
--- where the fields of the header end, behind which options may follow
+-- where the fields of the header end; options may follow
 abbrev pub fields_end : List ℕ → ℕ
 fields_end p = in_header (by_version p 20 40)
 
--- what a packet of a version is
+-- what makes a packet one of a version
 abbrev pub IsOf : IpVersion → List ℕ → Type 0
 IsOf V4 p = (is_ipv4 p ≡ true) × (is_ipv6 p ≡ false)
 IsOf V6 p = (is_ipv4 p ≡ false) × (is_ipv6 p ≡ true)
@@ -119,7 +119,7 @@ version_is p v is =
     (cases_Bool (is_ipv6 p)))
     (cases_Bool (is_ipv4 p))
 
--- of a packet that has a header there is a version
+-- a packet that has a header has a version
 pub record HasVersion (p : List ℕ) (v : IpVersion) : Type 0 where
   pub there : has_header p ≡ true
   pub room : 2 < length p
@@ -199,7 +199,7 @@ protocol_captured p there =
 pub segment_at-transport : (p : List ℕ) → has_transport p ≡ true → fields_end p ≤ segment_at p
 segment_at-transport p there = header_len-least p (transport_parts p there).header
 
--- no transport header stands where no IP header does
+-- there is no transport header if there is no IP header
 pub no_transport : (p : List ℕ) → None ≡ version_of p → has_transport p ≡ false
 unfolding has_transport
 no_transport p gone = let none = no_version p gone in let four = none.0 in let six = none.1 in cc

@@ -141,15 +141,15 @@ unfolding written_in
 same_in [] values others frame same = refl
 same_in (g ∷ gs) values others frame same = ap (λ (o : Option (List ℕ)). written_in gs values (put_some g o frame)) (same g) ∙ same_in gs values others (put_some g (others g) frame) same
 
--- the fields of a frame that was written to are the new values over the old
+-- the fields of a frame after writes are the new values over the old
 pub value-written : (values : Field → Option (List ℕ)) (frame : List ℕ) → AllFit values frame → (f : Field) → value f (written values frame) ≡ over values (fields_of frame) f
 value-written values frame fits f = values_in all_fields f values frame all_distinct (is_in_all f) fits
 
--- what was written twice was written once, with the later values over the earlier
+-- writing twice is writing once, with the later values over the earlier
 pub written-written : (new old : Field → Option (List ℕ)) (frame : List ℕ) → AllFit new frame → AllFit old frame → written new (written old frame) ≡ written (over new old) frame
 written-written new old frame fits fits_old = twice_in all_fields new old frame all_distinct fits fits_old
 
--- a frame's own fields change nothing
+-- writing a frame's own fields changes nothing
 pub written-own : (frame : List ℕ) → written (fields_of frame) frame ≡ frame
 written-own frame = own_in all_fields (fields_of frame) frame (λ f. refl)
 
@@ -208,7 +208,7 @@ or_blank : (f : Field) (o : Option (List ℕ)) → option_or o (option_map (blan
 or_blank f None = refl
 or_blank f (Some v) = refl
 
--- a frame is built again from its rest and its fields
+-- a frame is rebuilt from its rest and its fields
 pub written-rest : (frame : List ℕ) → written (fields_of frame) (rest_of frame) ≡ frame
 written-rest frame =
     written-written (fields_of frame) (blanks frame) frame (fields_fit frame) (blanks_fit frame) ∙ own_in all_fields (over (fields_of frame) (blanks frame)) frame (λ f. or_blank f (value f frame))
@@ -265,7 +265,7 @@ present : (f : Field) (o : Option (List ℕ)) (frame : List ℕ) → FitsSome f 
 present f None frame fits = tt
 present f (Some new) frame fits = fits_present f new frame fits
 
--- the rest of a frame stays where its fields are written
+-- the rest of a frame stays when its fields are written
 pub rest_of-written : (values : Field → Option (List ℕ)) (frame : List ℕ) → AllFit values frame → rest_of (written values frame) ≡ rest_of frame
 rest_of-written values frame fits =
     same_in all_fields (blanks (written values frame)) (blanks frame) (written values frame) (λ f. ap (λ (o : Option (List ℕ)). option_map (blank f) o) (value-written values frame fits f) ∙ blank_over f (values f) frame (fits f))

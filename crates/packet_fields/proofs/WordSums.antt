@@ -89,7 +89,7 @@ at_words_more first now next old new r s at long_r long_s sum_is changed bound =
       bound = omega (arith, length-drop 2 r, bound, at.bound);
     }
 
--- what the loop has found at its end, where a last odd byte is left
+-- the result of the loop at its end, if a last odd byte remains
 pub record IsChange (first last : Change) (old new : List ℕ) : Type 0 where
   pub sum_is : last.sum ≡ first.sum + change_sum (words old) (words new)
   pub changed : last.is_some ≡ (first.is_some || is_changed (words old) (words new))

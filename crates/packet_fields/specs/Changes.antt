@@ -1,4 +1,4 @@
--- For proofs: what the bytes under a checksum change in it.
+-- For proofs: how a change of the bytes under a checksum changes the checksum.
 use Rattle.std.specs.Prelude.{◌≡◌, ◌<◌, ℕ, ◌+◌, ◌-◌, ◌^◌, List, ◌++◌, length, take, drop, Bool, if◌then◌else◌, ◌==◌, ◌&&◌, Option}
 use Rattle.packet_fields.specs.Packets.{in_header, header_len}
 use Rattle.packet_fields.specs.Plans.{header_plan_of}
@@ -29,6 +29,6 @@ abbrev pub checksum_after : Bool → ℕ → Change → ℕ
 checksum_after is_udp checksum change =
     if is_udp then (if checksum == 0 then 0 else (if applied checksum change == 0 then 0xffff else applied checksum change)) else applied checksum change
 
--- two packets of one version, one length and one header length, with the same places and fixed values of their headers
+-- two packets of one version, length and header length, with the same places and fixed values of their headers
 abbrev pub has_same_headers : List ℕ → List ℕ → Bool
 has_same_headers p q = has_same_version p q && ((length p == length q) && ((header_len p == header_len q) && same_header_plan (header_plan_of p) (header_plan_of q)))

@@ -20,8 +20,8 @@ words [] = []
 abbrev pub word_bytes : ℕ → List ℕ
 word_bytes n = n / 256 ∷ n % 256 ∷ []
 
--- a sum in one's complement: each carry out of 16 bits comes back in at the low end (RFC 1071, 1), which
--- keeps the remainder by 0xffff, and makes no sum 0 but that of zeros
+-- a sum in one's complement: each carry out of 16 bits is added at the low end (RFC 1071, 1), which
+-- keeps the remainder by 0xffff, and gives a sum of 0 only for zeros
 abbrev pub folded : ℕ → ℕ
 folded s = if s == 0 then 0 else (s - 1) % 0xffff + 1
 
@@ -35,20 +35,20 @@ unfoldable pub change_sum : List ℕ → List ℕ → ℕ
 change_sum (m ∷ ms) (n ∷ ns) = (if m == n then 0 else (0xffff - m) + n) + change_sum ms ns
 change_sum ms ns = 0
 
--- a checksum HC after such a change: ~(~HC + the sum) (RFC 1624, 3, equation 3), and HC where no word differs
+-- a checksum HC after such a change: ~(~HC + the sum) (RFC 1624, 3, equation 3), and HC if no word differs
 abbrev pub adjusted : ℕ → List ℕ → List ℕ → ℕ
 adjusted checksum old new = if is_changed old new then 0xffff - folded ((0xffff - checksum) + change_sum old new) else checksum
 
--- the words under the header checksum: those of IPv4's header other than its own (RFC 791, 3.1)
+-- the words under the header checksum: those of IPv4's header without the checksum itself (RFC 791, 3.1)
 abbrev pub header_words : List ℕ → List ℕ
 header_words p = words (take 10 (drop (in_header 0) p) ++ take (header_len p - 12) (drop (in_header 12) p))
 
--- the data behind the transport header
+-- the data after the transport header
 abbrev pub data_of : List ℕ → Option Span → List ℕ
 data_of p None = []
 data_of p (Some s) = bytes_at p s
 
--- both addresses, one behind the other (RFC 791, 3.1; RFC 8200, 3)
+-- both addresses, one after the other (RFC 791, 3.1; RFC 8200, 3)
 abbrev pub addresses_of : List ℕ → List ℕ
 addresses_of p = take (2 * address_len p) (drop (in_header (source_at p)) p)
 
@@ -57,7 +57,7 @@ addresses_of p = take (2 * address_len p) (drop (in_header (source_at p)) p)
 abbrev pub segment_words : List ℕ → List ℕ
 segment_words p = words (addresses_of p ++ (take 4 (drop (segment_at p) p) ++ data_of p (data_span p)))
 
--- in UDP a checksum of 0 says that there is none, and a computed 0 is sent as 0xffff (RFC 768)
+-- in UDP a checksum of 0 means that there is none, and a computed 0 is sent as 0xffff (RFC 768)
 abbrev pub udp_adjusted : ℕ → List ℕ → List ℕ → ℕ
 udp_adjusted checksum old new = if checksum == 0 then 0 else (if adjusted checksum old new == 0 then 0xffff else adjusted checksum old new)
 
@@ -92,7 +92,7 @@ same_segment_plan a b = same_span a.src_port b.src_port && (same_span a.dst_port
 abbrev pub has_same_version : List ℕ → List ℕ → Bool
 has_same_version p q = (is_ipv4 p && is_ipv4 q) || (is_ipv6 p && is_ipv6 q)
 
--- two packets of one version, one length and one header length, with the same places and the same fixed values
+-- two packets of one version, length and header length, with the same places and the same fixed values
 unfoldable pub has_same_places : List ℕ → List ℕ → Bool
 has_same_places p q = has_same_version p q && ((length p == length q) && ((header_len p == header_len q) && (same_header_plan (header_plan_of p) (header_plan_of q) && same_segment_plan (segment_plan_of p) (segment_plan_of q))))
 
@@ -116,12 +116,12 @@ header_of p = take (header_len p) (drop (in_header 0) p)
 abbrev pub segment_of : List ℕ → List ℕ
 segment_of p = take (datagram_end p - segment_at p) (drop (segment_at p) p)
 
--- the words before it in its sum: both addresses, the protocol, and its length (RFC 793, 3.1; RFC 768), which for IPv6 has 32 bits, of
--- which the upper 16 are 0 here (RFC 8200, 8.1)
+-- the words before it in its sum: both addresses, protocol, length (RFC 793, 3.1; RFC 768). For IPv6 the length has
+-- 32 bits, of which the upper 16 are 0 here (RFC 8200, 8.1).
 abbrev pub pseudo_header : List ℕ → List ℕ
 pseudo_header p = header_byte p (protocol_at p) ∷ (datagram_len p - header_len p) ∷ words (addresses_of p)
 
--- the checksums of a frame that are there are right by that sum, where UDP may have none
+-- the checksums that a frame has are right by that sum; UDP may have none
 pub record HasRightSums (frame : List ℕ) : Type 0 where
   pub header : IsSome (header_sum_at (packet frame)) → IsRight (words (header_of (packet frame)))
   pub segment : IsSome (segment_sum_at (packet frame)) → ((is_udp (packet frame) ≡ true) × (word (packet frame) (checksum_at (packet frame)) ≡ 0)) ⊎ IsRight (pseudo_header (packet frame) ++ words (segment_of (packet frame)))

@@ -1,4 +1,4 @@
--- Believed: the ten fields of a frame: where each lies, and its bytes.
+-- Believed: the ten fields of a frame: the place and the bytes of each.
 use Rattle.std.specs.Prelude.{codes, ◌≡◌, ◌⊎◌, ℕ, ◌+◌, ◌-◌, ◌%◌, ⊤, List, [], ◌∷◌, ◌++◌, length, take, drop, true, Option, None, option_map}
 use Rattle.packet_fields.specs.Frames.{word, type_at, packet_at, packet}
 use Rattle.packet_fields.specs.Packets.{span_within, in_header, is_ipv4, ttl_at, source_at, destination_at, address_len, header_span, segment_span, data_span, total_len, protocol, control_bits, header_sum_at, segment_sum_at}
@@ -7,7 +7,7 @@ use Rattle.packet_fields.specs.declared.field.Field.TheVariants.{LinkDst, LinkSr
 use Rattle.packet_fields.specs.declared.plan.Span.{Span}
 use Rattle.packet_fields.specs.declared.plan.Layout.{Layout}
 
--- a span that lies further behind
+-- a span that lies further back
 abbrev pub moved : ℕ → Span → Span
 moved by s = record { at = s.at + by; len = s.len }
 
@@ -19,7 +19,7 @@ in_frame frame s = option_map (moved (packet_at frame)) s
 abbrev pub tag_span : List ℕ → Option Span
 tag_span frame = option_map (λ t. record { at = 12; len = t - 12 }) (type_at frame)
 
--- where a field of a header lies in the packet: its place in the header (RFC 791, 3.1; RFC 8200, 3; RFC 793, 3.1; RFC 768), and its length.
+-- where a header's field lies: its place in the header (RFC 791, 3.1; RFC 8200, 3; RFC 793, 3.1; RFC 768), its length
 -- IPv6's traffic class is no field.
 abbrev pub packet_span : Field → List ℕ → Option Span
 packet_span Tos p = span_within (is_ipv4 p) (length p) (in_header 1) 1
@@ -46,7 +46,7 @@ bytes_at bytes s = take s.len (drop s.at bytes)
 abbrev pub overwritten : ℕ → List ℕ → List ℕ → List ℕ
 overwritten at new bytes = take at bytes ++ (new ++ drop (length new) (drop at bytes))
 
--- the bytes of a field, where it is present
+-- the bytes of a field, if it is present
 abbrev pub value : Field → List ℕ → Option (List ℕ)
 value f frame = option_map (bytes_at frame) (span f frame)
 
@@ -80,7 +80,7 @@ number_of SrcPort = 7
 number_of DstPort = 8
 number_of Payload = 9
 
--- how many bytes a field has: whole tags of four bytes each, addresses of IPv4 or of IPv6, data of any length, and else a fixed number
+-- the bytes of a field: whole tags of 4 bytes, IPv4 or IPv6 addresses, data of any length, else a fixed number
 abbrev pub IsLengthOf : Field → ℕ → Type 0
 IsLengthOf LinkDst n = n ≡ 6
 IsLengthOf LinkSrc n = n ≡ 6

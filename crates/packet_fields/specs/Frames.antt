@@ -10,17 +10,17 @@ word bytes at = slice_index bytes at * 256 + slice_index bytes (at + 1)
 abbrev pub is_tpid : ℕ → Bool
 is_tpid n = (n == 0x8100) || (n == 0x88a8)
 
--- whole tags, one behind another: an identifier, and two bytes of priority, eligibility and VLAN
+-- whole tags, one after another: an identifier, and two bytes of priority, eligibility and VLAN
 unfoldable pub is_tag_list : List ℕ → Bool
 is_tag_list [] = true
 is_tag_list (a ∷ b ∷ c ∷ d ∷ rest) = is_tpid (a * 256 + b) && is_tag_list rest
 is_tag_list rest = false
 
--- a tag stands at the front, and an EtherType can still follow it
+-- a tag is at the front, and an EtherType can still follow it
 abbrev pub begins_tag : List ℕ → Bool
 begins_tag bytes = nat_le 6 (length bytes) && is_tpid (word bytes 0)
 
--- how many bytes the tags at the front take. A tag counts where an EtherType can still follow it.
+-- the number of bytes of the tags at the front; a tag counts only if an EtherType can still follow it
 unfoldable pub tags_len : List ℕ → ℕ
 tags_len (a ∷ b ∷ c ∷ d ∷ e ∷ f ∷ rest) = if is_tpid (a * 256 + b) then tags_len (e ∷ f ∷ rest) + 4 else 0
 tags_len rest = 0
@@ -29,7 +29,7 @@ tags_len rest = 0
 abbrev pub type_at : List ℕ → Option ℕ
 type_at frame = if nat_le 14 (length frame) then Some (tags_len (drop 12 frame) + 12) else None
 
--- where the packet begins: at its EtherType, or at the frame's end where there is none
+-- where the packet begins: at its EtherType, or at the frame's end if there is none
 abbrev pub packet_at : List ℕ → ℕ
 packet_at frame = if nat_le 14 (length frame) then tags_len (drop 12 frame) + 12 else length frame
 
@@ -41,7 +41,7 @@ packet frame = drop (packet_at frame) frame
 abbrev pub tags_of : List ℕ → List ℕ
 tags_of frame = take (tags_len (drop 12 frame)) (drop 12 frame)
 
--- a frame is made of these parts: twelve bytes of addresses, whole tags, and a packet whose EtherType is
+-- a frame consists of these parts: twelve bytes of addresses, whole tags, and a packet whose EtherType is
 -- captured and is no further tag
 pub record IsFramed (addresses tags packet frame : List ℕ) : Type 0 where
   pub joined : frame ≡ addresses ++ (tags ++ packet)

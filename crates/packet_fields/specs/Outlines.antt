@@ -17,7 +17,7 @@ abbrev pub is_version : IpVersion → List ℕ → Bool
 is_version V4 packet = is_ipv4 packet
 is_version V6 packet = is_ipv6 packet
 
--- where the fields of the IP header stand in the packet
+-- where the fields of the IP header are in the packet
 abbrev pub format_of : List ℕ → HeaderFormat
 format_of packet = record {
   total_len = in_header (length_at packet);
@@ -29,10 +29,10 @@ format_of packet = record {
   address_len = address_len packet;
 }
 
--- the TCP segment or UDP datagram in a packet, where one begins behind the IP header
+-- the TCP segment or UDP datagram in a packet, if one begins after the IP header
 abbrev pub segment_in : List ℕ → Option Segment
 segment_in packet = if has_transport packet then Some (record { at = segment_at packet; end = datagram_end packet; payload = option_map (λ s. s.at) (data_span packet) }) else None
 
--- where the packet begins, which IP header begins there, and the segment behind it
+-- where the packet begins, which IP header begins there, and the segment after it
 abbrev pub outline_of : List ℕ → Outline
 outline_of frame = record { start = packet_at frame; version = version_of (packet frame); segment = segment_in (packet frame) }

@@ -18,7 +18,7 @@ header_plan_of packet = record {
   sum_at = header_sum_at packet;
 }
 
--- the fields of the TCP or UDP header, and the data behind it
+-- the fields of the TCP or UDP header, and the data after it
 abbrev pub segment_plan_of : List ℕ → SegmentPlan
 segment_plan_of packet = record {
   src_port = packet_span SrcPort packet;

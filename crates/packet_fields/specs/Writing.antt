@@ -22,7 +22,7 @@ abbrev pub put : Field → List ℕ → List ℕ → List ℕ
 put Tag new frame = with_tags new frame
 put f new frame = put_at (span f frame) new frame
 
--- a value can stand in a field's place: a list of whole tags for the tags, and else as many bytes as there are
+-- a value fits a field's place: for the tags a list of whole tags, and else as many bytes as the field has
 abbrev pub Fits : Field → List ℕ → List ℕ → Type 0
 Fits Tag new frame = IsSome (value Tag frame) × (is_tag_list new ≡ true)
 Fits f new frame = IsSomeAnd (value f frame) (λ old. length new ≡ length old)
@@ -45,7 +45,7 @@ written_in (f ∷ fs) values frame = written_in fs values (put_some f (values f)
 abbrev pub written : (Field → Option (List ℕ)) → List ℕ → List ℕ
 written values frame = written_in all_fields values frame
 
--- each value can stand in its field's place
+-- each value fits its field's place
 abbrev pub AllFit : (Field → Option (List ℕ)) → List ℕ → Type 0
 AllFit values frame = (f : Field) → IfSome (values f) (λ new. Fits f new frame)
 
@@ -53,7 +53,7 @@ AllFit values frame = (f : Field) → IfSome (values f) (λ new. Fits f new fram
 abbrev pub fields_of : List ℕ → Field → Option (List ℕ)
 fields_of frame f = value f frame
 
--- the new values, and the old ones where there is no new one
+-- the new values, and the old ones if there is no new one
 abbrev pub over : (Field → Option (List ℕ)) → (Field → Option (List ℕ)) → Field → Option (List ℕ)
 over new old f = option_or (new f) (old f)
 

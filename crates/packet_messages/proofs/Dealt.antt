@@ -6,7 +6,7 @@ use Rattle.merge_board.specs.Ends.{Sized, BranchEnd, MergerEnd, each, new_branch
 use Rattle.packet_messages.specs.BoardRows.{row_of}
 use Rattle.packet_messages.specs.BoardSeats.{HasRoom, IsGiving, IsTaking}
 
--- so many in a row, from number i on
+-- this number in a row, from number `i` on
 unfoldable pub numbered : {S : Type 0} → (ℕ → S) → ℕ → ℕ → List S
 numbered made i zero = []
 numbered made i (suc c) = made i ∷ numbered made (suc i) c
@@ -68,7 +68,7 @@ none_left n [] z e = refl
 none_left n (x ∷ xs) z e = absurd (omega arith)
 
 module _ {T : Type 0} (board : Sized) (due : List (List T)) where
-  -- the outlets of so many branches are made, and these seats are left
+  -- the outlets of this number of branches are made, and these seats are left
   pub record OutletsSoFar (seats : List (BranchEnd T)) (outlets : List (List T)) : Type 0 where
     pub next : ℕ
     pub left : ℕ
@@ -86,7 +86,7 @@ module _ {T : Type 0} (board : Sized) (due : List (List T)) where
     so_far = ap (λ y. y ++ due) none;
   }
 
-  -- the next seat, and what is so once its outlets are made
+  -- the next seat, and what holds after its outlets are made
   pub record BranchTurn (seats : List (BranchEnd T)) (s : BranchEnd T) (ss : List (BranchEnd T)) (outlets : List (List T)) : Type 0 where
     pub giving : (b : Sized) → b ≡ board → IsGiving b s 0
     pub made : (more : List (List T)) → more ≡ outlets ++ row_of s.due s.branch ∷ [] → OutletsSoFar ss more

@@ -1,4 +1,4 @@
--- What is due of a row from some packet on.
+-- What is due on a row from some packet on.
 use Rattle.std.proofs.Common.{◌≡◌, ◌<◌, ◌+◌, ◌∙◌, ℕ, zero, suc, List, [], ◌∷◌, length, drop, refl, arith, ap, sym, subst, length-drop}
 use mathlib.Core.Option.{some}
 use lib.ListN.{get_elem?}
@@ -6,7 +6,7 @@ use Rattle.merge_board.specs.Rule.{due_at, IsFit}
 use Rattle.packet_messages.specs.Messages.{PlainMessage, Fits, Owing, first, rest}
 use Rattle.packet_messages.specs.BoardRows.{row_of}
 
--- where something is due from a packet on, the row has this packet
+-- if something is due from a packet on, the row has this packet
 pub has_next : {A : Type 0} (next : ℕ) (row : List A) → Owing (drop next row) → next < length row
 has_next next row owing = omega (arith, owing, length-drop next row)
 
@@ -22,7 +22,7 @@ drop_suc (suc next) [] = refl
 drop_suc zero (x ∷ xs) = refl
 drop_suc (suc next) (x ∷ xs) = drop_suc next xs
 
--- what is due behind the next packet
+-- what is due after the next packet
 pub goes_on : {A : Type 0} (next : ℕ) (row : List A) → drop (next + 1) row ≡ rest (drop next row)
 goes_on next row =
     let more : next + 1 ≡ suc next = omega arith in
@@ -33,7 +33,7 @@ due_in_row [] b p = refl
 due_in_row (row ∷ rows) zero p = refl
 due_in_row (row ∷ rows) (suc b) p = due_in_row rows b p
 
--- what fits the first message that is due fits what is due from the branch of the next packet
+-- what fits the first due message fits what is due from the branch for the next packet
 pub fits_next : {P : Type 0} (next b : ℕ) (rows : List (List (PlainMessage P))) (now : List (PlainMessage P)) (x y : PlainMessage P) → drop next (row_of rows b) ≡ now → Owing now
     → Fits (first now) x → y ≡ x → IsFit Fits rows b next y
 fits_next next b rows now x y is owing fits same =

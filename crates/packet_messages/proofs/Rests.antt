@@ -1,4 +1,4 @@
--- What is left of a list from some place on.
+-- What remains of a list from some place on.
 use Rattle.std.proofs.Common.{◌≡◌, ◌<◌, ◌∙◌, ℕ, zero, suc, List, [], ◌∷◌, ◌++◌, length, drop, refl, arith, ap, subst, length-append, length-drop}
 use mathlib.Core.Option.{some}
 use lib.ListN.{get_elem?}
@@ -28,7 +28,7 @@ rest_is due put m =
     let n : length (put ++ m ∷ []) ≡ suc (length put) = omega (arith, length-append put (m ∷ [])) in
     ap (λ k. drop k due) n ∙ rest_suc due (length put)
 
--- room for one message more, where something is due
+-- room for one more message, if something is due
 pub room_is : {A : Type 0} (due put now : List A) (capacity : ℕ) → drop (length put) due ≡ now → 0 < length now → length due < capacity → length put < capacity
 room_is due put now capacity e owing few = omega (arith, owing, few, ap length e, length-drop (length put) due)
 

@@ -1,10 +1,10 @@
--- Lists of which the first so many elements have changed.
+-- Lists of which the first elements, this number of them, have changed.
 use Rattle.std.proofs.Common.{◌≡◌, ◌<◌, ◌≤◌, ◌+◌, ◌∙◌, ℕ, zero, suc, List, [], ◌∷◌, length, map, refl, arith, ap, sym, subst, slice_index_or, slice_set, All}
 use Rattle.std.proofs.lemmas.List.Elements.{All-get_or}
 use Rattle.packet_messages.specs.Messages.{PlainMessage, first, front, plain}
 use Rattle.packet_messages.specs.declared.message.Message.{Message}
 
--- the first so many changed by f
+-- the first elements, this number of them, changed by `f`
 unfoldable pub swept : {A : Type 0} → (A → A) → ℕ → List A → List A
 swept f zero ls = ls
 swept f (suc n) [] = []
@@ -40,7 +40,7 @@ swept_suc f zero (l ∷ ls) d lt = refl
 swept_suc f (suc n) [] d lt = absurd (omega arith)
 swept_suc f (suc n) (l ∷ ls) d lt = ap (λ x. f l ∷ x) (swept_suc f n ls d (omega arith))
 
--- one element more has changed
+-- one more element has changed
 pub swept_more : {A : Type 0} (f : A → A) (d : A) (n : ℕ) (ls now new : List A) → now ≡ swept f n ls → new ≡ slice_set now n (f (slice_index_or now n d)) → n < length now → new ≡ swept f (n + 1) ls
 swept_more f d n ls now new is set lt =
     set ∙ ap (λ y. slice_set y n (f (slice_index_or y n d))) is
@@ -48,13 +48,13 @@ swept_more f d n ls now new is set lt =
     ∙ swept_suc f n ls d (omega (arith, lt, ap length is, swept_length f n ls))
     ∙ ap (λ k. swept f k ls) (omega arith)
 
--- a fact of each element holds of the next one
+-- a fact about each element holds for the next one
 pub next_holds : {A : Type 0} (f : A → A) (d : A) (R : A → Type 0) (n : ℕ) (ls now : List A) → All R ls → now ≡ swept f n ls → n < length now → R (slice_index_or now n d)
 next_holds f d R n ls now all is lt =
     let here : R (slice_index_or ls n d) = All-get_or R ls n d (omega (arith, lt, ap length is, swept_length f n ls)) all in
     subst R (sym (ap (λ y. slice_index_or y n d) is ∙ swept_at f n ls d)) here
 
--- what is left of a row of messages, of which h says the one for each element
+-- the rest of a row of messages, in which `h` gives the message for each element
 unfoldable pub due_from : {A : Type 0} {P : Type 0} → (A → PlainMessage P) → ℕ → List A → List (PlainMessage P)
 due_from h zero ls = map h ls
 due_from h (suc n) [] = []
@@ -105,7 +105,7 @@ pub none_left : {A : Type 0} (n : ℕ) (xs : List A) → n ≡ 0 → length xs �
 none_left n [] z e = refl
 none_left n (x ∷ xs) z e = absurd (omega arith)
 
--- the next message that is due of a stream
+-- the next message that is due on a stream
 abbrev pub next_of : {P : Type 0} → List (List (PlainMessage P)) → PlainMessage P
 next_of fan = first (front fan)
 
@@ -113,7 +113,7 @@ has_front : {A : Type 0} (fan : List (List A)) → 0 < length (front fan) → 0 
 has_front [] owing = absurd (omega arith)
 has_front (l ∷ ls) owing = omega arith
 
--- where the next outlet of a stream is owed something, there is one
+-- if something is due on the next outlet of a stream, there is one
 pub has_next : {A : Type 0} (fans : List (List (List A))) (n : ℕ) (d e : List (List A)) → n < length fans → 0 < length (front (slice_index_or fans n d)) → 0 < length (slice_index_or fans n e)
 has_next [] n d e lt owing = absurd (omega arith)
 has_next (fan ∷ fans) zero d e lt owing = has_front fan owing

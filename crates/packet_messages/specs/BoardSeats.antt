@@ -11,7 +11,7 @@ pub record HasRoom {T : Type 0} (board : Sized) (due : List (List T)) : Type 0 w
   pub few : board.pids ≤ 65536
   pub one : board.mergers ≡ 1
 
--- none of these packets is this one or one behind it
+-- none of these packets is this one or one after it
 abbrev pub NoneFrom : ℕ → List ℕ → Type 0
 NoneFrom next packets = (p : ℕ) → next ≤ p → has packets p ≡ false
 

@@ -3,7 +3,7 @@ use Rattle.std.specs.Prelude.{◌≡◌, ◌<◌, ◌++◌, ℕ, List, [], ◌�
 use Rattle.packet_messages.specs.declared.message.Message.{Message}
 use Rattle.packet_messages.specs.declared.message.Message.TheVariants as made
 
--- a packet's part, the chain position of the function that dropped it, or want of memory
+-- a packet's part, the chain position of the function that dropped it, or out of memory
 pub data PlainMessage (P : Type 0) : Type 0 where
   Live : (part : P) → PlainMessage P
   Nil : (position : ℕ) → PlainMessage P
@@ -15,7 +15,7 @@ plain (made.Live b) = Live b.value
 plain (made.Nil q) = Nil q
 plain made.Short = Short
 
--- a message fits what is due where it is that message or is short
+-- a message fits what is due if it is that message or is short
 abbrev pub Fits : {P : Type 0} → PlainMessage P → PlainMessage P → Type 0
 Fits due message = (message ≡ due) ⊎ (message ≡ Short)
 
@@ -36,12 +36,12 @@ abbrev pub rest : {A : Type 0} → List A → List A
 rest [] = []
 rest (m ∷ ms) = ms
 
--- the first of some lists
+-- the first element of some lists
 abbrev pub front : {A : Type 0} → List (List A) → List A
 front [] = []
 front (l ∷ ls) = l
 
--- the lists once the first gave its next message, and went to the back
+-- the lists after the first gave its next message, and went to the back
 abbrev pub turned : {A : Type 0} → List (List A) → List (List A)
 turned [] = []
 turned (l ∷ ls) = ls ++ rest l ∷ []
@@ -55,7 +55,7 @@ abbrev pub word : {P : Type 0} → Option ℕ → PlainMessage P
 word (Some position) = Nil position
 word None = Short
 
--- memory was short
+-- the node ran out of memory
 abbrev pub is_short : {P : Type 0} → PlainMessage P → Bool
 is_short (Live part) = false
 is_short (Nil position) = false

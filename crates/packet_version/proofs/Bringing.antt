@@ -1,4 +1,4 @@
--- A part that is brought out of its frame, and lent.
+-- A part that is taken out of its frame, and lent.
 use Rattle.std.proofs.Common.{◌≡◌, ◌≢◌, ◌∙◌, ◌<◌, ℕ, true, List, sym, ap, refl, subst, get_or, length, set, arith}
 use Rattle.std.specs.Prelude.{Option, Some, None, IfSome, IsSome, option_map}
 use Rattle.std.proofs.lemmas.Bool.{false≢true}
@@ -34,7 +34,7 @@ made_part taggers frame writers f w (Some v) other is same =
     ∙ (ap (λ (spare : ℕ). option_map (by_writer (writer_at writers f)) (option_map (fresh spare) (Some v))) (sym (no_spare taggers f other))
     ∙ ap (λ (o : Option (List ℕ)). option_map (by_writer (writer_at writers f)) (option_map (fresh (spare_room taggers f)) o)) same)
 
--- a part that is brought out of its frame stays the same
+-- a part that is taken out of its frame stays the same
 pub brought_part : (taggers : ℕ) (frame writers : List ℕ) (f : Field) (w : ℕ) (p : Place) → f ≢ Tag → w ≡ writer_at writers f → part_in taggers frame writers f (brought frame w f p) ≡ part_in taggers frame writers f p
 brought_part taggers frame writers f w Inside other is = made_part taggers frame writers f w (value f frame) other is refl
 brought_part taggers frame writers f w Gone other is = refl
@@ -44,7 +44,7 @@ made_outside : (spare w v : ℕ) (o : Option (List ℕ)) → IsSome (option_map 
 made_outside spare w v None some = absurd (false≢true some)
 made_outside spare w v (Some bytes) some = refl
 
--- and stands beside it
+-- and is beside it
 pub brought_outside : (taggers : ℕ) (frame writers : List ℕ) (f : Field) (w : ℕ) (p : Place) → IsSome (part_in taggers frame writers f p) → is_outside (brought frame w f p) ≡ true
 brought_outside taggers frame writers f w Inside some = made_outside (spare_room taggers f) w (writer_at writers f) (value f frame) some
 brought_outside taggers frame writers f w Gone some = absurd (false≢true some)
@@ -60,7 +60,7 @@ lent_bytes taggers frame writers f lent Inside is same = absurd (false≢true is
 lent_bytes taggers frame writers f lent Gone is same = absurd (false≢true is)
 lent_bytes taggers frame writers f lent (Outside part) is same = ap (λ (v : List ℕ). Some v) (sym same)
 
--- A part that was brought out of its frame and read again, with its field, its writer and its places.
+-- A part that was taken out of its frame and read again, with its field, its writer and its places.
 pub record IsBrought (taggers : ℕ) (frame writers : List ℕ) (places : List Place) (n w : ℕ) (f : Field) (p out again : Place) (old : PlainHeld) : Type 0 where
   pub other : f ≢ Tag
   pub number : n ≡ number_of f
@@ -94,7 +94,7 @@ pub lent_are : {taggers : ℕ} {frame writers : List ℕ} {places : List Place} 
 lent_are {taggers = taggers} {frame = frame} {writers = writers} {f = f} {again = again} lent b same =
     ap (λ (o : Option PlainPart). option_map (λ q. q.bytes) o) (here_is b) ∙ lent_bytes taggers frame writers f lent again (is_beside b) same
 
--- what is held once other bytes were left there
+-- what is held after other bytes were left there
 pub held_left : {taggers : ℕ} {frame writers : List ℕ} {places : List Place} {n w : ℕ} {f : Field} {p out again : Place} {old : PlainHeld} (new : List ℕ) (by : ℕ) → IsBrought taggers frame writers places n w f p out again old → held_of taggers frame writers (set (set places n out) n (edited_place new by again)) ≡ left_there f new by old
 held_left {taggers = taggers} {frame = frame} {writers = writers} {places = places} {n = n} {f = f} {out = out} {again = again} {old = old} new by b =
     let ten = b.ten in

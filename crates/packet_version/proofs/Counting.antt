@@ -41,7 +41,7 @@ raises_none f t g = by_test (is_field f g)
     by_test true = sym (raised_none (count_of t g))
     by_test false = sym (raised_none (count_of t g))
 
--- a count that rose by so much rose by at most what is not less
+-- a count that rose by some amount rose by at most any greater or equal one
 pub raises_within : (f : Field) (a most : ℕ) (t u : List ℕ) → a ≤ most → RaisesBy a f t u → RaisesAtMost most f t u
 raises_within f a most t u le rise g = (
   subst (λ (n : ℕ). count_of t g ≤ n) (sym (rise g)) (raised_up (count_of t g) (if is_field f g then a else 0)),

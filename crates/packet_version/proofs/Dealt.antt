@@ -1,4 +1,4 @@
--- A part that is dealt by the mode of its field.
+-- A part that is passed out by the mode of its field.
 use Rattle.std.proofs.Common.{rules, ◌≡◌, ◌∙◌, ◌-◌, ℕ, Bool, true, false, List, [], ◌∷◌, map, sym, ap, subst, refl, arith}
 use mathlib.Core.Path.{fun_ext}
 use Rattle.std.specs.Prelude.{if◌then◌else◌, count_by, position, Option, Some, None, option_map, ◌||◌, ◌&&◌, not, ◌==◌}
@@ -53,7 +53,7 @@ moved_due f o vs m first moved mode =
     let are = writers_are f vs in
     due_by f o vs m (writers_in f vs - 1) mode (omega arith)
 
--- a field of which every branch that touches it writes it
+-- a field that every branch that touches it writes
 pub copied_first : (f : Field) (vs : List PlainVersion) (m : Mode) (first : ℕ) → m ≡ Copied (Some first) → m ≡ mode_of (touches_in vs) f → position (has_write f) (touches_in vs) ≡ Some first
 copied_first f vs m first copied mode = (copied_given (touches_in vs) f first (sym copied ∙ mode)).0.place
 
@@ -101,7 +101,7 @@ later_any f t ts e = by_test (only_reads f t)
     by_test true = refl
     by_test false = e
 
--- what a branch is dealt, by what it reads and writes
+-- what a branch gets, by what it reads and writes
 dealt_by : (r w : Bool) (o k : Option PlainPart) → ((r && not w) ≡ true → k ≡ o) → (if w then (if w then o else None) else (if r && not w then k else None)) ≡ (if r || w then o else None)
 dealt_by true true o k kept = refl
 dealt_by true false o k kept = kept refl
@@ -135,7 +135,7 @@ lent_dealt parts kept v none are = by_test (reads_more v.touch) refl
         ∙ ap (λ (m : Parts). let x : PlainVersion = record { parts = as_list m; touch = v.touch; fixed = v.fixed; kept = None } in x)
         (fun_ext (λ f. ap (λ (b : Bool). if b then option_map unwritten (parts f) else None) (sym (no_more v.touch f e))))
 
--- versions with parts of their own and a loan are those that are dealt
+-- versions with parts of their own and a loan are those that branches get
 all_dealt : (parts kept : Parts) (fixed : Fixed) (ts : List Touch) → AreKept ts parts kept → map (lent_to kept) (map (with_own parts) (map (λ t. nothing t fixed) ts)) ≡ map (dealt_version parts fixed) ts
 all_dealt parts kept fixed [] are = refl
 all_dealt parts kept fixed (t ∷ ts) are =
@@ -149,12 +149,12 @@ stage_dealt ts parts fixed vs owned lent empty own loan =
     ∙ (ap (λ (xs : List PlainVersion). map (lent_to (kept_parts ts parts)) xs) (own ∙ ap (map (with_own parts)) empty)
     ∙ all_dealt parts (kept_parts ts parts) fixed ts (are_kept ts parts))
 
--- none of them has anything of the packet with it
+-- none of them has anything of the packet
 pub owned_apart : (ts : List Touch) (parts : Parts) (fixed : Fixed) (vs owned : List PlainVersion) → vs ≡ map (λ t. nothing t fixed) ts → owned ≡ map (with_own parts) vs → All (λ v. v.kept ≡ None) owned
 owned_apart ts parts fixed vs owned empty own = subst (All (λ v. v.kept ≡ None)) (sym (own ∙ ap (map (with_own parts)) empty))
     (All-map (λ v. v.kept ≡ None) (with_own parts) (map (λ t. nothing t fixed) ts) (All-map (λ v. (with_own parts v).kept ≡ None) (λ t. nothing t fixed) ts (λ k d below. refl)))
 
--- the version that the only branch of a stage is dealt, with what is left of the packet
+-- the version that the only branch of a stage gets, with the rest of the packet
 pub whole_dealt : (t : Touch) (parts : Parts) (frame : List ℕ) (fixed : Fixed) (v : PlainVersion) (held : PlainHeld) → v ≡ with_own parts (nothing t fixed) → held ≡ record { parts = as_list (kept_parts (t ∷ []) parts); frame = frame } →
     with_packet held v ≡ record (dealt_version parts fixed t) { kept = Some (record { parts = as_list (kept_parts (t ∷ []) parts); rest = rest_of frame; fixed = fixed }) }
 whole_dealt t parts frame fixed v held own is =
@@ -164,7 +164,7 @@ whole_dealt t parts frame fixed v held own is =
     (ap (λ (m : Parts). had_by t (as_map (as_list (own_parts t parts))) m) (as_map-listed (kept_parts (t ∷ []) parts))
     ∙ parts_dealt parts (kept_parts (t ∷ []) parts) t (λ f e. are_kept (t ∷ []) parts f (first_any f t [] e)))
 
--- nobody is the writer of what is kept, and its parts are their fields'
+-- the kept parts have no writer, and are their fields'
 pub kept_unwritten : (ts : List Touch) (parts : Parts) (f : Field) → writer_in (kept_parts ts parts f) ≡ 0
 kept_unwritten ts parts f = by_test (is_given (mode_of ts f)) (parts f)
   where

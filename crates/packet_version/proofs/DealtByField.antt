@@ -1,4 +1,4 @@
--- The parts of a packet are dealt field by field.
+-- The parts of a packet are passed out field by field.
 use Rattle.std.proofs.Common.{◌≡◌, ◌≢◌, ◌∙◌, ◌<◌, ◌≤◌, ◌+◌, ℕ, zero, suc, Bool, true, false, List, [], ◌∷◌, map, sym, ap, refl, get_or, length, arith}
 use mathlib.Core.Path.{fun_ext}
 use Rattle.std.specs.Prelude.{if◌then◌else◌, Option, Some, None, option_map, nat_lt}
@@ -20,7 +20,7 @@ use Rattle.packet_version.specs.Handing.{touches_in, copied_some, copied_to, own
 use Rattle.packet_version.proofs.Maps.{as_map-listed, listed_at}
 use Rattle.packet_version.proofs.Counting.{raised_twice, raised_up, raised_more, raised_none}
 
--- the field at an index has it as its number
+-- the field at an index has the index as its number
 number_in : (i : ℕ) → i < 10 → number_of (get_or all_fields i LinkDst) ≡ i
 number_in zero b = refl
 number_in (suc zero) b = refl
@@ -65,7 +65,7 @@ here_next none i values g is = ap (λ (b : Bool). if b then values g else none) 
 other_next : {A : Type 0} (none : A) (i : ℕ) (values : Field → A) (g : Field) → number_of g ≢ i → before none (i + 1) values g ≡ before none i values g
 other_next none i values g apart = ap (λ (b : Bool). if b then values g else none) (lt_other (number_of g) i apart)
 
--- cases by whether two fields are one
+-- cases by whether two fields are the same
 pub by_field : (f g : Field) (P : Type 0) → (f ≡ g → is_field f g ≡ true → P) → (number_of g ≢ number_of f → is_field f g ≡ false → P) → P
 by_field f g P same other = by_test (is_field f g) refl
   where
@@ -73,7 +73,7 @@ by_field f g P same other = by_test (is_field f g) refl
     by_test true e = same (same_field f g ((Decides-eqb (number_of f) (number_of g)).0 e)) e
     by_test false e = other (λ s. (let t : is_field f g ≡ true = (Decides-eqb (number_of f) (number_of g)).1 (sym s) in cc)) e
 
--- one field more
+-- one more field
 before_changed : (f : Field) (i : ℕ) (parts : Parts) (g : Field) → number_of f ≡ i → changed f (parts f) (before None i parts) g ≡ before None (i + 1) parts g
 before_changed f i parts g is = by_field f g (changed f (parts f) (before None i parts) g ≡ before None (i + 1) parts g)
     (λ same e.
@@ -83,7 +83,7 @@ before_changed f i parts g is = by_field f g (changed f (parts f) (before None i
     ap (λ (b : Bool). if b then parts f else before None i parts g) e
     ∙ sym (other_next None i parts g (λ s. apart (s ∙ sym is))))
 
--- one field more, which is absent
+-- one more field, which is absent
 before_same : (f : Field) (i : ℕ) (parts : Parts) (g : Field) → number_of f ≡ i → parts f ≡ None → before None i parts g ≡ before None (i + 1) parts g
 before_same f i parts g is none = by_field f g (before None i parts g ≡ before None (i + 1) parts g)
     (λ same e.
@@ -162,12 +162,12 @@ all_step f i parts (v ∷ vs) is =
     ap (λ (x : PlainVersion). x ∷ map (copied_some f (parts f)) (map (first_own i parts) vs)) (own_step f i parts v is)
     ∙ ap (λ (xs : List PlainVersion). first_own (i + 1) parts v ∷ xs) (all_step f i parts vs is)
 
--- the versions once one field more was dealt
+-- the versions after one more field
 pub versions_next : (f : Field) (i : ℕ) (parts : Parts) (part : Option PlainPart) (vs now new : List PlainVersion) → number_of f ≡ i → part ≡ parts f → now ≡ map (first_own i parts) vs → new ≡ map (copied_some f part) now → new ≡ map (first_own (i + 1) parts) vs
 versions_next f i parts part vs now new is own was made =
     made ∙ (ap (λ (xs : List PlainVersion). map (copied_some f part) xs) was ∙ (ap (λ (o : Option PlainPart). map (copied_some f o) (map (first_own i parts) vs)) own ∙ all_step f i parts vs is))
 
--- behind the last field
+-- after the last field
 pub versions_over : (i : ℕ) (parts : Parts) (vs now : List PlainVersion) → i ≡ 10 → now ≡ map (first_own i parts) vs → now ≡ map (with_own parts) vs
 versions_over i parts vs now over was = was ∙ (ap (λ (n : ℕ). map (first_own n parts) vs) over ∙ same vs)
   where
@@ -202,7 +202,7 @@ plus_before f g i due is = by_field f g (before 0 i due g + (if is_field f g the
     let c = other_next 0 i due g (λ s. apart (s ∙ sym is)) in
     omega arith)
 
--- the counts rose by the copies that are due of the fields before an index
+-- the counts rose by the copies that are due for the fields before an index
 abbrev pub RaisesBefore : (Field → ℕ) → ℕ → List ℕ → List ℕ → Type 0
 RaisesBefore due i old new = (g : Field) → count_of new g ≡ raised (count_of old g) (before 0 i due g)
 
@@ -245,7 +245,7 @@ raised_within due t u was g =
     let up = raised_up (count_of t g) (due g) in
     (omega arith, omega arith)
 
--- and where memory ran out at a field
+-- and if memory ran out at a field
 pub counted_refused : (due : Field → ℕ) (f : Field) (i most : ℕ) (t u v : List ℕ) → number_of f ≡ i → most ≡ due f → RaisesBefore due i t u → RaisesAtMost most f u v → (g : Field) → (count_of t g ≤ count_of v g) × (count_of v g ≤ raised (count_of t g) (due g))
 counted_refused due f i most t u v is all was more g =
     let e = was g in
@@ -266,7 +266,7 @@ first_kept i ts parts g = if nat_lt (number_of g) i then kept_parts ts parts g e
 pub part_next : (f : Field) (i : ℕ) (ts : List Touch) (parts now : Parts) → number_of f ≡ i → now ≡ first_kept i ts parts → now f ≡ parts f
 part_next f i ts parts now is was = ap (λ (m : Parts). m f) was ∙ ap (λ (b : Bool). if b then kept_parts ts parts f else parts f) (ap (λ (n : ℕ). nat_lt n i) is ∙ lt_self i)
 
--- what is kept of one field more
+-- what is kept of one more field
 pub kept_next : (f : Field) (i : ℕ) (ts : List Touch) (mode : Mode) (parts now new : Parts) → number_of f ≡ i → mode ≡ mode_of ts f → now ≡ first_kept i ts parts → new ≡ changed f (kept_part mode (now f)) now → new ≡ first_kept (i + 1) ts parts
 kept_next f i ts mode parts now new is mode_is was made =
     made

@@ -12,7 +12,7 @@ abbrev pub NoneOf : {A : Type 0} → (A → Bool) → List A → Type 0
 NoneOf p [] = Unit {0}
 NoneOf p (x ∷ xs) = (p x ≡ false) × NoneOf p xs
 
--- the first item that passes stands at this index
+-- the first item that passes is at this index
 abbrev pub IsFirst : {A : Type 0} → (A → Bool) → ℕ → List A → Type 0
 IsFirst p k [] = ⊥
 IsFirst p zero (x ∷ xs) = p x ≡ true
@@ -68,7 +68,7 @@ pub none-count : {A : Type 0} (p : A → Bool) (xs : List A) → count_by p xs �
 none-count p [] none = tt
 none-count p (x ∷ xs) none = let n = none_by (p x) (count_by p xs) (sym (count-cons p x xs) ∙ none) in (n.0, none-count p xs n.1)
 
--- behind the first that passes there is one fewer
+-- after the first that passes there is one fewer
 pub count-first : {A : Type 0} (p : A → Bool) (xs : List A) (i : ℕ) → IsFirst p i xs → count_by p xs ≡ 1 + count_by p (drop (suc i) xs)
 count-first p [] i first = absurd first
 count-first p (x ∷ xs) zero first = let here = if_is (p x) true first in let e = count-cons p x xs in omega arith
@@ -106,7 +106,7 @@ count-weaker p q weaker (x ∷ xs) =
     le true true f = omega arith
     le true false f = absurd (false≢true (f refl))
 
--- where one item alone touches and the first that passes touches, no other touches
+-- if exactly one item touches and the first that passes touches, no other touches
 pub alone : {A : Type 0} (p q r : A → Bool) → ((x : A) → p x ≡ true → q x ≡ true) → ((x : A) → p x ≡ true → r x ≡ false) → ((x : A) → q x ≡ false → r x ≡ false) → (xs : List A) (i : ℕ) → IsFirst p i xs → count_by q xs ≡ 1 → NoneOf r xs
 alone {A = A} p q r touch own other [] i first one = absurd first
 alone {A = A} p q r touch own other (x ∷ xs) zero first one =
@@ -130,7 +130,7 @@ none_from : {A : Type 0} (p : A → Bool) (xs : List A) → ((k : ℕ) (d : A) �
 none_from p [] fails = tt
 none_from p (x ∷ xs) fails = (fails 0 x (omega arith), none_from p xs (λ k d lt. fails (suc k) d (omega arith)))
 
--- no item passes where none is found
+-- no item passes if none is found
 pub none-position : {A : Type 0} (p : A → Bool) (xs : List A) → position p xs ≡ None → NoneOf p xs
 none-position p xs none = by_test (nat_lt (position_or_len p xs) (length xs)) refl none
   where

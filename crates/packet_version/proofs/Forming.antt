@@ -13,7 +13,7 @@ use Rattle.packet_version.specs.Parts.{PlainPart, Parts, values_of, rewritten, A
 use Rattle.packet_version.specs.Splitting.{IsWhole}
 use Rattle.packet_version.specs.Lending.{over, edited}
 
--- bytes that are a field's by the form of all
+-- bytes that are a field's, by the form of all
 pub part_formed : (f : Field) (o : Option PlainPart) → IfSome (option_map (λ p. p.bytes) o) (λ bytes. IsLengthOf f (length bytes)) → (f ≡ Tag → AreTags o) → IsPartOf f o
 part_formed f None size tags = tt
 part_formed f (Some p) size tags = record { size = size; whole = tags }
@@ -37,7 +37,7 @@ pub formed_tags : (f : Field) (o : Option PlainPart) → f ≡ Tag → IsPartOf 
 formed_tags f None is formed = tt
 formed_tags f (Some p) is formed = formed.whole is
 
--- as many bytes in place of others, but for tags
+-- as many bytes in place of others, except for tags
 pub same_formed : (f : Field) (o : Option PlainPart) (bytes : List ℕ) (writer : ℕ) → f ≢ Tag → IsSomeAnd (option_map (λ p. p.bytes) o) (λ old. length bytes ≡ length old) → IsPartOf f o → IsPartOf f (option_map (rewritten bytes writer) o)
 same_formed f None bytes writer not_tag same formed = tt
 same_formed f (Some p) bytes writer not_tag same formed = record { size = subst (IsLengthOf f) (sym same) formed.size; whole = λ is. absurd (not_tag is) }
@@ -45,7 +45,7 @@ same_formed f (Some p) bytes writer not_tag same formed = record { size = subst 
 over_length : (new old : List ℕ) → length (over new old) ≡ length old
 over_length new old = length-take-le (length old) (new ++ drop (length new) old) (omega (arith, length-append new (drop (length new) old), length-drop (length new) old))
 
--- bytes that were left in a part, but for tags
+-- bytes that were left in a part, except for tags
 pub edited_formed : (f : Field) (o : Option PlainPart) (new : List ℕ) (writer : ℕ) → f ≢ Tag → IsPartOf f o → IsPartOf f (option_map (edited new writer) o)
 edited_formed f None new writer not_tag formed = tt
 edited_formed f (Some p) new writer not_tag formed = record { size = subst (IsLengthOf f) (sym (over_length new p.bytes)) formed.size; whole = λ is. absurd (not_tag is) }
@@ -62,7 +62,7 @@ value_tags (Some p) formed = formed.whole refl
 pub values_formed : (parts : Parts) → ((f : Field) → IsPartOf f (parts f)) → AreWellFormed (values_of parts)
 values_formed parts formed = record { lengths = λ f. value_length f (parts f) (formed f); tags = value_tags (parts Tag) (formed Tag) }
 
--- what is read of values has what they have
+-- what is read from values has the form that they have
 pub read_has : (P : List ℕ → Type 0) (read : Option (Bor (List ℕ))) (v : Option (List ℕ)) → option_copied read ≡ v → IfSome v P → IfSome read (λ bytes. P bytes.now)
 read_has P None v is has = tt
 read_has P (Some bytes) v is has = subst (λ (o : Option (List ℕ)). IfSome o P) (sym is) has

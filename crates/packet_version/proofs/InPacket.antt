@@ -66,7 +66,7 @@ had_dealt false false o = refl
 one_dealt : (t : Touch) (parts : Parts) → had_by t (λ f. option_map unwritten (parts f)) (λ f. option_map unwritten (parts f)) ≡ dealt_parts t parts
 one_dealt t parts = fun_ext (λ f. had_dealt (has t.reads f) (has t.writes f) (option_map unwritten (parts f)))
 
--- a packet whose writers were forgotten
+-- a packet whose writers were cleared
 abbrev pub forgotten : Parts → List ℕ → PlainHeld
 forgotten parts frame = record { parts = as_list (λ f. option_map unwritten (parts f)); frame = frame }
 
@@ -81,7 +81,7 @@ packet_dealt t parts frame fixed held is =
     ∙ ap (λ (m : Parts). let v : PlainVersion = record { parts = as_list (dealt_parts t parts); touch = t; fixed = fixed; kept = Some (record { parts = as_list m; rest = rest_of frame; fixed = fixed }) } in v)
     (one_kept t parts)))
 
--- nobody is the writer of its parts, and they are their fields'
+-- its parts have no writer, and are their fields'
 nobody_wrote : (o : Option PlainPart) → writer_in (option_map unwritten o) ≡ 0
 nobody_wrote None = refl
 nobody_wrote (Some p) = refl
@@ -107,6 +107,6 @@ due_one t f (Some p) = by_test (has_write f t) refl
     by_test true w = ap (λ (m : Mode). copies_by_mode m (t ∷ []) f) (one_mode t f w).moved
     by_test false w = ap (λ (m : Mode). copies_by_mode m (t ∷ []) f) (is_shared (t ∷ []) f (w, tt))
 
--- no copy is due where there is one branch
+-- no copy is due if there is one branch
 pub one_counted : (t : Touch) (parts : Parts) (counts : List ℕ) → RaisesByDue (t ∷ []) parts counts counts
 one_counted t parts counts f = sym (ap (λ (n : ℕ). raised (count_of counts f) n) (due_one t f (parts f)) ∙ raised_none (count_of counts f))

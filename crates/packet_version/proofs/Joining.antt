@@ -1,4 +1,4 @@
--- A frame that goes together again, field by field.
+-- A frame that is joined again, field by field.
 use Rattle.std.proofs.Common.{false, ◌≡◌, ◌∙◌, ◌<◌, ◌≤◌, ◌+◌, ℕ, List, [], ◌∷◌, sym, ap, refl, subst, get_or, length, drop}
 use mathlib.Core.Path.{fun_ext}
 use Rattle.std.specs.Prelude.{Option, Some, None, IfSome, is_some, option_map}
@@ -17,7 +17,7 @@ use Rattle.packet_version.proofs.Maps.{left_at}
 use Rattle.packet_fields.specs.declared.field.Field.TheVariants.{LinkDst}
 use Rattle.std.proofs.Math.ListN.{drop_of_length-le}
 
--- the fields that are left to write make the whole of what was written so far
+-- writing the remaining fields completes what was written so far
 pub record IsJoining (values : Field → Option (List ℕ)) (left : List Field) (bytes whole : List ℕ) : Type 0 where
   pub due : written_in left values bytes ≡ whole
   pub fits : AllFit values bytes
@@ -43,7 +43,7 @@ joining_fits values f fs bytes whole new is j = fits_at (values f) new is (j.fit
     fits_at None new e h = absurd (cc)
     fits_at (Some v) new e h = subst (λ (v : List ℕ). Fits f v bytes) (same_Some v new e) h
 
--- nothing is left
+-- nothing remains
 pub joining_over : (values : Field → Option (List ℕ)) (bytes whole : List ℕ) → IsJoining values [] bytes whole → bytes ≡ whole
 unfolding written_in
 joining_over values bytes whole j = j.due
@@ -57,7 +57,7 @@ covers b None None e = refl
 covers b None (Some v) e = absurd (cc)
 covers b (Some v) p e = refl
 
--- what stands in the fields' places before is of no account
+-- what is in the fields' places before doesn't matter
 pub written-whole : (parts : Parts) (frame : List ℕ) → IsWhole parts frame → written (values_of parts) (rest_of frame) ≡ written (values_of parts) frame
 written-whole parts frame w =
     written-written (values_of parts) (blanks frame) frame w.fits (blanks_fit frame)
@@ -81,7 +81,7 @@ split_whole taggers frame = record {
   fits = subst (λ (v : Field → Option (List ℕ)). AllFit v frame) (sym (values-split taggers frame)) (fields_fit frame);
 }
 
--- a frame that came apart goes together again
+-- a frame that was split is joined again
 pub joined_again : (taggers : ℕ) (frame : List ℕ) → written (values_of (split_parts taggers frame)) (rest_of frame) ≡ frame
 joined_again taggers frame = ap (λ (v : Field → Option (List ℕ)). written v (rest_of frame)) (values-split taggers frame) ∙ written-rest frame
 
@@ -116,11 +116,11 @@ written_by_value spare writer (Some v) = refl
 pub within_value : (taggers : ℕ) (frame writers : List ℕ) (f : Field) → option_map (λ p. p.bytes) (parts_within taggers frame writers f) ≡ value f frame
 within_value taggers frame writers f = written_by_value (spare_room taggers f) (writer_at writers f) (value f frame)
 
--- a frame that has every part in it goes together again
+-- a frame that has every part in it is joined again
 pub within_again : (taggers : ℕ) (frame writers : List ℕ) → written (values_of (parts_within taggers frame writers)) (rest_of frame) ≡ frame
 within_again taggers frame writers = ap (λ (v : Field → Option (List ℕ)). written v (rest_of frame)) (fun_ext (λ f. within_value taggers frame writers f)) ∙ written-rest frame
 
--- what a part beside the frame has is what the packet has
+-- a part beside the frame has what the packet has
 beside_value : (taggers : ℕ) (frame writers : List ℕ) (f : Field) (p : Place) → is_some (part_in taggers frame writers f p) ≡ is_some (value f frame) → option_map (λ q. q.bytes) (part_in taggers frame writers f p) ≡ option_or (option_map (λ q. q.bytes) (beside p)) (value f frame)
 beside_value taggers frame writers f Inside there = within_value taggers frame writers f
 beside_value taggers frame writers f Gone there = none_there (value f frame) there
@@ -138,7 +138,7 @@ beside_fits taggers frame writers f (Outside part) fits = fits
 pub besides_fit : (taggers : ℕ) (frame writers : List ℕ) (places : List Place) → AllFit (values_of (parts_in taggers frame writers places)) frame → AllFit (values_of (parts_beside places)) frame
 besides_fit taggers frame writers places fits f = beside_fits taggers frame writers f (place_of places f) (fits f)
 
--- it is enough to write what stands beside the frame
+-- it is enough to write what is beside the frame
 pub joined_beside : (taggers : ℕ) (frame writers : List ℕ) (places : List Place) → IsWhole (parts_in taggers frame writers places) frame → written (values_of (parts_beside places)) frame ≡ written (values_of (parts_in taggers frame writers places)) (rest_of frame)
 joined_beside taggers frame writers places w =
     sym (written-whole (parts_in taggers frame writers places) frame w

@@ -1,4 +1,4 @@
--- What is held of a packet, of which one place is changed.
+-- What is held of a packet when one of its places is changed.
 use Rattle.std.proofs.Common.{◌≡◌, ◌≢◌, ◌∙◌, ◌<◌, ◌+◌, ℕ, Bool, true, false, List, [], ◌∷◌, sym, ap, refl, subst, get_or, length, map, set, arith}
 use mathlib.Core.Path.{fun_ext}
 use Rattle.std.specs.Prelude.{Option, Some, None, IfSome, is_some, if◌then◌else◌, ◌==◌, option_map}
@@ -37,13 +37,13 @@ pub part_read : (taggers : ℕ) (frame writers : List ℕ) (places : List Place)
 part_read taggers frame writers places n f p old read is below ten old_is =
     ap (λ (m : Parts). m f) (parts_held taggers frame writers places old old_is) ∙ ap (λ (q : Place). part_in taggers frame writers f q) (place_read places n f p read is below ten)
 
--- parts of which those of one field alone are others
+-- parts of which only those of one field differ
 pub parts_changed : (f : Field) (o : Option PlainPart) (old next : Parts) → next f ≡ o → ((g : Field) → number_of g ≢ number_of f → next g ≡ old g) → next ≡ changed f o old
 parts_changed f o old next here others = fun_ext (λ g. by_field f g (next g ≡ changed f o old g)
     (λ same e. ap next (sym same) ∙ (here ∙ sym (ap (λ (b : Bool). if b then o else old g) e)))
     (λ apart e. others g apart ∙ sym (ap (λ (b : Bool). if b then o else old g) e)))
 
--- what is held of which the part of one field alone is another
+-- what is held when only the part of one field differs
 pub held_next : (taggers : ℕ) (frame writers next_writers : List ℕ) (places next : List Place) (f : Field) (o : Option PlainPart) (old : PlainHeld) → parts_in taggers frame next_writers next f ≡ o → ((g : Field) → number_of g ≢ number_of f → parts_in taggers frame next_writers next g ≡ parts_in taggers frame writers places g) → held_of taggers frame writers places ≡ old → held_of taggers frame next_writers next ≡ with_place f o old
 held_next taggers frame writers next_writers places next f o old here others old_is =
     ap (λ (m : Parts). let h : PlainHeld = record { parts = as_list m; frame = frame } in h)
@@ -51,7 +51,7 @@ held_next taggers frame writers next_writers places next f o old here others old
     ∙ ap (λ (m : Parts). changed f o m) (sym (as_map-listed (parts_in taggers frame writers places))))
     ∙ ap (λ (h : PlainHeld). with_place f o h) old_is
 
--- what is read in the place of a field, or of another, once something was put there
+-- what is read in the place of a field, or of another, after something was put there
 pub set_here : {A : Type 0} (xs : List A) (n : ℕ) (f : Field) (x d : A) → n ≡ number_of f → n < length xs → get_or (set xs n x) (number_of f) d ≡ x
 set_here {A = A} xs n f x d is below =
     read_set xs n (number_of f) x d below
@@ -64,7 +64,7 @@ set_other {A = A} xs n f g x d is below apart = read_set xs n (number_of g) x d 
     by_test true e = absurd (apart (sym ((Decides-eqb n (number_of g)).0 e) ∙ is))
     by_test false e = ap (λ (b : Bool). if b then x else get_or xs (number_of g) d) e
 
--- what is held once another place was put there
+-- what is held after another place was put there
 pub held_put : (taggers : ℕ) (frame writers : List ℕ) (places : List Place) (n : ℕ) (f : Field) (p : Place) (o : Option PlainPart) (old : PlainHeld) → n ≡ number_of f → n < 10 → length places ≡ 10 → part_in taggers frame writers f p ≡ o → held_of taggers frame writers places ≡ old → held_of taggers frame writers (set places n p) ≡ with_place f o old
 held_put taggers frame writers places n f p o old is below ten has old_is =
     let inside : n < length places = omega arith in
@@ -77,7 +77,7 @@ fresh_unwritten : (spare : ℕ) (writer : ℕ) (o : Option (List ℕ)) → optio
 fresh_unwritten spare writer None = refl
 fresh_unwritten spare writer (Some v) = refl
 
--- a place of whose part nobody is the writer
+-- a place whose part has no writer
 pub place_unwritten : (taggers : ℕ) (frame writers next : List ℕ) (f : Field) (p : Place) → writer_at next f ≡ 0 → part_in taggers frame next f (unwritten_place p) ≡ option_map unwritten (part_in taggers frame writers f p)
 place_unwritten taggers frame writers next f Inside none =
     ap (λ (w : ℕ). option_map (by_writer w) (split_parts taggers frame f)) none ∙ fresh_unwritten (spare_room taggers f) (writer_at writers f) (value f frame)
@@ -90,7 +90,7 @@ same_writer taggers frame writers next f Inside same = ap (λ (w : ℕ). option_
 same_writer taggers frame writers next f Gone same = refl
 same_writer taggers frame writers next f (Outside part) same = refl
 
--- what is held once nobody is the writer of a field's part
+-- what is held after the writer of a field's part is cleared
 pub held_kept : (taggers : ℕ) (frame writers : List ℕ) (places : List Place) (n : ℕ) (f : Field) (p q : Place) (old : PlainHeld) → p ≡ get_or places n p → q ≡ unwritten_place p → n ≡ number_of f → n < 10 → length writers ≡ 10 → length places ≡ 10 → held_of taggers frame writers places ≡ old → held_of taggers frame (set writers n 0) (set places n q) ≡ with_place f (option_map unwritten (as_map old.parts f)) old
 held_kept taggers frame writers places n f p q old read none is below all ten old_is =
     let inside : n < length places = omega arith in
@@ -108,11 +108,11 @@ by_nobody : (spare : ℕ) (o : Option (List ℕ)) → option_map (by_writer 0) (
 by_nobody spare None = refl
 by_nobody spare (Some v) = refl
 
--- a frame whose parts nobody wrote
+-- a frame whose parts have no writer
 pub within_unwritten : (taggers : ℕ) (frame writers : List ℕ) → ((f : Field) → writer_at writers f ≡ 0) → parts_within taggers frame writers ≡ split_parts taggers frame
 within_unwritten taggers frame writers none = fun_ext (λ f. ap (λ (w : ℕ). option_map (by_writer w) (split_parts taggers frame f)) (none f) ∙ by_nobody (spare_room taggers f) (value f frame))
 
--- nobody wrote any
+-- no part has a writer
 abbrev pub no_writers : List ℕ
 no_writers = 0 ∷ 0 ∷ 0 ∷ 0 ∷ 0 ∷ 0 ∷ 0 ∷ 0 ∷ 0 ∷ 0 ∷ []
 
@@ -154,7 +154,7 @@ inside_again taggers frame held is =
     ap (λ (xs : List ℕ). written (values_of (as_map held.parts)) (rest_of xs)) (ap (λ (h : PlainHeld). h.frame) is)
     ∙ (ap (λ (m : Parts). written (values_of m) (rest_of frame)) (inside_parts taggers frame held is) ∙ joined_again taggers frame)
 
--- where no place is listed every part is in the frame
+-- if no place is listed, every part is in the frame
 nowhere : (f : Field) → place_of [] f ≡ Inside
 nowhere LinkDst = refl
 nowhere LinkSrc = refl
@@ -174,18 +174,18 @@ closed_place (p ∷ ps) f none = absurd (omega arith)
 pub closed_parts : (taggers : ℕ) (frame writers : List ℕ) (places : List Place) → length places ≡ 0 → parts_in taggers frame writers places ≡ parts_within taggers frame writers
 closed_parts taggers frame writers places none = fun_ext (λ f. ap (λ (p : Place). part_in taggers frame writers f p) (closed_place places f none))
 
--- the part of a field where no place is listed
+-- the part of a field if no place is listed
 pub closed_part : (taggers : ℕ) (frame writers : List ℕ) (places : List Place) (f : Field) (old : PlainHeld) → length places ≡ 0 → held_of taggers frame writers places ≡ old → as_map old.parts f ≡ parts_within taggers frame writers f
 closed_part taggers frame writers places f old none old_is =
     ap (λ (m : Parts). m f) (parts_held taggers frame writers places old old_is ∙ closed_parts taggers frame writers places none)
 
--- what is held where nobody wrote, and no place is listed
+-- what is held if no part has a writer, and no place is listed
 pub new_held : (taggers : ℕ) (frame writers : List ℕ) (places : List Place) → length places ≡ 0 → writers ≡ no_writers → held_of taggers frame writers places ≡ record { parts = as_list (split_parts taggers frame); frame = frame }
 new_held taggers frame writers places none is =
     ap (λ (m : Parts). let h : PlainHeld = record { parts = as_list m; frame = frame } in h)
     (closed_parts taggers frame writers places none ∙ within_unwritten taggers frame writers (λ f. ap (λ (ws : List ℕ). writer_at ws f) is ∙ nobody_wrote f))
 
--- where nobody wrote, and no place is listed, every part is written by nobody
+-- if no part has a writer, and no place is listed, each part in the frame has none
 pub closed_unwritten : (taggers : ℕ) (frame writers : List ℕ) (places : List Place) (f : Field) (old : PlainHeld) → length places ≡ 0 → writers ≡ no_writers → held_of taggers frame writers places ≡ old → option_map unwritten (as_map old.parts f) ≡ as_map old.parts f
 closed_unwritten taggers frame writers places f old none is old_is =
     let read = closed_part taggers frame writers places f old none old_is in
@@ -193,13 +193,13 @@ closed_unwritten taggers frame writers places f old none is old_is =
     ap (λ (o : Option PlainPart). option_map unwritten o) read
     ∙ (sym (place_unwritten taggers frame writers writers f Inside nobody) ∙ sym read)
 
--- a frame that has every part in it goes together again
+-- a frame that has every part in it is joined again
 pub closed_again : (taggers : ℕ) (frame writers : List ℕ) (places : List Place) (old : PlainHeld) → length places ≡ 0 → held_of taggers frame writers places ≡ old → written (values_of (as_map old.parts)) (rest_of old.frame) ≡ frame
 closed_again taggers frame writers places old none old_is =
     ap (λ (xs : List ℕ). written (values_of (as_map old.parts)) (rest_of xs)) (sym (ap (λ (h : PlainHeld). h.frame) old_is))
     ∙ (ap (λ (m : Parts). written (values_of m) (rest_of frame)) (parts_held taggers frame writers places old old_is ∙ closed_parts taggers frame writers places none) ∙ within_again taggers frame writers)
 
--- and so it is once nobody is the writer of a field's part
+-- also after the writer of a field's part is cleared
 pub closed_keeps : (taggers : ℕ) (frame writers : List ℕ) (places : List Place) (n : ℕ) (f : Field) (old : PlainHeld) → length places ≡ 0 → n ≡ number_of f → n < 10 → length writers ≡ 10 → held_of taggers frame writers places ≡ old → held_of taggers frame (set writers n 0) places ≡ with_place f (option_map unwritten (as_map old.parts f)) old
 closed_keeps taggers frame writers places n f old none is below all old_is =
     let within : n < length writers = omega arith in
@@ -223,7 +223,7 @@ pub opened_held : (taggers : ℕ) (frame writers : List ℕ) (places next : List
 opened_held taggers frame writers places next old is old_is =
     ap (λ (ps : List Place). held_of taggers frame writers ps) is ∙ (ap (λ (m : Parts). let h : PlainHeld = record { parts = as_list m; frame = frame } in h) (opened_parts taggers frame writers places) ∙ old_is)
 
--- what is held once nobody is the writer of any part
+-- what is held after all writers are cleared
 pub held_forgotten : (taggers : ℕ) (frame writers : List ℕ) (places : List Place) (old : PlainHeld) → held_of taggers frame writers places ≡ old → held_of taggers frame no_writers (map unwritten_place places) ≡ record old { parts = as_list (λ f. option_map unwritten (as_map old.parts f)) }
 held_forgotten taggers frame writers places old old_is =
     ap (λ (m : Parts). let h : PlainHeld = record { parts = as_list m; frame = frame } in h)
@@ -237,7 +237,7 @@ some_writer : (spare writer : ℕ) (o : Option (List ℕ)) → writer_in (option
 some_writer spare writer None = refl
 some_writer spare writer (Some v) = refl
 
--- who wrote a part that is in the frame
+-- the writer of a part that is in the frame
 pub within_writer : (taggers : ℕ) (frame writers : List ℕ) (f : Field) → writer_in (parts_within taggers frame writers f) ≡ (if is_some (value f frame) then writer_at writers f else 0)
 within_writer taggers frame writers f = some_writer (spare_room taggers f) (writer_at writers f) (value f frame)
 
@@ -252,7 +252,7 @@ is_closed places b is e = (Decides-eqb (length places) 0).0 (sym is ∙ e)
 pub is_listed : (places : List Place) (b : Bool) → b ≡ (length places == 0) → b ≡ false → length places ≢ 0
 is_listed places b is e = λ none. (let t : (length places == 0) ≡ true = (Decides-eqb (length places) 0).1 none in let f : (length places == 0) ≡ false = sym is ∙ e in cc)
 
--- where some place is listed there is one for each field
+-- if some place is listed, there is one for each field
 pub listed_ten : (places : List Place) → length places ≢ 0 → length (opened places) ≡ 10 → length places ≡ 10
 listed_ten [] some ten = absurd (some refl)
 listed_ten (p ∷ ps) some ten = ten

@@ -28,7 +28,7 @@ changed_other f g part parts apart = by_test (is_field f g) refl
     by_test true e = absurd (apart (same_field f g ((Decides-eqb (number_of f) (number_of g)).0 e)))
     by_test false e = ap (λ (c : Bool). if c then part else parts g) e
 
--- a view in which one part was put into a field's place
+-- a view after one part was put into a field's place
 pub wrote_alone : (view : PlainView) (f : Field) (part : Option PlainPart) → WroteAlone f part view (record view { version = with_part f part view.version })
 wrote_alone view f part =
     let whole = as_map-listed (changed f part (seen_parts view)) in
@@ -77,7 +77,7 @@ pushed_one view tag = one_written view Tag (option_map (λ tags. tag ++ tags) (s
 pub popped_one : (view : PlainView) → popped view ≡ wrote_all (alone Tag (option_map (λ tags. drop 4 tags) (seen_values view Tag))) view
 popped_one view = one_written view Tag (option_map (λ tags. drop 4 tags) (seen_values view Tag)) (option_map (λ part. rewritten (drop 4 part.bytes) view.position part) (seen_parts view Tag)) (by_value (λ tags. drop 4 tags) view.position (seen_parts view Tag))
 
--- what is there after some values were written
+-- what is present after some values were written
 pub parts_written : (view : PlainView) (new : Values) (f : Field) → seen_parts (wrote_all new view) f ≡ rewritten_by (new f) view.position (seen_parts view f)
 parts_written view new f = ap (λ (m : Parts). m f) (as_map-listed (λ g. rewritten_by (new g) view.position (seen_parts view g)))
 
@@ -87,7 +87,7 @@ rewritten_twice (Some bytes) None position o = refl
 rewritten_twice (Some bytes) (Some old) position None = refl
 rewritten_twice (Some bytes) (Some old) position (Some part) = refl
 
--- later values stand over the first
+-- later values replace the first
 pub written_twice : (view : PlainView) (first later : Values) → wrote_all later (wrote_all first view) ≡ wrote_all (values_over later first) view
 written_twice view first later = ap (λ (m : Parts). with_seen view m)
     (fun_ext (λ f. ap (λ (o : Option PlainPart). rewritten_by (later f) view.position o) (parts_written view first f) ∙ rewritten_twice (later f) (first f) view.position (seen_parts view f)))

@@ -5,7 +5,7 @@ use Rattle.std.proofs.lemmas.List.{take_all}
 use Rattle.std.proofs.Math.ListN.{drop_of_length-le}
 use Rattle.std.proofs.lemmas.List.Sums.{count_by_more_yes, count_by_more_no, sum_by-take-le}
 
--- the first items changed, the others as they were
+-- the first items changed, the others unchanged
 abbrev pub changed_first : {A : Type 0} → (A → A) → ℕ → List A → List A
 changed_first g k xs = map g (take k xs) ++ drop k xs
 
@@ -19,17 +19,17 @@ set_next g [] k y d below is = absurd (omega arith)
 set_next g (x ∷ xs) zero y d below is = ap (λ z. z ∷ xs) is
 set_next g (x ∷ xs) (suc k) y d below is = ap (λ zs. g x ∷ zs) (set_next g xs k y d (omega arith) is)
 
--- an item is read as it was
+-- an item is read unchanged
 pub read_next : {A : Type 0} (g : A → A) (xs now : List A) (k : ℕ) (x d : A) → k < length xs → now ≡ changed_first g k xs → x ≡ get_or now k d → x ≡ get_or xs k d
 read_next g xs now k x d below is read = read ∙ (ap (λ zs. get_or zs k d) is ∙ at_next g xs k d below)
 
--- one item more is changed
+-- one more item is changed
 pub changed_next : {A : Type 0} (g : A → A) (xs now : List A) (k : ℕ) (y d : A) → k < length xs → now ≡ changed_first g k xs → y ≡ g (get_or now k d) → set now k y ≡ changed_first g (k + 1) xs
 changed_next g xs now k y d below is made =
     ap (λ zs. set zs k y) is
     ∙ (set_next g xs k y d below (made ∙ ap (λ zs. g (get_or zs k d)) is ∙ ap g (at_next g xs k d below)) ∙ ap (λ n. changed_first g n xs) (sym (add-one k)))
 
--- nothing behind a list
+-- nothing is after the end of a list
 pub append_nil : {A : Type 0} (xs : List A) → xs ++ [] ≡ xs
 append_nil [] = refl
 append_nil (x ∷ xs) = ap (λ zs. x ∷ zs) (append_nil xs)

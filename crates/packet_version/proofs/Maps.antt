@@ -26,7 +26,7 @@ listed_at g d Payload = refl
 pub as_map-listed : (g : Parts) → as_map (map g all_fields) ≡ g
 as_map-listed g = fun_ext (λ f. listed_at g None f)
 
--- the field at an index, and those behind it
+-- the field at an index, and those after it
 pub left_at : (fields : List Field) (i : ℕ) → i < length fields → drop i fields ≡ get_or fields i LinkDst ∷ drop (i + 1) fields
 left_at fields i below = rw (add-one, drop-cons fields i LinkDst) refl
 

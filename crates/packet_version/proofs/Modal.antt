@@ -1,4 +1,4 @@
--- What the mode of a field says of the branches.
+-- What the mode of a field says about the branches.
 use Rattle.std.proofs.Common.{◌≡◌, ◌∙◌, ℕ, Bool, true, false, List, sym, ap, refl}
 use Rattle.std.specs.Prelude.{if◌then◌else◌, count_by, position, Option, Some, None, ◌||◌, ◌&&◌, not, ◌==◌}
 use Rattle.std.specs.List.{list_any}
@@ -20,7 +20,7 @@ never_shared : (b : Bool) (k : ℕ) (o : Option ℕ) → (if b then Moved k else
 never_shared true k o e = cc
 never_shared false k o e = cc
 
--- nobody writes a field that is shared
+-- no branch writes a field that is shared
 pub shared_unwritten : (ts : List Touch) (f : Field) → Shared ≡ mode_of ts f → NoneOf (has_write f) ts
 shared_unwritten ts f is = by_place (position (has_write f) ts) refl
   where
@@ -28,7 +28,7 @@ shared_unwritten ts f is = by_place (position (has_write f) ts) refl
     by_place None place = none-position (has_write f) ts place
     by_place (Some k) place = absurd (never_shared (count_by (has_touch f) ts == 1) k (if list_any (only_reads f) ts then None else Some k) (sym (by_position ts f (Some k) place) ∙ sym is))
 
--- what is known of a field that some branch writes and whose original goes to a branch
+-- what is known about a field that some branch writes and whose original goes to a branch
 pub record IsGiven (ts : List Touch) (f : Field) (first : ℕ) : Type 0 where
   pub place : position (has_write f) ts ≡ Some first
   pub alone : NoneOf (only_reads f) ts

@@ -14,7 +14,7 @@ use Rattle.packet_version.proofs.Firsts.{NoneOf, IsFirst, count-first, first_bel
 use Rattle.packet_version.proofs.Modal.{no_touch}
 use Rattle.packet_version.proofs.Mapping.{append_nil}
 
--- the versions once each branch behind the first got its copy
+-- the versions after each branch after the first got its copy
 abbrev pub behind : Field → PlainPart → ℕ → List PlainVersion → List PlainVersion
 behind f p i vs = take (suc i) vs ++ map (copied_to f p) (drop (suc i) vs)
 
@@ -31,7 +31,7 @@ set_first f p (v ∷ vs) zero y d first is = ap (λ x. x ∷ map (copied_to f p)
 set_first f p (v ∷ vs) (suc i) y d first is =
     ap (λ x. x ∷ set (behind f p i vs) i y) (sym (stays f p v first.0)) ∙ ap (λ xs. copied_to f p v ∷ xs) (set_first f p vs i y d first.1 is)
 
--- what a loan of the versions behind the first leaves
+-- what a loan of the versions after the first leaves
 behind_is : (f : Field) (p : PlainPart) (i : ℕ) (vs later : List PlainVersion) → i < length vs → later ≡ map (copied_to f p) (mid_of (i + 1) (length vs - (i + 1)) vs) → put_mid (i + 1) (length vs - (i + 1)) vs later ≡ behind f p i vs
 behind_is f p i vs later below is =
     let n = length vs - (i + 1) in
@@ -45,7 +45,7 @@ original_given f p i vs later y d first is made =
     let same = behind_is f p i vs later (first_below (λ v. has_write f v.touch) vs i first) is in
     ap (λ xs. set xs i y) same ∙ set_first f p vs i y d first (made ∙ ap (λ xs. with_part f (Some (unwritten p)) (get_or xs i d)) same)
 
--- the copies that a loan of the versions behind the first makes
+-- the copies that a loan of the versions after the first makes
 pub writers_behind : (f : Field) (i : ℕ) (vs : List PlainVersion) → IsFirst (λ v. has_write f v.touch) i vs → writers_in f (mid_of (i + 1) (length vs - (i + 1)) vs) ≡ writers_in f vs - 1
 writers_behind f i vs first =
     let n = length vs - (i + 1) in
@@ -84,17 +84,17 @@ first_writes f p [] i d first = absurd first
 first_writes f p (v ∷ vs) zero d first = first
 first_writes f p (v ∷ vs) (suc i) d first = first_writes f p vs i d first.1
 
--- the first branch that writes the field does so behind the copies
+-- the first branch that writes the field does so after the copies
 pub original_writes : (f : Field) (p : PlainPart) (i : ℕ) (vs later : List PlainVersion) (d : PlainVersion) → IsFirst (λ v. has_write f v.touch) i vs → later ≡ map (copied_to f p) (mid_of (i + 1) (length vs - (i + 1)) vs) → has_write f (get_or (put_mid (i + 1) (length vs - (i + 1)) vs later) i d).touch ≡ true
 original_writes f p i vs later d first is =
     ap (λ (xs : List PlainVersion). has_write f (get_or xs i d).touch) (behind_is f p i vs later (first_below (λ v. has_write f v.touch) vs i first) is) ∙ first_writes f p vs i d first
 
--- where no branch reads more than it writes, no loan is made
+-- if no branch reads more than it writes, no loan is made
 pub none_lent : (parts : Parts) (vs : List PlainVersion) → NoneOf (λ v. reads_more v.touch) vs → vs ≡ map (lent_to parts) vs
 none_lent parts [] none = refl
 none_lent parts (v ∷ vs) none = ap (λ xs. v ∷ xs) (none_lent parts vs none.1) ∙ ap (λ (b : Bool). (if b then with_loan parts v else v) ∷ map (lent_to parts) vs) (sym none.0)
 
--- a part whose bytes were read is given as such
+-- a part whose bytes were read is given with those bytes
 pub some_copied : (f : Field) (o : Option PlainPart) (bytes : List ℕ) (spare : ℕ) (vs : List PlainVersion) → Some bytes ≡ option_map (λ p. p.bytes) o → IfSome o (λ p. p.room ≡ length p.bytes + spare) → map (copied_to f (fresh spare bytes)) vs ≡ map (copied_some f o) vs
 some_copied f None bytes spare vs read room = absurd (cc)
 some_copied f (Some p) bytes spare vs read room = copies_alike f p spare bytes vs (same_Some bytes p.bytes read) room

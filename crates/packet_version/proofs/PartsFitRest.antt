@@ -1,4 +1,4 @@
--- The parts of a frame fit its rest where they fit the frame.
+-- The parts of a frame fit its rest if they fit the frame.
 use Rattle.std.proofs.Common.{◌≡◌, ◌∙◌, ℕ, List, length, replicate, sym, ap, refl, subst}
 use Rattle.std.specs.Prelude.{Option, Some, None, IfSome, IsSomeAnd, is_some, option_map}
 use Rattle.std.specs.Option.{option_or}

@@ -1,4 +1,4 @@
--- What a branch has of a packet, of which one part of its own is changed.
+-- What a branch has of a packet, of which one of its own parts is changed.
 use Rattle.std.proofs.Common.{rules, ◌≡◌, ◌≢◌, ◌∙◌, ◌<◌, ℕ, Bool, true, false, List, [], map, sym, ap, refl, subst, get_or, length, set, arith}
 use mathlib.Core.Path.{fun_ext}
 use Rattle.std.specs.Prelude.{Option, Some, None, if◌then◌else◌, ◌==◌, ◌||◌, ◌&&◌, not}
@@ -26,7 +26,7 @@ use Rattle.packet_version.proofs.Maps.{as_map-listed, listed_at}
 use Rattle.packet_version.proofs.Placing.{map_put}
 use Rattle.packet_version.proofs.DealtByField.{by_field}
 
--- of a field that it writes a branch has its own part
+-- for a field that it writes, a branch has its own part
 pub had_own : (touch : Touch) (own lent : Parts) (f : Field) → has_write f touch ≡ true → had_by touch own lent f ≡ own f
 had_own touch own lent f w = ap (λ (b : Bool). if b then own f else (if only_reads f touch then lent f else None)) w
 
@@ -35,13 +35,13 @@ reads_of_touch true true t w = absurd (false≢true (sym w))
 reads_of_touch true false t w = refl
 reads_of_touch false w t e = absurd (false≢true (sym e ∙ t))
 
--- of another that it touches it has the lent one
+-- for another that it touches, it has the lent one
 pub had_lent : (touch : Touch) (own lent : Parts) (f : Field) → has_touch f touch ≡ true → has_write f touch ≡ false → had_by touch own lent f ≡ lent f
 had_lent touch own lent f t w =
     ap (λ (b : Bool). if b then own f else (if only_reads f touch then lent f else None)) w
     ∙ ap (λ (b : Bool). if b then lent f else None) (reads_of_touch (has touch.reads f) (has touch.writes f) t w)
 
--- one part of its own is another
+-- one of its own parts is another
 had_changed : (touch : Touch) (own lent : Parts) (f : Field) (o : Option PlainPart) → has_write f touch ≡ true → had_by touch (changed f o own) lent ≡ changed f o (had_by touch own lent)
 had_changed touch own lent f o w = fun_ext (λ g. by_field f g (had_by touch (changed f o own) lent g ≡ changed f o (had_by touch own lent) g)
     (λ same e.
@@ -54,7 +54,7 @@ had_changed touch own lent f o w = fun_ext (λ g. by_field f g (had_by touch (ch
 pub had_put : (touch : Touch) (own : List (Option PlainPart)) (lent : Parts) (n : ℕ) (f : Field) (o : Option PlainPart) → n ≡ number_of f → n < length own → has_write f touch ≡ true → had_by touch (as_map (set own n o)) lent ≡ changed f o (had_by touch (as_map own) lent)
 had_put touch own lent n f o is below w = ap (λ (m : Parts). had_by touch m lent) (map_put own n f o is below) ∙ had_changed touch (as_map own) lent f o w
 
--- of a field that it doesn't write it is of no account what its own parts are
+-- for a field that it doesn't write, its own parts don't matter
 other_own : (touch : Touch) (own new lent : Parts) (f : Field) → has_write f touch ≡ false → had_by touch new lent f ≡ had_by touch own lent f
 other_own touch own new lent f w =
     ap (λ (b : Bool). if b then new f else (if only_reads f touch then lent f else None)) w
@@ -64,26 +64,26 @@ other_own touch own new lent f w =
 abbrev pub version_of : Option PlainHeld → List (Option PlainPart) → Option (Loan PlainHeld) → Touch → Fixed → PlainVersion
 version_of within own lent touch fixed = record { parts = as_list (had_in touch within own lent); touch = touch; fixed = fixed; kept = kept_of touch within lent fixed }
 
--- where a branch has the packet, or hasn't
+-- if a branch has the packet, or doesn't
 pub version_as : (within now : Option PlainHeld) (own : List (Option PlainPart)) (lent : Option (Loan PlainHeld)) (touch : Touch) (fixed : Fixed) (old : PlainVersion) → within ≡ now → version_of within own lent touch fixed ≡ old → version_of now own lent touch fixed ≡ old
 version_as within now own lent touch fixed old is old_is = subst (λ (w : Option PlainHeld). version_of w own lent touch fixed ≡ old) is old_is
 
 pub had_as : (touch : Touch) (within now : Option PlainHeld) (own : List (Option PlainPart)) (lent : Option (Loan PlainHeld)) → within ≡ now → IsHad touch within own lent → IsHad touch now own lent
 had_as touch within now own lent is h = subst (λ (w : Option PlainHeld). IsHad touch w own lent) is h
 
--- a branch that has nothing of the packet with it has no packet that it writes in
+-- a branch that has nothing of the packet has no packet that it writes in
 pub beside_of : (within : Option PlainHeld) (own : List (Option PlainPart)) (lent : Option (Loan PlainHeld)) (touch : Touch) (fixed : Fixed) (old : PlainVersion) → version_of within own lent touch fixed ≡ old → old.kept ≡ None → within ≡ None
 beside_of None own lent touch fixed old old_is none = refl
 beside_of (Some held) own lent touch fixed old old_is none = absurd (let e : kept_of touch (Some held) lent fixed ≡ None = ap (λ (v : PlainVersion). v.kept) old_is ∙ none in cc)
 
--- a version once a part of its own, or none, was put into a field's place
+-- a version after an own part, or none, was put into a field's place
 pub put_had : (own : List (Option PlainPart)) (lent : Option (Loan PlainHeld)) (n : ℕ) (f : Field) (o : Option PlainPart) (touch : Touch) (fixed : Fixed) (old : PlainVersion) → n ≡ number_of f → n < length own → has_write f touch ≡ true → version_of None own lent touch fixed ≡ old → version_of None (set own n o) lent touch fixed ≡ with_part f o old
 put_had own lent n f o touch fixed old is below w old_is =
     ap (λ (m : Parts). let v : PlainVersion = record { parts = as_list m; touch = touch; fixed = fixed; kept = kept_by lent fixed } in v)
     (had_put touch own (lent_parts lent) n f o is below w ∙ ap (λ (m : Parts). changed f o m) (sym (as_map-listed (had_by touch (as_map own) (lent_parts lent)))))
     ∙ ap (λ (v : PlainVersion). with_part f o v) old_is
 
--- what a branch writes, as its version has it
+-- what a branch writes, in its version
 pub writes_is : (within : Option PlainHeld) (own : List (Option PlainPart)) (lent : Option (Loan PlainHeld)) (f : Field) (touch : Touch) (fixed : Fixed) (b : Bool) (old : PlainVersion) → version_of within own lent touch fixed ≡ old → has_write f old.touch ≡ b → has_write f touch ≡ b
 writes_is within own lent f touch fixed b old old_is w = ap (λ (v : PlainVersion). has_write f v.touch) old_is ∙ w
 
@@ -105,7 +105,7 @@ formed_changed f o parts part formed g = by_field f g (IsPartOf g (changed f o p
     (λ same e. subst (IsPartOf g) (sym (ap (λ (b : Bool). if b then o else parts g) e)) (subst (λ (h : Field). IsPartOf h o) same part))
     (λ apart e. subst (IsPartOf g) (sym (ap (λ (b : Bool). if b then o else parts g) e)) (formed g))
 
--- and it stays so where a part of its own, or none, is put into its place
+-- and it stays so if an own part, or none, is put into its place
 pub had_on : (touch : Touch) (own : List (Option PlainPart)) (lent : Option (Loan PlainHeld)) (n : ℕ) (f : Field) (o : Option PlainPart) → n ≡ number_of f → n < 10 → has_write f touch ≡ true → IsPartOf f o → IsHad touch None own lent → IsHad touch None (set own n o) lent
 had_on touch own lent n f o is below w part h = record {
   there = λ e g v. length-set own n o ∙ h.there e g v;
@@ -127,11 +127,11 @@ few_apart touch within held own lent f is w h =
       λ e. false≢true (sym few.1 ∙ (ap (λ (g : Field). has_write g touch) (sym e) ∙ w)),
     )
 
--- of a field that it writes a branch that writes in the packet has the packet's part
+-- for a field that it writes, a branch that writes in the packet has the packet's part
 pub within_read : (touch : Touch) (held : PlainHeld) (own : List (Option PlainPart)) (lent : Option (Loan PlainHeld)) (f : Field) → has_write f touch ≡ true → had_in touch (Some held) own lent f ≡ as_map held.parts f
 within_read touch held own lent f w = had_own touch (as_map held.parts) (as_map held.parts) f w
 
--- and of another that it touches
+-- and for another that it touches
 pub within_lent : (touch : Touch) (held : PlainHeld) (own : List (Option PlainPart)) (lent : Option (Loan PlainHeld)) (f : Field) → has_touch f touch ≡ true → had_in touch (Some held) own lent f ≡ as_map held.parts f
 within_lent touch held own lent f t = by_test (has_write f touch) refl
   where
@@ -180,7 +180,7 @@ within_left touch f o held new w is = ap (λ (m : Parts). left_by touch m) is �
     ap (λ (b : Bool). if b then None else changed f o (as_map held.parts) g) writes ∙ sym (ap (λ (b : Bool). if b then None else as_map held.parts g) writes))
     (λ apart e. ap (λ (b : Bool). if has_write g touch then None else (if b then o else as_map held.parts g)) e))
 
--- a version once another part, or none, lies in its packet
+-- a version after another part, or none, is put in its packet
 pub put_within : (own : List (Option PlainPart)) (lent : Option (Loan PlainHeld)) (held new : PlainHeld) (f : Field) (o : Option PlainPart) (touch : Touch) (fixed : Fixed) (old : PlainVersion) → IsChanged f o held new → has_write f touch ≡ true → version_of (Some held) own lent touch fixed ≡ old → version_of (Some new) own lent touch fixed ≡ with_part f o old
 put_within own lent held new f o touch fixed old is w old_is =
     ap (λ (m : Parts). let v : PlainVersion = record { parts = as_list m; touch = touch; fixed = fixed; kept = kept_of touch (Some new) lent fixed } in v)
@@ -191,7 +191,7 @@ put_within own lent held new f o touch fixed old is w old_is =
     is.rest
     ∙ ap (λ (v : PlainVersion). with_part f o v) old_is))
 
--- and what such a branch has stays in form
+-- and what such a branch has keeps its form
 pub within_on : (touch : Touch) (own : List (Option PlainPart)) (lent : Option (Loan PlainHeld)) (held new : PlainHeld) (f : Field) (o : Option PlainPart) → IsChanged f o held new → has_write f touch ≡ true → IsPartOf f o → IsHad touch (Some held) own lent → IsHad touch (Some new) own lent
 within_on touch own lent held new f o is w part h = record {
   there = λ e g v. absurd (cc);
@@ -202,7 +202,7 @@ within_on touch own lent held new f o is w part h = record {
   few = h.few;
 }
 
--- a version that has its own parts beside the packet, once one, or none, was put into its place
+-- a version that has its own parts beside the packet, after one, or none, was put into its place
 pub put_beside : (within : Option PlainHeld) (own : List (Option PlainPart)) (lent : Option (Loan PlainHeld)) (n : ℕ) (f : Field) (o : Option PlainPart) (touch : Touch) (fixed : Fixed) (old : PlainVersion) → within ≡ None → n ≡ number_of f → n < 10 → has_write f touch ≡ true → IsHad touch within own lent → version_of within own lent touch fixed ≡ old → version_of within (set own n o) lent touch fixed ≡ with_part f o old
 put_beside within own lent n f o touch fixed old none is below w h old_is =
     version_as None within (set own n o) lent touch fixed (with_part f o old) (sym none)
@@ -212,7 +212,7 @@ pub had_beside : (touch : Touch) (within : Option PlainHeld) (own : List (Option
 had_beside touch within own lent n f o none is below w part h =
     had_as touch None within (set own n o) lent (sym none) (had_on touch own lent n f o is below w part (had_as touch within None own lent none h))
 
--- one that writes in the packet, once another part, or none, lies there
+-- one that writes in the packet, after another part, or none, was put there
 pub put_in_packet : (within : Option PlainHeld) (own : List (Option PlainPart)) (lent : Option (Loan PlainHeld)) (held new : PlainHeld) (f : Field) (o : Option PlainPart) (touch : Touch) (fixed : Fixed) (old : PlainVersion) → within ≡ Some held → IsChanged f o held new → has_write f touch ≡ true → version_of within own lent touch fixed ≡ old → version_of (Some new) own lent touch fixed ≡ with_part f o old
 put_in_packet within own lent held new f o touch fixed old some is w old_is = put_within own lent held new f o touch fixed old is w (version_as within (Some held) own lent touch fixed old some old_is)
 
@@ -224,7 +224,7 @@ both_not true b e = absurd (false≢true e)
 both_not false true e = absurd (false≢true e)
 both_not false false e = (refl, refl)
 
--- a branch that has a packet which nobody wrote, and writes in it
+-- a branch that has a packet without writers, and writes in it
 pub packet_had : (touch : Touch) (held : PlainHeld) (own : List (Option PlainPart)) (lent : Option (Loan PlainHeld)) → ((f : Field) → writer_in (as_map held.parts f) ≡ 0) → ((f : Field) → IsPartOf f (as_map held.parts f)) → writes_few touch ≡ true → IsHad touch (Some held) own lent
 packet_had touch held own lent unwritten formed few = record {
   there = λ e f w. absurd (cc);
@@ -332,7 +332,7 @@ packet_is touch own lent held fixed old old_is =
     ap (λ (m : Parts). let v : PlainVersion = record { parts = as_list m; touch = touch; fixed = fixed; kept = kept_by (Some (Whole held)) fixed } in v) (parts_lent touch own lent (as_map held.parts))
     ∙ ap (λ (v : PlainVersion). with_packet held v) old_is
 
--- the same of a branch that has its own parts beside the packet
+-- the same for a branch that has its own parts beside the packet
 pub had_lending : (touch : Touch) (within : Option PlainHeld) (own : List (Option PlainPart)) (lent loan : Option (Loan PlainHeld)) → within ≡ None → ((f : Field) → writer_in (lent_parts loan f) ≡ 0) → ((f : Field) → IsPartOf f (lent_parts loan f)) → IsHad touch within own lent → IsHad touch within own loan
 had_lending touch within own lent loan none unwritten formed h =
     had_as touch None within own loan (sym none) (had_loan touch own lent loan unwritten formed (had_as touch within None own lent none h))
@@ -341,7 +341,7 @@ had_lending touch within own lent loan none unwritten formed h =
 abbrev pub view_of : Option PlainHeld → List (Option PlainPart) → Option (Loan PlainHeld) → Touch → Fixed → Profile → ℕ → PlainView
 view_of within own lent touch fixed profile position = record { version = version_of within own lent touch fixed; profile = profile; position = position }
 
--- a view of which one part, or none, was put into a field's place
+-- a view in which one part, or none, was put into a field's place
 abbrev pub with_seen : Field → Option PlainPart → PlainView → PlainView
 with_seen f o old = record { version = with_part f o old.version; profile = old.profile; position = old.position }
 
@@ -350,7 +350,7 @@ put_seen own lent n f o touch fixed profile position old is below w old_is =
     ap (λ (v : PlainVersion). let x : PlainView = record { version = v; profile = profile; position = position } in x) (put_had own lent n f o touch fixed (version_of None own lent touch fixed) is below w refl)
     ∙ ap (λ (x : PlainView). with_seen f o x) old_is
 
--- the same of a part of the packet that a branch writes in
+-- the same for a part of the packet that a branch writes in
 pub put_seen_within : (own : List (Option PlainPart)) (lent : Option (Loan PlainHeld)) (held new : PlainHeld) (f : Field) (o : Option PlainPart) (touch : Touch) (fixed : Fixed) (profile : Profile) (position : ℕ) (old : PlainView) → IsChanged f o held new → has_write f touch ≡ true → view_of (Some held) own lent touch fixed profile position ≡ old → view_of (Some new) own lent touch fixed profile position ≡ with_seen f o old
 put_seen_within own lent held new f o touch fixed profile position old is w old_is =
     ap (λ (v : PlainVersion). let x : PlainView = record { version = v; profile = profile; position = position } in x) (put_within own lent held new f o touch fixed (version_of (Some held) own lent touch fixed) is w refl)

@@ -8,7 +8,7 @@ use Rattle.packet_fields.specs.Fields.{number_of}
 use Rattle.packet_fields.specs.declared.field.Field.{Field}
 use Rattle.packet_version.specs.Parts.{PlainPart, as_map, changed}
 
--- what is read of a list once an item was put into a place
+-- what is read from a list after an item was put into a place
 pub read_set : {A : Type 0} (xs : List A) (n k : ℕ) (o d : A) → n < length xs → get_or (set xs n o) k d ≡ (if n == k then o else get_or xs k d)
 read_set {A = A} xs n k o d inside = by_test (n == k) refl
   where
@@ -18,6 +18,6 @@ read_set {A = A} xs n k o d inside = by_test (n == k) refl
         let apart : k ≢ n = λ same. (let t : (n == k) ≡ true = (Decides-eqb n k).1 (sym same) in cc) in
         get_or-set_other xs n k o d apart
 
--- the map of a list of ten once a part was put into a field's place
+-- the map of a list of ten after a part was put into a field's place
 pub map_put : (parts : List (Option PlainPart)) (n : ℕ) (f : Field) (o : Option PlainPart) → n ≡ number_of f → n < length parts → as_map (set parts n o) ≡ changed f o (as_map parts)
 map_put parts n f o is below = fun_ext (λ g. read_set parts n (number_of g) o None below ∙ ap (λ (k : ℕ). if k == number_of g then o else get_or parts (number_of g) None) is)

@@ -1,4 +1,4 @@
--- A packet that only one branch had is put together again.
+-- A packet that only one branch had is joined again.
 use Rattle.std.proofs.Common.{◌≡◌, ◌≢◌, ◌∙◌, ◌+◌, ℕ, Bool, true, false, List, sym, ap, refl, subst, length, arith}
 use mathlib.Core.Path.{fun_ext}
 use Rattle.std.specs.Prelude.{Option, Some, None, IfSome, if◌then◌else◌, ◌==◌, ◌&&◌, nat_lt}
@@ -51,7 +51,7 @@ on_way i first done = with_rejoined first (way i done (packet_parts first))
 way_parts : (i : ℕ) (first was : PlainApart) (done : Parts) → was ≡ on_way i first done → packet_parts was ≡ way i done (packet_parts first)
 way_parts i first was done e = ap packet_parts e ∙ as_map-listed (way i done (packet_parts first))
 
--- one field more
+-- one more field
 pub way_more : (f : Field) (i : ℕ) (touch : Touch) (own first_own : Parts) (first was next : PlainApart) → number_of f ≡ i → own f ≡ first_own f → was ≡ on_way i first (rejoined_by touch first_own (packet_parts first)) → next ≡ with_rejoined was (changed f (rejoined_by touch own (packet_parts was) f) (packet_parts was)) → next ≡ on_way (i + 1) first (rejoined_by touch first_own (packet_parts first))
 way_more f i touch own first_own first was next is same e step =
     let done = rejoined_by touch first_own (packet_parts first) in
@@ -111,7 +111,7 @@ packet_rejoined within own lent held touch fixed old some old_is =
         ∙ (lone_part (had_in touch (Some held) own lent f) ∙ within_read touch held own lent f w)
     by_test f false w = ap (λ (b : Bool). if b then rejoined_part (had_in touch (Some held) own lent f) (if b then None else as_map held.parts f) else (if b then None else as_map held.parts f)) w
 
--- so the packet is what it was written to
+-- so the packet has what was written
 pub packet_whole : (within : Option PlainHeld) (own : List (Option PlainPart)) (lent : Option (Loan PlainHeld)) (held : PlainHeld) (touch : Touch) (fixed : Fixed) (old : PlainVersion) → within ≡ Some held → version_of within own lent touch fixed ≡ old → IfSome old.kept (λ base. IsWhole (rejoined_parts old base) base.rest) → IsWhole (as_map held.parts) held.frame
 packet_whole within own lent held touch fixed old some old_is whole =
     whole_from (as_map held.parts) held.frame (subst (λ (m : Parts). IsWhole m (rest_of held.frame)) (packet_rejoined within own lent held touch fixed old some old_is)
@@ -123,7 +123,7 @@ packet_again within own lent held touch fixed old some ten old_is =
     (ap (λ (ps : List (Option PlainPart)). let a : PlainApart = record { parts = ps; rest = rest_of held.frame; fixed = fixed } in a)
     (sym (as_list-again held.parts ten) ∙ ap as_list (sym (packet_rejoined within own lent held touch fixed old some old_is))))
 
--- what comes of one that has its own parts beside the packet
+-- what becomes of one that has its own parts beside the packet
 pub beside_whole : (old : PlainVersion) (base now : PlainApart) → old.kept ≡ Some base → now ≡ with_rejoined base (rejoined_parts old base) → IfSome old.kept (λ b. IsWhole (rejoined_parts old b) b.rest) → IsWhole (packet_parts now) now.rest
 beside_whole old base now kept made whole =
     subst (λ (w : PlainApart). IsWhole (packet_parts w) w.rest) (sym made) (subst (λ (m : Parts). IsWhole m base.rest) (sym (as_map-listed (rejoined_parts old base)))

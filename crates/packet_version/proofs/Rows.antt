@@ -90,7 +90,7 @@ no_copy_of_nothing : copies_due stage DstIp (split_parts 0 short DstIp) ≡ 0
 unfolding is_ipv4 is_ipv6
 no_copy_of_nothing = refl
 
--- the monitor is dealt no tags and no data
+-- the monitor gets no tags and no data
 watched : values_of (as_map (dealt (apart 0 packet) watches).parts) Tag ≡ None
 unfolding tags_len
 watched = refl

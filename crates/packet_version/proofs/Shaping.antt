@@ -1,4 +1,4 @@
--- Parts of the shape of others fit where those fit.
+-- Parts of the shape of others fit if those fit.
 use Rattle.std.proofs.Common.{◌≡◌, ◌∙◌, ℕ, List, length, true}
 use Rattle.std.specs.Prelude.{Option, Some, None, IfSome, IsSomeAnd, is_some, option_map}
 use Rattle.packet_fields.specs.Frames.{is_tag_list}
@@ -22,7 +22,7 @@ by_length None q o same fits = tt
 by_length (Some p) None o same fits = absurd (cc)
 by_length (Some p) (Some q) o same fits = same_fitting p.bytes q.bytes o (cc) fits
 
--- whole tags, where there are tags
+-- whole tags, if there are tags
 by_tags : (p q : Option PlainPart) (frame : List ℕ) → is_some p ≡ is_some q → IfSome p (λ r. is_tag_list r.bytes ≡ true) → IfSome (option_map (λ r. r.bytes) q) (λ old. Fits Tag old frame) → IfSome (option_map (λ r. r.bytes) p) (λ new. Fits Tag new frame)
 by_tags None q frame there tags fits = tt
 by_tags (Some p) None frame there tags fits = absurd (cc)

@@ -1,4 +1,4 @@
--- Whole tags stay whole where one is put before them or taken away.
+-- Whole tags stay whole if one is put before them or taken away.
 use Rattle.std.proofs.Common.{◌≡◌, ◌<◌, ◌≤◌, ◌+◌, ◌*◌, ℕ, true, List, [], ◌∷◌, ◌++◌, length, drop, arith, length-append, ap, subst, ◌∙◌}
 use Rattle.std.specs.Prelude.{Option, Some, IsSomeAnd}
 use Rattle.std.proofs.lemmas.Bool.{and_from, and_parts, false≢true}

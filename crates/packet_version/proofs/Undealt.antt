@@ -1,4 +1,4 @@
--- A stage of which no branch writes: nothing is dealt, and the packet is kept as it is.
+-- A stage of which no branch writes: no part leaves the packet, and the packet is kept unchanged.
 use Rattle.std.proofs.Common.{◌≡◌, ◌∙◌, ℕ, zero, suc, Bool, true, false, List, [], ◌∷◌, map, sym, ap, refl, length}
 use mathlib.Core.Path.{fun_ext}
 use Rattle.std.specs.Prelude.{if◌then◌else◌, not, position, Option, Some, None, option_map}
@@ -42,7 +42,7 @@ none_first p [] k none first = first
 none_first p (t ∷ ts) zero none first = false≢true (sym none.0 ∙ first)
 none_first p (t ∷ ts) (suc k) none first = none_first p ts k none.1 first.1
 
--- a field that nobody writes is shared
+-- a field that no branch writes is shared
 pub is_shared : (ts : List Touch) (f : Field) → NoneOf (has_write f) ts → mode_of ts f ≡ Shared
 is_shared ts f none = by_place (position (has_write f) ts) refl
   where

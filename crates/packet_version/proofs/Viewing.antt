@@ -1,4 +1,4 @@
--- What a view shows, and a field whose bytes are lent to be written.
+-- What a view shows, and a field whose bytes are lent for writing.
 use Rattle.std.proofs.Common.{◌≡◌, ◌≢◌, ◌∙◌, ◌<◌, ℕ, true, false, List, length, sym, ap, refl, subst, get_or, set}
 use Rattle.std.specs.Prelude.{Option, Some, None, IsSome, IfSome, IsSomeAnd, is_some, option_map}
 use Rattle.std.proofs.lemmas.Bool.{false≢true}
@@ -20,7 +20,7 @@ use Rattle.packet_version.proofs.Forming.{edited_formed}
 use Rattle.packet_version.proofs.Maps.{as_map-listed}
 use Rattle.packet_version.proofs.PartsOfBranch.{IsChanged, view_of, with_seen, had_as, had_lent, own_read, own_inside, within_read, within_lent, put_seen, put_seen_within, changed_to, within_on, within_formed}
 
--- where a branch has the packet, or hasn't
+-- if a branch has the packet, or doesn't
 pub view_as : (within now : Option PlainHeld) (own : List (Option PlainPart)) (lent : Option (Loan PlainHeld)) (touch : Touch) (fixed : Fixed) (profile : Profile) (position : ℕ) (old : PlainView) → within ≡ now → view_of within own lent touch fixed profile position ≡ old → view_of now own lent touch fixed profile position ≡ old
 view_as within now own lent touch fixed profile position old is old_is = subst (λ (w : Option PlainHeld). view_of w own lent touch fixed profile position ≡ old) is old_is
 
@@ -51,7 +51,7 @@ seen_lent own lent f touch fixed profile position old named w v old_is =
     seen_had None own lent f touch fixed profile position old old_is
     ∙ had_lent touch (as_map own) (lent_parts lent) f (v.holds.touched f (ap (λ (x : PlainView). names x.profile f) old_is ∙ named)) w
 
--- the packet's part of a field that the function names, where its branch writes in the packet
+-- the packet's part of a field that the function names, if its branch writes in the packet
 pub seen_named : (held : PlainHeld) (own : List (Option PlainPart)) (lent : Option (Loan PlainHeld)) (f : Field) (touch : Touch) (fixed : Fixed) (profile : Profile) (position : ℕ) (old : PlainView) → names old.profile f ≡ true → IsView profile touch (Some held) own lent → view_of (Some held) own lent touch fixed profile position ≡ old → seen_parts old f ≡ as_map held.parts f
 seen_named held own lent f touch fixed profile position old named v old_is =
     seen_had (Some held) own lent f touch fixed profile position old old_is
@@ -66,19 +66,19 @@ left_as f o bytes position old at is =
     ap (λ (p : Option PlainPart). with_seen f p old)
     (ap (λ (k : ℕ). option_map (edited bytes k) o) at ∙ ap (λ (p : Option PlainPart). option_map (edited bytes old.position) p) (sym is))
 
--- the view in which these bytes were left
+-- the view after these bytes were left
 pub left_seen : (own : List (Option PlainPart)) (lent : Option (Loan PlainHeld)) (n : ℕ) (f : Field) (o : Option PlainPart) (bytes : List ℕ) (touch : Touch) (fixed : Fixed) (profile : Profile) (position : ℕ) (old : PlainView) → o ≡ get_or own n o → n ≡ number_of f → n < 10 → has_write f touch ≡ true → IsView profile touch None own lent → view_of None own lent touch fixed profile position ≡ old → view_of None (set own n (option_map (edited bytes position) o)) lent touch fixed profile position ≡ left f bytes old
 left_seen own lent n f o bytes touch fixed profile position old read is below w v old_is =
     put_seen own lent n f (option_map (edited bytes position) o) touch fixed profile position old is (own_inside touch own lent n f below w v.had) w old_is
     ∙ left_as f o bytes position old (ap (λ (x : PlainView). x.position) old_is) (seen_own own lent n f o touch fixed profile position old read is below w v old_is)
 
--- and that in whose packet they were left
+-- and the view in whose packet they were left
 pub left_seen_within : (held : PlainHeld) (own : List (Option PlainPart)) (lent : Option (Loan PlainHeld)) (f : Field) (bytes : List ℕ) (touch : Touch) (fixed : Fixed) (profile : Profile) (position : ℕ) (old : PlainView) → has_write f touch ≡ true → view_of (Some held) own lent touch fixed profile position ≡ old → view_of (Some (left_there f bytes position held)) own lent touch fixed profile position ≡ left f bytes old
 left_seen_within held own lent f bytes touch fixed profile position old w old_is =
     put_seen_within own lent held (left_there f bytes position held) f (option_map (edited bytes position) (as_map held.parts f)) touch fixed profile position old (changed_to f (option_map (edited bytes position) (as_map held.parts f)) held (left_there f bytes position held) refl) w old_is
     ∙ left_as f (as_map held.parts f) bytes position old (ap (λ (x : PlainView). x.position) old_is) (seen_within held own lent f touch fixed profile position old w old_is)
 
--- one part of its own, or none, was put into its place, beside the packet
+-- an own part, or none, was put into its place, beside the packet
 pub put_seen_beside : (within : Option PlainHeld) (own : List (Option PlainPart)) (lent : Option (Loan PlainHeld)) (n : ℕ) (f : Field) (o : Option PlainPart) (touch : Touch) (fixed : Fixed) (profile : Profile) (position : ℕ) (old : PlainView) → within ≡ None → n ≡ number_of f → n < 10 → has_write f touch ≡ true → IsView profile touch within own lent → view_of within own lent touch fixed profile position ≡ old → view_of within (set own n o) lent touch fixed profile position ≡ with_seen f o old
 put_seen_beside within own lent n f o touch fixed profile position old none is below w v old_is =
     view_as None within (set own n o) lent touch fixed profile position (with_seen f o old) (sym none)

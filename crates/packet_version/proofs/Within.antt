@@ -13,7 +13,7 @@ use Rattle.packet_version.specs.declared.place.Place.{Place}
 use Rattle.packet_version.specs.declared.place.Place.TheVariants.{Inside, Gone, Outside}
 use Rattle.packet_version.proofs.Keeping.{held_of, parts_held, parts_changed, set_here, set_other, same_writer}
 
--- a place that stands beside the frame is listed
+-- a place that is beside the frame is listed
 pub outside_listed : (places : List Place) (n : ℕ) → is_outside (get_or places n Inside) ≡ true → n < length places
 outside_listed [] zero is = absurd (false≢true is)
 outside_listed [] (suc n) is = absurd (false≢true is)
@@ -33,7 +33,7 @@ some_inside taggers frame writers f (Outside part) P other some = absurd (false�
 abbrev Fitting : List ℕ → Option (List ℕ) → Type 0
 Fitting new o = IsSomeAnd o (λ old. length new ≡ length old)
 
--- a value of the old one's length can stand in its field's place
+-- a value of the old one's length fits its field's place
 fits_place : (f : Field) (new frame : List ℕ) → f ≢ Tag → Fitting new (value f frame) → Fits f new frame
 fits_place Tag new frame other fits = absurd (other refl)
 fits_place LinkDst new frame other fits = fits
@@ -77,7 +77,7 @@ pub held_within_at : (taggers : ℕ) (frame writers : List ℕ) (places : List P
 held_within_at taggers frame writers places f old inside old_is =
     ap (λ (m : Parts). m f) (parts_held taggers frame writers places old old_is) ∙ ap (λ (p : Place). part_in taggers frame writers f p) inside
 
--- what is held once a part was written in the frame
+-- what is held after a part was written in the frame
 pub written_within : (taggers : ℕ) (frame next writers : List ℕ) (places : List Place) (n w : ℕ) (f : Field) (new : List ℕ) (old : PlainHeld) → n ≡ number_of f → n < 10 → length writers ≡ 10 → is_outside (place_of places f) ≡ false → IsSomeAnd (as_map old.parts f) (λ p. length new ≡ length p.bytes) → value f next ≡ Some new → ((g : Field) → f ≢ g → value g next ≡ value g frame) → held_of taggers frame writers places ≡ old → as_list (parts_in taggers next (set writers n w) places) ≡ as_list (changed f (option_map (rewritten new w) (as_map old.parts f)) (as_map old.parts))
 written_within taggers frame next writers places n w f new old is below all other fits written others old_is =
     let inside = place_within taggers frame writers places f new old other fits old_is in

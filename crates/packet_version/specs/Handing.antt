@@ -16,20 +16,20 @@ use Rattle.packet_version.specs.declared.base.Kept.TheVariants.{Own, Lent}
 abbrev pub touches_in : List PlainVersion → List Touch
 touches_in versions = map (λ v. v.touch) versions
 
--- a version with the part, where its branch writes the field
+-- a version with the part, if its branch writes the field
 abbrev pub copied_to : Field → PlainPart → PlainVersion → PlainVersion
 copied_to f part version = if has_write f version.touch then with_part f (Some (unwritten part)) version else version
 
--- the same, where there is a part
+-- the same, if there is a part
 abbrev pub copied_some : Field → Option PlainPart → PlainVersion → PlainVersion
 copied_some f None version = version
 copied_some f (Some part) version = copied_to f part version
 
--- how many of the branches write the field
+-- the number of branches that write the field
 abbrev pub writers_in : Field → List PlainVersion → ℕ
 writers_in f versions = count_by (λ v. has_write f v.touch) versions
 
--- the parts of a branch's own, written by nobody: those of the fields that it writes
+-- a branch's own parts, with no writer: those of the fields that it writes
 abbrev pub own_parts : Touch → Parts → Parts
 own_parts touch parts f = if has_write f touch then option_map unwritten (parts f) else None
 
@@ -44,7 +44,7 @@ reads_more touch = not ((joined touch.reads touch.writes).0 == touch.writes.0)
 abbrev pub writes_some : Touch → Bool
 writes_some touch = not (is_none touch.writes)
 
--- the branch writes no field but those of fixed length
+-- the branch writes only fields of fixed length
 abbrev pub writes_few : Touch → Bool
 writes_few touch = not (has_write Tag touch) && not (has_write Payload touch)
 
@@ -68,7 +68,7 @@ holding held touch fixed = record {
   kept = Some (record { parts = as_list (left_by touch (as_map held.parts)); rest = rest_of held.frame; fixed = fixed });
 }
 
--- a version with a loan of these parts, where its branch reads of them
+-- a version with a loan of these parts, if its branch reads any of them
 abbrev pub lent_to : Parts → PlainVersion → PlainVersion
 lent_to parts version = if reads_more version.touch then with_loan parts version else version
 
@@ -85,7 +85,7 @@ with_place f part held = record held { parts = as_list (changed f part (as_map h
 abbrev pub without_fields : PlainVersion → PlainVersion
 without_fields version = record version { parts = as_list (λ f. None) }
 
--- so many copies of a part that is there
+-- this number of copies of a part that is there
 abbrev pub copies_of : Option PlainPart → ℕ → ℕ
 copies_of None count = 0
 copies_of (Some part) count = count

@@ -1,4 +1,4 @@
--- For proofs: bytes that are lent to be written.
+-- For proofs: bytes that are lent for writing.
 use Rattle.std.specs.Prelude.{ℕ, List, ◌++◌, take, drop, length, Option, option_map, slice_set}
 use Rattle.std.specs.Borrow.{Lends, MutBor, Fml, Array, u8}
 use Rattle.packet_fields.specs.declared.field.Field.{Field}
@@ -12,7 +12,7 @@ use Rattle.packet_version.specs.contracts.places.Places.{the_row as places_row}
 use Rattle.packet_version.specs.contracts.contents.Contents.{the_row as contents_row}
 use Rattle.packet_version.specs.contracts.held.Held.{the_row as held_row}
 
--- new bytes over old ones, which keep their number
+-- new bytes over old ones, as many as before
 abbrev pub over : List ℕ → List ℕ → List ℕ
 over new old = take (length old) (new ++ drop (length new) old)
 
@@ -37,11 +37,11 @@ edited_place new writer place = place
 abbrev pub LendsPlace : MutBor Place → ℕ → MutBor (List ℕ) → Fml
 LendsPlace place writer lent = Lends place_row (Array u8 0) place lent (λ w. edited_place w writer place.now)
 
--- places of which one ends with what was left there
+-- places of which one ends with the bytes that were left there
 abbrev pub LendsListed : MutBor (List Place) → ℕ → MutBor Place → Fml
 LendsListed places n lent = Lends places_row place_row places lent (λ p. slice_set places.now n p)
 
--- what is held once these bytes were left in a field
+-- what is held after these bytes were left in a field
 abbrev pub left_there : Field → List ℕ → ℕ → PlainHeld → PlainHeld
 left_there f new writer held = record held { parts = as_list (changed f (option_map (edited new writer) (as_map held.parts f)) (as_map held.parts)) }
 
@@ -52,6 +52,6 @@ LendsContents held f writer lent = Lends contents_row (Array u8 0) held lent (λ
 abbrev pub LendsHeld : MutBor PlainHeld → Field → ℕ → MutBor (List ℕ) → Fml
 LendsHeld held f writer lent = Lends held_row (Array u8 0) held lent (λ w. left_there f w writer held.now)
 
--- the same where there is something held
+-- the same if there is something held
 abbrev pub LendsWithin : MutBor (Option PlainHeld) → Field → ℕ → MutBor (List ℕ) → Fml
 LendsWithin within f writer lent = Lends (option_of held_row) (Array u8 0) within lent (λ w. option_map (left_there f w writer) within.now)

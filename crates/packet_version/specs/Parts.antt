@@ -1,4 +1,4 @@
--- For proofs: a packet in parts: for each field that it has its bytes, who wrote them last, and how many fit.
+-- For proofs: a packet in parts: for each field that it has, its bytes, their last writer, and how many fit.
 use Rattle.std.specs.Prelude.{◌≡◌, ℕ, List, length, Option, Some, None, Bool, true, if◌then◌else◌, ◌==◌, option_map, slice_index_or, map, IfSome}
 use Rattle.packet_fields.specs.Frames.{is_tag_list}
 use Rattle.packet_fields.specs.Fields.{number_of, IsLengthOf}
@@ -6,14 +6,14 @@ use Rattle.packet_fields.specs.Writing.{all_fields}
 use Rattle.packet_fields.specs.declared.field.Field.{Field}
 use Rattle.packet_fields.specs.declared.field.Field.TheVariants.{Tag}
 
--- A field's bytes, the chain position of the function that wrote them last in this stage (0 where none
--- did), and the greatest number of bytes that it can have without taking memory.
+-- A field's bytes, the chain position of the function that wrote them last in this stage (0 if none
+-- did), and the greatest number of bytes that it can have without allocating memory.
 pub record PlainPart : Type 0 where
   pub bytes : List ℕ
   pub writer : ℕ
   pub room : ℕ
 
--- the part of each field, where there is one
+-- the part of each field, if there is one
 abbrev pub Parts : Type 0
 Parts = Field → Option PlainPart
 
@@ -33,7 +33,7 @@ abbrev pub writer_in : Option PlainPart → ℕ
 writer_in None = 0
 writer_in (Some p) = p.writer
 
--- the last writer of each field, 0 where there is none
+-- the last writer of each field, 0 if there is none
 abbrev pub writers_of : Parts → Field → ℕ
 writers_of parts f = writer_in (parts f)
 
@@ -57,20 +57,20 @@ by_writer writer p = record p { writer = writer }
 abbrev pub rewritten : List ℕ → ℕ → PlainPart → PlainPart
 rewritten bytes writer p = record p { bytes = bytes; writer = writer }
 
--- the bytes of a part, where it is there, are whole tags
+-- the bytes of a part, if it is there, are whole tags
 abbrev pub AreTags : Option PlainPart → Type 0
 AreTags part = IfSome part (λ p. is_tag_list p.bytes ≡ true)
 
--- Bytes that are a field's: as many as the field has, and of the tags whole tags.
+-- Bytes that are a field's: as many as the field has, and for the tags whole tags.
 pub record IsValueOf (f : Field) (bytes : List ℕ) : Type 0 where
   pub size : IsLengthOf f (length bytes)
   pub whole : f ≡ Tag → is_tag_list bytes ≡ true
 
--- the bytes of a part, where it is there, are the field's
+-- the bytes of a part, if it is there, are the field's
 abbrev pub IsPartOf : Field → Option PlainPart → Type 0
 IsPartOf f part = IfSome part (λ p. IsValueOf f p.bytes)
 
--- The parts of a packet in the fields' order, and its frame, whose own fields are of no account.
+-- The parts of a packet in the fields' order, and its frame, whose own fields don't matter.
 pub record PlainHeld : Type 0 where
   pub parts : List (Option PlainPart)
   pub frame : List ℕ

@@ -8,11 +8,11 @@ use Rattle.packet_version.specs.Splitting.{split_parts, fresh}
 use Rattle.packet_version.specs.declared.place.Place.{Place}
 use Rattle.packet_version.specs.declared.place.Place.TheVariants.{Inside, Gone, Outside}
 
--- the place of a field's part, which is in the frame where none is listed
+-- the place of a field's part, which is in the frame if none is listed
 abbrev pub place_of : List Place → Field → Place
 place_of places f = slice_index_or places (number_of f) Inside
 
--- who wrote the part of a field that is in the frame, 0 for nobody
+-- the writer of the part of a field that is in the frame, 0 if there is none
 abbrev pub writer_at : List ℕ → Field → ℕ
 writer_at writers f = slice_index_or writers (number_of f) 0
 
@@ -29,7 +29,7 @@ parts_in taggers frame writers places f = part_in taggers frame writers f (place
 abbrev pub parts_within : ℕ → List ℕ → List ℕ → Parts
 parts_within taggers frame writers f = part_in taggers frame writers f Inside
 
--- the part that stands beside the frame, where there is one
+-- the part that is beside the frame, if there is one
 abbrev pub beside : Place → Option PlainPart
 beside (Outside part) = Some part
 beside place = None
@@ -45,27 +45,27 @@ is_outside place = false
 abbrev pub inside_all : List Place
 inside_all = map (λ f. Inside) all_fields
 
--- the same place, of whose part nobody is the writer
+-- the same place, with no writer of its part
 abbrev pub unwritten_place : Place → Place
 unwritten_place (Outside part) = Outside (unwritten part)
 unwritten_place place = place
 
--- the same place, in whose part other bytes were written
+-- the same place, after other bytes were written into its part
 abbrev pub rewritten_place : List ℕ → ℕ → Place → Place
 rewritten_place bytes writer (Outside part) = Outside (rewritten bytes writer part)
 rewritten_place bytes writer place = place
 
--- the place of a part that was made of one in the frame, where there is one
+-- the place of a part that was made of one in the frame, if there is one
 abbrev pub place_made : Option PlainPart → Place
 place_made None = Inside
 place_made (Some part) = Outside part
 
--- the same place, whose part was brought out of the frame
+-- the same place, after its part was taken out of the frame
 abbrev pub brought : List ℕ → ℕ → Field → Place → Place
 brought frame writer f Inside = place_made (option_map (by_writer writer) (option_map (fresh 0) (value f frame)))
 brought frame writer f place = place
 
--- a place for each field: where none is listed every part is in the frame
+-- a place for each field: if none is listed, every part is in the frame
 abbrev pub opened : List Place → List Place
 opened [] = inside_all
 opened (p ∷ ps) = p ∷ ps
@@ -75,7 +75,7 @@ abbrev pub listed_of : Bool → List Place → List Place
 listed_of true cells = cells
 listed_of false cells = []
 
--- There is a cell for each field, and as long as no place is listed every part is in the frame.
+-- There is a cell for each field, and as long as no place is listed, every part is in the frame.
 pub record AreCells (listed : Bool) (cells : List Place) : Type 0 where
   pub ten : length cells ≡ 10
   pub inside : listed ≡ false → cells ≡ inside_all

@@ -13,8 +13,8 @@ use Rattle.packet_version.specs.declared.loan.Loan.TheVariants.{Shared, Whole}
 use Rattle.packet_fields.specs.Writing.{rest_of}
 use Rattle.chain_walk.specs.declared.fixed.Fixed.{Fixed}
 
--- The parts of a branch in the fields' order, what the branch touches, and the packet's fixed values; beside them the packet
--- without what the branch writes, where the branch is the only one of its stage and has it with it.
+-- The parts of a branch in the fields' order, what the branch touches, and the packet's fixed values; also the packet
+-- without what the branch writes, if the branch is the only one of its stage and has it.
 pub record PlainVersion : Type 0 where
   pub parts : List (Option PlainPart)
   pub touch : Touch
@@ -42,13 +42,13 @@ pub record HoldsNamed (profile : Profile) (touch : Touch) : Type 0 where
   pub touched : (f : Field) → names profile f ≡ true → has_touch f touch ≡ true
   pub written : (f : Field) → writes_of profile f ≡ true → has_write f touch ≡ true
 
--- the parts that are lent, where there are some
+-- the parts that are lent, if there are some
 abbrev pub lent_parts : Option (Loan PlainHeld) → Parts
 lent_parts None f = None
 lent_parts (Some (Shared held)) f = as_map held.parts f
 lent_parts (Some (Whole held)) f = as_map held.parts f
 
--- the packet that a branch has with it
+-- the packet that a branch has
 abbrev pub kept_by : Option (Loan PlainHeld) → Fixed → Option PlainApart
 kept_by None fixed = None
 kept_by (Some (Shared held)) fixed = None
@@ -58,7 +58,7 @@ kept_by (Some (Whole held)) fixed = Some (record { parts = held.parts; rest = re
 abbrev pub had_by : Touch → Parts → Parts → Parts
 had_by touch own lent f = if has_write f touch then own f else (if only_reads f touch then lent f else None)
 
--- The same of a branch that has the packet with it and writes in it: every part is there. Else it has parts of its own, and a loan.
+-- The same for a branch that has the packet and writes in it: every part is there. Else it has own parts, and a loan.
 abbrev pub had_in : Touch → Option PlainHeld → List (Option PlainPart) → Option (Loan PlainHeld) → Parts
 had_in touch None own lent = had_by touch (as_map own) (lent_parts lent)
 had_in touch (Some held) own lent = had_by touch (as_map held.parts) (as_map held.parts)
@@ -67,13 +67,13 @@ had_in touch (Some held) own lent = had_by touch (as_map held.parts) (as_map hel
 abbrev pub left_by : Touch → Parts → Parts
 left_by touch parts f = if has_write f touch then None else parts f
 
--- what a branch has with it of the packet, beside what it writes
+-- what a branch has of the packet, besides what it writes
 abbrev pub kept_of : Touch → Option PlainHeld → Option (Loan PlainHeld) → Fixed → Option PlainApart
 kept_of touch None lent fixed = kept_by lent fixed
 kept_of touch (Some held) lent fixed = Some (record { parts = as_list (left_by touch (as_map held.parts)); rest = rest_of held.frame; fixed = fixed })
 
--- There is a place for each part of a branch's own, unless it writes in the packet. What it doesn't write was written by nobody, and
--- each part has its field's length, the tags as whole tags. In the packet a branch writes fields of fixed length alone.
+-- There is a place for each of a branch's own parts, unless it writes in the packet. What it doesn't write has no
+-- writer, and each part has its field's length, the tags as whole tags. In the packet it writes fixed lengths alone.
 pub record IsHad (touch : Touch) (within : Option PlainHeld) (own : List (Option PlainPart)) (lent : Option (Loan PlainHeld)) : Type 0 where
   pub there : within ≡ None → (f : Field) → has_write f touch ≡ true → length own ≡ 10
   pub unwritten : (f : Field) → has_write f touch ≡ false → writer_in (had_in touch within own lent f) ≡ 0

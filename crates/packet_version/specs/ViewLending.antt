@@ -1,4 +1,4 @@
--- For proofs: the bytes of a field that a view lends to be written.
+-- For proofs: the bytes of a field that a view lends for writing.
 use Rattle.std.specs.Prelude.{ℕ, List, option_map}
 use Rattle.std.specs.Borrow.{Lends, MutBor, Fml, Array, u8}
 use Rattle.packet_fields.specs.declared.field.Field.{Field}
@@ -7,7 +7,7 @@ use Rattle.packet_version.specs.Versions.{with_part}
 use Rattle.packet_version.specs.Views.{PlainView, seen_parts}
 use Rattle.packet_version.specs.contracts.view.View.{the_row}
 
--- the view once its function left these bytes in a field
+-- the view after its function left these bytes in a field
 abbrev pub left : Field → List ℕ → PlainView → PlainView
 left f new view = record view { version = with_part f (option_map (edited new view.position) (seen_parts view f)) view.version }
 

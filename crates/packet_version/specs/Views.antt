@@ -16,44 +16,44 @@ pub record PlainView : Type 0 where
   pub profile : Profile
   pub position : ℕ
 
--- the parts behind a view
+-- the parts after a view
 abbrev pub seen_parts : PlainView → Parts
 seen_parts view = version_parts view.version
 
--- the bytes behind a view
+-- the bytes after a view
 abbrev pub seen_values : PlainView → Field → Option (List ℕ)
 seen_values view = values_of (seen_parts view)
 
--- the view once its function wrote these bytes into a field that is present
+-- the view after its function wrote these bytes into a field that is present
 abbrev pub wrote : Field → List ℕ → PlainView → PlainView
 wrote f bytes view = record view { version = with_part f (option_map (rewritten bytes view.position) (seen_parts view f)) view.version }
 
--- the view once its function put a tag before the others
+-- the view after its function put a tag before the others
 abbrev pub pushed : List ℕ → PlainView → PlainView
 pushed tag view = record view { version = with_part Tag (option_map (λ part. rewritten (tag ++ part.bytes) view.position part) (seen_parts view Tag)) view.version }
 
--- the view once its function took the first tag away
+-- the view after its function took the first tag away
 abbrev pub popped : PlainView → PlainView
 popped view = record view { version = with_part Tag (option_map (λ part. rewritten (drop 4 part.bytes) view.position part) (seen_parts view Tag)) view.version }
 
--- a part with its new bytes, where there are some
+-- a part with its new bytes, if there are some
 abbrev pub rewritten_by : Option (List ℕ) → ℕ → Option PlainPart → Option PlainPart
 rewritten_by None position part = part
 rewritten_by (Some bytes) position part = option_map (rewritten bytes position) part
 
--- the view once its function wrote these values
+-- the view after its function wrote these values
 abbrev pub wrote_all : Values → PlainView → PlainView
 wrote_all new view = record view { version = record view.version { parts = as_list (λ f. rewritten_by (new f) view.position (seen_parts view f)) } }
 
--- what a function does with the packet behind a view
+-- what a function does with the packet after a view
 abbrev pub viewed : {F : Type 0} → Behaviour F → F → PlainView → Step F
 viewed b f view = stepped b view.version.fixed f (seen_values view)
 
--- a field is present, with bytes of which this holds
+-- a field is present, with bytes for which this holds
 abbrev pub HasBytes : PlainView → Field → (List ℕ → Type 0) → Type 0
 HasBytes view f P = IsSomeAnd (seen_values view f) P
 
--- a further tag fits behind the tags of a part
+-- a further tag fits after the tags of a part
 abbrev pub HasTagRoom : PlainView → Type 0
 HasTagRoom view = IsSomeAnd (seen_parts view Tag) (λ part. length part.bytes + 4 ≤ part.room)
 
@@ -66,8 +66,8 @@ pub record IsView (profile : Profile) (touch : Touch) (within : Option PlainHeld
   pub had : IsHad touch within own lent
   pub holds : HoldsNamed profile touch
 
--- One field of a view became this part. Every other field is as it was, and so is all else: what the branch touches and has
--- with it, the fixed values, the profile and the position.
+-- One field of a view became this part. Every other field is unchanged, and so is all else: what the branch touches and
+-- has, the fixed values, the profile and the position.
 pub record WroteAlone (f : Field) (part : Option PlainPart) (before after : PlainView) : Type 0 where
   pub whole : seen_parts after ≡ changed f part (seen_parts before)
   pub own : seen_parts after f ≡ part

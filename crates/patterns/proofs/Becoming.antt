@@ -1,4 +1,4 @@
--- What a payload becomes, in other words than the function, and what is gone of it.
+-- What a payload becomes, in other words than the function, and what is no longer in it.
 use Rattle.std.proofs.Common.{◌≡◌, ◌≢◌, ◌<◌, ◌≤◌, ◌-◌, ◌∙◌, ℕ, zero, suc, List, [], ◌∷◌, ◌++◌, length, drop, replicate, refl, sym, ap, subst, Bool, true, false, true≢false, All, ⊎_elim, arith, zero-le, suc-le-suc, length-append}
 use Rattle.std.specs.Prelude.{if◌then◌else◌}
 use mathlib.Core.List.{tail-eq_of_cons-eq}
@@ -17,7 +17,7 @@ record HasFirst (pattern payload : List ℕ) : Type 0 where
   whole : payload ≡ before ++ (pattern ++ behind)
   first : StandsFirst pattern before behind
 
--- one byte more in front, where the pattern doesn't begin there
+-- one more byte in front, if the pattern doesn't begin there
 one_more : (pattern before behind : List ℕ) (b : ℕ) → begins pattern (b ∷ (before ++ (pattern ++ behind))) ≡ false → StandsFirst pattern before behind → StandsFirst pattern (b ∷ before) behind
 one_more pattern before behind b not_here first = record { leftmost = λ left right same. at_least left right same }
   where
@@ -47,7 +47,7 @@ has_first pattern (b ∷ payload) some h = by (begins pattern (b ∷ payload)) r
           first = one_more pattern rest.before rest.behind b (subst (λ l. begins pattern (b ∷ l) ≡ false) rest.whole is) rest.first;
         }
 
--- by the length of what is left
+-- by the length of the rest
 becomes_within : (n : ℕ) (pattern payload : List ℕ) (is : Bool) → occurs pattern payload ≡ is → 0 < length pattern → length payload ≤ n → Becomes pattern payload (overwritten pattern payload)
 becomes_within n pattern payload false none some fits = subst (λ l. Becomes pattern payload l) (sym (nothing_taken pattern payload none)) (stays payload none)
 becomes_within zero pattern payload true found some fits =
@@ -72,7 +72,7 @@ alone pattern payload after some (stays same none) = sym (nothing_taken pattern 
 alone pattern payload after some (taken before behind rest first later) =
     ap (λ l. before ++ (replicate (length pattern) cross ++ l)) (alone pattern behind rest some later) ∙ sym (first_taken pattern before behind some first)
 
--- bytes without a cross that stand in what is left stood there before
+-- bytes without a cross that are in the result were there before
 stood_before : (pattern bytes payload : List ℕ) → All (λ b. b ≢ cross) bytes → begins bytes (overwritten_from 0 pattern payload) ≡ true → begins bytes payload ≡ true
 stood_before pattern [] payload clean h = refl
 stood_before pattern (c ∷ bytes) [] clean h = h
@@ -94,7 +94,7 @@ not_at_cross : (pattern rest : List ℕ) → 0 < length pattern → All (λ b. b
 not_at_cross [] rest some clean = absurd (omega arith)
 not_at_cross (c ∷ pattern) rest some clean = and_left _ (begins pattern rest) (ne_eqb cross c (λ same. All-head (λ b. b ≢ cross) c pattern clean (sym same)))
 
--- the same where the byte in front stays
+-- the same if the byte in front stays
 stood_here : (pattern : List ℕ) (b : ℕ) (payload : List ℕ) → All (λ b. b ≢ cross) pattern → begins pattern (b ∷ overwritten_from 0 pattern payload) ≡ true → begins pattern (b ∷ payload) ≡ true
 stood_here [] b payload clean there = refl
 stood_here (c ∷ bytes) b payload clean there =

@@ -34,7 +34,7 @@ module _ {X : Type 0} (test : X → Bool) where
       some_none : Some (position_or_len test xs) ≡ None → ⊥
       some_none e = cc
 
-  -- the place of the first that passes, and none where none does
+  -- the place of the first that passes, and none if none does
   pub first_passes : (xs : List X) (i : ℕ) (d : X) → i < length xs → test (get_or xs i d) ≡ true → ((k : ℕ) → k < i → test (get_or xs k d) ≡ false) → position test xs ≡ Some i
   first_passes xs i d within here before =
       let n = position_or_len test xs in

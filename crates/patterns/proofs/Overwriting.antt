@@ -31,7 +31,7 @@ here_taken (c ∷ rest) behind some =
     ∙ ap (λ n. cross ∷ overwritten_from n (c ∷ rest) (rest ++ behind)) left
     ∙ ap (λ l. cross ∷ l) (rest_taken (c ∷ rest) rest behind)
 
--- what stands before the first occurrence stays
+-- what is before the first occurrence stays
 pub first_taken : (pattern before behind : List ℕ) → 0 < length pattern → StandsFirst pattern before behind →
     overwritten pattern (before ++ (pattern ++ behind)) ≡ before ++ (replicate (length pattern) cross ++ overwritten pattern behind)
 first_taken pattern [] behind some first = here_taken pattern behind some
@@ -50,7 +50,7 @@ pub found_taken : (pattern payload : List ℕ) (k : ℕ) → 0 < length pattern 
 found_taken pattern payload k some first at =
     ap (overwritten pattern) (found_whole pattern payload k at) ∙ first_taken pattern (take k payload) (drop (k + length pattern) payload) some (found_first pattern payload k first at)
 
--- an occurrence behind a place is overwritten
+-- an occurrence after a place is overwritten
 module _ (pattern old : List ℕ) (from : ℕ) where
   pub none_taken : (payload : List ℕ) → payload ≡ drop from old → Nowhere (OccursAt payload pattern) 0 (length payload + 1) → TakesNone pattern from old old
   none_taken payload is none = record {

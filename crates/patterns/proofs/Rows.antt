@@ -39,11 +39,11 @@ overlapping = refl
 repeated : overwritten (codes "aa") (codes "aaaaa") ≡ codes "xxxxa"
 repeated = refl
 
--- a near miss doesn't hide what begins in it
+-- a near miss doesn't hide a pattern that begins in it
 restarted : overwritten (codes "aab") (codes "aaab") ≡ codes "axxx"
 restarted = refl
 
--- a pattern finds what those before it left
+-- a pattern is searched in what those before it left
 one_after_another : redacted (codes "ab" ∷ codes "xc" ∷ []) (codes "abc") ≡ codes "xxx"
 one_after_another = refl
 

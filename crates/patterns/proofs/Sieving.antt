@@ -1,4 +1,4 @@
--- What a table of windows tells of a payload.
+-- What a table of windows says about a payload.
 use Rattle.std.proofs.Common.{◌≡◌, ◌<◌, ◌≤◌, ◌+◌, ◌-◌, ◌*◌, ◌/◌, ◌%◌, ◌^◌, ◌∙◌, ◌⊎◌, ℕ, List, [], length, get_or, set, sym, ap, subst, true, false, inl, inr, arith, get_or-set_same, get_or-set_other, bit_and, bit_or}
 use Rattle.std.specs.Prelude.{slice_index}
 use Rattle.std.specs.Int.{bit_at, w64}
@@ -78,7 +78,7 @@ window_stays old new window group grows h =
     let parts = and_parts_of (slice_index old (near_slot window)) (slice_index old (far_slot window)) group h in
     and_of (slice_index new (near_slot window)) (slice_index new (far_slot window)) group (grows.stays (near_slot window) group parts.0) (grows.stays (far_slot window) group parts.1)
 
--- a pattern that is marked, where more is marked
+-- a pattern that is marked, if more is marked
 pub marked_stays : (width : Width) (stride short more : ℕ) (old new pattern : List ℕ) (group : ℕ) → Grows old new → IsMarked width stride short old pattern group → IsMarked width stride (bit_or short more) new pattern group
 marked_stays width stride short more old new pattern group grows (inl h) = inl (or_keeps short more group h)
 marked_stays width stride short more old new pattern group grows (inr marked) = inr (record {
@@ -93,7 +93,7 @@ marked_now width stride short more table pattern group (inr marked) = inr marked
 pub grows_on : (old middle new : List ℕ) → Grows old middle → Grows middle new → Grows old new
 grows_on old middle new first second = record { stays = λ slot group h. second.stays slot group (first.stays slot group h) }
 
--- one of as many places in a row as a stride is one at which a pass looks
+-- among as many consecutive places as a stride is one at which a pass looks
 record Turn (stride place : ℕ) : Type 0 where
   turn : ℕ
   behind : place ≤ turn * stride
@@ -106,7 +106,7 @@ turn_near stride place some =
     let left : all % stride < stride = omega arith in
     record { turn = all / stride; behind = omega arith; near = omega arith }
 
--- the groups that a pass tells have each pattern that occurs
+-- the groups that a pass reports have each pattern that occurs
 pub catches : (width : Width) (stride short : ℕ) (table payload : List ℕ) (patterns : List (List ℕ)) (groups : ℕ) → 0 < stride → IsSieveOf width stride short table patterns → Tells width stride short table payload groups →
     HasAll patterns payload groups
 catches width stride short table payload patterns groups some sieve told = record { each = λ place within there. caught (get_or patterns place []) (place % 64) there (sieve.each place within) }

@@ -1,4 +1,4 @@
--- Where a pattern stands in a payload.
+-- Where a pattern is in a payload.
 use Rattle.std.proofs.Common.{◌≡◌, ◌+◌, ◌∙◌, ℕ, List, [], ◌∷◌, ◌++◌, length, take, drop, refl, sym, ap, ap₂, subst, true, false, true≢false, inl, inr, ⊎_elim, arith, length-append, length-take-le, take-append-drop, take_at, drop_at}
 use Rattle.std.specs.Prelude.{Option, Some, None, is_some}
 use Rattle.std.proofs.lemmas.Bool.{cases_lt, and_from, and_parts, or_cases, or_left, or_right, eq-eqb, eqb-true, false_from_ne_true}
@@ -7,7 +7,7 @@ use Rattle.memchr.proofs.lemmas.MatchLemmas.{OccursAt-split, OccursAt-from_part}
 use Rattle.patterns.specs.Occurrences.{begins, occurs}
 use Rattle.patterns.specs.Laws.{StandsIn, StandsFirst}
 
--- a payload that begins with a pattern has something behind it
+-- a payload that begins with a pattern has something after it
 pub begins_whole : (pattern behind : List ℕ) → begins pattern (pattern ++ behind) ≡ true
 begins_whole [] behind = refl
 begins_whole (c ∷ pattern) behind = and_from _ (begins pattern (pattern ++ behind)) (eq-eqb c c refl) (begins_whole pattern behind)
@@ -23,12 +23,12 @@ occurs_front : (pattern payload : List ℕ) → begins pattern payload ≡ true 
 occurs_front pattern [] h = h
 occurs_front pattern (b ∷ payload) h = or_left (begins pattern (b ∷ payload)) (occurs pattern payload) h
 
--- what stands somewhere occurs
+-- what is at some place occurs
 pub occurs_within : (pattern before behind : List ℕ) → occurs pattern (before ++ (pattern ++ behind)) ≡ true
 occurs_within pattern [] behind = occurs_front pattern (pattern ++ behind) (begins_whole pattern behind)
 occurs_within pattern (b ∷ before) behind = or_right (begins pattern (b ∷ (before ++ (pattern ++ behind)))) (occurs pattern (before ++ (pattern ++ behind))) (occurs_within pattern before behind)
 
--- what occurs stands somewhere
+-- what occurs is at some place
 pub stands : (pattern payload : List ℕ) → occurs pattern payload ≡ true → StandsIn pattern payload
 stands pattern [] h = record { before = []; behind = drop (length pattern) []; whole = begins_parts pattern [] h }
 stands pattern (b ∷ payload) h = elim (or_cases (begins pattern (b ∷ payload)) (occurs pattern payload) h) [
@@ -36,7 +36,7 @@ stands pattern (b ∷ payload) h = elim (or_cases (begins pattern (b ∷ payload
   | inr later ↦ let rest = stands pattern payload later in record { before = b ∷ rest.before; behind = rest.behind; whole = ap (λ l. b ∷ l) rest.whole }
 ]
 
--- a place at which a pattern stands is one that a search may find
+-- a search may find a place at which a pattern is
 pub standing_at : (pattern before behind payload : List ℕ) → payload ≡ before ++ (pattern ++ behind) → OccursAt payload pattern (length before)
 standing_at pattern before behind payload whole =
     let long = length-append before (pattern ++ behind) in
@@ -59,7 +59,7 @@ found_first pattern payload k first at = record {
       ⊎_elim (λ below. absurd (first.before (length left) (omega arith) below there)) (λ above. omega arith) (cases_lt (length left) k);
 }
 
--- where no search finds the pattern it does not occur
+-- if no search finds the pattern, it does not occur
 pub occurs_nowhere : (pattern payload : List ℕ) → Nowhere (OccursAt payload pattern) 0 (length payload + 1) → occurs pattern payload ≡ false
 occurs_nowhere pattern payload none = false_from_ne_true (occurs pattern payload) (λ h.
     let there = stands pattern payload h in
@@ -67,7 +67,7 @@ occurs_nowhere pattern payload none = false_from_ne_true (occurs pattern payload
     let fits = at.fits in
     none (length there.before) (omega arith) (omega arith) at)
 
--- a search tells whether the pattern occurs
+-- a search says whether the pattern occurs
 pub search_tells : (pattern payload : List ℕ) (r : Option ℕ) → FindsNeedle payload pattern 0 r → is_some r ≡ occurs pattern payload
 search_tells pattern payload None none = sym (occurs_nowhere pattern payload none)
 search_tells pattern payload (Some k) found = sym (subst (λ l. occurs pattern l ≡ true) (sym (found_whole pattern payload k found.1)) (occurs_within pattern (take k payload) (drop (k + length pattern) payload)))

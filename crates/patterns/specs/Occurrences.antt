@@ -8,7 +8,7 @@ begins [] payload = true
 begins (c ∷ pattern) [] = false
 begins (c ∷ pattern) (b ∷ payload) = (b == c) && begins pattern payload
 
--- at some place of the payload the pattern's bytes stand
+-- the pattern's bytes are at some place of the payload
 abbrev pub occurs : List ℕ → List ℕ → Bool
 occurs pattern [] = begins pattern []
 occurs pattern (b ∷ payload) = begins pattern (b ∷ payload) || occurs pattern payload

@@ -1,4 +1,4 @@
--- For proofs: windows of patterns, and what a table of them tells of a payload. A word's bits are groups of patterns.
+-- For proofs: windows of patterns, and what a table of them says about a payload. A word's bits are groups of patterns.
 use Rattle.std.specs.Prelude.{◌≡◌, ℕ, ◌+◌, ◌*◌, ◌/◌, ◌%◌, ◌<◌, ◌≤◌, ◌⊎◌, List, [], length, get_or, true, bit_and, slice_index}
 use Rattle.std.specs.Int.{bit_at}
 use Rattle.patterns.specs.Occurrences.{occurs}
@@ -25,7 +25,7 @@ pub record HasWindows (width : Width) (stride : ℕ) (table pattern : List ℕ) 
   pub long : stride + bytes_of width ≤ length pattern + 1
   pub each : (offset : ℕ) → offset < stride → bit_at (groups_of table (window_at width pattern offset)) group ≡ 1
 
--- A pattern is known by its windows, or its group is told in any case.
+-- A pattern is known by its windows, or its group is always reported.
 abbrev pub IsMarked : Width → ℕ → ℕ → List ℕ → List ℕ → ℕ → Type 0
 IsMarked width stride short table pattern group = (bit_at short group ≡ 1) ⊎ HasWindows width stride table pattern group
 
@@ -33,7 +33,7 @@ IsMarked width stride short table pattern group = (bit_at short group ≡ 1) ⊎
 pub record IsSieveOf (width : Width) (stride short : ℕ) (table : List ℕ) (patterns : List (List ℕ)) : Type 0 where
   pub each : (place : ℕ) → place < length patterns → IsMarked width stride short table (get_or patterns place []) (place % 64)
 
--- The groups that are told in any case are among these, and those that have a window at one of the places that are a stride apart.
+-- The groups that are always reported are among these, and so are those with a window at one of the strided places.
 pub record Tells (width : Width) (stride short : ℕ) (table payload : List ℕ) (groups : ℕ) : Type 0 where
   pub always : (group : ℕ) → bit_at short group ≡ 1 → bit_at groups group ≡ 1
   pub seen : (turn group : ℕ) → turn * stride + bytes_of width ≤ length payload → bit_at (groups_of table (window_at width payload (turn * stride))) group ≡ 1 → bit_at groups group ≡ 1

@@ -3,26 +3,26 @@ use Rattle.std.specs.Prelude.{◌≡◌, ◌<◌, ◌≤◌, ℕ, List, ◌++◌
 use Rattle.patterns.specs.Occurrences.{some_occurs}
 use Rattle.patterns.specs.Overwriting.{overwritten, redacted}
 
--- The first occurrence behind a place is overwritten, and this is the place behind it: what is to become of the rest is to become of it
--- behind that place.
+-- The first occurrence after a place is overwritten, and this is the place after it: the result for the rest is the
+-- result for what follows that place.
 pub record TakesNext (pattern : List ℕ) (from : ℕ) (old new : List ℕ) (end : ℕ) : Type 0 where
   pub further : from < end
   pub fits : end ≤ length new
   pub same_length : length new ≡ length old
   pub same : take end new ++ overwritten pattern (drop end new) ≡ take from old ++ overwritten pattern (drop from old)
 
--- No occurrence is left behind a place.
+-- No occurrence is left after a place.
 pub record TakesNone (pattern : List ℕ) (from : ℕ) (old new : List ℕ) : Type 0 where
   pub stays : new ≡ old
   pub none : overwritten pattern (drop from old) ≡ drop from old
 
--- The pattern at this place occurs, and what is overwritten is overwritten by it and those behind it.
+-- The pattern at this place occurs, and the payload is overwritten by it and those after it.
 pub record OccursFirst (patterns : List (List ℕ)) (payload : List ℕ) (place : ℕ) : Type 0 where
   pub within : place < length patterns
   pub some : some_occurs patterns payload ≡ true
   pub same : redacted (drop place patterns) payload ≡ redacted patterns payload
 
--- the first pattern that occurs, none where none does
+-- the first pattern that occurs, none if none does
 abbrev pub BeginsAt : List (List ℕ) → List ℕ → Option ℕ → Type 0
 BeginsAt patterns payload None = some_occurs patterns payload ≡ false
 BeginsAt patterns payload (Some place) = OccursFirst patterns payload place

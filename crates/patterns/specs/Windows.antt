@@ -4,7 +4,7 @@ use Rattle.std.specs.Int.{from_le_bytes, w32}
 use Rattle.patterns.specs.declared.width.Width.{Width}
 use Rattle.patterns.specs.declared.width.Width.TheVariants.{Two, Three, Four}
 
--- how many bytes a window has
+-- the number of bytes of a window
 abbrev pub bytes_of : Width → ℕ
 bytes_of Two = 2
 bytes_of Three = 3
@@ -16,7 +16,7 @@ mask_of Two = 65535
 mask_of Three = 16777215
 mask_of Four = 4294967295
 
--- the four bytes from a place on, as a number; behind the end stand zeros
+-- the four bytes from a place on, as a number; after the end come zeros
 unfoldable pub four_at : List ℕ → ℕ → ℕ
 four_at bytes place = from_le_bytes w32 (slice_index bytes place ∷ slice_index bytes (place + 1) ∷ slice_index bytes (place + 2) ∷ slice_index bytes (place + 3) ∷ [])
 

@@ -1,4 +1,4 @@
--- What a buffer that was filled says of what was left.
+-- What a filled buffer says about the bytes that remained.
 use Rattle.std.proofs.Common.{◌≡◌, ◌≤◌, ◌<◌, ◌∙◌, ℕ, List, length, take, drop, refl, ap, sym, subst, arith, Bool, true, false}
 use Rattle.std.specs.Prelude.{Option, Some, None, Result, Ok, Err, if◌then◌else◌, ◌==◌, ◌&&◌, nat_lt}
 use Rattle.std.specs.Option.{option_map}
@@ -59,7 +59,7 @@ same_head xs ys same long long' =
 cut : (xs : List ℕ) → length xs < 24 → head_of xs ≡ Err CutHead
 cut xs short = chosen (nat_lt (length xs) 24) _ _ (lt-ltb (length xs) 24 short)
 
--- the head of what was left is that of what came
+-- the head of the bytes that remained is that of the bytes read
 head_came : (k : ℕ) (bytes buffer : List ℕ) (new : SlotView) → k ≤ length buffer → length buffer ≡ 24 → FillsFrom k bytes buffer new → head_of bytes ≡ head_of (take k buffer)
 head_came k bytes buffer new within size fills = by_size (nat_lt k 24) refl
   where
@@ -74,7 +74,7 @@ head_came k bytes buffer new within size fills = by_size (nat_lt k 24) refl
         let all : k ≡ 24 = omega (arith, ltb-false k 24 long) in
         same_head bytes (take k buffer) (ap (λ n. take n bytes) (sym all) ∙ sym fills.front ∙ sym (take-length (take k buffer)) ∙ ap (λ n. take n (take k buffer)) (came ∙ all)) (omega (arith, fills.some_left)) (omega (arith, came))
 
--- an accepted head came whole
+-- an accepted head is complete
 whole_head : (k : ℕ) (buffer : List ℕ) (head : CaptureHead) → k ≤ length buffer → length buffer ≡ 24 → head_of (take k buffer) ≡ Ok head → k ≡ 24
 whole_head k buffer head within size accepted = by_size (nat_lt k 24) refl
   where

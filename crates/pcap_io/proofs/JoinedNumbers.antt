@@ -1,4 +1,4 @@
--- Numbers that were put one behind the other.
+-- Numbers appended one after the other.
 use Rattle.std.proofs.Common.{◌≡◌, ◌∙◌, ℕ, List, ◌++◌, length, take, ap, sym}
 use Rattle.std.proofs.Math.Seq.{take-length}
 

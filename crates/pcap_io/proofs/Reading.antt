@@ -1,4 +1,4 @@
--- What is read is spelled as it would be written.
+-- Bytes that are read are spelled as they would be written.
 use Rattle.std.proofs.Common.{◌≡◌, ◌≢◌, ◌≤◌, ◌<◌, ◌+◌, ◌^◌, ◌∙◌, ℕ, List, [], ◌∷◌, ◌++◌, length, take, drop, refl, ap, sym, append_assoc, length-drop, subst, arith, Bool, true, false}
 use Rattle.std.specs.Prelude.{Option, Some, None, Result, Ok, Err, nat_lt, ◌==◌, ◌&&◌}
 use Rattle.std.specs.Result.{result_ok}
@@ -76,7 +76,7 @@ no_records (Ok None) rest fault is = let e : ◌≡◌ {A = Option CaptureFault}
 no_records (Ok (Some (r, bytes))) rest fault is = let e : r ∷ (rest bytes).records ≡ [] = ap (λ b. b.records) is in absurd cc
 no_records (Err f) rest fault is = let e : Some f ≡ fault = ap (λ b. b.fault) is in ap ending_of e
 
--- a record, and what comes behind it
+-- a record, and what follows it
 record Follows (rest : List ℕ → Body) (next : Result (Option (PcapRecord × List ℕ)) CaptureFault) (r : PcapRecord) (others : Body) : Type 0 where
   bytes : List ℕ
   first : next ≡ Ok (Some (r, bytes))
@@ -93,7 +93,7 @@ some_record (Ok (Some (r', bytes))) rest r rs fault is =
     record { bytes = bytes; first = ap (λ x. Ok (Some (x, bytes))) first; behind = ap (λ rs'. record { records = rs'; fault = (rest bytes).fault }) others ∙ ap (λ f. record { records = rs; fault = f }) same_fault }
 some_record (Err f) rest r rs fault is = let e : ◌≡◌ {A = List PcapRecord} [] (r ∷ rs) = ap (λ b. b.records) is in absurd cc
 
--- all bytes of a body are its records, and the tail where they end
+-- all bytes of a body are its records, and the tail at which they end
 pub record IsBodySpelled (order : Endian) (given : ℕ) (bytes : List ℕ) (records : List PcapRecord) (fault : Option CaptureFault) : Type 0 where
   pub tail : List ℕ
   pub whole : bytes ≡ flat_map (record_bytes order) records ++ tail

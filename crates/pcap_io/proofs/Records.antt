@@ -8,7 +8,7 @@ use Rattle.pcap_io.specs.declared.capture.CaptureFault.{CaptureFault}
 use Rattle.capture_bytes.specs.declared.order.Endian.{Endian}
 use Rattle.pcap_io.specs.Capture.{Body, captured_of, record_of, next_of, and_rest, with_record, body_within, body_of}
 
--- what holds of both choices
+-- what holds for both choices
 pub both : {X : Type 0} (P : X → Type 0) (b : Bool) (x y : X) → (b ≡ true → P x) → (b ≡ false → P y) → P (if b then x else y)
 both P true x y h k = h refl
 both P false x y h k = k refl
@@ -24,7 +24,7 @@ chosen false x y h = absurd cc
 pub not_equal : (a b : ℕ) → (a ≡ b → ⊥) → (a == b) ≡ false
 not_equal a b h = grind (arith, nat_tests)
 
--- a whole record stands at the front
+-- a whole record is at the front
 pub next_whole : (order : Endian) (given : ℕ) (bytes : List ℕ) → given < 4294967295 → 16 ≤ length bytes → captured_of order bytes ≤ 262144 → 16 + captured_of order bytes ≤ length bytes →
     next_of order given bytes ≡ Ok (Some (record_of order bytes, drop (16 + captured_of order bytes) bytes))
 next_whole order given bytes few long short fits =
@@ -56,7 +56,7 @@ each_next P Q (Ok None) f h = tt
 each_next P Q (Ok (Some x)) f h = f x h
 each_next P Q (Err fault) f h = tt
 
--- how many records may come doesn't matter, where there are more than bytes
+-- a limit on the number of records doesn't matter if it is above the number of bytes
 enough : (n m : ℕ) (order : Endian) (given : ℕ) (bytes : List ℕ) → length bytes < n → length bytes < m → body_within n order given bytes ≡ body_within m order given bytes
 enough zero m order given bytes p q = absurd (omega arith)
 enough (suc n) zero order given bytes p q = absurd (omega arith)
@@ -64,7 +64,7 @@ enough (suc n) (suc m) order given bytes p q = and_rest_same (body_within n orde
     (each_next (λ x. length x.1 + 16 ≤ length bytes) (λ x. body_within n order (given + 1) x.1 ≡ body_within m order (given + 1) x.1) (next_of order given bytes)
     (λ (x : PcapRecord × List ℕ) (less : length x.1 + 16 ≤ length bytes). enough n m order (given + 1) x.1 (omega arith) (omega arith)) (next_shorter order given bytes))
 
--- a body is what stands next, and the body behind it
+-- a body is what comes next, and the body after it
 pub body_next : (order : Endian) (given : ℕ) (bytes : List ℕ) → body_of order given bytes ≡ and_rest (body_of order (given + 1)) (next_of order given bytes)
 unfolding body_of
 body_next order given bytes =

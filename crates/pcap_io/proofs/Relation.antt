@@ -7,7 +7,7 @@ use Rattle.capture_bytes.specs.declared.order.Endian.{Endian}
 use Rattle.pcap_io.specs.Capture.{next_of, and_rest, with_record, body_of, IsBody}
 use Rattle.pcap_io.proofs.Records.{body_next, next_less}
 
--- a body by what stands next
+-- a body by what comes next
 by_next : (n : ℕ) (order : Endian) (given : ℕ) (bytes : List ℕ) (next : Result (Option (PcapRecord × List ℕ)) CaptureFault) → length bytes < suc n → next_of order given bytes ≡ next →
     ((rest : List ℕ) → length rest < n → IsBody order (given + 1) rest (body_of order (given + 1) rest).records (body_of order (given + 1) rest).fault) →
     IsBody order given bytes (and_rest (body_of order (given + 1)) next).records (and_rest (body_of order (given + 1)) next).fault

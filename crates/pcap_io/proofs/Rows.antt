@@ -1,4 +1,4 @@
--- Captures byte by byte, with what the definitions say of them.
+-- Captures byte by byte, with what the definitions give for them.
 use Rattle.std.proofs.Common.{◌≡◌, ◌+◌, ◌++◌, ℕ, List, [], ◌∷◌, take, refl}
 use Rattle.std.specs.Prelude.{Some, None, Ok, Err, replicate}
 use Rattle.capture_bytes.specs.declared.order.Endian.TheVariants.{Big, Little}
@@ -74,7 +74,7 @@ cut_in_head : body_of Little 1 (take 73 (numbers 3 4 ++ packet 9 0xc7 ++ numbers
 unfolding body_of
 cut_in_head = refl
 
--- one byte less than a head, and heads with one thing wrong
+-- one byte less than a head, and heads with one fault each
 cut_head : head_of (take 23 micro_head) ≡ Err CutHead
 cut_head = refl
 
@@ -87,14 +87,14 @@ bad_version = refl
 bad_link : head_of (take 20 micro_head ++ 101 ∷ 0 ∷ 0 ∷ 0 ∷ []) ≡ Err (BadLink 101)
 bad_link = refl
 
--- the longest frame that is accepted, of which nothing is there, and one byte more
+-- the longest frame that is accepted, of which nothing is present, and one byte more
 longest : next_of Big 0 (replicate 8 0 ++ 0 ∷ 4 ∷ 0 ∷ 0 ∷ replicate 4 0) ≡ Err (CutRecord 1)
 longest = refl
 
 too_long : next_of Big 0 (replicate 8 0 ++ 0 ∷ 4 ∷ 0 ∷ 1 ∷ replicate 4 0) ≡ Err (FrameTooLong 1 262145)
 too_long = refl
 
--- a byte behind the most records that are counted
+-- a byte after the most records that are counted
 too_many : next_of Little 4294967295 (0 ∷ []) ≡ Err TooManyRecords
 too_many = refl
 

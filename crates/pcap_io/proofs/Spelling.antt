@@ -49,7 +49,7 @@ pub same_record : (s s' f f' w w' : ℕ) (x x' : List ℕ) → s ≡ s' → f �
 same_record s s' f f' w w' x x' p q r t =
     ap (λ y. record_with y f w x) p ∙ ap (λ y. record_with s' y w x) q ∙ ap (λ y. record_with s' f' y x) r ∙ ap (λ y. record_with s' f' w' y) t
 
--- what stands in a record that was written
+-- what a written record holds
 record IsThere (order : Endian) (r : PcapRecord) (tail bytes : List ℕ) : Type 0 where
   seconds : number_at order 4 0 bytes ≡ r.seconds
   fraction : number_at order 4 4 bytes ≡ r.fraction
@@ -77,7 +77,7 @@ is_there Little r tail fits = record {
   size = omega (arith, length-append r.frame tail);
 }
 
--- a record that was written is the next
+-- a written record is the next one
 pub record_again : (order : Endian) (given : ℕ) (r : PcapRecord) (tail : List ℕ) → given < 4294967295 → FitsRecord r → next_of order given (record_bytes order r ++ tail) ≡ Ok (Some (r, tail))
 record_again order given r tail few fits =
     let bytes : List ℕ = record_bytes order r ++ tail in
@@ -94,7 +94,7 @@ ending_alone : (rest : List ℕ → Body) (fault : Option CaptureFault) → and_
 ending_alone rest None = refl
 ending_alone rest (Some fault) = refl
 
--- records that were written are the body, up to what ends them
+-- written records are the body, up to what ends them
 pub body_again : (order : Endian) (given : ℕ) (records : List PcapRecord) (fault : Option CaptureFault) (tail : List ℕ) → AllByRecursion FitsRecord records → given + length records ≤ 4294967295 →
     next_of order (given + length records) tail ≡ ending_of fault → body_of order given (flat_map (record_bytes order) records ++ tail) ≡ record { records = records; fault = fault }
 body_again order given [] fault tail fits few ending =
@@ -117,7 +117,7 @@ length_head head = length_of head.order head.unit head.zone head.sigfigs head.sn
     length_of Big unit z s n = refl
     length_of Little unit z s n = refl
 
--- a capture that was written is read as it was written
+-- a written capture is read as it was written
 pub capture_again : (bytes : List ℕ) (head : CaptureHead) (body : Body) → IsCapture bytes head body → capture_of bytes ≡ Ok (head, body)
 capture_again bytes head body written =
     let behind_head : List ℕ = flat_map (record_bytes head.order) body.records ++ written.tail in

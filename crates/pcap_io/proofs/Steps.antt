@@ -1,4 +1,4 @@
--- What a record's head and its frame say of what was left.
+-- What a record's head and its frame say about the bytes that remained.
 use Rattle.std.proofs.Common.{◌≡◌, ◌≤◌, ◌<◌, ◌+◌, ◌∙◌, ℕ, List, [], length, take, drop, refl, ap, sym, subst, length-drop, arith}
 use Rattle.std.specs.Prelude.{Some, None, IfSome, Ok, Err, IsErrOf, ◌==◌, nat_lt}
 use Rattle.std.specs.Option.{option_map}
@@ -48,7 +48,7 @@ cut_frame order given bytes few long short cut =
     ∙ otherwise (nat_lt (length bytes) 16) _ _ (le-ltb (length bytes) 16 long) ∙ otherwise (nat_lt 262144 (captured_of order bytes)) _ _ (le-ltb 262144 (captured_of order bytes) short)
     ∙ chosen (nat_lt (length bytes) (16 + captured_of order bytes)) _ _ (lt-ltb (length bytes) (16 + captured_of order bytes) cut)
 
--- a refusal, from what stands next where the desk tells it
+-- a refusal, from what comes next if the desk shows it
 refusal : (fault : CaptureFault) (order : Endian) (given : ℕ) (old : SlotView) → IsRecordFault given fault → ((bytes : List ℕ) → old.bytes ≡ Some bytes → next_of order given bytes ≡ Err fault) →
     RefusesRecord fault (reader_at order given) old
 refusal fault order given old kind next = record {
@@ -105,7 +105,7 @@ pub same_record : (s s' f f' w w' : ℕ) (x x' : List ℕ) → s ≡ s' → f �
 same_record s s' f f' w w' x x' p q r t =
     ap (λ y. record_with y f w x) p ∙ ap (λ y. record_with s' y w x) q ∙ ap (λ y. record_with s' f' y x) r ∙ ap (λ y. record_with s' f' w' y) t
 
--- a record whose head and frame came whole
+-- a record whose head and frame are complete
 record_came : (order : Endian) (given : ℕ) (head frame bytes : List ℕ) (captured : ℕ) (mid new : SlotView) → FillsFrom 16 bytes head mid → FillsFrom captured (drop 16 bytes) frame new →
     length frame ≡ captured → captured ≡ number_at order 4 8 head → captured ≤ 262144 → given < 4294967295 →
     next_of order given bytes ≡ Ok (Some (record_with (number_at order 4 0 head) (number_at order 4 4 head) (number_at order 4 12 head) frame, drop captured (drop 16 bytes)))
@@ -144,7 +144,7 @@ record_read order given head frame captured r old mid new first second size is_c
           ∙ ap (λ o. option_map (with_record r) (option_map (body_of order (given + 1)) o)) (sym (rest bytes is)));
     }
 
--- a buffer that was filled is whole
+-- a buffer that was filled is full
 pub whole_count : (k : ℕ) (buffer : List ℕ) (old new : SlotView) → length buffer ≡ 16 → 16 ≤ k → Fills k buffer old new → Fills 16 buffer old new
 whole_count k buffer old new size long fills = subst (λ n. Fills n buffer old new) (let e : k ≡ 16 = omega (arith, fills.within, size) in e) fills
 

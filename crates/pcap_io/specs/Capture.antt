@@ -1,4 +1,4 @@
--- Believed: the classic pcap file format: a head of 24 bytes, and then records, each a head of 16 bytes and its frame.
+-- Believed: the classic pcap file format: a head of 24 bytes, then records, each with a head of 16 bytes and a frame.
 use Rattle.std.specs.Prelude.{◌≡◌, ◌+◌, ℕ, zero, suc, List, [], ◌∷◌, length, take, drop, if◌then◌else◌, ◌==◌, nat_lt, ◌&&◌, Option, Some, None, Result, Ok, Err, IsErr}
 use Rattle.capture_bytes.specs.declared.order.Endian.{Endian}
 use Rattle.capture_bytes.specs.declared.order.Endian.TheVariants.{Big, Little}
@@ -11,12 +11,12 @@ use Rattle.pcap_io.specs.declared.capture.CaptureFault.{CaptureFault}
 use Rattle.pcap_io.specs.declared.capture.CaptureFault.TheVariants.{BadMagic, BadVersion, BadLink, CutHead, CutRecord, FrameTooLong, TooManyRecords}
 use Rattle.capture_bytes.specs.declared.packet.PcapRecord.{PcapRecord}
 
--- the magic number that stands for a unit
+-- the magic number of a unit
 abbrev pub magic_of : TimeUnit → ℕ
 magic_of Micro = 0xa1b2c3d4
 magic_of Nano = 0xa1b23c4d
 
--- the order in which the first four bytes are a magic number, and the unit that this stands for
+-- the order in which the first four bytes are a magic number, and the unit that it denotes
 abbrev pub kind_of : List ℕ → Option (Endian × TimeUnit)
 kind_of bytes =
     if number_at Little 4 0 bytes == magic_of Micro then Some (Little, Micro)
@@ -67,7 +67,7 @@ record_of order bytes = record {
   frame = take (captured_of order bytes) (drop 16 bytes);
 }
 
--- What stands behind so many records: the end, a record and what follows it, or a fault.
+-- What follows this number of records: the end, a record and the bytes after it, or a fault.
 abbrev pub next_of : Endian → ℕ → List ℕ → Result (Option (PcapRecord × List ℕ)) CaptureFault
 next_of order given bytes =
     if length bytes == 0 then Ok None
@@ -77,7 +77,7 @@ next_of order given bytes =
     else if nat_lt (length bytes) (16 + captured_of order bytes) then Err (CutRecord (given + 1))
     else Ok (Some (record_of order bytes, drop (16 + captured_of order bytes) bytes))
 
--- the record that stands next, or none because of a fault
+-- the record that comes next, or none because of a fault
 abbrev pub IsNext : Option (PcapRecord × List ℕ) → Result (Option (PcapRecord × List ℕ)) CaptureFault → Type 0
 IsNext None next = IsErr next
 IsNext (Some x) next = next ≡ Ok (Some x)
@@ -91,22 +91,22 @@ pub record Body : Type 0 where
 abbrev pub with_record : PcapRecord → Body → Body
 with_record r rest = record { records = r ∷ rest.records; fault = rest.fault }
 
--- what stands next, and what comes behind a record
+-- what comes next, and what follows a record
 abbrev pub and_rest : (List ℕ → Body) → Result (Option (PcapRecord × List ℕ)) CaptureFault → Body
 and_rest rest (Ok None) = record { records = []; fault = None }
 and_rest rest (Ok (Some (r, bytes))) = with_record r (rest bytes)
 and_rest rest (Err fault) = record { records = []; fault = Some fault }
 
--- the same up to n records; a record takes bytes, so a number of bytes is enough
+-- the same up to `n` records; a record takes bytes, so a number of bytes is enough
 abbrev pub body_within : ℕ → Endian → ℕ → List ℕ → Body
 body_within zero order given bytes = record { records = []; fault = None }
 body_within (suc n) order given bytes = and_rest (body_within n order (given + 1)) (next_of order given bytes)
 
--- all the records behind so many, and the fault that ends them
+-- all records after this number of records, and the fault that ends them
 unfoldable pub body_of : Endian → ℕ → List ℕ → Body
 body_of order given bytes = body_within (length bytes + 1) order given bytes
 
--- a whole capture: its head, or the reason to refuse it, and the body behind it
+-- a whole capture: its head, or the reason to refuse it, and the body after it
 abbrev pub with_body : List ℕ → Result CaptureHead CaptureFault → Result (CaptureHead × Body) CaptureFault
 with_body bytes (Ok head) = Ok (head, body_of head.order 0 bytes)
 with_body bytes (Err fault) = Err fault
@@ -114,7 +114,7 @@ with_body bytes (Err fault) = Err fault
 abbrev pub capture_of : List ℕ → Result (CaptureHead × Body) CaptureFault
 capture_of bytes = with_body (drop 24 bytes) (head_of bytes)
 
--- The same as a relation: the records stand one behind the other, and then come the end or a fault.
+-- The same as a relation: the records come one after the other, and then the end or a fault.
 abbrev pub IsBody : Endian → ℕ → List ℕ → List PcapRecord → Option CaptureFault → Type 0
 IsBody order given bytes [] None = next_of order given bytes ≡ Ok None
 IsBody order given bytes [] (Some fault) = next_of order given bytes ≡ Err fault

@@ -22,30 +22,30 @@ record_head order r = bytes_of order 4 r.seconds ++ bytes_of order 4 r.fraction 
 abbrev pub record_bytes : Endian → PcapRecord → List ℕ
 record_bytes order r = record_head order r ++ r.frame
 
--- the numbers of a head are of 32 bits
+-- the numbers of a head fit in 32 bits
 pub record FitsHead (head : CaptureHead) : Type 0 where
   pub zone : head.zone < 2 ^ 32
   pub sigfigs : head.sigfigs < 2 ^ 32
   pub snaplen : head.snaplen < 2 ^ 32
 
--- the numbers of a record are of 32 bits, and its frame has a length that is accepted
+-- the numbers of a record fit in 32 bits, and its frame has an accepted length
 pub record FitsRecord (r : PcapRecord) : Type 0 where
   pub seconds : r.seconds < 2 ^ 32
   pub fraction : r.fraction < 2 ^ 32
   pub wire : r.wire < 2 ^ 32
   pub short : IsShort r
 
--- the bytes of a whole capture: its head, and its records one behind the other
+-- the bytes of a whole capture: its head, and its records one after the other
 abbrev pub capture_bytes : CaptureHead → List PcapRecord → List ℕ
 capture_bytes head records = head_bytes head ++ flat_map (record_bytes head.order) records
 
--- what the table says where no record stands
+-- what the table says if there is no record
 abbrev pub ending_of : Option CaptureFault → Result (Option (PcapRecord × List ℕ)) CaptureFault
 ending_of None = Ok None
 ending_of (Some fault) = Err fault
 
--- The bytes are those of this head and these records, and then of a tail where nothing is left or
--- this fault stands.
+-- The bytes are those of this head and these records, followed by a tail in which nothing is left or
+-- this fault is found.
 pub record IsCapture (bytes : List ℕ) (head : CaptureHead) (body : Body) : Type 0 where
   pub tail : List ℕ
   pub whole : bytes ≡ capture_bytes head body.records ++ tail

@@ -1,4 +1,4 @@
--- A packet that was written is read again.
+-- A written packet is read again.
 use Rattle.std.proofs.Common.{◌≡◌, ◌≤◌, ◌<◌, ◌+◌, ◌-◌, ◌*◌, ◌/◌, ◌%◌, ◌^◌, ◌∙◌, ℕ, List, [], ◌++◌, length, take, drop, refl, ap, sym, append_assoc, length-append, arith}
 use Rattle.std.specs.Prelude.{replicate}
 use Rattle.std.proofs.Math.Seq.{take-append_seam, drop-append_seam}
@@ -16,7 +16,7 @@ use Rattle.pcapng_io.specs.Written.{packet_length, packet_head, packet_bytes}
 abbrev pub seven : Endian → ℕ → ℕ → ℕ → ℕ → ℕ → ℕ → ℕ → List ℕ
 seven order a b c d e f g = bytes_of order 4 a ++ bytes_of order 4 b ++ bytes_of order 4 c ++ bytes_of order 4 d ++ bytes_of order 4 e ++ bytes_of order 4 f ++ bytes_of order 4 g
 
--- what stands in bytes that begin with them
+-- what bytes that begin with them hold
 pub record AreThere (order : Endian) (a b c d e f g : ℕ) (more bytes : List ℕ) : Type 0 where
   pub first : number_at order 4 0 bytes ≡ a
   pub second : number_at order 4 4 bytes ≡ b
@@ -84,7 +84,7 @@ front_length p = omega (arith, data_length p, length-append (packet_head p ++ p.
 pub whole_length : (p : NgPacket) → length (packet_bytes p) ≡ packet_length p
 whole_length p = omega (arith, front_length p, length-append (packet_head p ++ p.packet.frame ++ padding p ++ p.options) (tail_of p), length_4 p.order (packet_length p))
 
--- what stands in a packet's block
+-- what a packet's block holds
 pub record IsThere (p : NgPacket) : Type 0 where
   pub code : number_at p.order 4 0 (packet_bytes p) ≡ 6
   pub size : number_at p.order 4 4 (packet_bytes p) ≡ packet_length p

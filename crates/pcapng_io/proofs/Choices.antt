@@ -16,7 +16,7 @@ pub other_same : {X : Type 0} (b : Bool) (x y z : X) → (b ≡ false → y ≡ 
 other_same true x y z h = refl
 other_same false x y z h = h refl
 
--- what holds of both choices
+-- what holds for both choices
 pub both : {X : Type 0} (P : X → Type 0) (b : Bool) (x y : X) → (b ≡ true → P x) → (b ≡ false → P y) → P (if b then x else y)
 both P true x y h k = h refl
 both P false x y h k = k refl

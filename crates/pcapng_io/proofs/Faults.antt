@@ -1,4 +1,4 @@
--- What a table of faults tells of its tests.
+-- What a table of faults says about its tests.
 use Rattle.std.proofs.Common.{◌≡◌, ◌≤◌, ◌<◌, ◌+◌, ℕ, List, [], ◌∷◌, length, refl, arith, Bool, true, false}
 use Rattle.std.specs.Prelude.{None, nat_lt, nat_le, ◌==◌, ◌||◌, ◌&&◌, not, is_none, is_some}
 use Rattle.std.proofs.lemmas.Bool.{ltb-false, eqb-false}
@@ -76,7 +76,7 @@ last_counted place order kind block none =
     let tests : NoneStands (content_faults place order kind block) = none_stands (content_faults place order kind block) none in
     let counted : (place.blocks + 1 == 1099511627776) ≡ false = tests.1.1.1.1.1.1.1.0 in eqb-false (place.blocks + 1) 1099511627776 counted
 
--- its fixed fields are there
+-- its fixed fields are present
 pub long_enough : (place : Place) (order : Endian) (kind : BlockKind) (block : List ℕ) → first_fault (content_faults place order kind block) ≡ None → 12 + fixed_length kind ≤ length block
 long_enough place order kind block none =
     let tests : NoneStands (content_faults place order kind block) = none_stands (content_faults place order kind block) none in

@@ -16,7 +16,7 @@ use Rattle.pcapng_io.specs.Reader.{head_faults}
 use Rattle.pcapng_io.proofs.Choices.{not_equal}
 use Rattle.pcapng_io.proofs.Slots.{cut_of}
 
--- a fault is of the first block exactly where none stands before
+-- a fault belongs to the first block exactly when no block is before it
 abbrev pub IsNumbered : Place → NgFault → Type 0
 IsNumbered place f = is_of_first_block f ≡ (place.blocks == 0)
 
@@ -26,7 +26,7 @@ next_is_first n = grind (arith, nat_tests)
 pub cut_numbered : (place : Place) → IsNumbered place (cut_of place)
 cut_numbered place = next_is_first place.blocks
 
--- the faults that a block's first bytes tell
+-- the faults that a block's first bytes show
 head_rows : (n : ℕ) (bad long : Bool) (size : ℕ) (f : NgFault) → first_fault ((bad, BadBlock (n + 1)) ∷ (long, BlockTooLong (n + 1) size) ∷ []) ≡ Some f → is_of_first_block f ≡ (n == 0)
 head_rows n true long size f told =
     let same : BadBlock (n + 1) ≡ f = cc in subst (λ x. is_of_first_block x ≡ (n == 0)) same (next_is_first n)
@@ -52,7 +52,7 @@ first_tells P ((false, fault) ∷ more) f all told = first_tells P more f all.1 
 not_first : (n : ℕ) → 0 < n → (n + 1 == 1) ≡ false
 not_first n some = not_equal (n + 1) 1 (λ same. omega (arith, some, same))
 
--- a block behind others isn't the first
+-- a block after others isn't the first
 pub later_content : (place : Place) (order : Endian) (kind : BlockKind) (block : List ℕ) (f : NgFault) → 0 < place.blocks → first_fault (content_faults place order kind block) ≡ Some f → is_of_first_block f ≡ false
 later_content place order kind block f some told =
     let no = not_first place.blocks some in

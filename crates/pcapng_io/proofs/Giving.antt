@@ -1,4 +1,4 @@
--- What holds of an item that a block gives.
+-- What holds for an item that a block gives.
 use Rattle.std.proofs.Common.{◌≡◌, ◌≤◌, ◌<◌, ◌+◌, ◌-◌, ℕ, List, length, take, drop, refl, ap, length-drop, arith}
 use Rattle.std.proofs.lemmas.List.{length-take-le}
 use Rattle.capture_bytes.specs.declared.order.Endian.{Endian}

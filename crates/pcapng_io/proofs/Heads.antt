@@ -1,4 +1,4 @@
--- What a block's first bytes say of all that is left.
+-- What a block's first bytes say about all the bytes that remain.
 use Rattle.std.proofs.Common.{◌≡◌, ◌≤◌, ◌<◌, ◌+◌, ◌%◌, ◌∙◌, ℕ, List, [], ◌∷◌, length, take, drop, refl, ap, sym, arith, Bool, true, false}
 use Rattle.std.specs.Prelude.{Some, None, Ok, Err, if◌then◌else◌, nat_lt, ◌==◌, ◌||◌, ◌&&◌, not}
 use Rattle.std.proofs.lemmas.Bool.{le-ltb, lt-ltb}
@@ -103,7 +103,7 @@ not_cut EnhancedPacket bytes h = rw (le-ltb (length bytes) 8 h) refl
 not_cut Unread bytes h = rw (le-ltb (length bytes) 8 h) refl
 not_cut Other bytes h = rw (le-ltb (length bytes) 8 h) refl
 
--- what stands next, where something is left
+-- what comes next, if something remains
 next_framed : (place : Place) (bytes : List ℕ) → 0 < length bytes → next_of place bytes ≡ framed place (order_in place.order (kind_in place.order bytes) bytes) (kind_in place.order bytes) bytes
 next_framed place bytes some = otherwise (length bytes == 0) _ _ (not_equal (length bytes) 0 (λ h. omega arith))
 
@@ -114,7 +114,7 @@ accepted_by : (place : Place) (order : Endian) (kind : BlockKind) (bytes : List 
     framed place order kind bytes ≡ and_left (drop (length_in order bytes) bytes) (block_of place order kind (take (length_in order bytes) bytes))
 accepted_by place order kind bytes is = ap (whole_block place order kind (length_in order bytes) bytes) is
 
--- fewer bytes are left than say what block this is
+-- fewer bytes remain than are needed to identify the block
 pub few_left : (place : Place) (bytes : List ℕ) → 0 < length bytes → length bytes < 8 → next_of place bytes ≡ Err (CutBlock (place.blocks + 1))
 few_left place bytes some short =
     next_framed place bytes some ∙ refused_by place _ (kind_in place.order bytes) bytes (CutBlock (place.blocks + 1)) (if_cut (place.blocks + 1) (is_cut (kind_in place.order bytes) bytes) _ _ _ _ (rw (lt-ltb (length bytes) 8 short) refl))
@@ -125,7 +125,7 @@ few_of_section place head bytes begins long section short =
     ∙ refused_by place _ (kind_in place.order bytes) bytes (CutBlock (place.blocks + 1)) (if_cut (place.blocks + 1) (is_cut (kind_in place.order bytes) bytes) _ _ _ _
     (ap (λ k. is_cut k bytes) (sym (same_kind place.order head bytes begins long) ∙ section) ∙ rw (le-ltb (length bytes) 8 (omega (arith, long, begins.long)), lt-ltb (length bytes) 12 short) refl))
 
--- what the first bytes say is so
+-- what the first bytes say holds
 pub record Known (place : Place) (kind : BlockKind) (order : Endian) (head bytes : List ℕ) : Type 0 where
   pub begins : Begins head bytes
   pub enough : head_length kind ≤ length head
@@ -165,7 +165,7 @@ block_there place kind order head bytes known none long =
     (whole_left place kind order head bytes known) (ap first_fault (sym (same_heads (place.blocks + 1) order kind head bytes known.begins known.enough)) ∙ none) (le-ltb (length bytes) (length_in order bytes) (omega (arith, long, size))))
     ∙ ap (λ n. and_left (drop n bytes) (block_of place order kind (take n bytes))) (sym size)
 
--- a block whose bytes are there is refused, or gives its item
+-- a block whose bytes are present is refused, or gives its item
 pub block_refused : (place : Place) (kind : BlockKind) (order : Endian) (head bytes : List ℕ) (f : NgFault) → Known place kind order head bytes → first_fault (head_faults (place.blocks + 1) order kind head) ≡ None →
     length_in order head ≤ length bytes → first_fault (content_faults place order kind (take (length_in order head) bytes)) ≡ Some f → next_of place bytes ≡ Err f
 block_refused place kind order head bytes f known none long is =

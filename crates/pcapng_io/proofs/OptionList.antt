@@ -11,7 +11,7 @@ use Rattle.capture_bytes.specs.Numbers.{number_at}
 use Rattle.pcapng_io.specs.Options.{BlockOption, padded, options_within, options_of, resolution_among}
 use Rattle.pcapng_io.proofs.Choices.{otherwise, chosen, other_same, not_equal}
 
--- how many options may come doesn't matter, where there are as many as bytes
+-- a limit on the number of options doesn't matter if it is at least the number of bytes
 enough : (n m : ℕ) (order : Endian) (bytes : List ℕ) → length bytes ≤ n → length bytes ≤ m → options_within n order bytes ≡ options_within m order bytes
 enough zero zero order bytes p q = refl
 enough zero (suc m) order [] p q = refl
@@ -56,12 +56,12 @@ options_next order bytes some code fits =
     ∙ otherwise (nat_lt (length bytes) size) _ _ (le-ltb (length bytes) size fits)
     ∙ ap (option_map (λ more. first_option order bytes ∷ more)) (enough (length bytes) (length (drop size bytes)) order (drop size bytes) (omega (arith, length-drop size bytes)) (omega arith))
 
--- the resolution of options behind others that may have told it
+-- the resolution of options after others that may have given it
 abbrev pub known : Option ℕ → List BlockOption → ℕ
 known None options = resolution_among options
 known (Some r) options = r
 
--- the search has come so far
+-- the search has reached this place
 pub record Searching (order : Endian) (bytes : List ℕ) (at : ℕ) (found : Option ℕ) : Type 0 where
   pub within : at ≤ length bytes
   pub aligned : at % 4 ≡ 0
@@ -74,12 +74,12 @@ code_at Little at bytes = refl
 size_at : (order : Endian) (at : ℕ) (bytes : List ℕ) → number_at order 2 (at + 2) bytes ≡ number_at order 2 2 (drop at bytes)
 size_at order at bytes = code_at order (at + 2) bytes ∙ ap (number_at order 2 0) (sym (drop-drop 2 at bytes)) ∙ sym (code_at order 2 (drop at bytes))
 
--- what the search gives where the list of options ends
+-- what the search gives if the list of options ends
 pub known_end : (found : Option ℕ) → unwrap_or found 6 ≡ known found []
 known_end None = refl
 known_end (Some r) = refl
 
--- an option tells nothing new where another told it, where its code is another, or its length
+-- an option says nothing new if another gave the resolution, if its code is another, or its length
 pub may_pass : (found : Option ℕ) (unknown : Bool) (code size : ℕ) → is_some found ≡ not unknown →
     ((unknown ≡ true) × (code ≡ 9) × (size ≡ 1 → ⊥)) ⊎ (((unknown ≡ true) × (code ≡ 9 → ⊥)) ⊎ (unknown ≡ false)) → found ≡ None → code ≡ 9 → size ≡ 1 → ⊥
 may_pass found unknown code size is (inl x) none nine one = x.2 one
@@ -125,7 +125,7 @@ further order bytes at found found' so_far less code fits step =
           ∙ ap (λ l. option_map (known found') (options_of order l)) (drop-drop (4 + padded (number_at order 2 2 (drop at bytes))) at bytes ∙ ap (λ n. drop n bytes) (let e : at + (4 + padded (number_at order 2 2 (drop at bytes))) ≡ at + 4 + padded (number_at order 2 (at + 2) bytes) = omega (arith, size) in e));
     }
 
--- an option that tells no resolution, or tells it too late
+-- an option that gives no resolution, or gives it too late
 pub search_passes : (order : Endian) (bytes : List ℕ) (at : ℕ) (found : Option ℕ) → Searching order bytes at found → at < length bytes → 0 < number_at order 2 at bytes →
     at + 4 + padded (number_at order 2 (at + 2) bytes) ≤ length bytes → (found ≡ None → number_at order 2 at bytes ≡ 9 → number_at order 2 (at + 2) bytes ≡ 1 → ⊥) →
     Searching order bytes (at + 4 + padded (number_at order 2 (at + 2) bytes)) found
@@ -146,7 +146,7 @@ search_passes order bytes at found so_far less code fits other = further order b
             by false is = refl
             by true is = not_equal b 1 (λ one. h (Rattle.std.proofs.lemmas.Bool.eqb-true a 9 is) one)
 
--- the first option that tells it
+-- the first option that gives it
 pub search_finds : (order : Endian) (bytes : List ℕ) (at : ℕ) → Searching order bytes at None → at < length bytes → number_at order 2 at bytes ≡ 9 → number_at order 2 (at + 2) bytes ≡ 1 →
     at + 4 + padded (number_at order 2 (at + 2) bytes) ≤ length bytes → Searching order bytes (at + 4 + padded (number_at order 2 (at + 2) bytes)) (Some (slice_index bytes (at + 4)))
 search_finds order bytes at so_far less code one fits =

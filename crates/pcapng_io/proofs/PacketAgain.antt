@@ -1,4 +1,4 @@
--- A packet that was written stands next.
+-- A written packet comes next.
 use Rattle.std.proofs.Common.{◌≡◌, ◌≤◌, ◌<◌, ◌+◌, ◌-◌, ◌/◌, ◌%◌, ◌∙◌, ℕ, List, ◌++◌, length, take, drop, refl, ap, sym, length-append, arith, false}
 use Rattle.std.specs.Prelude.{Some, None, Ok, nat_le, slice_index}
 use Rattle.std.proofs.Math.Seq.{take-append_seam, drop-append_seam}
@@ -23,7 +23,7 @@ use Rattle.pcapng_io.proofs.Again.{IsThere, is_there, whole_length}
 not_less : (a b : ℕ) → a < b → nat_le b a ≡ false
 not_less a b h = grind (arith, nat_tests)
 
--- a written packet's block has no fault of its content
+-- the content of a written packet's block has no fault
 faultless : (place : Place) (p : NgPacket) → FitsPacket place p → IsThere p → first_fault (content_faults place p.order EnhancedPacket (packet_bytes p)) ≡ None
 faultless place p fits there =
     let order : Endian = p.order in
@@ -40,7 +40,7 @@ faultless place p fits there =
       not_equal (place.blocks + 1) 1099511627776 (λ h. let counted = fits.counted in omega arith),
     ) refl
 
--- and none of its length
+-- nor has its length
 sound : (n : ℕ) (order : Endian) (head : List ℕ) → 12 ≤ length_in order head → length_in order head ≤ 16777216 → length_in order head % 4 ≡ 0 → first_fault (head_faults n order EnhancedPacket head) ≡ None
 sound n order head least most whole = rw (le-ltb (length_in order head) 12 least, eq-eqb (length_in order head % 4) 0 whole, le-ltb 16777216 (length_in order head) most) refl
 

@@ -8,7 +8,7 @@ use Rattle.pcapng_io.specs.declared.item.NgPacket.{NgPacket}
 use Rattle.pcapng_io.specs.Options.{padded}
 use Rattle.pcapng_io.specs.Written.{packet_head, packet_length, packet_bytes}
 
--- seven numbers of four bytes, put one behind the other
+-- seven numbers of four bytes, put one after the other
 pub seven_fours : (b₁ b₂ b₃ b₄ b₅ b₆ b₇ x₁ x₂ x₃ x₄ x₅ x₆ x₇ : List ℕ) → length b₇ ≡ 28 → take 4 b₁ ≡ x₁ → take 8 b₂ ≡ take 4 b₁ ++ x₂ → take 12 b₃ ≡ take 8 b₂ ++ x₃ → take 16 b₄ ≡ take 12 b₃ ++ x₄ →
     take 20 b₅ ≡ take 16 b₄ ++ x₅ → take 24 b₆ ≡ take 20 b₅ ++ x₆ → take 28 b₇ ≡ take 24 b₆ ++ x₇ → b₇ ≡ x₁ ++ x₂ ++ x₃ ++ x₄ ++ x₅ ++ x₆ ++ x₇
 seven_fours b₁ b₂ b₃ b₄ b₅ b₆ b₇ x₁ x₂ x₃ x₄ x₅ x₆ x₇ size p q r s t u v =
@@ -35,10 +35,10 @@ packet_whole p head frame room size a b c d =
 pub zeros_of : (k : ℕ) → k ≤ 4 → take {A = ℕ} k (replicate 8 0) ≡ replicate k 0
 zeros_of k h = take-replicate k 8 0 (omega arith)
 
--- what stands behind a frame, where there are no options
+-- what follows a frame, if there are no options
 pub tail_whole : (zeros options tail : List ℕ) → options ≡ [] → zeros ++ tail ≡ zeros ++ options ++ tail
 tail_whole zeros options tail none = sym (ap (λ l. l ++ tail) (ap (λ o. zeros ++ o) none ∙ append-nil zeros))
 
--- what is left behind the first bytes
+-- what remains after the first bytes
 pub rest_is : (n : ℕ) (block : List ℕ) → take (length block - n) (drop n block) ≡ drop n block
 rest_is n block = ap (λ k. take k (drop n block)) (sym (length-drop n block)) ∙ take-length (drop n block)

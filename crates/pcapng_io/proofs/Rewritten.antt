@@ -1,4 +1,4 @@
--- Items that were written are read again.
+-- Written items are read again.
 use Rattle.std.proofs.Common.{◌≡◌, ◌∙◌, ℕ, List, [], ◌∷◌, ◌++◌, map, ap, sym, subst, append_assoc}
 use Rattle.std.specs.Prelude.{Ok, Some}
 use Rattle.std.specs.List.{flat_map}

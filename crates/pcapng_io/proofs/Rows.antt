@@ -1,4 +1,4 @@
--- Captures byte by byte, with what the definitions say of them.
+-- Captures byte by byte, with what the definitions give for them.
 use Rattle.std.proofs.Common.{◌≡◌, ◌++◌, ℕ, List, [], ◌∷◌, take, drop, refl}
 use Rattle.std.specs.Prelude.{Some, None, Ok, Err}
 use Rattle.std.specs.List.{flat_map}
@@ -12,7 +12,7 @@ use Rattle.pcapng_io.specs.declared.place.Place.{Place}
 use Rattle.pcapng_io.specs.Blocks.{start, next_of, blocks_of}
 use Rattle.pcapng_io.specs.Written.{packet_head, item_bytes}
 
--- little-endian: a section header of 28 bytes with its section length all ones, and an interface of 20 bytes with this snaplen
+-- little-endian: a section header of 28 bytes with a section length of all ones, an interface of 20 bytes, this snaplen
 abbrev section : List ℕ
 section = 0x0a ∷ 0x0d ∷ 0x0d ∷ 0x0a ∷ 28 ∷ 0 ∷ 0 ∷ 0 ∷ 0x4d ∷ 0x3c ∷ 0x2b ∷ 0x1a ∷ 1 ∷ 0 ∷ 0 ∷ 0 ∷ 255 ∷ 255 ∷ 255 ∷ 255 ∷ 255 ∷ 255 ∷ 255 ∷ 255 ∷ 28 ∷ 0 ∷ 0 ∷ 0 ∷ []
 

@@ -1,4 +1,4 @@
--- A block of which some fixed field was changed: what else it says stays.
+-- A block of which some fixed field was changed: the rest of its content stays.
 use Rattle.std.proofs.Common.{◌≡◌, ◌≤◌, ◌+◌, ◌∙◌, ℕ, List, [], ◌∷◌, ◌++◌, length, take, drop, refl, ap, sym, length-drop, length-append, arith, ◌%◌, Bool, true, false}
 use Rattle.std.specs.Prelude.{Option, Some, None, Ok, nat_lt, ◌==◌, ◌||◌, ◌&&◌, not}
 use Rattle.std.proofs.Math.Seq.{take-append_seam, drop-append_seam, take-length}
@@ -29,7 +29,7 @@ pub record Alone (place : Place) (kind : BlockKind) (order : Endian) (block : Li
   pub item_is : item_of place order kind block ≡ item
   pub now_is : after place order kind block ≡ now
 
--- what a block gave that was read, with nothing behind it
+-- what a block that was read gave, with nothing after it
 given_parts : (x : NgItem × Place) (o : Option NgFault) (rest : List ℕ) (item : NgItem) (now : Place) → and_left rest (unless_fault x o) ≡ Ok (Some (item, now, [])) → (o ≡ None) × (x.0 ≡ item) × (x.1 ≡ now) × (rest ≡ [])
 given_parts (i, p) None rest item now is =
     let same : ◌≡◌ {A = NgItem × Place × List ℕ} (i, p, rest) (item, now, []) = cc in
@@ -67,7 +67,7 @@ alone place block item now is =
     both (λ n. n ≡ Ok (Some (item, now, [])) → Alone place (kind_in place.order block) (order_in place.order (kind_in place.order block) block) block item now) (length block == 0) _ _
     (λ none is. absurd cc) (λ some is. alone_by place (kind_in place.order block) (order_in place.order (kind_in place.order block) block) block item now refl refl is) is
 
--- the first bytes of a block tell no fault where its length tells none
+-- the first bytes of a block show no fault if its length shows none
 heads_none : (a b c d : Bool) (f g h i : NgFault) → first_fault ((a, f) ∷ (b, g) ∷ (c, h) ∷ (d, i) ∷ []) ≡ None → first_fault ((b, g) ∷ (c, h) ∷ []) ≡ None
 heads_none true b c d f g h i none = absurd cc
 heads_none false true c d f g h i none = absurd cc
@@ -79,7 +79,7 @@ sound_heads n order kind block none = heads_none (nat_lt (length block) 8 || (is
     (((is_section kind && not (number_at order 4 8 block == 0x1a2b3c4d)) || nat_lt (length_in order block) 12 || not (length_in order block % 4 == 0)) || is_unread kind)
     (nat_lt 16777216 (length_in order block)) (nat_lt (length block) (length_in order block)) (CutBlock n) (BadBlock n) (BlockTooLong n (length_in order block)) (CutBlock n) none
 
--- what says what a block is is there
+-- what identifies a block is present
 head_there : (n : ℕ) (order : Endian) (kind : BlockKind) (block : List ℕ) → first_fault (length_faults n order kind block) ≡ None → head_length kind ≤ length block
 head_there n order SectionHeader block none = ltb-false (length block) 12 (or_right (nat_lt (length block) 8) (nat_lt (length block) 12) (none_stands (length_faults n order SectionHeader block) none).0)
 head_there n order InterfaceDescription block none = ltb-false (length block) 8 (or_left (nat_lt (length block) 8) false (none_stands (length_faults n order InterfaceDescription block) none).0)
@@ -94,7 +94,7 @@ eight EnhancedPacket = omega arith
 eight Unread = omega arith
 eight Other = omega arith
 
--- whatever stands behind it, it is read as it is alone
+-- whatever follows it, it is read as it is alone
 pub alone_more : (place : Place) (kind : BlockKind) (order : Endian) (block tail : List ℕ) (item : NgItem) (now : Place) → Alone place kind order block item now → next_of place (block ++ tail) ≡ Ok (Some (item, now, tail))
 alone_more place kind order block tail item now is =
     let n : ℕ = place.blocks + 1 in
@@ -120,6 +120,6 @@ alone_more place kind order block tail item now is =
     ∙ ap (λ l. Ok (Some (item_of place order kind block, after place order kind block, l))) rest
     ∙ ap (λ i. Ok (Some (i, after place order kind block, tail))) is.item_is ∙ ap (λ p. Ok (Some (item, p, tail))) is.now_is
 
--- a carried block, whatever stands behind it
+-- a carried block, whatever follows it
 pub block_again : (place now : Place) (block tail : List ℕ) (item : NgItem) → next_of place block ≡ Ok (Some (item, now, [])) → next_of place (block ++ tail) ≡ Ok (Some (item, now, tail))
 block_again place now block tail item is = alone_more place (kind_in place.order block) (order_in place.order (kind_in place.order block) block) block tail item now (alone place block item now is)

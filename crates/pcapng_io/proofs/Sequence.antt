@@ -12,7 +12,7 @@ use Rattle.pcapng_io.specs.Blocks.{Blocks, first_fault, length_faults, is_sectio
 use Rattle.pcapng_io.proofs.Choices.{both}
 use Rattle.pcapng_io.proofs.Faults.{NoneStands, none_stands, or_left, or_right}
 
--- an accepted length is that of a block, and the block is there
+-- an accepted length is that of a block, and the block is present
 pub record Accepted (size : ℕ) (bytes : List ℕ) : Type 0 where
   pub least : 12 ≤ size
   pub there : size ≤ length bytes
@@ -29,7 +29,7 @@ accepted n order kind bytes none =
 abbrev Next : Type 0
 Next = Result (Option (NgItem × Place × List ℕ)) NgFault
 
--- what stands next takes at least a block's lengths
+-- what comes next takes at least a block's lengths
 abbrev pub IsShorter : List ℕ → Next → Type 0
 IsShorter bytes next = IfOk next (λ o. IfSome o (λ x. length x.2 + 12 ≤ length bytes))
 
@@ -57,7 +57,7 @@ each_next P Q (Ok None) f h = tt
 each_next P Q (Ok (Some x)) f h = f x h
 each_next P Q (Err fault) f h = tt
 
--- how many blocks may come doesn't matter, where there are more than bytes
+-- a limit on the number of blocks doesn't matter if it is above the number of bytes
 enough : (n m : ℕ) (place : Place) (bytes : List ℕ) → length bytes < n → length bytes < m → blocks_within n place bytes ≡ blocks_within m place bytes
 enough zero m place bytes p q = absurd (omega arith)
 enough (suc n) zero place bytes p q = absurd (omega arith)
@@ -65,7 +65,7 @@ enough (suc n) (suc m) place bytes p q = and_rest_same (blocks_within n) (blocks
     (each_next (λ x. length x.2 + 12 ≤ length bytes) (λ x. blocks_within n x.1 x.2 ≡ blocks_within m x.1 x.2) (next_of place bytes)
     (λ (x : NgItem × Place × List ℕ) (less : length x.2 + 12 ≤ length bytes). enough n m x.1 x.2 (omega arith) (omega arith)) (next_shorter place bytes))
 
--- all blocks are what stands next, and those behind it
+-- all blocks are what comes next, and those after it
 pub blocks_next : (place : Place) (bytes : List ℕ) → blocks_of place bytes ≡ and_rest blocks_of (next_of place bytes)
 unfolding blocks_of
 blocks_next place bytes =

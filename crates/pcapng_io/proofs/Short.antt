@@ -4,7 +4,7 @@ use Rattle.std.specs.Prelude.{replicate}
 use Rattle.std.proofs.Math.Seq.{take-append-add}
 use Rattle.std.proofs.lemmas.List.{take_at, drop_at, take-replicate, drop-replicate}
 
--- a head and a frame, put one behind the other over zeros
+-- a head and a frame, put one after the other over zeros
 pub front_whole : (head frame : List ℕ) → length head ≡ 28 →
     take 28 (take 0 (replicate 256 0) ++ (head ++ drop (length head) (drop 0 (replicate 256 0)))) ++ (frame ++ drop (length frame) (drop 28 (take 0 (replicate 256 0) ++ (head ++ drop (length head) (drop 0 (replicate 256 0)))))) ≡ (head ++ frame) ++ replicate (228 - length frame) 0
 front_whole head frame size =
@@ -13,7 +13,7 @@ front_whole head frame size =
     ∙ ap (λ l. head ++ (frame ++ l)) (ap (drop (length frame)) rest ∙ drop-replicate (length frame) 228 0)
     ∙ sym (append_assoc head frame (replicate (228 - length frame) 0))
 
--- what stands before a block's last length
+-- what is before a block's last length
 pub before_size : (head frame : List ℕ) (padding : ℕ) → length head ≡ 28 → length frame ≤ 220 → padding ≤ 4 →
     take (28 + length frame + padding) ((head ++ frame) ++ replicate (228 - length frame) 0) ≡ (head ++ frame) ++ replicate padding 0
 before_size head frame padding size short few =
@@ -28,7 +28,7 @@ pub short_whole : (head frame last block : List ℕ) (padding : ℕ) → length 
 short_whole head frame last block padding size short few is =
     is ∙ ap (λ l. l ++ last) (before_size head frame padding size short few) ∙ append_assoc (head ++ frame) (replicate padding 0) last
 
--- the same, of the pieces as they are put
+-- the same, for the pieces as they are put
 pub pieces_whole : (head frame last one two block : List ℕ) (padding : ℕ) → length head ≡ 28 → length frame ≤ 220 → padding ≤ 4 →
     one ≡ take 0 (replicate 256 0) ++ (head ++ drop (length head) (drop 0 (replicate 256 0))) → two ≡ take 28 one ++ (frame ++ drop (length frame) (drop 28 one)) →
     take (28 + length frame + padding + 4) block ≡ take (28 + length frame + padding) two ++ last →

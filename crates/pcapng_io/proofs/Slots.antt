@@ -1,4 +1,4 @@
--- What reading a block says of the slot that it came from.
+-- What reading a block says about its slot.
 use Rattle.std.proofs.Common.{◌≡◌, ◌≤◌, ◌<◌, ◌+◌, ◌∙◌, ℕ, List, [], ◌∷◌, ◌++◌, length, take, drop, refl, ap, sym, subst, length-append, arith}
 use Rattle.std.specs.Prelude.{◌%◌, Option, Some, None, IfSome, IfOk, MatchOption, Result, Ok, Err, IsErrOf}
 use Rattle.std.specs.Option.{option_map}
@@ -42,7 +42,7 @@ refuses f place slot is = record {
     whole_is None is = tt
     whole_is (Some bytes) is = blocks_next place bytes ∙ ap (and_rest blocks_of) (is bytes refl)
 
--- a whole buffer that was filled is the front of what was left
+-- a full buffer is the front of the bytes that remained
 pub whole_front : (k : ℕ) (head bytes : List ℕ) (new : SlotView) → length head ≡ k → FillsFrom k bytes head new → Begins head bytes
 whole_front k head bytes new size fills = record {
   front = sym (take-length head) ∙ ap (λ n. take n head) size ∙ fills.front ∙ ap (λ n. take n bytes) (sym size);
@@ -53,7 +53,7 @@ empty : (bytes : List ℕ) → length bytes ≡ 0 → bytes ≡ []
 empty [] h = refl
 empty (b ∷ bs) h = absurd (omega arith)
 
--- nothing came
+-- no bytes were read
 pub at_end : (k : ℕ) (place : Place) (head : List ℕ) (x new : SlotView) → length head ≡ 8 → k ≡ 0 → Fills k head x new → IsAtEnd place x new
 at_end k place head x new size zero fills = record {
   left = if_told (λ o. new.bytes ≡ o) x.bytes (told_none k head x new fills) (λ (bytes : List ℕ) (is : x.bytes ≡ Some bytes). (told_some k head bytes x new fills is).rest ∙ ap (λ n. Some (drop n bytes)) zero);
@@ -72,7 +72,7 @@ pub head_cut : (k : ℕ) (place : Place) (head : List ℕ) (x new : SlotView) �
 head_cut k place head x new size some short fills = refuses (CutBlock (place.blocks + 1)) place x (λ bytes is.
     let all : length bytes ≡ k = (told_some k head bytes x new fills is).end_only (omega (arith, size, short)) in few_left place bytes (omega (arith, all, some)) (omega (arith, all, short)))
 
--- what was left shows the same, once bytes that were taken are put back
+-- the bytes that remained show the same after bytes that were taken are put back
 pub put_back : (n : ℕ) (head : List ℕ) (x mid : SlotView) → length head ≡ n → Fills n head x mid → (unread head mid).bytes ≡ x.bytes
 put_back n head x mid size first = if_told (λ o. option_map (λ left. head ++ left) mid.bytes ≡ o) x.bytes
     (λ none. ap (option_map (λ left. head ++ left)) (told_none n head x mid first none))
@@ -80,7 +80,7 @@ put_back n head x mid size first = if_told (λ o. option_map (λ left. head ++ l
     let fills = told_some n head bytes x mid first is in
     ap (option_map (λ left. head ++ left)) fills.rest ∙ ap (λ l. Some (l ++ drop n bytes)) ((whole_front n head bytes mid size fills).front ∙ ap (λ m. take m bytes) size) ∙ ap (λ l. Some l) (take-append-drop n bytes))
 
--- what was filled further, where a front was taken before
+-- what was filled further, if a front was taken before
 pub further : (k n : ℕ) (head buffer : List ℕ) (x mid new : SlotView) → length head ≡ n → Fills n head x mid → Fills k buffer (unread head mid) new → Fills k buffer x new
 further k n head buffer x mid new size first second = record {
   within = second.within;
@@ -122,7 +122,7 @@ head_told place kind head f x new size is_kind fills told = refuses f place x (�
     head_refused place kind (order_in place.order kind head) head bytes f
     (record { begins = whole_front (length head) head bytes new refl (told_some (length head) head bytes x new fills is); enough = omega (arith, size); kind_is = is_kind; order_is = refl }) told)
 
--- what the head says is known of all that is left
+-- what the head says holds for all the bytes that remain
 known_unread : (place : Place) (kind : BlockKind) (order : Endian) (size : ℕ) (head bytes : List ℕ) (mid : SlotView) → Says place kind order size head → (unread head mid).bytes ≡ Some bytes → Known place kind order head bytes
 known_unread place kind order size head bytes mid says is = record { begins = begins_unread head bytes mid is; enough = omega (arith, says.enough); kind_is = says.kind_is; order_is = says.order_is }
 
@@ -133,7 +133,7 @@ rest_cut k place kind order size head block mid new says there short fills = ref
     block_cut place kind order head bytes (known_unread place kind order size head bytes mid says is) says.sound
     (let all : length bytes ≡ k = (told_some k block bytes (unread head mid) new fills is).end_only (omega (arith, there, short)) in omega (arith, all, short, says.size_is)))
 
--- a block that is there is what was left at the front
+-- a block that is present is the front of the bytes that remained
 block_is : (size : ℕ) (order : Endian) (head block bytes : List ℕ) (new : SlotView) → size ≡ length_in order head → length block ≡ size → FillsFrom size bytes block new → block ≡ take (length_in order head) bytes
 block_is size order head block bytes new is there fills = let begins = whole_front size block bytes new there fills in begins.front ∙ ap (λ n. take n bytes) (there ∙ is)
 
@@ -174,13 +174,13 @@ given place kind order size head block mid new says closes none = record {
         ∙ ap (λ b. Ok (Some (item_of place order kind b, after place order kind b, drop (length_in order head) bytes))) same
         ∙ ap (λ n. Ok (Some (item_of place order kind block, after place order kind block, drop n bytes))) (sym says.size_is)
 
--- the length that an accepted head says
+-- the length in an accepted head
 pub record Length (size : ℕ) : Type 0 where
   pub least : 12 ≤ size
   pub most : size ≤ 16777216
   pub multiple : size % 4 ≡ 0
 
--- a buffer that was filled whole
+-- a buffer that was filled fully
 pub full : (k n : ℕ) (buffer : List ℕ) (x new : SlotView) → length buffer ≡ n → n ≤ k → Fills k buffer x new → Fills n buffer x new
 full k n buffer x new size all fills = subst (λ m. Fills m buffer x new) (let e : k ≡ n = omega (arith, fills.within, size, all) in e) fills
 
@@ -190,12 +190,12 @@ full_length k n buffer x new size all fills = subst (λ m. Fills m buffer x new)
 pub known_first : (k : ℕ) (buffer first first' : List ℕ) (old new : SlotView) → first ≡ first' → Fills k buffer (unread first old) new → Fills k buffer (unread first' old) new
 known_first k buffer first first' old new same fills = subst (λ l. Fills k buffer (unread l old) new) same fills
 
--- what holds of a value that is there
+-- what holds for a value that is there
 pub ok_some : {T E : Type 0} (P Q : T → Type 0) (r : Result (Option T) E) → ((t : T) → P t → Q t) → IfOk r (λ o. IfSome o P) → IfOk r (λ o. IfSome o Q)
 ok_some P Q (Ok None) f h = tt
 ok_some P Q (Ok (Some t)) f h = f t h
 ok_some P Q (Err e) f h = tt
 
--- the fault of an answer, whatever a good answer would have been
+-- the fault of an answer, whatever the good answer would have been
 pub retyped : {T U : Type 0} (e f : NgReadFault) → IsErrOf {T = T} (Err e) f → IsErrOf {T = U} (Err e) f
 retyped e f is = let same : e ≡ f = cc in ap (λ x. Err x) same

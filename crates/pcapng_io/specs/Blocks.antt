@@ -1,4 +1,4 @@
--- Believed: the pcapng file format (draft-ietf-opsawg-pcapng) as it is read here: blocks, the first fault of each, and what it gives.
+-- Believed: the pcapng format (draft-ietf-opsawg-pcapng) as it is read here: blocks, their first faults, their items.
 use Rattle.std.specs.Prelude.{◌+◌, ◌-◌, ◌*◌, ◌/◌, ◌%◌, ℕ, zero, suc, List, [], ◌∷◌, ◌++◌, length, take, drop, if◌then◌else◌, ◌==◌, ◌&&◌, ◌||◌, not, nat_lt, nat_le, Bool, true, false, is_none, slice_index, Option, Some, None, Result, Ok, Err}
 use Rattle.capture_bytes.specs.declared.order.Endian.{Endian}
 use Rattle.capture_bytes.specs.declared.order.Endian.TheVariants.{Big, Little}
@@ -63,7 +63,7 @@ fixed_length EnhancedPacket = 20
 fixed_length Unread = 0
 fixed_length Other = 0
 
--- the block at the front: its kind, the order of its numbers and its length. A section header shows its own order by its magic.
+-- the block at the front: its kind, number order and length; a section header's magic gives its order
 abbrev pub kind_in : Endian → List ℕ → BlockKind
 kind_in order bytes = kind_of (number_at order 4 0 bytes)
 
@@ -100,15 +100,15 @@ original_in order block = number_at order 4 24 block
 abbrev pub has_bad_lengths : Endian → BlockKind → List ℕ → Bool
 has_bad_lengths order kind block = not (number_at order 4 (length block - 4) block == length_in order block) || nat_lt (length block) (12 + fixed_length kind)
 
--- A table of faults, each with the test of where it stands: the first that stands is told.
+-- A table of faults, each with its test: the first fault whose test passes is reported.
 abbrev pub first_fault : List (Bool × NgFault) → Option NgFault
 first_fault [] = None
 first_fault ((stands, fault) ∷ more) = if stands then Some fault else first_fault more
 
--- The faults of block n that its length tells, where these bytes are left.
+-- The faults of block `n` that its length shows, if these bytes remain.
 abbrev pub length_faults : ℕ → Endian → BlockKind → List ℕ → List (Bool × NgFault)
 length_faults n order kind bytes =
-    -- fewer bytes are left than say what block this is
+    -- fewer bytes remain than are needed to identify the block
     (nat_lt (length bytes) 8 || (is_section kind && nat_lt (length bytes) 12), CutBlock n)
     -- a wrong magic, a length that no block has, or a block that isn't read
     ∷ ((is_section kind && not (number_at order 4 8 bytes == 0x1a2b3c4d)) || nat_lt (length_in order bytes) 12 || not (length_in order bytes % 4 == 0) || is_unread kind, BadBlock n)
@@ -116,8 +116,8 @@ length_faults n order kind bytes =
     ∷ (nat_lt (length bytes) (length_in order bytes), CutBlock n)
     ∷ []
 
--- A fault tells that the block which has it is the first of its capture: that one is a section header, of which no fault comes that
--- tells no block.
+-- A fault says whether its block is the first of its capture: that one is a section header, of which no fault comes
+-- without a block.
 abbrev pub is_of_first_block : NgFault → Bool
 is_of_first_block (CutBlock n) = n == 1
 is_of_first_block (BadBlock n) = n == 1
@@ -129,7 +129,7 @@ is_of_first_block (FrameTooLong number size) = false
 is_of_first_block TooManyRecords = false
 is_of_first_block TooManyBlocks = false
 
--- The faults of the block's own bytes, behind these.
+-- The faults of the block's own bytes, after these.
 abbrev pub content_faults : Place → Endian → BlockKind → List ℕ → List (Bool × NgFault)
 content_faults place order kind block =
     -- the lengths differ, the fixed fields are cut, the version isn't 1, or an interface's option runs past the body
@@ -144,7 +144,7 @@ content_faults place order kind block =
     ∷ (place.blocks + 1 == 1099511627776, TooManyBlocks)
     ∷ []
 
--- the packet in a block, whose interface has so many ticks in a second
+-- the packet in a block, for an interface with this number of ticks in a second
 abbrev pub packet_of : Endian → ℕ → List ℕ → NgPacket
 packet_of order in_second block = record {
   order = order;
@@ -167,7 +167,7 @@ item_of place order EnhancedPacket block = Packet (packet_of order (slice_index 
 item_of place order Unread block = Carried block
 item_of place order Other block = Carried block
 
--- and what stands before the next one
+-- and the place before the next one
 abbrev pub after : Place → Endian → BlockKind → List ℕ → Place
 after place order SectionHeader block = record { order = order; units = []; blocks = place.blocks + 1; packets = place.packets }
 after place order InterfaceDescription block = record { order = place.order; units = place.units ++ ticks_in_second (resolution_in order block) ∷ []; blocks = place.blocks + 1; packets = place.packets }
@@ -175,7 +175,7 @@ after place order EnhancedPacket block = record { order = place.order; units = p
 after place order Unread block = record { order = place.order; units = place.units; blocks = place.blocks + 1; packets = place.packets }
 after place order Other block = record { order = place.order; units = place.units; blocks = place.blocks + 1; packets = place.packets }
 
--- a block of which all bytes are there
+-- a block of which all bytes are present
 abbrev pub unless_fault : {X : Type 0} → X → Option NgFault → Result X NgFault
 unless_fault x None = Ok x
 unless_fault x (Some fault) = Err fault
@@ -187,7 +187,7 @@ abbrev pub and_left : List ℕ → Result (NgItem × Place) NgFault → Result (
 and_left rest (Ok (item, place)) = Ok (Some (item, place, rest))
 and_left rest (Err fault) = Err fault
 
--- a block whose length is accepted, with the bytes behind it
+-- a block whose length is accepted, with the bytes that follow it
 abbrev pub whole_block : Place → Endian → BlockKind → ℕ → List ℕ → Option NgFault → Result (Option (NgItem × Place × List ℕ)) NgFault
 whole_block place order kind size bytes None = and_left (drop size bytes) (block_of place order kind (take size bytes))
 whole_block place order kind size bytes (Some fault) = Err fault
@@ -195,7 +195,7 @@ whole_block place order kind size bytes (Some fault) = Err fault
 abbrev pub framed : Place → Endian → BlockKind → List ℕ → Result (Option (NgItem × Place × List ℕ)) NgFault
 framed place order kind bytes = whole_block place order kind (length_in order bytes) bytes (first_fault (length_faults (place.blocks + 1) order kind bytes))
 
--- What stands next: the end, a block with what it leaves, or a fault.
+-- What comes next: the end, a block with the bytes after it, or a fault.
 abbrev pub next_of : Place → List ℕ → Result (Option (NgItem × Place × List ℕ)) NgFault
 next_of place bytes =
     if length bytes == 0 then Ok None
@@ -210,17 +210,17 @@ pub record Blocks : Type 0 where
 abbrev pub with_item : NgItem → Blocks → Blocks
 with_item item rest = record { items = item ∷ rest.items; fault = rest.fault }
 
--- what stands next, and what comes behind it
+-- what comes next, and what follows it
 abbrev pub and_rest : (Place → List ℕ → Blocks) → Result (Option (NgItem × Place × List ℕ)) NgFault → Blocks
 and_rest rest (Ok None) = record { items = []; fault = None }
 and_rest rest (Ok (Some (item, place, bytes))) = with_item item (rest place bytes)
 and_rest rest (Err fault) = record { items = []; fault = Some fault }
 
--- the same up to n blocks; a block takes bytes, so a number of bytes is enough
+-- the same up to `n` blocks; a block takes bytes, so a number of bytes is enough
 abbrev pub blocks_within : ℕ → Place → List ℕ → Blocks
 blocks_within zero place bytes = record { items = []; fault = None }
 blocks_within (suc n) place bytes = and_rest (blocks_within n) (next_of place bytes)
 
--- all the blocks behind a place, and the fault that ends them
+-- all the blocks after a place, and the fault that ends them
 unfoldable pub blocks_of : Place → List ℕ → Blocks
 blocks_of place bytes = blocks_within (length bytes + 1) place bytes

@@ -1,4 +1,4 @@
--- Believed: the options behind the fixed fields of a block (draft-ietf-opsawg-pcapng, "Options").
+-- Believed: the options after the fixed fields of a block (draft-ietf-opsawg-pcapng, "Options").
 use Rattle.std.specs.Prelude.{◌+◌, ◌*◌, ◌/◌, ℕ, zero, suc, List, [], ◌∷◌, length, take, drop, if◌then◌else◌, ◌==◌, ◌&&◌, nat_lt, slice_index, Option, Some, None}
 use Rattle.std.specs.Option.{option_map}
 use Rattle.capture_bytes.specs.declared.order.Endian.{Endian}
@@ -13,8 +13,8 @@ pub record BlockOption : Type 0 where
   pub code : ℕ
   pub value : List ℕ
 
--- The options at the front, up to n of them: each is a code (2 bytes), a length (2) and a padded value. The list ends with the
--- bytes or with code 0 (opt_endofopt); None where an option runs past the bytes.
+-- The options at the front, up to `n` of them: each is a code (2 bytes), a length (2) and a padded value. The list ends
+-- with the bytes or with code 0 (opt_endofopt); None if an option runs past the bytes.
 abbrev pub options_within : ℕ → Endian → List ℕ → Option (List BlockOption)
 options_within zero order bytes = Some []
 options_within (suc n) order bytes =
@@ -28,7 +28,7 @@ options_within (suc n) order bytes =
 unfoldable pub options_of : Endian → List ℕ → Option (List BlockOption)
 options_of order bytes = options_within (length bytes) order bytes
 
--- the resolution of an interface with these options: the value of the first option 9 (if_tsresol) of one byte, else that of microseconds
+-- the resolution of an interface with these options: the first option 9 (if_tsresol) of one byte, else microseconds
 abbrev pub resolution_among : List BlockOption → ℕ
 resolution_among [] = 6
 resolution_among (o ∷ more) = if (o.code == 9) && (length o.value == 1) then slice_index o.value 0 else resolution_among more

@@ -11,11 +11,11 @@ use Rattle.pcapng_io.specs.Blocks.{Blocks, next_of}
 use Rattle.pcapng_io.specs.Options.{padded}
 use Rattle.pcapng_io.specs.Times.{nanoseconds_of}
 
--- a snaplen that grew by this; 0 stands for no limit and stays
+-- a snaplen that grew by this; 0 means no limit and stays
 abbrev pub grown : ℕ → ℕ → ℕ
 grown growth snaplen = if snaplen == 0 then 0 else min (snaplen + growth) 4294967295
 
--- a section header, whose section length is all ones: it isn't told
+-- a section header, whose section length is all ones, which means unknown
 abbrev pub section_bytes : List ℕ → List ℕ
 section_bytes block = take 16 block ++ replicate 8 255 ++ drop 24 block
 
@@ -27,7 +27,7 @@ interface_bytes growth order block = take 12 block ++ bytes_of order 4 (grown gr
 abbrev pub packet_length : NgPacket → ℕ
 packet_length p = 32 + padded (length p.packet.frame) + length p.options
 
--- a packet of this record, whose block says this beside it
+-- a packet of this record, with the other content of its block
 abbrev pub packet_with : Endian → ℕ → ℕ → List ℕ → PcapRecord → NgPacket
 packet_with order interface ticks options packet = record { order = order; interface = interface; ticks = ticks; options = options; packet = packet }
 
@@ -40,20 +40,20 @@ head_spelled order length interface ticks captured wire =
 unfoldable pub packet_head : NgPacket → List ℕ
 packet_head p = head_spelled p.order (packet_length p) p.interface p.ticks (length p.packet.frame) p.packet.wire
 
--- a packet: this, the frame with zeros behind it up to a multiple of four, the options, and the length again
+-- a packet: this, the frame with zeros after it up to a multiple of four, the options, and the length again
 abbrev pub packet_bytes : NgPacket → List ℕ
 packet_bytes p =
     packet_head p ++ p.packet.frame ++ replicate (padded (length p.packet.frame) - length p.packet.frame) 0 ++ p.options ++ bytes_of p.order 4 (packet_length p)
 
--- an item as it is written, where frames may have grown by so many bytes
+-- an item as it is written, if frames may have grown by this number of bytes
 abbrev pub item_bytes : ℕ → NgItem → List ℕ
 item_bytes growth (Packet p) = packet_bytes p
 item_bytes growth (Section block) = section_bytes block
 item_bytes growth (Interface order block) = interface_bytes growth order block
 item_bytes growth (Carried block) = block
 
--- A packet that may stand behind a place: of an interface of its section, at the time that its ticks tell, with a frame and a block of
--- lengths that are accepted, and not beyond the packets and blocks that are counted.
+-- A packet that may come after a place: of an interface of its section, at the time of its ticks, with a frame and a
+-- block of accepted lengths, and within the packets and blocks that are counted.
 pub record FitsPacket (place : Place) (p : NgPacket) : Type 0 where
   pub order : p.order ≡ place.order
   pub known : p.interface < length place.units
@@ -68,21 +68,21 @@ pub record FitsPacket (place : Place) (p : NgPacket) : Type 0 where
   pub few : place.packets < 4294967295
   pub counted : place.blocks + 1 < 1099511627776
 
--- what an item is read as, once it was written
+-- an item as it is read after it was written
 abbrev pub as_written : ℕ → NgItem → NgItem
 as_written growth (Packet p) = Packet p
 as_written growth (Section block) = Section (section_bytes block)
 as_written growth (Interface order block) = Interface order (interface_bytes growth order block)
 as_written growth (Carried block) = Carried block
 
--- An item may stand behind a place, and leads to another: a packet that fits, or a block that is read as the item.
+-- An item may come after a place, and gives another: a packet that fits, or a block that is read as the item.
 abbrev pub Stands : Place → NgItem → Place → Type 0
 Stands place (Packet p) now = FitsPacket place p × (now ≡ record { order = place.order; units = place.units; blocks = place.blocks + 1; packets = place.packets + 1 })
 Stands place (Section block) now = next_of place block ≡ Ok (Some (Section block, now, []))
 Stands place (Interface order block) now = next_of place block ≡ Ok (Some (Interface order block, now, []))
 Stands place (Carried block) now = next_of place block ≡ Ok (Some (Carried block, now, []))
 
--- items may stand one behind another
+-- items may come one after another
 abbrev pub StandInARow : Place → List NgItem → Place → Type 0
 StandInARow place [] now = now ≡ place
 StandInARow place (i ∷ more) now = (mid : Place) × Stands place i mid × StandInARow mid more now

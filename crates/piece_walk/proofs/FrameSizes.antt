@@ -1,4 +1,4 @@
--- A function makes a frame longer by a tag at most, and sealing keeps a frame's length.
+-- A function makes a frame longer by at most one tag, and sealing keeps a frame's length.
 use Rattle.std.proofs.Common.{◌≡◌, ◌≢◌, ◌≤◌, ◌∙◌, ℕ, ◌+◌, List, [], ◌∷◌, ◌++◌, length, take, Bool, true, false, refl, ap, sym, subst, length-append, length-take, length-drop, arith}
 use Rattle.std.specs.Prelude.{IfSome, IsSome, IsSomeAnd, None, Option, Some, if◌then◌else◌}
 use Rattle.std.proofs.lemmas.Option.{same_Some}
@@ -30,7 +30,7 @@ sealed_length before after =
     let whole = length-append (take (packet_at after) after) (packet_sealed (packet before) (packet after)) in
     omega (arith, same, whole, length-take (packet_at after) after, length-drop (packet_at after) after)
 
--- a field whose place is as long keeps the frame's length
+-- a field whose value keeps its length keeps the frame's length
 at_length : (new frame : List ℕ) (o : Option Span) → IfSome o (λ s. s.at + s.len ≤ length frame) → ((s : Span) → o ≡ Some s → length new ≡ s.len) → length (put_at o new frame) ≡ length frame
 at_length new frame None inside same = refl
 at_length new frame (Some s) inside same = let len = same s refl in length-overwritten s.at new frame (omega arith)
@@ -38,7 +38,7 @@ at_length new frame (Some s) inside same = let len = same s refl in length-overw
 field_length : (f : Field) (new frame : List ℕ) → f ≢ Tag → Fits f new frame → length (put_at (span f frame) new frame) ≡ length frame
 field_length f new frame no_tag fits = at_length new frame (span f frame) (span-inside f frame) (λ s is. fits_len f new frame s no_tag fits is)
 
--- the frame with other tags is longer by what they are longer
+-- a frame with other tags is longer by as much as the tags are
 tags_length : (new old frame : List ℕ) → value Tag frame ≡ Some old → length (put Tag new frame) + length old ≡ length frame + length new
 tags_length new old frame is =
     let there : IsSome (value Tag frame) = subst (λ o. IsSome o) (sym is) refl in
@@ -52,7 +52,7 @@ tags_length new old frame is =
     let behind_new : length (new ++ packet frame) ≡ length new + length (packet frame) = length-append new (packet frame) in
     omega (arith, count, joined, before, behind, before_new, behind_new)
 
--- how many bytes a field may add
+-- the number of bytes that a field may add
 abbrev room : Field → ℕ
 room Tag = 4
 room f = 0
@@ -77,7 +77,7 @@ put_length SrcPort new frame fits longer = let same = field_length SrcPort new f
 put_length DstPort new frame fits longer = let same = field_length DstPort new frame (λ e. cc) fits in omega arith
 put_length Payload new frame fits longer = let same = field_length Payload new frame (λ e. cc) fits in omega arith
 
--- what the tags may grow by is the same once a field is written
+-- how much the tags may grow stays the same when a field is written
 abbrev MayGrow : Option (List ℕ) → Option (List ℕ) → Type 0
 MayGrow new old = IfSome new (λ n. IsSomeAnd old (λ o. length n ≤ length o + 4))
 
@@ -129,7 +129,7 @@ tag_at_most adds (Some n) None h = absurd h.1
 tag_at_most true (Some n) (Some o) h = h.1
 tag_at_most false (Some n) (Some o) h = let most = h.1 in omega arith
 
--- a function makes a frame longer by one tag at most
+-- a function makes a frame longer by at most one tag
 pub frame_grows : {F : Type 0} (b : Behaviour F) (time : ℕ) (f : F) (frame : List ℕ) → KeepsProfile b → length (frame_after b time f frame) ≤ length frame + 4
 frame_grows b time f frame keeps =
     written_length all_fields (applied b time f frame).written frame

@@ -1,4 +1,4 @@
--- How long a frame gets at most on its way through the pieces.
+-- The greatest length of a frame on its way through the pieces.
 use Rattle.std.proofs.Common.{◌≤◌, ◌+◌, ◌*◌, ℕ, Bool, true, false, List, [], ◌∷◌, length, subst, arith}
 use Rattle.std.specs.Prelude.{All, if◌then◌else◌, sum_by}
 use Rattle.std.proofs.lemmas.List.Elements.{All-cons, All-nil, All-head, All-tail}

@@ -1,4 +1,4 @@
--- The way of a packet behind so many functions is the same way, and only positions count these too.
+-- The walk of a packet after this number of functions is the same walk, and only positions count these too.
 use Rattle.std.proofs.Common.{◌≡◌, ◌∙◌, ◌+◌, ℕ, Bool, true, false, List, [], ◌∷◌, length, ap, refl, arith}
 use Rattle.std.specs.Prelude.{if◌then◌else◌}
 use Rattle.packet_fields.specs.Checksums.{sealed}

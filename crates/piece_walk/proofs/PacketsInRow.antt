@@ -1,4 +1,4 @@
--- Packets in a row: what the first leave, the later find.
+-- Packets in a row: the later ones find the state that the first leave.
 use Rattle.std.proofs.Common.{◌≡◌, ℕ, suc, List, [], ◌∷◌, ◌++◌, length, map, ap, refl}
 use Rattle.chain_walk.specs.Step.{Behaviour}
 use Rattle.chain_walk.specs.Walk.{walk}
@@ -26,7 +26,7 @@ module _ {F : Type 0} (b : Behaviour F) where
   count_of_fates pieces [] = refl
   count_of_fates pieces (p ∷ ps) = ap suc (count_of_fates (long b p.time 1 pieces p.frame).pieces ps)
 
-  -- what passes of two lots
+  -- what passes in two groups of packets
   abbrev PassInARow : List F → List Packet → List Packet → Type 0
   PassInARow functions first later = passed (first ++ later) (fates b functions (first ++ later)) ≡ passed first (fates b functions first) ++ passed later (fates b (functions_after b functions first) later)
 
@@ -47,7 +47,7 @@ module _ {F : Type 0} (b : Behaviour F) where
   rewritten_in_a_row rewritten [] later = refl
   rewritten_in_a_row rewritten (p ∷ first) later = ap (λ l. rewritten_by rewritten p ∷ l) (rewritten_in_a_row rewritten first later)
 
-  -- what a piece hands on of two lots
+  -- what a piece passes on in two groups of packets
   pub handed_on_in_a_row : (piece : Piece F) (first later : List Packet) → handed_on b piece (first ++ later) ≡ handed_on b piece first ++ handed_on b (piece_after b piece first) later
   handed_on_in_a_row (Graph stages functions) first later = passed_in_a_row functions first later
   handed_on_in_a_row (Whole rewritten) first later = rewritten_in_a_row rewritten first later

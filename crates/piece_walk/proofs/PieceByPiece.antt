@@ -27,7 +27,7 @@ module _ {F : Type 0} (b : Behaviour F) where
       as_many_by (is_drop (applied b time f frame).verdict) position (applied b time f frame).after later (walk b time (position + 1) later (frame_after b time f frame)) (as_many_functions time (position + 1) later (frame_after b time f frame))
 
   module _ (stages : List Stage) where
-    -- what is due of the packets behind, where the later pieces are these
+    -- the result for the packets after, with these later pieces
     abbrev FatesOf : List F → List (Piece F) → List Packet → Type 0
     FatesOf functions later ps = long_fates b (Graph stages functions ∷ later) ps ≡ put_back (fates b functions ps) (map (moved (length functions)) (long_fates b later (passed ps (fates b functions ps))))
 
@@ -51,7 +51,7 @@ module _ {F : Type 0} (b : Behaviour F) where
         let left = (walk b p.time 1 functions p.frame).functions in
         fates_by (length functions) p ps left later (walk b p.time 1 functions p.frame).fate (as_many_functions p.time 1 functions p.frame) (λ others. fates_of_graph left others ps)
 
-    -- so the pieces are left
+    -- the state in which the pieces are left
     abbrev PiecesOf : List F → List (Piece F) → List Packet → Type 0
     PiecesOf functions later ps = pieces_after b (Graph stages functions ∷ later) ps ≡ Graph stages (functions_after b functions ps) ∷ pieces_after b later (passed ps (fates b functions ps))
 
@@ -88,7 +88,7 @@ module _ {F : Type 0} (b : Behaviour F) where
         ap (λ (w : Went F). pieces_after b (Whole rewritten ∷ w.pieces) ps) (long_behind b p.time 1 later (rewritten p.frame))
         ∙ pieces_of_whole (long b p.time 1 later (rewritten p.frame)).pieces ps
 
-  -- the first piece is left by its packets, and the later ones by those that it hands on
+  -- the first piece is left by its packets, and the later ones by those that it passes on
   pub pieces_by_piece : (piece : Piece F) (later : List (Piece F)) (ps : List Packet) →
       pieces_after b (piece ∷ later) ps ≡ piece_after b piece ps ∷ pieces_after b later (handed_on b piece ps)
   pieces_by_piece (Graph stages functions) later ps = pieces_of_graph stages functions later ps
@@ -101,7 +101,7 @@ module _ {F : Type 0} (b : Behaviour F) where
   passed_fewer (p ∷ ps) (Out frame ∷ ended) = let rest = passed_fewer ps ended in omega arith
   passed_fewer (p ∷ ps) (Gone position ∷ ended) = let rest = passed_fewer ps ended in omega arith
 
-  -- a piece hands on no more packets than entered it
+  -- a piece passes on no more packets than entered it
   pub fewer : (piece : Piece F) (ps : List Packet) → length (handed_on b piece ps) ≤ length ps
   fewer (Graph stages functions) ps = passed_fewer ps (fates b functions ps)
   fewer (Whole rewritten) ps = let same = length-map ps (rewritten_by rewritten) in omega arith

@@ -1,4 +1,4 @@
--- Packets may go through some pieces before the first of them goes through those behind.
+-- Packets may go through some pieces before the first of them goes through those after.
 use Rattle.std.proofs.Common.{◌≡◌, ◌∙◌, ◌+◌, ℕ, List, [], ◌∷◌, ◌++◌, length, map, ap, refl, sym, arith}
 use Rattle.std.specs.Prelude.{sum_by}
 use Rattle.std.proofs.lemmas.List.Sums.{sum_by-cons}
@@ -15,7 +15,7 @@ use Rattle.piece_walk.proofs.Keeping.{way_keeps_count}
 use Rattle.piece_walk.proofs.Moving.{long_behind}
 use Rattle.piece_walk.proofs.OnePiece.{no_piece_fates, one_piece_fates, one_whole_fates}
 
--- the pieces in front were left so, and this became of the packet there
+-- the state of the pieces in front, and the packet after them
 abbrev goes_on : {F : Type 0} → List (Piece F) → List (Piece F) → (List ℕ → Went F) → Fate → Went F
 goes_on front later on (Out frame) = record { pieces = front ++ (on frame).pieces; fate = (on frame).fate }
 goes_on front later on (Gone position) = record { pieces = front ++ later; fate = Gone position }
@@ -46,7 +46,7 @@ module _ {F : Type 0} (b : Behaviour F) where
       ap (then_went (Whole rewritten)) (way_through time (position + 1) rest later (rewritten frame) ∙ ap (λ k. goes_on front.pieces later (long b time k later) front.fate) same)
       ∙ one_more (Whole rewritten) front.pieces later (long b time (position + sum_by count_of (Whole rewritten ∷ rest)) later) front.fate
 
-  -- what is due of the packets through these pieces and the later ones
+  -- the result for the packets through these pieces and the later ones
   abbrev FatesThrough : List (Piece F) → List (Piece F) → List Packet → Type 0
   FatesThrough pieces later ps = long_fates b (pieces ++ later) ps ≡ put_back (long_fates b pieces ps) (map (moved (sum_by count_of pieces)) (long_fates b later (still_going ps (long_fates b pieces ps))))
 
@@ -70,7 +70,7 @@ module _ {F : Type 0} (b : Behaviour F) where
       ap (λ (w : Went F). w.fate ∷ long_fates b w.pieces ps) (way_through p.time 1 pieces later p.frame)
       ∙ fates_by (sum_by count_of pieces) p ps front later (long b p.time 1 pieces p.frame).fate (way_keeps_count b p.time 1 pieces p.frame) (λ others. fates_through front others ps)
 
-  -- so the pieces are left
+  -- the state in which the pieces are left
   abbrev PiecesThrough : List (Piece F) → List (Piece F) → List Packet → Type 0
   PiecesThrough pieces later ps = pieces_after b (pieces ++ later) ps ≡ pieces_after b pieces ps ++ pieces_after b later (still_going ps (long_fates b pieces ps))
 
@@ -89,7 +89,7 @@ module _ {F : Type 0} (b : Behaviour F) where
       ap (λ (w : Went F). pieces_after b w.pieces ps) (way_through p.time 1 pieces later p.frame)
       ∙ pieces_by (sum_by count_of pieces) p ps front later (long b p.time 1 pieces p.frame).fate (λ others. pieces_through front others ps)
 
-  -- what goes on behind the later pieces too
+  -- what also goes on after the later pieces
   going_back : (n : ℕ) (ps : List Packet) (first later : List Fate) → still_going ps (put_back first (map (moved n) later)) ≡ still_going (still_going ps first) later
   unfolding still_going put_back
   going_back n [] first later = refl
@@ -125,7 +125,7 @@ module _ {F : Type 0} (b : Behaviour F) where
   rewritten_go rewritten [] = refl
   rewritten_go rewritten (p ∷ ps) = ap (λ l. rewritten_by rewritten p ∷ l) (rewritten_go rewritten ps)
 
-  -- what a piece hands on is what goes out of a chain of this piece alone
+  -- what a piece passes on is what goes out of a chain of this piece alone
   pub handed_on_goes : (piece : Piece F) (ps : List Packet) → handed_on b piece ps ≡ still_going ps (long_fates b (piece ∷ []) ps)
   handed_on_goes (Graph stages functions) ps = passed_go ps (fates b functions ps) ∙ ap (still_going ps) (sym (one_piece_fates b stages functions ps))
   handed_on_goes (Whole rewritten) ps = rewritten_go rewritten ps ∙ ap (still_going ps) (sym (one_whole_fates b rewritten ps))

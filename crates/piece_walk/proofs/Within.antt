@@ -1,4 +1,4 @@
--- A function that is named as one that dropped a packet stands in the chain.
+-- A function that is named as the one that dropped a packet is in the chain.
 use Rattle.std.proofs.Common.{◌+◌, ℕ, List, [], ◌∷◌, length, sym, subst, arith}
 use Rattle.std.specs.Prelude.{All, sum_by}
 use Rattle.std.proofs.lemmas.List.Elements.{All-cons, All-nil}

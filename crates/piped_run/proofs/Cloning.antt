@@ -1,4 +1,4 @@
--- Functions that keep no state, once more.
+-- Copies of functions that keep no state.
 use Rattle.std.proofs.Common.{◌≡◌, ◌∙◌, ◌<◌, ◌≤◌, ◌+◌, ℕ, suc, List, [], ◌∷◌, ◌++◌, length, drop, get_or, sym, ap, refl, subst, Bool, true, false, All, Option, Some, append_assoc, arith, eqb-true}
 use Rattle.std.specs.Prelude.{IfSome, None, is_some, not, ◌==◌, ◌||◌, if◌then◌else◌}
 use Rattle.std.proofs.lemmas.List.{append-nil, drop_more, drop_all}
@@ -18,7 +18,7 @@ use Rattle.stream_law.specs.Owned.{PlainOwned, moved_by, went_by, ran_by, noted_
 abbrev pub KeepsNone : {F : Type 0} → Behaviour F → F → Type 0
 KeepsNone b f = ((b.profile f).state ≡ false) × ((b.profile f).counts ≡ false)
 
--- what there is once more is the same, and keeps no state
+-- a copy is the same, and keeps no state
 
 pub some_so : {A : Type 0} (P : A → Type 0) (o : Option A) (x : A) → o ≡ Some x → IfSome o P → P x
 some_so P o x is h = subst (λ y. IfSome y P) is h
@@ -42,7 +42,7 @@ moved_not b f (Live v) keeps none = keeps.state v.fixed f (as_version v).values 
 moved_not b f (Nil p) keeps none = refl
 moved_not b f Short keeps none = refl
 
--- such functions stay, whatever comes to them
+-- such functions stay, whatever arrives
 ran_not : {F : Type 0} (b : Behaviour F) (qs : List ℕ) (fs : List F) (m : PlainMessage PlainVersion) → KeepsProfile b → All (KeepsNone b) fs → (ran_by b qs fs m).state ≡ fs
 unfolding ran_by
 ran_not b [] fs m keeps all = refl
@@ -66,7 +66,7 @@ listed_not b notes (q ∷ qs) (f ∷ fs) m packet index all =
     ap (λ n. row_listed packet index (n ∷ notes_by b notes qs fs (went_by b q f m))) (noted_not b notes f m (All-head (KeepsNone b) f fs all))
     ∙ listed_not b notes qs fs (went_by b q f m) packet (index + 1) (All-tail (KeepsNone b) f fs all)
 
--- so a branch that numbers no packets stays, whatever comes to it
+-- so a branch that numbers no packets stays, whatever arrives
 pub owned_stays : {F N : Type 0} (b : Behaviour F) (notes : Notes F N) (o : PlainOwned F N) → KeepsProfile b → All (KeepsNone b) o.functions → o.counts ≡ false → KeepsNothing (owned_kit b notes) o
 owned_stays {F} {N} b notes o keeps all uncounted = (
   λ v. λ i. record o {
@@ -80,7 +80,7 @@ owned_stays {F} {N} b notes o keeps all uncounted = (
     same_number : (if o.counts then suc o.seen else o.seen) ≡ o.seen
     same_number = ap (λ t. if t then suc o.seen else o.seen) uncounted
 
--- So many of the functions are there once more, and keep no state.
+-- This number of the functions are copied, and keep no state.
 pub record AreAgain {F : Type 0} (b : Behaviour F) (fs again : List F) (i : ℕ) : Type 0 where
   pub rest : again ++ drop i fs ≡ fs
   pub none : All (KeepsNone b) again

@@ -1,4 +1,4 @@
--- The functions of works, by stage and branch again: how far they have come.
+-- The functions of works, by stage and branch again: the state so far.
 use Rattle.std.proofs.Common.{◌≡◌, ◌∙◌, ◌<◌, ◌≤◌, ◌+◌, ℕ, zero, suc, List, [], ◌∷◌, ◌++◌, map, length, take, drop, get_or, sym, ap, refl, arith}
 use Rattle.std.proofs.Math.Seq.{take-append_seam, drop-append_seam}
 use Rattle.std.proofs.lemmas.List.{map-append, drop_more, take_more, take_all, length-map}
@@ -11,7 +11,7 @@ use Rattle.stream_law.specs.Owned.{PlainOwned}
 use Rattle.settled_notes.specs.Settling.{TellDrops}
 use Rattle.piped_run.specs.Settling.{settled_own}
 
--- the functions of so many works stand with their branches
+-- the functions of this number of works are with their branches
 head_left : {A : Type 0} (all rest : List A) (x : A) (i : ℕ) → drop i all ≡ x ∷ rest → i < length all
 head_left [] rest x zero e = absurd cc
 head_left [] rest x (suc i) e = absurd cc
@@ -55,7 +55,7 @@ pub all_given : {A B : Type 0} (f : A → B) (all was : List A) (done : List B) 
 all_given f all was done i count is left none most =
     let few = none_left all i (sym left ∙ none) in is ∙ ap (map f) (take_all i all few ∙ sym (take_all count all (omega arith)))
 
--- those of the works of so many stages were given back, and the works of the others are left
+-- those of the works of this number of stages were given back, and the works of the others remain
 pub record IsGiven {F W V : Type 0} (settled : W → List F) (items : V → List (List F)) (works : List (List W)) (rest : List W) (owned : List V) (i : ℕ) : Type 0 where
   pub given : map items owned ≡ map (λ l. map settled l) (take i works)
   pub left : rest ≡ flat (drop i works)

@@ -1,4 +1,4 @@
--- The frames of a burst, taken apart one after another: how far they have come.
+-- The frames of a burst, split one after another: the state so far.
 use Rattle.std.proofs.Common.{◌≡◌, ◌∙◌, ◌<◌, ◌≤◌, ◌+◌, ℕ, Bool, true, false, List, [], ◌∷◌, ◌++◌, map, length, drop, get_or, sym, ap, arith, length-append}
 use Rattle.std.specs.Prelude.{filter, if◌then◌else◌}
 use Rattle.std.proofs.lemmas.List.{drop_more, drop_all}
@@ -10,7 +10,7 @@ taken_more : (unit : TimeUnit) (chain : ℕ) (item : Item) (items : List Item) (
 taken_more unit chain item items true is = ap (λ (t : Bool). map (packet_of unit) (if t then item ∷ filter (is_of chain) items else filter (is_of chain) items)) is
 taken_more unit chain item items false is = ap (λ (t : Bool). map (packet_of unit) (if t then item ∷ filter (is_of chain) items else filter (is_of chain) items)) is
 
--- so many numbers were noted, and those of the packets from item i on are still to come
+-- this number of numbers were noted, and those of the packets from item `i` on are still to come
 abbrev pub HasNoted : ℕ → List Item → List ℕ → ℕ → Type 0
 HasNoted chain items numbers i = (unit : TimeUnit) → length numbers + length (packets_taken unit chain (drop i items)) ≡ length (packets_taken unit chain items)
 

@@ -1,4 +1,4 @@
--- The pieces of a burst, one behind the other.
+-- The pieces of a burst, one after the other.
 use Rattle.std.proofs.Common.{◌≡◌, ◌∙◌, ◌≤◌, ◌+◌, ◌-◌, ℕ, List, [], ◌++◌, length, take, drop, sym, ap, subst, arith, take-append-drop}
 use Rattle.std.proofs.Math.Seq.{take-add}
 use Rattle.std.proofs.lemmas.List.{take_all}
@@ -58,7 +58,7 @@ piece_refused {F} b run between unit chain items piece start end old new newer e
     subst (λ (l : List Packet). RaisesUpTo (copies_made run.graph.stages l (fates b run.functions l)) old newer) (sym row)
     (behind b run between first later last old new newer ended x within)
 
--- a refusal when a piece was led: no more copies were made than all items make
+-- a refusal while a piece ran: no more copies were made than all items make
 pub led_refused : {F : Type 0} (b : Behaviour F) (run after : PlainRunning F) (unit : TimeUnit) (chain : ℕ) (items : List Item) (end : ℕ) (old new : List ℕ) (ended : List Fate) → RefusedBehind F → TakenBehind → LedNone F →
     Leads b run (packets_taken unit chain (take end items)) old new after ended →
     RaisesUpTo (copies_made run.graph.stages (packets_taken unit chain items) (fates b run.functions (packets_taken unit chain items))) old new

@@ -1,4 +1,4 @@
--- A burst of whole frames that nodes led through a graph.
+-- A burst of whole frames that nodes passed through a graph.
 use Rattle.std.proofs.Common.{◌≡◌, ◌∙◌, ◌≤◌, ℕ, suc, Bool, true, false, List, [], ◌∷◌, map, length, sym, ap, subst, arith}
 use Rattle.std.specs.Prelude.{filter, if◌then◌else◌}
 use Rattle.std.proofs.lemmas.List.{length-map}
@@ -18,7 +18,7 @@ use Rattle.graph_run.specs.Running.{PlainRunning, profiles_of}
 use Rattle.stream_law.specs.Apart.{all_apart}
 use Rattle.piped_run.specs.Frames.{PlainFrames, apart_from}
 
--- the packets that come apart are those of the burst, with room for the tags that the functions add
+-- the packets that are split are those of the burst, with room for the tags that the functions add
 pub frames_same : {F : Type 0} (b : Behaviour F) (functions shown : List F) (taggers : ℕ) (unit : TimeUnit) (chain : ℕ) (items here : List Item) (frames : PlainFrames) →
     taggers ≡ adders_from (map b.profile shown) 1 → shown ≡ functions → here ≡ items → frames ≡ record { taggers = taggers; packets = packets_taken unit chain here } →
     all_apart (adders_from (profiles_of b functions) 1) (packets_taken unit chain items) ≡ apart_from frames
@@ -46,7 +46,7 @@ up c n now e = (omega arith, omega arith)
 pub raised_up : (by : Field → ℕ) (old new : List ℕ) → RaisesAll by old new → RaisesUpTo by old new
 raised_up by old new all f = up (count_of old f) (by f) (count_of new f) (all f)
 
--- what is said of a run is said of one that is the same
+-- what is said about a run holds for one that is the same
 pub led_so : {F : Type 0} (b : Behaviour F) (run was : PlainRunning F) (packets : List Packet) (old new : List ℕ) (after : PlainRunning F) (ended : List Fate) → was ≡ run → Leads b was packets old new after ended → Leads b run packets old new after ended
 led_so {F} b run was packets old new after ended is leads = subst (λ (r : PlainRunning F). Leads b r packets old new after ended) is leads
 

@@ -1,4 +1,4 @@
--- What the functions of a branch note of a packet, in turn, and list.
+-- What the functions of a branch note about a packet, in turn, and list.
 use Rattle.std.proofs.Common.{◌≡◌, ◌≢◌, ◌∙◌, ◌<◌, ◌≤◌, ◌+◌, ℕ, List, [], ◌∷◌, ◌++◌, length, drop, set, get_or, sym, ap, refl, subst, arith, append_assoc}
 use Rattle.std.specs.Prelude.{false, Option, Some, None}
 use Rattle.std.proofs.lemmas.List.{append-nil, drop_more, drop_all, drop-set-lt}
@@ -18,20 +18,21 @@ use Rattle.stream_law.specs.Owned.{went_by, notes_by}
 use Rattle.piped_run.specs.Turns.{AddsAll, AddsSome, as_sent}
 use Rattle.piped_run.proofs.Turns.{went_same}
 
--- a note more
+-- one more note
 row_more : {N : Type 0} (packet index : ℕ) (note : Option N) (row : List (Option N)) → row_listed packet index (note ∷ row) ≡ row_listed packet index (note ∷ []) ++ row_listed packet (index + 1) row
 unfolding row_listed
 row_more packet index None row = refl
 row_more packet index (Some n) row = refl
 
--- a packet that is gone isn't noted
+-- a packet that was dropped isn't noted
 pub gone_notes : {F N : Type 0} (b : Behaviour F) (notes : Notes F N) (qs : List ℕ) (fs : List F) (p packet index : ℕ) → row_listed packet index (notes_by b notes qs fs (Nil p)) ≡ []
 unfolding row_listed notes_by
 gone_notes b notes [] fs p packet index = refl
 gone_notes b notes (q ∷ qs) [] p packet index = refl
 gone_notes b notes (q ∷ qs) (f ∷ fs) p packet index = gone_notes b notes qs fs p packet (index + 1)
 
--- So many functions had their turn: their notes are listed, and with those of the rest they are all. What goes on is this.
+-- This number of functions had their turn: their notes are listed, and with those of the rest they are all. What goes
+-- on is this.
 pub record OwnNoted {F N : Type 0} (b : Behaviour F) (notes : Notes F N) (packet : ℕ) (positions : List ℕ) (first now : List F) (v0 : PlainVersion) (m : PlainMessage PlainVersion) (old new : List (OwnNote N)) (i : ℕ) : Type 0 where
   pub added : List (OwnNote N)
   pub adds : new ≡ old ++ added
@@ -69,7 +70,7 @@ noted_some b notes packet positions first now v0 m old new i so_far = record {
   of = so_far.of;
 }
 
--- all are, where none is left
+-- all are, if none remains
 all_noted : {F N : Type 0} (b : Behaviour F) (notes : Notes F N) (packet : ℕ) (positions : List ℕ) (first now : List F) (v0 : PlainVersion) (m : PlainMessage PlainVersion) (old new : List (OwnNote N)) (i : ℕ) →
     OwnNoted b notes packet positions first now v0 m old new i → row_listed packet i (notes_by b notes (drop i positions) (drop i now) m) ≡ [] → AddsAll (row_listed packet 0 (notes_by b notes positions first (Live v0))) old new
 all_noted b notes packet positions first now v0 m old new i so_far none =
@@ -108,7 +109,7 @@ noted_dropped {F} b notes packet positions first now v0 v old new newer i f d no
 pub all_are_some : {A : Type 0} (all old new : List A) → AddsAll all old new → AddsSome all old new
 all_are_some all old new adds = record { added = all; left = []; adds = adds; of = append-nil all }
 
--- what has no packet isn't noted
+-- a message without a packet isn't noted
 pub record NotesNothing {F N : Type 0} (b : Behaviour F) (notes : Notes F N) (packet : ℕ) (positions : List ℕ) (fs : List F) (m : PlainMessage PlainVersion) (listed : List (OwnNote N)) : Type 0 where
   pub all : is_short m ≡ false → AddsAll (row_listed packet 0 (notes_by b notes positions fs m)) listed listed
   pub some : AddsSome (row_listed packet 0 (notes_by b notes positions fs m)) listed listed

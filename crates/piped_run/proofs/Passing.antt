@@ -35,7 +35,7 @@ use Rattle.settled_notes.specs.Settling.{TellDrops}
 use Rattle.piped_run.specs.Settling.{settled_own}
 use Rattle.piped_run.proofs.Settled.{AreNoteLaws, EndsAlike, LeftWith, drops_told, settled_back}
 
--- the works of a graph for a burst of so many packets
+-- the works of a graph for a burst of this number of packets
 abbrev pub works_for : {F N : Type 0} → Behaviour F → Graph → List F → ℕ → List (PlainStage (PlainOwned F N))
 works_for b graph functions n = works_of b graph.stages (owned_by graph.stages functions) n
 
@@ -46,13 +46,13 @@ left_by b functions packets = (chain_burst b functions (map as_message packets))
 pub same_length : {F : Type 0} (b : Behaviour F) (xs ys : List F) → map b.profile xs ≡ map b.profile ys → length xs ≡ length ys
 same_length b xs ys e = sym (length-map xs b.profile) ∙ ap length e ∙ length-map ys b.profile
 
--- each position of a lawful graph stands once
+-- each position of a lawful graph occurs once
 pub each_stands : {F : Type 0} (b : Behaviour F) (graph : Graph) (functions : List F) (stages : List Stage) (count : ℕ) → IsRunning b functions graph → stages ≡ graph.stages → count ≡ length functions → EachStands stages count
 each_stands b graph functions stages count running are many =
     let stands : EachStands graph.stages (length (map b.profile functions)) = record { each_once = running.lawful.each_once; no_other = running.lawful.no_other } in
     subst (λ (l : List Stage). EachStands l count) (sym are) (subst (EachStands graph.stages) (length-map functions b.profile ∙ sym many) stands)
 
--- the functions that were left run in the same graph
+-- the functions after the walk run in the same graph
 pub runs_on : {F : Type 0} (b : Behaviour F) (graph : Graph) (first now : List F) → IsRunning b first graph → map b.profile now ≡ map b.profile first → IsRunning b now graph
 runs_on b graph first now running same = record {
   few = let few = running.few in let count = same_length b now first same in omega arith;
@@ -69,7 +69,7 @@ owned_many (s ∷ stages) functions = λ i. length-map s.branches (λ x. owned x
 pub begun_works : {F N : Type 0} (b : Behaviour F) (graph : Graph) (stages : List Stage) (functions : List F) (works : List (PlainStage (PlainOwned F N))) (n many : ℕ) → stages ≡ graph.stages → n ≡ many → works ≡ works_of b stages (owned_by stages functions) n → works ≡ works_for b graph functions many
 begun_works b graph stages functions works n many are same is = is ∙ (λ k. works_of b (are k) (owned_by (are k) functions) (same k))
 
--- how many works there are at the end of each stage
+-- the number of works at the end of each stage
 pub ends_fit : {F N : Type 0} (stages : List Stage) (ends : List (List (PlainOwned F N))) (functions : List F) → map (λ l. map (λ o. o.functions) l) ends ≡ owned_by stages functions → map (λ l. length l) ends ≡ map (λ s. length s.branches) stages
 ends_fit {F} {N} stages ends functions is = counted ends ∙ ap (map (λ own. length own)) is ∙ owned_many stages functions
   where
@@ -77,7 +77,7 @@ ends_fit {F} {N} stages ends functions is = counted ends ∙ ap (map (λ own. le
     counted [] = refl
     counted (l ∷ ends) = λ i. sym (length-map l (λ o. o.functions)) i ∷ counted ends i
 
--- the packets behind the last stage
+-- the packets after the last stage
 pub ended_as : {F N : Type 0} (b : Behaviour F) (notes : Notes F N) (works was : List (PlainStage (PlainOwned F N))) (functions : List F) (packets : List Merged) (fates : List Fate) → EndsAlike F N → KeepsProfile b → CountsByNotes b notes → works ≡ was →
     fates ≡ fates_behind (through (owned_kit (quiet b) notes) works (map of_merged packets)) →
     map as_message (map as_merged (through (owned_kit (quiet b) notes) was (map of_merged packets))) ≡ (chain_burst (quiet b) functions (map as_message packets)).gives →
@@ -89,21 +89,21 @@ ended_as {F} {N} b notes works was functions packets fates alike keeps counts is
   rests = rests;
 }
 
--- counts that rise by what was counted from nothing
+-- counts that rise by what was counted from zero
 raised_twice : (old made new n : ℕ) → made ≡ raised 0 n → new ≡ raised old made → new ≡ raised old n
 raised_twice old made new n is up = omega arith
 
 pub counts_rise : (old made new : List ℕ) (copies by : Field → ℕ) → ((f : Field) → count_of made f ≡ raised 0 (copies f)) → ((f : Field) → count_of new f ≡ raised (count_of old f) (count_of made f)) → ((f : Field) → copies f ≡ by f) → RaisesAll by old new
 counts_rise old made new copies by is up same f = raised_twice (count_of old f) (count_of made f) (count_of new f) (copies f) (is f) (up f) ∙ ap (raised (count_of old f)) (same f)
 
--- where nothing was counted
+-- if nothing was counted
 stays_low : (c n : ℕ) → (c ≤ c) × (c ≤ raised c n)
 stays_low c n = (omega arith, omega arith)
 
 pub none_counted : (by : Field → ℕ) (tally : List ℕ) → RaisesUpTo by tally tally
 none_counted by tally f = stays_low (count_of tally f) (by f)
 
--- what the nodes of all stages gave
+-- the result of the nodes of all stages
 pub record Passed {F : Type 0} (b : Behaviour F) (graph : Graph) (functions left : List F) (apart after : List Merged) (old new : List ℕ) : Type 0 where
   pub functions_are : left ≡ left_by b functions apart
   pub packets_are : map as_message after ≡ (chain_burst b functions (map as_message apart)).gives
@@ -143,15 +143,15 @@ none_ends b graph functions apart tally fates none is =
 pub copies_alike : {F N : Type 0} (b : Behaviour F) (notes : Notes F N) (graph : Graph) (functions : List F) (ms : List Message) (f : Field) → EndsAlike F N → KeepsProfile b → CountsByNotes b notes → chain_copies (quiet b) graph.stages f functions ms ≡ chain_copies b graph.stages f functions ms
 copies_alike b notes graph functions ms f alike keeps counts = ap (λ (ends : List Message). sum_by (λ x. copies_for graph.stages f x.0 x.1) (zip ms ends)) (sym (alike b notes functions ms keeps counts))
 
--- as many packets end as come
+-- as many packets end as arrive
 as_many_end : {F : Type 0} (b : Behaviour F) (functions : List F) (packets : List Merged) (fates : List Fate) → EndsAs b functions packets fates → length (chain_burst b functions (map as_message packets)).gives ≡ length (map as_message packets)
 as_many_end b functions packets fates ended = ap length (sym ended.packets_are) ∙ length-map ended.behind as_message ∙ ended.rests.count ∙ sym (length-map packets as_message)
 
--- and their fates tell where they were dropped
+-- and their fates show where they were dropped
 ends_told : {F : Type 0} (b : Behaviour F) (functions : List F) (packets : List Merged) (fates : List Fate) → EndsAs b functions packets fates → TellDrops fates (chain_burst b functions (map as_message packets)).gives
 ends_told b functions packets fates ended = subst (λ l. TellDrops l (chain_burst b functions (map as_message packets)).gives) (sym ended.fated) (subst (TellDrops (map fate_behind ended.behind)) ended.packets_are (drops_told ended.behind))
 
--- the functions behind the last stage, by stage and branch again, once all notes are settled
+-- the functions after the last stage, by stage and branch again, after all notes are settled
 pub gone_back : {F N V : Type 0} (items : V → List (List F)) (b : Behaviour F) (notes : Notes F N) (graph : Graph) (stages : List Stage) (functions : List F) (packets : List Merged) (works was : List (PlainStage (PlainOwned F N))) (done : List (PlainOwned F N)) (fates shown : List Fate) (owned : List V) →
     AreNoteLaws F N → KeepsProfile b → KeepsProfile (quiet b) → IsQuiet (quiet b) → CountsByNotes b notes → IsRunning b functions graph → stages ≡ graph.stages → works ≡ was → EndsAs b functions packets fates →
     LeftWith b notes graph functions (map as_message packets) (ends_of (owned_kit (quiet b) notes) was (map of_merged packets)) →

@@ -52,7 +52,7 @@ owned_count {F} (q ∷ positions) functions within =
     let f = one_at functions (q - 1) (let low = w.0 in let high = w.1 in omega arith) in
     ap (λ (o : Option F). length (cons_option o (owned positions functions))) f.1 ∙ ap suc (owned_count positions functions (λ j x e. within (suc j) x e))
 
--- so many functions of a branch are put back
+-- this number of functions of a branch are put back
 pub record Put {F : Type 0} (first now : List (Option F)) (positions : List ℕ) (own rest : List F) (i : ℕ) : Type 0 where
   pub count : i + length rest ≡ length positions
   pub left : (functions : List F) (later : List ℕ) → AreBack functions first (positions ++ later) → own ≡ owned positions functions → (rest ≡ owned (drop i positions) functions) × AreBack functions now (drop i positions ++ later)
@@ -105,7 +105,7 @@ put_all first now positions own rest i functions later put none back is =
     let past : length positions ≤ i = let n = put.count in let l = ap length none in omega arith in
     subst (λ l. AreBack functions now (l ++ later)) (drop_all i positions past) (put.left functions later back is).1
 
--- so many branches of a stage are put back
+-- this number of branches of a stage are put back
 pub record PutStage {F V : Type 0} (items : V → List F) (first now : List (Option F)) (branches : List Branch) (own rest : List V) (i : ℕ) : Type 0 where
   pub count : i + length rest ≡ length branches
   pub left : (functions : List F) (later : List ℕ) → AreBack functions first (positions_of branches ++ later) → map items own ≡ owned_in branches functions → (map items rest ≡ owned_in (drop i branches) functions) × AreBack functions now (positions_of (drop i branches) ++ later)
@@ -122,7 +122,7 @@ stage_none {F} items places branches own rest all some = record {
 pub stage_inside : {F V : Type 0} (items : V → List F) (first now : List (Option F)) (branches : List Branch) (own was rest : List V) (v : V) (i : ℕ) → PutStage items first now branches own was i → was ≡ v ∷ rest → i < length branches
 stage_inside items first now branches own was rest v i put is = let n = put.count in let l = ap length is in omega arith
 
--- the branch that is next, and what it owns
+-- the next branch, and what it owns
 pub record NextBranch {F : Type 0} (now : List (Option F)) (positions later : List ℕ) (functions own : List F) : Type 0 where
   pub back : AreBack functions now (positions ++ later)
   pub owns : own ≡ owned positions functions
@@ -162,7 +162,7 @@ stage_all items first now branches own rest i functions later put none back is =
     let past : length branches ≤ i = let n = put.count in let l = ap length none in omega arith in
     subst (λ l. AreBack functions now (positions_of l ++ later)) (drop_all i branches past) (put.left functions later back is).1
 
--- so many stages are put back
+-- this number of stages are put back
 pub record PutAll {F V : Type 0} (items : V → List (List F)) (now : List (Option F)) (stages : List Stage) (count : ℕ) (owned rest : List V) (i : ℕ) : Type 0 where
   pub stages_left : i + length rest ≡ length stages
   pub left : (functions : List F) → length functions ≡ count → map items owned ≡ owned_by stages functions → (map items rest ≡ owned_by (drop i stages) functions) × AreBack functions now (all_positions (drop i stages))
@@ -200,7 +200,7 @@ stage_row {F} items stages was rest v i d functions is inside all =
     ap (map items) (sym is) ∙ all ∙ ap (λ l. owned_by l functions) (drop_more stages i d inside) in
     (ap (λ l. get_or l 0 (items v)) row, ap (λ l. drop 1 l) row)
 
--- the stage that is next, and what its branches own
+-- the next stage, and what its branches own
 pub record NextStage {F : Type 0} (now : List (Option F)) (branches : List Branch) (later : List ℕ) (functions : List F) (own : List (List F)) : Type 0 where
   pub back : AreBack functions now (positions_of branches ++ later)
   pub owns : own ≡ owned_in branches functions

@@ -1,4 +1,4 @@
--- What the branches listed of a burst is settled: each is left with the functions that it owns of those that the walks leave.
+-- What the branches listed for a burst is settled: each has the functions that it owns of those that the walks leave.
 use Rattle.std.proofs.Common.{◌≡◌, ◌∙◌, ◌-◌, ℕ, zero, suc, List, [], ◌∷◌, map, length, sym, ap, refl, subst}
 use Rattle.std.specs.Prelude.{Some, slice_get, zip}
 use Rattle.action_profile.specs.declared.parts.Touch.{Touch}
@@ -23,7 +23,7 @@ use Rattle.stream_law.specs.Owned.{PlainOwned}
 use Rattle.settled_notes.specs.Settling.{TellDrops, dropped_before}
 use Rattle.piped_run.specs.Settling.{settled_own}
 
--- the fates of packets tell where they were dropped
+-- the fates of packets show where they were dropped
 dropped_same : (m : Merged) (q : ℕ) → dropped_before (fate_behind m) q ≡ lost_before (as_message m) q
 dropped_same (Whole whole) q = refl
 dropped_same (Gone p) q = refl
@@ -111,7 +111,7 @@ graph_back b notes ends fs (s ∷ stages) ms (l ∷ works) law count many fits f
     let more = graph_back b notes ends fs stages (stage_burst b s (owned_in s.branches fs) ms).gives works law count (many ∙ sym (count b s (owned_in s.branches fs) ms)) (λ i j y x a e. fits (suc i) j y x a e) (rest_same functions) (rest_same listed) (rest_same positions) in
     λ i. one i ∷ more i
 
--- What a burst left with the branches of a graph, its counting left out: their functions, what these noted, and their positions.
+-- What a burst left with the branches of a graph, without counting: their functions, their notes, and their positions.
 pub record LeftWith {F N : Type 0} (b : Behaviour F) (notes : Notes F N) (graph : Graph) (functions : List F) (ms : List Message) (works : List (List (PlainOwned F N))) : Type 0 where
   pub functions_are : map (λ l. map (λ o. o.functions) l) works ≡ owned_by graph.stages (chain_burst (quiet b) functions ms).state
   pub listed : map (λ l. map (λ o. o.listed) l) works ≡ graph_listed (quiet b) notes graph.stages (owned_by graph.stages functions) ms

@@ -8,7 +8,7 @@ use Rattle.graph_run.specs.Carrying.{as_version}
 use Rattle.packet_version.specs.Versions.{PlainVersion}
 use Rattle.piped_run.specs.Turns.{EachStays, IsOrMoved}
 
--- The functions before this place are as they were or as their steps left them, and the others as they were.
+-- The functions before this place are unchanged or after their steps, and the others are unchanged.
 pub record StayFrom {F : Type 0} (b : Behaviour F) (first now : List F) (i : ℕ) : Type 0 where
   pub each : EachStays b first now
   pub later : (k : ℕ) (d : F) → i ≤ k → get_or now k d ≡ get_or first k d

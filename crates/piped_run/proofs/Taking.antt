@@ -19,7 +19,7 @@ use Rattle.piped_run.specs.Standing.{EachStands}
 abbrev one_if : Bool → ℕ
 one_if t = if t then 1 else 0
 
--- how often a number stands in a list
+-- how often a number is in a list
 times_cons : (x q : ℕ) (qs : List ℕ) → times x (q ∷ qs) ≡ one_if (q == x) + times x qs
 times_cons x q qs = sum_by-cons (λ y. if y == x then 1 else 0) q qs
 
@@ -66,7 +66,7 @@ one_there functions places q rest was = by_place functions (q - 1) (let w = was.
     by_place (f ∷ fs) zero less is = (f, is, refl)
     by_place (f ∷ fs) (suc k) less is = by_place fs k (omega arith) is
 
--- so many functions of a branch are taken
+-- this number of functions of a branch are taken
 pub record Took {F : Type 0} (first now : List (Option F)) (positions : List ℕ) (own : List F) (i : ℕ) : Type 0 where
   pub owns : (functions : List F) (later : List ℕ) → AreThere functions first (positions ++ later) → own ++ owned (drop i positions) functions ≡ owned positions functions
   pub left : (functions : List F) (later : List ℕ) → AreThere functions first (positions ++ later) → AreThere functions now (drop i positions ++ later)
@@ -141,11 +141,11 @@ branches_left branches i d later inside = ap (λ l. positions_of l ++ later) (dr
 pub stages_left : (stages : List Stage) (i : ℕ) (d : Stage) → i < length stages → all_positions (drop i stages) ≡ positions_of (get_or stages i d).branches ++ all_positions (drop (i + 1) stages)
 stages_left stages i d inside = ap all_positions (drop_more stages i d inside) ∙ stages_more (get_or stages i d) (drop (i + 1) stages)
 
--- one list more
+-- one more list
 pub list_more : {A : Type 0} (done more rest later all : List A) (x : A) → more ≡ done ++ x ∷ [] → rest ≡ x ∷ later → done ++ rest ≡ all → more ++ later ≡ all
 list_more done more rest later all x push next is = ap (λ l. l ++ later) push ∙ (append_assoc done (x ∷ []) later ∙ (ap (λ l. done ++ l) (sym next) ∙ is))
 
--- so many branches of a stage are works with their functions
+-- this number of branches of a stage are works with their functions
 pub record TookStage {F N : Type 0} (by : Behaviour F) (n : ℕ) (first now : List (Option F)) (branches : List Branch) (works : List (PlainOwned F N)) (i : ℕ) : Type 0 where
   pub owns : (functions : List F) (later : List ℕ) → AreThere functions first (positions_of branches ++ later) → works ++ works_in by (drop i branches) (owned_in (drop i branches) functions) n ≡ works_in by branches (owned_in branches functions) n
   pub left : (functions : List F) (later : List ℕ) → AreThere functions first (positions_of branches ++ later) → AreThere functions now (positions_of (drop i branches) ++ later)
@@ -160,7 +160,7 @@ pub branch_there : {F N : Type 0} (by : Behaviour F) (n : ℕ) (first now : List
     AreThere functions now ((get_or branches i d).positions ++ (positions_of (drop (i + 1) branches) ++ later))
 branch_there by n first now branches works i d functions later took inside there = subst (AreThere functions now) (branches_left branches i d later inside) (took.left functions later there)
 
--- what taking the functions at these positions gave
+-- the result of taking the functions at these positions
 pub record Gave {F : Type 0} (positions : List ℕ) (before after : List (Option F)) (taken : List F) : Type 0 where
   pub own : (functions : List F) (later : List ℕ) → AreThere functions before (positions ++ later) → taken ≡ owned positions functions
   pub left : (functions : List F) (later : List ℕ) → AreThere functions before (positions ++ later) → AreThere functions after later
@@ -190,12 +190,12 @@ stage_all by n first now branches works i functions later took past there =
       subst (λ l. AreThere functions now (positions_of l ++ later)) none (took.left functions later there),
     )
 
--- so many stages are works with their functions
+-- this number of stages are works with their functions
 pub record TookAll {F N V : Type 0} (by : Behaviour F) (as_plain : V → PlainStage (PlainOwned F N)) (n : ℕ) (functions : List F) (now : List (Option F)) (stages : List Stage) (works : List V) (i : ℕ) : Type 0 where
   pub owns : map as_plain works ++ works_of by (drop i stages) (owned_by (drop i stages) functions) n ≡ works_of by stages (owned_by stages functions) n
   pub left : AreThere functions now (all_positions (drop i stages))
 
--- each function stands in its place, and each position of a chain stands once
+-- each function is in its place, and each position of a chain occurs once
 in_place : {F : Type 0} (functions : List F) (k : ℕ) → k < length functions → at_place (map (λ f. Some f) functions) k ≡ slice_get functions k
 in_place [] k less = absurd (omega arith)
 in_place (f ∷ functions) zero less = refl
@@ -265,7 +265,7 @@ all_taken by as_plain n functions now stages works i took past = sym (append-nil
 pub there_in : {F : Type 0} (functions : List F) (places lent : List (Option F)) (branches own : List Branch) (later : List ℕ) → lent ≡ places → branches ≡ own → AreThere functions places (positions_of own ++ later) → AreThere functions lent (positions_of branches ++ later)
 there_in functions places lent branches own later lends same there = subst (λ l. AreThere functions l (positions_of branches ++ later)) (sym lends) (subst (λ l. AreThere functions places (positions_of l ++ later)) (sym same) there)
 
--- what was written back of a list is that list
+-- a list written back is that list
 pub wrote_back : {A : Type 0} (n : ℕ) (xs ys : List A) → length xs ≡ n → take n (xs ++ drop (length xs) ys) ≡ xs
 wrote_back n xs ys e = ap (λ k. take k (xs ++ drop (length xs) ys)) (sym e) ∙ front xs (drop (length xs) ys)
   where

@@ -1,4 +1,4 @@
--- The functions that a branch owns, in turn: how far the turns have come.
+-- The functions that a branch owns, in turn: the state so far.
 use Rattle.std.proofs.Common.{◌≡◌, ◌≢◌, ◌∙◌, ◌≤◌, ◌<◌, ◌+◌, ℕ, zero, suc, Bool, true, false, List, [], ◌∷◌, ◌++◌, length, take, drop, map, set, get_or, sym, ap, refl, subst, arith, add-one}
 use Rattle.std.specs.Prelude.{Some, IfSome, if◌then◌else◌}
 use Rattle.std.proofs.Math.Seq.{map-set_same}
@@ -35,7 +35,7 @@ abbrev pub HasRoom : Type 0
 HasRoom = (chain : List Profile) (whole : PlainApart) (touch : Touch) (low q : ℕ) (p : Profile) (v : PlainVersion) → 1 ≤ q → low ≤ q → profile_at chain q ≡ Some p → p.adds ≡ true → IsCarried chain whole touch low v →
     IfSome (version_parts v Tag) (λ tags. length tags.bytes + 4 ≤ tags.room)
 
--- what is held of the next position, and of those behind it
+-- what holds for the next position, and for those after it
 record Next (chain : List Profile) (touch : Touch) (low high q : ℕ) (rest : List ℕ) : Type 0 where
   position : 1 ≤ q
   rises : low ≤ q
@@ -48,11 +48,11 @@ next_of : (chain : List Profile) (touch : Touch) (low high q : ℕ) (rest : List
 unfolding Holds
 next_of chain touch low high q rest h = record { position = h.0; rises = h.1; profile = h.2.0; is = h.2.1; named = h.2.2; later = h.3 }
 
--- the next of the positions that are left
+-- the next of the remaining positions
 next_in : (chain : List Profile) (touch : Touch) (low high : ℕ) (positions : List ℕ) (i : ℕ) → i < length positions → Holds chain touch low high (drop i positions) → Next chain touch low high (get_or positions i 0) (drop (i + 1) positions)
 next_in chain touch low high positions i inside holds = next_of chain touch low high (get_or positions i 0) (drop (i + 1) positions) (subst (Holds chain touch low high) (drop_more positions i 0 inside) holds)
 
--- a function as it leaves a version, in the words of the law of graphs
+-- a function after a version, in the words of the law of graphs
 moved_same : {F : Type 0} (b : Behaviour F) (f : F) (v : PlainVersion) → moved_function b v.fixed f (Alive (as_version v)) ≡ moved_by b f (Live v)
 unfolding moved_function
 moved_same b f v = refl
@@ -110,7 +110,8 @@ one_more now i f t inside = (λ k. record { state = (ap (λ n. take n (set now i
     spliced (x ∷ now) zero f rest inside = refl
     spliced (x ∷ now) (suc i) f rest inside = ap (λ l. x ∷ l) (spliced now i f rest (omega arith))
 
--- So many functions had their turn, and the rest of the turns gives what all give. The version goes on through the positions that are left.
+-- This number of functions had their turn, and the remaining turns give what all give. The version goes on through the
+-- remaining positions.
 pub record OwnTurn {F : Type 0} (b : Behaviour F) (positions : List ℕ) (first now : List F) (v0 v : PlainVersion) (i : ℕ) : Type 0 where
   pub same : behind_front (take i now) (ran_by b (drop i positions) (drop i now) (Live v)) ≡ ran_by b positions first (Live v0)
   pub profiles : map b.profile now ≡ map b.profile first
@@ -135,7 +136,7 @@ own_begin b positions first v ready = record {
   carried = ready.carried;
 }
 
--- the function that has its turn: there is one, its branch holds what it names, and there is room for a tag that it adds
+-- the function that has its turn: it exists, its branch holds what it names, and there is room for a tag that it adds
 pub record HasOwnTurn {F : Type 0} (b : Behaviour F) (now : List F) (i q : ℕ) (f : F) (v : PlainVersion) : Type 0 where
   pub inside : i < length now
   pub position : 1 ≤ q
@@ -158,7 +159,7 @@ has_own_turn {F} b positions first now v0 v i d room turn inside =
       room = λ adds. room turn.chain turn.whole v.touch turn.low (get_or positions i 0) (b.profile (get_or now i d)) v next.position next.rises mine adds turn.carried;
     }
 
--- one turn more
+-- one more turn
 turn_more : {F : Type 0} (b : Behaviour F) (positions : List ℕ) (first now : List F) (v0 v : PlainVersion) (i : ℕ) (f d : F) (m : PlainMessage PlainVersion) →
     OwnTurn b positions first now v0 v i → i < length positions → i < length now →
     f ≡ moved_by b (get_or now i d) (Live v) → m ≡ went_by b (get_or positions i 0) (get_or now i d) (Live v) →
@@ -207,13 +208,13 @@ pub profiles_over : {F : Type 0} (b : Behaviour F) (positions : List ℕ) (first
     map b.profile (set now i f) ≡ map b.profile first
 profiles_over b positions first now v0 v i f d keeps turn moved = map-set_same b.profile now i f d (ap b.profile (moved ∙ moved_same b (get_or now i d) v) ∙ profile_kept b (get_or now i d) v keeps) ∙ turn.profiles
 
--- what comes of a branch
+-- what becomes of a branch
 pub record OwnOver {F : Type 0} (b : Behaviour F) (positions : List ℕ) (first now : List F) (v0 : PlainVersion) (came : Arrival) : Type 0 where
   pub functions : now ≡ (ran_by b positions first (Live v0)).state
   pub arrival : as_sent came ≡ (ran_by b positions first (Live v0)).gives
   pub profiles : map b.profile now ≡ map b.profile first
 
--- nothing runs where there is no packet
+-- nothing runs if there is no packet
 pub ran_gone : {F : Type 0} (b : Behaviour F) (qs : List ℕ) (fs : List F) (p : ℕ) → ran_by b qs fs (Nil p) ≡ record { state = fs; gives = Nil p }
 unfolding ran_by
 ran_gone b [] fs p = refl
@@ -257,7 +258,7 @@ own_over {F} b positions first now v0 v i turn past =
     ∙ turn.same in
     record { functions = ap (λ r. r.state) all; arrival = ap (λ r. r.gives) all; profiles = turn.profiles }
 
--- what has no packet passes on, and no function sees it
+-- a message without a packet passes on, and no function sees it
 pub record PassedOn {F : Type 0} (b : Behaviour F) (positions : List ℕ) (fs : List F) (m : PlainMessage PlainVersion) : Type 0 where
   pub ran : is_short m ≡ false → m ≡ (ran_by b positions fs m).gives
   pub functions : is_short m ≡ false → fs ≡ (ran_by b positions fs m).state

@@ -1,4 +1,4 @@
--- For proofs: the frames of a burst, taken apart.
+-- For proofs: the frames of a burst, split into parts.
 use Rattle.std.specs.Prelude.{◌≡◌, ℕ, List, map}
 use Rattle.chain_walk.specs.Packets.{Packet}
 use Rattle.chain_walk.specs.Step.{Behaviour}
@@ -10,7 +10,7 @@ use Rattle.stream_law.specs.Rests.{KeepsRests}
 use Rattle.stream_law.specs.Apart.{all_apart}
 use Rattle.stream_law.specs.Messages.{as_message}
 
--- Packets that are still to be taken apart, each with room for so many tags more.
+-- Packets that are still to be split, each with room for this number of tags more.
 pub record PlainFrames : Type 0 where
   pub taggers : ℕ
   pub packets : List Packet
@@ -19,8 +19,8 @@ pub record PlainFrames : Type 0 where
 abbrev pub apart_from : PlainFrames → List Merged
 apart_from frames = all_apart frames.taggers frames.packets
 
--- Packets in parts end as those of a burst that walks through the chain, and these are their fates. What is left of a frame without its
--- fields stays.
+-- Packets in parts end as those of a burst that walks through the chain, and these are their fates. What is left of a
+-- frame without its fields stays.
 pub record EndsAs {F : Type 0} (b : Behaviour F) (functions : List F) (apart : List Merged) (fates : List Fate) : Type 0 where
   pub behind : List Merged
   pub fated : fates ≡ map fate_behind behind

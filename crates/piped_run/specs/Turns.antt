@@ -1,4 +1,4 @@
--- For proofs: what comes of a packet to the functions of a branch.
+-- For proofs: how the functions of a branch change a packet's version.
 use Rattle.std.specs.Prelude.{◌≡◌, ◌<◌, ◌⊎◌, ◌++◌, ℕ, List, Bool, true, false, length, slice_index_or}
 use Rattle.action_profile.specs.declared.rights.Profile.{Profile}
 use Rattle.chain_walk.specs.Shown.{Values}
@@ -22,17 +22,17 @@ is_live (Live version) = true
 is_live (Nil p) = false
 is_live Short = false
 
--- what comes from a branch, as a message
+-- a branch's result, as a message
 abbrev pub as_sent : Arrival → PlainMessage PlainVersion
 as_sent (came.Version version) = Live version
 as_sent (came.Nil p) = Nil p
 as_sent came.Short = Short
 
--- a function as it was, or as its step left it, whatever that was shown
+-- a function unchanged, or after its step, whatever it saw
 abbrev pub IsOrMoved : {F : Type 0} → Behaviour F → F → F → Type 0
 IsOrMoved b was now = (now ≡ was) ⊎ ((fixed : Fixed) × (values : Values) × (now ≡ (stepped b fixed was values).after))
 
--- Each function stands in its place, as it was or as its step left it.
+-- Each function is in its place, unchanged or after its step.
 pub record EachStays {F : Type 0} (b : Behaviour F) (old new : List F) : Type 0 where
   pub count : length new ≡ length old
   pub each : (k : ℕ) (d : F) → k < length old → IsOrMoved b (slice_index_or old k d) (slice_index_or new k d)

@@ -10,7 +10,7 @@ use Rattle.graph_compile.specs.Stages.{graph_of}
 use Rattle.plan_text.specs.Plan.{cut, is_whole_at, with_place, numbered, pieces_text, stage_text, stages_of}
 use Rattle.plan_text.specs.Putting.{IsFirstPiece, IsPut}
 
--- How many elements stand before the first that passes.
+-- The number of elements before the first that passes.
 one_more : (n : ℕ) → 1 + n ≡ suc n
 one_more n = omega arith
 
@@ -64,7 +64,7 @@ beside functions place piece later b e any =
     ap (λ a. cond (a || list_any (is_whole_at functions) piece) ((place ∷ []) ∷ piece ∷ later) ((place ∷ piece) ∷ later)) e
     ∙ ap (λ a. cond a ((place ∷ []) ∷ piece ∷ later) ((place ∷ piece) ∷ later)) any
 
--- so many functions at the front are the first piece
+-- this number of functions at the front is the first piece
 record Front (functions : List FunctionDecl) (order : List ℕ) (count : ℕ) : Type 0 where
   cut : cut functions order ≡ take count order ∷ cut functions (drop count order)
 

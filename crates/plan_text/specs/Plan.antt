@@ -33,13 +33,13 @@ profiles_in functions order = map (profile_in functions) order
 abbrev pub is_whole_at : List FunctionDecl → ℕ → Bool
 is_whole_at functions place = (profile_in functions place).whole
 
--- a place in front of pieces: it stands in the first one, but where a function of the two rewrites packets whole
+-- a place in front of pieces: in the first one, unless one of the two functions rewrites packets whole
 abbrev pub with_place : List FunctionDecl → ℕ → List (List ℕ) → List (List ℕ)
 with_place functions place [] = (place ∷ []) ∷ []
 with_place functions place (piece ∷ later) =
     if is_whole_at functions place || list_any (is_whole_at functions) piece then (place ∷ []) ∷ piece ∷ later else (place ∷ piece) ∷ later
 
--- a chain, cut before and behind each function that rewrites packets whole
+-- a chain, cut before and after each function that rewrites packets whole
 unfoldable pub cut : List FunctionDecl → List ℕ → List (List ℕ)
 cut functions [] = []
 cut functions (place ∷ later) = with_place functions place (cut functions later)
@@ -62,7 +62,7 @@ unfoldable pub branch_text : List FunctionDecl → List ℕ → ℕ → Branch �
 branch_text functions order number branch =
     line_of (codes "branch " ∷ decimal number ∷ spaced (map (name_in functions order) branch.positions) ∷ [])
 
--- how a field is handed on: shared, moved to a branch, counted from 1, or copied so often
+-- how a field is passed on: shared, moved to a branch, counted from 1, or copied this number of times
 abbrev pub mode_text : Mode → ℕ → List ℕ
 mode_text Shared count = codes " shared"
 mode_text (Moved branch) count = codes " moved " ++ decimal (branch + 1)
@@ -72,7 +72,7 @@ mode_text (Copied original) count = codes " copied " ++ decimal count
 unfoldable pub part_line : StageParts → Field → List ℕ
 part_line parts f = line_of (codes "part " ∷ name_of f ∷ mode_text (slice_index_or parts.modes (number_of f) Shared) (copies parts f) ∷ [])
 
--- only of a field that some branch touches
+-- only for a field that some branch touches
 abbrev pub part_text : StageParts → Field → List ℕ
 part_text parts f = if list_any (has_touch f) parts.touches then part_line parts f else []
 
@@ -81,7 +81,7 @@ unfoldable pub stage_text : List FunctionDecl → List ℕ → ℕ → Stage →
 stage_text functions order number stage =
     line_of (codes "stage " ∷ decimal number ∷ []) ++ numbered (branch_text functions order) 1 stage.branches ++ flat_map (part_text stage.parts) all_fields
 
--- the stages of pieces, numbered on through all of them, the first with this number
+-- the stages of pieces, numbered through all of them, the first with this number
 unfoldable pub pieces_text : List FunctionDecl → ℕ → List (List ℕ) → List ℕ
 pieces_text functions number [] = []
 pieces_text functions number (piece ∷ later) =
@@ -92,7 +92,7 @@ abbrev pub stages_text : List FunctionDecl → List ℕ → Option Graph → Lis
 stages_text functions order None = pieces_text functions 1 (cut functions order)
 stages_text functions order (Some graph) = numbered (stage_text functions order) 1 graph.stages
 
--- the line of a chain, that of its functions in chain order, and its stages
+-- the line of a chain, the line of its functions in chain order, and its stages
 unfoldable pub chain_plan : ChainPolicy → List ℕ → Option Graph → List ℕ
 chain_plan chain order graph =
     line_of (codes "chain " ∷ chain.name ∷ []) ++ line_of (codes "order" ∷ spaced (names_at chain.functions order) ∷ []) ++ stages_text chain.functions order graph

@@ -1,4 +1,4 @@
--- For proofs: the stages of a chain are put piece by piece, or those of a graph that was written for it.
+-- For proofs: the stages of a chain are put piece by piece, or those of a graph that was written for it are put.
 use Rattle.std.specs.Prelude.{Option, Some, None, ℕ, suc, ◌≡◌, ◌<◌, ◌≤◌, ◌+◌, List, ◌∷◌, ◌++◌, length, take, drop, All}
 use Rattle.policy_text.specs.declared.policy.FunctionDecl.{FunctionDecl}
 use Rattle.graph_compile.specs.Facts.{IsFull}
@@ -6,7 +6,7 @@ use Rattle.graph_compile.specs.Lawful.{IsStaged}
 use Rattle.graph_compile.specs.declared.graph.Graph.{Graph}
 use Rattle.plan_text.specs.Plan.{cut, pieces_text, profiles_in}
 
--- so many functions are the first piece of a chain
+-- this number of functions is the first piece of a chain
 pub record IsFirstPiece (functions : List FunctionDecl) (order : List ℕ) (count : ℕ) : Type 0 where
   pub some : 0 < count
   pub inside : count ≤ length order
@@ -19,7 +19,7 @@ pub record IsPut (functions : List FunctionDecl) (order rest : List ℕ) (number
   pub few : number + length rest ≤ 65
   pub counted : 0 < number
 
--- a graph that was written for a chain: its stages follow each other through the chain, and none of them and no branch is empty
+-- a graph written for a chain: its stages follow each other through the chain, and no stage and no branch is empty
 abbrev pub IsShownFor : List FunctionDecl → List ℕ → Option Graph → Type 0
 IsShownFor functions order None = Unit {0}
 IsShownFor functions order (Some graph) = IsFull graph × IsStaged (profiles_in functions order) 1 graph.stages (suc (length (profiles_in functions order)))

@@ -1,4 +1,4 @@
--- The order that the turns give respects every edge, and there is one wherever some order does.
+-- The order that the turns give respects every edge, and there is one whenever some order does.
 use Rattle.std.proofs.Common.{◌≡◌, ◌≢◌, ℕ, zero, suc, ◌+◌, ◌<◌, ◌≤◌, Bool, true, false, ◌||◌, not, cond, List, [], ◌∷◌, ◌++◌, length, Some, None, refl, sym, ◌∙◌, subst, arith, slice_index, append-nil}
 use Rattle.std.specs.Prelude.{◌==◌, find, filter, IsPermutation, All}
 use Rattle.std.specs.List.{list_any, AllByRecursion, range_with_len}
@@ -17,7 +17,7 @@ use Rattle.policy_check.proofs.Ascending.{Ascends, Ascends-filter, Ascends-range
 use Rattle.policy_check.proofs.Inside.{inside, AreInside, AreInside-without, find_none_inside}
 use Rattle.policy_check.proofs.WaitingLemmas.{range-any}
 
--- facts of each that waits
+-- facts about each that waits
 
 all-filter : (P : ℕ → Type 0) (p : ℕ → Bool) (xs : List ℕ) → AllByRecursion P xs → AllByRecursion P (filter p xs)
 all-filter P p [] h = tt
@@ -110,7 +110,7 @@ taken-permutes edge (suc turns) waiting h =
       | Some x ↦ λ e. IsPermutation-trans waiting (x ∷ without x waiting) (x ∷ (taken edge turns (without x waiting) ++ stuck edge turns (without x waiting))) (without-permutes x 0 waiting h (find_inside (λ x. not (is_held edge waiting x)) waiting x e)) (IsPermutation-cons x (without x waiting) (taken edge turns (without x waiting) ++ stuck edge turns (without x waiting)) (taken-permutes edge turns (without x waiting) (Ascends-filter (λ y. not (y == x)) 0 waiting h)))
     ] refl
 
--- each has no edge from itself nor from a later one
+-- each has no edge from itself or from a later one
 abbrev Respects : Edges → List ℕ → Type 0
 Respects edge [] = Unit {0}
 Respects edge (x ∷ xs) = AllByRecursion (λ a. edge a x ≡ false) (x ∷ xs) × Respects edge xs
@@ -137,7 +137,7 @@ by-place edge (x ∷ xs) h zero (suc j) l m e = omega arith
 by-place edge (x ∷ xs) h (suc i) (suc j) l m e =
     let rest = by-place edge xs h.1 i j (omega arith) (omega arith) e in omega arith
 
--- where none remain, the order is an arrangement
+-- if none remain, the order is an arrangement
 pub arranged : (edge : Edges) (count : ℕ) → left_of edge count ≡ [] → IsArrangement edge count (order_of edge count)
 arranged edge count none = record {
   each_once =
@@ -147,7 +147,7 @@ arranged edge count none = record {
   respects = by-place edge (order_of edge count) (taken-respects edge count (range_with_len 0 count));
 }
 
--- with a turn for each, none of those that remain is ready
+-- after a turn for each, none of those that remain is ready
 pub stuck-ready : (edge : Edges) (turns : ℕ) (waiting : List ℕ) → length waiting ≤ turns → ready edge (stuck edge turns waiting) ≡ None
 unfolding stuck
 stuck-ready edge zero [] l = refl
@@ -163,7 +163,7 @@ stuck-ready edge (suc turns) waiting l =
 pub left-ready : (edge : Edges) (count : ℕ) → ready edge (left_of edge count) ≡ None
 left-ready edge count = stuck-ready edge count (range_with_len 0 count) (omega (arith, length-range_with_len 0 count))
 
--- where an order respects every edge, one of those that wait is ready
+-- if an order respects every edge, one of those that wait is ready
 
 respects-from : (edge : Edges) (order : List ℕ) → RespectsEdges edge order → Respects edge order
 respects-from edge [] h = tt

@@ -30,7 +30,7 @@ pub Ascends-range : (a n : ℕ) → Ascends a (range_with_len a n)
 Ascends-range a zero = tt
 Ascends-range a (suc n) = (omega arith, Ascends-lower (suc a) (a + 1) (range_with_len (a + 1) n) (omega arith) (Ascends-range (a + 1) n))
 
--- what is below all stays in when it is left out
+-- an element below all stays when another is left out
 pub without-below : (x low : ℕ) (xs : List ℕ) → x < low → Ascends low xs → without x xs ≡ xs
 without-below x low [] l h = refl
 without-below x low (y ∷ ys) l h =
@@ -53,7 +53,7 @@ is_up-set (b ∷ flags) zero (suc y) = grind (arith, nat_tests)
 is_up-set (b ∷ flags) (suc x) zero = grind (arith, nat_tests)
 is_up-set (b ∷ flags) (suc x) (suc y) = is_up-set flags x y ∙ ap (λ t. is_up flags y && not t) (grind (arith, nat_tests))
 
--- a flag that goes down leaves its function out
+-- clearing a flag leaves its function out
 pub waits-set : (flags : List Bool) (x : ℕ) → waits (slice_set flags x false) ≡ without x (waits flags)
 unfolding waits
 waits-set flags x =
@@ -66,7 +66,7 @@ length-filter p (x ∷ xs) =
     let rest = length-filter p xs in
     elim (p x) as (λ b. length (cond b (x ∷ filter p xs) (filter p xs)) ≤ suc (length xs)) [ true ↦ omega arith | false ↦ omega arith ]
 
--- one that is there and is left out makes fewer
+-- leaving out one that is there makes fewer
 pub length-without : (x : ℕ) (xs : List ℕ) → list_any (λ y. y == x) xs ≡ true → length (without x xs) < length xs
 length-without x [] e = cc
 length-without x (y ∷ ys) e =

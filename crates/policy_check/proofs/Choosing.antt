@@ -1,4 +1,4 @@
--- At each turn the earliest declared function is taken of those that may be.
+-- At each turn the earliest declared function that may be taken is taken.
 use Rattle.std.proofs.Common.{◌≡◌, ℕ, zero, suc, ◌<◌, ◌≤◌, Bool, true, false, ◌||◌, not, cond, List, [], ◌∷◌, length, take, Some, None, refl, ◌∙◌, ap, arith, slice_index}
 use Rattle.std.specs.Prelude.{◌==◌, find, Contains}
 use Rattle.std.specs.List.{list_any, range_with_len, slice_index_or}
@@ -15,7 +15,7 @@ use Rattle.policy_check.proofs.Ascending.{Ascends, Ascends-filter, Ascends-range
 use Rattle.policy_check.proofs.Inside.{inside, inside-without, find_none_inside}
 use Rattle.policy_check.proofs.WaitingLemmas.{range-any}
 
--- the same as `IsFree`, of the functions that wait
+-- the same as `IsFree`, for the functions that wait
 record Free (edge : Edges) (waiting front : List ℕ) (x : ℕ) : Type 0 where
   within : inside x waiting ≡ true
   waits : inside x front ≡ false
@@ -65,7 +65,7 @@ inside-of-without z x (y ∷ ys) i =
       ] refl j
     ] refl i
 
--- behind nothing those are free that nothing holds
+-- after the empty prefix those are free that nothing holds
 free-first : (edge : Edges) (waiting : List ℕ) (x : ℕ) → inside x waiting ≡ true → is_held edge waiting x ≡ false → Free edge waiting [] x
 free-first edge waiting x i h = record {
   within = i;
@@ -80,7 +80,7 @@ unheld-free edge waiting x f =
       | false ↦ λ e. refl
     ] refl
 
--- one that was taken may as well be left out of those that wait as stand in front
+-- a function that was taken is either left out of those that wait or put in front
 free-behind : (edge : Edges) (waiting front : List ℕ) (x z : ℕ) → Free edge (without x waiting) front z → Free edge waiting (x ∷ front) z
 free-behind edge waiting front x z f =
     let there = inside-of-without z x waiting f.within in
@@ -137,7 +137,7 @@ taken-earliest edge (suc turns) waiting (suc i) h l =
           }
     ] refl l
 
--- with a turn for each, none may be taken behind all that were
+-- after a turn for each, none may be taken after all that were
 taken-all : (edge : Edges) (turns : ℕ) (waiting : List ℕ) (y : ℕ) → length waiting ≤ turns → ¬ Free edge waiting (taken edge turns waiting) y
 unfolding taken
 taken-all edge zero [] y l f = let there : false ≡ true = f.within in cc
@@ -153,7 +153,7 @@ taken-all edge (suc turns) waiting y l f =
           taken-all edge turns (without x waiting) y (omega arith) (free-without edge waiting (taken edge turns (without x waiting)) x y f)
     ] refl f
 
--- in words of all the functions of a chain
+-- the same for all the functions of a chain
 
 inside-range : (count x : ℕ) → x < count → inside x (range_with_len 0 count) ≡ true
 inside-range count x l = range-any (λ y. y == x) 0 count x (omega arith) (omega arith) (grind (arith, nat_tests))

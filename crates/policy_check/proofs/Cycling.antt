@@ -1,4 +1,4 @@
--- The cycle that is named is one.
+-- The named cycle is a cycle.
 use Rattle.std.proofs.Common.{◌≡◌, ℕ, zero, suc, ◌+◌, ◌-◌, ◌<◌, true, false, ◌||◌, not, cond, List, [], ◌∷◌, ◌++◌, length, Some, None, IsSome, refl, sym, ap, ◌∙◌, subst, arith, reverse}
 use Rattle.std.specs.Prelude.{◌==◌, find}
 use Rattle.std.specs.Option.{option_map_or}
@@ -70,7 +70,7 @@ pub cycle_from : (edge : Edges) (left : List ℕ) (x : ℕ) → ready edge left 
 cycle_from edge left x none i =
     back_is_cycle edge left (suc (length left)) x [] none (record { here = i; once = tt; remain = tt; path = tt }) (omega arith)
 
--- one step back, where the trail has not come round
+-- one step back, if the trail has not come round
 
 pub back_positive : (edge : Edges) (left : List ℕ) (steps x : ℕ) (trail : List ℕ) → IsCycle edge (cycle_back edge left steps x trail) → 0 < steps
 unfolding cycle_back

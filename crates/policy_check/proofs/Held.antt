@@ -31,7 +31,7 @@ flag-within [] x e = cc
 flag-within (b ∷ flags) zero e = omega arith
 flag-within (b ∷ flags) (suc x) e = let rest = flag-within flags x e in omega arith
 
--- a test that one function alone passes
+-- a test that exactly one function passes
 any_one : (flags : List Bool) (x : ℕ) (t : Bool) → list_any (λ a. (a == x) && t) (waits flags) ≡ (t && slice_index_or flags x false)
 any_one flags x false = waits_none (λ a. (a == x) && false) flags (λ k l. grind arith)
 any_one flags x true =
@@ -54,7 +54,7 @@ any-agree : {A : Type 0} (p q : A → Bool) → ((x : A) → p x ≡ q x) → (x
 any-agree p q h [] = refl
 any-agree p q h (x ∷ xs) = rw (h x, any-agree p q h xs) refl
 
--- a function is held where some statement holds it back
+-- a function is held if some statement holds it back
 pub is_held_by_statement : (statements : List Statement) (flags : List Bool) (x : ℕ) → is_held (edges_of statements) (waits flags) x ≡ list_any (holds_back flags x) statements
 unfolding edges_of
 is_held_by_statement statements flags x =

@@ -35,7 +35,7 @@ AreInside-without x ys (z ∷ zs) e h =
     let rest : inside x zs ≡ false = grind arith in
     (inside-without z x ys other ∙ h.0, AreInside-without x ys zs rest h.1)
 
--- so many different ones need a list as long
+-- a list that has this number of different functions is at least as long
 pub length-distinct : (ys xs : List ℕ) → AreDistinct xs → AreInside ys xs → length xs ≤ length ys
 length-distinct ys [] d h = omega arith
 length-distinct ys (x ∷ xs) d h =
@@ -43,7 +43,7 @@ length-distinct ys (x ∷ xs) d h =
     let fewer = length-without x ys h.0 in
     omega arith
 
--- where a search finds nothing, nothing passes
+-- if a search finds nothing, nothing passes
 pub any-from_find : (p : ℕ → Bool) (xs : List ℕ) → find p xs ≡ None → list_any p xs ≡ false
 any-from_find p [] e = refl
 any-from_find p (x ∷ xs) e =

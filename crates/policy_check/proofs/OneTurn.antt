@@ -33,7 +33,7 @@ pub fewer_wait : (edge : Edges) (flags : List Bool) (x : ℕ) → ready edge (wa
 fewer_wait edge flags x e =
     rw (waits-set flags x) (length-without x (waits flags) (find_inside (λ x. not (is_held edge (waits flags) x)) (waits flags) x e))
 
--- with turns enough for all that wait, the one that is ready comes next
+-- with enough turns for all that wait, the one that is ready comes next
 pub turn_taken : (edge : Edges) (flags : List Bool) (all done x : ℕ) → ready edge (waits flags) ≡ Some x → length (waits flags) ≤ all - done → taken edge (all - done) (waits flags) ≡ x ∷ taken edge (all - (done + 1)) (waits (slice_set flags x false))
 turn_taken edge flags all done x e l =
     let fewer = fewer_wait edge flags x e in

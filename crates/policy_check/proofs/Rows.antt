@@ -18,7 +18,7 @@ use Rattle.policy_check.specs.Edges.{edges_of}
 use Rattle.policy_check.specs.Refusals.{first_refusal}
 use Rattle.policy_check.specs.Turns.{taken, stuck}
 
--- a function of this kind; its name and line play no part
+-- a function of this kind; its name and line don't matter
 a : Kind → FunctionDecl
 a kind = record { name = []; line = 1; kind = kind; settings = [] }
 
@@ -56,22 +56,22 @@ untested : answer_of (chain_of (a Monitor ∷ a Nat ∷ a Monitor ∷ []) (Prior
 unfolding answer_of a chain_of edges_of taken stuck named_cycle from_earliest cycle_back first_refusal pair_of first_forbidden pairs actions all_actions is_copied copied
 untested = refl
 
--- the cycle 1 3 2, on the way from 0, which hangs on it; 4 is free
+-- the cycle 1 3 2, reached from 0, which depends on it; 4 is free
 later_cycle : answer_of (chain_of (a Monitor ∷ a Monitor ∷ a Monitor ∷ a Monitor ∷ a Monitor ∷ []) (Order 2 0 7 ∷ Order 1 3 8 ∷ Order 3 2 9 ∷ Order 2 1 10 ∷ [])) ≡ Err (Cycle (1 ∷ 3 ∷ 2 ∷ []))
 unfolding answer_of a chain_of edges_of taken stuck named_cycle from_earliest cycle_back first_refusal pair_of first_forbidden pairs actions all_actions is_copied copied
 later_cycle = refl
 
--- of two ways back the one to the earliest declared is gone
+-- of two ways back the one to the earliest declared is taken
 earliest_way : answer_of (chain_of (a Monitor ∷ a Monitor ∷ a Monitor ∷ []) (Order 2 0 6 ∷ Order 1 0 7 ∷ Order 0 1 8 ∷ Order 0 2 9 ∷ [])) ≡ Err (Cycle (0 ∷ 1 ∷ []))
 unfolding answer_of a chain_of edges_of taken stuck named_cycle from_earliest cycle_back first_refusal pair_of first_forbidden pairs actions all_actions is_copied copied
 earliest_way = refl
 
--- `position` speaks of functions that are declared later too: the last declared first, the first declared last
+-- `position` also covers functions declared later: the last declared first, the first declared last
 positions : answer_of (chain_of (a Firewall ∷ a Signature ∷ a Firewall ∷ []) (First 2 3 ∷ Last 0 4 ∷ [])) ≡ Ok (record { positions = 2 ∷ 1 ∷ 0 ∷ [] })
 unfolding answer_of a chain_of edges_of taken stuck named_cycle from_earliest cycle_back first_refusal pair_of first_forbidden pairs actions all_actions is_copied copied
 positions = refl
 
--- two that both stand first
+-- two that are both first
 two_first : answer_of (chain_of (a Firewall ∷ a Signature ∷ []) (First 1 4 ∷ First 0 5 ∷ [])) ≡ Err (Cycle (0 ∷ 1 ∷ []))
 unfolding answer_of a chain_of edges_of taken stuck named_cycle from_earliest cycle_back first_refusal pair_of first_forbidden pairs actions all_actions is_copied copied
 two_first = refl

@@ -1,4 +1,4 @@
--- What the answer that is due says of the chain.
+-- What the due answer says about the chain.
 use Rattle.std.proofs.Common.{◌≡◌, ℕ, ◌<◌, List, [], ◌∷◌, length, Some, None, Ok, Err, refl, ap, ◌∙◌, subst, slice_get, IfOk, IfErr}
 use Rattle.std.specs.Prelude.{Result, option_and_then}
 use Rattle.std.specs.Option.{option_or, option_map}
@@ -63,7 +63,7 @@ refused-sound edge count high low line (Forbidden first second) fault h l e =
     subst (IsSoundFault edge count) same (h, l)
 refused-sound edge count high low line answer fault h l e = cc
 
--- a refused Priority is of two functions of the chain
+-- a refused Priority concerns two functions of the chain
 refusal-within : (edge : Edges) (functions : List FunctionDecl) (s : Statement) (fault : CheckFault) → refusal functions s ≡ Some fault → IsSoundFault edge (length functions) fault
 refusal-within edge functions (Priority high low line) fault e =
     elim (slice_get functions low) as (λ a. slice_get functions low ≡ a → option_and_then (refused high low line) (option_and_then (λ x. option_map (λ y. pair_of (profile_of x.kind) (profile_of y.kind)) (slice_get functions high)) a) ≡ Some fault → IsSoundFault edge (length functions) fault) [

@@ -1,16 +1,16 @@
--- For proofs: what an order and a cycle are, whichever way they are found.
+-- For proofs: what an order and a cycle are, however they are found.
 use Rattle.std.specs.Prelude.{◌<◌, ◌≤◌, ℕ, IsTrue, All, List, [], ◌∷◌, ◌++◌, length, take, slice_index, Contains, IsPermutation}
 use Rattle.std.specs.List.{range_with_len}
 use Rattle.policy_check.specs.declared.fault.CheckFault.{CheckFault}
 use Rattle.policy_check.specs.declared.fault.CheckFault.TheVariants.{Cycle, PriorityForbidden, OutOfMemory}
 use Rattle.policy_check.specs.Edges.{Edges}
 
--- each edge leads from an earlier place to a later one
+-- each edge goes from an earlier place to a later one
 abbrev pub RespectsEdges : Edges → List ℕ → Type 0
 RespectsEdges edge order =
     (i j : ℕ) → i < length order → j < length order → IsTrue (edge (slice_index order i) (slice_index order j)) → i < j
 
--- each of these many functions once, and every edge respected
+-- each of this number of functions once, and every edge respected
 pub record IsArrangement (edge : Edges) (count : ℕ) (order : List ℕ) : Type 0 where
   pub each_once : IsPermutation (range_with_len 0 count) order
   pub respects : RespectsEdges edge order
@@ -30,13 +30,13 @@ abbrev pub IsEarliestFirst : List ℕ → Type 0
 IsEarliestFirst [] = ⊥
 IsEarliestFirst (x ∷ xs) = All (λ y. x ≤ y) xs
 
--- a fault speaks of these many functions, and a cycle is one, listed from its earliest declared
+-- a fault names functions below this number, and a cycle is one, listed from its earliest declared
 abbrev pub IsSoundFault : Edges → ℕ → CheckFault → Type 0
 IsSoundFault edge count (Cycle names) = IsCycle edge names × All (λ x. x < count) names × IsEarliestFirst names
 IsSoundFault edge count (PriorityForbidden high low line first second) = (high < count) × (low < count)
 IsSoundFault edge count OutOfMemory = Unit {0}
 
--- behind this front the function may be taken: it doesn't stand in it, and each function that has an edge to it does
+-- after this prefix the function may be taken: it isn't in it, and each function that has an edge to it is
 pub record IsFree (edge : Edges) (count : ℕ) (front : List ℕ) (x : ℕ) : Type 0 where
   pub within : x < count
   pub waits : ¬ Contains front x
@@ -47,6 +47,6 @@ pub record IsEarliestFree (edge : Edges) (count : ℕ) (front : List ℕ) (x : �
   pub free : IsFree edge count front x
   pub earliest : (y : ℕ) → IsFree edge count front y → x ≤ y
 
--- at each place stands the earliest declared of the functions that may be taken behind those before it
+-- each place has the earliest declared of the functions that may be taken after those before it
 abbrev pub TakesEarliest : Edges → ℕ → List ℕ → Type 0
 TakesEarliest edge count order = (i : ℕ) → i < length order → IsEarliestFree edge count (take i order) (slice_index order i)

@@ -1,4 +1,4 @@
--- Believed: the cycle that is named where functions remain of which none can be taken.
+-- Believed: the cycle that is named if functions remain of which none can be taken.
 use Rattle.std.specs.Prelude.{ℕ, zero, suc, ◌==◌, nat_le, if◌then◌else◌, List, [], ◌∷◌, ◌++◌, length, take, drop, Option, find, position, unwrap_or}
 use Rattle.std.specs.List.{list_any, list_all}
 use Rattle.std.specs.Option.{option_map_or}

@@ -4,11 +4,11 @@ use Rattle.std.specs.List.{list_any}
 use Rattle.policy_text.specs.declared.policy.Statement.{Statement}
 use Rattle.policy_text.specs.declared.policy.Statement.TheVariants.{Order, Priority, First, Last}
 
--- a set of edges: is there one from the first function to the second?
+-- a set of edges: whether there is one from the first function to the second
 abbrev pub Edges : Type 0
 Edges = ℕ → ℕ → Bool
 
--- the edges of a statement; what a function of higher priority writes prevails where it comes later
+-- the edges of a statement; what a function of higher priority writes prevails if it comes later
 abbrev pub draws : Statement → Edges
 draws (Order a b line) from to = (from == a) && (to == b)
 draws (Priority high low line) from to = (from == low) && (to == high)

@@ -9,12 +9,12 @@ use Rattle.policy_check.specs.declared.fault.CheckFault.{CheckFault}
 use Rattle.policy_check.specs.declared.fault.CheckFault.TheVariants.{PriorityForbidden}
 use Rattle.policy_check.specs.Refusals.{table_at}
 
--- a Priority whose lower function may stand before the higher one, or another statement
+-- a Priority whose lower function may be before the higher one, or another statement
 abbrev pub IsAllowed : List FunctionDecl → Statement → Type 0
 IsAllowed functions (Priority high low line) = (first second : Action) → table_at functions low high ≢ Some (Forbidden first second)
 IsAllowed functions statement = Unit {0}
 
--- the fault names this statement: a Priority whose lower function may not stand before the higher one
+-- the fault names this statement: a Priority whose lower function may not be before the higher one
 abbrev pub IsForbiddenAs : List FunctionDecl → CheckFault → Statement → Type 0
 IsForbiddenAs functions (PriorityForbidden high low line first second) statement =
     (statement ≡ Priority high low line) × (table_at functions low high ≡ Some (Forbidden first second))

@@ -11,7 +11,7 @@ use Rattle.policy_text.specs.declared.policy.Statement.TheVariants.{Priority}
 use Rattle.policy_check.specs.declared.fault.CheckFault.{CheckFault}
 use Rattle.policy_check.specs.declared.fault.CheckFault.TheVariants.{PriorityForbidden}
 
--- what the table says of two functions, of which the first stands before the second
+-- what the table says about two functions, of which the first is before the second
 abbrev pub table_at : List FunctionDecl → ℕ → ℕ → Option Answer
 table_at functions first second =
     option_and_then (λ x. option_map (λ y. pair_of (profile_of x.kind) (profile_of y.kind)) (slice_get functions second)) (slice_get functions first)
@@ -20,7 +20,7 @@ abbrev pub refused : ℕ → ℕ → ℕ → Answer → Option CheckFault
 refused high low line (Forbidden first second) = Some (PriorityForbidden high low line first second)
 refused high low line answer = None
 
--- a Priority is refused where the lower function may not stand before the higher one
+-- a Priority is refused if the lower function may not be before the higher one
 abbrev pub refusal : List FunctionDecl → Statement → Option CheckFault
 refusal functions (Priority high low line) = option_and_then (refused high low line) (table_at functions low high)
 refusal functions statement = None

@@ -15,13 +15,13 @@ ready edge waiting = find (λ x. not (is_held edge waiting x)) waiting
 abbrev pub without : ℕ → List ℕ → List ℕ
 without x waiting = filter (λ y. not (y == x)) waiting
 
--- those that are taken in so many turns, in order
+-- those that are taken in this number of turns, in order
 unfoldable pub taken : Edges → ℕ → List ℕ → List ℕ
 taken edge zero waiting = []
 taken edge (suc turns) waiting =
     option_map_or (λ x. x ∷ taken edge turns (without x waiting)) (ready edge waiting) []
 
--- those that still wait then
+-- those that still wait after that
 unfoldable pub stuck : Edges → ℕ → List ℕ → List ℕ
 stuck edge zero waiting = waiting
 stuck edge (suc turns) waiting =

@@ -7,7 +7,7 @@ use Rattle.policy_text.specs.declared.policy.Statement.TheVariants.{Order, Prior
 abbrev pub is_up : List Bool → ℕ → Bool
 is_up flags x = slice_index_or flags x false
 
--- the functions whose flag is up, in declared order
+-- the functions whose flag is set, in declared order
 unfoldable pub waits : List Bool → List ℕ
 waits flags = filter (is_up flags) (range_with_len 0 (length flags))
 

@@ -36,7 +36,7 @@ is_ordered edge chain order few arranged = record {
     all_below : (n : ℕ) → All (λ p. p < n) (range_with_len 0 n)
     all_below n k d inside = omega (arith, get_or-range_with_len 0 n k d (omega (arith, length-range_with_len 0 n)), length-range_with_len 0 n)
 
--- the functions of one chain are no more than those of the policy
+-- a chain has at most as many functions as the policy
 few_each : (chains : List ChainPolicy) (most : ℕ) → length (function_names chains) ≤ most → All (λ c. length c.functions ≤ most) chains
 few_each [] most few = All-nil (λ c. length c.functions ≤ most)
 few_each (c ∷ chains) most few =
@@ -57,7 +57,7 @@ judges_err : (due : Result Judged Refusal) (refusal : Refusal) (answer : JudgeFa
 judges_err due refusal (Refused r) is tells = is ∙ ap (λ x. Err x) tells
 judges_err due refusal OutOfMemory is tells = tt
 
--- a text with a fault is refused by it
+-- a text with a fault is refused with it
 pub text_refused : (bytes : List ℕ) (fault : TextFault) (answer : JudgeFault) → length bytes ≤ 1048576 → IsFaultOf fault (policy_of bytes) → TellsText fault answer → Judges (judged bytes) (Err answer)
 text_refused bytes texts.OutOfMemory answer short is tells = subst (λ a. Judges (judged bytes) (Err a)) (sym tells) tt
 text_refused bytes (texts.NotUtf8 place) answer short is tells = judges_err (judged bytes) _ answer (judged_err bytes (texts.NotUtf8 place) short is) tells

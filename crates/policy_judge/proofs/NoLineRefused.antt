@@ -1,4 +1,4 @@
--- Where no line is the least that is refused, no function refuses one, and each is kept.
+-- If no line is the least that is refused, no function refuses one, and each is kept.
 use Rattle.std.proofs.Common.{◌≡◌, ◌≤◌, ◌∙◌, ℕ, List, [], ◌∷◌, length, map, take, refl, ap, sym}
 use Rattle.std.specs.Prelude.{All, Option, Some, None, fold}
 use Rattle.std.proofs.lemmas.List.{take_all}
@@ -43,7 +43,7 @@ settled_from line (c ∷ cs) e = All-cons IsSettled c cs (among line c.functions
 pub all_settled : (cs : List ChainPolicy) → least_refused cs ≡ None → All IsSettled cs
 all_settled cs e = settled_from None cs e
 
--- where no line is refused, each function is kept
+-- if no line is refused, each function is kept
 kept_here : (fs : List FunctionDecl) → All (λ f. refused_line f ≡ None) fs → kept_each fs ≡ map place_of fs
 kept_here [] settled = refl
 kept_here (f ∷ fs) settled =
@@ -56,7 +56,7 @@ kept_in (c ∷ cs) settled =
     ap (λ l. l ∷ map (λ d. kept_each d.functions) cs) (kept_here c.functions (All-head IsSettled c cs settled))
     ∙ ap (λ l. map place_of c.functions ∷ l) (kept_in cs (All-tail IsSettled c cs settled))
 
--- past the last chain all functions are made, where no line was refused
+-- after the last chain all functions are made, if no line was refused
 pub all_made : (cs : List ChainPolicy) (index : ℕ) (least : Option ℕ) (functions made : List (List (Option Made))) → length cs ≤ index →
     least ≡ least_refused (take index cs) → functions ≡ map (λ c. kept_each c.functions) (take index cs) → least ≡ None → made ≡ functions →
     (least_refused cs ≡ None) × (made ≡ functions_made cs)

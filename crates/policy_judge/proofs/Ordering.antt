@@ -13,7 +13,7 @@ use Rattle.policy_judge.specs.declared.fault.JudgeFault.TheVariants.{Refused, Ou
 use Rattle.policy_judge.specs.Judging.{order_due, orders_from, Judges}
 use Rattle.policy_judge.specs.Orders.{IsOrdered}
 
--- orders before what comes of the later chains
+-- orders before what becomes of the later chains
 abbrev pub behind : List Order → Result (List Order) Refusal → Result (List Order) Refusal
 behind orders (Err refusal) = Err refusal
 behind orders (Ok later) = Ok (orders ++ later)

@@ -1,4 +1,4 @@
--- Believed: what a policy text is worth: its chains, each with its order, or the first fault with the line that tells it.
+-- Believed: the verdict on a policy text: its chains with their orders, or the first fault and the line for it.
 use Rattle.std.specs.Prelude.{◌≡◌, ℕ, ◌+◌, List, [], ◌∷◌, length, nat_lt, if◌then◌else◌, Option, Some, None, Result, Ok, Err}
 use Rattle.policy_text.specs.declared.fault.TextFault.{TextFault}
 use Rattle.policy_text.specs.declared.fault.TextFault.TheVariants as texts
@@ -19,7 +19,7 @@ use Rattle.policy_judge.specs.Lines.{too_long_line, text_line, setting_line, che
 use Rattle.policy_judge.specs.Making.{functions_made}
 use Rattle.policy_judge.specs.Settings.{least_refused}
 
--- a fault and the line that tells it
+-- a fault and the line that reports it
 abbrev pub told : PolicyFault → List ℕ → Refusal
 told fault line = record { fault = fault; line = line }
 
@@ -55,7 +55,7 @@ judged_text (Ok policy) = judged_settings policy (least_refused policy.chains)
 unfoldable pub judged : List ℕ → Result Judged Refusal
 judged bytes = if nat_lt 1048576 (length bytes) then Err (told TooLong too_long_line) else judged_text (policy_of bytes)
 
--- the answer is the one that is due, unless memory ran out
+-- the answer is the due one, unless it ran out of memory
 abbrev pub Judges : {A : Type 0} → Result A Refusal → Result A JudgeFault → Type 0
 Judges due (Ok value) = due ≡ Ok value
 Judges due (Err (Refused refusal)) = due ≡ Err refusal

@@ -1,4 +1,4 @@
--- For proofs: what is kept of functions while the least line that one refuses is looked for.
+-- For proofs: what is kept of functions while the least refused line is searched.
 use Rattle.std.specs.Prelude.{◌≡◌, ℕ, List, map, Option, Some, None, Result, Ok, Err}
 use Rattle.net_functions.specs.Builds.{refused_line, function_of}
 use Rattle.net_functions.specs.declared.making.Made.{Made}
@@ -9,7 +9,7 @@ use Rattle.policy_text.specs.declared.policy.FunctionDecl.{FunctionDecl}
 use Rattle.policy_judge.specs.Making.{functions_made}
 use Rattle.policy_judge.specs.Settings.{least_refused}
 
--- the function, where it refuses no line
+-- the function, if it refuses no line
 abbrev pub kept_where : Option ℕ → Made → Option Made
 kept_where None function = Some function
 kept_where (Some line) function = None
@@ -20,7 +20,7 @@ kept_of decl = kept_where (refused_line decl) (function_of decl)
 abbrev pub kept_each : List FunctionDecl → List (Option Made)
 kept_each decls = map kept_of decls
 
--- the functions of each chain, where no line is refused, or the least refused line; memory may run out
+-- the functions of each chain, if no line is refused, or the least refused line; it may run out of memory
 abbrev pub MakesAll : List ChainPolicy → Result (List (List (Option Made))) BuildFault → Type 0
 MakesAll chains (Ok functions) = (least_refused chains ≡ None) × (functions ≡ functions_made chains)
 MakesAll chains (Err (BadSetting line)) = least_refused chains ≡ Some line

@@ -1,4 +1,4 @@
--- Believed: the line that tells the fault of a policy.
+-- Believed: the line that reports the fault of a policy.
 use Rattle.std.specs.Prelude.{ℕ, List, [], ◌∷◌, ◌++◌, codes}
 use Rattle.std.specs.Fmt.{decimal}
 use Rattle.text_lines.specs.Texts.{line_of, spaced}
@@ -46,7 +46,7 @@ action_text Count = codes "count"
 action_text Whole = codes "whole"
 action_text Pass = codes "pass"
 
--- a Priority of the first function over the second is forbidden, for what the second does before what the first does
+-- a Priority of the first function over the second, if the second's action may not come before the first's
 unfoldable pub priority_line : ℕ → List ℕ → List ℕ → List ℕ → List ℕ → List ℕ
 priority_line line high low first second = line_of (
     codes "policy: line " ∷ decimal line ∷ codes ": priority " ∷ high ∷ codes " over " ∷ low

@@ -1,4 +1,4 @@
--- For proofs: what holds of the order of a chain that was taken.
+-- For proofs: what holds for the order of a chain that was taken.
 use Rattle.std.specs.Prelude.{◌<◌, ◌≤◌, length, All, IsPermutation}
 use Rattle.std.specs.List.{range_with_len}
 use Rattle.policy_text.specs.declared.policy.ChainPolicy.{ChainPolicy}

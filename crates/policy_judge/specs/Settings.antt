@@ -4,7 +4,7 @@ use Rattle.policy_text.specs.declared.policy.ChainPolicy.{ChainPolicy}
 use Rattle.policy_text.specs.declared.policy.FunctionDecl.{FunctionDecl}
 use Rattle.net_functions.specs.Builds.{refused_line}
 
--- the lesser of two lines, where there are two
+-- the lesser of two lines, if there are two
 abbrev pub lesser_of : Option ℕ → Option ℕ → Option ℕ
 lesser_of None line = line
 lesser_of (Some least) None = Some least

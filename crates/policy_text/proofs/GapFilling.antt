@@ -37,7 +37,7 @@ wider n =
 regroup : (high g p n : ℕ) → (high * 65536 + g) * p + n ≡ high * (65536 * p) + ((0 + g) * p + n)
 regroup high g p n = omega arith
 
--- groups behind others
+-- groups after others
 fold_after : (high : ℕ) (groups : List ℕ) → fold shift high groups ≡ high * 2 ^ (16 * length groups) + number_of_groups groups
 fold_after high [] = omega arith
 fold_after high (g ∷ gs) =

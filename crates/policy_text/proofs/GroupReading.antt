@@ -34,7 +34,7 @@ all_digits (c ∷ cs) h =
     let parts = both_true (is_digit c 16) (are_hex cs) h in
     (ltb-true _ _ parts.0, all_digits cs parts.1)
 
--- the digits so far and what they are worth
+-- the digits so far and their value
 pub record IsRead (text : List ℕ) (i value : ℕ) : Type 0 where
   pub digits : list_all (λ b. is_digit b 16) (take i text) ≡ true
   pub worth : value ≡ digits_value 16 (take i text)
@@ -101,7 +101,7 @@ abbrev pub read_on : Groups → List (List ℕ) → Option Groups
 read_on read [] = Some read
 read_on read (part ∷ parts) = option_and_then (λ more. read_on more parts) (with_part read part)
 
--- the groups behind those that are read
+-- the groups after those that are read
 abbrev shift : ℕ → ℕ → ℕ
 shift high group = high * 65536 + group
 
@@ -136,7 +136,7 @@ read_part : (read : Groups) (group : Option ℕ) (parts : List (List ℕ)) (grou
 read_part read None parts groups rest = refl
 read_part read (Some g) parts groups rest = read_group read g parts groups rest (cases_lt read.count 8)
 
--- reading on gives the groups of the parts behind those that are read
+-- reading on gives the groups of the parts after those that are read
 read_on-is : (parts : List (List ℕ)) (read : Groups) → read.count ≤ 8 → read_on read parts ≡ option_and_then (with_groups read) (each_group parts)
 read_on-is [] read few = some_test _ _ _ (le-leb (read.count + 0) 8 (omega arith)) (same_groups read.value read.value read.count (read.count + 0) refl (omega arith))
 read_on-is (part ∷ parts) read few = read_part read (group_of part) parts (each_group parts) (read_on-is parts)

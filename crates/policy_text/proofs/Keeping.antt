@@ -6,7 +6,7 @@ use Rattle.std.proofs.lemmas.List.Elements.{All-from_recursion, recursion_from_A
 use Rattle.policy_text.specs.Grammar.{latest, change_latest}
 use Rattle.policy_text.specs.Steps.{◌>>=◌, demand, some_or}
 
--- what holds of the value of a run of steps
+-- what holds for the value of a sequence of steps
 pub one_step : {A E : Type 0} (P : A → Type 0) (r : Result ⊤ E) (y : A) → ((u : ⊤) → r ≡ Ok u → P y) → IfOk (r >>= (λ _. Ok y)) P
 one_step P (Ok u) y h = h u refl
 one_step P (Err e) y h = tt

@@ -1,4 +1,4 @@
--- The last of a list, changed in its place.
+-- The last of a list, changed in place.
 use Rattle.std.proofs.Common.{◌≡◌, ◌<◌, ◌≤◌, ◌-◌, ◌∙◌, ℕ, List, ◌∷◌, [], length, set, get_or, zero, suc, ap, arith}
 use Rattle.std.specs.Prelude.{slice_get}
 use Rattle.std.specs.Option.{option_map_or}

@@ -21,13 +21,13 @@ no_lead : (before : List Clause) (place : ℕ) (lead : List ℕ) (more : List (L
 no_lead before place lead [] miss = rw miss refl
 no_lead before place lead (value ∷ more) miss = rw miss refl
 
--- a word that leads no clause
+-- a word that begins no clause
 pub read_no_lead : (words : List (Bor (List ℕ))) (d : Bor (List ℕ)) (before : List Clause) (place at : ℕ) → at < length words → may_lead before (get_or words at d).now ≡ false →
     clauses_from before place (drop at (seen words)) ≡ Err place
 read_no_lead words d before place at inside miss =
     ap (clauses_from before place) (seen_at words at d inside) ∙ no_lead before place (get_or words at d).now (drop (at + 1) (seen words)) miss
 
--- a leading word with no value behind it
+-- a leading word without a value after it
 pub read_alone : (words : List (Bor (List ℕ))) (d : Bor (List ℕ)) (before : List Clause) (place at : ℕ) → at + 1 ≡ length words → may_lead before (get_or words at d).now ≡ true →
     clauses_from before place (drop at (seen words)) ≡ Err (place + 1)
 read_alone words d before place at last lead =

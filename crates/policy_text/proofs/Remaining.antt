@@ -1,4 +1,4 @@
--- What reading a text has still to do.
+-- What remains to be read of a text.
 use Rattle.std.proofs.Common.{eq-eqb, true, false, arith, ◌≡◌, ◌<◌, ◌+◌, ◌^◌, ℕ, List, length, ap, refl}
 use Rattle.std.specs.Prelude.{Err, ◌==◌}
 use Rattle.std.specs.Str.{IsUtf8, IsValidUpTo}
@@ -10,7 +10,7 @@ use Rattle.std.proofs.lemmas.Bool.{ne_eqb}
 use Rattle.policy_text.specs.Grammar.{after_lines, chains_of, policy_of, policy_of_utf8}
 use Rattle.policy_text.specs.Lines.{lines_from, lines_of}
 
--- the chains so far and the lines that are left give what the text gives
+-- the chains so far and the lines that remain give what the text gives
 pub record Reads (text : List ℕ) (chains : List ChainPolicy) (number : ℕ) (rest : List ℕ) : Type 0 where
   pub left : chains_of (lines_of text) ≡ after_lines chains (lines_from number rest)
   pub room : number + length rest < 2 ^ 31

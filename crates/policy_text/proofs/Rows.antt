@@ -257,7 +257,7 @@ within_32_bits = refl
 beyond_32_bits : is_within6 0x2001_0db8_0000_0000_0000_0000_0000_0000 32 0x2001_0db9_0000_0000_0000_0000_0000_0000 ≡ false
 beyond_32_bits = refl
 
--- a value tells the version of IP, and each leading word stands once for both
+-- a value determines the version of IP, and each leading word occurs once for both
 clauses_of_both : clauses_of (codes "src" ∷ codes "2001:db8::/32" ∷ codes "dst" ∷ codes "10.0.0.0/8" ∷ []) ≡ Ok (Src6 0x2001_0db8_0000_0000_0000_0000_0000_0000 32 ∷ Dst 167772160 8 ∷ [])
 unfolding address6_of
 clauses_of_both = refl

@@ -37,7 +37,7 @@ use Rattle.policy_text.proofs.Keeping.{latest_cons, one_step, two_steps, one_val
 here_is : (chains : List ChainPolicy) (c : ChainPolicy) → latest chains ≡ Some c → functions_here chains ≡ c.functions
 here_is chains c is = ap (λ o. option_map_or (λ (c : ChainPolicy). c.functions) o []) is
 
--- a change of the current chain that leaves its functions' names
+-- a change of the current chain that keeps its functions' names
 function_names-latest : (f : ChainPolicy → ChainPolicy) (chains : List ChainPolicy) → ((c : ChainPolicy) → map (λ g. g.name) (f c).functions ≡ map (λ g. g.name) c.functions) →
     function_names (change_latest f chains) ≡ function_names chains
 function_names-latest f [] same = refl

@@ -13,7 +13,7 @@ use Rattle.policy_text.specs.Values.{address_of_parts, prefix_of_parts, range_of
 use Rattle.std.proofs.lemmas.List.Sums.{fails_before_first}
 use Rattle.std.proofs.lemmas.Option.{cond_some}
 
--- where there is such an element
+-- if there is such an element
 pub cut_some : (p : ℕ → Bool) (xs : List ℕ) (k : ℕ) → position p xs ≡ Some k → (k < length xs) × (slice_split p xs ≡ take k xs ∷ slice_split p (take (length xs - (k + 1)) (drop (k + 1) xs)))
 cut_some p xs k e =
     let h = cond_some _ _ _ e in
@@ -26,7 +26,7 @@ outside : (b : Bool) (m n x : ℕ) → b ≡ ltb m n → cond b (Some x) None �
 outside true m n x is e = absurd (cc)
 outside false m n x is e = ltb-false _ _ (sym is)
 
--- where there is none
+-- if there is none
 pub cut_none : (p : ℕ → Bool) (xs : List ℕ) → position p xs ≡ None → slice_split p xs ≡ xs ∷ []
 cut_none p xs e =
     slice_split_none p xs (λ i d inside. fails_before_first p xs i d (omega (arith, inside, outside (ltb (position_or_len p xs) (length xs)) _ _ _ refl e)))
@@ -105,7 +105,7 @@ after_telling text piece rest number words cut is some =
 pub some_part : (p : ℕ → Bool) (xs : List ℕ) → 0 < length (slice_split p xs)
 some_part p xs = omega (arith, length-slice_split p xs)
 
--- with more parts than a value has, it is none
+-- with more parts than a value has, there is no value
 pub address_none : (a b c d : List ℕ) (parts : List (List ℕ)) → 0 < length parts → address_of_parts (a ∷ b ∷ c ∷ d ∷ parts) ≡ None
 address_none a b c d [] some = absurd (omega arith)
 address_none a b c d (e ∷ parts) some = refl

@@ -1,4 +1,4 @@
--- No text is an address of both versions of IP: one of IPv4 has no colon.
+-- No text is an address of both versions of IP: an IPv4 address has no colon.
 use Rattle.std.proofs.Common.{◌≡◌, ◌<◌, ◌+◌, ◌*◌, ◌∙◌, inl, inr, ℕ, List, ◌∷◌, [], length, drop, get_or, true, false, Bool, Some, None, ap, refl, arith, cond}
 use Rattle.std.specs.Prelude.{Option, All, ◌&&◌, ◌||◌, ◌==◌, min}
 use Rattle.std.specs.Option.{option_map, option_and_then}
@@ -40,7 +40,7 @@ parted_at p q x xs false stays h rest =
     let first = in_first q x (slice_split p xs) h in
     both _ _ (right (p x) (q x) stays first.0) (rest first.1)
 
--- what the parts pass, each byte passes but for those between them
+-- what the parts pass, each byte passes, except those between them
 parted : (p q : ℕ → Bool) (xs : List ℕ) → list_all (list_all q) (slice_split p xs) ≡ true → list_all (λ b. p b || q b) xs ≡ true
 parted p q [] h = refl
 parted p q (x ∷ xs) h = parted_at p q x xs (p x) refl h (parted p q xs)

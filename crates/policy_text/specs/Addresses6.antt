@@ -18,17 +18,17 @@ is_group text = (nat_le 1 (length text) && nat_le (length text) 4) && list_all (
 abbrev pub group_of : List ℕ → Option ℕ
 group_of text = if is_group text then Some (digits_value 16 text) else None
 
--- the groups of parts, each of which has to be one
+-- the groups of parts, each of which has to be a group
 abbrev pub each_group : List (List ℕ) → Option (List ℕ)
 each_group [] = Some []
 each_group (part ∷ parts) = option_and_then (λ g. option_map (λ gs. g ∷ gs) (each_group parts)) (group_of part)
 
--- groups parted by colons, of which the empty text has none
+-- groups separated by colons; the empty text has none
 abbrev pub groups_of : List ℕ → Option (List ℕ)
 groups_of [] = Some []
 groups_of text = each_group (slice_split is_colon text)
 
--- where `::` first stands: the first colon that has a colon behind it
+-- where `::` first occurs: the first colon that a colon follows
 abbrev pub gap_in : List ℕ → Option ℕ
 gap_in text = position (λ pair. is_colon pair.0 && is_colon pair.1) (zip text (drop 1 text))
 
@@ -36,7 +36,7 @@ gap_in text = position (λ pair. is_colon pair.0 && is_colon pair.1) (zip text (
 abbrev pub all_eight : List ℕ → Option (List ℕ)
 all_eight groups = if length groups == 8 then Some groups else None
 
--- with `::` one or more groups of zero stand between the others, which makes eight
+-- with `::` one or more groups of zero fill up the others to eight
 abbrev pub with_zeros : List ℕ → List ℕ → Option (List ℕ)
 with_zeros front back =
     let count = length front + length back in
@@ -46,7 +46,7 @@ with_zeros front back =
 abbrev pub groups_beside : List ℕ → List ℕ → Option (List ℕ)
 groups_beside front back = option_and_then (λ f. option_and_then (with_zeros f) (groups_of back)) (groups_of front)
 
--- the eight groups of a text, given where `::` first stands
+-- the eight groups of a text, given where `::` first occurs
 abbrev pub groups_around : Option ℕ → List ℕ → Option (List ℕ)
 groups_around None text = option_and_then all_eight (groups_of text)
 groups_around (Some gap) text = groups_beside (take gap text) (drop (gap + 2) text)

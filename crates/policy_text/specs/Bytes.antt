@@ -23,7 +23,7 @@ bytes_of [] = Some []
 bytes_of (digit ∷ []) = None
 bytes_of (high ∷ low ∷ digits) = option_and_then (λ b. option_map (λ bs. b ∷ bs) (bytes_of digits)) (byte_of_digits high low)
 
--- six bytes, parted by colons (IEEE 802)
+-- six bytes, separated by colons (IEEE 802)
 abbrev pub six_of : List ℕ → List ℕ → List ℕ → List ℕ → List ℕ → List ℕ → Option (List ℕ)
 six_of a b c d e f =
     option_and_then (λ a. option_and_then (λ b. option_and_then (λ c. option_and_then (λ d. option_and_then (λ e. option_map (λ f. a ∷ b ∷ c ∷ d ∷ e ∷ f ∷ [])

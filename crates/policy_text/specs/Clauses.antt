@@ -52,12 +52,12 @@ clause_of lead value =
     if bytes_eq lead (codes "proto") then option_map (λ p. Proto p) (protocol_of value) else
     if bytes_eq lead (codes "tag") then tag_of value else None
 
--- a leading word may stand once
+-- a leading word may occur once
 abbrev pub may_lead : List Clause → List ℕ → Bool
 may_lead before word = list_any (bytes_eq word) leads && not (list_any (λ c. bytes_eq (lead_of c) word) before)
 
 -- Reads on from a place: all clauses, those before the place too, or the place of the first word that doesn't
--- fit, or one past the last word where one is missing.
+-- fit, or one past the last word if one is missing.
 abbrev pub clauses_from : List Clause → ℕ → List (List ℕ) → Result (List Clause) ℕ
 clauses_from before place [] = Ok before
 clauses_from before place (lead ∷ []) = Err (if may_lead before lead then place + 1 else place)
@@ -70,7 +70,7 @@ clauses_from before place (lead ∷ value ∷ words) = do
 abbrev pub clauses_of : List (List ℕ) → Result (List Clause) ℕ
 clauses_of words = clauses_from [] 0 words
 
--- A call read what the words spell, unless memory ran out.
+-- A call read what the words spell, unless it ran out of memory.
 abbrev pub ReadsMatch : Result Match MatchFault → Result (List Clause) ℕ → Type 0
 ReadsMatch (Ok m) spelled = spelled ≡ Ok m.clauses
 ReadsMatch (Err (BadWord k)) spelled = spelled ≡ Err k

@@ -6,7 +6,7 @@ use Rattle.policy_text.specs.declared.form.WordForm.TheVariants.{Name, Before, A
 use Rattle.policy_text.specs.Lines.{PlacedWord}
 use Rattle.policy_text.specs.Values.{is_name}
 
--- may the word stand here?
+-- the word may be at this place
 abbrev pub is_fit : WordForm → List ℕ → Bool
 is_fit Name word = is_name word
 is_fit Before word = bytes_eq word (codes "before")

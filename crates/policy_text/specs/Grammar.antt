@@ -35,7 +35,7 @@ change_latest f (x ∷ y ∷ ys) = x ∷ change_latest f (y ∷ ys)
 abbrev pub syntax_at : Line → ℕ → TextFault
 syntax_at line place = Syntax line.number (column_of line place)
 
--- the words behind the first are of this form
+-- the words after the first are of this form
 abbrev pub fit_form : List WordForm → Line → Result (Unit {0}) TextFault
 fit_form form line = unless (option_map (syntax_at line) (misfit_from 1 form (drop 1 line.words)))
 
@@ -102,7 +102,7 @@ chain_line chains line = do
   _ ← demand (not (has_chain chains (word_at line 1))) (DuplicateName line.number)
   Ok (chains ++ (record { name = word_at line 1; line = line.number; fit = record { clauses = clauses }; functions = []; statements = [] }) ∷ [])
 
--- a line of this kind stands in a chain
+-- a line of this kind is in a chain
 abbrev pub in_chain : List ChainPolicy → Line → Result (Unit {0}) TextFault
 in_chain chains line = demand (is_some (latest chains)) (syntax_at line 0)
 
@@ -116,7 +116,7 @@ function_line chains line = do
   kind ← some_or (UnknownKind line.number) (kind_named (word_at line 2))
   Ok (add_function chains (record { name = word_at line 1; line = line.number; kind = kind; settings = [] }))
 
--- a line of this kind stands behind a function of the current chain, and has at least one word more
+-- a line of this kind follows a function of the current chain, and has at least one more word
 abbrev pub of_function : List ChainPolicy → Line → Result (Unit {0}) TextFault
 of_function chains line = do
   _ ← demand (is_some (latest (functions_here chains))) (syntax_at line 0)
@@ -171,7 +171,7 @@ position_line chains line = do
   x ← named_at chains line 1
   Ok (add_statement chains (end_statement x line.number (word_at line 2)))
 
--- the policy so far with one line more, or the line's first fault
+-- the policy so far with one more line, or the line's first fault
 unfoldable pub after_line : List ChainPolicy → Line → Result (List ChainPolicy) TextFault
 after_line chains line =
     if bytes_eq (word_at line 0) (codes "chain") then chain_line chains line else
@@ -207,6 +207,6 @@ policy_of_utf8 text = do
   chains ← chains_of (lines_of text)
   Ok (record { chains = chains })
 
--- the same for any bytes: they have to be UTF-8 (RFC 3629), and the place from which on they aren't is told first
+-- the same for any bytes: they have to be UTF-8 (RFC 3629); if not, the first place that isn't is reported first
 unfoldable pub policy_of : List ℕ → Result Policy TextFault
 policy_of text = if utf8_valid_len text == length text then policy_of_utf8 text else Err (NotUtf8 (utf8_valid_len text))

@@ -9,13 +9,13 @@ pub record IsNarrow (read : Groups) : Type 0 where
   pub few : read.count ≤ 8
   pub narrow : read.value < 2 ^ (16 * read.count)
 
--- one group more in the lowest bits, where there is room for it
+-- one more group in the lowest bits, if there is room for it
 abbrev pub with_group : Groups → ℕ → Option Groups
 with_group read group = if nat_lt read.count 8 then Some (record { value = read.value * 65536 + group; count = read.count + 1 }) else None
 
 abbrev pub with_part : Groups → List ℕ → Option Groups
 with_part read part = option_and_then (with_group read) (group_of part)
 
--- groups as one number, where there are no more than eight
+-- groups as one number, if there are at most eight
 abbrev pub packed : List ℕ → Option Groups
 packed groups = if nat_le (length groups) 8 then Some (record { value = number_of_groups groups; count = length groups }) else None

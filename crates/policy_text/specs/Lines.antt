@@ -13,11 +13,11 @@ pub record Line : Type 0 where
   pub number : ℕ
   pub words : List PlacedWord
 
--- A text is cut into its first piece and the rest behind the byte that parts them, or it is all one piece.
+-- A text is its first piece and the rest after the byte that separates them, or it is one piece.
 abbrev pub IsCut : (ℕ → Bool) → List ℕ → List ℕ → List ℕ → Type 0
 IsCut parts text piece rest = (slice_split parts text ≡ piece ∷ slice_split parts rest) ⊎ ((slice_split parts text ≡ piece ∷ []) × (rest ≡ []))
 
--- the piece and the rest are no more bytes than the text, and fewer where one parts them
+-- the piece and the rest have at most the bytes of the text, and fewer if a byte separates them
 pub record IsShared (text piece rest : List ℕ) : Type 0 where
   pub piece_fits : length piece ≤ length text
   pub rest_fits : 0 < length rest → length piece + 1 + length rest ≡ length text
@@ -27,7 +27,7 @@ pub record IsShared (text piece rest : List ℕ) : Type 0 where
 abbrev pub is_line_feed : ℕ → Bool
 is_line_feed b = b == 10
 
--- spaces and tabs part words
+-- spaces and tabs separate words
 abbrev pub is_blank : ℕ → Bool
 is_blank b = (b == 32) || (b == 9)
 
@@ -39,7 +39,7 @@ is_comment_sign b = b == 35
 abbrev pub content : List ℕ → List ℕ
 content line = before_first is_comment_sign (strip_carriage_return line)
 
--- the pieces of a line, between which one blank stands, each with the column at which it begins
+-- the pieces of a line, separated by one blank each, each with the column at which it begins
 abbrev pub placed : ℕ → List (List ℕ) → List PlacedWord
 placed column [] = []
 placed column (piece ∷ pieces) = (record { column = column; text = piece }) ∷ placed (column + length piece + 1) pieces
@@ -48,7 +48,7 @@ placed column (piece ∷ pieces) = (record { column = column; text = piece }) �
 abbrev pub spoken : List PlacedWord → List PlacedWord
 spoken words = filter (λ w. nat_lt 0 (length w.text)) words
 
--- the words of a text that begins in this column: its pieces between blanks, but for the empty ones
+-- the words of a text that begins in this column: its pieces between blanks, without the empty ones
 abbrev pub words_from : ℕ → List ℕ → List PlacedWord
 words_from column text = spoken (placed column (slice_split is_blank text))
 
@@ -64,7 +64,7 @@ numbered number (line ∷ lines) = (record { number = number; words = words_of l
 abbrev pub telling : List Line → List Line
 telling lines = filter (λ l. nat_lt 0 (length l.words)) lines
 
--- the lines of a text whose first line has this number, but for the blank ones
+-- the lines of a text whose first line has this number, without the blank ones
 abbrev pub lines_from : ℕ → List ℕ → List Line
 lines_from number text = telling (numbered number (slice_split is_line_feed text))
 
@@ -82,6 +82,6 @@ word_at line k = (slice_index_or line.words k no_word).text
 abbrev pub end_of : PlacedWord → ℕ
 end_of w = w.column + length w.text
 
--- the column of the word at a place, or, where it is missing, one past the last word
+-- the column of the word at a place, or, if it is missing, one past the last word
 abbrev pub column_of : Line → ℕ → ℕ
 column_of line k = if nat_lt k (length line.words) then (slice_index_or line.words k no_word).column else end_of (slice_index_or line.words (length line.words - 1) no_word)

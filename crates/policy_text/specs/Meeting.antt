@@ -9,7 +9,7 @@ use Rattle.policy_text.specs.declared.seen.Seen.{Seen}
 use Rattle.policy_text.specs.declared.seen.TagSeen.{TagSeen}
 use Rattle.policy_text.specs.declared.seen.TagSeen.TheVariants.{Bare, Id}
 
--- the first bits of an address of this width, all of them where there are no more
+-- the first bits of an address of this width, all of them if there are no more
 abbrev pub first_bits : ℕ → ℕ → ℕ → ℕ
 first_bits width bits address = address / 2 ^ (width - bits)
 
@@ -32,7 +32,7 @@ abbrev pub is_bare : TagSeen → Bool
 is_bare Bare = true
 is_bare tag = false
 
--- A clause on an absent value isn't met: so a prefix of one version of IP isn't met by a packet of the other.
+-- A clause on an absent value isn't met: so a packet of one version of IP doesn't meet a prefix of the other.
 abbrev pub is_met : Seen → Clause → Bool
 is_met seen (Src prefix bits) = option_map_or (is_within prefix bits) seen.src false
 is_met seen (Dst prefix bits) = option_map_or (is_within prefix bits) seen.dst false

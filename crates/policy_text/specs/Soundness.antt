@@ -1,4 +1,4 @@
--- For proofs: what holds of every policy that a text writes.
+-- For proofs: what holds for every policy that a text writes.
 use Rattle.std.specs.Prelude.{◌≡◌, ◌≢◌, ◌<◌, ◌≤◌, ℕ, List, [], length, map, count_by, All, AllPairs, Bool, true, ◌||◌, slice_index_or, codes}
 use Rattle.std.specs.List.{flat_map}
 use Rattle.std.specs.Str.{bytes_eq}
@@ -10,14 +10,14 @@ use Rattle.policy_text.specs.declared.policy.Statement.TheVariants.{Order, Prior
 use Rattle.policy_text.specs.Grammar.{is_rule}
 use Rattle.policy_text.specs.Values.{is_name}
 
--- a statement speaks of these many functions, which are counted from 0
+-- a statement names functions below this number, counted from 0
 abbrev pub SpeaksOf : ℕ → Statement → Type 0
 SpeaksOf count (Order a b line) = (a < count) × (b < count)
 SpeaksOf count (Priority high low line) = (high < count) × (low < count)
 SpeaksOf count (First x line) = x < count
 SpeaksOf count (Last x line) = x < count
 
--- `set` or `rule`, and at least one word more
+-- `set` or `rule`, and at least one more word
 abbrev pub leads_setting : Setting → Bool
 leads_setting s = bytes_eq (slice_index_or s.words 0 []) (codes "set") || is_rule s
 

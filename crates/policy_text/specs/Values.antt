@@ -12,11 +12,11 @@ is_name_byte b = is_ascii_lowercase b || (is_ascii_digit b || ((b == 95) || (b =
 abbrev pub is_name : List ℕ → Bool
 is_name text = (nat_le 1 (length text) && nat_le (length text) 32) && (is_ascii_lowercase (slice_index text 0) && list_all is_name_byte text)
 
--- 1 to so many decimal digits
+-- 1 to this number of decimal digits
 abbrev pub is_numeral : ℕ → List ℕ → Bool
 is_numeral digits text = (nat_le 1 (length text) && nat_le (length text) digits) && list_all is_ascii_digit text
 
--- the number of such a numeral, up to a greatest; zeros may lead
+-- the number of such a numeral, up to a greatest; leading zeros are allowed
 abbrev pub number_of : ℕ → ℕ → List ℕ → Option ℕ
 number_of digits greatest text = if is_numeral digits text && nat_le (digits_value 10 text) greatest then Some (digits_value 10 text) else None
 
@@ -26,7 +26,7 @@ octets_of a b c d =
     option_and_then (λ a. option_and_then (λ b. option_and_then (λ c. option_map (λ d. ((a * 256 + b) * 256 + c) * 256 + d)
     (number_of 3 255 d)) (number_of 3 255 c)) (number_of 3 255 b)) (number_of 3 255 a)
 
--- parted by dots
+-- separated by dots
 abbrev pub address_of_parts : List (List ℕ) → Option ℕ
 address_of_parts (a ∷ b ∷ c ∷ d ∷ []) = octets_of a b c d
 address_of_parts parts = None

@@ -9,7 +9,7 @@ use Rattle.ruled_links.specs.Rule.{knowledge, closed, spent, Knows, IsOpen, IsLi
 use Rattle.ruled_links.proofs.Places.{at_set, at_end, at_first, at_only}
 
 module _ {T : Type 0} where
-  -- of the pass of each number
+  -- for the pass of each number
   abbrev Each : (ℕ → Knowledge T → Type 0) → List (Knowledge T) → Type 0
   Each F views = (pass : ℕ) (v : Knowledge T) → get_elem? views pass ≡ some v → F pass v
 
@@ -17,7 +17,7 @@ module _ {T : Type 0} where
   each_set F views pass w mine others j u e = ⊎_elim (λ (x : (j ≡ pass) × (w ≡ u)). subst (λ (y : ℕ × Knowledge T). F y.0 y.1) (λ i. (sym x.0 i, x.1 i)) mine)
       (λ (x : (j ≢ pass) × (get_elem? views j ≡ some u)). others j u x.0 x.1) (at_set views pass j w u e)
 
-  -- an end that is gone owes nothing
+  -- nothing is due from an end that was dropped
   spent_knows : (putter taker : ℕ) (due put taken : List T) (pass : ℕ) → Knows putter taker due put taken pass spent
   spent_knows putter taker due put taken pass = record { opened = refl; puts = λ p. absurd (true≢false (sym p)); takes = λ p. absurd (true≢false (sym p)) }
 
@@ -126,7 +126,7 @@ module _ {T : Type 0} where
           ),
         )
 
-    -- both ends are in one hand
+    -- both ends have one owner
     pub joins : (pass : ℕ) (v : Knowledge T) (other : ℕ) (u : Knowledge T) → v.opened ≡ true → v.puts ≡ true → u.takes ≡ true
         → Merges (IsLink fits) pass v other u (knowledge true true true v.due v.put u.taken) spent
     joins pass v other u o a b items views h at two at' =

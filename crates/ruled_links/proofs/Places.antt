@@ -1,4 +1,4 @@
--- What stands at a place of a list that was lengthened or changed at one place.
+-- What is at a place of a list that was lengthened or changed at one place.
 use Rattle.std.proofs.Common.{◌≡◌, ◌≢◌, ℕ, zero, suc, List, [], ◌∷◌, ◌++◌, ◌⊎◌, length, set, sym, refl, ap, ◌∙◌, inl, inr, ⊎_elim, arith}
 use mathlib.Core.Option.{some, some-ne-none, some-injective}
 use lib.ListN.{get_elem?}
@@ -11,7 +11,7 @@ module _ {A : Type 0} where
   at_set (x ∷ xs) (suc i) zero a b e = inr ((λ h. omega arith), e)
   at_set (x ∷ xs) (suc i) (suc j) a b e = ⊎_elim (λ t. inl (ap suc t.0, t.1)) (λ t. let n = t.0 in inr ((λ h. n (omega arith)), t.1)) (at_set xs i j a b e)
 
-  -- behind the list, or in it
+  -- after the list, or in it
   pub at_end : (l : List A) (a b : A) (j : ℕ) → get_elem? (l ++ a ∷ []) j ≡ some b → (get_elem? l j ≡ some b) ⊎ ((j ≡ length l) × (a ≡ b))
   at_end [] a b zero e = inr (refl, some-injective a b e)
   at_end [] a b (suc j) e = absurd (some-ne-none b (sym e))

@@ -20,7 +20,7 @@ another_number f = absurd (omega (arith, some-injective 6 f.0 f.1, f.2))
 none_is_due : FitsAt Equal five_six 2 7 → ⊥
 none_is_due f = some-ne-none f.0 (sym f.1)
 
--- what the ends know where both numbers were put and these were taken
+-- what the ends know after both numbers were put and these were taken
 abbrev after : List ℕ → List (Knowledge ℕ)
 after taken = knowledge true true false five_six five_six [] ∷ knowledge true false true five_six [] taken ∷ []
 

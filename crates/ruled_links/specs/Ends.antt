@@ -8,14 +8,14 @@ use Rattle.ruled_links.specs.declared.rule.Knowledge.{Knowledge}
 abbrev pub LinkId : Type 0
 LinkId = TableId
 
--- into which messages are put: so many at most
+-- messages are put into it, at most this number at a time
 pub record PutEnd (T : Type 0) : Type 0 where
   pub link : LinkId
   pub capacity : ℕ
   pub due : List T
   pub put : List T
 
--- from which messages are taken
+-- messages are taken from it
 pub record TakeEnd (T : Type 0) : Type 0 where
   pub link : LinkId
   pub due : List T

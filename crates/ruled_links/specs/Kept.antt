@@ -7,7 +7,7 @@ use Rattle.ruled_links.specs.declared.rule.Knowledge.{Knowledge}
 use Rattle.ruled_links.specs.Ends.{known}
 
 module _ {T Q A : Type 0} (queue : Slotted (Option T) (Doing T (Knowledge T)) Q A) (pass : Pass T (Knowledge T)) where
-  -- the pass is the queue's, and puts; the queue has the room that was asked for, and the count is that of what was put
+  -- the pass is the queue's, and puts; the queue has the requested room, and the count is that of the messages put
   pub record IsPutting (capacity count : ℕ) : Type 0 where
     pub own : IsPassOf queue pass
     pub opened : (known pass).opened ≡ true
@@ -17,7 +17,7 @@ module _ {T Q A : Type 0} (queue : Slotted (Option T) (Doing T (Knowledge T)) Q 
     pub within : count ≤ capacity
     pub few : capacity < 2 ^ 32
 
-  -- the pass is the queue's, and takes; the count is that of what was taken
+  -- the pass is the queue's, and takes; the count is that of the messages taken
   pub record IsTaking (count : ℕ) : Type 0 where
     pub own : IsPassOf queue pass
     pub opened : (known pass).opened ≡ true

@@ -8,24 +8,24 @@ use Rattle.ruled_links.specs.declared.rule.Knowledge.{Knowledge}
 abbrev pub knowledge : {T : Type 0} → Bool → Bool → Bool → List T → List T → List T → Knowledge T
 knowledge o p t due put taken = record { opened = o; puts = p; takes = t; due = due; put = put; taken = taken }
 
--- of a link without ends: nothing was put, and it isn't said yet what is due
+-- for a link without ends: nothing was put, and it is still open what is due
 abbrev pub closed : {T : Type 0} → Knowledge T
 closed = knowledge false false false [] [] []
 
--- of an end that is gone: it puts and takes nothing more
+-- for an end that was dropped: it puts and takes nothing more
 abbrev pub spent : {T : Type 0} → Knowledge T
 spent = knowledge true false false [] [] []
 
--- What the pass of this number knows. Only the pass `putter` puts, and knows all that was put; only the pass `taker` takes, and knows
--- all that was taken; each of them knows what is due.
+-- What the pass of this number knows. Only the pass `putter` puts, and knows all that was put; only the pass `taker`
+-- takes, and knows all that was taken; each of them knows what is due.
 pub record Knows {T : Type 0} (putter taker : ℕ) (owed sent got : List T) (pass : ℕ) (v : Knowledge T) : Type 0 where
   pub opened : v.opened ≡ true
   pub puts : v.puts ≡ true → (pass ≡ putter) × (v.due ≡ owed) × (v.put ≡ sent)
   pub takes : v.takes ≡ true → (pass ≡ taker) × (v.due ≡ owed) × (v.taken ≡ got)
 
 module _ {T : Type 0} (fits : T → T → Type 0) where
-  -- A link with its ends: what was put is what was taken and then what the link holds, and each message that was put fits the due one
-  -- of its place.
+  -- A link with its ends: what was put is what was taken and then what the link holds, and each message that was put
+  -- fits the due one of its place.
   pub record IsOpen (items : List T) (views : List (Knowledge T)) : Type 0 where
     pub putter : ℕ
     pub taker : ℕ

@@ -25,7 +25,7 @@ use Rattle.segment_run.proofs.CopiesInRow.{copies_of_one}
 use Rattle.segment_run.proofs.Raising.{none_raised}
 
 module _ {F : Type 0} (b : Behaviour F) (packets : List Packet) where
-  -- fates that are those of the way lie within the chain
+  -- fates that are those of the walk lie within the chain
   fates_within : (pieces : List (Piece F)) (ended : List Fate) → ended ≡ long_fates b pieces packets → All (EndsWithin (functions_count pieces)) ended
   fates_within pieces ended is = subst (All (EndsWithin (functions_count pieces))) (sym is) (all_within b pieces packets)
 

@@ -1,4 +1,4 @@
--- The copies that packets make in a row, and through some pieces and those behind.
+-- The copies that packets make in a row, and through some pieces and those after.
 use Rattle.std.proofs.Common.{◌≡◌, ◌∙◌, ◌+◌, ℕ, List, [], ◌∷◌, ◌++◌, ap, refl, sym, arith}
 use Rattle.std.specs.List.{sum_by, zip}
 use Rattle.std.proofs.lemmas.List.Sums.{sum_by-cons}
@@ -61,7 +61,7 @@ module _ {F : Type 0} (b : Behaviour F) (f : Field) where
       (by_in_a_row piece first later) (ap (λ ps. copies_through b rest ps f) (handed_on_in_a_row b piece first later) ∙ in_a_row rest here there)
       (ap (λ pieces. copies_through b pieces later f) (pieces_by_piece b piece rest first))
 
-  -- through some pieces and those behind
+  -- through some pieces and those after
   copies_behind : (pieces later : List (Piece F)) (ps : List Packet) → copies_through b (pieces ++ later) ps f ≡ copies_through b pieces ps f + copies_through b later (still_going ps (long_fates b pieces ps)) f
   unfolding copies_through
   copies_behind [] later ps = none_before (copies_through b later ps f) (copies_through b later (still_going ps (long_fates b [] ps)) f) (ap (λ qs. copies_through b later qs f) (sym (no_piece_goes b ps)))

@@ -1,4 +1,4 @@
--- One piece more: an end of a tunnel rewrites the frames that go out where they are, and a graph is entered by them.
+-- One more piece: an end of a tunnel rewrites the frames that go out in place, and a graph is entered by them.
 use Rattle.std.proofs.Common.{◌≡◌, ◌∙◌, ℕ, List, [], ◌∷◌, length, map, ap, refl, sym, subst, arith}
 use Rattle.std.specs.Prelude.{OnErr, Result, Ok, Err}
 use Rattle.chain_walk.specs.Packets.{Packet}
@@ -20,7 +20,7 @@ use Rattle.segment_run.specs.declared.piece.Piece.{Piece as RunningPiece}
 use Rattle.segment_run.specs.declared.piece.Piece.TheVariants as running
 use Rattle.segment_run.proofs.Alone.{whole_goes}
 
--- where each packet has its fate, those that go out come back in their places
+-- if each packet has its fate, those that go out come back in their places
 rewritten_back : (by : List ℕ → List ℕ) (before : ℕ) (packets : List Packet) (so_far : List Fate) → length so_far ≡ length packets →
     put_back so_far (map (moved before) (map (out_of by) (still_going packets so_far))) ≡ map (out_by by) so_far
 unfolding put_back still_going
@@ -30,7 +30,7 @@ rewritten_back by before (p ∷ packets) [] same = refl
 rewritten_back by before (p ∷ packets) (Out frame ∷ so_far) same = ap (λ l. Out (by frame) ∷ l) (rewritten_back by before packets so_far (omega arith))
 rewritten_back by before (p ∷ packets) (Gone position ∷ so_far) same = ap (λ l. Gone position ∷ l) (rewritten_back by before packets so_far (omega arith))
 
--- the frames of those that go on don't matter where their later fates are put back
+-- the frames of those that go on don't matter if their later fates are put back
 back_without_frames : (so_far later : List Fate) → put_back (map without_frame so_far) later ≡ put_back so_far later
 unfolding put_back
 back_without_frames [] later = refl
@@ -38,13 +38,13 @@ back_without_frames (Gone position ∷ so_far) later = ap (λ l. Gone position �
 back_without_frames (Out frame ∷ so_far) [] = refl
 back_without_frames (Out frame ∷ so_far) (fate ∷ later) = ap (λ l. fate ∷ l) (back_without_frames so_far later)
 
--- what stands whatever the answer is
+-- what holds whatever the answer is
 pub err_always : {T E : Type 0} (r : Result T E) (P : Type 0) → P → OnErr r P
 err_always (Ok x) P p = tt
 err_always (Err e) P p = p
 
 module _ {F : Type 0} (b : Behaviour F) (packets : List Packet) (before : ℕ) (so_far : List Fate) where
-  -- those that go on were led through the piece alone
+  -- those that go on ran through the piece alone
   pub alone_goes_on : (piece after : Piece F) (going : List Packet) (stays fates ended : List Fate) (old new : List ℕ) → stays ≡ map without_frame so_far → going ≡ still_going packets so_far →
       GoesThrough b (piece ∷ []) going old new (after ∷ []) fates → ended ≡ put_back stays (map (moved before) fates) → GoesOn b piece packets before so_far old new after ended
   alone_goes_on piece after going stays fates ended old new blank is goes put = record {

@@ -1,4 +1,4 @@
--- What is led through one piece, told of the items of a burst.
+-- What runs through one piece, stated for the items of a burst.
 use Rattle.std.proofs.Common.{◌≡◌, ◌≢◌, ◌≤◌, ◌∙◌, ◌+◌, ℕ, Bool, true, false, List, [], ◌∷◌, length, map, ap, refl, sym, subst, arith}
 use Rattle.std.specs.Prelude.{All, OnErr, Result, Ok, Err}
 use Rattle.capture_bytes.specs.declared.packet.Unit.{Unit as TimeUnit}
@@ -49,7 +49,7 @@ module _ {F : Type 0} (b : Behaviour F) (packets : List Packet) (piece : Running
       GoesThrough b (piece_of piece ∷ []) packets old old (Whole (decapsulated tunnel) ∷ []) ended
   exit_goes tunnel is goes = subst (λ p. GoesThrough b (piece_of p ∷ []) packets old old (Whole (decapsulated tunnel) ∷ []) ended) (sym is) goes
 
--- what holds whatever a result is, holds of a refusal
+-- what holds whatever a result is, holds for a refusal
 pub on_any_err : {T E P : Type 0} (r : Result T E) → P → OnErr r P
 on_any_err (Ok _) p = tt
 on_any_err (Err _) p = p

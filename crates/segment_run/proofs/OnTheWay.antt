@@ -1,4 +1,4 @@
--- Packets on their way: they went through some pieces, and the others are left.
+-- Packets on their way: they went through some pieces, and the others remain.
 use Rattle.std.proofs.Common.{◌≡◌, ◌≤◌, ◌∙◌, ◌+◌, ℕ, List, [], ◌∷◌, ◌++◌, length, map, ap, refl, sym, subst, append_assoc, arith}
 use Rattle.std.specs.Prelude.{All}
 use Rattle.std.proofs.lemmas.List.Sums.{sum_by-append, sum_by-cons}
@@ -19,7 +19,7 @@ use Rattle.segment_run.specs.Segments.{GoesOn, GoesThrough, functions_count}
 use Rattle.segment_run.proofs.CopiesInRow.{copies_through_both}
 use Rattle.segment_run.proofs.Raising.{all_made, raises_bounded, raises_more}
 
--- The packets went through the pieces in front, which are left so, and others are left.
+-- The packets went through the pieces in front, which are left so, and others remain.
 pub record IsOnTheWay {F : Type 0} (b : Behaviour F) (pieces : List (Piece F)) (packets : List Packet) (old new : List ℕ) (left : List (Piece F)) (done : List (Piece F)) (ended : List Fate) (before : ℕ) : Type 0 where
   pub front : List (Piece F)
   pub row : pieces ≡ front ++ left
@@ -77,14 +77,14 @@ module _ {F : Type 0} (b : Behaviour F) (packets : List Packet) where
   pub way_counts : (pieces left done : List (Piece F)) (old new : List ℕ) (ended : List Fate) (before : ℕ) → IsOnTheWay b pieces packets old new left done ended before → length ended ≡ length packets
   way_counts pieces left done old new ended before at = ap length at.goes.fates ∙ count_of_fates b at.front packets
 
-  -- what the pieces in front make is within what all make
+  -- the copies of the pieces in front are within those of all
   front_copies : (pieces front left : List (Piece F)) (f : Field) → pieces ≡ front ++ left → copies_through b front packets f ≤ copies_through b pieces packets f
   front_copies pieces front left f row =
       let both : copies_through b pieces packets f ≡ copies_through b front packets f + copies_through b left (still_going packets (long_fates b front packets)) f =
       ap (λ l. copies_through b l packets f) row ∙ copies_through_both b front left packets f in
       omega (arith, both)
 
-  -- nothing more was made than all make
+  -- no more was made than all make
   pub way_within : (pieces left done : List (Piece F)) (old new : List ℕ) (ended : List Fate) (before : ℕ) → IsOnTheWay b pieces packets old new left done ended before → RaisesUpTo (copies_through b pieces packets) old new
   way_within pieces left done old new ended before at =
       all_made (copies_through b at.front packets) (copies_through b pieces packets) old new (λ f. front_copies pieces at.front left f at.row) at.goes.counted

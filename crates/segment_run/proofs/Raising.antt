@@ -1,4 +1,4 @@
--- Counts that rise once, and once more.
+-- Counts that rise once, and again.
 use Rattle.std.proofs.Common.{◌≡◌, ◌≤◌, ◌+◌, ℕ, List, arith}
 use Rattle.packet_fields.specs.declared.field.Field.{Field}
 use Rattle.packet_version.specs.Tallies.{count_of, raised}

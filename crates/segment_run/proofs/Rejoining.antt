@@ -22,7 +22,7 @@ pub put_none : (before : ℕ) (frame : List ℕ) (rest later later' : List Fate)
 unfolding put_back
 put_none before frame rest later later' none = ap (λ l. put_back (Out frame ∷ rest) (map (moved before) l)) none
 
--- the next of the later fates, if there is one, stands for a packet that went on
+-- the next of the later fates, if there is one, belongs to a packet that went on
 put_over : (before : ℕ) (frame : List ℕ) (rest later later' : List Fate) (put : Option Fate) → map (moved before) later ≡ option_to_list put ++ map (moved before) later' → (put ≡ None → later ≡ []) →
     put_back (Out frame ∷ rest) (map (moved before) later) ≡ then_put put (put_back rest (map (moved before) later'))
 unfolding put_back

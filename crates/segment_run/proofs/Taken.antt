@@ -51,14 +51,14 @@ module _ (unit : TimeUnit) (chain : ℕ) where
   none_sealed [] = refl
   none_sealed (p ∷ ps) = refl
 
-  -- where there is no more fate
+  -- if there is no more fate
   pub seals_none : (all : List Fate) (item : Item) (left left' : List Fate) (later : List Item) → left ≡ [] → left' ≡ [] →
       all ++ sealed_fates (packets_taken unit chain later) left' ≡ all ++ sealed_fates (packets_taken unit chain (item ∷ later)) left
   seals_none all item left left' later none none' =
       ap (λ l. all ++ l) (ap (sealed_fates (packets_taken unit chain later)) none' ∙ none_sealed (packets_taken unit chain later)
       ∙ sym (ap (sealed_fates (packets_taken unit chain (item ∷ later))) none ∙ none_sealed (packets_taken unit chain (item ∷ later))))
 
--- the items from the one that is looked at on
+-- the items from the current one on
 pub next_item : (items : List Item) (i : ℕ) (d : Item) → i < length items → drop i items ≡ slice_index_or items i d ∷ drop (i + 1) items
 next_item items i d inside = drop_more items i d inside
 
@@ -71,7 +71,7 @@ loop_goes_on items i item due total s s' inside is step before =
 pub loop_ends : {S X : Type 0} (items : List Item) (i : ℕ) (due : List Item → S → List X) (total : List X) (s : S) → length items ≤ i → due (drop i items) s ≡ total → due [] s ≡ total
 loop_ends items i due total s over is = ap (λ l. due l s) (sym (drop_all i items over)) ∙ is
 
--- nothing is due of no packets
+-- nothing is due for no packets
 pub rewritten_ends : (by : List ℕ → List ℕ) (unit : TimeUnit) (chain : ℕ) (items : List Item) (i : ℕ) (fates total : List Fate) → length items ≤ i → fates ++ map (out_of by) (packets_taken unit chain (drop i items)) ≡ total → fates ≡ total
 rewritten_ends by unit chain items i fates total over is =
     sym (append-nil fates) ∙ loop_ends items i (λ later (made : List Fate). made ++ map (out_of by) (packets_taken unit chain later)) total fates over is

@@ -1,4 +1,4 @@
--- The loop that leads packets through the pieces of a chain, one after another: what holds at each turn.
+-- The loop that runs packets through the pieces of a chain, one after another: what holds at each turn.
 use Rattle.std.proofs.Common.{◌≡◌, ◌≤◌, ◌∙◌, ◌+◌, ℕ, List, [], ◌∷◌, ◌++◌, Result, Ok, Err, length, ap, refl, sym, subst, arith}
 use Rattle.std.specs.Prelude.{OnErr}
 use Rattle.std.proofs.lemmas.List.{map_push}
@@ -18,7 +18,7 @@ use Rattle.segment_run.proofs.CopiesInRow.{copies_through_both}
 use Rattle.segment_run.proofs.OnTheWay.{IsOnTheWay, way_begins, way_ends, way_goes_on, way_refused, way_within}
 use Rattle.segment_run.proofs.Raising.{all_made, raises_within}
 
--- what holds anyway holds on an error
+-- what always holds also holds on an error
 pub on_err : {T E : Type 0} (r : Result T E) (P : Type 0) → P → OnErr r P
 on_err (Ok x) P p = tt
 on_err (Err e) P p = p
@@ -49,7 +49,7 @@ module _ {F : Type 0} (b : Behaviour F) (packets : List Packet) where
       way_begins b packets (piece_of first ∷ pieces_of rest) (pieces_of rest') (pieces_of done) (piece_of first) old new ended before (ap (λ (l : List (RunningPiece F)). piece_of first ∷ pieces_of l) (sym same)) count
       (subst (λ l. GoesThrough b (piece_of first ∷ []) packets old new l ended) (sym done_is) goes)
 
-  -- the pieces that are left
+  -- the remaining pieces
   pub through_goes_on : (pieces : List (Piece F)) (items items' done done' : List (RunningPiece F)) (piece after : RunningPiece F) (old new newer : List ℕ) (so_far ended : List Fate) (before count : ℕ) →
       IsOnTheWay b pieces packets old new (pieces_of items) (pieces_of done) so_far before → items ≡ piece ∷ items' → count ≡ count_of (piece_of piece) → done' ≡ done ++ after ∷ [] →
       GoesOn b (piece_of piece) packets before so_far new newer (piece_of after) ended → IsOnTheWay b pieces packets old newer (pieces_of items') (pieces_of done') ended (before + count)

@@ -1,4 +1,4 @@
--- For proofs: words of net_functions, for the crates above.
+-- For proofs: names of net_functions, for the higher crates.
 pub use Rattle.net_functions.specs.NetFunctionLaws.{net_keeps}
 pub use Rattle.net_functions.specs.NetNotes.{net_counts, net_notes}
 unfoldable pub use Rattle.net_functions.specs.StateRows.{rows_of}

@@ -1,4 +1,4 @@
--- What stands at a chain's place among what is led chain by chain.
+-- What is at a chain's place among the results of the chains.
 use Rattle.std.proofs.Common.{◌≡◌, ◌∙◌, ◌<◌, ◌+◌, ℕ, zero, suc, List, [], ◌∷◌, length, ap, refl, sym, arith, ext_get_or}
 use Rattle.piece_walk.specs.PiecePackets.{long_fates, pieces_after}
 use Rattle.piece_walk.specs.Pieces.{Piece}
@@ -46,7 +46,7 @@ module _ {F : Type 0} (b : Behaviour F) (xs : List Classed) where
   after_at chains chain lt =
       let here : 0 + chain ≡ chain = omega arith in after_from 0 chains chain lt ∙ ap (λ (number : ℕ). pieces_after b (at_chain chains chain) (packets_in number xs)) here
 
-  -- chains one after another are left as by the packets in their order
+  -- packets, chain after chain, leave the chains as packets in their order do
   pub each_apart : (chains : List (List (Piece F))) → each_after b xs 0 chains ≡ chains_after b chains xs
   each_apart chains =
       let many = length_each_after 0 chains in

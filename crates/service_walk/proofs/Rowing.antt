@@ -1,4 +1,4 @@
--- Packets in a row: what the first leave, the later find.
+-- Packets in a row: the later ones find the state that the first leave.
 use Rattle.std.proofs.Common.{◌≡◌, ◌∙◌, List, [], ◌∷◌, ◌++◌, None, ap, refl}
 use Rattle.chain_walk.specs.Step.{Behaviour}
 use Rattle.piece_walk.specs.Pieces.{Piece}

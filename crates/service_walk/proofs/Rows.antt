@@ -48,7 +48,7 @@ ended = Out (10 ∷ []) ∷ Out (11 ∷ []) ∷ Out (12 ∷ []) ∷ Gone 1 ∷ [
 abbrev ended_apart : List (List Fate)
 ended_apart = (Out (12 ∷ []) ∷ []) ∷ (Out (10 ∷ []) ∷ Gone 1 ∷ []) ∷ []
 
--- the second chain's first function drops its second packet, and the function behind it never sees it
+-- the second chain's first function drops its second packet, and the function after it never sees it
 fates_row : fates_among counting chains packets ≡ ended
 unfolding fates_among long walk written_in has_same_places is_ipv4 is_ipv6
 fates_row = refl

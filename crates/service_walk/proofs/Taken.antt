@@ -1,4 +1,4 @@
--- What one packet leaves: of the chain that takes it, and of each other.
+-- What one packet leaves: in the chain that takes it, and in each other.
 use Rattle.std.proofs.Common.{◌≡◌, ◌∙◌, ◌==◌, ℕ, Bool, true, false, true≢false, cond, List, [], ◌∷◌, length, map, filter, zip, Option, Some, None, ap, refl, sym, length-set, get_or-set_other, eqb-true}
 use Rattle.std.proofs.lemmas.Bool.{eqb-false}
 use Rattle.std.specs.Option.{option_map_or}

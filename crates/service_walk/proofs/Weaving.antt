@@ -14,7 +14,7 @@ use Rattle.service_walk.proofs.Each.{length_each_fates, fates_at}
 use Rattle.service_walk.proofs.Nowhere.{went_nowhere}
 use Rattle.service_walk.proofs.Taken.{packets_taken, packets_passed, length_served}
 
--- The fates that are left of each of so many chains are those of the packets to come.
+-- For each of this number of chains the fates that are left are those of the packets to come.
 record AreLeft {F : Type 0} (b : Behaviour F) (many : ℕ) (chains : List (List (Piece F))) (xs : List Classed) (rows : List (List Fate)) : Type 0 where
   as_many_chains : length chains ≡ many
   as_many_rows : length rows ≡ many
@@ -34,7 +34,7 @@ module _ {F : Type 0} (b : Behaviour F) (many : ℕ) (chains : List (List (Piece
   unfolding long_fates
   front chain p lt h = h.each chain lt ∙ ap (long_fates b (at_chain chains chain)) (packets_taken chain (of_class (Some chain) p) xs (eq-eqb chain chain refl))
 
-  -- the packet's fate stands first in its chain's
+  -- the packet's fate is first in its chain's
   next : (class : Option ℕ) (p : Packet) → AreLeft b many chains (of_class class p ∷ xs) rows →
       fate_of (of_class class p) (next_fate rows class) ≡ (served b chains class p).fate
   next None p h = refl
@@ -43,7 +43,7 @@ module _ {F : Type 0} (b : Behaviour F) (many : ℕ) (chains : List (List (Piece
       (λ le. ap (λ (row : List Fate). fate_of (of_class (Some chain) p) (slice_get row 0)) (get_or_past rows chain [] (omega arith)) ∙ sym (ap (λ (w : Went F). w.fate) (went_nowhere b chains chain p (omega arith))))
       (cases_lt chain many)
 
-  -- what is left of its chain's is what is to come
+  -- what is left of its chain's fates is what is to come
   here : (chain : ℕ) (p : Packet) → chain < many → AreLeft b many chains (of_class (Some chain) p ∷ xs) rows →
       at_chain (fates_left rows (Some chain)) chain ≡ long_fates b (at_chain (served b chains (Some chain) p).chains chain) (packets_in chain xs)
   here chain p lt h =
@@ -51,7 +51,7 @@ module _ {F : Type 0} (b : Behaviour F) (many : ℕ) (chains : List (List (Piece
       ∙ ap (drop 1) (front chain p lt h)
       ∙ sym (ap (λ (functions : List (Piece F)). long_fates b functions (packets_in chain xs)) (get_or-set_same chains chain (walked chain p).pieces [] (omega arith)))
 
-  -- and nothing is taken of another chain's
+  -- and nothing is taken from another chain's
   other : (chain : ℕ) (p : Packet) (c : ℕ) → c < many → (chain == c) ≡ false → AreLeft b many chains (of_class (Some chain) p ∷ xs) rows →
       at_chain (fates_left rows (Some chain)) c ≡ long_fates b (at_chain (served b chains (Some chain) p).chains c) (packets_in c xs)
   other chain p c lt e h =

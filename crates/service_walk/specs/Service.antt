@@ -1,5 +1,5 @@
--- Believed: the packets of a capture among several chains: each goes through the pieces of the chain that takes it, as the packet before left
--- them, and one that no chain takes passes as it is.
+-- Believed: the packets of a capture among several chains: each goes through the pieces of the chain that takes it,
+-- as the packet before left them; a packet that no chain takes passes unchanged.
 use Rattle.std.specs.Prelude.{ℕ, List, [], ◌∷◌, map, filter, Bool, false, ◌==◌, slice_index_or, slice_set, Option, Some, None}
 use Rattle.std.specs.List.{zip}
 use Rattle.std.specs.Option.{option_map_or}
@@ -14,12 +14,12 @@ pub record Classed : Type 0 where
   pub class : Option ℕ
   pub packet : Packet
 
--- Where a packet ended, and the pieces of each chain as it left them.
+-- Where a packet ended, and the state in which it left the pieces of each chain.
 pub record Served (F : Type 0) : Type 0 where
   pub chains : List (List (Piece F))
   pub fate : Fate
 
--- what stands at a chain's place; nothing where there is no such chain
+-- the item at a chain's place; nothing if there is no such chain
 abbrev pub at_chain : {X : Type 0} → List (List X) → ℕ → List X
 at_chain rows chain = slice_index_or rows chain []
 
@@ -37,7 +37,7 @@ unfoldable pub fates_among : {F : Type 0} → Behaviour F → List (List (Piece 
 fates_among b chains [] = []
 fates_among b chains (x ∷ xs) = (served b chains x.class x.packet).fate ∷ fates_among b (served b chains x.class x.packet).chains xs
 
--- the pieces of each chain as the last packet left them
+-- the pieces of each chain in the state in which the last packet left them
 unfoldable pub chains_after : {F : Type 0} → Behaviour F → List (List (Piece F)) → List Classed → List (List (Piece F))
 chains_after b chains [] = chains
 chains_after b chains (x ∷ xs) = chains_after b (served b chains x.class x.packet).chains xs

@@ -31,7 +31,7 @@ unfolding row_listed
 row_of_none packet index None listed never = sym (append-nil listed)
 row_of_none packet index (Some n) listed never = absurd (never n refl)
 
--- a function in its place, and none
+-- a function at its place, and none
 got : {F : Type 0} (fs : List F) (i : ℕ) (d : F) → i < length fs → slice_get fs i ≡ Some (get_or fs i d)
 got [] i d inside = absurd (omega arith)
 got (f ∷ fs) zero d inside = refl
@@ -42,7 +42,7 @@ none_got [] i past = refl
 none_got (f ∷ fs) zero past = absurd (omega arith)
 none_got (f ∷ fs) (suc i) past = none_got fs i (omega arith)
 
--- a note that isn't left is settled where its function is
+-- a note that isn't skipped is settled at its function's place
 not_left : {F N : Type 0} (notes : Notes F N) (positions : List ℕ) (ends : List Message) (fs : List F) (o : OwnNote N) (position : ℕ) (dropped : Bool) → position ≡ slice_index_or positions o.index 0 → dropped ≡ lost_before (slice_index_or ends o.packet (Lost 0)) position → dropped ≡ false →
     settled_one notes positions ends fs o ≡ settled_at notes o (slice_get fs o.index) fs
 not_left notes positions ends fs o position dropped at is not = ap (λ t. if t then fs else settled_at notes o (slice_get fs o.index) fs) (sym (sym not ∙ is ∙ ap (lost_before (slice_index_or ends o.packet (Lost 0))) at))

@@ -10,6 +10,6 @@ abbrev pub dropped_before : Fate → ℕ → Bool
 dropped_before (Out frame) q = false
 dropped_before (Gone p) q = nat_lt p q
 
--- these fates tell before which positions each packet was dropped, as these ends do
+-- these fates say before which positions each packet was dropped, as these ends do
 abbrev pub TellDrops : List Fate → List Message → Type 0
 TellDrops fates ends = (k q : ℕ) → dropped_before (slice_index_or fates k (Gone 0)) q ≡ lost_before (slice_index_or ends k (Lost 0)) q

@@ -41,7 +41,7 @@ branch_front k may step p short f inlet outlets r =
 pub version_due : {F : Type 0} (k : Kit F) (may : F → ℕ → PlainVersion → Type 0) (step p : ℕ) (short : Bool) (f : F) (inlet : List (PlainMessage PlainVersion)) (outlets : List (List (PlainMessage PlainVersion))) → BranchReady k may step p short f inlet outlets → Owing inlet
 version_due k may step p short f inlet outlets r = let m = r.2.many in omega arith
 
--- what came it may take
+-- it may take what arrived
 pub may_next : {F : Type 0} (k : Kit F) (may : F → ℕ → PlainVersion → Type 0) (step p : ℕ) (short : Bool) (f : F) (inlet : List (PlainMessage PlainVersion)) (outlets : List (List (PlainMessage PlainVersion))) (message : PlainMessage PlainVersion)
     → BranchReady k may step p short f inlet outlets → Fits (first inlet) message → short ≡ false → MayTake may f p message
 may_next k may step p short f inlet outlets message r (inr e) w = subst (MayTake may f p) (sym e) tt
@@ -51,7 +51,7 @@ may_next k may step p short f inlet outlets message r (inl e) w =
     let here = (take_first k may step d.now p b.head b.tail (subst (MayTakeEach k may step d.now p) b.is d.take)).0 in
     subst (λ g. MayTake may g p message) (sym (d.same w)) (subst (MayTake may d.now p) (sym (e ∙ ap first b.is)) here)
 
--- what it answers fits
+-- its answer fits
 pub branch_fits : {F : Type 0} (k : Kit F) (may : F → ℕ → PlainVersion → Type 0) (step p : ℕ) (short : Bool) (f : F) {f' : F} (inlet : List (PlainMessage PlainVersion)) (outlets : List (List (PlainMessage PlainVersion))) (message reply : PlainMessage PlainVersion)
     → BranchReady k may step p short f inlet outlets → Fits (first inlet) message
     → (is_short reply ≡ false → (short ≡ false) × (is_short message ≡ false) × (reply ≡ gave k f message) × (f' ≡ moved k f message))
@@ -104,7 +104,7 @@ branch_over k may step p end short f (x ∷ xs) outlets d w = absurd (let m = d.
 
 -- over a count of versions
 
--- one version at least is to come
+-- at least one version is to come
 pub branch_some : {F : Type 0} (k : Kit F) (may : F → ℕ → PlainVersion → Type 0) (step p count : ℕ) (end : F) (short : Bool) (f : F) (inlet : List (PlainMessage PlainVersion)) (outlets : List (List (PlainMessage PlainVersion))) → count ≢ 0
     → BranchDue k may step p count end short f inlet outlets → BranchDue k may step p (suc (count - 1)) end short f inlet outlets
 branch_some k may step p count end short f inlet outlets ne d = subst (λ n. BranchDue k may step p n end short f inlet outlets) (some_more count ne) d
@@ -114,14 +114,14 @@ pub branch_end : {F : Type 0} (k : Kit F) (may : F → ℕ → PlainVersion → 
     → BranchDue k may step p count end short f inlet outlets → short ≡ false → end ≡ left k f inlet
 branch_end k may step p count end short f inlet outlets d w = sym (ap (λ g. left k g inlet) (d.same w) ∙ d.ends)
 
--- the next packet is told by what the node keeps
+-- the next packet follows from what the node keeps
 pub branch_next : {F : Type 0} (k : Kit F) (may : F → ℕ → PlainVersion → Type 0) (step step' p p' count count' : ℕ) (end : F) (short : Bool) (f : F) (inlet : List (PlainMessage PlainVersion)) (outlets : List (List (PlainMessage PlainVersion)))
     → step' ≡ step → p' ≡ p → count' ≡ count → BranchDue k may step (p + step) (count - 1) end short f inlet outlets → BranchDue k may step' (p' + step') (count' - 1) end short f inlet outlets
 branch_next k may step step' p p' count count' end short f inlet outlets s e c d =
     subst (λ y. BranchDue k may y (p' + y) (count' - 1) end short f inlet outlets) (sym s)
     (subst (λ y. BranchDue k may step (y + step) (count' - 1) end short f inlet outlets) (sym e) (subst (λ y. BranchDue k may step (p + step) (y - 1) end short f inlet outlets) (sym c) d))
 
--- and it is no number too large
+-- and its number isn't too large
 pub number_fits : {F : Type 0} (k : Kit F) (may : F → ℕ → PlainVersion → Type 0) (step p n : ℕ) (end : F) (short : Bool) (f : F) (inlet : List (PlainMessage PlainVersion)) (outlets : List (List (PlainMessage PlainVersion)))
     → BranchDue k may step p n end short f inlet outlets → p ≤ 4294967295
 number_fits k may step p n end short f inlet outlets d = at_most p (n * step) d.few
@@ -133,7 +133,7 @@ pub branch_done : {F : Type 0} (k : Kit F) (may : F → ℕ → PlainVersion →
     → BranchDue k may step p n end short f inlet outlets → short ≡ false → f ≡ end
 branch_done k may step p count i n end short f inlet outlets le e d = branch_over k may step p end short f inlet outlets (subst (λ n. BranchDue k may step p n end short f inlet outlets) (e ∙ none_more count i le) d)
 
--- nothing is due to a merger any more
+-- nothing more is due to a merger
 branch_given : {F : Type 0} (k : Kit F) (may : F → ℕ → PlainVersion → Type 0) (step p : ℕ) (end : F) (short : Bool) (f : F) (inlet : List (PlainMessage PlainVersion)) (outlets : List (List (PlainMessage PlainVersion)))
     → BranchDue k may step p 0 end short f inlet outlets → NothingOwed outlets
 unfolding ran

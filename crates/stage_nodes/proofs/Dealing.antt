@@ -20,7 +20,7 @@ use Rattle.stage_nodes.specs.declared.given.Given.TheVariants.{Row, Word}
 use Rattle.stage_nodes.proofs.Shares.{turned_shares, no_shares}
 use Rattle.stage_nodes.proofs.Ends.{due_is, begins, Front, front_of, some_more, none_more}
 
--- what is due on the links of the branches' nodes, and once each branch has its version of the next packet
+-- what is due on the links of the branches' nodes, and after each branch has its version of the next packet
 
 fans_owing : (touches : List Touch) (x : PlainMessage PlainApart) (xs : List (PlainMessage PlainApart)) (fans : List (List (List (PlainMessage PlainVersion)))) → AreFanned touches (x ∷ xs) fans → All (λ fan. Owing (front fan)) fans
 unfolding AreFanned
@@ -90,7 +90,7 @@ dealer_turn {S} {comes} parts source versions bases r =
 pub has_more : {S : Type 0} {comes : S → List (PlainMessage PlainApart) → Type 0} (parts : StageParts) (source : S) (versions : List (List (List (PlainMessage PlainVersion)))) (bases : List (List (PlainMessage PlainApart))) → DealerReady comes parts source versions bases → HasMore comes source
 has_more {S} {comes} parts source versions bases r = let t = dealer_turn parts source versions bases r in (t.next, t.later, t.takes)
 
--- what came fits the packet that comes next
+-- what arrived fits the packet that comes next
 abbrev pub FitsNext : {S : Type 0} → (S → List (PlainMessage PlainApart) → Type 0) → S → PlainMessage PlainApart → Type 0
 FitsNext comes source message = (x : PlainMessage PlainApart) (xs : List (PlainMessage PlainApart)) → comes source (x ∷ xs) → Fits x message
 
@@ -112,13 +112,13 @@ given_fits {S} {comes} touches source versions bases message short old new (Word
     let is : t.next ≡ Nil q = sym (due_is t.next message (fits t.next t.later t.takes) (ap is_short st.1)) ∙ st.1 in
     (t.words q is, inl (sym (t.base.is ∙ ap (base_of touches) is)))
 
--- a packet that was dealt, or had been dropped before, was counted
+-- a packet that was passed to branches, or was dropped before, was counted
 pub record WasCounted (touches : List Touch) (message : PlainMessage PlainApart) (short : Bool) (old new : List ℕ) : Type 0 where
   pub ample : short ≡ false
   pub there : is_short message ≡ false
   pub counted : RaisesByMessage touches message old new
 
--- nothing but the word that memory is short is given once that was
+-- after the message that memory is short, no other message is given
 pub given_ample : (touches : List Touch) (message : PlainMessage PlainApart) (short : Bool) (old new : List ℕ) (given : Given) → Deals touches message short old new given → is_lost given ≡ false → short ≡ false
 given_ample touches message short old new (Row base row) d w = d.0
 given_ample touches message short old new (Word None) st w = absurd cc
@@ -168,7 +168,7 @@ pub dealer_begins : {S : Type 0} {comes : S → List (PlainMessage PlainApart) �
     → DealerDue comes parts n xs source versions bases → DealerAt comes parts n (λ f. raised (count_of counts f) (dealer_copies parts.touches xs f)) short counts source versions bases
 dealer_begins {S} {comes} parts n xs short counts source versions bases d = record { coming = xs; due = d; counted = λ w f. refl }
 
--- one packet at least is to come
+-- at least one packet is to come
 pub dealer_some : {S : Type 0} {comes : S → List (PlainMessage PlainApart) → Type 0} (parts : StageParts) (count : ℕ) (xs : List (PlainMessage PlainApart)) (source : S) (versions : List (List (List (PlainMessage PlainVersion)))) (bases : List (List (PlainMessage PlainApart))) → count ≢ 0
     → DealerDue comes parts count xs source versions bases → DealerReady comes parts source versions bases
 dealer_some {S} {comes} parts count xs source versions bases ne d = (count - 1, xs, subst (λ n. DealerDue comes parts n xs source versions bases) (some_more count ne) d)
@@ -206,7 +206,7 @@ fans_given [] (fan ∷ fans) h = absurd h
 fans_given (t ∷ touches) [] h = absurd h
 fans_given (t ∷ touches) (fan ∷ fans) h = All-cons NothingOwed fan fans (subst NothingOwed (sym h.0.2) (no_shares h.0.0 0 h.0.0)) (fans_given touches fans h.1)
 
--- no version and no base is due any more
+-- no more version or base is due
 all_given : {S : Type 0} {comes : S → List (PlainMessage PlainApart) → Type 0} (parts : StageParts) (total : Field → ℕ) (short : Bool) (counts : List ℕ) (source : S) (versions : List (List (List (PlainMessage PlainVersion)))) (bases : List (List (PlainMessage PlainApart)))
     → DealerAt comes parts 0 total short counts source versions bases → All NothingOwed versions × NothingOwed bases
 all_given {S} {comes} parts total short counts source versions bases a = over a.coming a.due.many a.due.gives a.due.gives_bases

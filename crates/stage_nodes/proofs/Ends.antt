@@ -33,7 +33,7 @@ pub begins : {A : Type 0} (xs : List A) (n : ℕ) → length xs ≡ suc n → Be
 begins [] n e = absurd (omega arith)
 begins (x ∷ xs) n e = record { head = x; tail = xs; is = refl; many = omega arith }
 
--- the first of the links that a stream is shared to
+-- the first of the links among which a stream is shared
 pub record Front {P : Type 0} (ls : List (List (PlainMessage P))) (x : PlainMessage P) : Type 0 where
   pub some : 0 < length ls
   pub owing : Owing (front ls)

@@ -1,4 +1,4 @@
--- The arrivals of a packet, one more in the table.
+-- The arrivals of a packet, with one more in the table.
 use Rattle.std.proofs.Common.{◌≡◌, ◌≢◌, ◌∙◌, ◌<◌, ◌≤◌, ◌+◌, ◌-◌, ℕ, zero, suc, List, [], ◌∷◌, ◌++◌, map, length, take, drop, set, get_or, sym, ap, refl, subst, arith, inl, inr, add-one, length-append}
 use Rattle.std.specs.Prelude.{◌⊎◌, ◌↔◌, Option, Some, None, IsSome, IsNone, All, Contains, slice_set, slice_index_or, unwrap_or}
 use Rattle.std.proofs.lemmas.List.{append-nil, drop_all, take_all}
@@ -22,7 +22,7 @@ some_or_none : {T : Type 0} (o : Option T) → IsSome o ⊎ IsNone o
 some_or_none None = inr refl
 some_or_none (Some x) = inl refl
 
--- what has come so far, and one arrival more
+-- what has arrived so far, and one more arrival
 
 partly_put : {T : Type 0} (come : List T) (m : ℕ) (a : T) → slice_set (partly come (suc m)) (length come) (Some a) ≡ partly (come ++ a ∷ []) m
 partly_put [] m a = refl
@@ -83,7 +83,7 @@ needs come table packet branch into room may = record {
     contained : (p : ℕ) → p ≡ packet → Contains (packet ∷ []) p
     contained p e = (0, omega arith, sym e)
 
--- what stands in the row of the packet once the arrival is there
+-- what is in the row of the packet after the arrival
 row_now : (come : List Arrival) (table : Table Arrival) (packet branch : ℕ) (arrival : Arrival) (into : List Arrival) → MayCome come table packet branch into → with_arrival table packet branch arrival ≡ partly (come ++ arrival ∷ []) (table.branches - suc (length come))
 row_now come table packet branch arrival into may =
     ap (λ l. slice_set l branch (Some arrival)) (may.gathering.here (let i = may.inside in let n = may.next in omega arith))
@@ -155,7 +155,7 @@ arrival_fits : (due message : PlainMessage PlainVersion) → Fits due message �
 arrival_fits due message (inl e) = inl (ap as_arrival e)
 arrival_fits due message (inr e) = inr (ap as_arrival e)
 
--- So many branches have given their next arrivals, which have come to the table.
+-- This number of branches have given their next arrivals, which are in the table.
 pub record HasGathered (columns now : List (List (PlainMessage PlainVersion))) (table : Table Arrival) (packet j : ℕ) (into : List Arrival) : Type 0 where
   pub come : List Arrival
   pub gathering : IsGathering come table packet into

@@ -95,7 +95,7 @@ belong_to n bases columns outlet (Live base) row d (inr e) fits = absurd (cc)
 belong_to n bases columns outlet (Live base) row d (inl e) fits =
     are_arrivals base (map first columns) row (subst (λ y. Belongs y (map first columns)) (sym e) (first_belongs n bases columns d.many d.belong)) fits
 
--- a packet that was dropped before, and what a branch found of memory
+-- a packet that was dropped before, and a branch that ran out of memory
 gone_or_short : (p : ℕ) (lost : Bool) → Fits {P = PlainApart} (Nil p) (if lost then Short else Nil p)
 gone_or_short p true = inr refl
 gone_or_short p false = inl refl
@@ -120,7 +120,7 @@ merger_first : (n : ℕ) (bases : List (PlainMessage PlainApart)) (columns : Lis
 merger_first n [] columns outlet d = absurd (let m = d.many in omega arith)
 merger_first n (b ∷ bases) columns outlet d = ap first (d.gives ∙ rows_more b bases columns)
 
--- what comes of it fits
+-- what becomes of it fits
 pub reply_fits : (n : ℕ) (bases : List (PlainMessage PlainApart)) (columns : List (List (PlainMessage PlainVersion))) (outlet : List (PlainMessage PlainApart)) (base : PlainMessage PlainApart) (row : List Arrival) (reply : PlainMessage PlainApart)
     → MergerDue (suc n) bases columns outlet → Fits (first bases) base → RowFits (map first columns) row → Fits (joined_row base row) reply → Fits (first outlet) reply
 reply_fits n bases columns outlet base row reply d fit fits is =
@@ -161,7 +161,7 @@ rest_length n (m ∷ outlet) outlet' many o = ap length o ∙ (omega arith)
 
 -- over a count of packets
 
--- one packet at least is to come
+-- at least one packet is to come
 pub merger_some : (count : ℕ) (short : Bool) (bases : List (PlainMessage PlainApart)) (columns : List (List (PlainMessage PlainVersion))) (outlet : List (PlainMessage PlainApart)) → count ≢ 0
     → MergerAt count short bases columns outlet → MergerAt (suc (count - 1)) short bases columns outlet
 merger_some count short bases columns outlet ne a = subst (λ n. MergerAt n short bases columns outlet) (some_more count ne) a
@@ -174,12 +174,12 @@ none_left : {A : Type 0} (xs : List A) → length xs ≡ 0 → xs ≡ []
 none_left [] none = refl
 none_left (x ∷ xs) none = absurd (omega arith)
 
--- nothing is due to the dealer behind any more
+-- nothing more is due to the next dealer
 pub merger_gave : (count i n : ℕ) (short : Bool) (bases : List (PlainMessage PlainApart)) (columns : List (List (PlainMessage PlainVersion))) (outlet : List (PlainMessage PlainApart)) → count ≤ i → n ≡ count - i
     → MergerAt n short bases columns outlet → outlet ≡ []
 merger_gave count i n short bases columns outlet le e a = none_left outlet (a.many ∙ e ∙ none_more count i le)
 
--- a message is due to the dealer behind, and what comes of the packet fits it
+-- a message is due to the next dealer, and what becomes of the packet fits it
 pub merger_owes : (n : ℕ) (short : Bool) (bases : List (PlainMessage PlainApart)) (columns : List (List (PlainMessage PlainVersion))) (outlet now : List (PlainMessage PlainApart)) → now ≡ outlet → MergerAt (suc n) short bases columns outlet → Owing now
 merger_owes n short bases columns outlet now e a = let l = ap length e in let m = a.many in omega arith
 

@@ -9,7 +9,7 @@ use Rattle.merge_ops.specs.Merging.{decision_of}
 use Rattle.packet_messages.specs.Messages.{PlainMessage, PlainMessage.Live, PlainMessage.Nil, PlainMessage.Short}
 use Rattle.stage_nodes.specs.Streams.{Kit, base_of, ran, left, joined, came_from, merged_rows, dealer_copies}
 
--- a branch takes two versions, and between them a word that a packet was dropped
+-- a branch takes two versions, and between them the message that a packet was dropped
 branch_gives : {F : Type 0} (k : Kit F) (f : F) (v w : PlainVersion) → ran k f (Live v ∷ Nil 2 ∷ Live w ∷ []) ≡ k.gives f v ∷ Nil 2 ∷ k.gives (k.past (k.after f v)) w ∷ []
 unfolding ran
 branch_gives k f v w = refl
@@ -18,7 +18,7 @@ functions_left : {F : Type 0} (k : Kit F) (f : F) (v w : PlainVersion) → left 
 unfolding left
 functions_left k f v w = refl
 
--- two branches are dealt one packet
+-- two branches get one packet
 branches_give : {F : Type 0} (k : Kit F) (f g : F) (s t : Touch) (whole : PlainApart) → came_from k (s ∷ t ∷ []) (f ∷ g ∷ []) (Live whole ∷ []) ≡ (k.gives f (dealt whole s) ∷ []) ∷ (k.gives g (dealt whole t) ∷ []) ∷ []
 unfolding came_from ran
 branches_give k f g s t whole = refl
@@ -26,7 +26,7 @@ branches_give k f g s t whole = refl
 base_stays : (s t : Touch) (whole : PlainApart) → base_of (s ∷ t ∷ []) (Live whole) ≡ Live (based (s ∷ t ∷ []) whole)
 base_stays s t whole = refl
 
--- both drop it, one finds no memory, or it was dropped before
+-- both drop it, one runs out of memory, or it was dropped before
 dropped_first : (base : PlainApart) → joined (Live base) (Nil 4 ∷ Nil 2 ∷ []) ≡ Nil 2
 unfolding decision_of
 dropped_first base = refl

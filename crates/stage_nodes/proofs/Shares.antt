@@ -1,4 +1,4 @@
--- The links that a stream is shared to, in turn.
+-- The links among which a stream is shared, in turn.
 use Rattle.std.proofs.Common.{◌≡◌, ◌<◌, ◌+◌, ◌∙◌, ℕ, zero, suc, pred, List, [], ◌∷◌, ◌++◌, length, refl, arith, ap}
 use Rattle.std.proofs.lemmas.List.Elements.{All-cons, All-nil}
 use Rattle.packet_messages.specs.Messages.{front, turned}
@@ -21,7 +21,7 @@ unfolding shares_from
 shares_length m i zero xs = refl
 shares_length m i (suc c) xs = ap suc (shares_length m (suc i) c xs)
 
--- the first has the next element, and is the last for the one behind it
+-- the first has the next element, and is the last for the one after it
 pub first_share : {A : Type 0} (m : ℕ) (x : A) (xs : List A) → 0 < m → front (shares m (x ∷ xs)) ≡ x ∷ share m (pred m) xs
 unfolding shares_from share
 first_share zero x xs lt = absurd (omega arith)
@@ -32,7 +32,7 @@ unfolding shares_from share
 turned_shares zero x xs lt = absurd (omega arith)
 turned_shares (suc c) x xs lt = ap (λ y. y ++ share (suc c) c xs ∷ []) (later_shares (suc c) 0 c x xs) ∙ ap (λ n. shares_from (suc c) 0 c xs ++ share (suc c) n xs ∷ []) (omega arith) ∙ last_share (suc c) 0 c xs
 
--- of nothing each share is empty
+-- each share of nothing is empty
 pub no_shares : {A : Type 0} (m i c : ℕ) → NothingOwed {A = A} (shares_from m i c [])
 unfolding shares_from share
 no_shares m i zero = All-nil _

@@ -1,4 +1,4 @@
--- Lists of lists, of which the first so many gave their first element.
+-- Lists of lists, of which this number at the front gave their first element.
 use Rattle.std.proofs.Common.{◌≡◌, ◌<◌, ◌≤◌, ◌+◌, ◌∙◌, ℕ, zero, suc, List, [], ◌∷◌, ◌++◌, length, map, refl, arith, ap, sym, subst, slice_index_or, slice_set, All}
 use Rattle.std.proofs.lemmas.List.Elements.{All-get_or}
 use Rattle.packet_messages.specs.Messages.{rest, front}
@@ -38,7 +38,7 @@ swept_suc zero (l ∷ ls) lt = refl
 swept_suc (suc n) [] lt = absurd (omega arith)
 swept_suc (suc n) (l ∷ ls) lt = ap (λ x. rest l ∷ x) (swept_suc n ls (omega arith))
 
--- one list more gave its first element
+-- one more list gave its first element
 pub swept_more : {A : Type 0} (n : ℕ) (ls now new : List (List A)) → now ≡ swept n ls → new ≡ slice_set now n (rest (slice_index_or now n [])) → n < length now → new ≡ swept (n + 1) ls
 swept_more n ls now new is set lt =
     set ∙ ap (λ y. slice_set y n (rest (slice_index_or y n []))) is
@@ -46,13 +46,13 @@ swept_more n ls now new is set lt =
     ∙ swept_suc n ls (omega (arith, lt, ap length is, swept_length n ls))
     ∙ ap (λ k. swept k ls) (omega arith)
 
--- a fact of each list holds of the next one
+-- a fact about each list holds for the next one
 pub next_holds : {A : Type 0} (R : List A → Type 0) (n : ℕ) (ls now : List (List A)) → All R ls → now ≡ swept n ls → n < length now → R (slice_index_or now n [])
 next_holds R n ls now all is lt =
     let here : R (slice_index_or ls n []) = All-get_or R ls n [] (omega (arith, lt, ap length is, swept_length n ls)) all in
     subst R (sym (ap (λ y. slice_index_or y n []) is ∙ swept_at n ls [])) here
 
--- the first lists of the first so many
+-- the first lists of this number at the front
 unfoldable pub fronts_to : {A : Type 0} → ℕ → List (List (List A)) → List (List A)
 fronts_to zero ls = []
 fronts_to (suc n) [] = []

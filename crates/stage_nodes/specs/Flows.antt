@@ -19,12 +19,12 @@ unfoldable pub MayTakeAll : {F : Type 0} → Kit F → (F → ℕ → PlainVersi
 MayTakeAll k may f p [] = Unit {0}
 MayTakeAll k may f p (x ∷ xs) = MayTake may f p x × MayTakeAll k may (moved k f x) (suc p) xs
 
--- and these, of which each but the first is of the packet so many behind the one before
+-- and these, of which each is the given number of packets after the one before
 unfoldable pub MayTakeEach : {F : Type 0} → Kit F → (F → ℕ → PlainVersion → Type 0) → ℕ → F → ℕ → List (PlainMessage PlainVersion) → Type 0
 MayTakeEach k may step f p [] = Unit {0}
 MayTakeEach k may step f p (x ∷ xs) = MayTake may f p x × MayTakeEach k may step (moved k f x) (p + step) xs
 
--- so may each branch, of what it is dealt of these packets
+-- so may each branch, with what it gets of these packets
 unfoldable pub AllMayTake : {F : Type 0} → Kit F → (F → ℕ → PlainVersion → Type 0) → List Touch → List F → List (PlainMessage PlainApart) → Type 0
 AllMayTake k may [] fs xs = Unit {0}
 AllMayTake k may (t ∷ touches) [] xs = Unit {0}
@@ -36,7 +36,7 @@ Belongs (Live base) row = AreArrivals base (map as_arrival row)
 Belongs (Nil p) row = Unit {0}
 Belongs Short row = Unit {0}
 
--- of each packet
+-- for each packet
 unfoldable pub AllBelong : List (PlainMessage PlainApart) → List (List (PlainMessage PlainVersion)) → Type 0
 AllBelong [] columns = Unit {0}
 AllBelong (b ∷ bases) columns = Belongs b (map first columns) × AllBelong bases (map rest columns)

@@ -1,4 +1,4 @@
--- For proofs: what a node gives into.
+-- For proofs: the ends that a node puts messages into.
 use Rattle.std.specs.Prelude.{Bool}
 
 -- the ends, and whether the last item that went into them was short

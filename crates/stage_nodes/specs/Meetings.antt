@@ -1,4 +1,4 @@
--- For proofs: what is still due where branches and mergers meet, whether over links or on a board.
+-- For proofs: what is still due between branches and mergers, over links or on a board.
 use Rattle.std.specs.Prelude.{List}
 use Rattle.packet_version.specs.Versions.{PlainVersion}
 use Rattle.packet_messages.specs.Messages.{PlainMessage}

@@ -1,6 +1,6 @@
--- For proofs: the messages that are due on each edge of a run (`stream`), as lists of plain data. A run is some stages, one after
--- another; in each a dealer deals every packet to the branches, each branch takes what it is dealt in the packets' order, and what comes
--- from the branches is put together packet by packet. To each stage come the packets behind the one before.
+-- For proofs: the messages that are due on each edge of a run (`stream`), as lists of plain data. A run is some stages,
+-- one after another. In each a dealer passes every packet to the branches, each branch takes its versions in the
+-- packets' order, and the results are merged packet by packet. Each stage gets the packets after the one before.
 use Rattle.std.specs.Prelude.{◌≡◌, ℕ, ◌+◌, List, [], ◌∷◌, map}
 use Rattle.std.specs.List.{sum_by}
 use Rattle.packet_fields.specs.declared.field.Field.{Field}
@@ -16,13 +16,13 @@ use Rattle.merge_ops.specs.declared.merging.Merged.{Merged}
 use Rattle.merge_ops.specs.declared.merging.Merged.TheVariants as ends
 use Rattle.packet_messages.specs.Messages.{PlainMessage, PlainMessage.Live, PlainMessage.Nil, PlainMessage.Short, first, rest}
 
--- What the functions of a branch make of a version, and the functions after it, and after a packet that is gone.
+-- What the functions of a branch make of a version, and the functions after it, and after a packet that was dropped.
 pub record Kit (F : Type 0) : Type 0 where
   pub gives : F → PlainVersion → PlainMessage PlainVersion
   pub after : F → PlainVersion → F
   pub past : F → F
 
--- such functions are after each packet what they were before it
+-- such functions are the same after each packet as before it
 abbrev pub KeepsNothing : {F : Type 0} → Kit F → F → Type 0
 KeepsNothing k f = ((v : PlainVersion) → k.after f v ≡ f) × (k.past f ≡ f)
 
@@ -31,7 +31,7 @@ pub record PlainStage (F : Type 0) : Type 0 where
   pub parts : StageParts
   pub branches : List F
 
--- what a dealer gives a branch with this touch: its version of the packet; what has no packet goes on as it is
+-- what a dealer gives a branch with this touch: its version of the packet; a message without a packet is passed on
 abbrev pub parted : Touch → PlainMessage PlainApart → PlainMessage PlainVersion
 parted touch (Live whole) = Live (dealt whole touch)
 parted touch (Nil p) = Nil p
@@ -63,7 +63,7 @@ unfoldable pub left : {F : Type 0} → Kit F → F → List (PlainMessage PlainV
 left k f [] = f
 left k f (x ∷ xs) = left k (moved k f x) xs
 
--- a message from a branch as what comes from it, and what came of a packet as a message
+-- a message from a branch as its result, and the result for a packet as a message
 abbrev pub as_arrival : PlainMessage PlainVersion → Arrival
 as_arrival (Live v) = came.Version v
 as_arrival (Nil p) = came.Nil p
@@ -79,7 +79,7 @@ as_merged (Live whole) = ends.Whole whole
 as_merged (Nil p) = ends.Gone p
 as_merged Short = ends.Short
 
--- what a merger makes of what stayed of a packet and of what came from the branches, in branch order
+-- what a merger makes of what stayed of a packet and of the branches' results, in branch order
 abbrev pub joined : PlainMessage PlainApart → List (PlainMessage PlainVersion) → PlainMessage PlainApart
 joined (Live base) row = of_merged (merged base (map as_arrival row))
 joined (Nil p) row = Nil p
@@ -96,13 +96,14 @@ stayed k [] fs xs = []
 stayed k (t ∷ touches) [] xs = []
 stayed k (t ∷ touches) (f ∷ fs) xs = left k f (map (parted t) xs) ∷ stayed k touches fs xs
 
--- from mergers that take these bases and what comes from the branches, one list for each
+-- from mergers that take these bases and the branches' results, one list for each
 unfoldable pub merged_rows : List (PlainMessage PlainApart) → List (List (PlainMessage PlainVersion)) → List (PlainMessage PlainApart)
 merged_rows [] columns = []
 merged_rows (b ∷ bases) columns = joined b (map first columns) ∷ merged_rows bases (map rest columns)
 
--- An edge of a stage: from its dealer to a branch with this touch; from its dealer to its mergers; from a branch with this touch and
--- these functions to its mergers; and from its mergers to the dealer behind, or to whoever collects what comes behind the last stage.
+-- An edge of a stage: from its dealer to a branch with this touch; from its dealer to its mergers; from a branch with
+-- this touch and these functions to its mergers; and from its mergers to the next dealer, or to the collector after the
+-- last.
 pub data Edge (F : Type 0) : Type 0 where
   ToBranch : (touch : Touch) → Edge F
   ToMergers : (touches : List Touch) → Edge F
@@ -116,18 +117,18 @@ Carried (ToMergers touches) = PlainApart
 Carried (FromBranch touch f) = PlainVersion
 Carried (Behind s) = PlainApart
 
--- the messages that are due on it, of these packets, which come to the stage
+-- the messages that are due on it, for these packets, which come to the stage
 abbrev pub stream : {F : Type 0} → Kit F → List (PlainMessage PlainApart) → (e : Edge F) → List (PlainMessage (Carried e))
 stream k xs (ToBranch touch) = map (parted touch) xs
 stream k xs (ToMergers touches) = map (base_of touches) xs
 stream k xs (FromBranch touch f) = ran k f (map (parted touch) xs)
 stream k xs (Behind s) = merged_rows (map (base_of s.parts.touches) xs) (came_from k s.parts.touches s.branches xs)
 
--- behind a stage
+-- after a stage
 abbrev pub passed : {F : Type 0} → Kit F → PlainStage F → List (PlainMessage PlainApart) → List (PlainMessage PlainApart)
 passed k s xs = stream k xs (Behind s)
 
--- behind all stages, and the functions of each stage at the end
+-- after all stages, and the functions of each stage at the end
 unfoldable pub through : {F : Type 0} → Kit F → List (PlainStage F) → List (PlainMessage PlainApart) → List (PlainMessage PlainApart)
 through k [] xs = xs
 through k (s ∷ stages) xs = through k stages (passed k s xs)
@@ -136,7 +137,7 @@ unfoldable pub ends_of : {F : Type 0} → Kit F → List (PlainStage F) → List
 ends_of k [] xs = []
 ends_of k (s ∷ stages) xs = stayed k s.parts.touches s.branches xs ∷ ends_of k stages (passed k s xs)
 
--- the copies of a field that a dealer makes of a message's packet, of all that come, and those of all dealers
+-- the copies of a field that a dealer makes for a message's packet, for all that come, and those of all dealers
 abbrev pub due_of : List Touch → Field → PlainMessage PlainApart → ℕ
 due_of touches f (Live whole) = copies_due touches f (packet_parts whole f)
 due_of touches f (Nil p) = 0

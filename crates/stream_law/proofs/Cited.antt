@@ -1,4 +1,4 @@
--- The laws that streams of nodes rest on, as they are cited.
+-- The laws on which streams of nodes rest, as they are cited.
 use Rattle.std.proofs.Common.{◌≡◌, ◌≤◌, ℕ, suc, List, length}
 use Rattle.std.specs.Prelude.{Some, slice_get}
 use Rattle.packet_fields.specs.declared.field.Field.{Field}

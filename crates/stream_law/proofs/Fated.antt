@@ -1,4 +1,4 @@
--- The fates of packets behind all stages, and the copies that were made of them.
+-- The fates of packets after all stages, and the copies that were made of them.
 use Rattle.std.proofs.Common.{◌≡◌, ◌∙◌, ◌+◌, ℕ, suc, List, [], ◌∷◌, map, sym, ap, refl, arith}
 use Rattle.std.specs.Prelude.{zip, is_some, if◌then◌else◌}
 use Rattle.std.specs.List.{sum_by}
@@ -28,14 +28,14 @@ use Rattle.stream_law.specs.Messages.{as_message}
 use Rattle.merge_ops.specs.Fates.{fate_behind}
 use Rattle.stream_law.specs.Apart.{apart_of, all_apart}
 
--- the laws of whole frames that a run rests on
+-- the laws of whole frames on which a run rests
 abbrev pub BuiltAgain : Type 0 → Type 0
 BuiltAgain F = (b : Behaviour F) (time position : ℕ) (functions : List F) (frame : List ℕ) (after : Values) → KeepsProfile b → (walk_fields b (fixed_of time frame) position functions (fields_of frame)).end ≡ Out after → written after (rest_of frame) ≡ written after frame
 
 abbrev pub FatesInBursts : Type 0 → Type 0
 FatesInBursts F = (b : Behaviour F) (functions : List F) (packets : List Packet) → KeepsProfile b → fates b functions packets ≡ fates_of packets (chain_burst b functions (map message_of packets)).gives
 
--- one packet that ended so
+-- one packet with this end
 fate_one : {F : Type 0} (b : Behaviour F) (functions : List F) (p : Packet) (whole : PlainApart) (m : Merged) (end : End) → BuiltAgain F → KeepsProfile b → whole.rest ≡ rest_of p.frame → KeepsRest (ends.Whole whole) m →
     (walk_fields b (fixed_of p.time p.frame) 1 functions (fields_of p.frame)).end ≡ end → as_message m ≡ ended (fixed_of p.time p.frame) end → fate_behind m ≡ fate_of p.frame (ended (fixed_of p.time p.frame) end)
 fate_one {F} b functions p whole (ends.Whole after) (Out values) again keeps first rest walks is =

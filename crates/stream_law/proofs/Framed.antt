@@ -1,4 +1,4 @@
--- A burst of whole frames, taken apart, and led through a graph.
+-- A burst of whole frames, split into parts, and passed through a graph.
 use Rattle.std.proofs.Common.{◌≡◌, ◌∙◌, ◌≤◌, ◌+◌, ◌*◌, ℕ, zero, suc, Bool, true, false, List, [], ◌∷◌, map, length, sym, ap, refl, subst, arith}
 use mathlib.Core.Path.{fun_ext}
 use Rattle.std.specs.Prelude.{All, Option, Some, None, option_map, IfSome, if◌then◌else◌}
@@ -35,7 +35,7 @@ use Rattle.stream_law.specs.Messages.{as_message}
 use Rattle.stream_law.specs.Ready.{AllEnter, Fits, MayEnter}
 use Rattle.stream_law.proofs.Fated.{BuiltAgain, FatesInBursts, fates_behind, copies_walked}
 
--- the laws of frames that come apart, as they are cited
+-- the laws of splitting frames, as they are cited
 abbrev pub PartsComeApart : Type 0
 PartsComeApart = (taggers time : ℕ) (frame : List ℕ) → packet_parts (taken_apart taggers time frame) ≡ split_parts taggers frame
 
@@ -53,7 +53,7 @@ room_split : (spare adders : ℕ) (o : Option (List ℕ)) → spare ≡ 4 * adde
 room_split spare adders None is = tt
 room_split spare adders (Some bytes) is = omega arith
 
--- the values of a packet that was taken apart are the fields of its frame
+-- the values of a packet that was split are the fields of its frame
 values_apart : (taggers : ℕ) (p : Packet) → PartsComeApart → values_in (taken_apart taggers p.time p.frame) ≡ fields_of p.frame
 values_apart taggers p law = ap values_of (law taggers p.time p.frame) ∙ fun_ext (λ f. value_split (spare_room taggers f) (value f p.frame))
 
@@ -116,7 +116,7 @@ pub refused : {F : Type 0} (b : Behaviour F) (graph : Graph) (functions : List F
 refused b graph functions taggers packets old new parts law keeps within = λ f.
     ((within f).0, subst (λ n. count_of new f ≤ raised (count_of old f) n) (copies_same b graph functions taggers packets f parts law keeps) (within f).1)
 
--- the functions, the fates and the counts, where all stages are behind the burst
+-- the functions, the fates and the counts, if all stages are after the burst
 pub led : {F : Type 0} (b : Behaviour F) (run after : PlainRunning F) (taggers : ℕ) (packets : List Packet) (behind : List Merged) (done : List Fate) (old new : List ℕ) →
     PartsComeApart → BuiltAgain F → FatesInBursts F → FunctionsInBursts F → WalksWithin F → KeepsProfile b →
     HasEnded b run (all_apart taggers packets) after.functions behind old new → after.graph ≡ run.graph → done ≡ map fate_behind behind → Leads b run packets old new after done

@@ -1,4 +1,4 @@
--- A burst behind the mergers of a stage, packet by packet.
+-- A burst after the mergers of a stage, packet by packet.
 use Rattle.std.proofs.Common.{◌≡◌, ◌∙◌, ◌≤◌, ℕ, zero, suc, List, [], ◌∷◌, length, map, ap, refl, sym, subst}
 use Rattle.std.specs.Prelude.{All, Some, slice_get}
 use Rattle.std.specs.List.{cons_option}
@@ -69,13 +69,13 @@ pub all_of_as : (xs : List (PlainMessage PlainApart)) → map of_merged (map as_
 all_of_as [] = refl
 all_of_as (x ∷ xs) = λ i. of_as x i ∷ all_of_as xs i
 
--- what comes of a packet: one that is gone stays so
+-- what becomes of a packet: a dropped packet stays dropped
 abbrev pub Follows : List Profile → ℕ → Merged → Merged → Type 0
 Follows chain next (ends.Whole whole) after = LeavesStage chain next whole after
 Follows chain next (ends.Gone p) after = after ≡ ends.Gone p
 Follows chain next ends.Short after = ⊥
 
--- Behind a stage there is one packet for each, in their order, and it may go on from this position, or is gone.
+-- After a stage there is one packet for each, in their order, and it may go on from this position, or was dropped.
 pub record LeavesBurst (chain : List Profile) (next : ℕ) (packets after : List Merged) : Type 0 where
   pub count : length after ≡ length packets
   pub each : (k : ℕ) (m n : Merged) → slice_get packets k ≡ Some m → slice_get after k ≡ Some n → Follows chain next m n
@@ -93,7 +93,7 @@ leaves_more chain next m n packets after here later = record { count = ap suc la
     at zero x y a e = subst (λ z. Follows chain next z y) (same_some m x a) (subst (Follows chain next m) (same_some n y e) here)
     at (suc k) x y a e = later.each k x y a e
 
--- what a merger makes of a packet, of which the branches gave this
+-- a merger's result for a packet for which the branches gave this
 abbrev pub joined_of : List Touch → Merged → List (PlainMessage PlainVersion) → Merged
 joined_of touches m row = as_merged (joined (base_of touches (of_merged m)) row)
 
@@ -127,7 +127,7 @@ whole_passes chain low high touches whole row laws goes fits rises carried =
 pub gone_passes : (chain : List Profile) (high : ℕ) (touches : List Touch) (p : ℕ) (row : List (PlainMessage PlainVersion)) → PacketPasses chain high touches (ends.Gone p) row
 gone_passes chain high touches p row = record { belongs = tt; message = refl; follows = refl; fits = tt }
 
--- what mergers make of packets, of which each branch gave a column
+-- the mergers' results for packets for which each branch gave a column
 abbrev pub joined_all : List Touch → List Merged → List (List (PlainMessage PlainVersion)) → List Merged
 joined_all touches packets columns = map as_merged (merged_rows (map (base_of touches) (map of_merged packets)) columns)
 
@@ -141,7 +141,7 @@ pub none_pass : (chain : List Profile) (high : ℕ) (touches : List Touch) (colu
 unfolding AllBelong merged_rows
 none_pass chain high touches columns = record { belong = tt; messages = refl; leaves = leaves_none chain high; fits = All-nil Fits }
 
--- the rows behind the first
+-- the rows after the first
 across_more : (k : ℕ) (columns : List (List (PlainMessage PlainVersion))) → across (suc k) (map as_ends columns) ≡ across k (map as_ends (map rest columns))
 across_more k [] = refl
 across_more k ([] ∷ columns) = across_more k columns
@@ -151,7 +151,7 @@ merged_more : (k : ℕ) (ms : List Message) (columns : List (List (PlainMessage 
 merged_more k [] columns = refl
 merged_more k (m ∷ ms) columns = λ i. behind_by_law m (across_more k columns i) ∷ merged_more (suc k) ms columns i
 
--- one packet more before them
+-- one more packet before them
 pub more_pass : (chain : List Profile) (high : ℕ) (touches : List Touch) (m : Merged) (packets : List Merged) (columns : List (List (PlainMessage PlainVersion))) → across 0 (map as_ends columns) ≡ as_ends (map first columns) →
     PacketPasses chain high touches m (map first columns) → RowsPass chain high touches packets (map rest columns) → RowsPass chain high touches (m ∷ packets) columns
 unfolding AllBelong merged_rows

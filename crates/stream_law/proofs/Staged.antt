@@ -54,7 +54,7 @@ pub record IsReadyStage {F : Type 0} (b : Behaviour F) (chain : List Profile) (a
   pub few : length stage.branches ≤ 64
   pub owners : AllOwn b chain stage.branches owns
 
--- A branch with its touch: it holds what its functions name, and the burst has at least so many packets.
+-- A branch with its touch: it holds what its functions name, and the burst has at least this number of packets.
 record IsFitted {F N : Type 0} (b : Behaviour F) (chain : List Profile) (low high n : ℕ) (t : Touch) (o : PlainOwned F N) : Type 0 where
   at : map (profile_at chain) o.positions ≡ map (λ p. Some p) (map b.profile o.functions)
   holds : Holds chain t low high o.positions
@@ -91,7 +91,7 @@ works_many N b [] owns n same = refl
 works_many N b (x ∷ branches) [] n same = absurd (omega arith)
 works_many N b (x ∷ branches) (own ∷ owns) n same = ap suc (works_many N b branches owns n (omega arith))
 
--- what the branches give of a packet, and what they are after it
+-- the branches' results for a packet, and the branches after it
 unfoldable gave_all : {F N : Type 0} → Behaviour F → Notes F N → List Touch → List (PlainOwned F N) → PlainMessage PlainApart → List (PlainMessage PlainVersion)
 gave_all b notes [] works x = []
 gave_all b notes (t ∷ touches) [] x = []
@@ -134,7 +134,7 @@ fitted_after b notes chain low high n (t ∷ touches) (o ∷ works) x laws fitte
   fitted_after b notes chain low high n touches works x laws fitted.1,
 )
 
--- what they give of a packet may be put together
+-- their results for a packet may be merged
 row_carried : {F N : Type 0} (b : Behaviour F) (notes : Notes F N) (chain : List Profile) (low high n : ℕ) (touches : List Touch) (works : List (PlainOwned F N)) (whole : PlainApart) → AreLaws b → AllFitted b chain low high n touches works → GoesFrom chain low whole →
     AllCarried chain whole high touches (map as_arrival (gave_all b notes touches works (Live whole)))
 unfolding AllFitted AllCarried gave_all
@@ -195,7 +195,7 @@ positions_same {F} {N} b notes n (x ∷ branches) (t ∷ touches) (own ∷ owns)
     let o : PlainOwned F N = begun b n x own in
     λ i. left_positions b notes o (map (parted t) xs) i ∷ positions_same b notes n branches touches owns xs (omega arith) (omega arith) i
 
--- what each lists of all packets
+-- what each lists for all packets
 streams_listed : {F N : Type 0} (b : Behaviour F) (notes : Notes F N) (chain : List Profile) (low n : ℕ) (branches : List Branch) (touches : List Touch) (owns : List (List F)) (packets : List Merged) → AreLaws b → length touches ≡ length branches → length owns ≡ length branches → AllEnter chain low packets →
     map (λ o. o.listed) (stayed (owned_kit b notes) touches (works_in b branches owns n) (map of_merged packets)) ≡ stage_listed b notes (zip branches touches) owns (map as_message packets)
 unfolding works_in stayed stage_listed
@@ -237,7 +237,7 @@ copies_same b chain low stage f (m ∷ packets) laws lawful enter =
     ∙ (λ i. due_same b chain low stage f m laws lawful (enter 0 m refl) i + copies_same b chain low stage f packets laws lawful (λ k n e. enter (suc k) n e) i)
     ∙ sym (sum_by-cons (due_in f stage) (as_message m) (map as_message packets))
 
--- the packets behind a stage may enter the next
+-- the packets after a stage may enter the next
 pub some_at : {A : Type 0} (xs : List A) (k : ℕ) → k < length xs → (x : A) × (slice_get xs k ≡ Some x)
 some_at [] k less = absurd (omega arith)
 some_at (x ∷ xs) zero less = (x, refl)
@@ -256,15 +256,15 @@ next_enter chain next packets after leaves = λ k n e.
     let m = some_at packets k (omega arith) in
     follows_enters chain next m.0 n (leaves.each k m.0 n m.1 e)
 
--- a stage whose branches own these functions, for a burst of so many packets
+-- a stage whose branches own these functions, for a burst of this number of packets
 abbrev pub owned_stage : {F N : Type 0} → Behaviour F → Stage → List (List F) → ℕ → PlainStage (PlainOwned F N)
 owned_stage b stage owns n = record { parts = stage.parts; branches = works_in b stage.branches owns n }
 
--- the packets behind it
+-- the packets after it
 abbrev pub passed_by : {F N : Type 0} → Behaviour F → Notes F N → Stage → List (List F) → ℕ → List Merged → List Merged
 passed_by b notes stage owns n packets = joined_all stage.parts.touches packets (came_from (owned_kit b notes) stage.parts.touches (works_in b stage.branches owns n) (map of_merged packets))
 
--- What is known of a burst behind the nodes of a stage.
+-- What is known about a burst after the nodes of a stage.
 pub record HasPassed {F N : Type 0} (b : Behaviour F) (notes : Notes F N) (chain : List Profile) (at : ℕ) (stage : Stage) (owns : List (List F)) (n : ℕ) (packets : List Merged) : Type 0 where
   pub may : MayPass (owned_kit b notes) (owned_may b) (owned_stage b stage owns n) (map of_merged packets)
   pub functions : map (λ o. o.functions) (stayed (owned_kit b notes) stage.parts.touches (works_in b stage.branches owns n) (map of_merged packets)) ≡ (stage_burst b stage owns (map as_message packets)).state

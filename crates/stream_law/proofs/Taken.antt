@@ -1,4 +1,4 @@
--- A branch that owns its functions, and all that comes to it of a burst: it may take each, and what it gives is what the law of bursts says.
+-- A branch that owns its functions may take all that arrives of a burst, and its results are as the law of bursts says.
 use Rattle.std.proofs.Common.{◌≡◌, ◌∙◌, ◌≤◌, ◌+◌, ℕ, suc, List, [], ◌∷◌, ◌++◌, length, map, ap, refl, sym, subst, arith, Bool, true, false, Some, None, if◌then◌else◌, append_assoc}
 use Rattle.std.specs.Prelude.{◌||◌, Option}
 use Rattle.std.specs.List.{list_any}
@@ -34,7 +34,7 @@ use Rattle.stream_law.specs.Owned.{PlainOwned, any_counts, next_seen, owned_kit,
 use Rattle.stream_law.specs.Ready.{AllEnter, MayEnter}
 use Rattle.stream_law.proofs.Turned.{as_end_of, notes_same, ran_same, ran_profiles, as_many}
 
--- the laws of what a branch is dealt, as they are cited
+-- the laws of what a branch gets, as they are cited
 abbrev pub DealtIsSame : Type 0
 DealtIsSame = (whole : PlainApart) (touch : Touch) → LiveEnd (as_version (dealt whole touch)) ≡ dealt_by_law touch (values_in whole)
 
@@ -57,7 +57,7 @@ moved_profiles b notes o (Live v) keeps = ran_profiles b o.positions o.functions
 moved_profiles b notes o (Nil p) keeps = refl
 moved_profiles b notes o Short keeps = refl
 
--- what a branch gives, as the law of bursts sees it
+-- a branch's result, as the law of bursts sees it
 abbrev pub as_ends : List (PlainMessage PlainVersion) → List BranchEnd
 as_ends row = map as_branch_end (map as_arrival row)
 
@@ -98,7 +98,7 @@ any_same b (f ∷ fs) = ap (λ c. (b.profile f).counts || c) (any_same b fs)
 moved_any : {F N : Type 0} (b : Behaviour F) (notes : Notes F N) (o : PlainOwned F N) (x : PlainMessage PlainVersion) → KeepsProfile b → any_counts b (moved (owned_kit b notes) o x).functions ≡ any_counts b o.functions
 moved_any b notes o x keeps = any_same b (moved (owned_kit b notes) o x).functions ∙ ap (list_any (λ (p : Profile). p.counts)) (moved_profiles b notes o x keeps) ∙ sym (any_same b o.functions)
 
--- where no function counts, nothing is listed
+-- if no function counts, nothing is listed
 none_listed : {N : Type 0} (packet index : ℕ) (qs : List ℕ) → row_listed {N = N} packet index (map (λ q. None) qs) ≡ []
 unfolding row_listed
 none_listed packet index [] = refl
@@ -158,7 +158,7 @@ moved_seen b notes chain low o t (ends.Whole whole) enter = refl
 moved_seen b notes chain low o t (ends.Gone p) enter = refl
 moved_seen b notes chain low o t ends.Short enter = absurd enter
 
--- what it lists of a packet, and of all
+-- what it lists for a packet, and for all
 one_listed : {F N : Type 0} (b : Behaviour F) (notes : Notes F N) (o : PlainOwned F N) (x : Branch) (t : Touch) (m : Merged) → KeepsProfile b → DealtIsSame → o.positions ≡ x.positions →
     (moved (owned_kit b notes) o (parted t (of_merged m))).listed ≡ o.listed ++ row_listed o.seen 0 (branch_notes b notes (x, t) o.functions (as_message m))
 one_listed {F} {N} b notes o x t (ends.Whole whole) keeps law at =

@@ -63,7 +63,8 @@ rests_on chain next start packets after keeps leaves = record {
       follows_rest chain next s m.0 n (keeps.each k s m.0 a m.1) (leaves.each k m.0 n m.1 e);
 }
 
--- What is known of a burst behind the nodes of all stages: these messages came, which are those packets to the law of bursts.
+-- What is known about a burst after the nodes of all stages: these messages arrived, which are those packets to the law
+-- of bursts.
 pub record HasGone {F N : Type 0} (b : Behaviour F) (notes : Notes F N) (stages : List Stage) (owned : List (List (List F))) (n : ℕ) (start : List Merged) (xs : List (PlainMessage PlainApart)) (ms : List Message) : Type 0 where
   pub may : MayPassAll (owned_kit b notes) (owned_may b) (works_of b stages owned n) xs
   pub functions : map (λ l. map (λ o. o.functions) l) (ends_of (owned_kit b notes) (works_of b stages owned n) xs) ≡ (along (stage_burst b) stages owned ms).state

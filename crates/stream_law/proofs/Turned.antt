@@ -1,4 +1,4 @@
--- The functions that a branch owns, in turn on what comes to it: the law of bursts says the same of them, and a version goes on.
+-- The functions that a branch owns, in turn on what arrives: the law of bursts says the same, and a version goes on.
 use Rattle.std.proofs.Common.{◌≡◌, ◌∙◌, ◌≤◌, ◌+◌, ℕ, suc, Bool, true, false, List, [], ◌∷◌, length, map, ap, refl, sym, subst}
 use Rattle.std.specs.Prelude.{Option, Some, if◌then◌else◌}
 use Rattle.std.proofs.lemmas.Option.{same_Some}
@@ -79,7 +79,7 @@ ran_same b (q ∷ qs) (f ∷ fs) x m keeps h =
     ap (then_state (moved_by b f m)) (ran_same b qs fs x (went_by b q f m) keeps (stays_fixed b q f x m h))
     ∙ (λ i. then_state (moved_same b f x m h i) (turned b x qs fs (went_same b q f x m keeps h i)))
 
--- and what they note of it
+-- and what they note about it
 noted_same : {F N : Type 0} (b : Behaviour F) (notes : Notes F N) (f : F) (x : Fixed) (m : PlainMessage PlainVersion) → HasFixed x m → noted_by b notes f m ≡ noted_of b notes x f (as_end_of m)
 unfolding noted_of
 noted_same b notes f x (Live v) h = ap (λ y. noted b notes y f (as_version v).values) h
@@ -106,7 +106,7 @@ ran_profiles b [] fs m keeps = refl
 ran_profiles b (q ∷ qs) [] m keeps = refl
 ran_profiles b (q ∷ qs) (f ∷ fs) m keeps = λ i. moved_profile b f m keeps i ∷ ran_profiles b qs fs (went_by b q f m) keeps i
 
--- what is held of the next position, and of those behind it
+-- what holds for the next position, and for those after it
 record Next (chain : List Profile) (touch : Touch) (low high q : ℕ) (rest : List ℕ) : Type 0 where
   position : 1 ≤ q
   rises : low ≤ q

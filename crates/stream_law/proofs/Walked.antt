@@ -48,7 +48,7 @@ gone b notes graph functions packets laws graphs ready =
     all_gone b notes (map b.profile functions) 1 graph.stages (owned_by graph.stages functions) (length packets) packets packets laws
     (graph_ready b graph functions graphs.staged graphs.rising graphs.many graphs.each ready.running) ready.enter ready.fits (omega arith) (rests_first (map b.profile functions) 1 packets ready.enter)
 
--- What is known of the burst.
+-- What is known about the burst.
 pub record HasWalked {F N : Type 0} (b : Behaviour F) (notes : Notes F N) (graph : Graph) (functions : List F) (packets : List Merged) : Type 0 where
   pub may : MayPassAll (owned_kit b notes) (owned_may b) (works_of b graph.stages (owned_by graph.stages functions) (length packets)) (map of_merged packets)
   pub functions_are : map (λ l. map (λ o. o.functions) l) (ends_of (owned_kit b notes) (works_of b graph.stages (owned_by graph.stages functions) (length packets)) (map of_merged packets)) ≡ owned_by graph.stages (chain_burst b functions (map as_message packets)).state

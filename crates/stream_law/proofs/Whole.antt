@@ -1,4 +1,4 @@
--- A packet that was put together behind a stage is whole again.
+-- A packet that was merged after a stage is whole again.
 use Rattle.std.proofs.Common.{◌≡◌, ◌≢◌, ◌∙◌, ◌<◌, ℕ, Bool, true, false, List, length, ap, refl, sym, subst, arith}
 use Rattle.std.specs.Prelude.{Option, Some, None, is_some, option_map, IfSome, if◌then◌else◌, slice_index_or}
 use Rattle.packet_fields.specs.Frames.{is_tag_list}
@@ -66,7 +66,7 @@ unwritten_length (Some p) = refl
 own_alike : (f : Field) (o : Option PlainPart) → Alike f (bytes_in o) o
 own_alike f o = record { there = bytes_there o; lengths = λ apart. bytes_length o }
 
--- a branch that has a part was dealt the packet's
+-- a branch that has a part got the packet's
 dealt_there : (touch : Touch) (parts : Parts) (f : Field) → is_some (dealt_parts touch parts f) ≡ true → dealt_parts touch parts f ≡ option_map unwritten (parts f)
 dealt_there touch parts f there = by_test (has_touch f touch) there
   where
@@ -133,7 +133,7 @@ whole_again whole touches base arrivals after values law shape from is formed =
     (shape (packet_parts whole) (packet_parts (merged_packet base arrivals)) whole.rest from.fits
     (shaped whole touches base arrivals t.ops values law from t.takes (subst (λ (w : PlainApart). AreWellFormed (values_in w)) (sym t.same) formed))))
 
--- and so is what a merger makes of a packet
+-- and so is a merger's result for a packet
 pub merged_fits : (chain : List Profile) (next : ℕ) (whole : PlainApart) (touches : List Touch) (row : List Arrival) → ValuesBehind → LastWrote → ShapeFits → AreFrom whole touches (based touches whole) row → LeavesStage chain next whole (merged (based touches whole) row) →
     Fits (merged (based touches whole) row)
 merged_fits chain next whole touches row values law shape from leaves = by_end (merged (based touches whole) row) refl leaves

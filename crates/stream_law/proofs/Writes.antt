@@ -59,7 +59,7 @@ none_there : (o : Option PlainPart) → is_some o ≡ false → is_some (bytes_i
 none_there None e = refl
 none_there (Some p) e = absurd cc
 
--- what a function writes in a version, where it keeps to its profile
+-- what a function writes in a version, if it obeys its profile
 pub wrote_as : {F : Type 0} (b : Behaviour F) (q : ℕ) (f : F) (v : PlainVersion) → KeepsProfile b →
     as_version (wrote_at q (stepped b v.fixed f (as_version v).values).written v) ≡ written_at q (stepped b v.fixed f (as_version v).values).written (as_version v)
 wrote_as b q f v keeps =

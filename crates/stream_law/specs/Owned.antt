@@ -1,4 +1,4 @@
--- For proofs: the functions that a branch owns, one after another on what comes to it.
+-- For proofs: the functions that a branch owns, one after another on what arrives.
 use Rattle.std.specs.Prelude.{◌≡◌, ◌<◌, ℕ, suc, List, [], ◌∷◌, ◌++◌, length, map, Bool, Option, Some, None, if◌then◌else◌}
 use Rattle.std.specs.List.{list_any}
 use Rattle.action_profile.specs.declared.parts.Touch.{Touch}
@@ -16,8 +16,8 @@ use Rattle.graph_run.specs.Staging.{Holds, IsCarried}
 use Rattle.packet_messages.specs.Messages.{PlainMessage, PlainMessage.Live, PlainMessage.Nil, PlainMessage.Short}
 use Rattle.stage_nodes.specs.Streams.{Kit}
 
--- Functions of a branch with the chain positions at which they stand, and how many packets a burst has. Where one of them counts, the
--- branch numbers the packets that come, and lists what is noted of them.
+-- Functions of a branch with their chain positions, and the number of packets in a burst. If one of them counts, the
+-- branch numbers the packets that arrive, and lists what is noted about them.
 pub record PlainOwned (F N : Type 0) : Type 0 where
   pub functions : List F
   pub positions : List ℕ
@@ -45,7 +45,7 @@ pub record IsOwnReady (own : List Profile) (positions : List ℕ) (version : Pla
   pub branch : IsBranch chain version.touch low high positions own
   pub carried : IsCarried chain whole version.touch low version
 
--- a function as it leaves what comes to it; what has no packet it never sees
+-- a function after what arrived at it; a message without a packet it never sees
 abbrev pub moved_by : {F : Type 0} → Behaviour F → F → PlainMessage PlainVersion → F
 moved_by b f (Live v) = (stepped b v.fixed f (as_version v).values).after
 moved_by b f (Nil p) = f
@@ -64,7 +64,7 @@ ran_by b [] fs m = record { state = fs; gives = m }
 ran_by b (q ∷ qs) [] m = record { state = []; gives = m }
 ran_by b (q ∷ qs) (f ∷ fs) m = then_state (moved_by b f m) (ran_by b qs fs (went_by b q f m))
 
--- what a function notes of what comes to it
+-- what a function notes about what arrives
 abbrev pub noted_by : {F N : Type 0} → Behaviour F → Notes F N → F → PlainMessage PlainVersion → Option N
 noted_by b notes f (Live v) = noted b notes v.fixed f (as_version v).values
 noted_by b notes f (Nil p) = None
@@ -92,7 +92,7 @@ owned_kit b notes = record {
   past = λ o. record o { seen = next_seen o };
 }
 
--- the version of the packet with this number may come: the burst has such a packet, each function has its position, and the version
--- is ready for them
+-- The version of the packet with this number may arrive: the burst has such a packet, each function has its position,
+-- and the version is ready for them.
 abbrev pub owned_may : {F N : Type 0} → Behaviour F → PlainOwned F N → ℕ → PlainVersion → Type 0
 owned_may b o p v = (p < o.packets) × (length o.functions ≡ length o.positions) × IsOwnReady (profiles_of b o.functions) o.positions v

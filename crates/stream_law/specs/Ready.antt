@@ -15,7 +15,7 @@ Fits (Whole whole) = IsWhole (packet_parts whole) whole.rest
 Fits (Gone p) = Unit {0}
 Fits Short = Unit {0}
 
--- a packet may go on from this position, or is gone; no packet of a run is short
+-- a packet may go on from this position, or was dropped; no packet of a run is short
 abbrev pub MayEnter : List Profile → ℕ → Merged → Type 0
 MayEnter chain position (Whole whole) = GoesFrom chain position whole
 MayEnter chain position (Gone p) = Unit {0}

@@ -6,7 +6,7 @@ use Rattle.graph_compile.specs.declared.graph.Stage.{Stage}
 use Rattle.stage_nodes.specs.Streams.{PlainStage}
 use Rattle.stream_law.specs.Owned.{PlainOwned, any_counts}
 
--- the branches of a stage, for a burst of so many packets
+-- the branches of a stage, for a burst of this number of packets
 unfoldable pub works_in : {F N : Type 0} → Behaviour F → List Branch → List (List F) → ℕ → List (PlainOwned F N)
 works_in b [] owns n = []
 works_in b (x ∷ branches) [] n = []

@@ -1,4 +1,4 @@
--- For proofs: what a piece of a text says.
+-- For proofs: the text of a piece.
 use Rattle.std.specs.Prelude.{ℕ, List}
 use Rattle.std.specs.Fmt.{decimal}
 use Rattle.text_lines.specs.declared.pieces.Piece.{Piece}

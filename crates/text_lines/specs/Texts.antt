@@ -2,7 +2,7 @@
 use Rattle.std.specs.Prelude.{ℕ, List, ◌++◌, codes}
 use Rattle.std.specs.List.{flat_map}
 
--- pieces of a text, one behind the other
+-- the pieces of a text, joined
 abbrev pub joined : List (List ℕ) → List ℕ
 joined pieces = flat_map (λ piece. piece) pieces
 
@@ -10,6 +10,6 @@ joined pieces = flat_map (λ piece. piece) pieces
 abbrev pub line_of : List (List ℕ) → List ℕ
 line_of pieces = joined pieces ++ codes "\n"
 
--- words, each after one space
+-- words, with one space before each
 abbrev pub spaced : List (List ℕ) → List ℕ
 spaced words = flat_map (λ word. codes " " ++ word) words

@@ -7,7 +7,7 @@ use Rattle.flow_shards.proofs.Seeing.{seen_more}
 use Rattle.flow_shards.proofs.shards.see_all.Goals.{in-Some+in_ok-push, in_default}
 use Rattle.flow_shards.proofs.shards.see_all.Goals as goal
 
--- what was seen, with what is seen of one packet more
+-- what was seen, with what is seen of one more packet
 pub items-preserved : goal.items-preserved
 items-preserved c =
     let inside : c.items.item-index < length c.args.burst.now.items = search rules in

@@ -1,4 +1,4 @@
--- Where there is no memory for a piece that was read, it is off the front of what was left too.
+-- If there is no memory for a piece that was read, that piece too is off the front of the bytes that remained.
 use Rattle.std.proofs.Common.{rules, ◌≤◌, ◌+◌, length}
 use Rattle.nfp_outside.proofs.Steps.{read_front}
 use Rattle.nfp_outside.proofs.whole.read_all.Goals as goal

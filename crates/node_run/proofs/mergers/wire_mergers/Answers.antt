@@ -3,7 +3,7 @@ use Rattle.node_run.proofs.Wiring.{merger_next}
 use Rattle.node_run.proofs.Edging.{mergers_done, mergers_first, mergers_on}
 use Rattle.node_run.proofs.mergers.wire_mergers.Goals as goal
 
--- the first end is what a merger has
+-- the first end is a merger's
 same_first : {A : Type 0} {ends rest : List A} {first own : A} → ends ≡ first ∷ rest → own ≡ first → ends ≡ own ∷ rest
 same_first {A} {ends} {rest} e is = e ∙ ap (λ y. y ∷ rest) (sym is)
 

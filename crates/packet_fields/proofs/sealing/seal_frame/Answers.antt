@@ -1,4 +1,4 @@
--- What stands before the packet stays, and nothing follows it.
+-- What is before the packet stays, and nothing follows it.
 use Rattle.std.proofs.Common.{◌≡◌, ◌∙◌, ◌-◌, ◌++◌, ℕ, List, [], length, take, drop, ap, arith}
 use Rattle.std.proofs.lemmas.List.{append-nil, take_rest, drop_all, length-drop}
 use Rattle.packet_fields.specs.Frames.{packet_at, packet}

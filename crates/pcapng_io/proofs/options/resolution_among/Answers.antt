@@ -1,4 +1,4 @@
--- Each option tells the resolution, or passes.
+-- Each option gives the resolution, or is skipped.
 use Rattle.std.proofs.Common.{◌≡◌, ◌∙◌, ◌<◌, ◌+◌, Some, None, ap, sym, subst, arith, length}
 use Rattle.capture_bytes.specs.Numbers.{number_at}
 use Rattle.pcapng_io.specs.Options.{padded}

@@ -1,4 +1,4 @@
--- A packet's block is put where its frame is put, and around it what stands before and behind the frame.
+-- A packet's block is put by putting its frame, and around it what is before and after the frame.
 use Rattle.std.proofs.Common.{◌≡◌, ◌∙◌, ◌++◌, ◌-◌, ◌+◌, ℕ, List, ap, subst, length}
 use Rattle.std.specs.Prelude.{replicate}
 use Rattle.std.proofs.lemmas.Result.{on_ok_weaker, on_err_weaker}

@@ -1,4 +1,4 @@
--- What stands behind a frame is put in three pieces, where there are options.
+-- What follows a frame is put in three pieces, if there are options.
 use Rattle.std.proofs.Common.{◌≡◌, ◌≤◌, ◌++◌, ◌∷◌, [], ℕ, List, subst, take}
 use Rattle.std.specs.Prelude.{replicate}
 use Rattle.std.proofs.lemmas.Result.{on_ok_weaker, on_err_weaker}

@@ -3,7 +3,7 @@ use Rattle.graph_run.specs.Leading.{Leads}
 use Rattle.graph_run.specs.Packets.{packets_taken}
 use Rattle.piped_run.proofs.piped.run_pieces.Given as goal
 
--- the pieces so far were led
+-- the pieces so far have run
 abbrev pub invariant-pieces : goal.invariant-pieces
 invariant-pieces g l = record {
   inside : l.start ≤ length l.items;

@@ -2,7 +2,7 @@ use Rattle.std.proofs.Common.{◌≡◌, ◌≤◌, ◌++◌, map, replicate, ta
 use Rattle.std.specs.Vec.{vec_capacity, vec_len}
 use Rattle.acc_table.proofs.row.Row.hand_over.Given as goal
 
--- the values of the branches so far are handed over, and the others stand
+-- the values of the branches so far are handed over, and the others stay
 abbrev pub invariant-loop-slot : goal.invariant-loop-slot
 invariant-loop-slot g l =
     (map Some l.into.items ≡ take l.slot-index l.initial.slot-items)

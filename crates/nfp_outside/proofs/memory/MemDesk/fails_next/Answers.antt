@@ -1,4 +1,4 @@
--- The list that is searched is the desk's, and the number is that of the slot's next call.
+-- The search is over the desk's list, and the number is that of the slot's next call.
 use Rattle.std.proofs.Common.{◌↔◌, IsTrue, Contains, subst}
 use Rattle.nfp_outside.specs.Memory.{listed}
 use Rattle.nfp_outside.proofs.memory.MemDesk.fails_next.Goals as goal

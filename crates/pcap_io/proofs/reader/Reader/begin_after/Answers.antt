@@ -13,7 +13,7 @@ use Rattle.pcap_io.proofs.Fronts.{read_head, refuse_head}
 use Rattle.pcap_io.proofs.Steps.{only_fault}
 use Rattle.pcap_io.proofs.reader.Reader.begin_after.Goals as goal
 
--- a buffer of 24 bytes that was filled behind the first ones, as one that was filled whole
+-- a buffer of 24 bytes that was filled after the first ones, as one that was filled at once
 record Whole (answer : Result CaptureHead CaptureFault) (first buffer piece : List ℕ) (count : ℕ) (old new : SlotView) : Type 0 where
   size : length (first ++ piece) ≡ 24
   fills : Fills (length first + count) (first ++ piece) (unread first old) new

@@ -1,4 +1,4 @@
--- A record is put where its head is put, and its frame behind it.
+-- A record is put by putting its head, and then its frame.
 use Rattle.std.proofs.Common.{rules, ◌≡◌, subst}
 use Rattle.std.proofs.lemmas.Result.{on_ok_weaker}
 use Rattle.nfp_outside.specs.declared.slot.Slot.TheVariants.{Out}

@@ -1,6 +1,6 @@
 // Why a slot over a file failed.
 
-use crate::slot::Slot;
+use nfp_outside::Slot;
 use std::io;
 
 /// Why a slot over a file failed, as the failed call reported it. It is for messages that explain to an operator what

@@ -2,7 +2,7 @@
 use Rattle.std.specs.Prelude.{ℕ, None}
 use Rattle.std.specs.Option.{option_map}
 use Rattle.std.specs.String.{string_bytes}
-use Rattle.nfp_outside.specs.declared.port.Port.{Port}
+use Rattle.file_desk.specs.declared.port.Port.{Port}
 use Rattle.nfp_outside.specs.Outside.{SlotView}
 
 abbrev pub port_view : {F : Type 0} → Port F → SlotView

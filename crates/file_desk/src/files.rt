@@ -2,17 +2,16 @@
 ghost use Rattle.std.specs.Prelude.{◌≡◌, ◌≢◌, IfOk, IfErr, OnOk, OnErr, IsErrOf, IsNone, IsSome, IsTrue, None, false, ◌⊎◌};
 ghost use Rattle.nfp_outside.specs.declared.slot.Slot.{Slot};
 ghost use Rattle.nfp_outside.specs.Outside.{is_read, fresh_slot, KeepsSlot, Attaches, Reads, Writes, HasCause, CountsFailure};
-ghost use Rattle.nfp_outside.specs.Port.{port_view, stream_view};
+ghost use Rattle.file_desk.specs.Port.{port_view, stream_view};
 ghost use Rattle.std.specs.String.{string_bytes};
 ghost use Rattle.nfp_outside.specs.Slots.{at_slot};
 
-use crate::desk::Desk;
 use crate::opened::{
     Identity, OpenFault, STANDARD_ERROR, STANDARD_OUTPUT, Target, identity_of, identity_of_stream,
 };
 use crate::port::Port;
 use crate::reason::Reason;
-use crate::slot::{DeskFault, Slot};
+use nfp_outside::{Desk, DeskFault, Slot};
 use std::alloc::Global;
 use std::fs::{File, OpenFile, OpenOptions};
 use std::io;
@@ -56,7 +55,7 @@ pub struct FileDesk<R: Files + Print + AllocGlobal + Drop> {
 
 impl<R: Files + Print + AllocGlobal + Drop> FileDesk<R> {
     /// A desk over the files of a runtime. Nothing is attached, and every count is 0.
-    #[tactic(auto, unfolding(crate::specs::Slots::at_slot))]
+    #[tactic(auto, unfolding(nfp_outside::specs::Slots::at_slot))]
     pub fn new(rt: R) -> Self
         ensures { (s : Slot) → ⟦<FileDesk<R> as Desk>⟧.slots result s ≡ fresh_slot None }
     {
@@ -140,7 +139,7 @@ impl<R: Files + Print + AllocGlobal + Drop> FileDesk<R> {
 
     /// Writes the gathered bytes to their files, and returns the first slot whose gathered bytes were lost. A slot that
     /// has failed at one of its own calls, which reported it, is left out.
-    #[tactic(auto, unfolding(crate::specs::Slots::at_slot))]
+    #[tactic(auto, unfolding(nfp_outside::specs::Slots::at_slot))]
     pub fn hand_on(&mut self) -> Option<Slot>
         ensures { let slots = ⟦<FileDesk<R> as Desk>⟧.slots in
             (s : Slot) → slots self.new s ≡ slots self.old s }
@@ -164,7 +163,7 @@ impl<R: Files + Print + AllocGlobal + Drop> Desk for FileDesk<R> {
 
     /// `Failed` if the file can't be opened, and at Out and Report also if the file is attached already, or if standard
     /// output or standard error leads to it. The count of the slot rises by one then, and in no other case.
-    #[tactic(auto, unfolding(crate::specs::Slots::at_slot))]
+    #[tactic(auto, unfolding(nfp_outside::specs::Slots::at_slot))]
     fn attach(&mut self, slot: Slot, name: &str) -> Result<(), DeskFault>
         requires not_note { slot ≢ Slot.Note }
         requires free { IsNone (⟦<FileDesk<R> as Desk>⟧.slots self.old slot).name }
@@ -200,7 +199,7 @@ impl<R: Files + Print + AllocGlobal + Drop> Desk for FileDesk<R> {
 
     /// `Failed` if the file can't be read. The count of the slot rises by one then, and in no other
     /// case.
-    #[tactic(auto, unfolding(crate::specs::Slots::at_slot))]
+    #[tactic(auto, unfolding(nfp_outside::specs::Slots::at_slot))]
     fn read(&mut self, slot: Slot, into: &mut [u8]) -> Result<usize, DeskFault>
         requires read_slot { IsTrue (is_read slot) }
         requires attached { IsSome (⟦<FileDesk<R> as Desk>⟧.slots self.old slot).name }
@@ -226,7 +225,7 @@ impl<R: Files + Print + AllocGlobal + Drop> Desk for FileDesk<R> {
 
     /// `Failed` if the file can't be written, or takes nothing of a piece; at Note also if bytes that were gathered for
     /// a file can't be written. The count of the slot rises by one then, and in no other case.
-    #[tactic(auto, unfolding(crate::specs::Slots::at_slot))]
+    #[tactic(auto, unfolding(nfp_outside::specs::Slots::at_slot))]
     fn write(&mut self, slot: Slot, bytes: &[u8]) -> Result<usize, DeskFault>
         requires write_slot { is_read slot ≡ false }
         requires attached { let slots = ⟦<FileDesk<R> as Desk>⟧.slots in

@@ -2,11 +2,11 @@
 ghost use Rattle.std.specs.Prelude.{◌≡◌, ◌≤◌, IfOk, OnOk, OnErr, IsErrOf, None};
 ghost use Rattle.std.specs.String.{string_bytes};
 ghost use Rattle.nfp_outside.specs.Outside.{KeepsSlot, HasCause, IsRisen, CountsFailure, one_more, Attaches, Reads, Writes, fresh_slot};
-ghost use Rattle.nfp_outside.specs.Port.{port_view};
+ghost use Rattle.file_desk.specs.Port.{port_view};
 
 use crate::opened::{OpenFault, Target};
 use crate::reason::Reason;
-use crate::slot::{DeskFault, Slot};
+use nfp_outside::{DeskFault, Slot};
 use std::fs::OpenFile;
 use std::io::{BufWriter, Read, Write};
 
