@@ -16,8 +16,8 @@ use std::sync::Wait;
 
 const ROUNDS: u32 = 200_000;
 
-/// Addresses, and the headers of UDP from 10.0.0.1:1000 to 10.0.0.2:53 in an IPv4 packet of 1,486 bytes, which a shorter
-/// frame cuts.
+/// Addresses, and the headers of UDP from 10.0.0.1:1000 to 10.0.0.2:53 in an IPv4 packet of 1,486 bytes, which a
+/// shorter frame cuts.
 const HEADERS: [u8; 42] = [
     2, 0, 0, 0, 0, 2, 2, 0, 0, 0, 0, 1, 8, 0, 0x45, 0, 0x05, 0xce, 0, 0, 0, 0, 64, 17, 0x61, 0x1d,
     10, 0, 0, 1, 10, 0, 0, 2, 0x03, 0xe8, 0, 53, 0x05, 0xba, 0, 0,

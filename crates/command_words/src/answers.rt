@@ -1,4 +1,4 @@
-//! The command that the matched words are.
+//! Makes a command of matched words.
 ghost use Rattle.std.specs.Prelude.{◌≡◌, IfOk, codes, option_map};
 ghost use Rattle.std.specs.List.{list_all};
 ghost use Rattle.clap.specs.Words.{first_value, found_of};

@@ -10,8 +10,8 @@
 //!
 //! An option may come before, between or after the names, as `--burst 7` or `--burst=7`, and at most once. After the
 //! word `--` each word is a name, so a name that begins with a dash can be given there. WAY is `inbox` or `board`.
-//! First the words are told apart, then the numbers are read, then the way, and last the names of files are compared,
-//! including that of `--graph`. The reported fault is the first in this order.
+//! First options and names are separated, then the numbers are read, then the way, and last the names of files are
+//! compared, including that of `--graph`. The reported fault is the first in this order.
 //!
 //! The words after the command's own are read by `clap`, and it is proved that the result is that of the definition,
 //! which doesn't mention `clap`. Two differences are handled here: `clap` accepts an empty word and a single dash as a

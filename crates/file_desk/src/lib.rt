@@ -1,7 +1,7 @@
 //! A desk over files and standard output.
 //!
-//! [`FileDesk`] opens the files whose names a program attaches to the slots of a [`Desk`](nfp_outside::Desk). No contract can say
-//! what the system gives or keeps, so its view shows the names and the counts of faults, and no bytes.
+//! [`FileDesk`] opens the files whose names a program attaches to the slots of a [`Desk`](nfp_outside::Desk). No
+//! contract can say what the system gives or keeps, so its view shows the names and the counts of faults, and no bytes.
 //!
 //! What is put into a file is gathered, and passed on in pieces of 64 KiB. So a failed write of gathered bytes counts
 //! when it is found: at the call of its own slot that needed the room, or at that of Note, before which all gathered

@@ -13,8 +13,8 @@ use std::thread::Threads;
 
 /// The counts of flows, in a shard for each worker.
 ///
-/// Contracts see the number of workers, the number of the last packet that was fed, and one list of lines in the order of first
-/// sight, each with its flow.
+/// Contracts see the number of workers, the number of the last packet that was fed, and one list of lines in the order
+/// of first sight, each with its flow.
 #[derive(Drop)]
 pub struct Shards {
     tables: Vec<Table>,

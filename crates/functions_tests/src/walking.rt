@@ -13,8 +13,8 @@ use std::alloc::Global;
 use std::process::Abort;
 use std::sync::Wait;
 
-// The contract of the walk is long, and the prover sees all of its clauses in every function that calls it. So the tests
-// call this function, which promises nothing itself.
+// The contract of the walk is long, and the prover sees all of its clauses in every function that calls it. So the
+// tests call this function, which promises nothing itself.
 
 /// The fate of a frame with this time after a chain.
 pub fn walked<F: Function>(

@@ -84,7 +84,8 @@ pub fn nfp<R: Threads + Wait + Clock + Sync, D: Desk, G: Gate + Sync>(
     ensures note_fault { result ≡ Outcome.WriteFault Slot.Note → WhereRead (command_of (map string_bytes words.now)) (D.slots desk.old) (λ p g c.
         IsDue (due (map string_bytes words.now) p g c) (D.slots desk.old) (D.slots desk.new) Outcome.Done) }
 
-    // Done says that the policy, the graphs and the capture that the words name were read to their ends, whatever the counts did.
+    // Done says that the policy, the graphs and the capture that the words name were read to their ends, whatever the
+    // counts did.
     ensures read_whole { result ≡ Outcome.Done → ReadsToEnd (command_of (map string_bytes words.now)) (D.slots desk.new) }
 
     // Each attached slot has the name that the words give it, so a plan attaches only the policy and the graphs.

@@ -29,7 +29,8 @@ use std::thread::Threads;
 use text_lines::Piece::{Number, Text};
 use text_lines::join;
 
-/// Counts the flows of the capture and puts their export into Out. The words are accepted, and nothing is put into Note.
+/// Counts the flows of the capture and puts their export into Out. The words are accepted, and nothing is put into
+/// Note.
 pub fn flows<R: Threads + Sync, D: Desk>(
     rt: &R,
     alloc: Global,

@@ -17,7 +17,7 @@ use std::thread::Threads;
 // The greatest number of bytes of a policy.
 const LONGEST_POLICY: usize = 1_048_576;
 
-// A run by this policy whose calls of the desk fail where they are listed.
+// A run of this policy in which the listed calls of the desk fail.
 fn failing(
     rt: &(impl Abort + AllocGlobal + Threads + Wait + Clock + Sync),
     policy: &[u8],

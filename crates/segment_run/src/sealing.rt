@@ -13,7 +13,8 @@ use packet_fields::{Frame, seal};
 use std::alloc::{AllocError, Global};
 use std::vec::IntoIter;
 
-/// The fates of the packets of the chain with this number, each frame that goes out sealed by the frame that the packet had.
+/// The fates of the packets of the chain with this number, each frame that goes out sealed by the frame that the packet
+/// had.
 pub(crate) fn seal_all(
     alloc: Global,
     items: &[Item],

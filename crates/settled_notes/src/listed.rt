@@ -6,7 +6,8 @@ use net_functions::FlowNote;
 use std::alloc::AllocError;
 use std::marker::Model;
 
-/// A note of the packet with this number in the burst, counted from 0, by the function at this place in its branch, counted from 0.
+/// A note of the packet with this number in the burst, counted from 0, by the function at this place in its branch,
+/// counted from 0.
 #[derive(Drop)]
 pub struct ListedNote {
     pub packet: u32,
