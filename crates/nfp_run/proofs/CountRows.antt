@@ -45,7 +45,7 @@ use Rattle.nf_observe.specs.LimiterLines.{line_of as limiter_line_of}
 use Rattle.plan_text.specs.Plan.{branch_text, chain_plan, cut as plan_cut, part_line, pieces_text, stage_text}
 use Rattle.nfp_run.proofs.Rows.{head, first, ninth, capture, worth}
 
--- ---- after one firewall and beside another, a monitor counts what the first passes
+-- ---- a monitor after a firewall, beside it in the graph, counts what the firewall passes
 
 past : List ℕ
 past = codes "nfp 1\nchain main\nfn fw firewall\nrule deny src 10.0.0.9\nfn mon monitor\n"
