@@ -2,7 +2,8 @@
 use Rattle.std.specs.Prelude.{ℕ, ◌≡◌, ◌<◌, ◌≤◌, None, slice_index_or}
 use Rattle.acc_table.specs.Arrivals.{Table, IsOpen, arrivals, nothing}
 
--- the packets from the first on up to the next are open and wait for their second branch, and nothing has come of those behind
+-- The packets from the first up to the next are open and wait for their second branch, and nothing has arrived for
+-- those after them.
 pub record Rolls (t : Table ℕ) (first next : ℕ) : Type 0 where
   pub branches : t.branches ≡ 2
   pub waiting : (p : ℕ) → first ≤ p → p < next → IsOpen t p

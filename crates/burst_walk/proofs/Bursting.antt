@@ -1,4 +1,4 @@
--- What the way of a burst gives, told by the records of its packets.
+-- The walk of a burst, stated for the records of its packets.
 use Rattle.std.proofs.Common.{◌≡◌, ◌<◌, ◌∙◌, ℕ, suc, List, [], ◌∷◌, length, map, refl, ap, sym, subst}
 use Rattle.std.specs.Prelude.{All, IfSome, Option, Some, None}
 use Rattle.std.proofs.lemmas.List.{length-map}
@@ -25,7 +25,7 @@ fits_twice : (chains : List ServiceChain) → map (λ (c : ChainPolicy). c.fit) 
 fits_twice [] = refl
 fits_twice (c ∷ chains) = ap (λ l. c.declared.fit ∷ l) (fits_twice chains)
 
--- each packet of a burst is told its chain by the chains' own clauses
+-- each packet of a burst is classified by the chains' own clauses
 pub packets_told : (fits : List Match) (chains : List ServiceChain) (unit : TimeUnit) (items : List Item) → fits ≡ fits_of chains → All (IsClassed fits) items → classed_items unit items ≡ all_classed (chains_of chains).declared unit (records_of items)
 packets_told fits chains unit [] told held = refl
 packets_told fits chains unit (i ∷ items) told held =
@@ -80,7 +80,7 @@ pub classes_by_record : (fits : List Match) (chains : List ServiceChain) (unit :
     map (λ (i : Item). i.class) items ≡ map (λ (x : Classed). x.class) (all_classed (chains_of chains).declared unit (records_of items))
 classes_by_record fits chains unit items told held = classes_seen unit items ∙ ap (map (λ (x : Classed). x.class)) (packets_told fits chains unit items told held)
 
--- what is left of the chains is what their own packets left of each
+-- the state of the chains is the one in which their own packets left each
 each_pieces : (xs : List Classed) (n : ℕ) (a b : List ServiceChain) → LeadsEach xs n a b → map pieces_in b ≡ each_after named_behaviour xs n (map pieces_in a)
 unfolding LeadsEach each_after
 each_pieces xs n [] [] led = refl

@@ -1,4 +1,4 @@
--- A frame that goes out of a chain is short enough for a record: it grows by twenty bytes for each function at most.
+-- A frame that goes out of a chain is short enough for a record: it grows by at most twenty bytes for each function.
 use Rattle.std.proofs.Common.{◌≤◌, ℕ, ◌+◌, ◌*◌, List, length, arith}
 use Rattle.std.specs.Prelude.{All}
 use Rattle.std.proofs.lemmas.List.Elements.{All-weaker}
@@ -17,7 +17,7 @@ use Rattle.chain_service.specs.declared.named.NamedFunction.{NamedFunction}
 use Rattle.burst_walk.specs.Leading.{IsWritable}
 use Rattle.burst_walk.proofs.Leading.{IsShortPacket}
 
--- What is known of how frames grow.
+-- What is known about how frames grow.
 abbrev pub FramesGrowLittle : Type 0
 FramesGrowLittle = (b : Behaviour NamedFunction) (pieces : List (Piece NamedFunction)) (ps : List Packet) (most : ℕ) → KeepsProfile b → All GrowsLittle pieces → All (λ p. length p.frame ≤ most) ps → All (IsNoLonger (most + 20 * functions_count pieces)) (long_fates b pieces ps)
 

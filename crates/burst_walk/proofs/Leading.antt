@@ -1,4 +1,4 @@
--- Each chain leads its own packets among those of a burst.
+-- Each chain runs its own packets among those of a burst.
 use Rattle.std.proofs.Common.{◌≡◌, ◌≤◌, ◌+◌, ◌∙◌, ℕ, suc, List, [], ◌∷◌, ◌++◌, length, map, Bool, true, false, refl, ap, sym, subst, append_assoc, length-append, arith}
 use Rattle.std.specs.Prelude.{All, filter, if◌then◌else◌}
 use Rattle.std.proofs.lemmas.List.{length-map, map_push}
@@ -29,7 +29,7 @@ packets_led unit chain (item ∷ items) = by (is_of chain item) (packets_led uni
     by true later = ap (λ l. packet_of unit item ∷ l) later
     by false later = later
 
--- a packet of a length that is accepted
+-- a packet of an accepted length
 abbrev pub IsShortPacket : Packet → Type 0
 IsShortPacket x = length x.frame ≤ 262144
 
@@ -42,7 +42,7 @@ short_packets unit chain (item ∷ items) short = by (takes chain (classed_item 
     by true later = All-cons IsShortPacket (packet_of unit item) (packets_in chain (classed_items unit items)) (All-head (λ i. IsShort i.packet) item items short) later
     by false later = later
 
--- one more chain led its packets
+-- one more chain ran its packets
 leads_more : (packets : List Classed) (number : ℕ) (before after : List ServiceChain) (chain led : ServiceChain) → LeadsEach packets number before after → LeadsChain packets (number + length before) chain led →
     LeadsEach packets number (before ++ chain ∷ []) (after ++ led ∷ [])
 unfolding LeadsEach
@@ -68,7 +68,7 @@ each_more packets number (first ∷ chains) pieces =
     ap (λ l. long_fates named_behaviour first (packets_in number packets) ∷ l)
     (each_more packets (suc number) chains pieces ∙ ap (λ n. each_fates named_behaviour packets (suc number) chains ++ long_fates named_behaviour pieces (packets_in n packets) ∷ []) (omega arith))
 
--- Some chains led their packets, and these are left.
+-- Some chains ran their packets, and these remain.
 pub record IsLeading {V : Type 0} (row_of : V → List Fate) (packets : List Classed) (chains left led : List ServiceChain) (number : ℕ) (rows : List V) : Type 0 where
   pub done : List ServiceChain
   pub row : chains ≡ done ++ left

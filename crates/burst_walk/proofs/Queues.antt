@@ -38,7 +38,7 @@ left_writable rows (Some chain) inside all =
 abbrev pub classes_of : List Item → List (Option ℕ)
 classes_of items = map (λ i. i.class) items
 
--- Some packets have their fates, and the rows hold those of the packets that are left.
+-- Some packets have their fates, and the rows hold those of the remaining packets.
 pub record IsWeaving (items : List Item) (rows queues : List (List Fate)) (fates : List (Option Fate)) (index : ℕ) : Type 0 where
   pub due : fates ++ woven (drop index (classes_of items)) queues ≡ woven (classes_of items) rows
   pub many : length queues ≡ length rows
@@ -78,7 +78,7 @@ one_more items rows queues queues' fates index item next at inside is fits taken
         ap (λ cs. woven cs queues) split ∙ woven-cons item.class (drop (index + 1) (classes_of items)) queues
         ∙ (λ i. sym taken i ∷ woven (drop (index + 1) (classes_of items)) (sym left i))
 
--- the same, where the rows are lent as a slice
+-- the same, if the rows are lent as a slice
 pub weaving_goes_on : {V W : Type 0} (row_of : V → List Fate) (given_of : W → List Fate) (items : List Item) (rows : List W) (queues lent after now : List V) (fates fates' : List (Option Fate)) (index : ℕ) (item : Item) (next : Option Fate) →
     IsWeaving items (map given_of rows) (map row_of queues) fates index → index < length items → item ≡ slice_index_or items index item → All (λ i. IfSome i.class (λ chain. chain < length rows)) items →
     lent ≡ queues → next ≡ next_fate (map row_of lent) item.class → map row_of after ≡ fates_left (map row_of lent) item.class → now ≡ after → fates' ≡ fates ++ next ∷ [] →
@@ -102,7 +102,7 @@ weaving_ends items rows queues fates index at over =
     let none : drop index (classes_of items) ≡ [] = drop_all index (classes_of items) (omega arith) in
     sym (append-nil fates) ∙ ap (λ l. fates ++ l) (sym (ap (λ cs. woven cs queues) none ∙ woven-nil queues)) ∙ at.due
 
--- a fate was taken off the front of a row, where there was one
+-- a fate was taken off the front of a row, if there was one
 taken_off : (row left : List Fate) (next : Option Fate) → row ≡ option_to_list next ++ left → (next ≡ None → length row ≡ 0) → drop 1 row ≡ left
 taken_off row left None is none = sym (drop_none row (none refl)) ∙ is
   where
@@ -119,7 +119,7 @@ row_left row_of rows class chain d after next taken inside gives none =
     let rest : drop 1 (row_of (slice_index_or rows chain d)) ≡ row_of after = taken_off (row_of (slice_index_or rows chain d)) (row_of after) next gives none in
     map-set row_of rows chain after ∙ ap (set (map row_of rows) chain) (sym (ap (drop 1) here ∙ rest)) ∙ ap (fates_left (map row_of rows)) (sym taken)
 
--- what is known where nothing was taken
+-- what is known if nothing was taken
 pub none_taken : {X : Type 0} (o : Option X) (P : Type 0) (Q : X → Type 0) → MatchOption o P Q → o ≡ None → P
 none_taken None P Q known none = known
 none_taken (Some x) P Q known none = absurd (cc)

@@ -1,4 +1,4 @@
--- For proofs: words of chain_service, for the crates above.
+-- For proofs: names of chain_service, for the higher crates.
 pub use Rattle.chain_service.specs.Fitting.{FitAll}
 pub use Rattle.chain_service.specs.Opening.{IsOpening, IsOpeningChain, chains_of, fits_of, pieces_in}
 pub use Rattle.chain_service.specs.StateRows.{named_rows}

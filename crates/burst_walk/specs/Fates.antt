@@ -18,10 +18,10 @@ classed chains unit r = record { class = class_of (map (λ c. c.fit) chains) r.f
 abbrev pub all_classed : List ChainPolicy → TimeUnit → List PcapRecord → List Classed
 all_classed chains unit records = map (classed chains unit) records
 
--- where the packets of a capture end, each going through its chain as the packet before left it
+-- where the packets of a capture end, each going through its chain in the state in which the packet before left it
 unfoldable pub fates_of : Chains → TimeUnit → List PcapRecord → List Fate
 fates_of chains unit records = fates_among named_behaviour chains.pieces (all_classed chains.declared unit records)
 
--- the chains as the last of these packets left them
+-- the chains in the state in which the last of these packets left them
 unfoldable pub chains_behind : Chains → TimeUnit → List PcapRecord → Chains
 chains_behind chains unit records = record chains { pieces = chains_after named_behaviour chains.pieces (all_classed chains.declared unit records) }

@@ -1,4 +1,4 @@
--- For proofs: how the chains of a service lead the packets of a burst, each its own.
+-- For proofs: how the chains of a service run the packets of a burst, each its own.
 use Rattle.std.specs.Prelude.{◌≡◌, ◌<◌, ◌^◌, ℕ, suc, List, [], ◌∷◌, map, length, Option, Some, None}
 use Rattle.capture_bytes.specs.Packets.{IsShort}
 use Rattle.capture_bytes.specs.declared.packet.PcapRecord.{PcapRecord}
@@ -29,30 +29,30 @@ classed_item unit item = record { class = item.class; packet = packet_of unit it
 abbrev pub classed_items : TimeUnit → List Item → List Classed
 classed_items unit items = map (classed_item unit) items
 
--- A packet that is told its chain by these clauses, from a record of a length that is accepted.
+-- A packet that is classified by these clauses, from a record of an accepted length.
 pub record IsClassed (fits : List Match) (item : Item) : Type 0 where
   pub class : item.class ≡ class_of fits item.packet.frame
   pub short : IsShort item.packet
 
--- a frame that can be written as a record of any format: it is far shorter than its numbers may tell
+-- a frame that can be written as a record of any format: it is far shorter than the format's numbers allow
 abbrev pub IsWritable : Fate → Type 0
 IsWritable (Out frame) = length frame < 2 ^ 22
 IsWritable (Gone position) = Unit {0}
 
--- The chain with this number led its packets among these, and stays the chain that it is.
+-- The chain with this number ran its packets among these, and remains the same chain.
 pub record LeadsChain (packets : List Classed) (number : ℕ) (before after : ServiceChain) : Type 0 where
   pub same_chain : after.declared ≡ before.declared
   pub same_names : after.names ≡ before.names
   pub pieces : pieces_in after ≡ pieces_after named_behaviour (pieces_in before) (packets_in number packets)
   pub copied : (f : Field) → count_of after.copies f ≡ raised (count_of before.copies f) (copies_through named_behaviour (pieces_in before) (packets_in number packets) f)
 
--- each chain did so, where the first has this number
+-- each chain did so, if the first has this number
 unfoldable pub LeadsEach : List Classed → ℕ → List ServiceChain → List ServiceChain → Type 0
 LeadsEach packets number [] [] = Unit {0}
 LeadsEach packets number (before ∷ befores) (after ∷ afters) = LeadsChain packets number before after × LeadsEach packets (suc number) befores afters
 LeadsEach packets number befores afters = ⊥
 
--- where a packet ended that a chain led to this end, or that no chain took
+-- where a packet ended that a chain ran to this end, or that no chain took
 abbrev pub ended : PcapRecord → Option Fate → Fate
 ended r None = Out r.frame
 ended r (Some fate) = fate

@@ -1,4 +1,4 @@
--- For proofs: how many mergers a number of mergers says.
+-- For proofs: the number of mergers of a value of `Mergers`.
 use Rattle.std.specs.Prelude.{ℕ, ◌+◌, ◌%◌}
 use Rattle.burst_walk.specs.declared.merging.Mergers.{Mergers}
 

@@ -18,7 +18,7 @@ running-append : (xs ys : List (Piece NamedFunction)) → running_in (xs ++ ys) 
 running-append xs ys = ap (flat_map functions_of) (map-append piece_of xs ys) ∙ flat_map-append functions_of (pieces_of xs) (pieces_of ys)
 
 module _ (p : NamedFunction → Bool) (pieces : List (Piece NamedFunction)) (index : ℕ) (piece : Piece NamedFunction) (found : Option NamedFunction) where
-  -- what is found up to a piece and in it, where nothing was found before it
+  -- what is found up to a piece and in it, if nothing was found before it
   pub found_so_far : index < length pieces → piece ≡ slice_index_or pieces index piece → find p (running_in (take index pieces)) ≡ None →
       found ≡ find p (functions_of (piece_of piece)) → find p (running_in (take (index + 1) pieces)) ≡ found
   found_so_far inside is none here =
@@ -28,7 +28,7 @@ module _ (p : NamedFunction → Bool) (pieces : List (Piece NamedFunction)) (ind
       ∙ ap (find p) (running-append (take index pieces) (piece ∷ []) ∙ ap (λ l. front ++ l) (append-nil own))
       ∙ find-append p front own ∙ ap (λ o. option_or o (find p own)) none ∙ sym here
 
--- what was found stays found, whatever stands behind it
+-- what was found stays found, whatever follows it
 pub found_among : (p : NamedFunction → Bool) (pieces : List (Piece NamedFunction)) (index : ℕ) (f : NamedFunction) → find p (running_in (take index pieces)) ≡ Some f → Some f ≡ find p (running_in pieces)
 found_among p pieces index f here =
     let behind = running_in (drop index pieces) in

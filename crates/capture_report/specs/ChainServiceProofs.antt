@@ -1,3 +1,3 @@
--- For proofs: words of chain_service, for the crates above.
+-- For proofs: names of chain_service, for the higher crates.
 pub use Rattle.burst_walk.specs.ChainService.{NamedFunction}
 pub use Rattle.burst_walk.specs.ChainServiceProofs.{FitAll, IsOpening, IsOpeningChain, Service, ServiceChain, chains_of, fits_of, named_rows, pieces_in}

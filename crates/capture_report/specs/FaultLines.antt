@@ -9,7 +9,7 @@ use Rattle.pcapng_io.specs.declared.fault.NgFault.TheVariants as ng
 use Rattle.capture_report.specs.declared.fault.FormatFault.{FormatFault}
 use Rattle.capture_report.specs.declared.fault.FormatFault.TheVariants.{Pcap, Ng}
 
--- of a classic capture
+-- for a classic capture
 unfoldable pub capture_text : CaptureFault → List ℕ
 capture_text BadMagic = codes "capture: bad magic\n"
 capture_text BadVersion = codes "capture: bad version\n"
@@ -19,7 +19,7 @@ capture_text (CutRecord number) = joined (codes "capture: cut record " ∷ decim
 capture_text (FrameTooLong number length) = joined (codes "capture: frame too long " ∷ decimal number ∷ codes " " ∷ decimal length ∷ codes "\n" ∷ [])
 capture_text TooManyRecords = codes "capture: too many records\n"
 
--- of a pcapng capture
+-- for a pcapng capture
 unfoldable pub ng_text : NgFault → List ℕ
 ng_text (ng.CutBlock number) = joined (codes "capture: cut block " ∷ decimal number ∷ codes "\n" ∷ [])
 ng_text (ng.BadBlock number) = joined (codes "capture: bad block " ∷ decimal number ∷ codes "\n" ∷ [])

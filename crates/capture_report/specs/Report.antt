@@ -1,5 +1,5 @@
--- Believed: the report: the line of each dropped packet, the totals, the copies of each chain's fields, each function with the lines of
--- its state, and the end or the capture's fault.
+-- Believed: the report: the line of each dropped packet, the totals, the copies of each chain's fields, each function
+-- with the lines of its state, and the end or the capture's fault.
 use Rattle.std.specs.Prelude.{ℕ, zero, suc, ◌-◌, List, [], ◌∷◌, ◌++◌, length, map, Bool, true, false, codes, count_by, slice_get, Option, Some, None}
 use Rattle.std.specs.Option.{option_map_or}
 use Rattle.std.specs.List.{flat_map, enumerate_from, find, zip}
@@ -28,7 +28,7 @@ use Rattle.capture_report.specs.declared.fault.FormatFault.{FormatFault}
 abbrev pub title : List ℕ
 title = codes "nfp report 1\n"
 
--- The names that stand in a chain's drop lines: its own, and those of its functions in chain order.
+-- The names that are in a chain's drop lines: its own, and those of its functions in chain order.
 pub record ChainNames : Type 0 where
   pub chain : List ℕ
   pub functions : List (List ℕ)
@@ -64,7 +64,7 @@ unfoldable pub total_line : ℕ → ℕ → List ℕ
 total_line records dropped =
     joined (codes "records " ∷ decimal records ∷ codes " emitted " ∷ decimal (records - dropped) ∷ codes " dropped " ∷ decimal dropped ∷ codes "\n" ∷ [])
 
--- how many copies of a field the graphs of a chain's pieces make of its packets; a count stops at 2^64 - 1
+-- the number of copies of a field that a chain's pieces make for its packets; a count stops at 2^64 - 1
 unfoldable pub copies_due : List (List (Piece NamedFunction)) → List Classed → ℕ → Field → ℕ
 copies_due pieces packets chain f = raised 0 (copies_through named_behaviour (at_chain pieces chain) (packets_in chain packets) f)
 
@@ -89,7 +89,7 @@ function_text chain name kind = joined (codes "function " ∷ chain ∷ codes " 
 abbrev pub state_text : List NamedFunction → List ℕ → List ℕ
 state_text functions name = option_map_or named_lines (find (λ f. bytes_eq f.name name) functions) []
 
--- the lines of a function that is declared, as the last packet left it
+-- the lines of a function that is declared, in the state in which the last packet left it
 abbrev pub function_lines : List ℕ → List NamedFunction → FunctionDecl → List ℕ
 function_lines chain functions f = function_text chain f.name (kind_name f.kind) ++ state_text functions f.name
 
@@ -97,12 +97,12 @@ function_lines chain functions f = function_text chain f.name (kind_name f.kind)
 unfoldable pub chain_lines : ChainPolicy → List NamedFunction → List ℕ
 chain_lines chain functions = flat_map (function_lines chain.name functions) chain.functions
 
--- the last line: the end, or the fault that the capture ends with
+-- the last line: the end, or the fault at which the capture ends
 unfoldable pub last_line : Option FormatFault → List ℕ
 last_line None = codes "end\n"
 last_line (Some fault) = codes "fault " ++ fault_text fault
 
--- what stands behind the lines of the dropped packets, with the pieces as the last packet left them
+-- what follows the lines of the dropped packets, with the pieces in the state in which the last packet left them
 unfoldable pub summary : Chains → ℕ → ℕ → (ℕ → Field → ℕ) → Option FormatFault → List ℕ
 summary chains records dropped copies fault =
     total_line records dropped
@@ -110,7 +110,7 @@ summary chains records dropped copies fault =
     ++ (flat_map (λ x. chain_lines x.0 (functions_in x.1)) (zip chains.declared chains.pieces)
     ++ last_line fault))
 
--- the report of packets that end so, by the chains as they were before the first packet and behind the last
+-- the report of packets that end so, by the chains before the first packet and after the last
 unfoldable pub report_bytes : Chains → Chains → List Classed → List Fate → Option FormatFault → List ℕ
 report_bytes chains last packets fates fault =
     title ++ drop_lines (names_among chains) 1 (map (λ x. x.class) packets) fates ++ summary last (length fates) (count_by is_gone fates) (copies_due chains.pieces packets) fault

@@ -1,3 +1,3 @@
--- For proofs: words of segment_run, for the crates above.
+-- For proofs: names of segment_run, for the higher crates.
 unfoldable pub use Rattle.burst_walk.specs.SegmentRun.{copies_through}
 pub use Rattle.burst_walk.specs.SegmentRunProofs.{pieces_of}

@@ -1,4 +1,4 @@
--- For proofs: what a service tells at the end of a run.
+-- For proofs: what a service reports at the end of a run.
 use Rattle.std.specs.Prelude.{ℕ, List, ◌++◌}
 use Rattle.std.specs.List.{flat_map}
 use Rattle.packet_version.specs.Tallies.{count_of}
@@ -11,7 +11,7 @@ use Rattle.capture_report.specs.declared.ended.Ended.{Ended}
 abbrev pub names_in : ServiceChain → ChainNames
 names_in chain = record { chain = chain.declared.name; functions = chain.names }
 
--- the totals, and what each chain tells of its copies and its functions
+-- the totals, and what each chain reports about its copies and its functions
 unfoldable pub told_text : List ServiceChain → Ended → List ℕ
 told_text chains ended =
     total_line ended.totals.records ended.totals.dropped

@@ -1,4 +1,4 @@
--- What is put of a burst is what comes next of its records.
+-- What is put for a burst is what comes next for its records.
 use Rattle.std.proofs.Common.{◌≡◌, ◌∙◌, ℕ, List, [], length, map, refl, ap, sym, subst}
 use Rattle.std.specs.Prelude.{Option}
 use Rattle.std.proofs.lemmas.List.{length-map}
@@ -38,7 +38,7 @@ pub ended_many : {W : Type 0} (p : Passage W) (items items' : List Item) (fates 
 ended_many p items items' fates fates' same same_fates end =
     ap length ((λ i. all_ended (same i) (same_fates i)) ∙ end) ∙ length-fates_of (chains_of p.service.chains) p.unit (records_of items) ∙ length-map items (λ i. i.packet)
 
--- what was put of a burst is what comes next
+-- what was put for a burst is what comes next
 out_is : {W X B : Type 0} (spelled : W → Given X B → List ℕ) (p : Passage W) (items items' : List Item) (beside beside' : List X) (fates : List (Option Fate)) → length beside ≡ length items → all_ended items fates ≡ fates_next p (records_of items) → items' ≡ items → beside' ≡ beside →
     emitted_among (spelled p.writer) (held_in items' beside') (all_ended items' fates) ≡ out_next spelled p (held_in items beside)
 out_is {B = B} spelled p items items' beside beside' fates many end same same_beside =
@@ -55,10 +55,10 @@ breaks_records {B = B} spelled p items items' beside beside' fates old new e man
     records_refused (out_next spelled p (held_in items beside)) (lines_next p (records_in {B = B} (held_in items beside))) old new e
     (breaks_is _ _ [] [] old new e (out_is spelled p items items' beside beside' fates many end same same_beside) refl broken)
 
--- the lines of a burst are those of what is held
+-- the lines of a burst are those of the held packets
 pub lines_held : {W X : Type 0} (B : Type 0) (p : Passage W) (items : List Item) (beside : List X) → length beside ≡ length items → lines_next p (records_of items) ≡ lines_next p (records_in {X = X} {B = B} (held_in items beside))
 lines_held B p items beside many = ap (lines_next p) (sym (records_held B items beside many))
 
--- what went through the chains is what is held
+-- the packets that went through the chains are those that were held
 pub advances_held : {W X B : Type 0} (spelled : W → Given X B → List ℕ) (p after : Passage W) (items : List Item) (beside : List X) → length beside ≡ length items → Advances spelled (records_of items) p after → Advances spelled (records_in {B = B} (held_in items beside)) p after
 advances_held {B = B} spelled p after items beside many went = subst (λ l. Advances spelled l p after) (sym (records_held B items beside many)) went

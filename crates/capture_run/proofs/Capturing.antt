@@ -1,4 +1,4 @@
--- A whole capture is written: the report's first line, the records, and what stands behind the lines.
+-- A whole capture is written: the report's first line, the records, and what follows the lines.
 use Rattle.std.proofs.Common.{◌≡◌, ◌∙◌, ℕ, List, [], length, subst, arith}
 use Rattle.std.specs.Prelude.{count_by, Option}
 use Rattle.nfp_outside.specs.declared.slot.Slot.{Slot}
@@ -34,7 +34,7 @@ started service unit sink = record { service = service; unit = unit; writer = si
 abbrev pub ended_so : {W : Type 0} → Passage W × Option FormatFault → Ended
 ended_so run = record { totals = run.0.totals; fault = run.1 }
 
--- what is told behind the lines is what is due
+-- what is reported after the lines is what is due
 told_due : {W X B : Type 0} (spelled : W → Given X B → List ℕ) (service : Service) (unit : TimeUnit) (sink : W) (run : Passage W × Option FormatFault) (old new : Slot → SlotView) (b : Stream X B) → IsOpening service →
     PassesStream spelled (started service unit sink) run.0 run.1 old new b → told_text run.0.service.chains (ended_so run) ≡ summary_due (chains_of service.chains) unit (records_in b.given) b.fault
 told_due spelled service unit sink run old new b opening passed =

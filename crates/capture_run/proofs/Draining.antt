@@ -26,12 +26,12 @@ if_none : {T : Type 0} (o : Option T) (P : Type 0) → P → IfNone o P
 if_none None P h = h
 if_none (Some x) P h = tt
 
--- what ran behind the end of a capture leaves it as it is
+-- what ran after the end of a capture leaves it unchanged
 pub drained_at_end : {W : Type 0} (P : SlotView → Type 0) (r : Result (Passage W × Option FormatFault) RunFault) (mid new : SlotView) → new ≡ mid → P mid → IfOk r (λ run. IfNone run.1 (P new))
 drained_at_end P (Ok run) mid new same drained = if_none run.1 (P new) (subst P (sym same) drained)
 drained_at_end P (Err fault) mid new same drained = tt
 
--- what ends with a fault of the capture needn't have read it to its end
+-- an end with a fault of the capture needn't have read it to its end
 pub drained_at_stop : {W X B : Type 0} (spelled : W → Given X B → List ℕ) (held : List (Given X B)) (p : Passage W) (refusal : SourceFault) (old new : Slot → SlotView) (r : Result (Passage W × Option FormatFault) RunFault) (P : Type 0) →
     IfOk r (StopEnds spelled held p refusal old new) → IfOk r (λ run. IfNone run.1 P)
 drained_at_stop spelled held p refusal old new (Err fault) P ends = tt
@@ -39,7 +39,7 @@ drained_at_stop spelled held p (refusals.Format fault) old new (Ok run) P ends =
 drained_at_stop spelled held p refusals.ReadFault old new (Ok run) P ends = absurd ends
 drained_at_stop spelled held p refusals.OutOfMemory old new (Ok run) P ends = absurd ends
 
--- and so does what is told behind it
+-- and what is reported after it leaves it unchanged
 pub still_drained : (P : SlotView → Type 0) (fault : Option FormatFault) (mid new : SlotView) → new ≡ mid → IfNone fault (P mid) → IfNone fault (P new)
 still_drained P None mid new same drained = subst P (sym same) drained
 still_drained P (Some fault) mid new same drained = tt

@@ -1,4 +1,4 @@
--- What came of the packets of a burst is put, one after another.
+-- The results for the packets of a burst are put, one after another.
 use Rattle.std.proofs.Common.{◌≡◌, ◌≢◌, ◌<◌, ◌+◌, ◌∙◌, ℕ, suc, List, [], ◌∷◌, ◌++◌, length, drop, refl, ap, sym, subst, append_assoc, arith}
 use Rattle.std.specs.Prelude.{All, IfSome, Option, slice_index_or}
 use Rattle.std.proofs.lemmas.List.{append-nil, drop_all, drop_more, nil_from_length}
@@ -18,7 +18,7 @@ use Rattle.capture_run.specs.declared.fault.RunFault.{RunFault}
 use Rattle.capture_run.specs.declared.given.Given.{Given}
 use Rattle.capture_run.specs.Putting.{puts_none, puts_more, puts_is, breaks_more, breaks_longer, breaks_is}
 
--- what is put of these packets, by the fates that their chains gave
+-- what is put for these packets, by the fates that their chains gave
 abbrev pub put_of : {X B : Type 0} → (Given X B → List ℕ) → List Item → List X → List (Option Fate) → List ℕ
 put_of spelled items beside fates = emitted_among spelled (held_in items beside) (all_ended items fates)
 
@@ -59,7 +59,7 @@ emitting_begins spelled items beside fates left old all as_many many writable = 
   others = λ s r. refl;
 }
 
--- a packet is left where a fate is
+-- a packet is left if a fate is
 pub still_left : {X B : Type 0} (spelled spelled' : Given X B → List ℕ) (items : List Item) (beside : List X) (fates left left' : List (Option Fate)) (fate : Option Fate) (index : ℕ) (old now : Slot → SlotView) →
     IsEmitting spelled spelled' items beside fates left index old now → left ≡ fate ∷ left' → index < length items
 still_left spelled spelled' items beside fates left left' fate index old now at next =
@@ -72,7 +72,7 @@ pub next_writable : {X B : Type 0} (spelled spelled' : Given X B → List ℕ) (
 next_writable spelled spelled' items beside fates left left' fate index old now at next =
     All-head (λ o. IfSome o IsWritable) fate left' (All-same (λ o. IfSome o IsWritable) (fate ∷ left') left (sym next) at.writable)
 
--- what is left to be put is the next packet's record and what is left behind it
+-- what is left to be put is the next packet's record and what is left after it
 due_next : {X B : Type 0} (spelled : Given X B → List ℕ) (items : List Item) (beside : List X) (left left' : List (Option Fate)) (index : ℕ) (item : Item) (x : X) (fate : Option Fate) → left ≡ fate ∷ left' → index < length items → length beside ≡ length items →
     item ≡ slice_index_or items index item → x ≡ slice_index_or beside index x →
     put_of spelled (drop index items) (drop index beside) left ≡ emitted (spelled_with spelled x) item.packet (ended item.packet fate) ++ put_of spelled (drop (index + 1) items) (drop (index + 1) beside) left'

@@ -1,4 +1,4 @@
--- Chains that led packets, and then more of them, led them all.
+-- Chains that ran packets, and then more of them, ran them all.
 use Rattle.std.proofs.Common.{◌≡◌, ◌+◌, ◌∙◌, ℕ, suc, List, [], ◌∷◌, ◌++◌, max, min, refl, ap, sym, arith}
 use Rattle.packet_fields.specs.declared.field.Field.{Field}
 use Rattle.chain_walk.specs.Packets.{Packet, fates}
@@ -22,12 +22,12 @@ raised_twice m c a b = omega arith
 raised_by_none : (m c : ℕ) → max c (min (c + 0) m) ≡ c
 raised_by_none m c = omega arith
 
--- Copies of packets in a row are counted one lot after another.
+-- Copies of packets in a row are counted one group after another.
 abbrev pub CountsInARow : Type 0
 CountsInARow = (b : Behaviour NamedFunction) (pieces : List (Piece NamedFunction)) (xs ys : List Packet) (f : Field) →
     copies_through b pieces (xs ++ ys) f ≡ copies_through b pieces xs f + copies_through b (pieces_after b pieces xs) ys f
 
--- the copies that a chain makes of more packets, by its pieces behind the first
+-- the copies that a chain makes of more packets, by its pieces after the first
 copies_more : CountsInARow → (xs ys : List Classed) (n : ℕ) (a b : ServiceChain) (f : Field) → LeadsChain xs n a b →
     copies_through named_behaviour (pieces_in a) (packets_in n (xs ++ ys)) f
     ≡ copies_through named_behaviour (pieces_in a) (packets_in n xs) f + copies_through named_behaviour (pieces_in b) (packets_in n ys) f

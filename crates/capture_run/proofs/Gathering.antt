@@ -1,4 +1,4 @@
--- How a text is told through a buffer, piece by piece.
+-- How a text is put through a buffer, piece by piece.
 use Rattle.std.proofs.Common.{◌≡◌, ◌≢◌, ◌<◌, ◌≤◌, ◌+◌, ◌∙◌, ℕ, List, [], ◌∷◌, ◌++◌, length, take, drop, refl, ap, sym, subst, append_assoc}
 use Rattle.std.specs.Prelude.{IfErr, OnOk, Option, Result, Ok, Err, slice_index_or}
 use Rattle.std.specs.List.{find, flat_map}
@@ -45,18 +45,18 @@ gathers_more a b h m n old mid new first second = record {
 pub gathered_put : (a h m : List ℕ) (old mid new : Slot → SlotView) → Gathers a h m old mid → Puts [] m mid new → Puts [] (h ++ a) old new
 gathered_put a h m old mid new first last = puts_is [] [] (first.put ++ m) (h ++ a) old new refl first.parts (puts_more [] first.put [] m old mid new first.puts last)
 
--- what comes next was broken off
+-- the part that comes next was broken off
 pub gather_breaks : (a b h m : List ℕ) (old mid new : Slot → SlotView) (e : RunFault) → Gathers a h m old mid → Breaks [] (m ++ b) mid new e → Breaks [] (h ++ (a ++ b)) old new e
 gather_breaks a b h m old mid new e first broken =
     breaks_is [] [] (first.put ++ (m ++ b)) (h ++ (a ++ b)) old new e refl
     (sym (append_assoc first.put m b) ∙ ap (λ l. l ++ b) first.parts ∙ append_assoc h a b)
     (breaks_more [] first.put [] (m ++ b) old mid new e first.puts broken)
 
--- more is due than what was broken off
+-- more is due than the part that was broken off
 pub breaks_within : (a b : List ℕ) (old new : Slot → SlotView) (e : RunFault) → Breaks [] a old new e → Breaks [] (a ++ b) old new e
 breaks_within a b old new e broken = breaks_longer [] a [] b old new e broken
 
--- The pieces of the first of these were told.
+-- The pieces of the first of these were put.
 pub record IsTelling {X : Type 0} (piece : X → List ℕ) (xs : List X) (index : ℕ) (first held : List ℕ) (old now : Slot → SlotView) : Type 0 where
   pub gathered : Gathers (flat_map piece (take index xs)) first held old now
   pub others : (s : Slot) → s ≢ slots.Report → now s ≡ old s
@@ -93,7 +93,7 @@ module _ {X : Type 0} (piece : X → List ℕ) (xs : List X) where
   pub telling_ends : (index : ℕ) (h m : List ℕ) (old now : Slot → SlotView) → IsTelling piece xs index h m old now → length xs ≤ index → Gathers (flat_map piece xs) h m old now
   telling_ends index h m old now at all = subst (λ l. Gathers (flat_map piece l) h m old now) (take_all index xs all) at.gathered
 
--- the lines of a chain's functions are told one function after another
+-- the lines of a chain's functions are put one function after another
 pub chain_told : (chain : ChainPolicy) (functions : List NamedFunction) (items : List FunctionDecl) → items ≡ chain.functions → flat_map (function_lines chain.name functions) items ≡ chain_lines chain functions
 unfolding chain_lines
 chain_told chain functions items same = ap (flat_map (function_lines chain.name functions)) same
@@ -102,7 +102,7 @@ chain_told chain functions items same = ap (flat_map (function_lines chain.name 
 abbrev pub listed : List ServiceChain → List ℕ
 listed chains = flat_map (λ c. chain_lines c.declared (functions_in (pieces_in c))) chains
 
--- all that is told, by what the buffer held before the functions
+-- all that is reported, by what the buffer held before the functions
 pub told_parts : (chains : List ServiceChain) (ended : Ended) (none held : List ℕ) → none ≡ [] →
     held ≡ (none ++ total_line ended.totals.records ended.totals.dropped) ++ flat_map (λ c. copies_lines c.declared.name (count_of c.copies)) chains →
     held ++ (listed chains ++ last_line ended.fault) ≡ told_text chains ended

@@ -1,4 +1,4 @@
--- What a `?` hands on.
+-- What a `?` passes on.
 use Rattle.std.proofs.Common.{◌≡◌, sym, subst}
 use Rattle.std.specs.Prelude.{Result, Ok, Err, IfErr, IsErrAnd}
 use Rattle.capture_run.specs.declared.fault.RunFault.{RunFault}

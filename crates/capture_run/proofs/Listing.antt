@@ -1,4 +1,4 @@
--- What is put of records in a row is what is put of each part.
+-- What is put for records in a row is what is put for each part.
 use Rattle.std.proofs.Common.{◌≡◌, ◌+◌, ◌∙◌, ℕ, List, [], ◌∷◌, ◌++◌, length, refl, ap, arith}
 use Rattle.std.specs.Prelude.{count_by, cond, Option}
 use Rattle.std.specs.List.{flat_map, zip, enumerate_from}
@@ -23,7 +23,7 @@ enumerate-append : {X : Type 0} (n : ℕ) (xs ys : List X) → enumerate_from n 
 enumerate-append n [] ys = ap (λ m. enumerate_from m ys) (omega arith)
 enumerate-append n (x ∷ xs) ys = ap (λ l. (n, x) ∷ l) (enumerate-append (n + 1) xs ys) ∙ ap (λ m. (n, x) ∷ enumerate_from (n + 1) xs ++ enumerate_from m ys) (omega arith)
 
--- the line of a packet with its number, its chain and where it ended
+-- the line of a packet with its number, its chain and its end
 abbrev line_at : List ChainNames → ℕ × (Option ℕ × Fate) → List ℕ
 line_at names x = drop_line names x.0 x.1.0 x.1.1
 

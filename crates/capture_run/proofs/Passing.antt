@@ -67,14 +67,14 @@ breaks_block spelled p b old new e broken = breaks_is _ _ [] _ old new e (sym (a
 same_declared : {W X B : Type 0} (spelled : W → Given X B → List ℕ) (xs : List PcapRecord) (a b : Passage W) → Advances spelled xs a b → (chains_in b).declared ≡ (chains_in a).declared
 same_declared spelled xs a b went = ap (λ c. c.declared) went.chains ∙ declared_behind (chains_in a) a.unit xs
 
--- more packets are told apart as before
+-- more packets are classified as before
 packets_behind : {W X B : Type 0} (spelled : W → Given X B → List ℕ) (xs ys : List PcapRecord) (a b : Passage W) → Advances spelled xs a b → packets_next b ys ≡ packets_next a ys
 packets_behind spelled xs ys a b went = λ i. all_classed (same_declared spelled xs a b went i) (went.same_unit i) ys
 
 packets_more : {W X B : Type 0} (spelled : W → Given X B → List ℕ) (xs ys : List PcapRecord) (a b : Passage W) → Advances spelled xs a b → packets_next a (xs ++ ys) ≡ packets_next a xs ++ packets_next b ys
 packets_more spelled xs ys a b went = classed-append (chains_in a).declared a.unit xs ys ∙ ap (λ l. packets_next a xs ++ l) (sym (packets_behind spelled xs ys a b went))
 
--- what comes behind these records is what comes next where they passed
+-- what comes after these records is what comes next if they passed
 fates_more : {W X B : Type 0} (spelled : W → Given X B → List ℕ) (xs ys : List PcapRecord) (a b : Passage W) → Advances spelled xs a b → fates_next a (xs ++ ys) ≡ fates_next a xs ++ fates_next b ys
 fates_more spelled xs ys a b went = fates_of-append (chains_in a) a.unit xs ys ∙ ap (λ l. fates_next a xs ++ l) (λ i. fates_of (sym went.chains i) (sym went.same_unit i) ys)
 
@@ -127,12 +127,12 @@ passes_more law spelled xs ys a b c old mid new first second = record {
   puts = puts_is _ _ _ _ old new (sym (out_more spelled xs ys a b first.advances)) (sym (lines_row spelled xs ys a b first.advances)) (puts_more _ _ _ _ old mid new first.puts second.puts);
 }
 
--- what comes next was broken off
+-- the part that comes next was broken off
 pub breaks_next : {W X B : Type 0} (spelled : W → Given X B → List ℕ) (xs ys : List (Given X B)) (a b : Passage W) (old mid new : Slot → SlotView) (e : RunFault) → Passes spelled xs a b old mid → PassBreaks spelled ys b mid new e → PassBreaks spelled (xs ++ ys) a old new e
 breaks_next spelled xs ys a b old mid new e first broken =
     breaks_is _ _ _ _ old new e (sym (out_more spelled xs ys a b first.advances)) (sym (lines_row spelled xs ys a b first.advances)) (breaks_more _ _ _ _ old mid new e first.puts broken)
 
--- what is broken off of this is so of more
+-- a prefix that was put stays a prefix of more
 pub longer : {W X B : Type 0} (spelled : W → Given X B → List ℕ) (xs ys : List (Given X B)) (p : Passage W) (old new : Slot → SlotView) (e : RunFault) → PassBreaks spelled xs p old new e → PassBreaks spelled (xs ++ ys) p old new e
 longer spelled xs ys p old new e broken =
     let front = records_in xs in

@@ -1,4 +1,4 @@
--- What is refused of a capture's body has no fault that keeps a capture from being opened.
+-- A refused body of a capture has no fault that keeps the capture from being opened.
 use Rattle.std.proofs.Common.{◌≡◌, ℕ, List, [], ap, rules, subst, sym}
 use Rattle.std.specs.Prelude.{Bool, true, false, Option, Some, None, IfSome, IsErrOf, IsOk, Result, Ok, Err}
 use Rattle.std.specs.Option.{option_map}
@@ -28,7 +28,7 @@ none_of_a_head given (CutRecord n) is = λ head. head
 none_of_a_head given (FrameTooLong n length) is = λ head. head
 none_of_a_head given TooManyRecords is = λ head. head
 
--- what is told of a value is told of what is made of it
+-- what is known about a value is known about what is made of it
 made : {T U : Type 0} (f : T → U) (o : Option T) (x : T) → IfSome o (λ b. b ≡ x) → IfSome (option_map f o) (λ s. s ≡ f x)
 made f None x is = tt
 made f (Some b) x is = ap f is
@@ -50,14 +50,14 @@ format_of other (Err (refusals.Format f)) = f
 format_of other (Err refusals.ReadFault) = other
 format_of other (Err refusals.OutOfMemory) = other
 
--- a refusal tells one fault
+-- a refusal reports one fault
 pub format_is : {T : Type 0} (f g : FormatFault) → IsErrOf {T = T} (Err (refusals.Format f)) (refusals.Format g) → f ≡ g
 format_is f g is = ap (format_of g) is
 
 some_is : {T : Type 0} (a b : T) → Some a ≡ Some b → a ≡ b
 some_is a b e = cc
 
--- what stands next was read, so it has no fault
+-- what comes next was read, so it has no fault
 pub next_accepted : (item : NgItem) (before after : Place) (old new : SlotView) → ng.ReadsItem item before after old new → IfSome (ng.next_left before old) IsOk
 next_accepted item before after old new reads = go (ng.next_left before old) new.bytes reads.next
   where

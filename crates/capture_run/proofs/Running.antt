@@ -1,4 +1,4 @@
--- A capture that passed whole, or was broken off, as its body has it.
+-- A capture that passed whole, or was broken off, in terms of its body.
 use Rattle.std.proofs.Common.{◌≡◌, ◌≤◌, ◌∙◌, ℕ, List, [], ◌∷◌, ◌++◌, refl, ap, sym, subst, append_assoc}
 use Rattle.std.specs.Prelude.{Option, Some, None, IfSome}
 use Rattle.std.specs.Option.{option_map}
@@ -70,7 +70,7 @@ breaks_run {X = X} {B = B} spelled p start left xs old new e whole broken = reco
     go None is = subst (λ o. IfSome o (λ b. PutsPrefixes (out_next spelled p b.given) (lines_next p (records_in b.given)) old new)) (sym is) tt
     go (Some rest) is = subst (λ o. IfSome o (λ b. PutsPrefixes (out_next spelled p b.given) (lines_next p (records_in b.given)) old new)) (sym is) (longer spelled xs rest.given p old new e broken).prefixes
 
--- there was no memory before anything was put
+-- it ran out of memory before anything was put
 pub no_run : {W X B : Type 0} (spelled : W → Given X B → List ℕ) (p : Passage W) (start : Option (Stream X B)) (old : Slot → SlotView) → RunBreaks spelled p start old old OutOfMemory
 no_run spelled p start old = record {
   goes = record { out_name = refl; report_name = refl; later = later_same old };

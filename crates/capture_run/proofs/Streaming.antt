@@ -1,4 +1,4 @@
--- What is given in a row, and what is written of it, is that of each part.
+-- What is given in a row, and what is written for it, is that of each part.
 use Rattle.std.proofs.Common.{◌≡◌, ◌+◌, ◌∙◌, ℕ, List, [], ◌∷◌, ◌++◌, length, refl, ap, sym, append_assoc, arith}
 use Rattle.chain_walk.specs.declared.walk.Fate.{Fate}
 use Rattle.classifier.specs.declared.burst.Item.{Item}
@@ -19,7 +19,7 @@ records_held B [] beside many = refl
 records_held B (i ∷ items) [] many = absurd (omega arith)
 records_held B (i ∷ items) (x ∷ xs) many = ap (λ l. i.packet ∷ l) (records_held B items xs (omega arith))
 
--- a packet that is held behind others
+-- a packet that is held after others
 pub held_more : {X B : Type 0} (items : List Item) (beside : List X) (i : Item) (x : X) → length beside ≡ length items → held_in {X = X} {B = B} (items ++ i ∷ []) (beside ++ x ∷ []) ≡ held_in items beside ++ Packet i.packet x ∷ []
 held_more [] [] i x many = refl
 held_more [] (y ∷ beside) i x many = absurd (omega arith)
@@ -35,7 +35,7 @@ among-append spelled (Packet r x ∷ xs) ys [] gs many = absurd (omega arith)
 among-append spelled (Packet r x ∷ xs) ys (f ∷ fs) gs many =
     ap (λ l. emitted (spelled_with spelled x) r f ++ l) (among-append spelled xs ys fs gs (omega arith)) ∙ sym (append_assoc (emitted (spelled_with spelled x) r f) (emitted_among spelled xs fs) (emitted_among spelled ys gs))
 
--- nothing is written of nothing
+-- nothing is written for nothing
 pub none_among : {X B : Type 0} (spelled : Given X B → List ℕ) (fs : List Fate) → emitted_among spelled [] fs ≡ []
 unfolding emitted_among
 none_among spelled fs = refl

@@ -1,4 +1,4 @@
--- What the chains tell at the end is the summary that is due.
+-- The report of the chains at the end is the summary that is due.
 use Rattle.std.proofs.Common.{◌≡◌, ◌∙◌, ℕ, suc, List, [], ◌∷◌, ◌++◌, length, map, refl, ap, sym, append_assoc, length-append, add-one, arith}
 use Rattle.std.specs.Prelude.{All}
 use Rattle.std.specs.List.{enumerate_from, flat_map, zip}

@@ -1,4 +1,4 @@
--- One turn of the loop over a capture: what ran so far, which packets are held, where the source stands, and what stays.
+-- One turn of the loop over a capture: what ran so far, the held packets, the source, and what stays.
 use Rattle.std.proofs.Common.{◌≡◌, ◌≢◌, ◌≤◌, ◌+◌, ◌∙◌, ℕ, List, [], ◌∷◌, ◌++◌, length, Bool, true, false, refl, ap, sym, subst, append_assoc, length-append, arith, rules}
 use Rattle.std.specs.Prelude.{All, IsTrue, if◌then◌else◌, Option, Some, None, IfSome}
 use Rattle.std.specs.Option.{option_map}
@@ -44,7 +44,7 @@ passes_read spelled xs a b old mid now passes reads = record {
   puts = puts_is _ _ _ _ old now (append-nil _) (append-nil _) (puts_more _ _ [] [] old mid now passes.puts reads);
 }
 
--- no more were dropped than were read, if that held before
+-- at most as many were dropped as were read, if that held before
 still_within : {W X B : Type 0} (spelled : W → Given X B → List ℕ) (xs : List (Given X B)) (a b : Passage W) (old new : Slot → SlotView) → Passes spelled xs a b old new → a.totals.dropped ≤ a.totals.records → b.totals.dropped ≤ b.totals.records
 still_within spelled xs a b old new passes within =
     let read = passes.advances.read in
@@ -116,7 +116,7 @@ pub takes_broken : {W X B : Type 0} (spelled : W → Given X B → List ℕ) (cu
 takes_broken spelled cut beside all packet x class items p old new e are more many broken =
     subst (λ l. PassBreaks spelled l p old new e) ((λ i. held_in (are i) (more i)) ∙ sym (more_held cut beside packet x class many)) broken
 
--- a block that is no packet closed the burst, and was put behind it
+-- a block that is no packet closed the burst, and was appended after it
 pub takes_block : {W X B : Type 0} → CountsInARow → (spelled : W → Given X B → List ℕ) (cut cut' : Cutting) (beside beside' : List X) (b : B) (items : List Item) (p p' : Passage W) (w : W) (old mid new : Slot → SlotView) → cut' ≡ closed_now cut → items ≡ cut.held → beside' ≡ [] →
     IsTold p' → Passes spelled (held_in items beside) p p' old mid → spelled w ≡ spelled p'.writer → Puts (spelled p'.writer (Block b)) [] mid new → Takes spelled cut beside cut' beside' (Block b) p (record p' { writer = w }) old new
 takes_block law spelled cut cut' beside beside' b items p p' w old mid new is are none told passes same put = record {
@@ -140,7 +140,7 @@ pub before_block : {W X B : Type 0} (spelled : W → Given X B → List ℕ) (cu
 before_block spelled cut beside b items p old new e are broken =
     subst (λ l. PassBreaks spelled (held_in l beside ++ Block b ∷ []) p old new e) are (longer spelled (held_in items beside) (Block b ∷ []) p old new e broken)
 
--- what a turn knows of the passage, the cutter, the source and the slots
+-- what a turn knows about the passage, the cutter, the source and the slots
 pub record IsAt {W X B S : Type 0} (spelled : W → Given X B → List ℕ) (left : S → SlotView → Option (Stream X B)) (packets : S → ℕ) (is_open : S → Bool) (first p : Passage W) (cut : Cutting) (beside : List X) (start source : S) (old now : Slot → SlotView) : Type 0 where
   pub done : List (Given X B)
   pub passes : Passes spelled done first p old now
@@ -183,7 +183,7 @@ at_begins spelled left packets is_open first cut beside limit source old fresh n
 row_of : {X B : Type 0} (done ran held held' : List (Given X B)) (x : Given X B) → held ++ x ∷ [] ≡ ran ++ held' → (done ++ held) ++ x ∷ [] ≡ (done ++ ran) ++ held'
 row_of done ran held held' x row = append_assoc done held (x ∷ []) ∙ ap (λ l. done ++ l) row ∙ sym (append_assoc done ran held')
 
--- how many packets are among these
+-- the number of packets among these
 packets_among : {X B : Type 0} (xs : List (Given X B)) (x : Given X B) → length (records_in (xs ++ x ∷ [])) ≡ length (records_in xs) + count_given x
 packets_among [] (Packet r x) = refl
 packets_among [] (Block b) = refl
@@ -268,7 +268,7 @@ at_end_break spelled left packets is_open first p cut beside start source e old 
     breaks_run spelled first (left start (old slots.Capture)) (left source (mid slots.Capture)) (at.done ++ held_in cut.held beside) old new e at.whole
     (breaks_next spelled at.done (held_in cut.held beside) first p old now new e (passes_read spelled at.done first p old mid now at.passes (puts_read mid now later around)) broken)
 
--- the same where the next record couldn't be read
+-- the same if the next record couldn't be read
 pub at_stop_break : {W X B S : Type 0} (spelled : W → Given X B → List ℕ) (left : S → SlotView → Option (Stream X B)) (packets : S → ℕ) (is_open : S → Bool) (first p : Passage W) (cut : Cutting) (beside : List X) (start source : S) (refusal : SourceFault) (e : RunFault)
     (old mid now new : Slot → SlotView) → IsAt spelled left packets is_open first p cut beside start source old mid →
     (refusal ≡ refusals.ReadFault → IsRisen (mid slots.Capture).faults (now slots.Capture).faults) →
@@ -281,7 +281,7 @@ at_stop_break spelled left packets is_open first p cut beside start source refus
     subst (λ x. RunBreaks spelled first (left start (old slots.Capture)) old new x) (sym broken.0) (subst (λ s. RunBreaks spelled first (left start (old slots.Capture)) old s faults.OutOfMemory) (sym broken.1)
     (at_end_break spelled left packets is_open first p cut beside start source faults.OutOfMemory old mid mid now at (omega arith) (λ s c. refl) (breaks_none _ _ mid now faults.OutOfMemory (puts_read mid now later around) tt)))
 
--- what was taken next was broken off
+-- the part that was taken next was broken off
 pub at_take_break : {W X B S : Type 0} (spelled : W → Given X B → List ℕ) (left : S → SlotView → Option (Stream X B)) (packets taken : S → ℕ) (is_open : S → Bool) (first p : Passage W) (cut : Cutting) (beside : List X) (start source source' : S) (x : Given X B) (e : RunFault)
     (old mid now new : Slot → SlotView) → IsAt spelled left packets is_open first p cut beside start source old mid →
     GivesNext left packets taken x source source' (mid slots.Capture) (now slots.Capture) → (mid slots.Capture).faults ≤ (now slots.Capture).faults → ((s : Slot) → s ≢ slots.Capture → now s ≡ mid s) →

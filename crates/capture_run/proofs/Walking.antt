@@ -14,7 +14,7 @@ use Rattle.service_walk.specs.Service.{Classed, chains_after, fates_among, is_of
 use Rattle.capture_report.specs.ChainService.{Chains, named_behaviour}
 use Rattle.capture_report.specs.BurstWalk.{all_classed, chains_behind, classed, fates_of}
 
--- more packets go through the pieces as those before them left them
+-- more packets go through the pieces in the state in which those before them left them
 pub pieces_more : {F : Type 0} (b : Behaviour F) (pieces : List (Piece F)) (xs ys : List Packet) → pieces_after b pieces (xs ++ ys) ≡ pieces_after b (pieces_after b pieces xs) ys
 unfolding pieces_after
 pieces_more b pieces [] ys = refl

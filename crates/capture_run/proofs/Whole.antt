@@ -18,7 +18,7 @@ use Rattle.capture_run.specs.Putting.{breaks_is, breaks_longer, breaks_more, put
 abbrev pub lines_due : Chains → TimeUnit → List PcapRecord → List ℕ
 lines_due chains unit records = drop_lines (names_among chains) 1 (map (λ x. x.class) (all_classed chains.declared unit records)) (fates_of chains unit records)
 
--- what stands behind them
+-- what follows them
 abbrev pub summary_due : Chains → TimeUnit → List PcapRecord → Option FormatFault → List ℕ
 summary_due chains unit records fault =
     summary (chains_behind chains unit records) (length (fates_of chains unit records)) (count_by is_gone (fates_of chains unit records))

@@ -1,4 +1,4 @@
--- Believed: the classic capture that is written: the records whose packets passed, each with the frame that its chain left.
+-- Believed: the classic capture that is written: the records whose packets passed, with the frames of their chains.
 use Rattle.std.specs.Prelude.{ℕ, ◌+◌, ◌-◌, min, List, [], ◌++◌, length}
 use Rattle.std.specs.List.{flat_map, zip}
 use Rattle.pcap_io.specs.Written.{head_bytes, record_bytes}
@@ -7,15 +7,15 @@ use Rattle.pcap_io.specs.declared.capture.CaptureHead.{CaptureHead}
 use Rattle.chain_walk.specs.declared.walk.Fate.{Fate}
 use Rattle.chain_walk.specs.declared.walk.Fate.TheVariants.{Out, Gone}
 
--- the original length of a frame that went from one length to another: as much longer or shorter, cut at both ends of its 32 bits
+-- the original length of a frame whose length changed: longer or shorter by as much, limited to 32 bits
 abbrev pub wire_after : ℕ → ℕ → ℕ → ℕ
 wire_after wire before after = min (wire + after - before) 4294967295
 
--- a record as it goes out with this frame, its original length following how much longer or shorter its chain made it
+-- a record that goes out with this frame; its original length grows or shrinks with the frame
 abbrev pub emitted_record : PcapRecord → List ℕ → PcapRecord
 emitted_record r frame = record r { wire = wire_after r.wire (length r.frame) (length frame); frame = frame }
 
--- its bytes, and nothing of one that was dropped
+-- its bytes, and nothing for a dropped packet
 abbrev pub emitted : (PcapRecord → List ℕ) → PcapRecord → Fate → List ℕ
 emitted spelled r (Out frame) = spelled (emitted_record r frame)
 emitted spelled r (Gone position) = []

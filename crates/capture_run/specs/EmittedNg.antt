@@ -1,4 +1,4 @@
--- Believed: the pcapng capture that is written: its blocks in their order, but for those of the packets that were dropped.
+-- Believed: the pcapng capture that is written: its blocks in their order, without those of dropped packets.
 use Rattle.std.specs.Prelude.{ℕ, List, [], ◌∷◌}
 use Rattle.std.specs.List.{flat_map}
 use Rattle.capture_bytes.specs.declared.packet.PcapRecord.{PcapRecord}
@@ -17,7 +17,7 @@ records_among (Section block ∷ more) = records_among more
 records_among (Interface order block ∷ more) = records_among more
 records_among (Carried block ∷ more) = records_among more
 
--- the items that go out: a packet that passed with the record as it goes out, and each other block where it stands
+-- the items that go out: a packet that passed with its outgoing record, and each other block at its place
 abbrev pub emitted_items : List NgItem → List Fate → List NgItem
 emitted_items [] fates = []
 emitted_items (Section block ∷ more) fates = Section block ∷ emitted_items more fates
@@ -27,6 +27,6 @@ emitted_items (Packet p ∷ more) [] = []
 emitted_items (Packet p ∷ more) (Out frame ∷ fates) = Packet (record p { packet = emitted_record p.packet frame }) ∷ emitted_items more fates
 emitted_items (Packet p ∷ more) (Gone position ∷ fates) = emitted_items more fates
 
--- their bytes, where frames may have grown by so many bytes
+-- their bytes, if frames may have grown by this number of bytes
 unfoldable pub ng_out_bytes : ℕ → List NgItem → List Fate → List ℕ
 ng_out_bytes growth items fates = flat_map (item_bytes growth) (emitted_items items fates)

@@ -33,7 +33,7 @@ abbrev pub pcap_spelled : Endian → Given (Unit {0}) NoBlock → List ℕ
 pcap_spelled order (Packet r x) = record_bytes order r
 pcap_spelled order (Block b) = []
 
--- what a packet's block says beside its record
+-- what a packet's block holds beside its record
 pub record PacketBeside : Type 0 where
   pub order : Endian
   pub interface : ℕ
@@ -57,7 +57,7 @@ ng_stream blocks = record { given = map ng_given blocks.items; fault = option_ma
 abbrev pub ng_behind : ng.ReaderState → SlotView → Option (Stream PacketBeside NgItem)
 ng_behind reader slot = option_map ng_stream (ng.blocks_left reader.place slot)
 
--- a source of blocks: the first, until it was given, and the reader behind it
+-- a source of blocks: the first, until it was given, and the reader after it
 pub record SourceState : Type 0 where
   pub first : Option NgItem
   pub reader : ng.ReaderState
@@ -70,7 +70,7 @@ pub record IsFirst (item : NgItem) (reader : ng.ReaderState) : Type 0 where
   pub one : reader.place.blocks ≡ 1
   pub unspent : reader.spent ≡ false
 
--- the first block before what is left
+-- the first block before the rest
 abbrev pub with_first : Option NgItem → Stream PacketBeside NgItem → Stream PacketBeside NgItem
 with_first None rest = rest
 with_first (Some item) rest = with_given (ng_given item) rest
@@ -78,7 +78,7 @@ with_first (Some item) rest = with_given (ng_given item) rest
 abbrev pub ng_left : SourceState → SlotView → Option (Stream PacketBeside NgItem)
 ng_left s slot = option_map (with_first s.first) (ng_behind s.reader slot)
 
--- how many packets and blocks it gave
+-- the number of packets and blocks that it gave
 abbrev pub ng_packets : SourceState → ℕ
 ng_packets s = if is_some s.first then 0 else s.reader.place.packets
 

@@ -1,2 +1,2 @@
--- For proofs: words of graph_run, for the crates above.
+-- For proofs: names of graph_run, for the higher crates.
 unfoldable pub use Rattle.capture_report.specs.GraphRun.{copies_made}

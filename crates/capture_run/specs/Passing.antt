@@ -22,11 +22,11 @@ use Rattle.capture_run.specs.declared.fault.SourceFault.TheVariants as refusals
 use Rattle.capture_run.specs.declared.given.Given.{Given}
 use Rattle.capture_run.specs.declared.passage.Passage.{Passage}
 
--- the chains of a passage, as the last packet left them
+-- the chains of a passage, in the state in which the last packet left them
 abbrev pub chains_in : {W : Type 0} → Passage W → Chains
 chains_in p = chains_of p.service.chains
 
--- these records' packets that come next, each with the chain that takes it
+-- the next packets, of these records, each with the chain that takes it
 abbrev pub packets_next : {W : Type 0} → Passage W → List PcapRecord → List Classed
 packets_next p records = all_classed (chains_in p).declared p.unit records
 
@@ -34,11 +34,11 @@ packets_next p records = all_classed (chains_in p).declared p.unit records
 abbrev pub fates_next : {W : Type 0} → Passage W → List PcapRecord → List Fate
 fates_next p records = fates_of (chains_in p) p.unit records
 
--- the number of the record that comes next
+-- the number of the next record
 abbrev pub next_number : {W : Type 0} → Passage W → ℕ
 next_number p = p.totals.records + 1
 
--- what is put into Out and Report of what comes next
+-- what is put into Out and Report for what comes next
 abbrev pub out_next : {W X B : Type 0} → (W → Given X B → List ℕ) → Passage W → List (Given X B) → List ℕ
 out_next spelled p given = emitted_among (spelled p.writer) given (fates_next p (records_in given))
 
@@ -55,27 +55,27 @@ pub record Advances {W X B : Type 0} (spelled : W → Given X B → List ℕ) (r
   pub read : after.totals.records ≡ before.totals.records + length records
   pub dropped : after.totals.dropped ≡ before.totals.dropped + count_by is_gone (fates_next before records)
 
--- The same, and what came of them and of the blocks among them was put.
+-- The same, and the results for them and for the blocks among them were put.
 pub record Passes {W X B : Type 0} (spelled : W → Given X B → List ℕ) (given : List (Given X B)) (before after : Passage W) (old new : Slot → SlotView) : Type 0 where
   pub advances : Advances spelled (records_in given) before after
   pub puts : Puts (out_next spelled before given) (lines_next before (records_in given)) old new
 
--- a front part was put of what came of them
+-- a prefix of the results for them was put
 abbrev pub PassBreaks : {W X B : Type 0} → (W → Given X B → List ℕ) → List (Given X B) → Passage W → (Slot → SlotView) → (Slot → SlotView) → RunFault → Type 0
 PassBreaks spelled given before old new fault = Breaks (out_next spelled before given) (lines_next before (records_in given)) old new fault
 
--- Packets are told apart by the chains' own clauses.
+-- Packets are classified by the chains' own clauses.
 abbrev pub IsTold : {W : Type 0} → Passage W → Type 0
 IsTold p = p.service.classes ≡ fits_of p.service.chains
 
--- Nothing was counted yet, and each chain stands before its first packet.
+-- Nothing was counted yet, and each chain is before its first packet.
 pub record IsFresh {W : Type 0} (p : Passage W) : Type 0 where
   pub records : p.totals.records ≡ 0
   pub dropped : p.totals.dropped ≡ 0
   pub opening : All IsOpeningChain p.service.chains
   pub told : IsTold p
 
--- The open burst may run: its packets are told by the chains' own clauses, and all that were read are counted.
+-- The open burst may run: its packets are classified by the chains' own clauses, and all that were read are counted.
 pub record IsReady {W X : Type 0} (p : Passage W) (cut : Cutting) (beside : List X) : Type 0 where
   pub classed : All (IsClassed p.service.classes) cut.held
   pub told : IsTold p
@@ -84,7 +84,7 @@ pub record IsReady {W X : Type 0} (p : Passage W) (cut : Cutting) (beside : List
   pub within : p.totals.dropped ≤ p.totals.records
   pub as_many : length beside ≡ length cut.held
 
--- One more was taken: the packets that were held and this ran, up to those that are held now.
+-- One more was taken: the packets that were held and this one ran, up to those that are held now.
 pub record Takes {W X B : Type 0} (spelled : W → Given X B → List ℕ) (cut : Cutting) (beside : List X) (cut' : Cutting) (beside' : List X) (given : Given X B) (before after : Passage W) (old new : Slot → SlotView) : Type 0 where
   pub ran : List (Given X B)
   pub passes : Passes spelled ran before after old new
@@ -102,7 +102,7 @@ pub record Ends {W X B : Type 0} (spelled : W → Given X B → List ℕ) (held 
   pub passes : Passes spelled held before run.0 old new
   pub told : run.1 ≡ fault
 
--- how a run ends where nothing more could be read: a fault of the capture ends it, and else it is broken off
+-- how a run ends if nothing more could be read: a fault of the capture ends it, or it is broken off
 abbrev pub StopEnds : {W X B : Type 0} → (W → Given X B → List ℕ) → List (Given X B) → Passage W → SourceFault → (Slot → SlotView) → (Slot → SlotView) → Passage W × Option FormatFault → Type 0
 StopEnds spelled held before (refusals.Format fault) old new run = Ends spelled held before (Some fault) old new run
 StopEnds spelled held before refusals.ReadFault old new run = ⊥

@@ -67,7 +67,7 @@ pub puts_report : (report : List ℕ) (old new : Slot → SlotView) → Appends 
     ((s : Slot) → s ≢ Report → new s ≡ old s) → Puts [] report old new
 puts_report report old new put later others = record { in_out = stays (old Out) (new Out) (others Out out_is_not_report); in_report = put; later = report_later old new later others }
 
--- what is read off the capture puts nothing
+-- reading the capture puts nothing
 pub puts_read : (old new : Slot → SlotView) → (old Capture).faults ≤ (new Capture).faults → ((s : Slot) → s ≢ Capture → new s ≡ old s) → Puts [] [] old new
 puts_read old new later others = record {
   in_out = stays (old Out) (new Out) (others Out out_is_not_capture);
@@ -121,7 +121,7 @@ breaks_none out report old new e none cause = record {
 pub no_memory : (out report : List ℕ) (old : Slot → SlotView) → Breaks out report old old faults.OutOfMemory
 no_memory out report old = breaks_none out report old old faults.OutOfMemory (puts_none old) tt
 
--- what is to be put is longer
+-- there is more to put
 pub breaks_longer : (a b x y : List ℕ) (old new : Slot → SlotView) (e : RunFault) → Breaks a b old new e → Breaks (a ++ x) (b ++ y) old new e
 breaks_longer a b x y old new e r = record {
   prefixes = record {

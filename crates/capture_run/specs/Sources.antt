@@ -1,4 +1,4 @@
--- For proofs: what a source gives of what is left of a capture.
+-- For proofs: what a source gives from the rest of a capture.
 use Rattle.std.specs.Prelude.{◌≡◌, ◌<◌, ◌+◌, ℕ, [], true, Option, Some, IfSome}
 use Rattle.std.specs.Option.{option_map}
 use Rattle.nfp_outside.specs.Outside.{SlotView}
@@ -23,7 +23,7 @@ pub record GivesNext {S X B : Type 0} (left : S → SlotView → Option (Stream 
   pub short : IsShortGiven x
   pub whole : left before old ≡ option_map (with_given x) (left after new)
 
--- What is left is refused with this fault, which doesn't keep a capture from being opened.
+-- The rest is refused with this fault, which doesn't keep a capture from being opened.
 pub record RefusesNext {S X B : Type 0} (left : S → SlotView → Option (Stream X B)) (fault : FormatFault) (before : S) (old : SlotView) : Type 0 where
   pub kind : ¬ IsOpeningFault fault
   pub whole : IfSome (left before old) (λ s. s ≡ record { given = []; fault = Some fault })

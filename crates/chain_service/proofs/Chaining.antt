@@ -24,7 +24,7 @@ Graphs = List (Option StagedGraph)
 abbrev pub AllMade : Type 0
 AllMade = List (List (Option Made))
 
--- Some chains are made, and with what is left they will be all of them.
+-- Some chains are made, and with the rest they will be all of them.
 pub record IsUnderway (all : List ChainPolicy) (all_orders : List Order) (all_graphs : Graphs) (running : List ServiceChain) (chains : List ChainPolicy) (orders : List Order) (graphs : Graphs) (left : AllMade) : Type 0 where
   pub declared : map (λ c. c.declared) running ++ chains ≡ all
   pub names : map (λ c. c.names) running ++ names_by chains orders ≡ names_by all all_orders
@@ -34,7 +34,7 @@ pub record IsUnderway (all : List ChainPolicy) (all_orders : List Order) (all_gr
   pub fit : FitAll chains orders graphs
   pub made : left ≡ functions_made chains
 
--- An iterator knows how much it has left.
+-- An iterator knows the number of its remaining items.
 pub record IsCounted {X Z : Type 0} (it : IntoIter X Z) : Type 0 where
   pub count : into_iter_len it ≡ length (into_iter_items it)
 
@@ -56,7 +56,7 @@ goes_on all all_orders all_graphs running chains orders graphs left chain order 
   made = cc (under.made);
 }
 
--- What is left is one chain with its order, its graph and its functions, and then the rest.
+-- The rest is one chain with its order, its graph and its functions, and then the others.
 pub record IsNext (chains : List ChainPolicy) (orders : List Order) (graphs : Graphs) (left : AllMade) (chain : ChainPolicy) (order : Order) (graph : Option StagedGraph) (made : List (Option Made))
     (more_chains : List ChainPolicy) (more_orders : List Order) (more_graphs : Graphs) (more_left : AllMade) : Type 0 where
   pub chain_next : chains ≡ chain ∷ more_chains
@@ -64,7 +64,7 @@ pub record IsNext (chains : List ChainPolicy) (orders : List Order) (graphs : Gr
   pub graph_next : graphs ≡ graph ∷ more_graphs
   pub made_next : left ≡ made ∷ more_left
 
--- how the next one stands
+-- the state of the next one
 pub next_underway : (all : List ChainPolicy) (all_orders : List Order) (all_graphs : Graphs) (running : List ServiceChain) (chains : List ChainPolicy) (orders : List Order) (graphs : Graphs) (left : AllMade)
     (chain : ChainPolicy) (order : Order) (graph : Option StagedGraph) (made : List (Option Made)) (more_chains : List ChainPolicy) (more_orders : List Order) (more_graphs : Graphs) (more_left : AllMade) →
     IsUnderway all all_orders all_graphs running chains orders graphs left → IsNext chains orders graphs left chain order graph made more_chains more_orders more_graphs more_left →

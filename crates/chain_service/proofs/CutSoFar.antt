@@ -12,7 +12,7 @@ use Rattle.chain_service.specs.Services.{cut, declared_at, pieces_at, with_made}
 use Rattle.chain_service.specs.declared.cutting.Cutting.{Cutting}
 use Rattle.chain_service.proofs.Joining.{all_last}
 
--- The chain is cut so far, with what is due behind it, and few functions wait for their piece.
+-- The chain is cut so far, with what is due after it, and few functions wait for their piece.
 pub record IsCutSoFar (declared : List FunctionDecl) (places : List ℕ) (cutting : Cutting) (index : ℕ) : Type 0 where
   pub due : cut_with cutting (pieces_at declared (drop index places)) ≡ pieces_at declared places
   pub few : length cutting.waiting.items ≤ min index (length places)

@@ -1,4 +1,4 @@
--- A function joins a chain that is being cut.
+-- A function is added to a chain that is being cut.
 use Rattle.std.proofs.Common.{◌≡◌, ◌∙◌, ℕ, List, [], ◌∷◌, ◌++◌, length, refl, ap, sym, subst, arith}
 use Rattle.std.specs.Prelude.{IfOk, Result, Ok, Err}
 use Rattle.std.proofs.lemmas.List.{append_assoc, length_push}
@@ -59,7 +59,7 @@ tunnel_joins old new rewritten pieces waits = record {
   longer = omega (arith, ap length waits);
 }
 
--- so does each end of a tunnel, where there is memory
+-- so is each end of a tunnel, if there is memory
 abbrev pub HasTunnel : {E : Type 0} → Cutting → Piece NamedFunction → Result Cutting E → Type 0
 HasTunnel old tunnel r = IfOk r (λ new. pieces_of new.pieces.items ≡ (pieces_of old.pieces.items ++ closed old.waiting.items) ++ tunnel ∷ []) × IfOk r (λ new. new.waiting.items ≡ [])
 

@@ -1,4 +1,4 @@
--- A service opens where each of its chains does.
+-- A service opens if each of its chains does.
 use Rattle.std.proofs.Common.{◌≡◌, List, [], ◌∷◌, map, refl, ap, sym, ◌∙◌}
 use Rattle.std.specs.Prelude.{All}
 use Rattle.policy_text.specs.declared.clause.Match.{Match}

@@ -1,4 +1,4 @@
--- The functions of a chain that runs are few.
+-- A chain that runs has few functions.
 use Rattle.std.proofs.Common.{◌≡◌, ◌≤◌, ◌∙◌, ℕ, suc, List, [], ◌∷◌, length, refl, ap, arith}
 use Rattle.std.specs.Prelude.{slice_get, Option, Some, None}
 use Rattle.std.specs.List.{flat_map, range_with_len}
@@ -54,7 +54,7 @@ few_places chain order ordered =
     let few = ordered.few in
     omega (arith, all, few, length-range_with_len 0 (length chain.functions))
 
--- a graph that is written for a chain leaves it its functions
+-- a graph that is written for a chain keeps its functions
 same_count : (graph : Option StagedGraph) (pieces : List (Piece NamedFunction)) → functions_count (in_graph graph pieces) ≡ functions_count pieces
 same_count None pieces = refl
 same_count (Some graph) [] = refl

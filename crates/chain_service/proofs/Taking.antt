@@ -1,4 +1,4 @@
--- No place of an order stands in it twice, so the function that was made for it is still there when its turn comes.
+-- No place occurs twice in an order, so the function that was made for it is still there when its turn comes.
 use Rattle.std.proofs.Common.{◌≡◌, ◌≢◌, ℕ, suc, zero, ◌+◌, ◌<◌, ◌≤◌, List, [], ◌∷◌, ◌++◌, length, map, take, drop, refl, ap, sym, ◌∙◌, arith, inl, inr}
 use Rattle.std.specs.Prelude.{◌==◌, ◌⊎◌, if◌then◌else◌, Option, Some, None, slice_get, slice_set, slice_index_or, IsPermutation}
 use Rattle.std.specs.List.{sum_by, range_with_len}
@@ -16,11 +16,11 @@ use Rattle.chain_service.specs.Services.{with_made}
 use Rattle.chain_service.specs.Taking.{without, without_all}
 use Rattle.chain_service.specs.declared.cutting.Cutting.{Cutting}
 
--- 1 where the two places are one
+-- 1 if the two places are equal
 abbrev one_at : ℕ → ℕ → ℕ
 one_at p q = if q == p then 1 else 0
 
--- how often a place stands among others
+-- how often a place is among others
 abbrev times : ℕ → List ℕ → ℕ
 times p places = sum_by (one_at p) places
 
@@ -44,7 +44,7 @@ once_at_most p a (suc n) =
       | inr o ↦ omega (arith, sum_by-cons (one_at p) a (range_with_len (a + 1) n), o.1, once_at_most p (a + 1) n)
     ]
 
--- another place is as it was
+-- another place is unchanged
 slice_get-set_other : {A : Type 0} (xs : List A) (q p : ℕ) (x : A) → q ≢ p → slice_get (slice_set xs q x) p ≡ slice_get xs p
 slice_get-set_other [] q p x other = refl
 slice_get-set_other (y ∷ xs) zero zero x other = absurd (other refl)
@@ -60,7 +60,7 @@ untouched (q ∷ places) made p none =
       | inr o ↦ untouched places (without made q) p (omega (arith, sum_by-cons (one_at p) q places, none)) ∙ slice_get-set_other made q p None o.0
     ]
 
--- taking leaves as many places as before
+-- taking keeps the number of places
 pub as_many_left : (made : List (Option Made)) (places : List ℕ) → length (without_all made places) ≡ length made
 as_many_left made [] = refl
 as_many_left made (place ∷ places) = as_many_left (without made place) places ∙ length-set made place None
@@ -76,7 +76,7 @@ all_more : (made : List (Option Made)) (places : List ℕ) (place : ℕ) → wit
 all_more made [] place = refl
 all_more made (q ∷ places) place = all_more (without made q) places place
 
--- what is left where one more is taken out of a slice, and the slice is given back
+-- what is left if one more is taken out of a slice, and the slice is given back
 pub taken_back : (n : ℕ) (made new all : List (Option Made)) (places : List ℕ) (index d : ℕ) → length made ≡ n → new ≡ without made (slice_index_or places index d) → made ≡ without_all all (take index places) → index < length places →
     take n (new ++ drop (length new) made) ≡ without_all all (take (index + 1) places)
 taken_back n made new all places index d many new_is left inside =

@@ -28,7 +28,7 @@ use Rattle.chain_service.specs.declared.named.NamedFunction.{NamedFunction}
 abbrev profile_declared : FunctionDecl → Profile
 profile_declared decl = profile_of decl.kind
 
--- what a function that is made has for a profile
+-- the profile of a function that is made
 abbrev HasProfile : Profile → Made → Type 0
 HasProfile profile (made.Function f) = net_behaviour.profile f ≡ profile
 HasProfile profile (made.Encap tunnel) = Unit {0}
@@ -54,7 +54,7 @@ profile_made decl = go decl.kind
     go kinds.Encap = tt
     go kinds.Decap = tt
 
--- where pieces are one with a graph, its functions have these profiles
+-- if pieces are one with a graph, its functions have these profiles
 abbrev Profiled : List Profile → List (Piece NamedFunction) → Type 0
 Profiled profiles [] = profiles ≡ []
 Profiled profiles (Graph stages functions ∷ []) = profiles_of named_behaviour functions ≡ profiles

@@ -14,20 +14,20 @@ abbrev pub closed : List NamedFunction → List (Piece NamedFunction)
 closed [] = []
 closed (f ∷ functions) = compiled (f ∷ functions) ∷ []
 
--- functions in front of pieces: they stand in the first one, where that has a graph
+-- functions in front of pieces: they are in the first one, if that has a graph
 unfoldable pub with_all : List NamedFunction → List (Piece NamedFunction) → List (Piece NamedFunction)
 with_all [] later = later
 with_all (f ∷ functions) later = with_first f (with_all functions later)
 
--- a chain that is cut so far, with the pieces of what comes behind
+-- the chain that is cut so far, with the pieces of what comes after
 abbrev pub cut_with : Cutting → List (Piece NamedFunction) → List (Piece NamedFunction)
 cut_with cutting later = pieces_of cutting.pieces.items ++ with_all cutting.waiting.items later
 
--- The chain has one function more, which stands before what comes behind.
+-- The chain has one more function, which is before what comes after.
 pub record GoesOn (old new : Cutting) (with_one : List (Piece NamedFunction) → List (Piece NamedFunction)) : Type 0 where
   pub joined : (later : List (Piece NamedFunction)) → cut_with new later ≡ cut_with old (with_one later)
   pub longer : length new.waiting.items ≤ length old.waiting.items + 1
 
--- the function that is declared at a place, before the pieces of those behind it
+-- the function that is declared at a place, before the pieces of those after it
 abbrev pub with_declared : List FunctionDecl → ℕ → List (Piece NamedFunction) → List (Piece NamedFunction)
 with_declared declared place later = option_map_or (λ decl. with_made decl.name (function_of decl) later) (slice_get declared place) later

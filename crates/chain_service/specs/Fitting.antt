@@ -25,7 +25,7 @@ abbrev pub CanRun : StagedGraph → Piece NamedFunction → Type 0
 CanRun graph (Graph stages functions) = IsLawful graph (profiles_of named_behaviour functions) × IsFull graph
 CanRun graph (Whole rewritten) = Unit {0}
 
--- so may those of a chain of one piece, where a graph is written
+-- so may those of a chain of one piece, if a graph is written
 abbrev pub CanRunIn : Option StagedGraph → List (Piece NamedFunction) → Type 0
 CanRunIn (Some graph) (piece ∷ []) = CanRun graph piece
 CanRunIn graph pieces = Unit {0}

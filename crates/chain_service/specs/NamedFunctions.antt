@@ -17,7 +17,7 @@ named_step f shown = record {
 abbrev pub named_behaviour : Behaviour NamedFunction
 named_behaviour = record { profile = λ f. net_behaviour.profile f.function; step = named_step }
 
--- the lines in which a function tells its state
+-- the lines in which a function reports its state
 abbrev pub named_lines : NamedFunction → List ℕ
 named_lines f = lines_of f.function
 

@@ -1,5 +1,5 @@
--- Believed: what a policy runs: its chains, each cut into pieces, with its functions in the order in which a packet walks through them. A chain
--- for which a graph was written by hand runs in that graph.
+-- Believed: what a policy runs: its chains, each cut into pieces, with its functions in walking order. A chain with
+-- a hand-written graph runs in that graph.
 use Rattle.std.specs.Prelude.{ℕ, List, [], ◌∷◌, map, slice_get, Option, Some, None, Result, Ok, Err}
 use Rattle.std.specs.List.{flat_map, zip}
 use Rattle.std.specs.Option.{option_map_or}
@@ -20,8 +20,8 @@ use Rattle.piece_walk.specs.Pieces.{Piece, Graph, Whole}
 use Rattle.chain_service.specs.NamedFunctions.{named_behaviour}
 use Rattle.chain_service.specs.declared.named.NamedFunction.{NamedFunction}
 
--- What runs: the chains as they are declared, in the order of the text, the names of the functions of each, in chain order, and its
--- pieces.
+-- What runs: the chains as they are declared, in the order of the text, the names of the functions of each, in chain
+-- order, and its pieces.
 pub record Chains : Type 0 where
   pub declared : List ChainPolicy
   pub names : List (List (List ℕ))
@@ -35,7 +35,7 @@ stages_of functions = (graph_of (map named_behaviour.profile functions)).stages
 abbrev pub compiled : List NamedFunction → Piece NamedFunction
 compiled functions = Graph (stages_of functions) functions
 
--- a function in front of pieces: it stands in the first one, where that has a graph
+-- a function in front of pieces: it is in the first one, if that has a graph
 abbrev pub with_first : NamedFunction → List (Piece NamedFunction) → List (Piece NamedFunction)
 with_first f (Graph stages functions ∷ later) = compiled (f ∷ functions) ∷ later
 with_first f pieces = compiled (f ∷ []) ∷ pieces
@@ -64,12 +64,12 @@ abbrev pub by_graph : StagedGraph → Piece NamedFunction → Piece NamedFunctio
 by_graph graph (Graph stages functions) = Graph graph.stages functions
 by_graph graph (Whole rewritten) = Whole rewritten
 
--- a chain of one piece in the graph that was written for it, if one was
+-- a chain of one piece in the graph that was written for it, if there is one
 abbrev pub in_graph : Option StagedGraph → List (Piece NamedFunction) → List (Piece NamedFunction)
 in_graph (Some graph) (piece ∷ []) = by_graph graph piece ∷ []
 in_graph graph pieces = pieces
 
--- the names of the functions of each chain, and its pieces, by its order and the graph that was written for it
+-- the names of the functions of each chain, and its pieces, by its order and the graph written for it
 abbrev pub names_by : List ChainPolicy → List Order → List (List (List ℕ))
 names_by chains orders = map (λ x. names_at x.0.functions x.1.positions) (zip chains orders)
 
@@ -79,11 +79,11 @@ pieces_of_one x = in_graph x.1 (pieces_at x.0.0.functions x.0.1.positions)
 abbrev pub pieces_by : List ChainPolicy → List Order → List (Option StagedGraph) → List (List (Piece NamedFunction))
 pieces_by chains orders graphs = map pieces_of_one (zip (zip chains orders) graphs)
 
--- the chains of a policy, each with its order, and with the graph that was written for it, if one was
+-- the chains of a policy, each with its order, and with the graph written for it, if there is one
 abbrev pub service_among : List ChainPolicy → List Order → List (Option StagedGraph) → Chains
 service_among chains orders graphs = record { declared = chains; names = names_by chains orders; pieces = pieces_by chains orders graphs }
 
--- the chains of a policy without fault, for which no graph was written; a policy that is refused runs nothing
+-- the chains of a policy without fault and without hand-written graphs; a policy that is refused runs nothing
 abbrev pub service_of : Result Judged Refusal → Option Chains
 service_of (Ok judged) = Some (service_among judged.policy.chains judged.orders (map no_graph judged.policy.chains))
 service_of (Err refusal) = None

@@ -1,4 +1,4 @@
--- For proofs: the lines in which a function with its name tells its state, each by itself.
+-- For proofs: the lines in which a function with its name reports its state, each by itself.
 use Rattle.std.specs.Prelude.{ℕ, List}
 use Rattle.segment_run.specs.NetFunctionsProofs.{rows_of}
 use Rattle.chain_service.specs.declared.named.NamedFunction.{NamedFunction}

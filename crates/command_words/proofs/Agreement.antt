@@ -1,4 +1,4 @@
--- What `clap` makes of the words of each command, in the words of the definitions.
+-- The result of `clap` for the words of each command, in the words of the definitions.
 use Rattle.std.proofs.Common.{◌≡◌, ◌∙◌, ◌==◌, ◌&&◌, Bool, true, false, not, refl, sym, ap, subst, List, [], ◌∷◌, map, length, Option, Some, None}
 use Rattle.std.specs.List.{list_all}
 use Rattle.clap.specs.Kinds.{Kinds}
@@ -62,7 +62,7 @@ joined names options k rows rs (Some us) a f = subst (Reads names options k rows
   λ x e. ap (first_of x) a.1 ∙ value_is x us ∙ f.2 x e refl,
 )
 
--- nothing is entered where there are no subcommands
+-- nothing is entered if there are no subcommands
 never_entered : (title : Text) (rules : List Rule) (stop : Option (Text × List Text)) → entered (app_with title rules) stop ≡ None
 never_entered title rules None = refl
 never_entered title rules (Some p) = refl

@@ -26,7 +26,7 @@ and_true : (b : Bool) → (b && true) ≡ b
 and_true true = refl
 and_true false = refl
 
--- ---- the answer by what the words come to, by their roles
+-- ---- the answer by the parts of the words, by their roles
 
 sieved_answer : (answer : List Word → List (Word × Word) → Answer) (o : Option Given) → answer_by answer o ≡ answer_by answer (sieved o)
 sieved_answer answer None = refl
@@ -41,7 +41,7 @@ role_answer : (known words : List Word) (answer : List Word → List (Word × Wo
 role_answer known words answer =
     sieved_answer answer (given_by known None words) ∙ ap (answer_by answer) (same_given known None words) ∙ sym (sieved_answer answer (fit_given (roles known anything words)))
 
--- where they make up a command
+-- if they make up a command
 whole_answer : (n : ℕ) (known words : List Word) (answer : List Word → List (Word × Word) → Answer) → is_whole n (roles known anything words) ≡ true
     → answer_by answer (given_by known None words)
     ≡ cond (texts (given_of (roles known anything words))) (answer (names_in (roles known anything words)) (options_in (roles known anything words))) (Err fault.Words)
@@ -51,7 +51,7 @@ whole_answer n known words answer e =
     let rest = both_true (length (names_in rs) == n) _ fit.1 in
     role_answer known words answer ∙ rw (fit.0, rest.1, and_true (texts (given_of rs))) refl
 
--- an answer that wants so many names
+-- an answer that needs this number of names
 abbrev pub Wants : ℕ → (List Word → List (Word × Word) → Answer) → Type 0
 Wants n answer = (names : List Word) (options : List (Word × Word)) → (length names == n) ≡ false → answer names options ≡ Err fault.Words
 
@@ -80,7 +80,7 @@ flows_wants (a ∷ []) options e = refl
 flows_wants (a ∷ b ∷ []) options e = absurd (true≢false e)
 flows_wants (a ∷ b ∷ c ∷ xs) options e = refl
 
--- where they make up none
+-- if they make up none
 unfit_answer : (n : ℕ) (known words : List Word) (answer : List Word → List (Word × Word) → Answer) → Wants n answer → is_whole n (roles known anything words) ≡ false
     → answer_by answer (given_by known None words) ≡ Err fault.Words
 unfit_answer n known words answer wants e =
@@ -234,7 +234,7 @@ flows_is a b m n (p ∷ q ∷ []) options e em en =
 abbrev value : ArgMatches → Text → Option Word
 value m x = first_value (found_of m) x
 
--- what is asked of the values that are looked up is what is asked of the list of them
+-- what is required of the values that are looked up is what is required of the list of them
 texts_are : (n : ℕ) (known words : List Word) (answer : Answer) → is_whole n (roles known anything words) ≡ true
     → cond (list_all has_text (names_in (roles known anything words)) && given_texts (options_in (roles known anything words)) known) answer (Err fault.Words)
     ≡ cond (texts (given_of (roles known anything words))) answer (Err fault.Words)
@@ -273,7 +273,7 @@ flows_answered words m h =
     (h.gives_options (codes "workers") refl) (h.gives_options (codes "burst") refl)
     ∙ texts_are 2 flows_options words _ h.whole ∙ sym (whole_answer 2 flows_options words flows_by h.whole)
 
--- where there are no matches
+-- if there are no matches
 refused : (n : ℕ) (known words : List Word) (answer : List Word → List (Word × Word) → Answer) (e : WordsFault) → Wants n answer
     → (e ≡ error.OutOfMemory) ⊎ ((e ≡ error.Usage fault.Words) × (is_whole n (roles known anything words) ≡ false))
     → ReadsWords (Err e) (answer_by answer (given_by known None words))

@@ -1,4 +1,4 @@
--- What `parse` reads of a text of digits.
+-- What `parse` reads in a text of digits.
 use Rattle.std.proofs.Common.{◌≡◌, ◌<◌, ◌^◌, ◌&&◌, ℕ, Bool, cond, true, false, refl, sym, rules, arith, List, length, Result, Ok, Err, nat_le, true≢false}
 use Rattle.std.specs.Char.{is_ascii_digit}
 use Rattle.std.specs.List.{list_all}

@@ -1,11 +1,11 @@
--- What the words come to by the definition is what they come to by their roles, where each name and each value has text.
+-- The parts of the words by the definition are those by their roles, if each name and each value has text.
 use Rattle.std.proofs.Common.{◌≡◌, ◌∙◌, ◌⊎◌, ◌==◌, ◌&&◌, ℕ, Bool, cond, true, false, not, refl, sym, ap, subst, inl, inr, ⊎_elim, List, [], ◌∷◌, Option, Some, None, option_map, codes, drop, arith}
 use Rattle.std.specs.List.{list_all, list_any}
 use Rattle.std.specs.Str.{bytes_eq}
 use Rattle.command_words.specs.Roles.{Due, Look, Role, anything, dashes, due_after, gives, is_fit, long, look_of, name, names_in, names_only, option_role, options_in, plain, role_by, roles, short, value_of}
 use Rattle.command_words.specs.Given.{Given, Word, contains, given_by, has_dash, has_text, is_equals, option_in, value_in, with_name, with_option}
 
--- ---- a word's looks, by the tests of the definition
+-- ---- a word's form, by the tests of the definition
 
 abbrev pub value_attached : Word → Option Word
 value_attached w = cond (list_any is_equals w) (Some (value_in w)) None
@@ -50,7 +50,7 @@ texts g = list_all has_text g.names && list_all (λ o. has_text o.1) g.options
 abbrev pub nothing : Option Given
 nothing = None
 
--- nothing where a name or a value has no text
+-- nothing if a name or a value has no text
 abbrev pub sieved : Option Given → Option Given
 sieved None = None
 sieved (Some g) = cond (texts g) (Some g) None
@@ -90,7 +90,7 @@ name_same w a b e = sieved_name w a ∙ ap (λ o. cond (has_text w) (option_map 
 option_same : (x w : Word) (a b : Option Given) → sieved a ≡ sieved b → sieved (option_map (with_option x w) a) ≡ sieved (option_map (with_option x w) b)
 option_same x w a b e = sieved_option x w a ∙ ap (λ o. cond (has_text w) (option_map (with_option x w) o) None) e ∙ sym (sieved_option x w b)
 
--- ---- what the roles come to
+-- ---- the parts by the roles
 
 abbrev pub given_of : List Role → Given
 given_of rs = record { names = names_in rs; options = options_in rs }
@@ -119,7 +119,7 @@ blank_name w rs e = sym (ap sieved (fit_name w rs) ∙ sieved_name w (fit_given 
 blank_option : (x w : Word) (rs : List Role) → has_text w ≡ false → None ≡ sieved (fit_given (gives x w ∷ rs))
 blank_option x w rs e = sym (ap sieved (fit_option x w rs) ∙ sieved_option x w (fit_given rs) ∙ ap (λ b. cond b (option_map (with_option x w) (sieved (fit_given rs))) None) e)
 
--- behind `--` each word is a name
+-- after `--` each word is a name
 names_follow : (known words : List Word) → fit_given (roles known names_only words) ≡ Some (record { names = words; options = [] })
 unfolding roles
 names_follow known [] = refl
@@ -144,7 +144,7 @@ value_stands known x word words short s same = rw s.0 refl
 value_stands known x word words dashes s same = rw s.0 refl
 value_stands known x word words (long y v) s same = rw s.0 refl
 
--- a word where a name or an option may stand
+-- a word where a name or an option is allowed
 word_stands : (known : List Word) (word : Word) (words : List Word) (l : Look) → Seen l word → Same known None words → ((x : Word) → Same known (Some x) words)
     → sieved (given_by known None (word ∷ words)) ≡ sieved (fit_given (role_by known anything l word ∷ roles known (due_after anything (role_by known anything l word)) words))
 unfolding given_by

@@ -1,4 +1,4 @@
--- From what `clap` ensures of a parse to the parts of the words.
+-- From what `clap` ensures about a parse to the parts of the words.
 use Rattle.std.proofs.Common.{◌≡◌, ◌≢◌, ◌∙◌, ◌⊎◌, Bool, true, false, refl, sym, ap, subst, List, [], ◌∷◌, map, length, string_bytes, String, inl, inr, ⊎_elim, true≢false}
 use Rattle.std.specs.Prelude.{Result, Ok, Err, MatchResult}
 use Rattle.std.proofs.lemmas.Str.{IsUtf8-had}
@@ -52,7 +52,7 @@ unmatched app names options words h faulty = go (is_whole (length names) (roles 
     go false f r = f
     go true f r = absurd (faulty r.0)
 
--- an error is want of memory, or the words have a fault
+-- an error means that it ran out of memory, or that the words have a fault
 refused : (made : App) (words : List Text) (e : Error) (r : WordsFault) → (is_simple_and_free made ≡ true → HasKind (fault_of made words) e)
     → (r ≡ error.OutOfMemory) ⊎ ((r ≡ error.Usage Words) × (kind_of e ≢ OutOfMemory))
     → (r ≡ error.OutOfMemory) ⊎ ((r ≡ error.Usage Words) × IsFaulty made words)
@@ -69,7 +69,7 @@ matches_fit app names options words (Ok m) simple h read =
 matches_fit app names options words (Err fault) simple h read =
     ⊎_elim (λ memory. inl memory) (λ other. inr (other.0, unmatched app names options words h (other.1 simple.1))) read
 
--- the same words, of a command that was made so
+-- the same words, for a command that was made so
 pub matched_to : (made app : App) (words : List Text) (m : ArgMatches) → made ≡ app → (is_simple_and_free made ≡ true → fault_of made words ≡ []) → HasMatchesOf made words m
     → IsMatched app words m
 matched_to made app words m e kinds rows = subst (λ a. IsMatched a words m) e (record { faultless = kinds; matches = rows })

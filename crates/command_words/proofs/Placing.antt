@@ -1,4 +1,4 @@
--- The uses that the roles come to hold the names in order and the options' values.
+-- The uses by the roles hold the names in order and the options' values.
 use Rattle.std.proofs.Common.{◌≡◌, ◌∙◌, ◌==◌, ◌&&◌, ◌||◌, ℕ, Bool, cond, true, false, not, suc, refl, sym, ap, List, [], ◌∷◌, ◌++◌, append_assoc, arith, map, length, Option, Some, None, true≢false}
 use Rattle.std.specs.Prelude.{⊤, find, slice_get}
 use Rattle.std.specs.List.{list_all}
@@ -99,7 +99,7 @@ stays all id us vs (n ∷ left) (name v ∷ rs) e is = go (has n us) is (λ f. s
     go true f more = none_some f
     go false f more = more f ∙ value_stays id us n v e
 
--- ---- what stands apart
+-- ---- what is distinct
 
 -- the name differs from each of these
 abbrev pub DiffersFrom : Text → List Text → Type 0
@@ -115,7 +115,7 @@ abbrev pub NoneIsOption : List Text → List Text → Type 0
 NoneIsOption options [] = ⊤
 NoneIsOption options (n ∷ ns) = (contains n options ≡ false) × NoneIsOption options ns
 
--- the options that are given are of these
+-- the options that are given are among these
 abbrev pub GivesOnly : List Text → List Role → Type 0
 GivesOnly options [] = ⊤
 GivesOnly options (gives x v ∷ rs) = (contains x options ≡ true) × GivesOnly options rs
@@ -173,7 +173,7 @@ eq_sym a b = go (bytes_eq a b) refl (bytes_eq b a) refl
     go true e false f = sym (text_same a) ∙ ap (λ x. bytes_eq x a) (same_text a b e) ∙ f
     go false e true f = sym e ∙ ap (λ x. bytes_eq a x) (same_text b a f) ∙ text_same a
 
--- an option is no text that is none
+-- an option's text isn't empty
 not_option : (options : List Text) (x n : Text) → contains x options ≡ true → contains n options ≡ false → bytes_eq x n ≡ false
 not_option options x n e f = go (bytes_eq x n) refl
   where
@@ -212,7 +212,7 @@ fresh_gives us x v xs = rw (seen_more us x v xs) (go (contains x xs) (all_differ
     go false true false true = refl
     go false true false false = refl
 
--- a name is seen by no option
+-- no option sees a name
 seen_same : (options : List Text) (us : List Use) (n v : Text) (rs : List Role) → contains n options ≡ false → GivesOnly options rs
     → not_seen (us ++ (n, v) ∷ []) (option_names (options_in rs)) ≡ not_seen us (option_names (options_in rs))
 seen_same options us n v [] e g = refl

@@ -9,14 +9,14 @@ use Rattle.command_words.specs.declared.usage.UsageFault.TheVariants.{NoCommand,
 use Rattle.command_words.specs.Given.{given_by}
 use Rattle.command_words.specs.Words.{Answer, Demo, Flows, Plan, Run, command_of}
 
--- the answer to a line whose words are parted by blanks
+-- the answer to a line whose words are separated by blanks
 abbrev read : List ℕ → Answer
 read line = command_of (slice_split (λ c. c == 32) line)
 
 abbrev options_by : Way → ℕ → ℕ → RunOptions
 options_by way mergers burst = record { mergers = mergers; burst = burst; way = way }
 
--- where no word says how what the branches give comes together
+-- if no word says how the results of the branches are merged
 abbrev options : ℕ → ℕ → RunOptions
 options = options_by Inbox
 
@@ -38,7 +38,7 @@ flows workers burst = Ok (Flows (record { capture = codes "c"; out = codes "o" }
 no_word : command_of [] ≡ Err NoCommand
 no_word = refl
 
--- ---- the commands, with the numbers that stand for options that aren't given
+-- ---- the commands, with the default numbers of options that aren't given
 
 a_run : read (codes "run p c o r") ≡ runs 2 1024
 unfolding given_by
@@ -64,7 +64,7 @@ empty_command : read (codes "") ≡ Err UnknownCommand
 unfolding given_by
 empty_command = refl
 
--- ---- options before, between and behind the names, in both forms
+-- ---- options before, between and after the names, in both forms
 
 options_first : read (codes "run --mergers 3 --burst=7 p c o r") ≡ runs 3 7
 unfolding given_by
@@ -86,7 +86,7 @@ options_of_plan : read (codes "plan p --burst 7") ≡ Err Words
 unfolding given_by
 options_of_plan = refl
 
--- ---- behind `--` each word is a name
+-- ---- after `--` each word is a name
 
 dashed_names : read (codes "run --burst 7 -- -p --burst=9 -- r") ≡ Ok (Run (record { policy = codes "-p"; capture = codes "--burst=9"; out = codes "--"; report = codes "r"; graph = None }) (options 2 7))
 unfolding given_by
@@ -276,7 +276,7 @@ too_great_a_count : read (codes "demo 0 1000001") ≡ Err (Number Count)
 unfolding given_by
 too_great_a_count = refl
 
--- ---- how what the branches of a stage give comes together
+-- ---- how the results of a stage's branches are merged
 
 over_links : read (codes "run p c o r --merge inbox") ≡ runs 2 1024
 unfolding given_by
@@ -418,7 +418,7 @@ equal_files : read (codes "flows c c") ≡ Err SameName
 unfolding given_by
 equal_files = refl
 
--- ---- graphs that were written by hand
+-- ---- hand-written graphs
 
 -- `run p c o r` with graphs of this name
 abbrev runs_by_hand : List ℕ → Answer
@@ -449,7 +449,7 @@ graph_without_text : read (codes "plan p --graph=-") ≡ Err Words
 unfolding given_by
 graph_without_text = refl
 
--- the name of the graphs is one of the names that differ, last of all that is looked at
+-- the name of the graphs is one of the names that differ, and the last to be looked at
 graph_is_policy : read (codes "plan p --graph p") ≡ Err SameName
 unfolding given_by
 graph_is_policy = refl

@@ -1,4 +1,4 @@
--- The rules that a command is told one after another.
+-- The rules that a command is given one after another.
 use Rattle.std.proofs.Common.{◌≡◌, ◌∙◌, ℕ, ◌+◌, ◌<◌, List, [], ◌∷◌, ◌++◌, length, map, take, get_or, append_assoc, ap, refl, sym}
 use Rattle.std.proofs.lemmas.List.{map_push, take_more}
 use Rattle.clap.specs.Words.{App, Rule, with_rule}

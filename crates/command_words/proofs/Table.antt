@@ -143,7 +143,7 @@ no_defaults i [] (o ∷ os) rows = ap (λ r. fold with_default r (map built_opti
 no_defaults i (n ∷ ns) options rows =
     ap (λ r. fold with_default r (names_from (next i) ns ++ map built_option options)) (same_or (has_row n rows) rows) ∙ no_defaults (next i) ns options rows
 
--- what is required are the names
+-- the names are required
 pub required_names : (i : ℕ) (names options : List Text) (rows : List Row)
     → list_any (λ a. a.required && not (is_given a.id rows)) (names_from i names ++ map built_option options) ≡ not (list_all (λ n. is_given n rows) names)
 required_names i [] [] rows = refl

@@ -1,4 +1,4 @@
--- `clap`'s walk over the words finds a fault exactly where the words do not come to parts, and else
+-- `clap`'s walk over the words finds a fault exactly when the words have no parts, and else
 -- leaves a row for each name and option.
 use Rattle.std.proofs.Common.{◌≡◌, ◌∙◌, ◌&&◌, ◌||◌, ℕ, Bool, cond, true, false, not, refl, sym, ap, subst, List, [], ◌∷◌, ◌++◌, map, length, Option, Some, None, true≢false}
 use Rattle.std.specs.Prelude.{⊤, fold}
@@ -83,7 +83,7 @@ abbrev pub unless : {X : Type 0} → Bool → Option X → Option X
 unless true o = None
 unless false o = o
 
--- there are kinds of fault exactly where there are no uses, and else the rows are those of the uses
+-- there are kinds of fault exactly if there are no uses, and else the rows are those of the uses
 abbrev pub Agrees : Kinds → List Row → Option (List Use) → Type 0
 Agrees k rows None = fails k ≡ true
 Agrees k rows (Some us) = (k ≡ []) × (rows ≡ rows_for us)
@@ -106,7 +106,7 @@ unless_none : {X : Type 0} (b : Bool) → unless {X = X} b None ≡ None
 unless_none true = refl
 unless_none false = refl
 
--- ---- the uses that the roles come to; a name goes to the next id
+-- ---- the uses by the roles; a name goes to the next id
 
 abbrev pub placed_by : List Use → Role → List Text → (List Use → List Text → Option (List Use)) → Option (List Use)
 placed_by us (name v) [] more = None
@@ -120,7 +120,7 @@ unfoldable pub placed : List Text → List Use → List Text → List Role → O
 placed all us left [] = cond (list_all (λ n. is_given n (rows_for us)) all) (Some us) None
 placed all us left (role ∷ rest) = placed_by us role left (λ vs more. placed all vs more rest)
 
--- ---- what the arguments answer
+-- ---- the answers of the arguments
 
 pub record Serves (rules : List Rule) (names options : List Text) : Type 0 where
   pub by_long : (x : Text) → arg_by_long rules x ≡ cond (contains x options) (Some (built_option x)) None
@@ -174,7 +174,7 @@ module _ (title : Text) (rules : List Rule) (names options : List Text) (serves 
   abbrev pub s : Shape
   s = shape title rules
 
-  -- the rows that are held once the last use is in, where that use is no fault
+  -- the rows that are held after the last use is in, if that use is no fault
   pub record Rests (h : Held) (us : List Use) : Type 0 where
     pub rows_are : fails (settle_fault rules false h) ≡ false → (settled rules h).rows ≡ rows_for us
     pub no_skip : h.skip ≡ 0
@@ -210,7 +210,7 @@ module _ (title : Text) (rules : List Rule) (names options : List Text) (serves 
   option_rests id v rows us skip found is none =
       pending_rests (built_option id) id v (record { rows = rows; pending = Some (id, v ∷ []); skip = skip }) us found (option_fails id v (rows_for us)) (λ rs. refl) is refl none
 
-  -- ---- what each kind of word does
+  -- ---- the effect of each kind of word
 
   -- after `--` a word goes to a name
   trailing_turn : (h : Held) (i : ℕ) (wait : Waiting) (word : Text)
@@ -298,7 +298,7 @@ module _ (title : Text) (rules : List Rule) (names options : List Text) (serves 
   abbrev pub after_option : Held → Text → Text → Held
   after_option h y v = record h { rows = used (built_option y) (v ∷ []) (settled rules h).rows; pending = None }
 
-  -- the walk goes to the next name, where there is one
+  -- the walk goes to the next name, if there is one
   to_name : (t : Bool) (wait : Waiting) (h : Held) (i : ℕ) (us : List Use) (left : List Text) (word : Text) (words : List Text) (rs : List Role)
       → turn_fault s [] (at h i wait t) word ≡ step_fault s i h value
       → walked rules [] (at h i wait t) word ≡ to_positional rules (arg_by_index rules i) word (at h i wait t) h
@@ -380,7 +380,7 @@ module _ (title : Text) (rules : List Rule) (names options : List Text) (serves 
           → Ends (at g i (option x) false) [] (placed names vs left (unfit ∷ []))
       value_lacks g vs st = rw (st.0, serves.by_id x st.1) refl
 
-  -- the agreement where `more` holds of the rest
+  -- the agreement, if `more` holds for the rest
   abbrev pub StepsOn : Text → List Text → Due → Look → Held → ℕ → Waiting → List Use → List Text → Type 0
   StepsOn word words due look h i wait us left = Ends (walk_at h i wait due) (word ∷ words)
       (unless (stuck h due) (placed names us left (role_by options due look word ∷ roles options (due_after due (role_by options due look word)) words)))

@@ -1,4 +1,4 @@
--- For proofs: what `clap` is told of the commands.
+-- For proofs: how `clap` is configured for the commands.
 use Rattle.std.specs.Prelude.{List, [], ◌∷◌, ◌++◌, map, Some, true, codes}
 use Rattle.clap.specs.declared.builder.action.ArgAction.TheVariants.{Set}
 use Rattle.clap.specs.Simple.{App, new_rule, new_shape, on_top}
@@ -7,7 +7,7 @@ use Rattle.command_words.specs.declared.commands.Argument.{Argument}
 use Rattle.command_words.specs.declared.commands.Argument.TheVariants as argument
 use Rattle.command_words.specs.Words.{demo_options, flows_options, plan_options, run_options}
 
--- a name that has to be there
+-- a name that is required
 abbrev pub name_rule : Text → Rule
 name_rule id = record (new_rule id) { required = true; action = Some Set }
 
@@ -19,7 +19,7 @@ abbrev pub rule_for : Argument → Rule
 rule_for (argument.Name id) = name_rule id.now
 rule_for (argument.Option id) = option_rule id.now
 
--- a command with these names and options, and with no flags of `clap`'s own
+-- a command with these names and options, and with none of `clap`'s own flags
 abbrev pub app : Text → List Text → List Text → App
 app name names options = record {
   top = record (new_shape name) {
@@ -31,7 +31,7 @@ app name names options = record {
   subs = [];
 }
 
--- a command with these rules behind its own
+-- a command with these rules after its own
 abbrev pub with_rules : App → List Rule → App
 with_rules a rules = on_top (λ s. record s { rules = s.rules ++ rules }) a
 

@@ -1,4 +1,4 @@
--- Believed: what the words behind a command come to: its names, and its options with their values.
+-- Believed: the parts of the words after a command: its names, and its options with their values.
 use Rattle.std.specs.Prelude.{ℕ, List, [], ◌∷◌, drop, map, Bool, false, true, if◌then◌else◌, ◌==◌, ◌&&◌, not, Option, Some, None, option_map, codes}
 use Rattle.std.specs.List.{list_all, list_any, before_first, after_first}
 use Rattle.std.specs.Str.{bytes_eq}
@@ -11,7 +11,7 @@ abbrev pub has_dash : Word → Bool
 has_dash [] = false
 has_dash (c ∷ cs) = c == 45
 
--- it begins with two, as an option does: `--x`, or `--x=v` with its value
+-- it begins with two dashes, as an option does: `--x`, or `--x=v` with its value
 abbrev pub has_dashes : Word → Bool
 has_dashes word = has_dash word && has_dash (drop 1 word)
 
@@ -47,9 +47,9 @@ with_name word given = record { names = word ∷ given.names; options = given.op
 abbrev pub with_option : Word → Word → Given → Given
 with_option x value given = record { names = given.names; options = (x, value) ∷ given.options }
 
--- What the words come to, where these options are known, and one may wait for its value. A word without a dash is a name, or the value that
--- is waited for. A known option has its value attached, or waits for the next word. Behind `--` each word is a name. Nothing, where a word
--- may not stand where it stands, or an option still waits at the end.
+-- The parts of the words, with these known options, one of which may wait for its value. A word without a dash is a
+-- name, or the awaited value. A known option has its value attached, or waits for the next word. After `--` each word
+-- is a name. There are no parts if a word isn't allowed at its place, or if an option still waits at the end.
 unfoldable pub given_by : List Word → Option Word → List Word → Option Given
 given_by known None [] = Some (record { names = []; options = [] })
 given_by known (Some x) [] = None
@@ -65,7 +65,7 @@ given_by known None (word ∷ words) =
 abbrev pub is_sound : Given → Bool
 is_sound given = (list_all has_text given.names && list_all (λ o. has_text o.1) given.options) && all_differ (map (λ o. o.0) given.options)
 
--- the value of an option, where it is given
+-- the value of an option, if it is given
 abbrev pub value_given : Word → List (Word × Word) → Option Word
 value_given x [] = None
 value_given x (o ∷ os) = if bytes_eq o.0 x then Some o.1 else value_given x os

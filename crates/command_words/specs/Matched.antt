@@ -1,4 +1,4 @@
--- For proofs: what `clap` makes of the words behind a command, and the answer by it.
+-- For proofs: the result of `clap` for the words after a command, and the answer by it.
 use Rattle.std.specs.Prelude.{◌≡◌, ◌≢◌, ◌&&◌, Bool, true, false, List, [], ◌∷◌, map, length, Option, Some}
 use Rattle.std.specs.Prelude.{None, Err, if◌then◌else◌}
 use Rattle.std.specs.List.{list_all}
@@ -9,12 +9,12 @@ use Rattle.command_words.specs.Roles.{Role, anything, is_whole, names_in, option
 use Rattle.command_words.specs.Given.{Word, contains, has_text, value_given}
 use Rattle.command_words.specs.Words.{Answer, Names, demo_with, flows_with, plan_with, run_with}
 
--- there is no fault of the words behind this command, and these are their matches
+-- the words after this command have no fault, and these are their matches
 pub record IsMatched (a : App) (words : List Text) (m : ArgMatches) : Type 0 where
   pub faultless : is_simple_and_free a ≡ true → fault_of a words ≡ []
   pub matches : HasMatchesOf a words m
 
--- there is a fault of the words
+-- the words have a fault
 abbrev pub IsFaulty : App → List Text → Type 0
 IsFaulty a words = is_simple_and_free a ≡ true → fault_of a words ≢ []
 
@@ -42,7 +42,7 @@ IsUnfit names options words = is_whole (length names) (roles options anything wo
 abbrev pub names_of : Names → List Word
 names_of n = n.policy ∷ n.capture ∷ n.out ∷ n.report ∷ []
 
--- where all four are there
+-- if all four are present
 abbrev pub four_names : Option Word → Option Word → Option Word → Option Word → Option Word → Option Names
 four_names (Some p) (Some c) (Some o) (Some r) graph =
     Some (record { policy = p; capture = c; out = o; report = r; graph = graph })
@@ -57,7 +57,7 @@ abbrev pub options_have_text : Option Word → Option Word → Option Word → B
 options_have_text mergers burst way =
     given_has_text mergers && (given_has_text burst && given_has_text way)
 
--- the same of the options of `run`
+-- the same for the options of `run`
 abbrev pub run_options_have_text : Option Word → Option Word → Option Word → Option Word → Bool
 run_options_have_text mergers burst way graph =
     given_has_text mergers && (given_has_text burst && (given_has_text way && given_has_text graph))

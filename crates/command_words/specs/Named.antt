@@ -1,4 +1,4 @@
--- For proofs: a command without where its names lie in memory.
+-- For proofs: a command without the places of its names in memory.
 use Rattle.std.specs.Prelude.{◌≡◌, ◌≤◌, ⊤, Option, Result, Ok, Err, option_map}
 use Rattle.std.specs.Borrow.{Bor}
 use Rattle.command_words.specs.declared.requests.Command.{Command as Asked}
@@ -36,7 +36,7 @@ abbrev pub answer_seen : Result Asked UsageFault → Answer
 answer_seen (Ok command) = Ok (command_seen command)
 answer_seen (Err fault) = Err fault
 
--- the words were read to this, or memory ran out
+-- the words were read to this, or it ran out of memory
 abbrev pub ReadsWords : Result Asked WordsFault → Answer → Type 0
 ReadsWords (Ok command) due = due ≡ Ok (command_seen command)
 ReadsWords (Err (Usage fault)) due = due ≡ Err fault
@@ -49,7 +49,7 @@ pub record IsInRange (options : RunOptions) : Type 0 where
   pub some_packets : 1 ≤ options.burst
   pub few_packets : options.burst ≤ 65536
 
--- the same of the numbers of `flows`
+-- the same for the numbers of `flows`
 pub record IsFlowRange (options : FlowOptions) : Type 0 where
   pub some_workers : 1 ≤ options.workers
   pub few_workers : options.workers ≤ 16

@@ -1,10 +1,11 @@
--- For proofs: what each word behind a command is to `clap`: a name, an option, or the value of one. A single dash is a name here.
+-- For proofs: the role of each word after a command for `clap`: a name, an option, or an option's value. A single dash
+-- is a name here.
 use Rattle.std.specs.Prelude.{ℕ, ◌==◌, ◌&&◌, Bool, true, false, List, [], ◌∷◌, map}
 use Rattle.std.specs.Prelude.{length, Option, Some, None, if◌then◌else◌}
 use Rattle.std.specs.List.{list_all, list_any, before_first, after_first}
 use Rattle.command_words.specs.Given.{Word, all_differ, contains, is_equals}
 
--- ---- what a word looks like
+-- ---- the form of a word
 
 -- no dash first, or the dash alone; a dash and more; `--`; `--x`, or `--x=v` with the value v
 pub data Look : Type 0 where
@@ -41,16 +42,16 @@ look_of_first (Some rest) = look_of_dashed rest
 abbrev pub look_of : Word → Look
 look_of word = look_of_first (after_dash word)
 
--- ---- what a word is
+-- ---- the role of a word
 
--- what may stand at a word: a name or an option; the value of this option; a name alone
+-- what is allowed at a word: a name or an option; the value of this option; a name alone
 pub data Due : Type 0 where
   anything : Due
   value_of : Word → Due
   names_only : Due
 
--- what a word is: a name; `--`; an option whose value is the next word; a value with its option;
--- or a word that may not stand there
+-- the role of a word: a name; `--`; an option whose value is the next word; a value with its option;
+-- or a word that isn't allowed there
 pub data Role : Type 0 where
   name : Word → Role
   separator : Role
@@ -75,14 +76,14 @@ role_by options anything (long x value) word = option_role (contains x options) 
 abbrev pub role_of : List Word → Due → Word → Role
 role_of options due word = role_by options due (look_of word) word
 
--- what may stand after it
+-- what is allowed after it
 abbrev pub due_after : Due → Role → Due
 due_after due separator = names_only
 due_after due (opens x) = value_of x
 due_after due (gives x v) = anything
 due_after due _ = due
 
--- where the words end before an option has its value, that is one more fault
+-- if the words end before an option has its value, that is one more fault
 abbrev pub role_of_end : Due → List Role
 role_of_end (value_of x) = unfit ∷ []
 role_of_end _ = []
@@ -93,7 +94,7 @@ roles options due (word ∷ words) =
     let role = role_of options due word in
     role ∷ roles options (due_after due role) words
 
--- ---- what they come to
+-- ---- the parts of the words
 
 abbrev pub is_fit : Role → Bool
 is_fit unfit = false
@@ -118,7 +119,7 @@ options_in (role ∷ rest) = add_option role (options_in rest)
 abbrev pub option_names : List (Word × Word) → List Word
 option_names = map (λ o. o.0)
 
--- each word may stand where it stands, there are n names, and no option is given twice
+-- each word is allowed at its place, there are `n` names, and no option is given twice
 abbrev pub is_whole : ℕ → List Role → Bool
 is_whole n rs = list_all is_fit rs
     && (length (names_in rs) == n && all_differ (option_names (options_in rs)))

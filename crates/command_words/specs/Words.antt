@@ -1,4 +1,4 @@
--- Believed: the words of the command line: the commands with their names, options, numbers and ways, and the first fault of the words.
+-- Believed: the command line: commands with names, options, numbers and ways, and the first fault of the words.
 use Rattle.std.specs.Prelude.{ℕ, List, [], ◌∷◌, length, Bool, if◌then◌else◌, nat_le, ◌&&◌, Option, Some, None, Result, Ok, Err, codes}
 use Rattle.std.specs.Char.{is_ascii_digit}
 use Rattle.std.specs.List.{list_all}
@@ -50,7 +50,7 @@ seed_of word = number_of Seed 0 18446744073709551615 word
 abbrev pub count_of : Word → Result ℕ UsageFault
 count_of word = number_of Count 1 1000000 word
 
--- ---- how what the branches of a stage give comes together
+-- ---- how the results of a stage's branches are merged
 
 abbrev pub way_of : Option Word → Result Way UsageFault
 way_of None = Ok Inbox
@@ -58,7 +58,7 @@ way_of (Some word) = if bytes_eq word (codes "inbox") then Ok Inbox else if byte
 
 -- ---- the commands
 
--- The names of the four files of `run`, and of the graphs that were written by hand, where they are named.
+-- The names of the four files of `run`, and of the hand-written graphs, if they are named.
 pub record Names : Type 0 where
   pub policy : Word
   pub capture : Word
@@ -76,8 +76,8 @@ pub record FlowFiles : Type 0 where
   pub capture : Word
   pub out : Word
 
--- What is asked for: to run a policy over a capture, to show the plan of a policy, to run the demonstration, or to count the flows of a
--- capture.
+-- What is asked for: to run a policy over a capture, to show the plan of a policy, to run the demonstration, or to
+-- count the flows of a capture.
 pub data Command : Type 0 where
   Run : Names → RunOptions → Command
   Plan : PlanFiles → Command
@@ -87,7 +87,7 @@ pub data Command : Type 0 where
 abbrev pub Answer : Type 0
 Answer = Result Command UsageFault
 
--- these names and that of the graphs, where they are named
+-- these names and that of the graphs, if they are named
 abbrev pub with_graph : Option Word → List Word → List Word
 with_graph None names = names
 with_graph (Some graph) names = graph ∷ names
@@ -137,7 +137,7 @@ flows_by (capture ∷ out ∷ []) options =
     flows_with (record { capture = capture; out = out }) (value_given (codes "burst") options) (value_given (codes "workers") options)
 flows_by names options = Err Words
 
--- the answer to what the words behind a command come to
+-- the answer to the parts of the words after a command
 abbrev pub answer_by : (List Word → List (Word × Word) → Answer) → Option Given → Answer
 answer_by answer None = Err Words
 answer_by answer (Some given) = if is_sound given then answer given.names given.options else Err Words

@@ -39,7 +39,7 @@ written_checksum r checksum = if is_tcp r then checksum else (if checksum == 0 t
 unfoldable pub segment_checksum : Draws → ℕ
 segment_checksum r = written_checksum r (checksum_of (pseudo_header r ++ segment_with 0 r))
 
--- an IPv4 header with this checksum: five words, Tos 0, total length, Id, flags and offset 0, Ttl 64, protocol, addresses
+-- an IPv4 header with this checksum: five words, Tos 0, length, Id, flags and offset 0, Ttl 64, protocol, addresses
 abbrev pub ip_header_with : ℕ → Draws → List ℕ
 ip_header_with checksum r =
     (0x45 ∷ 0 ∷ []) ++ word_bytes (20 + segment_len r) ++ (0 ∷ 0 ∷ 0 ∷ 0 ∷ []) ++ (64 ∷ protocol_of r ∷ []) ++ word_bytes checksum

@@ -187,7 +187,7 @@ stage_dropped {F} {N} b notes graph time frame first now after i p whole old new
     ∙ ap (λ l. more ++ placed_by (drop (i + 1) graph.stages) l) (sym (then_gone (drop (i + 1) graph.stages) after p (flow_notes b notes (fixed_of time frame) (drop (i + 1) graph.stages))))
     ∙ stage_more b notes graph time frame first now after i whole old new s (Gone p) before listed more way inside is fs (ap as_end (sym goes) ∙ comes) due push
 
--- all stages are after the packet
+-- the packet has passed all stages
 pub stages_noted : {F N : Type 0} (b : Behaviour F) (notes : Notes F N) (graph : Graph) (time : ℕ) (frame : List ℕ) (first now : List F) (i : ℕ) (whole : PlainApart) (before listed : List (PlacedNote N)) → length graph.stages ≤ i →
     StagesNoted b notes graph time frame first now i whole before listed → listed ≡ before ++ placed_by graph.stages (flow_notes b notes (fixed_of time frame) graph.stages (fields_of frame) first)
 unfolding placed_by flow_notes

@@ -67,7 +67,7 @@ raised_on : (t : Bool) (c a m all now new : ℕ) → now ≡ raised c (if t then
 raised_on true c a m all now new x y e = omega arith
 raised_on false c a m all now new x y e = omega arith
 
--- the counts after one stage more
+-- the counts after one more stage
 counted_more : (graph : Graph) (frame : List ℕ) (i : ℕ) (whole : PlainApart) (old now new : List ℕ) (d : Stage) → i < length graph.stages → ((f : Field) → is_some (values_in whole f) ≡ is_some (value f frame)) →
     RaisesAll (made_in graph.stages i frame) old now → RaisesAll (stage_copies (get_or graph.stages i d) whole) now new → RaisesAll (made_in graph.stages (i + 1) frame) old new
 counted_more graph frame i whole old now new d inside there before here = λ f.

@@ -40,7 +40,7 @@ pub record OnItsWay (chain : List Profile) (stages : List Stage) (whole : PlainA
   pub staged_on : IsStaged chain at stages (suc (length chain))
   pub goes : GoesFrom chain at whole
 
--- this number of stages are after the packet, and the rest of the way gives what the whole way gives
+-- the packet has passed this number of stages, and the rest of the way gives what the whole way gives
 pub record IsFlowing {F : Type 0} (b : Behaviour F) (graph : Graph) (time : ℕ) (frame : List ℕ) (first now : List F) (i : ℕ) (whole : PlainApart) (old new : List ℕ) : Type 0 where
   pub same : flow b (fixed_of time frame) (drop i graph.stages) (values_in whole) now ≡ flow b (fixed_of time frame) graph.stages (fields_of frame) first
   pub profiles : map b.profile now ≡ map b.profile first

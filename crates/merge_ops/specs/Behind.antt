@@ -20,7 +20,7 @@ abbrev pub lengths_of : Parts → Field → Option ℕ
 lengths_of parts f = option_map (λ p. length p.bytes) (parts f)
 
 -- What a branch with this touch may have made of the version that it got: it has the same fields, the
--- packet's own value if it didn't write, and each field except the tags has its length.
+-- packet's own value in each field without a writer, and each field except the tags has its length.
 pub record IsMadeOf (whole : PlainApart) (touch : Touch) (version : PlainVersion) : Type 0 where
   pub touched : version.touch ≡ touch
   pub there : (f : Field) → is_some (version_parts version f) ≡ is_some (dealt_parts touch (packet_parts whole) f)

@@ -1,4 +1,4 @@
--- For proofs: a packet after a view that has both link addresses.
+-- For proofs: a view of a packet that has both link addresses.
 use Rattle.std.specs.Prelude.{◌≡◌, length}
 use Rattle.packet_fields.specs.declared.field.Field.TheVariants.{LinkDst, LinkSrc}
 use Rattle.packet_version.specs.Views.{PlainView, HasBytes}

@@ -1,4 +1,4 @@
--- For proofs: what a function is shown of the packet after a view.
+-- For proofs: what a function is shown of the packet that it sees through a view.
 use Rattle.chain_walk.specs.Shown.{Shown, shown_by}
 use Rattle.packet_version.specs.Views.{PlainView, seen_values}
 

@@ -1,4 +1,4 @@
--- For proofs: a packet after a view that has an end to be written.
+-- For proofs: a view of a packet that has an end to be written.
 use Rattle.std.specs.Prelude.{◌≡◌, length}
 use Rattle.packet_fields.specs.declared.field.Field.TheVariants.{SrcIp, DstIp, SrcPort, DstPort}
 use Rattle.packet_version.specs.Views.{PlainView, HasBytes}

@@ -1,4 +1,4 @@
--- Which of Out and Report are attached where a run ended, by its outcome.
+-- Which of Out and Report are attached when a run ended, by its outcome.
 use Rattle.std.proofs.Common.{◌≡◌, refl, sym, subst}
 use Rattle.std.specs.Prelude.{Bool, true, false, IfErr, IfOk, IfSome, Option, Some, None, Result, Ok, Err}
 use Rattle.nfp_outside.specs.declared.slot.Slot.{Slot}
@@ -21,7 +21,7 @@ use Rattle.nfp_run.specs.Attached.{RunLeavesAttached}
 use Rattle.nfp_run.specs.Closing.{closed, ending_of, outcome_seen}
 use Rattle.nfp_run.specs.Reading.{RefusedOpening}
 
--- a fault behind the head, or behind the first block
+-- a fault after the head, or after the first block
 behind_head : (fault : CaptureFault) (new : Slot → SlotView) → ¬ IsOpeningFault (formats.Pcap fault) → BothAttached new → FaultAttaches fault new
 behind_head BadMagic new behind both = absurd (behind tt)
 behind_head BadVersion new behind both = absurd (behind tt)
@@ -40,7 +40,7 @@ ended_attaches totals None new behind both = both
 ended_attaches totals (Some (formats.Pcap fault)) new behind both = behind_head fault new behind both
 ended_attaches totals (Some (formats.Ng fault)) new behind both = behind_first (is_of_first_block fault) new behind both
 
--- where a capture that was opened ran, whole or not
+-- a capture that was opened ran, whole or not
 pub run_attaches : (r : Result Ended RunFault) (old new : Slot → SlotView) → IfOk r (λ ended. IfSome ended.fault (λ f. ¬ IsOpeningFault f)) → IfErr r (IsBroken old new) → RunLeavesAttached r new → RunAttaches (outcome_seen (ending_of r)) new
 run_attaches (Ok ended) old new behind broken both = ended_attaches ended.totals ended.fault new behind both
 run_attaches (Err faults.ReadFault) old new behind broken left = tt
@@ -61,7 +61,7 @@ head_refused (CutRecord number) new head none = absurd head
 head_refused (FrameTooLong number length) new head none = absurd head
 head_refused TooManyRecords new head none = absurd head
 
--- where a capture wasn't opened
+-- a capture wasn't opened
 pub refused_attaches : (outcome : Outcome) (before after : SlotView) (new : Slot → SlotView) → RefusedOpening before after outcome → NoneAttached new → RunAttaches outcome new
 refused_attaches Done before after new refused none = absurd refused
 refused_attaches (Usage fault) before after new refused none = absurd refused

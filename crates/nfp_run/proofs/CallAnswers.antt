@@ -1,4 +1,4 @@
--- What a call answers once its line was put into Note.
+-- The answer of a call after its line was put into Note.
 use Rattle.std.proofs.Common.{◌≡◌, ◌≢◌, ◌⊎◌, ◌∙◌, inl, inr, ℕ, List, refl, ap, rules, sym, subst}
 use Rattle.std.specs.Prelude.{Result}
 use Rattle.nfp_outside.specs.declared.slot.Slot.{Slot}
@@ -64,7 +64,7 @@ seen_where_final ended result old new (inl (is, a)) final = is
 seen_where_final ended result old new (inr (inl (is, a))) final = absurd (subst IsFinal is final)
 seen_where_final ended result old new (inr (inr (is, r, a))) final = is ∙ untold_final (outcome_seen ended) (subst IsFinal is final)
 
--- an outcome that is final is the one that is due, where a final ending is
+-- an outcome that is final is the one that is due, if a final ending is
 due_exact : (due : Due) (command : Result Command UsageFault) (old mid new : Slot → SlotView) (ended : Ending) (result : Outcome) → Called command old mid new ended result →
     (IsFinal (outcome_seen ended) → EndsDue due old mid ended) → IsFinal result → IsDue due old new result
 due_exact due command old mid new ended result called ends final =
@@ -77,7 +77,7 @@ called_exact command old mid new ended result called final = if_read command old
     (λ p g c ends. due_exact (due_of_command command p g c) command old mid new ended result called ends final)
     (read_under command old (IsFinal (outcome_seen ended)) (λ p g c. EndsDue (due_of_command command p g c) old mid ended) called.ran.due)
 
--- where the work was done, what is due stands, whatever came of its line
+-- if the work was done, what is due stays, whatever happened to its line
 pub called_done : (command : Result Command UsageFault) (old mid new : Slot → SlotView) (ended : Ending) (outcome : Outcome) {result : Outcome} → Called command old mid new ended result →
     outcome_seen ended ≡ Done → outcome ≡ outcome_seen ended → WhereRead command old (λ p g c. IsDue (due_of_command command p g c) old new outcome)
 called_done command old mid new ended outcome called done is = if_read command old _ _
@@ -89,7 +89,7 @@ pub called_prefixes : (command : Result Command UsageFault) (old mid new : Slot 
 called_prefixes command old mid new ended result called = if_read command old _ _
     (λ p g c h. prefixes_to (due_of_command command p g c).written old mid new (called.beside slots.Out out_beside) (called.beside slots.Report report_beside) h) called.ran.prefixes
 
--- no count that a fault of the run speaks of rose
+-- no count that a fault of the run names rose
 pub no_fault : (command : Result Command UsageFault) (old mid new : Slot → SlotView) (ended : Ending) → Ran command old mid ended → ((s : Slot) → s ≢ slots.Note → new s ≡ mid s) → NoneRose old new →
     IsFinal (outcome_seen ended) ⊎ (outcome_seen ended ≡ OutOfMemory)
 no_fault command old mid new ended ran beside none = go (outcome_seen ended) refl
@@ -127,7 +127,7 @@ no_fault command old mid new ended ran beside none = go (outcome_seen ended) ref
 line_here : (due : Due) (text : List ℕ) (old mid new : SlotView) → mid ≡ old → text ≡ due.note → Appends text mid new → Appends due.note old new
 line_here due text old mid new p q a = subst (λ v. Appends due.note v new) p (subst (λ t. Appends t mid new) q a)
 
--- where no count rose, what is due is answered, where a final ending is due
+-- if no count rose, the answer is what is due, if a final ending is due
 due_answered : (due : Due) (command : Result Command UsageFault) (old mid new : Slot → SlotView) (ended : Ending) (result : Outcome) → Called command old mid new ended result →
     (IsFinal (outcome_seen ended) → EndsDue due old mid ended) → NoneRose old new → (IsDue due old new result × Appends due.note (old slots.Note) (new slots.Note)) ⊎ (result ≡ OutOfMemory)
 due_answered due command old mid new ended result called ends none = by_notes called.notes
@@ -151,7 +151,7 @@ called_answers command old mid new ended result called none = if_read command ol
     (λ p g c ends. due_answered (due_of_command command p g c) command old mid new ended result called ends none)
     (read_under command old (IsFinal (outcome_seen ended)) (λ p g c. EndsDue (due_of_command command p g c) old mid ended) called.ran.due)
 
--- the line of what ended so is the one that is due
+-- the line of work that ended so is the one that is due
 seen_text : (command : Result Command UsageFault) (old mid : Slot → SlotView) (ended : Ending) → Ran command old mid ended → outcome_seen ended ≢ OutOfMemory →
     WhereRead command old (λ p g c. text_of ended ≡ note_due (outcome_seen ended) (due_of_command command p g c).note)
 seen_text command old mid (Completed totals) ran some = if_read command old _ _ (λ p g c ends. ends.note) (ran.due tt)
@@ -173,7 +173,7 @@ seen_text command old mid (Stopped (WriteFault slots.Capture)) ran some = absurd
 seen_text command old mid (Stopped (WriteFault slots.Graph)) ran some = absurd (ran.write_faults slots.Graph refl)
 seen_text command old mid (Stopped OutOfMemory) ran some = absurd (some refl)
 
--- the same where it couldn't be put: only work that was done is told by the fault of Note
+-- the same if it couldn't be put: only work that was done is replaced by the fault of Note
 unnoted_text : (command : Result Command UsageFault) (old mid : Slot → SlotView) (ended : Ending) → Ran command old mid ended → untold (outcome_seen ended) ≢ OutOfMemory →
     WhereRead command old (λ p g c. text_of ended ≡ note_due (untold (outcome_seen ended)) (due_of_command command p g c).note)
 unnoted_text command old mid ended ran some = go (outcome_seen ended) refl

@@ -1,4 +1,4 @@
--- The names of the slots, what is attached, and the causes of an outcome, once the line of a call was put into Note.
+-- The names of the slots, what is attached, and the causes of an outcome, after the line of a call was put into Note.
 use Rattle.std.proofs.Common.{◌≡◌, ◌≢◌, ◌⊎◌, ◌∙◌, inl, inr, refl, ap, sym, subst}
 use Rattle.std.specs.Prelude.{Bool, true, false, None, IsSome, Result, Ok, Err}
 use Rattle.nfp_outside.specs.declared.slot.Slot.{Slot}
@@ -99,7 +99,7 @@ attaches_to (Ok (Demo input options)) outcome mid new p q h = none_to mid new p 
 attaches_to (Ok (Flows names options)) outcome mid new p q h = flows_to outcome mid new p q h
 attaches_to (Err fault) outcome mid new p q h = none_to mid new p q h
 
--- flows never attach Report, except that a head's fault says so of both
+-- flows never attach Report, except that a head's fault names both
 no_report : (outcome : Outcome) (new : Slot → SlotView) → FlowsAttach outcome new → (new slots.Report).name ≡ None
 no_report Done new h = h.1
 no_report (Usage fault) new h = h.1
@@ -122,7 +122,7 @@ no_report (WriteFault slots.Capture) new h = h
 no_report (WriteFault slots.Graph) new h = h
 no_report OutOfMemory new h = h
 
--- the same where memory ran out, or the line couldn't be put
+-- the same if it ran out of memory, or the line couldn't be put
 attaches_unmade : (command : Result Command UsageFault) (outcome : Outcome) (new : Slot → SlotView) → AttachesDue command outcome new → AttachesDue command OutOfMemory new
 attaches_unmade (Ok (Run names options)) outcome new h = tt
 attaches_unmade (Ok (Plan name)) outcome new h = h
@@ -159,7 +159,7 @@ attaches_untold (Ok (Demo input options)) outcome new h = h
 attaches_untold (Ok (Flows names options)) outcome new h = flows_untold outcome new h
 attaches_untold (Err fault) outcome new h = h
 
--- what is known of the policy where memory ran out, or the line couldn't be put
+-- what is known about the policy if it ran out of memory, or the line couldn't be put
 pub reaches_unmade : (command : Result Command UsageFault) (old : Slot → SlotView) → ReachesCapture command OutOfMemory old
 reaches_unmade (Ok (Run names options)) old = tt
 reaches_unmade (Ok (Plan name)) old = tt
@@ -209,7 +209,7 @@ called_names command old mid new ended result called = go command called.ran.nam
     go (Err fault) h = λ s. same s ∙ h s
     go (Ok n) h = λ s. one n s (h s)
 
--- an outcome that is none of Note's own was there before
+-- an outcome that isn't Note's own was there before
 untold_seen : (seen o : Outcome) → untold seen ≡ o → o ≢ WriteFault slots.Note → seen ≡ o
 untold_seen Done o e other = absurd (other (sym e))
 untold_seen (Usage fault) o e other = e

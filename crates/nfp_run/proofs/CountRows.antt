@@ -1,4 +1,4 @@
--- Worked rows: functions that remember packets, behind functions that drop some.
+-- Worked rows: functions that remember packets, after functions that drop some.
 use Rattle.std.specs.Prelude.{◌≡◌, ℕ, List, ◌++◌, refl, codes}
 use Rattle.std.specs.Fmt.{digits}
 use Rattle.std.specs.Net.Addr.{ipv4_bits}
@@ -45,7 +45,7 @@ use Rattle.nf_observe.specs.LimiterLines.{line_of as limiter_line_of}
 use Rattle.plan_text.specs.Plan.{branch_text, chain_plan, cut as plan_cut, part_line, pieces_text, stage_text}
 use Rattle.nfp_run.proofs.Rows.{head, first, ninth, capture, worth}
 
--- ---- behind a firewall and beside it a monitor counts what that lets pass
+-- ---- a monitor after a firewall, beside it in the graph, counts what the firewall passes
 
 past : List ℕ
 past = codes "nfp 1\nchain main\nfn fw firewall\nrule deny src 10.0.0.9\nfn mon monitor\n"
@@ -66,7 +66,7 @@ past_written : due_of_run (worth past) capture ≡ record {
 unfolding worth making_of profile_by step_by lines_of past policy_of_utf8 after_line orders_from answer_of edges_of taken stuck named_cycle from_earliest cycle_back first_refusal head first ninth capture body_of head_bytes record_head tags_len is_ipv4 is_ipv6 walk fates long cut fates_among chains_after fates_of chains_behind emitted_all out_bytes report_bytes drop_text drop_lines total_line last_line summary done_text digits words is_changed change_sum has_same_places has_transport passes line_of function_text chain_lines copies_due copies_lines copies_through passed copies_made written_in graph_of placed holds_back is_forbidden branch_reads branch_writes touch_of stage_parts mode_of copies pair_of first_forbidden pairs actions all_actions is_copied copied flow_line endpoint_text dotted ipv4_bits
 past_written = refl
 
--- ---- of two firewalls beside it the first comes before the monitor, and the second behind it
+-- ---- of two firewalls beside it the first comes before the monitor, and the second after it
 
 between : List ℕ
 between = codes "nfp 1\nchain main\nfn f1 firewall\nrule deny src 10.0.0.9\nfn m monitor\nfn f2 firewall\nrule deny src 10.0.0.1\n"
@@ -87,7 +87,7 @@ between_written : due_of_run (worth between) capture ≡ record {
 unfolding worth making_of profile_by step_by lines_of between policy_of_utf8 after_line orders_from answer_of edges_of taken stuck named_cycle from_earliest cycle_back first_refusal head first ninth capture body_of head_bytes record_head tags_len is_ipv4 is_ipv6 walk fates long cut fates_among chains_after fates_of chains_behind emitted_all out_bytes report_bytes drop_text drop_lines total_line last_line summary done_text digits words is_changed change_sum has_same_places has_transport passes line_of function_text chain_lines copies_due copies_lines copies_through passed copies_made written_in graph_of placed holds_back is_forbidden branch_reads branch_writes touch_of stage_parts mode_of copies pair_of first_forbidden pairs actions all_actions is_copied copied flow_line endpoint_text dotted ipv4_bits
 between_written = refl
 
--- ---- a limiter acts by what it remembers, so it stands behind the firewall in a branch, and never sees what that drops
+-- ---- a limiter acts by what it remembers, so it follows the firewall in a branch, and never sees what that drops
 
 limited : List ℕ
 limited = codes "nfp 1\nchain main\nfn fw firewall\nrule deny src 10.0.0.9\nfn lim limiter\nset rate 1\nset burst 1000\n"

@@ -47,7 +47,7 @@ demo_put chains head order records input old mid new ended head_is records_are i
     (subst (λ r. LedWhole (Some (led_pcap chains head (whole_body r))) old new ended) records_are
     (pcap_whole chains head order (Some (whole_body records)) old mid new ended is first rest))
 
--- what was put weighs what its bytes weigh
+-- what was put has the weight of its bytes
 put_weighs : (bytes : List ℕ) (old new : SlotView) (w : Weight) → ((b : List ℕ) → heavier b no_weight ≡ weight_of b) → new.weight ≡ option_map (heavier bytes) old.weight → old.weight ≡ Some no_weight → new.weight ≡ Some w → w ≡ weight_of bytes
 put_weighs bytes old new w whole put none is = same (sym is ∙ put ∙ ap (option_map (heavier bytes)) none) ∙ whole bytes
   where

@@ -1,4 +1,4 @@
--- What a call leaves that ran a capture, before its line is put into Note.
+-- What a call that ran a capture leaves, before its line is put into Note.
 use Rattle.std.proofs.Common.{◌≡◌, ◌∙◌, ◌⊎◌, inr, ℕ, List, refl, ap, rules, sym, subst}
 use Rattle.std.specs.Prelude.{length, count_by, true, false, Option, Some, None, IfErr, IfSome, IsSomeAnd, IsOk, Result, Ok, Err}
 use Rattle.std.specs.Option.{option_map}
@@ -42,7 +42,7 @@ use Rattle.nfp_run.proofs.Formats.{led_streams}
 use Rattle.nfp_run.proofs.HeldBytes.{whole_prefix}
 use Rattle.nfp_run.proofs.TextsTold.{if_texts, if_told}
 
--- this is what is due of a capture with these bytes
+-- this is what is due for a capture with these bytes
 pub record IsLed (chains : Chains) (left : Option Led) (bytes : List ℕ) : Type 0 where
   pub led : Led
   pub is : left ≡ Some led
@@ -86,22 +86,22 @@ opens_so chains name opened old new opens = go old.bytes opens.whole
     go None h = tt
     go (Some bytes) h = opened_is chains opened new bytes h.0 h.1
 
--- A capture was to run through these chains: the policy and the graphs of this name run them, and the capture was opened, where the desk
--- tells all.
+-- A capture was to run through these chains: the policy and the graphs of this name run them, and the capture was
+-- opened, if the desk shows all.
 pub record Stands (named : Option (List ℕ)) (chains : Chains) (left : Option Led) (old mid : Slot → SlotView) : Type 0 where
   pub serves : Serves named old chains
   pub told : IfSome (old slots.Capture).bytes (IsLed chains left)
   pub same_out : mid slots.Out ≡ old slots.Out
   pub same_report : mid slots.Report ≡ old slots.Report
 
--- what the run over a capture that is told left
+-- what the run over a known capture left
 abbrev pub LeftOf : Option Led → (Slot → SlotView) → (Slot → SlotView) → Result Ended RunFault → Type 0
 LeftOf left mid new r = IfSome left (λ led. Left led mid new r)
 
 same_chains : (a b : Chains) → Some a ≡ Some b → a ≡ b
 same_chains a b e = cc
 
--- what is due of a policy and graphs that run these chains
+-- what is due for a policy and graphs that run these chains
 pub run_due : (r : Result Prepared Unprepared) (y : List ℕ) (chains : Chains) → chains_run r ≡ Some chains → due_of_run r y ≡ due_of_capture chains y
 run_due (Ok p) y chains runs = ap (λ o. due_of_capture o y) (same_chains (chains_prepared p) chains runs)
 run_due (Err fault) y chains runs = absurd cc
@@ -149,7 +149,7 @@ has_head (Some y) chains left told = told.good
 leaves_from : (due : Written) (old mid new : Slot → SlotView) → mid slots.Out ≡ old slots.Out → mid slots.Report ≡ old slots.Report → Leaves (both due) mid new → Leaves (both due) old new
 leaves_from due old mid new out report (a, b) = (subst (λ v. Holds due.out v (new slots.Out)) out a, subst (λ v. Holds due.report v (new slots.Report)) report b)
 
--- a capture that went through whole, or up to its fault, is answered as it is due
+-- a capture that went through whole, or up to its fault, has the due answer
 answered : (totals : Totals) (fault : Option FormatFault) → outcome_seen (closed totals fault) ≡ outcome_of fault
 answered totals None = refl
 answered totals (Some (formats.Pcap fault)) = refl
@@ -167,7 +167,7 @@ closed_due led ended old new counts left = record {
   note = noted ended.totals ended.fault led.fates counts.read counts.dropped ∙ ap (λ f. note_of f led.fates) counts.fault;
 }
 
--- what a run is answered with that wasn't broken off
+-- the answer to a run that wasn't broken off
 pub run_ends : (names : Names) (options : RunOptions) (chains : Chains) (left : Option Led) (r : Result Ended RunFault) (ending : Ending) (old mid new : Slot → SlotView) →
     Stands names.graph chains left old mid → LeftOf left mid new r → ending ≡ ending_of r → IsFinal (outcome_seen ending) →
     WhereRead (Ok (Run names options)) old (λ p g c. EndsDue (due_of_command (Ok (Run names options)) p g c) old new ending)

@@ -1,4 +1,4 @@
--- What a call leaves that counted the flows of a capture, before its line is put into Note.
+-- What a call that counted the flows of a capture leaves, before its line is put into Note.
 use Rattle.std.proofs.Common.{◌≡◌, ◌≢◌, ◌≤◌, ◌∙◌, ◌⊎◌, inl, inr, ℕ, List, refl, ap, sym, subst, arith, rules}
 use Rattle.std.specs.Prelude.{length, Option, Some, None, IfSome, IsSome, IsSomeAnd, IsOk, Result, Ok, Err}
 use Rattle.std.specs.Option.{option_map}
@@ -38,7 +38,7 @@ use Rattle.nfp_run.proofs.OtherSlots.{report_is_not_capture, report_is_not_out}
 abbrev asked : FlowFiles → FlowOptions → Result Command UsageFault
 asked names options = Ok (Flows names options)
 
--- nothing was attached before, and which slots were since
+-- nothing was attached before, and which slots are attached since
 pub record Stays (names : FlowFiles) (old new : Slot → SlotView) : Type 0 where
   pub free : (s : Slot) → (old s).name ≡ None
   pub capture : ((new slots.Capture).name ≡ None) ⊎ ((new slots.Capture).name ≡ Some names.capture)
@@ -62,7 +62,7 @@ no_report names old new stays = free_still names old new slots.Report stays (λ 
 note_stays : (names : FlowFiles) (old new : Slot → SlotView) → Stays names old new → new slots.Note ≡ old slots.Note
 note_stays names old new stays = stays.others slots.Note (λ h. cc) (λ h. cc)
 
--- what holds of all bytes holds where they are told
+-- what holds for all bytes holds for those that are known
 each : (o : Option (List ℕ)) (P Q : List ℕ → Type 0) → ((b : List ℕ) → P b → Q b) → IfSome o P → IfSome o Q
 each None P Q f h = tt
 each (Some b) P Q f h = f b h
@@ -175,14 +175,15 @@ unopened names options old new outcome refused stays same =
 
 -- ---- the capture was opened
 
--- what stands of a capture that was opened: its head and body, where the desk tells it, and the slots that stayed till then
+-- what holds for a capture that was opened: its head and body, if the desk shows it, and the slots that stayed until
+-- then
 pub record Stands (head : CaptureHead) (reader : ReaderState) (old mid : Slot → SlotView) : Type 0 where
   pub whole : IfSome (old slots.Capture).bytes (λ bytes. IsSomeAnd (body_left reader (mid slots.Capture)) (λ body. capture_of bytes ≡ Ok (head, body)))
   pub same_out : mid slots.Out ≡ old slots.Out
   pub same_report : mid slots.Report ≡ old slots.Report
   pub later : (old slots.Capture).faults ≤ (mid slots.Capture).faults
 
--- what is left of a body that was read says of the bytes of the capture
+-- what the rest of a body that was read says about the bytes of the capture
 said : (unit : TimeUnit) (head : CaptureHead) (left : Option Body) (bytes : List ℕ) (P : Body → Type 0) (Q : Due → Type 0) → IsSomeAnd left (λ body. capture_of bytes ≡ Ok (head, body)) → IfSome left P → ((body : Body) → P body → Q (due_of_body head.unit body)) → Q (due_of_flows (capture_of bytes))
 said unit head None bytes P Q whole all f = absurd whole
 said unit head (Some body) bytes P Q whole all f = subst (λ r. Q (due_of_flows r)) (sym whole) (f body all)
@@ -257,7 +258,7 @@ told_attaches names options new (Refused refusal) told out report = absurd told
 told_attaches names options new (GraphRefused refusal) told out report = absurd told
 told_attaches names options new (Completed totals) told out report = absurd told
 
--- the outcome of what was told is Done or a fault of the capture
+-- the outcome of work with an answer is Done or a fault of the capture
 abbrev IsCounted : Outcome → Type 0
 IsCounted Done = Unit {0}
 IsCounted (Capture fault) = Unit {0}
@@ -351,7 +352,7 @@ broken_attaches names options mid new (faults.WriteFault slots.Report) cause rep
 broken_attaches names options mid new (faults.WriteFault slots.Note) cause report = absurd cause
 broken_attaches names options mid new (faults.WriteFault slots.Graph) cause report = absurd cause
 
--- the outcome of what was broken off is a fault of a slot other than Note, or want of memory
+-- the outcome of work that was broken off is a fault of a slot other than Note, or out of memory
 abbrev IsCutOff : Outcome → Type 0
 IsCutOff (ReadFault s) = Unit {0}
 IsCutOff (WriteFault slots.Out) = Unit {0}

@@ -1,4 +1,4 @@
--- What chains make of what a source gives is what is due of the capture, in each format.
+-- What chains make of what a source gives is what is due for the capture, in each format.
 use Rattle.std.proofs.Common.{◌≡◌, ◌∙◌, ℕ, List, [], ◌∷◌, ◌++◌, length, map, refl, ap, subst}
 use Rattle.std.specs.Prelude.{count_by, Option, Some, None}
 use Rattle.std.specs.Option.{option_map}
@@ -40,7 +40,7 @@ pcap_records : (rs : List PcapRecord) → records_in (map pcap_given rs) ≡ rs
 pcap_records [] = refl
 pcap_records (r ∷ rs) = ap (λ l. r ∷ l) (pcap_records rs)
 
--- what is written of them
+-- what is written for them
 pcap_written : (order : Endian) (rs : List PcapRecord) (fs : List Fate) → emitted_among (pcap_spelled order) (map pcap_given rs) fs ≡ emitted_all (record_bytes order) rs fs
 unfolding emitted_among emitted_all
 pcap_written order [] [] = refl
@@ -56,7 +56,7 @@ ng_records (Section block ∷ more) = ng_records more
 ng_records (Interface order block ∷ more) = ng_records more
 ng_records (Carried block ∷ more) = ng_records more
 
--- what is written of its items
+-- what is written for its items
 ng_written : (growth : ℕ) (items : List NgItem) (fs : List Fate) → emitted_among (ng_spelled growth) (map ng_given items) fs ≡ ng_out_bytes growth items fs
 unfolding emitted_among ng_out_bytes
 ng_written growth [] fs = refl
@@ -67,7 +67,7 @@ ng_written growth (Packet p ∷ more) [] = refl
 ng_written growth (Packet p ∷ more) (Out frame ∷ fs) = ap (λ l. item_bytes growth (Packet (record p { packet = emitted_record p.packet frame })) ++ l) (ng_written growth more fs)
 ng_written growth (Packet p ∷ more) (Gone position ∷ fs) = ng_written growth more fs
 
--- what is due of what a source gives of a pcapng capture
+-- what is due for what a source gives for a pcapng capture
 pub led_streams : (chains : Chains) (blocks : Blocks) → led_stream chains (ng_stream blocks) ≡ led_ng chains blocks
 led_streams chains blocks =
     let records : records_in (map ng_given blocks.items) ≡ records_among blocks.items = ng_records blocks.items in
@@ -97,7 +97,7 @@ ng_partly chains growth (Some s) old new e same w = record {
   prefixes = subst (λ g. PutsPrefixes (emitted_among (ng_spelled g) s.given (fates_of chains Nano (records_in s.given))) (report_of chains Nano (records_in s.given) s.fault) old new) same w.prefixes;
 }
 
--- the bytes of Out are the head that is written and what is emitted behind it
+-- the bytes of Out are the head that is written and then what is emitted
 head_first : (chains : Chains) (head : CaptureHead) (order : Endian) (b : Body) → order ≡ head.order →
     head_bytes (written_head chains head) ++ emitted_among (pcap_spelled order) (map pcap_given b.records) (fates_of chains head.unit (records_in (map pcap_given b.records))) ≡ (written_of chains head b).out
 unfolding out_bytes

@@ -1,4 +1,4 @@
--- Worked rows: graphs that were written by hand.
+-- Worked rows: hand-written graphs.
 use Rattle.std.specs.Prelude.{◌≡◌, ℕ, List, [], ◌∷◌, ◌++◌, refl, Result, Ok, Err, codes}
 use Rattle.std.specs.Fmt.{digits}
 use Rattle.std.specs.Net.Addr.{ipv4_bits}
@@ -73,7 +73,7 @@ ninth = 0 ∷ 0 ∷ 0 ∷ 0 ∷ 0 ∷ 0 ∷ 0 ∷ 0 ∷ 42 ∷ 0 ∷ 0 ∷ 0 ∷
 capture : List ℕ
 capture = head ++ (first ++ (ninth ++ first))
 
--- a policy in UTF-8 and graphs in UTF-8, as what they come to
+-- a policy in UTF-8 and graphs in UTF-8, read
 with_graphs : Result Judged Refusal → List ℕ → Result Prepared Unprepared
 with_graphs (Ok policy) text = prepared_with policy (graphs_of_utf8 text policy.policy.chains policy.orders)
 with_graphs (Err refusal) text = Err (ByPolicy refusal)
@@ -81,7 +81,7 @@ with_graphs (Err refusal) text = Err (ByPolicy refusal)
 worth : List ℕ → List ℕ → Result Prepared Unprepared
 worth policy text = with_graphs (judged_text (policy_of_utf8 policy)) text
 
--- ---- a monitor and a firewall in one branch: what is written is what it was
+-- ---- a monitor and a firewall in one branch: what is written stays the same
 
 counting : List ℕ
 counting = codes "nfp 1\nchain main\nfn mon monitor\nfn fw firewall\nrule deny src 10.0.0.9\norder mon before fw\n"
@@ -125,7 +125,7 @@ turned_round : due_of_plan (worth balanced (codes "nfp-graph 1\nchain main\nstag
 unfolding worth with_graphs balanced making_of profile_by line_of balancer_line_of graphs_of_utf8 listed_by graph_after_line graph_due faultless graph_line forbidden_line pair_line graph_at_line plan_text chain_plan stage_text branch_text part_line digits policy_of_utf8 after_line orders_from answer_of edges_of taken stuck named_cycle from_earliest cycle_back first_refusal pair_of first_forbidden pairs actions all_actions is_copied copied stage_parts touch_of branch_reads branch_writes mode_of copies
 turned_round = refl
 
--- a policy's fault is told before that of the graphs
+-- a policy's fault is reported before that of the graphs
 policy_first : due_of_plan (worth (codes "nfp 2\n") (codes "nfp-graph 2\n")) ≡ nothing_but (Policy (Text BadVersionLine)) (codes "policy: bad version line\n")
 unfolding worth with_graphs text_line policy_of_utf8
 policy_first = refl

@@ -54,14 +54,14 @@ interface low = 1 ∷ 0 ∷ 0 ∷ 0 ∷ 20 ∷ 0 ∷ 0 ∷ 0 ∷ 1 ∷ 0 ∷ 0 �
 block : ℕ → ℕ → List ℕ
 block sum host = 6 ∷ 0 ∷ 0 ∷ 0 ∷ 76 ∷ 0 ∷ 0 ∷ 0 ∷ 0 ∷ 0 ∷ 0 ∷ 0 ∷ 0 ∷ 0 ∷ 0 ∷ 0 ∷ 0 ∷ 0 ∷ 0 ∷ 0 ∷ 42 ∷ 0 ∷ 0 ∷ 0 ∷ 42 ∷ 0 ∷ 0 ∷ 0 ∷ 2 ∷ 0 ∷ 0 ∷ 0 ∷ 0 ∷ 2 ∷ 2 ∷ 0 ∷ 0 ∷ 0 ∷ 0 ∷ 1 ∷ 8 ∷ 0 ∷ 69 ∷ 0 ∷ 0 ∷ 28 ∷ 0 ∷ 0 ∷ 0 ∷ 0 ∷ 64 ∷ 17 ∷ 102 ∷ sum ∷ 10 ∷ 0 ∷ 0 ∷ host ∷ 10 ∷ 0 ∷ 0 ∷ 2 ∷ 3 ∷ 232 ∷ 0 ∷ 53 ∷ 0 ∷ 8 ∷ 0 ∷ 0 ∷ 0 ∷ 0 ∷ 76 ∷ 0 ∷ 0 ∷ 0 ∷ []
 
--- what a text of ASCII characters is worth
+-- the value of a text of ASCII characters
 worth : List ℕ → Result Prepared Unprepared
 worth text = prepared_by None (judged_text (policy_of_utf8 text)) []
 
 deny : List ℕ
 deny = codes "nfp 1\nchain main\nfn fw firewall\nrule deny src 10.0.0.9\n"
 
--- what passes goes out as it came
+-- a packet that passes goes out unchanged
 passed : due_of_run (worth deny) (section ++ (interface 255 ++ block 207 1)) ≡ record {
   outcome = Done;
   written = both (record {
@@ -73,7 +73,7 @@ passed : due_of_run (worth deny) (section ++ (interface 255 ++ block 207 1)) ≡
 unfolding worth making_of profile_by step_by lines_of deny policy_of_utf8 after_line orders_from answer_of edges_of taken stuck named_cycle from_earliest cycle_back first_refusal section interface block blocks_of options_of packet_head ng_out_bytes tags_len is_ipv4 is_ipv6 walk fates long cut_chain fates_among chains_after fates_of chains_behind report_bytes drop_text drop_lines total_line last_line ng_text summary done_text digits words is_changed change_sum has_same_places has_transport passes line_of function_text chain_lines copies_due copies_lines copies_through passed_on copies_made written_in graph_of placed holds_back is_forbidden branch_reads branch_writes touch_of stage_parts mode_of copies pair_of first_forbidden pairs actions all_actions is_copied copied
 passed = refl
 
--- of a packet that is dropped nothing goes out
+-- for a packet that is dropped nothing goes out
 dropped : due_of_run (worth deny) (section ++ (interface 255 ++ block 199 9)) ≡ record {
   outcome = Done;
   written = both (record {
@@ -85,7 +85,7 @@ dropped : due_of_run (worth deny) (section ++ (interface 255 ++ block 199 9)) �
 unfolding worth making_of profile_by step_by lines_of deny policy_of_utf8 after_line orders_from answer_of edges_of taken stuck named_cycle from_earliest cycle_back first_refusal section interface block blocks_of options_of packet_head ng_out_bytes tags_len is_ipv4 is_ipv6 walk fates long cut_chain fates_among chains_after fates_of chains_behind report_bytes drop_text drop_lines total_line last_line ng_text summary done_text digits words is_changed change_sum has_same_places has_transport passes line_of function_text chain_lines copies_due copies_lines copies_through passed_on copies_made written_in graph_of placed holds_back is_forbidden branch_reads branch_writes touch_of stage_parts mode_of copies pair_of first_forbidden pairs actions all_actions is_copied copied
 dropped = refl
 
--- cut inside the packet's block: the two blocks before it stand
+-- cut inside the packet's block: the two blocks before it stay
 cut : due_of_run (worth deny) (take 100 (section ++ (interface 255 ++ block 207 1))) ≡ record {
   outcome = CaptureNg (CutBlock 3);
   written = both (record {

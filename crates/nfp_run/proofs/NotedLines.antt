@@ -1,4 +1,4 @@
--- What Note holds where the work was done, and where memory ran out.
+-- What Note holds if the work was done, and if it ran out of memory.
 use Rattle.std.proofs.Common.{◌≡◌, ◌≢◌, ◌⊎◌, ◌∙◌, inl, inr, ℕ, List, [], ◌∷◌, ◌++◌, refl, ap, sym, subst}
 use Rattle.std.specs.Prelude.{Result}
 use Rattle.nfp_outside.specs.declared.slot.Slot.{Slot}
@@ -41,7 +41,7 @@ called_done_noted command old mid new ended result called done = by_notes called
     by_notes (inr (inl (is, a))) = absurd cc
     by_notes (inr (inr (is, r, a))) = absurd (untold_is_not_done (outcome_seen ended) (sym is ∙ done))
 
--- The text that tells an end: the one that is due, the line of a fault of a slot whose count rose, or nothing.
+-- The text for an end: the one that is due, the line of a fault of a slot whose count rose, or nothing.
 abbrev IsTold : (Slot → SlotView) → (Slot → SlotView) → List ℕ → List ℕ → Type 0
 IsTold old mid note text =
     (text ≡ note)
@@ -52,7 +52,7 @@ IsTold old mid note text =
 due_told : (command : Result Command UsageFault) (old mid : Slot → SlotView) (ended : Ending) → Ran command old mid ended → IsFinal (outcome_seen ended) → WhereRead command old (λ p g c. IsTold old mid (due_of_command command p g c).note (text_of ended))
 due_told command old mid ended ran final = if_read command old _ _ (λ p g c ends. inl ends.note) (ran.due final)
 
--- a fault of a slot comes where its count rose, and it isn't Note's
+-- a fault of a slot comes only if its count rose, and it isn't Note's
 risen_reading : (command : Result Command UsageFault) (old mid : Slot → SlotView) (s : Slot) → ReadFaultCause command old mid s → (s ≢ slots.Note) × IsRisen (old s).faults (mid s).faults
 risen_reading command old mid slots.Policy h = (policy_beside, h.1)
 risen_reading command old mid slots.Capture h = (capture_beside, h.1)
@@ -91,7 +91,7 @@ nothing_in_front (b ∷ done) rest e = absurd cc
 nothing_before : (old new : SlotView) → AppendsPrefix [] old new → Appends [] old new
 nothing_before old new a = subst (λ d. Appends d old new) (nothing_in_front a.done a.rest a.parts) a.appended
 
--- a front part of nothing is a front part of any text
+-- a prefix of nothing is a prefix of any text
 of_nothing : (note : List ℕ) (old new : SlotView) → AppendsPrefix [] old new → AppendsPrefix note old new
 of_nothing note old new a = record { done = []; rest = note; parts = refl; appended = nothing_before old new a }
 
@@ -122,7 +122,7 @@ called_noted_short command old mid new ended result called short = if_read comma
     by_notes (inr (inl (is, a))) = a
     by_notes (inr (inr (is, r, a))) = a
 
--- want of memory has no line
+-- out of memory has no line
 no_text : (ended : Ending) → outcome_seen ended ≡ OutOfMemory → text_of ended ≡ []
 no_text (Completed totals) e = absurd cc
 no_text (Shown text) e = absurd cc

@@ -1,4 +1,4 @@
--- A capture of which the first bytes were read before is opened, or refused, as it is by all its bytes.
+-- A capture whose first bytes were read before is opened, or refused, as by all its bytes.
 use Rattle.std.proofs.Common.{◌≡◌, ◌≤◌, ◌<◌, ◌∙◌, ℕ, zero, suc, List, ◌++◌, length, take, drop, refl, ap, sym, subst, arith}
 use Rattle.std.specs.Prelude.{Bool, true, false, Option, Some, None, IfSome, IsSomeAnd, MatchOption, Ok, Err}
 use Rattle.std.specs.Option.{option_map}
@@ -32,7 +32,7 @@ front_so k buffer first bytes rest four within some is same left end = record { 
     go (suc (suc (suc zero))) within some end = let three : length bytes ≡ 3 = end (omega arith) in take_all 3 bytes (omega arith) ∙ sym (take_all 4 bytes (omega arith))
     go (suc (suc (suc (suc n)))) within some end = let four_there : suc (suc (suc (suc n))) ≡ 4 = omega arith in ap (λ m. take m bytes) four_there
 
--- a fact of all bytes of a capture, where its first bytes were read
+-- a fact about all bytes of a capture, if its first bytes were read
 behind : (k : ℕ) (buffer first : List ℕ) (P : Bool → List ℕ → Type 0) (old mid : SlotView) → length buffer ≡ 4 → first ≡ take k buffer → Fills k buffer old mid → IfSome (unread first mid).bytes (P (is_ng_front first)) → IfSome old.bytes (λ bytes. P (is_ng bytes) bytes)
 behind k buffer first P old mid four is fills all = go old.bytes refl
   where
@@ -91,7 +91,7 @@ head_read head reader old new reads = go old.bytes (pcap.body_left reader new) r
     go (Some bytes) None whole = absurd cc
     go (Some bytes) (Some body) whole = cc
 
--- a fact of what is made of a value is one of the value
+-- a fact about what is made of a value is one about the value
 pub of_made : {T U : Type 0} (f : T → U) (o : Option T) (P : U → Type 0) → IfSome (option_map f o) P → IfSome o (λ x. P (f x))
 of_made f None P h = tt
 of_made f (Some x) P h = h

@@ -23,7 +23,7 @@ judged_long bytes long =
     let beyond : nat_lt 1048576 (length bytes) ≡ true = grind (arith, nat_tests) in
     ap (λ b. if b then Err (told policies.TooLong too_long_line) else judged_text (policy_of bytes)) beyond
 
--- there are texts so long
+-- there are texts of that length
 some_long : (n : ℕ) → 1048576 < n → (bytes : List ℕ) × (judged bytes ≡ Err (told policies.TooLong too_long_line))
 some_long n long = (replicate n 0, judged_long (replicate n 0) (subst (λ m. 1048576 < m) (sym (length-replicate n 0)) long))
 

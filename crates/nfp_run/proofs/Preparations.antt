@@ -1,4 +1,4 @@
--- A policy and the graphs that were written for its chains are read, one after the other.
+-- A policy and the graphs for its chains are read, one after the other.
 use Rattle.std.proofs.Common.{◌≡◌, ◌<◌, ◌≤◌, ◌∙◌, inl, inr, ℕ, suc, List, [], ◌∷◌, length, map, refl, ap, sym, subst, arith}
 use Rattle.std.specs.Prelude.{true, nat_lt, if◌then◌else◌, Option, Some, None, IfErr, IfOk, IfSome, IsOk, MatchResult, Result, Ok, Err}
 use Rattle.std.specs.List.{AllZip, zip}
@@ -152,7 +152,7 @@ unread_graph_ends policy old new TooLong ending is ends = graph_refused_ends pol
 unread_graph_ends policy old new Failed ending is ends = subst (EndsAtGraph policy old new) (sym ends) (refl, is)
 unread_graph_ends policy old new NoMemory ending is ends = subst (EndsAtGraph policy old new) (sym ends) tt
 
--- what was read is what is told
+-- what was read is what the desk shows
 pub told_graphs : (policy : Judged) (old : SlotView) (read : List ℕ) (due : Result (List (Option StagedGraph)) GraphFault) → IfSome old.bytes (λ text. text ≡ read) → graphs_of read policy.policy.chains policy.orders ≡ due →
     IfSome old.bytes (λ text. graphs_of text policy.policy.chains policy.orders ≡ due)
 told_graphs policy old read due is given = if_told old.bytes _ _ (λ text e. ap (λ t. graphs_of t policy.policy.chains policy.orders) e ∙ given) is
@@ -161,7 +161,7 @@ pub graphs_prepared : (policy : Judged) (old : SlotView) (read : List ℕ) (grap
     IfSome old.bytes (λ text. prepared_with policy (graphs_of text policy.policy.chains policy.orders) ≡ Ok (record { judged = policy; graphs = graphs }))
 graphs_prepared policy old read graphs is given = if_told old.bytes _ _ (λ text due. ap (prepared_with policy) due) (told_graphs policy old read (Ok graphs) is given)
 
--- both texts, told of their slots as they were before either was read
+-- both texts, stated for their slots as they were before either was read
 both_told : (old : Slot → SlotView) (name : List ℕ) (policy : Judged) (graphs : SlotView) (due : Result Prepared Unprepared) → graphs ≡ old slots.Graph → IfSome (old slots.Policy).bytes (λ bytes. judged bytes ≡ Ok policy) →
     IfSome graphs.bytes (λ text. prepared_with policy (graphs_of text policy.policy.chains policy.orders) ≡ due) → WhereTexts (Some name) old (λ p g. prepared (Some name) p g ≡ due)
 both_told old name policy graphs due same told given = if_told (old slots.Policy).bytes _ _

@@ -20,7 +20,7 @@ puts_more a b c d old mid new first second = record {
   later = later_more old mid new first.later second.later;
 }
 
--- of the second a front part was put
+-- of the second a prefix was put
 pub puts_more_partly : (a b c d : List ℕ) (old mid new : Slot → SlotView) → Puts a b old mid → PutsPrefixes c d mid new → PutsPrefixes (a ++ c) (b ++ d) old new
 puts_more_partly a b c d old mid new first second = record {
   in_out = prefix_more a c (old Out) (mid Out) (new Out) first.in_out second.in_out;
@@ -28,7 +28,7 @@ puts_more_partly a b c d old mid new first second = record {
   later = later_more old mid new first.later second.later;
 }
 
--- what is due is longer
+-- there is more due
 pub prefixes_longer : (a b c d : List ℕ) (old new : Slot → SlotView) → PutsPrefixes a b old new → PutsPrefixes (a ++ c) (b ++ d) old new
 prefixes_longer a b c d old new put = record {
   in_out = prefix_longer a c (old Out) (new Out) put.in_out;

@@ -1,4 +1,4 @@
--- Done is answered where the policy, the graphs and the capture were read to their ends.
+-- The answer is Done if the policy, the graphs and the capture were read to their ends.
 use Rattle.std.proofs.Common.{◌≡◌, ◌∙◌, ℕ, List, [], ap, refl, sym, subst}
 use Rattle.std.specs.Prelude.{Option, Some, None, IfNone, IfOk, IfSome, MatchOption, Result, Ok, Err}
 use Rattle.nfp_outside.specs.declared.slot.Slot.{Slot}
@@ -81,7 +81,7 @@ ended_drained (Err faults.ReadFault) slot drained done = absurd cc
 ended_drained (Err (faults.WriteFault s)) slot drained done = absurd cc
 ended_drained (Err faults.OutOfMemory) slot drained done = absurd cc
 
--- flows that were counted of a capture: it was read to its end, or has a fault
+-- a capture whose flows were counted was read to its end, or has a fault
 flows_drained : (records : ℕ) (lines : List FlowLine) (fault : Option CaptureFault) (slot : SlotView) → IfNone fault (IsReadWhole slot) → outcome_seen (flows_ending records lines fault) ≡ Done → IsReadWhole slot
 flows_drained records lines None slot drained done = drained
 flows_drained records lines (Some fault) slot drained done = absurd cc

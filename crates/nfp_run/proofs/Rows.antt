@@ -76,7 +76,7 @@ ninth = 0 ∷ 0 ∷ 0 ∷ 0 ∷ 0 ∷ 0 ∷ 0 ∷ 0 ∷ 42 ∷ 0 ∷ 0 ∷ 0 ∷
 unfoldable pub capture : List ℕ
 capture = head ++ (first ++ (ninth ++ first))
 
--- what a text of ASCII characters is worth
+-- the value of a text of ASCII characters
 unfoldable pub worth : List ℕ → Result Prepared Unprepared
 worth text = prepared_by None (judged_text (policy_of_utf8 text)) []
 
@@ -95,7 +95,7 @@ deny_written : due_of_run (worth deny) capture ≡ record {
 unfolding worth making_of profile_by step_by lines_of deny policy_of_utf8 after_line orders_from answer_of edges_of taken stuck named_cycle from_earliest cycle_back first_refusal head first ninth capture body_of head_bytes record_head tags_len is_ipv4 is_ipv6 walk fates long cut fates_among chains_after fates_of chains_behind emitted_all out_bytes report_bytes drop_text drop_lines total_line last_line summary done_text digits words is_changed change_sum has_same_places has_transport passes line_of function_text chain_lines copies_due copies_lines copies_through passed copies_made written_in graph_of placed holds_back is_forbidden branch_reads branch_writes touch_of stage_parts mode_of copies pair_of first_forbidden pairs actions all_actions is_copied copied
 deny_written = refl
 
--- b stands before a, and denies what no rule of its own allows: only the second packet passes it, and a drops that
+-- b is before a, and denies what none of its rules allows: only the second packet passes it, and a drops that
 two : List ℕ
 two = codes "nfp 1\nchain main\nfn a firewall\nrule deny src 10.0.0.9\nfn b firewall\nset default deny\nrule allow proto udp dport 50-60 src 10.0.0.8/30\norder b before a\n"
 
@@ -122,7 +122,7 @@ cut_written : due_of_run (worth deny) (head ++ (first ++ (ninth ++ take 30 first
 unfolding worth making_of profile_by step_by lines_of deny capture_text policy_of_utf8 after_line orders_from answer_of edges_of taken stuck named_cycle from_earliest cycle_back first_refusal head first ninth capture body_of head_bytes record_head tags_len is_ipv4 is_ipv6 walk fates long cut fates_among chains_after fates_of chains_behind emitted_all out_bytes report_bytes drop_text drop_lines total_line last_line summary done_text digits words is_changed change_sum has_same_places has_transport passes line_of function_text chain_lines copies_due copies_lines copies_through passed copies_made written_in graph_of placed holds_back is_forbidden branch_reads branch_writes touch_of stage_parts mode_of copies pair_of first_forbidden pairs actions all_actions is_copied copied
 cut_written = refl
 
--- the second packet is dropped by the first function, which stands beside the other, and the others by that
+-- the second packet is dropped by the first function, which is beside the other, and the others by that
 beside : List ℕ
 beside = codes "nfp 1\nchain main\nfn f1 firewall\nrule deny src 10.0.0.9\nfn f2 firewall\nrule deny src 10.0.0.0/8\n"
 
@@ -137,7 +137,8 @@ beside_written : due_of_run (worth beside) capture ≡ record {
 unfolding worth making_of profile_by step_by lines_of beside policy_of_utf8 after_line orders_from answer_of edges_of taken stuck named_cycle from_earliest cycle_back first_refusal head first ninth capture body_of head_bytes record_head tags_len is_ipv4 is_ipv6 walk fates long cut fates_among chains_after fates_of chains_behind emitted_all out_bytes report_bytes drop_text drop_lines total_line last_line summary done_text digits words is_changed change_sum has_same_places has_transport passes line_of function_text chain_lines copies_due copies_lines copies_through passed copies_made written_in graph_of placed holds_back is_forbidden branch_reads branch_writes touch_of stage_parts mode_of copies pair_of first_forbidden pairs actions all_actions is_copied copied
 beside_written = refl
 
--- A monitor in front of a firewall counts what that drops, too, and the report tells its flows in the order of first sight.
+-- A monitor in front of a firewall counts what that drops, too, and the report shows its flows in the order of first
+-- sight.
 counting : List ℕ
 counting = codes "nfp 1\nchain main\nfn mon monitor\nfn fw firewall\nrule deny src 10.0.0.9\norder mon before fw\n"
 
@@ -152,7 +153,8 @@ counting_written : due_of_run (worth counting) capture ≡ record {
 unfolding worth making_of profile_by step_by lines_of counting policy_of_utf8 after_line orders_from answer_of edges_of taken stuck named_cycle from_earliest cycle_back first_refusal head first ninth capture body_of head_bytes record_head tags_len is_ipv4 is_ipv6 walk fates long cut fates_among chains_after fates_of chains_behind emitted_all out_bytes report_bytes drop_text drop_lines total_line last_line summary done_text digits words is_changed change_sum has_same_places has_transport passes line_of function_text chain_lines copies_due copies_lines copies_through passed copies_made written_in graph_of placed holds_back is_forbidden branch_reads branch_writes touch_of stage_parts mode_of copies pair_of first_forbidden pairs actions all_actions is_copied copied flow_line endpoint_text dotted ipv4_bits
 counting_written = refl
 
--- The clauses of both chains are met by the second packet, and the first chain takes it. The others meet the second chain's alone.
+-- The second packet meets the clauses of both chains, and the first chain takes it. The others meet only the second
+-- chain's.
 overlapping : List ℕ
 overlapping = codes "nfp 1\nchain ninth match src 10.0.0.9\nfn n firewall\nset default deny\nchain all match src 10.0.0.0/8\nfn a firewall\nrule deny src 10.0.0.1\n"
 
@@ -186,7 +188,7 @@ untaken_written : due_of_run (worth untaken) (head ++ (first ++ (other ++ ninth)
 unfolding worth making_of profile_by step_by lines_of untaken other policy_of_utf8 after_line orders_from answer_of edges_of taken stuck named_cycle from_earliest cycle_back first_refusal head first ninth capture body_of head_bytes record_head tags_len is_ipv4 is_ipv6 walk fates long cut fates_among chains_after fates_of chains_behind emitted_all out_bytes report_bytes drop_text drop_lines total_line last_line summary done_text digits words is_changed change_sum has_same_places has_transport passes line_of function_text chain_lines copies_due copies_lines copies_through passed copies_made written_in graph_of placed holds_back is_forbidden branch_reads branch_writes touch_of stage_parts mode_of copies pair_of first_forbidden pairs actions all_actions is_copied copied
 untaken_written = refl
 
--- a chain without functions lets its packets pass
+-- a chain without functions passes its packets
 idle_written : due_of_run (worth (codes "nfp 1\nchain idle match src 10.0.0.9\n")) capture ≡ record {
   outcome = Done;
   written = both (record { out = capture; report = codes "nfp report 1\nrecords 3 emitted 3 dropped 0\nend\n" });
@@ -195,7 +197,7 @@ idle_written : due_of_run (worth (codes "nfp 1\nchain idle match src 10.0.0.9\n"
 unfolding worth policy_of_utf8 after_line orders_from answer_of edges_of taken stuck named_cycle from_earliest cycle_back first_refusal head first ninth capture body_of head_bytes record_head tags_len is_ipv4 is_ipv6 walk fates long cut fates_among chains_after fates_of chains_behind emitted_all out_bytes report_bytes drop_text drop_lines total_line last_line summary done_text digits words is_changed change_sum has_same_places has_transport passes line_of function_text chain_lines copies_due copies_lines copies_through passed copies_made written_in graph_of placed holds_back is_forbidden branch_reads branch_writes touch_of stage_parts mode_of copies pair_of first_forbidden pairs actions all_actions is_copied copied
 idle_written = refl
 
--- without chains every packet passes, and the report has the totals and the end alone
+-- without chains every packet passes, and the report has only the totals and the end
 no_chains_written : due_of_run (worth (codes "nfp 1\n")) capture ≡ record {
   outcome = Done;
   written = both (record { out = capture; report = codes "nfp report 1\nrecords 3 emitted 3 dropped 0\nend\n" });
@@ -204,12 +206,12 @@ no_chains_written : due_of_run (worth (codes "nfp 1\n")) capture ≡ record {
 unfolding worth policy_of_utf8 after_line orders_from answer_of edges_of taken stuck named_cycle from_earliest cycle_back first_refusal head first ninth capture body_of head_bytes record_head tags_len is_ipv4 is_ipv6 walk fates long cut fates_among chains_after fates_of chains_behind emitted_all out_bytes report_bytes drop_text drop_lines total_line last_line summary done_text digits words is_changed change_sum has_same_places has_transport passes line_of function_text chain_lines copies_due copies_lines copies_through passed copies_made written_in graph_of placed holds_back is_forbidden branch_reads branch_writes touch_of stage_parts mode_of copies pair_of first_forbidden pairs actions all_actions is_copied copied
 no_chains_written = refl
 
--- the snaplen that is written where a capture with this snaplen runs through the chains of a text; 0 of a text that is refused
+-- the snaplen that is written if a capture with this snaplen runs through the chains of a text; 0 for a refused text
 grown_snaplen : ℕ → Result PolicyRead TextFault → ℕ
 grown_snaplen snaplen (Ok policy) = (written_head (record { declared = policy.chains; names = []; pieces = [] }) (record { order = Little; unit = Micro; zone = 0; sigfigs = 0; snaplen = snaplen })).snaplen
 grown_snaplen snaplen (Err fault) = 0
 
--- a frame of 65535 bytes and a tag more fit
+-- a frame of 65535 bytes and one more tag fit
 one_tagger : grown_snaplen 65535 (policy_of_utf8 (codes "nfp 1\nchain main\nfn fw firewall\nfn t tagger\n")) ≡ 65539
 unfolding grown_snaplen policy_of_utf8 after_line
 one_tagger = refl
@@ -237,7 +239,7 @@ largest_snaplen : grown_snaplen 4294967293 (policy_of_utf8 (codes "nfp 1\nchain 
 unfolding grown_snaplen policy_of_utf8 after_line
 largest_snaplen = refl
 
--- a field has a line where copies of it were made, in the order of the fields
+-- a field has a line if copies of it were made, in the order of the fields
 copies_told : copies_lines (codes "main") (λ f. slice_index (0 ∷ 0 ∷ 3 ∷ 0 ∷ 0 ∷ 12 ∷ 0 ∷ 0 ∷ 0 ∷ 18446744073709551615 ∷ []) (number_of f)) ≡ codes "copies main tag 3\ncopies main src 12\ncopies main payload 18446744073709551615\n"
 unfolding copies_lines copies_text digits
 copies_told = refl
@@ -257,7 +259,7 @@ no_policy : due_of_run (worth []) [] ≡ nothing_but (Policy (Text BadVersionLin
 unfolding worth text_line policy_of_utf8
 no_policy = refl
 
--- a translation without a public address is told by its own line
+-- a translation without a public address is reported with its own line
 no_public : due_of_run (worth (codes "nfp 1\nchain main\nfn n nat\nset inside 10.0.0.0/8\nset ports 40000-40000\n")) [] ≡ nothing_but (Policy (BadSetting 3)) (codes "policy: line 3: bad setting\n")
 unfolding worth making_of setting_line digits nat_line_of policy_of_utf8 after_line
 no_public = refl
@@ -283,9 +285,9 @@ forbidden : due_of_run (worth (codes "nfp 1\nchain main\nfn mon monitor\nfn n na
 unfolding worth making_of nat_line_of check_line priority_line digits pair_of first_forbidden pairs actions all_actions is_copied copied policy_of_utf8 after_line orders_from answer_of edges_of taken stuck named_cycle from_earliest cycle_back first_refusal
 forbidden = refl
 
--- ---- how what the branches of a stage give comes together
+-- ---- how the results of a stage's branches are merged
 
--- the result of a line whose words are parted by blanks
+-- the result of a line whose words are separated by blanks
 abbrev due_of_line : List ℕ → List ℕ → List ℕ → List ℕ → Due
 due_of_line line = due (slice_split (λ c. c == 32) line)
 

@@ -37,7 +37,7 @@ run_names names options old new b policy graph slots.Out = inl (beside_name old 
 run_names names options old new b policy graph slots.Report = inl (beside_name old new b slots.Report report_is_not_policy report_is_not_graph)
 run_names names options old new b policy graph slots.Note = inl (beside_name old new b slots.Note note_is_not_policy note_is_not_graph)
 
--- an outcome that tells nothing of the capture
+-- an outcome that says nothing about the capture
 record IsEarly (command_options : Names × RunOptions) (old new : Slot → SlotView) (e : Ending) : Type 0 where
   attaches : AttachesDue (Ok (Run command_options.0 command_options.1)) (outcome_seen e) new
   reaches : ReachesCapture (Ok (Run command_options.0 command_options.1)) (outcome_seen e) old
@@ -64,7 +64,7 @@ early names options old new (Shown text) none h = absurd h
 
 -- ---- at the head or at the first block of the capture
 
--- what is due of a capture that isn't opened
+-- what is due for a capture that isn't opened
 abbrev IsOpeningDue : Outcome → Due → Type 0
 IsOpeningDue (Capture fault) due = due ≡ nothing_but (Capture fault) (capture_text fault)
 IsOpeningDue (CaptureNg fault) due = due ≡ nothing_but (CaptureNg fault) (ng_text fault)
@@ -129,4 +129,4 @@ unopened_read names options chains outcome old new s serves refused is =
     let here : RefusedOpening (old slots.Capture) (new slots.Capture) (ReadFault s) = subst (RefusedOpening (old slots.Capture) (new slots.Capture)) is refused in
     subst (ReadFaultCause (Ok (Run names options)) old new) (sym here.0) (has_texts names.graph old chains serves, here.1)
 
--- ---- where the capture went through chains, or was broken off there
+-- ---- the capture went through chains, or was broken off there

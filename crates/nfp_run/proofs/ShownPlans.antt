@@ -1,4 +1,4 @@
--- The plan of a policy, chain by chain, and what a call leaves that shows it, or shows a demo.
+-- The plan of a policy, chain by chain, and what a call that shows it, or shows a demo, leaves.
 use Rattle.std.proofs.Common.{◌≡◌, ◌≢◌, ◌<◌, ◌≤◌, ◌⊎◌, ◌∙◌, inl, ℕ, List, [], ◌∷◌, ◌++◌, length, drop, get_or, zero, suc, ◌+◌, append_assoc, refl, ap, sym, subst, arith}
 use Rattle.std.specs.Prelude.{Option, Some, None, IsOk, Result, Ok, Err}
 use Rattle.std.specs.List.{AllZip, range_with_len, zip}
@@ -67,7 +67,7 @@ plan_reaches names old new (Stopped (WriteFault s)) h = absurd h
 plan_reaches names old new (Completed totals) h = absurd h
 plan_reaches names old new (Shown text) h = absurd h
 
--- what stands after a plan
+-- the state after a plan
 pub plan_ran : (names : PlanFiles) (old new : Slot → SlotView) (ending : Ending) → ((s : Slot) → (old s).name ≡ None) → ((new slots.Policy).name ≡ None) ⊎ ((new slots.Policy).name ≡ Some names.policy) →
     ((new slots.Graph).name ≡ None) ⊎ ((new slots.Graph).name ≡ names.graph) → ((s : Slot) → s ≢ slots.Policy → s ≢ slots.Graph → new s ≡ old s) → PlanEnds names.graph old new ending →
     (outcome_seen ending ≡ Done → ReadsToEnd (Ok (Plan names)) new) → Ran (Ok (Plan names)) old new ending
@@ -110,7 +110,7 @@ plan_ran names old new ending free policy graph others ends whole = go ending en
     go (Stopped outcome) h drained = texts_ran (Ok (Plan names)) names.graph old new (Stopped outcome) t b h
     go (Completed totals) h drained = absurd h
 
--- what stands after a demo
+-- the state after a demo
 pub demo_ran : (input : DemoInput) (options : RunOptions) (old : Slot → SlotView) (ending : Ending) → ((s : Slot) → (old s).name ≡ None) → DemoEnds input ending → Ran (Ok (Demo input options)) old old ending
 demo_ran input options old ending free ends = go ending ends
   where
@@ -148,7 +148,7 @@ demo_ran input options old ending free ends = go ending ends
     go (GraphRefused refusal) h = absurd h
     go (Completed totals) h = absurd h
 
--- what stands after words that are refused
+-- the state after words that are refused
 pub usage_ran : (fault : UsageFault) (old : Slot → SlotView) → ((s : Slot) → (old s).name ≡ None) → Ran (Err fault) old old (Stopped (Usage fault))
 usage_ran fault old free = record {
   due = λ f p g c. record { answer = refl; left = untouched; note = refl };

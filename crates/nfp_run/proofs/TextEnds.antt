@@ -1,4 +1,4 @@
--- What a call leaves that ended at the policy or at the graphs.
+-- What a call that ended at the policy or at the graphs leaves.
 use Rattle.std.proofs.Common.{◌≡◌, ◌≢◌, ◌∙◌, inl, ℕ, List, refl, ap, sym, subst}
 use Rattle.std.specs.Prelude.{Option, Some, None, Result, Err}
 use Rattle.nfp_outside.specs.declared.slot.Slot.{Slot}
@@ -47,7 +47,7 @@ none_attached old new b = (beside_name old new b slots.Out out_is_not_policy out
 no_capture : (old new : Slot → SlotView) → Beside old new → (new slots.Capture).name ≡ None
 no_capture old new b = beside_name old new b slots.Capture capture_is_not_policy capture_is_not_graph
 
--- a slot that isn't touched holds a front part of whatever is due
+-- a slot that isn't touched holds a prefix of whatever is due
 pub untouched_prefix : (due : Option (List ℕ)) (old new : SlotView) → IsUntouched old new → LeavesPrefix due old new
 untouched_prefix None old new untouched = untouched
 untouched_prefix (Some bytes) old new untouched = inl untouched
@@ -55,13 +55,13 @@ untouched_prefix (Some bytes) old new untouched = inl untouched
 pub untouched_prefixes : (due : Files) (old new : Slot → SlotView) → IsUntouched (old slots.Out) (new slots.Out) × IsUntouched (old slots.Report) (new slots.Report) → LeavesPrefixes due old new
 untouched_prefixes due old new (a, b) = (untouched_prefix due.out (old slots.Out) (new slots.Out) a, untouched_prefix due.report (old slots.Report) (new slots.Report) b)
 
--- the policy and the graphs have this fault, and what ends so is due of it
+-- the policy and the graphs have this fault, and this end is due for it
 pub record IsFaultDue (named : Option (List ℕ)) (old new : Slot → SlotView) (ending : Ending) (p g : List ℕ) : Type 0 where
   pub fault : Unprepared
   pub is : prepared named p g ≡ Err fault
   pub ends : EndsDue (due_of_fault fault) old new ending
 
--- What is known of a command that reads the policy, and the graphs that have this name.
+-- What is known about a command that reads the policy, and the graphs that have this name.
 pub record IsTextCommand (command : Result Command UsageFault) (named : Option (List ℕ)) (old new : Slot → SlotView) : Type 0 where
   pub accepted : (fault : UsageFault) → command ≡ Err fault → ⊥
   pub policy : ReadsPolicy command
@@ -115,7 +115,7 @@ text_cause command named old new slots.Out t b unread = absurd unread
 text_cause command named old new slots.Report t b unread = absurd unread
 text_cause command named old new slots.Note t b unread = absurd unread
 
--- what stands after a call that ended so
+-- the state after a call that ended so
 pub texts_ran : (command : Result Command UsageFault) (named : Option (List ℕ)) (old new : Slot → SlotView) (ending : Ending) → IsTextCommand command named old new → Beside old new → EndsAtTexts named old new ending → Ran command old new ending
 texts_ran command named old new ending t b ends = go ending ends
   where

@@ -1,4 +1,4 @@
--- Facts of the bytes of the texts and of the capture, where the desk tells what the words read.
+-- Facts about the bytes of the texts and of the capture, if the desk shows what the words read.
 use Rattle.std.proofs.Common.{◌≡◌, ℕ, List, sym, subst}
 use Rattle.std.specs.Prelude.{Option, Some, None, IfSome, Result, Ok, Err}
 use Rattle.nfp_outside.specs.declared.slot.Slot.{Slot}
@@ -8,7 +8,7 @@ use Rattle.command_words.specs.declared.usage.UsageFault.{UsageFault}
 use Rattle.command_words.specs.Words.{Command, Run, Plan, Demo, Flows}
 use Rattle.nfp_run.specs.Answers.{OfBytes, WhereNamed, WhereRead, WhereTexts}
 
--- what one fact gives another for all bytes, it gives it for those that are told
+-- if one fact gives another for all bytes, it gives it for the known bytes
 pub if_told : (o : Option (List ℕ)) (P Q : List ℕ → Type 0) → ((bytes : List ℕ) → P bytes → Q bytes) → IfSome o P → IfSome o Q
 if_told None P Q f h = tt
 if_told (Some bytes) P Q f h = f bytes h
@@ -17,26 +17,26 @@ pub told_always : (o : Option (List ℕ)) (P : List ℕ → Type 0) → ((bytes 
 told_always None P f = tt
 told_always (Some bytes) P f = f bytes
 
--- ---- of the bytes that are told, or of some
+-- ---- the known bytes, or some
 
--- a fact of what was read
+-- a fact about what was read
 pub of_read : (o : Option (List ℕ)) (read : List ℕ) (P : List ℕ → Type 0) → IfSome o (λ bytes. bytes ≡ read) → P read → OfBytes o P
 of_read None read P is here = (read, here)
 of_read (Some bytes) read P is here = subst P (sym is) here
 
--- what one fact gives another for all bytes, it gives it here too
+-- if one fact gives another for all bytes, it gives it here too
 pub if_of : (o : Option (List ℕ)) (P Q : List ℕ → Type 0) → ((bytes : List ℕ) → P bytes → Q bytes) → OfBytes o P → OfBytes o Q
 if_of None P Q f h = (h.0, f h.0 h.1)
 if_of (Some bytes) P Q f h = f bytes h
 
--- it is a fact of those that are told
+-- it is a fact about the known bytes
 pub told_of : (o : Option (List ℕ)) (P : List ℕ → Type 0) → OfBytes o P → IfSome o P
 told_of None P h = tt
 told_of (Some bytes) P h = h
 
 -- ---- premises
 
--- what is due of the bytes under a premise
+-- what is due for the bytes under a premise
 told_under : (o : Option (List ℕ)) (F : Type 0) (P : List ℕ → Type 0) → (F → IfSome o P) → IfSome o (λ bytes. F → P bytes)
 told_under None F P h = tt
 told_under (Some bytes) F P h = h
@@ -63,7 +63,7 @@ if_texts named old P Q f h = if_told (old slots.Policy).bytes _ _ (λ p. if_name
 texts_always : (named : Option (List ℕ)) (old : Slot → SlotView) (P : List ℕ → List ℕ → Type 0) → ((p g : List ℕ) → P p g) → WhereTexts named old P
 texts_always named old P f = told_always (old slots.Policy).bytes _ (λ p. named_always named (old slots.Graph).bytes (P p) (f p))
 
--- what a fact of the policy gives for any graphs
+-- what a fact about the policy gives for any graphs
 pub texts_by_policy : (named : Option (List ℕ)) (old : Slot → SlotView) (R : List ℕ → Type 0) (P : List ℕ → List ℕ → Type 0) → ((p g : List ℕ) → R p → P p g) → IfSome (old slots.Policy).bytes R → WhereTexts named old P
 texts_by_policy named old R P f h = if_told (old slots.Policy).bytes R _ (λ p r. named_always named (old slots.Graph).bytes (P p) (λ g. f p g r)) h
 

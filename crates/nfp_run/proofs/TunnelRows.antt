@@ -53,11 +53,12 @@ use Rattle.nfp_run.specs.Written.{both}
 head : ℕ → ℕ → ℕ → List ℕ
 head low middle high = 212 ∷ 195 ∷ 178 ∷ 161 ∷ 2 ∷ 0 ∷ 4 ∷ 0 ∷ 0 ∷ 0 ∷ 0 ∷ 0 ∷ 0 ∷ 0 ∷ 0 ∷ 0 ∷ low ∷ middle ∷ high ∷ 0 ∷ 1 ∷ 0 ∷ 0 ∷ 0 ∷ []
 
--- the head of the record of a frame of so many bytes, and of the frame its link addresses and its EtherType
+-- the head of the record of a frame of this number of bytes, and of the frame its link addresses and its EtherType
 front : ℕ → List ℕ
 front length = 0 ∷ 0 ∷ 0 ∷ 0 ∷ 0 ∷ 0 ∷ 0 ∷ 0 ∷ length ∷ 0 ∷ 0 ∷ 0 ∷ length ∷ 0 ∷ 0 ∷ 0 ∷ 2 ∷ 0 ∷ 0 ∷ 0 ∷ 0 ∷ 2 ∷ 2 ∷ 0 ∷ 0 ∷ 0 ∷ 0 ∷ 1 ∷ 8 ∷ 0 ∷ []
 
--- UDP from 10.0.0.1, port 1000, to 10.0.0.2, port 53, without data, with this type of service and this low byte of the header's checksum
+-- UDP from 10.0.0.1:1000 to 10.0.0.2:53, without data, with this type of service and this low byte of the header's
+-- checksum
 datagram : ℕ → ℕ → List ℕ
 datagram tos sum = 69 ∷ tos ∷ 0 ∷ 28 ∷ 0 ∷ 0 ∷ 0 ∷ 0 ∷ 64 ∷ 17 ∷ 0x66 ∷ sum ∷ 10 ∷ 0 ∷ 0 ∷ 1 ∷ 10 ∷ 0 ∷ 0 ∷ 2 ∷ 3 ∷ 0xe8 ∷ 0 ∷ 53 ∷ 0 ∷ 8 ∷ 0 ∷ 0 ∷ []
 
@@ -71,7 +72,7 @@ capture = head 255 255 0 ++ (front 42 ++ datagram 0 0xcf)
 worth : List ℕ → Result Prepared Unprepared
 worth text = prepared_by None (judged_text (policy_of_utf8 text)) []
 
--- a packet goes into a tunnel, and the snaplen grows by the outer header
+-- a packet enters a tunnel, and the snaplen grows by the outer header
 entry : List ℕ
 entry = codes "nfp 1\nchain main\nfn e encap\nset entry 192.0.2.1\nset exit 192.0.2.2\nset ttl 64\n"
 
@@ -86,7 +87,7 @@ entry_written : due_of_run (worth entry) capture ≡ record {
 unfolding worth making_of profile_by step_by lines_of entry_line_of exit_line_of entry policy_of_utf8 after_line orders_from answer_of edges_of taken stuck named_cycle from_earliest cycle_back first_refusal head body_of head_bytes record_head tags_len is_ipv4 is_ipv6 walk fates long cut fates_among chains_after fates_of chains_behind emitted_all out_bytes report_bytes drop_text drop_lines total_line last_line summary done_text digits words is_changed change_sum has_same_places has_transport function_text chain_lines copies_due copies_lines copies_through passed copies_made written_in graph_of placed holds_back is_forbidden branch_reads branch_writes touch_of stage_parts mode_of copies pair_of first_forbidden pairs actions all_actions is_copied copied front datagram outer capture enters outer_header checksum_of
 entry_written = refl
 
--- a marker before it marks the packet, whose checksum follows before the outer header takes the mark on
+-- a marker before it marks the packet, whose checksum is adjusted before the outer header copies the mark
 marked : List ℕ
 marked = codes "nfp 1\nchain main\nfn m marker\nrule tos 8\nfn e encap\nset entry 192.0.2.1\nset exit 192.0.2.2\nset ttl 64\norder m before e\n"
 
@@ -101,7 +102,7 @@ marked_written : due_of_run (worth marked) capture ≡ record {
 unfolding worth making_of profile_by step_by lines_of entry_line_of exit_line_of marker_line_of tos_for marked policy_of_utf8 after_line orders_from answer_of edges_of taken stuck named_cycle from_earliest cycle_back first_refusal head body_of head_bytes record_head tags_len is_ipv4 is_ipv6 walk fates long cut fates_among chains_after fates_of chains_behind emitted_all out_bytes report_bytes drop_text drop_lines total_line last_line summary done_text digits words is_changed change_sum has_same_places has_transport function_text chain_lines copies_due copies_lines copies_through passed copies_made written_in graph_of placed holds_back is_forbidden branch_reads branch_writes touch_of stage_parts mode_of copies pair_of first_forbidden pairs actions all_actions is_copied copied front datagram outer capture enters outer_header checksum_of
 marked_written = refl
 
--- behind the tunnel's exit it is the marked packet again
+-- after the tunnel's exit it is the marked packet again
 through : List ℕ
 through = codes "nfp 1\nchain main\nfn m marker\nrule tos 8\nfn e encap\nset entry 192.0.2.1\nset exit 192.0.2.2\nset ttl 64\nfn d decap\nset exit 192.0.2.2\norder m before e\norder e before d\n"
 
@@ -125,7 +126,7 @@ forbidden : due_of_run (worth over_entry) []
 unfolding worth over_entry making_of marker_line_of entry_line_of check_line priority_line digits pair_of first_forbidden pairs actions all_actions is_copied copied policy_of_utf8 after_line orders_from answer_of edges_of taken stuck named_cycle from_earliest cycle_back first_refusal
 forbidden = refl
 
--- an entry without a time to live is told by its own line
+-- an entry without a time to live is reported with its own line
 no_ttl : due_of_run (worth (codes "nfp 1\nchain main\nfn e encap\nset entry 192.0.2.1\nset exit 192.0.2.2\n")) [] ≡ nothing_but (Policy (BadSetting 3)) (codes "policy: line 3: bad setting\n")
 unfolding worth making_of setting_line digits entry_line_of policy_of_utf8 after_line
 no_ttl = refl

@@ -1,4 +1,4 @@
--- What stands where there was no memory to read the words.
+-- What holds if there was no memory to read the words.
 use Rattle.std.proofs.Common.{◌≡◌, inl, inr, refl}
 use Rattle.std.specs.Prelude.{ℕ, List, Option, Some, None, Result, Ok, Err}
 use Rattle.nfp_outside.specs.declared.slot.Slot.{Slot}

@@ -1,4 +1,4 @@
--- What Out and Report hold where a capture ran into them, or its run was broken off.
+-- What Out and Report hold if a capture ran into them, or its run was broken off.
 use Rattle.std.proofs.Common.{◌≡◌, inl, inr, ℕ, List, refl, sym, subst}
 use Rattle.std.specs.Prelude.{Option, Some, None, IfOk, IfErr, IfSome, IsErrAnd, Result, Ok, Err}
 use Rattle.nfp_outside.specs.declared.slot.Slot.{Slot}
@@ -43,7 +43,7 @@ ran_so out_name report_name None old first second new r a whole broken = tt
 ran_so out_name report_name (Some led) old first second new (Ok ended) a whole broken = (leaves_all out_name report_name led.written old first second new a whole.puts, whole.counts)
 ran_so out_name report_name (Some led) old first second new (Err e) a whole broken = leaves_prefixes out_name report_name led.written old first second new a broken.prefixes
 
--- the capture ran, and what was left of it stayed as it was until then
+-- the capture ran, and the rest of it was unchanged until then
 pub left_by_run : (out_name report_name : List ℕ) (start left : Option Led) (old first second new : Slot → SlotView) (r : Result Ended RunFault) → Attached out_name report_name old first second → left ≡ start → IfOk r (LedWhole left second new) → IfErr r (LedPartly left second new) →
     IfSome start (λ led. Left led old new r)
 left_by_run out_name report_name start left old first second new r a same whole broken = subst (λ o. IfSome o (λ led. Left led old new r)) same (ran_so out_name report_name left old first second new r a whole broken)
@@ -59,7 +59,7 @@ out_unattached left old new (Ok ended) e is free free_report keeps same = absurd
 out_unattached left old new (Err f) e is free free_report keeps same = for_each left (λ led. Left led old new (Err f))
     (λ led. (inl (untouched (old slots.Out) (new slots.Out) free keeps), inl (untouched_same (old slots.Report) (new slots.Report) free_report same)))
 
--- Report couldn't be attached, behind Out
+-- Report couldn't be attached, after Out
 pub report_unattached : (out_name : List ℕ) (left : Option Led) (old first new : Slot → SlotView) (r : Result Ended RunFault) (e : RunFault) → IsErrAnd r (λ f. f ≡ e) → (old slots.Report).name ≡ None → Attaches slots.Out out_name (old slots.Out) (first slots.Out) →
     first slots.Report ≡ old slots.Report → KeepsSlot (first slots.Report) (new slots.Report) → new slots.Out ≡ first slots.Out → IfSome left (λ led. Left led old new r)
 report_unattached out_name left old first new (Ok ended) e is free attached same keeps still = absurd is

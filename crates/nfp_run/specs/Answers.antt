@@ -1,4 +1,4 @@
--- Believed: what an outcome says of the slots.
+-- Believed: what an outcome says about the slots.
 use Rattle.std.specs.Prelude.{◌≡◌, ◌⊎◌, ℕ, List, [], ◌++◌, Option, Some, None, IfSome, IsSome, IsOk, Bool, true, false, Result, Ok, Err}
 use Rattle.std.specs.Option.{option_map}
 use Rattle.nfp_outside.specs.declared.slot.Slot.{Slot}
@@ -28,19 +28,19 @@ pub record IsUntouched (old new : SlotView) : Type 0 where
   pub no_name : new.name ≡ None
   pub same_bytes : new.bytes ≡ old.bytes
 
--- An attached slot that holds these bytes, where the desk tells them.
+-- An attached slot that holds these bytes, if the desk shows them.
 pub record Holds (bytes : List ℕ) (old new : SlotView) : Type 0 where
   pub attached : IsSome new.name
   pub content : new.bytes ≡ option_map (λ _. bytes) old.bytes
 
--- An attached slot that holds a front part of these bytes.
+-- An attached slot that holds a prefix of these bytes.
 pub record HoldsPrefix (bytes : List ℕ) (old new : SlotView) : Type 0 where
   pub done : List ℕ
   pub rest : List ℕ
   pub parts : bytes ≡ done ++ rest
   pub holds : Holds done old new
 
--- A slot holds what is due whole, or was never attached where nothing is due.
+-- A slot holds all that is due, or was never attached if nothing is due.
 abbrev pub LeavesSlot : Option (List ℕ) → SlotView → SlotView → Type 0
 LeavesSlot None old new = IsUntouched old new
 LeavesSlot (Some bytes) old new = Holds bytes old new
@@ -48,7 +48,7 @@ LeavesSlot (Some bytes) old new = Holds bytes old new
 abbrev pub Leaves : Files → (Slot → SlotView) → (Slot → SlotView) → Type 0
 Leaves due old new = LeavesSlot due.out (old slots.Out) (new slots.Out) × LeavesSlot due.report (old slots.Report) (new slots.Report)
 
--- A slot holds a front part of what is due, or was never attached.
+-- A slot holds a prefix of what is due, or was never attached.
 abbrev pub LeavesPrefix : Option (List ℕ) → SlotView → SlotView → Type 0
 LeavesPrefix None old new = IsUntouched old new
 LeavesPrefix (Some bytes) old new = IsUntouched old new ⊎ HoldsPrefix bytes old new
@@ -77,18 +77,18 @@ IsFinal OutOfMemory = ⊥
 abbrev pub NoneRose : (Slot → SlotView) → (Slot → SlotView) → Type 0
 NoneRose old new = (s : Slot) → ¬ IsRisen (old s).faults (new s).faults
 
--- a fact of the bytes of a slot, where it has a name among the words and the desk tells them; without a name it stands whatever they are
+-- a fact about the bytes of a slot, if the words name it and the desk shows them; without a name it is for any bytes
 abbrev pub WhereNamed : Option (List ℕ) → Option (List ℕ) → (List ℕ → Type 0) → Type 0
 WhereNamed None bytes P = (text : List ℕ) → P text
 WhereNamed (Some name) bytes P = IfSome bytes P
 
--- a fact of the bytes of Policy, and of Graph where it has this name, where the desk tells them
+-- a fact about the bytes of Policy, and of Graph if it has this name, if the desk shows them
 abbrev pub WhereTexts : Option (List ℕ) → (Slot → SlotView) → (List ℕ → List ℕ → Type 0) → Type 0
 WhereTexts named old P = IfSome (old slots.Policy).bytes (λ policy. WhereNamed named (old slots.Graph).bytes (P policy))
 
--- The same where the desk tells what the words read: `run` reads Policy, Graph where the words name it, and Capture, `plan` the same without
--- Capture, and `flows` Capture. A demo and words that are refused read none. Of a slot that isn't read the fact stands whatever it holds, also
--- where the desk doesn't tell it.
+-- The same if the desk shows what the words read: `run` reads Policy, Graph if the words name it, and Capture,
+-- `plan` the same without Capture, and `flows` Capture. A demo and words that are refused read none. For a slot that
+-- isn't read the fact holds for any content, also if the desk doesn't show it.
 abbrev pub WhereRead : Result Command UsageFault → (Slot → SlotView) → (List ℕ → List ℕ → List ℕ → Type 0) → Type 0
 WhereRead (Ok (Run names options)) old P = WhereTexts names.graph old (λ policy graph. IfSome (old slots.Capture).bytes (P policy graph))
 WhereRead (Ok (Plan names)) old P = WhereTexts names.graph old (λ policy graph. (capture : List ℕ) → P policy graph capture)
@@ -104,7 +104,7 @@ note_due (WriteFault slots.Report) note = write_fault_text slots.Report
 note_due (WriteFault slot) note = note
 note_due outcome note = note
 
--- A front part is put into Note of what is due, or of the line of a fault of reading or writing a slot whose count rose.
+-- A prefix of what is due is put into Note, or of the line of a fault of reading or writing a slot whose count rose.
 abbrev pub NotesPrefix : List ℕ → (Slot → SlotView) → (Slot → SlotView) → Type 0
 NotesPrefix note old new =
     AppendsPrefix note (old slots.Note) (new slots.Note)
@@ -127,21 +127,21 @@ name_of (Flows names options) slots.Capture = Some names.capture
 name_of (Flows names options) slots.Out = Some names.out
 name_of (Flows names options) slot = None
 
--- each slot has no name or the one that the words give it, and none where the words are refused
+-- each slot has no name or the one that the words give it, and none if the words are refused
 abbrev pub HasNames : Result Command UsageFault → (Slot → SlotView) → Type 0
 HasNames (Err fault) new = (s : Slot) → (new s).name ≡ None
 HasNames (Ok command) new = (s : Slot) → ((new s).name ≡ None) ⊎ ((new s).name ≡ name_of command s)
 
--- a fact of the bytes of a slot that was read: of those that the desk tells, or of some bytes where it tells none
+-- a fact about the bytes of a slot that was read: those that the desk shows, or some bytes if it shows none
 abbrev pub OfBytes : Option (List ℕ) → (List ℕ → Type 0) → Type 0
 OfBytes None P = (bytes : List ℕ) × P bytes
 OfBytes (Some bytes) P = P bytes
 
--- the policy has no fault, where the desk tells it
+-- the policy has no fault, if the desk shows it
 abbrev pub HasPolicy : (Slot → SlotView) → Type 0
 HasPolicy old = IfSome (old slots.Policy).bytes (λ bytes. IsOk (judged bytes))
 
--- the same of the policy and of the graphs, where the words name them
+-- the same for the policy and for the graphs, if the words name them
 abbrev pub HasTexts : Option (List ℕ) → (Slot → SlotView) → Type 0
 HasTexts named old = HasPolicy old × WhereTexts named old (λ policy graph. IsOk (prepared named policy graph))
 
@@ -150,11 +150,11 @@ abbrev pub HasNoOpeningFault : Bool → List ℕ → Type 0
 HasNoOpeningFault false bytes = IsOk (capture_of bytes)
 HasNoOpeningFault true bytes = IsOk (next_of start bytes)
 
--- the same of the capture, where the desk tells it
+-- the same for the capture, if the desk shows it
 abbrev pub HasHead : (Slot → SlotView) → Type 0
 HasHead old = IfSome (old slots.Capture).bytes (λ bytes. HasNoOpeningFault (is_ng bytes) bytes)
 
--- the head has no fault of a capture whose flows are counted, where the desk tells it: it has to be a classic one
+-- the head of a capture whose flows are counted has no fault, if the desk shows it: it has to be a classic one
 abbrev pub HasClassicHead : (Slot → SlotView) → Type 0
 HasClassicHead old = IfSome (old slots.Capture).bytes (λ bytes. IsOk (capture_of bytes))
 
@@ -168,7 +168,7 @@ NoneAttached new = ((new slots.Out).name ≡ None) × ((new slots.Report).name �
 abbrev pub OutAttached : (Slot → SlotView) → Type 0
 OutAttached new = IsSome (new slots.Out).name × ((new slots.Report).name ≡ None)
 
--- a refused head leaves both unattached; a fault behind it is told in the report
+-- a refused head leaves both unattached; the report shows a fault after it
 abbrev pub FaultAttaches : CaptureFault → (Slot → SlotView) → Type 0
 FaultAttaches BadMagic new = NoneAttached new
 FaultAttaches BadVersion new = NoneAttached new
@@ -178,12 +178,12 @@ FaultAttaches (CutRecord number) new = BothAttached new
 FaultAttaches (FrameTooLong number length) new = BothAttached new
 FaultAttaches TooManyRecords new = BothAttached new
 
--- the same of a pcapng capture, whose fault tells whether the first block has it
+-- the same for a pcapng capture, whose fault says whether the first block has it
 abbrev pub AttachedUnless : Bool → (Slot → SlotView) → Type 0
 AttachedUnless true new = NoneAttached new
 AttachedUnless false new = BothAttached new
 
--- which of Out and Report are attached by `run`, whatever the desk tells; Out is attached before Report
+-- which of Out and Report `run` attaches, whatever the desk shows; Out is attached before Report
 abbrev pub RunAttaches : Outcome → (Slot → SlotView) → Type 0
 RunAttaches Done new = BothAttached new
 RunAttaches (Usage fault) new = NoneAttached new
@@ -199,7 +199,7 @@ RunAttaches (WriteFault slots.Report) new = IsSome (new slots.Out).name
 RunAttaches (WriteFault slot) new = Unit {0}
 RunAttaches OutOfMemory new = Unit {0}
 
--- the same of flows: a fault behind the head leaves Out attached
+-- the same for flows: a fault after the head leaves Out attached
 abbrev pub FaultAttachesOut : CaptureFault → (Slot → SlotView) → Type 0
 FaultAttachesOut BadMagic new = NoneAttached new
 FaultAttachesOut BadVersion new = NoneAttached new
@@ -209,7 +209,7 @@ FaultAttachesOut (CutRecord number) new = OutAttached new
 FaultAttachesOut (FrameTooLong number length) new = OutAttached new
 FaultAttachesOut TooManyRecords new = OutAttached new
 
--- which are attached by `flows`: Report never
+-- which of them `flows` attaches: Report never
 abbrev pub FlowsAttach : Outcome → (Slot → SlotView) → Type 0
 FlowsAttach Done new = OutAttached new
 FlowsAttach (Usage fault) new = NoneAttached new
@@ -230,16 +230,16 @@ AttachesDue (Ok (Demo input options)) outcome new = NoneAttached new
 AttachesDue (Ok (Flows names options)) outcome new = FlowsAttach outcome new
 AttachesDue (Err fault) outcome new = NoneAttached new
 
--- nothing is left of a slot that is read, where the desk tells it
+-- nothing is left of a slot that is read, if the desk shows it
 abbrev pub IsReadWhole : SlotView → Type 0
 IsReadWhole slot = IfSome slot.bytes (λ bytes. bytes ≡ [])
 
--- the same of the policy, and of the graphs where they have a name among the words
+-- the same for the policy, and for the graphs if they have a name among the words
 abbrev pub AreTextsReadWhole : Option (List ℕ) → (Slot → SlotView) → Type 0
 AreTextsReadWhole None new = IsReadWhole (new slots.Policy)
 AreTextsReadWhole (Some name) new = IsReadWhole (new slots.Policy) × IsReadWhole (new slots.Graph)
 
--- what the words name to be read was read to its end
+-- what the words name for reading was read to its end
 abbrev pub ReadsToEnd : Result Command UsageFault → (Slot → SlotView) → Type 0
 ReadsToEnd (Ok (Run names options)) new = AreTextsReadWhole names.graph new × IsReadWhole (new slots.Capture)
 ReadsToEnd (Ok (Plan names)) new = AreTextsReadWhole names.graph new
@@ -247,8 +247,8 @@ ReadsToEnd (Ok (Demo input options)) new = Unit {0}
 ReadsToEnd (Ok (Flows names options)) new = IsReadWhole (new slots.Capture)
 ReadsToEnd (Err fault) new = Unit {0}
 
--- what is known of the words, the policy and the graphs where work was done, or a slot was written: `run` and `plan` need both without fault,
--- and `run` and `flows` alone tell a fault of a capture
+-- what is known about the words, the policy and the graphs if work was done, or a slot was written: `run` and `plan`
+-- need both without fault, and only `run` and `flows` report a fault of a capture
 abbrev pub ReachesCapture : Result Command UsageFault → Outcome → (Slot → SlotView) → Type 0
 ReachesCapture (Ok (Run names options)) Done old = HasTexts names.graph old
 ReachesCapture (Ok (Plan names)) Done old = HasTexts names.graph old
@@ -262,7 +262,7 @@ ReachesCapture (Ok (Run names options)) (CaptureNg fault) old = HasTexts names.g
 ReachesCapture command (CaptureNg fault) old = ⊥
 ReachesCapture command outcome old = Unit {0}
 
--- a refusal of a policy tells this fault
+-- a refusal of a policy reports this fault
 abbrev pub IsFaultOf : PolicyFault → Result Judged Refusal → Type 0
 IsFaultOf fault (Ok policy) = ⊥
 IsFaultOf fault (Err refusal) = refusal.fault ≡ fault
@@ -275,8 +275,8 @@ ReadsPolicy (Ok (Demo input options)) = ⊥
 ReadsPolicy (Ok (Flows names options)) = ⊥
 ReadsPolicy (Err fault) = ⊥
 
--- why a policy was refused: the words are a command that reads one, its first fault is this, and the capture wasn't attached; where the desk
--- doesn't tell the policy, this is the first fault of some policy
+-- Why a policy was refused: the words are a command that reads one, this is its first fault, and the capture wasn't
+-- attached. If the desk doesn't show the policy, this is the first fault of some policy.
 abbrev pub PolicyCause : Result Command UsageFault → (Slot → SlotView) → (Slot → SlotView) → PolicyFault → Type 0
 PolicyCause command old new fault = ReadsPolicy command × OfBytes (old slots.Policy).bytes (λ bytes. IsFaultOf fault (judged bytes)) × ((new slots.Capture).name ≡ None)
 
@@ -288,13 +288,13 @@ ReadsGraph (Ok (Demo input options)) named = ⊥
 ReadsGraph (Ok (Flows names options)) named = ⊥
 ReadsGraph (Err fault) named = ⊥
 
--- a policy without fault was refused for these graphs, and tells this fault
+-- a policy without fault was refused for these graphs, which have this fault
 abbrev pub IsGraphFaultOf : GraphFault → Result Prepared Unprepared → Type 0
 IsGraphFaultOf fault (Ok p) = ⊥
 IsGraphFaultOf fault (Err (ByPolicy refusal)) = ⊥
 IsGraphFaultOf fault (Err (ByGraph refusal)) = refusal.fault ≡ fault
 
--- Why graphs were refused: the words name them, the policy has no fault and their first fault is this, and the capture wasn't attached.
+-- Why graphs were refused: the words name them, the policy has no fault, theirs is this, and no capture was attached.
 pub record GraphCause (command : Result Command UsageFault) (old new : Slot → SlotView) (fault : GraphFault) : Type 0 where
   pub name : List ℕ
   pub named : ReadsGraph command (Some name)
@@ -302,7 +302,7 @@ pub record GraphCause (command : Result Command UsageFault) (old new : Slot → 
   pub told : WhereTexts (Some name) old (λ policy graph. IsGraphFaultOf fault (prepared (Some name) policy graph))
   pub no_capture : (new slots.Capture).name ≡ None
 
--- Why Graph gave a fault: the words name it, its count rose, behind a policy without fault and before the capture was attached.
+-- Why Graph gave a fault: the words name it, its count rose, the policy has no fault, and no capture was attached.
 pub record GraphReadCause (command : Result Command UsageFault) (old new : Slot → SlotView) : Type 0 where
   pub name : List ℕ
   pub named : ReadsGraph command (Some name)
@@ -310,13 +310,13 @@ pub record GraphReadCause (command : Result Command UsageFault) (old new : Slot 
   pub risen : IsRisen (old slots.Graph).faults (new slots.Graph).faults
   pub no_capture : (new slots.Capture).name ≡ None
 
--- the words are a command that reads a capture, and nothing is wrong that it looks at before
+-- the words are a command that reads a capture, and nothing is wrong with what it looks at before
 abbrev pub ReadsCapture : Result Command UsageFault → (Slot → SlotView) → Type 0
 ReadsCapture (Ok (Run names options)) old = HasTexts names.graph old
 ReadsCapture (Ok (Flows names options)) old = Unit {0}
 ReadsCapture command old = ⊥
 
--- the words are a command that writes Out, and nothing is wrong that it looks at before
+-- the words are a command that writes Out, and nothing is wrong with what it looks at before
 abbrev pub WritesOut : Result Command UsageFault → (Slot → SlotView) → Type 0
 WritesOut (Ok (Run names options)) old = HasTexts names.graph old × HasHead old
 WritesOut (Ok (Flows names options)) old = HasClassicHead old
@@ -327,8 +327,8 @@ abbrev pub WritesReport : Result Command UsageFault → (Slot → SlotView) → 
 WritesReport (Ok (Run names options)) old = HasTexts names.graph old × HasHead old
 WritesReport command old = ⊥
 
--- why a slot that is read gave a fault: its count rose; for the policy, before the capture was attached, and for the
--- capture, behind a policy and graphs without fault
+-- why a read slot gave a fault: its count rose; for the policy, before the capture was attached, and for the
+-- capture, after a policy and graphs without fault
 abbrev pub ReadFaultCause : Result Command UsageFault → (Slot → SlotView) → (Slot → SlotView) → Slot → Type 0
 ReadFaultCause command old new slots.Policy = ReadsPolicy command × IsRisen (old slots.Policy).faults (new slots.Policy).faults × ((new slots.Capture).name ≡ None)
 ReadFaultCause command old new slots.Capture = ReadsCapture command old × IsRisen (old slots.Capture).faults (new slots.Capture).faults
@@ -337,8 +337,8 @@ ReadFaultCause command old new slots.Report = ⊥
 ReadFaultCause command old new slots.Note = ⊥
 ReadFaultCause command old new slots.Graph = GraphReadCause command old new
 
--- why a slot that is written gave a fault: its count rose, for Out and Report behind a policy and graphs without fault and a good head,
--- and for Note where the work was done
+-- why a written slot gave a fault: its count rose, for Out and Report after a policy and graphs without fault
+-- and a good head, and for Note if the work was done
 abbrev pub WriteFaultCause : Result Command UsageFault → (Slot → SlotView) → (Slot → SlotView) → Slot → Type 0
 WriteFaultCause command old new slots.Out = WritesOut command old × IsRisen (old slots.Out).faults (new slots.Out).faults
 WriteFaultCause command old new slots.Report = WritesReport command old × IsRisen (old slots.Report).faults (new slots.Report).faults

@@ -1,4 +1,4 @@
--- Believed: what a demo tells: how the packets of its capture end in the chains of its policy, and how long and heavy what a run would write is.
+-- Believed: what a demo prints: how its packets end in its policy's chains, and the size and weight of a run's output.
 use Rattle.std.specs.Prelude.{◌-◌, ℕ, List, [], length, count_by, Option, Some, None}
 use Rattle.nfp_outside.specs.Weights.{weight_of}
 use Rattle.chain_walk.specs.declared.walk.Fate.{Fate}
@@ -28,7 +28,7 @@ summary_by input fates written = record {
   report = weighed written.report;
 }
 
--- the numbers of a seed and a count, where these chains run
+-- the numbers of a seed and a count, if these chains run
 abbrev pub demo_summary : DemoInput → Chains → Summary
 demo_summary input chains =
     summary_by input (fates_of chains demo_head.unit (demo_records input.seed input.count)) (written_of chains demo_head (whole_body (demo_records input.seed input.count)))
@@ -37,6 +37,6 @@ abbrev pub text_by : DemoInput → Option Chains → List ℕ
 text_by input (Some chains) = summary_text (demo_summary input chains)
 text_by input None = []
 
--- the text that is shown; the demo's policy has no fault, so its chains are there
+-- the text that is shown; the demo's policy has no fault, so it has chains
 abbrev pub demo_text : DemoInput → List ℕ
 demo_text input = text_by input (service_of (judged policy_text))

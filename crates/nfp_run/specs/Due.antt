@@ -1,4 +1,4 @@
--- Believed: the result: what words, a policy, graphs and a capture are to be answered with.
+-- Believed: the result: the answer to words, a policy, graphs and a capture.
 use Rattle.std.specs.Prelude.{ℕ, List, [], ◌∷◌, length, take, count_by, Bool, true, false, Option, Some, None, Result, Ok, Err}
 use Rattle.std.specs.Option.{option_map}
 use Rattle.std.specs.Str.{bytes_eq}
@@ -75,7 +75,7 @@ due_by_format true chains capture = due_of_ng chains capture (next_of start capt
 abbrev pub due_of_capture : Chains → List ℕ → Due
 due_of_capture chains capture = due_by_format (is_ng capture) chains capture
 
--- the flows of a capture's records, up to its fault: their export is in Out, and their numbers are told
+-- the flows of a capture's records, up to its fault: their export is in Out, and their numbers are reported
 abbrev pub flows_note : TimeUnit → Body → Option CaptureFault → List ℕ
 flows_note unit body None = flows_text (length body.records) (flow_lines unit body.records)
 flows_note unit body (Some fault) = capture_text fault
@@ -87,12 +87,12 @@ due_of_body unit body = record {
   note = flows_note unit body body.fault;
 }
 
--- the flows of a classic capture, whatever the number of workers and the size of a burst: a refused head leaves nothing to write
+-- the flows of a classic capture, for any number of workers and any burst size: a refused head leaves nothing to write
 abbrev pub due_of_flows : Result (CaptureHead × Body) CaptureFault → Due
 due_of_flows (Err fault) = nothing_but (outcomes.Capture fault) (capture_text fault)
 due_of_flows (Ok capture) = due_of_body capture.0.unit capture.1
 
--- a policy with a fault is told by it, whatever is asked for, and so are graphs
+-- a policy with a fault is answered with it, whatever is asked for, and so are graphs
 abbrev pub due_of_fault : Unprepared → Due
 due_of_fault (ByPolicy refusal) = nothing_but (outcomes.Policy refusal.fault) refusal.line
 due_of_fault (ByGraph refusal) = nothing_but (outcomes.Graph refusal.fault) refusal.line
@@ -106,8 +106,8 @@ abbrev pub due_of_plan : Result Prepared Unprepared → Due
 due_of_plan (Err fault) = due_of_fault fault
 due_of_plan (Ok p) = nothing_but outcomes.Done (plan_text p)
 
--- graphs are looked at where the words name them; a demo looks at nothing, flows are those of the capture, and no other option changes what
--- is due
+-- Graphs are looked at if the words name them. A demo looks at nothing, flows are those of the capture, and no other
+-- option changes what is due.
 abbrev pub due_of_command : Result Command UsageFault → List ℕ → List ℕ → List ℕ → Due
 due_of_command (Err fault) policy graph capture = nothing_but (outcomes.Usage fault) (usage_text fault)
 due_of_command (Ok (Run names options)) policy graph capture = due_of_run (prepared names.graph policy graph) capture
@@ -115,6 +115,6 @@ due_of_command (Ok (Plan names)) policy graph capture = due_of_plan (prepared na
 due_of_command (Ok (Demo input options)) policy graph capture = nothing_but outcomes.Done (demo_text input)
 due_of_command (Ok (Flows names options)) policy graph capture = due_of_flows (capture_of capture)
 
--- the result of a call with these words, where the policy, the graphs and the capture have these bytes
+-- the result of a call with these words, if the policy, the graphs and the capture have these bytes
 abbrev pub due : List (List ℕ) → List ℕ → List ℕ → List ℕ → Due
 due words policy graph capture = due_of_command (command_of words) policy graph capture

@@ -1,4 +1,4 @@
--- For proofs: how a call ends that exports the flows of a capture.
+-- For proofs: how a call that exports the flows of a capture ends.
 use Rattle.std.specs.Prelude.{◌≡◌, ℕ, List, length, IfSome, IsSomeAnd, Option, Some, None, Result, Ok, Err}
 use Rattle.nfp_outside.specs.declared.slot.Slot.{Slot}
 use Rattle.nfp_outside.specs.declared.slot.Slot.TheVariants as slots
@@ -20,24 +20,24 @@ use Rattle.nfp_run.specs.declared.ending.Ending.TheVariants.{Completed, Shown, R
 use Rattle.nfp_run.specs.declared.outcome.Outcome.{Outcome}
 use Rattle.nfp_run.specs.declared.outcome.Outcome.TheVariants.{Done, Usage, Policy, Graph, Capture, CaptureNg, ReadFault, WriteFault, OutOfMemory}
 
--- how a call ends that has exported these lines of so many records, by the fault of the capture
+-- how a call that has exported these lines of this number of records ends, by the fault of the capture
 abbrev pub flows_ending : ℕ → List FlowLine → Option CaptureFault → Ending
 flows_ending records lines None = Shown (flows_text records lines)
 flows_ending records lines (Some fault) = Stopped (Capture fault)
 
--- the work was done as it is due, or broken off with a front part of the export in Out
+-- the work was done as it is due, or broken off with a prefix of the export in Out
 abbrev pub FlowsEnd : TimeUnit → Body → (Slot → SlotView) → (Slot → SlotView) → Result Ending RunFault → Type 0
 FlowsEnd unit body old new (Ok ending) = Leaves (due_of_body unit body).written old new × (ending ≡ flows_ending (length body.records) (flow_lines unit body.records) body.fault)
 FlowsEnd unit body old new (Err fault) = LeavesPrefixes (due_of_body unit body).written old new
 
--- why it was broken off: a count rose of the slots that it has to do with, or memory ran out
+-- why it was broken off: a count rose of the slots that it uses, or it ran out of memory
 abbrev pub FlowsBroken : (Slot → SlotView) → (Slot → SlotView) → RunFault → Type 0
 FlowsBroken old new faults.ReadFault = IsRisen (old slots.Capture).faults (new slots.Capture).faults
 FlowsBroken old new (faults.WriteFault slots.Out) = IsRisen (old slots.Out).faults (new slots.Out).faults
 FlowsBroken old new (faults.WriteFault slot) = ⊥
 FlowsBroken old new faults.OutOfMemory = Unit {0}
 
--- it ends with its line or with a fault behind the head, also where the desk doesn't tell the capture
+-- it ends with its line or with a fault after the head, also if the desk doesn't show the capture
 abbrev pub FlowsEndTold : Ending → Type 0
 FlowsEndTold (Shown text) = Unit {0}
 FlowsEndTold (Stopped (Capture fault)) = ¬ IsHeadFault fault
@@ -46,13 +46,13 @@ FlowsEndTold (Completed totals) = ⊥
 FlowsEndTold (Refused refusal) = ⊥
 FlowsEndTold (GraphRefused refusal) = ⊥
 
--- A classic capture was opened by its name: all of it is left but its head, which has no fault.
+-- A classic capture was opened by its name: all of it except its head remains, and the head has no fault.
 pub record OpensClassic (name : List ℕ) (head : CaptureHead) (reader : ReaderState) (old new : SlotView) : Type 0 where
   pub named : new.name ≡ Some name
   pub fresh : reader ≡ reader_at head.order 0
   pub whole : IfSome old.bytes (λ bytes. IsSomeAnd (body_left reader new) (λ body. capture_of bytes ≡ Ok (head, body)))
 
--- Why none was: its head is refused, its count rose, or memory ran out.
+-- Why none was: its head is refused, its count rose, or it ran out of memory.
 abbrev pub RefusedClassic : SlotView → SlotView → Outcome → Type 0
 RefusedClassic old new (Capture fault) = IsHeadFault fault × IfSome old.bytes (λ bytes. capture_of bytes ≡ Err fault)
 RefusedClassic old new (ReadFault s) = (s ≡ slots.Capture) × IsRisen old.faults new.faults

@@ -1,4 +1,4 @@
--- Believed: the line that tells why a text of graphs is refused.
+-- Believed: the line that reports why a text of graphs is refused.
 use Rattle.std.specs.Prelude.{ℕ, List, [], ◌∷◌, codes}
 use Rattle.std.specs.Fmt.{decimal}
 use Rattle.graph_text.specs.Chains.{functions_at}
@@ -21,7 +21,7 @@ name_in chains chain function = name_at (functions_at chains chain) function
 unfoldable pub pair_line : List ℕ → List ℕ → List ℕ → List ℕ
 pair_line first second fault = line_of (codes "graph: " ∷ first ∷ codes " before " ∷ second ∷ fault ∷ [])
 
--- two that stand side by side, for what the one does before what the other does
+-- two functions side by side, forbidden because of what one does before what the other does
 unfoldable pub forbidden_line : List ℕ → List ℕ → List ℕ → List ℕ → List ℕ
 forbidden_line first second action later = line_of (codes "graph: " ∷ first ∷ codes " before " ∷ second ∷ codes " forbidden: " ∷ action ∷ codes " before " ∷ later ∷ [])
 

@@ -1,4 +1,4 @@
--- Believed: the plan of a policy: what is shown of each chain, in the order of the text, with the graph that was written for it, if one was.
+-- Believed: the plan of a policy: what is shown of each chain, in the order of the text, by its order and graph.
 use Rattle.std.specs.Prelude.{ℕ, List, Option}
 use Rattle.std.specs.List.{flat_map, zip}
 use Rattle.policy_text.specs.declared.policy.ChainPolicy.{ChainPolicy}

@@ -1,4 +1,4 @@
--- Believed: what a policy and graphs that were written by hand come to: chains, each with its order and its graph, or the first fault.
+-- Believed: a policy and hand-written graphs, read: chains, each with its order and its graph, or the first fault.
 use Rattle.std.specs.Prelude.{ℕ, List, map, Option, Some, None, Result, Ok, Err}
 use Rattle.graph_compile.specs.declared.graph.Graph.{Graph}
 use Rattle.graph_text.specs.Graphs.{graphs_of, no_graph}
@@ -11,12 +11,12 @@ use Rattle.nfp_run.specs.GraphLines.{graph_line}
 use Rattle.nfp_run.specs.declared.ending.GraphRefusal.{GraphRefusal}
 use Rattle.nfp_run.specs.declared.prepared.Prepared.{Prepared}
 
--- Why nothing runs and nothing is shown: the policy has a fault, or the graphs have, with the line that tells it.
+-- Why nothing runs and nothing is shown: the policy has a fault, or the graphs have, with the line that reports it.
 pub data Unprepared : Type 0 where
   ByPolicy : Refusal → Unprepared
   ByGraph : GraphRefusal → Unprepared
 
--- the graphs of a policy's chains: those of a text, where one has a name among the words, and else none
+-- the graphs of a policy's chains: those of a text, if one has a name among the words, and else none
 abbrev pub graphs_named : Option (List ℕ) → Judged → List ℕ → Result (List (Option Graph)) GraphFault
 graphs_named None policy text = Ok (map no_graph policy.policy.chains)
 graphs_named (Some name) policy text = graphs_of text policy.policy.chains policy.orders

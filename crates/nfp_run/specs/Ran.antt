@@ -1,4 +1,4 @@
--- For proofs: what stands after the words were done, before their line is put into Note.
+-- For proofs: the state after the words were done, before their line is put into Note.
 use Rattle.std.specs.Prelude.{◌≡◌, ◌⊎◌, Result, Err}
 use Rattle.nfp_outside.specs.declared.slot.Slot.{Slot}
 use Rattle.nfp_outside.specs.declared.slot.Slot.TheVariants as slots

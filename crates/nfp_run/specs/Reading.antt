@@ -1,4 +1,4 @@
--- For proofs: how the reading of the policy and of graphs ends, a demo, and the opening of the capture.
+-- For proofs: how reading the policy and the graphs, a demo, and opening the capture end.
 use Rattle.std.specs.Prelude.{◌≡◌, ◌<◌, ◌≤◌, ◌⊎◌, ℕ, List, length, Bool, true, false, Option, Some, None, IfSome, IsSomeAnd, IsOk, Result, Ok, Err}
 use Rattle.std.specs.Option.{option_map}
 use Rattle.nfp_outside.specs.declared.slot.Slot.{Slot}
@@ -54,24 +54,24 @@ use Rattle.nfp_run.specs.declared.outcome.Outcome.TheVariants.{Done, Usage, Poli
 use Rattle.nfp_run.specs.declared.read.Unread.{Unread}
 use Rattle.nfp_run.specs.declared.read.Unread.TheVariants.{TooLong, Failed, NoMemory}
 
--- Why a slot wasn't read whole: it has more bytes than may be, its count rose, or memory ran out.
+-- Why a slot wasn't read whole: it has more bytes than allowed, its count rose, or it ran out of memory.
 abbrev pub IsUnread : ℕ → SlotView → SlotView → Unread → Type 0
 IsUnread max old new TooLong = IfSome old.bytes (λ bytes. max < length bytes)
 IsUnread max old new Failed = IsRisen old.faults new.faults
 IsUnread max old new NoMemory = Unit {0}
 
--- how a call ends where the policy was judged so
+-- how a call ends if the policy was judged so
 abbrev pub refused_by : JudgeFault → Ending
 refused_by (faults.Refused refusal) = Refused refusal
 refused_by faults.OutOfMemory = Stopped OutOfMemory
 
--- how a call ends whose policy wasn't read
+-- how a call ends if its policy wasn't read
 abbrev pub UnreadEnds : Unread → Ending → Type 0
 UnreadEnds TooLong ending = (ending ≡ Refused (told policies.TooLong too_long_line)) ⊎ (ending ≡ Stopped OutOfMemory)
 UnreadEnds Failed ending = ending ≡ Stopped (ReadFault slots.Policy)
 UnreadEnds NoMemory ending = ending ≡ Stopped OutOfMemory
 
--- Why a call ends at the policy: it has a fault, its count rose, or memory ran out.
+-- Why a call ends at the policy: it has a fault, its count rose, or it ran out of memory.
 abbrev pub EndsAtPolicy : SlotView → SlotView → Ending → Type 0
 EndsAtPolicy old new (Refused refusal) = OfBytes old.bytes (λ bytes. judged bytes ≡ Err refusal)
 EndsAtPolicy old new (Stopped (ReadFault s)) = (s ≡ slots.Policy) × IsRisen old.faults new.faults
@@ -87,18 +87,19 @@ EndsAtPolicy old new (Completed totals) = ⊥
 EndsAtPolicy old new (Shown text) = ⊥
 EndsAtPolicy old new (GraphRefused refusal) = ⊥
 
--- how a call ends where graphs of a policy without fault have this fault
+-- how a call ends if the graphs of a policy without fault have this fault
 abbrev pub GraphRefusedBy : Judged → GraphFault → Ending → Type 0
 GraphRefusedBy policy fault ending =
     (ending ≡ GraphRefused (record { fault = fault; line = graph_line policy.policy.chains fault })) ⊎ (ending ≡ Stopped OutOfMemory)
 
--- how a call ends whose graphs weren't read
+-- how a call ends if its graphs weren't read
 abbrev pub UnreadGraphEnds : Judged → Unread → Ending → Type 0
 UnreadGraphEnds policy TooLong ending = GraphRefusedBy policy graphs.TooLong ending
 UnreadGraphEnds policy Failed ending = ending ≡ Stopped (ReadFault slots.Graph)
 UnreadGraphEnds policy NoMemory ending = ending ≡ Stopped OutOfMemory
 
--- Why a call ends at the graphs of a policy without fault: they have a fault, their count rose, or memory ran out.
+-- Why a call ends at the graphs of a policy without fault: they have a fault, their count rose, or it ran out of
+-- memory.
 abbrev pub EndsAtGraph : Judged → SlotView → SlotView → Ending → Type 0
 EndsAtGraph policy old new (GraphRefused refusal) =
     IfSome old.bytes (λ text. prepared_with policy (graphs_of text policy.policy.chains policy.orders) ≡ Err (ByGraph refusal))
@@ -115,7 +116,7 @@ EndsAtGraph policy old new (Refused refusal) = ⊥
 EndsAtGraph policy old new (Completed totals) = ⊥
 EndsAtGraph policy old new (Shown text) = ⊥
 
--- the graphs that have a name among the words have this fault, behind a policy without fault
+-- the graphs that have a name among the words have this fault, after a policy without fault
 pub record GraphFails (named : Option (List ℕ)) (old : Slot → SlotView) (refusal : GraphRefusal) : Type 0 where
   pub name : List ℕ
   pub is : named ≡ Some name
@@ -158,12 +159,12 @@ EndsAtTexts named old new (Shown text) = ⊥
 abbrev pub IsShownIn : ChainPolicy × Order → Option StagedGraph → Type 0
 IsShownIn x graph = IsShownFor x.0.functions x.1.positions graph
 
--- A policy and its graphs have no fault, and come to this.
+-- A policy and its graphs have no fault, and give this.
 pub record Prepares (named : Option (List ℕ)) (old : Slot → SlotView) (p : Prepared) : Type 0 where
   pub policy : HasPolicy old
   pub told : WhereTexts named old (λ policy text. prepared named policy text ≡ Ok p)
 
--- what may be run and shown of it
+-- the part of it that may be run and shown
 pub record IsReady (p : Prepared) : Type 0 where
   pub ordered : AllZip IsOrdered p.judged.policy.chains p.judged.orders
   pub made : p.judged.functions ≡ functions_made p.judged.policy.chains
@@ -171,7 +172,7 @@ pub record IsReady (p : Prepared) : Type 0 where
   pub fit : FitAll p.judged.policy.chains p.judged.orders p.graphs
   pub shown : AllZip IsShownIn (zip p.judged.policy.chains p.judged.orders) p.graphs
 
--- the chains that run, where nothing has a fault
+-- the chains that run, if nothing has a fault
 abbrev pub chains_run : Result Prepared Unprepared → Option Chains
 chains_run (Ok p) = Some (chains_prepared p)
 chains_run (Err fault) = None
@@ -181,7 +182,7 @@ pub record Serves (named : Option (List ℕ)) (old : Slot → SlotView) (chains 
   pub policy : HasPolicy old
   pub runs : WhereTexts named old (λ policy text. chains_run (prepared named policy text) ≡ Some chains)
 
--- this is the plan of a policy and graphs that came to this
+-- this is the plan of a policy and graphs that gave this
 abbrev pub IsPlanOf : List ℕ → Result Prepared Unprepared → Type 0
 IsPlanOf text (Ok p) = text ≡ plan_text p
 IsPlanOf text (Err fault) = ⊥
@@ -191,12 +192,12 @@ pub record ShowsPlan (named : Option (List ℕ)) (old : Slot → SlotView) (text
   pub policy : HasPolicy old
   pub plan : WhereTexts named old (λ policy graph. IsPlanOf text (prepared named policy graph))
 
--- How a call ends that shows a plan: with the plan, or at the policy or the graphs.
+-- How a call that shows a plan ends: with the plan, or at the policy or the graphs.
 abbrev pub PlanEnds : Option (List ℕ) → (Slot → SlotView) → (Slot → SlotView) → Ending → Type 0
 PlanEnds named old new (Shown text) = ShowsPlan named old text
 PlanEnds named old new ending = EndsAtTexts named old new ending
 
--- How a demo ends: with its text, or memory ran out.
+-- How a demo ends: with its text, or because it ran out of memory.
 abbrev pub DemoEnds : DemoInput → Ending → Type 0
 DemoEnds input (Shown text) = text ≡ demo_text input
 DemoEnds input (Stopped OutOfMemory) = Unit {0}
@@ -212,7 +213,7 @@ DemoEnds input (Refused refusal) = ⊥
 DemoEnds input (GraphRefused refusal) = ⊥
 DemoEnds input (Completed totals) = ⊥
 
--- what chains make of what a source gives of a pcapng capture
+-- what chains make of what a source gives for a pcapng capture
 abbrev pub led_stream : Chains → Stream PacketBeside NgItem → Led
 led_stream chains stream = record {
   written = record {
@@ -223,7 +224,7 @@ led_stream chains stream = record {
   fault = stream.fault;
 }
 
--- what is due of what is left of a capture that was opened, behind its head or its first block
+-- what is due for the rest of an opened capture, after its head or its first block
 abbrev pub opened_led : Chains → Opened → SlotView → Option Led
 opened_led chains (Pcap head reader) slot = option_map (led_pcap chains head) (body_left reader slot)
 opened_led chains (Ng source) slot = option_map (led_stream chains) (ng_left source slot)
@@ -238,12 +239,12 @@ abbrev pub IsOfFormat : Bool → Opened → Type 0
 IsOfFormat ng (Pcap head reader) = ng ≡ false
 IsOfFormat ng (Ng source) = ng ≡ true
 
--- all of a capture with these bytes is left, but its head, which has no fault
+-- all of a capture with these bytes except its head remains, and the head has no fault
 abbrev pub LeavesAll : Opened → SlotView → List ℕ → Type 0
 LeavesAll (Pcap head reader) new bytes = IsSomeAnd (body_left reader new) (λ body. capture_of bytes ≡ Ok (head, body))
 LeavesAll (Ng source) new bytes = (ng_left source new ≡ Some (ng_stream (blocks_of start bytes))) × IsOk (next_of start bytes)
 
--- A capture was opened of which these first bytes were read before.
+-- A capture was opened whose first bytes, these, were read before.
 pub record OpensBehind (first : List ℕ) (opened : Opened) (old new : SlotView) : Type 0 where
   pub before : IsBefore opened
   pub format : IsOfFormat (is_ng_front first) opened
@@ -255,8 +256,8 @@ pub record Opens (name : List ℕ) (opened : Opened) (old new : SlotView) : Type
   pub before : IsBefore opened
   pub whole : IfSome old.bytes (λ bytes. IsOfFormat (is_ng bytes) opened × LeavesAll opened new bytes)
 
--- Why a capture wasn't opened of which these first bytes were read before: its head or its first block is refused, its count rose, or
--- memory ran out.
+-- Why a capture whose first bytes, these, were read before wasn't opened: its head or its first block is refused, its
+-- count rose, or it ran out of memory.
 abbrev pub RefusesBehind : List ℕ → SlotView → SlotView → Outcome → Type 0
 RefusesBehind first old new (Capture fault) = IsHeadFault fault × (is_ng_front first ≡ false) × IfSome (unread first old).bytes (λ bytes. capture_of bytes ≡ Err fault)
 RefusesBehind first old new (CaptureNg fault) = (is_of_first_block fault ≡ true) × (is_ng_front first ≡ true) × IfSome (unread first old).bytes (λ bytes. next_of start bytes ≡ Err fault)
@@ -268,7 +269,7 @@ RefusesBehind first old new (Policy fault) = ⊥
 RefusesBehind first old new (Graph fault) = ⊥
 RefusesBehind first old new (WriteFault s) = ⊥
 
--- the same of a capture that was to be opened by its name
+-- the same for a capture that was to be opened by its name
 abbrev pub RefusedOpening : SlotView → SlotView → Outcome → Type 0
 RefusedOpening old new (Capture fault) = IsHeadFault fault × IfSome old.bytes (λ bytes. (is_ng bytes ≡ false) × (capture_of bytes ≡ Err fault))
 RefusedOpening old new (CaptureNg fault) = (is_of_first_block fault ≡ true) × IfSome old.bytes (λ bytes. (is_ng bytes ≡ true) × (next_of start bytes ≡ Err fault))
@@ -280,7 +281,7 @@ RefusedOpening old new (Policy fault) = ⊥
 RefusedOpening old new (Graph fault) = ⊥
 RefusedOpening old new (WriteFault s) = ⊥
 
--- what a capture is answered with that a desk refused to attach or to read
+-- the answer to a capture that a desk refused to attach or to read
 abbrev pub unread_capture : DeskFault → Outcome
 unread_capture desk.Failed = ReadFault slots.Capture
 unread_capture desk.NoMemory = OutOfMemory

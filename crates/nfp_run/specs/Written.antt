@@ -1,4 +1,4 @@
--- Believed: what is written: what chains write of a capture, by its format, and what is exported of its flows.
+-- Believed: what is written: what chains write for a capture, by its format, and what is exported for its flows.
 use Rattle.std.specs.Prelude.{ℕ, List, Option, Some, None}
 use Rattle.std.specs.Option.{option_map}
 use Rattle.capture_bytes.specs.declared.packet.Unit.TheVariants.{Nano}
@@ -19,7 +19,7 @@ pub record Written : Type 0 where
   pub out : List ℕ
   pub report : List ℕ
 
--- What Out and Report are to hold: none of a slot that isn't attached.
+-- What Out and Report have to hold: none for a slot that isn't attached.
 pub record Files : Type 0 where
   pub out : Option (List ℕ)
   pub report : Option (List ℕ)
@@ -33,7 +33,7 @@ both written = record { out = Some written.out; report = Some written.report }
 abbrev pub out_alone : List ℕ → Files
 out_alone bytes = record { out = Some bytes; report = None }
 
--- what these chains write of a classic capture: each packet walks through the chain that takes it, after those before it
+-- what these chains write for a classic capture: each packet walks through its chain, after those before it
 abbrev pub written_of : Chains → CaptureHead → Body → Written
 written_of chains head body = record { out = out_bytes (written_head chains head) body.records (fates_of chains head.unit body.records); report = report_of chains head.unit body.records (option_map Pcap body.fault) }
 
@@ -41,11 +41,11 @@ written_of chains head body = record { out = out_bytes (written_head chains head
 abbrev pub ng_fates : Chains → Blocks → List Fate
 ng_fates chains blocks = fates_of chains Nano (records_among blocks.items)
 
--- what these chains write of a pcapng capture: its blocks, without those of packets that were dropped
+-- what these chains write for a pcapng capture: its blocks, without those of packets that were dropped
 abbrev pub ng_written_of : Chains → Blocks → Written
 ng_written_of chains blocks = record { out = ng_out_bytes (growth_of chains) blocks.items (ng_fates chains blocks); report = report_of chains Nano (records_among blocks.items) (option_map Ng blocks.fault) }
 
--- What a capture comes to that goes through chains: what is written, where its packets end, and the fault that ends it, if one does.
+-- The result of a capture that goes through chains: what is written, where its packets end, and its fault, if any.
 pub record Led : Type 0 where
   pub written : Written
   pub fates : List Fate

@@ -63,7 +63,7 @@ next_part threads alone MoreOnThreads = MoreAlone
 next_part threads alone MoreAlone = Chosen
 next_part threads alone Chosen = if are_light alone then Chosen else FirstOnThreads
 
--- a burst of this number of packets more went in this part
+-- one more burst, of this number of packets, went in this part
 abbrev pub after : ℕ → Pace → Pace
 after packets pace =
     if is_over pace.part (min (pace.packets + packets) 4294967295)

@@ -16,11 +16,11 @@ pub record PlainView : Type 0 where
   pub profile : Profile
   pub position : ℕ
 
--- the parts after a view
+-- the parts that are seen through a view
 abbrev pub seen_parts : PlainView → Parts
 seen_parts view = version_parts view.version
 
--- the bytes after a view
+-- the bytes that are seen through a view
 abbrev pub seen_values : PlainView → Field → Option (List ℕ)
 seen_values view = values_of (seen_parts view)
 
@@ -45,7 +45,7 @@ rewritten_by (Some bytes) position part = option_map (rewritten bytes position) 
 abbrev pub wrote_all : Values → PlainView → PlainView
 wrote_all new view = record view { version = record view.version { parts = as_list (λ f. rewritten_by (new f) view.position (seen_parts view f)) } }
 
--- what a function does with the packet after a view
+-- what a function does with the packet that it sees through a view
 abbrev pub viewed : {F : Type 0} → Behaviour F → F → PlainView → Step F
 viewed b f view = stepped b view.version.fixed f (seen_values view)
 

@@ -116,7 +116,7 @@ pub refused : {F : Type 0} (b : Behaviour F) (graph : Graph) (functions : List F
 refused b graph functions taggers packets old new parts law keeps within = λ f.
     ((within f).0, subst (λ n. count_of new f ≤ raised (count_of old f) n) (copies_same b graph functions taggers packets f parts law keeps) (within f).1)
 
--- the functions, the fates and the counts, if all stages are after the burst
+-- the functions, the fates and the counts, if the burst has passed all stages
 pub led : {F : Type 0} (b : Behaviour F) (run after : PlainRunning F) (taggers : ℕ) (packets : List Packet) (behind : List Merged) (done : List Fate) (old new : List ℕ) →
     PartsComeApart → BuiltAgain F → FatesInBursts F → FunctionsInBursts F → WalksWithin F → KeepsProfile b →
     HasEnded b run (all_apart taggers packets) after.functions behind old new → after.graph ≡ run.graph → done ≡ map fate_behind behind → Leads b run packets old new after done

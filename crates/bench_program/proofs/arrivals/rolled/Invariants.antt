@@ -3,7 +3,7 @@ use Rattle.std.specs.Vec.{vec_capacity}
 use Rattle.bench_program.specs.Rolling.{Rolls}
 use Rattle.bench_program.proofs.arrivals.rolled.Given as goal
 
--- so many have gone, and so many have come
+-- this number have left, and this number have arrived
 abbrev pub invariant-loop-round : goal.invariant-loop-round
 invariant-loop-round l =
     record {
