@@ -104,6 +104,7 @@ module _ {T : Type 0} (board : Sized) (due : List (List T)) where
           long = omega (arith, long, ap length row, ap (λ (x : Sized). x.pids) same);
           few = omega (arith, room.few, ap (λ (x : Sized). x.pids) same);
           ahead = λ p above. ap (λ (x : BranchEnd T). has x.put p) t.first_is;
+          all = ap (λ (x : BranchEnd T). length x.put) t.first_is;
         };
         made = λ ends is. record {
           next = was.next + 1;

@@ -21,6 +21,7 @@ pub record IsGiving {T : Type 0} (board : Sized) (seat : BranchEnd T) (next : �
   pub long : length (row_of seat.due seat.branch) ≤ board.pids
   pub few : board.pids ≤ 65536
   pub ahead : NoneFrom next seat.put
+  pub all : length seat.put ≡ next
 
 -- the seat is that of the board's one merger, and takes the packets in their order
 pub record IsTaking {T : Type 0} (board : Sized) (seat : MergerEnd T) (branches next : ℕ) : Type 0 where
