@@ -1,4 +1,4 @@
-//! The words of help and the version, which are printed where the first word asks for them.
+//! The words of help and the version, which are printed if the first word asks for them.
 //!
 //! They are answered before the call that the theorem speaks of, which takes none of these words for a command.
 
@@ -9,7 +9,7 @@ use operator_help::VERSION;
 use std::io;
 use std::io::Write;
 
-/// The words of help. The script `nfp` prints them from here where nothing is built yet.
+/// The words of help. The script `nfp` prints them from this file if nothing is built yet.
 pub const HELP: &str = "\
 nfp runs service chains of network functions over packet captures.
 
@@ -49,7 +49,7 @@ pub enum Question {
     Version,
 }
 
-/// What the first word asks for, where it isn't to be handed to the call.
+/// What the first word asks for. `None` if the words are for the call.
 pub fn question(words: &[String]) -> Option<Question> {
     match words.first()?.as_str() {
         "--help" | "-h" | "help" => Some(Question::Help),

@@ -1,14 +1,14 @@
 //! `nfp` runs the service chains of a policy over a capture file, shows the plan of a policy, exports the flows of a capture file,
 //! and runs a demo.
 //!
-//! The program hands its words to [`nfp_run::nfp`], over files and an open gate, and ends with the status of the outcome.
-//! What that call promises is the program's theorem. Where bytes that the desk had gathered for a file were lost, no line
-//! was put, and the program tells that file itself.
+//! The program passes its words to [`nfp_run::nfp`], over files and an open gate, and exits with the status of the outcome.
+//! What that call promises is the program's theorem. If bytes that the desk had gathered for a file were lost, the call
+//! printed no line, and the program prints the one that names that file.
 //!
 //! Words that ask for help or for the version are answered before that call, which takes none of them for a command.
 //!
-//! The desk is watched. Where the environment has `NFP_PROGRESS=1` and standard error is a terminal, a long run shows there how far
-//! it is; what is to be done about an outcome is told on standard error too. Nothing that is promised speaks of either.
+//! The desk is watched. If the environment has `NFP_PROGRESS=1` and standard error is a terminal, a long run shows its
+//! progress there. Standard error also says what to do about an outcome. Nothing is promised of either.
 #![tactic(auto)]
 
 mod asked;
@@ -61,8 +61,8 @@ fn main(rt: HostRuntime) -> ExitCode {
     ExitCode::from(outcome.status())
 }
 
-// A file that keeps the place of a standard stream that is closed, so that no file of the run comes to stand there and is taken for
-// what is printed.
+// A file in the place of a standard stream that is closed, so that no file of the run gets that place and receives what is
+// printed.
 fn place_of<R: Files>(rt: &R, stream: &str) -> Option<R::File> {
     match fs::metadata(rt, stream) {
         Ok(_) => None,
@@ -70,7 +70,7 @@ fn place_of<R: Files>(rt: &R, stream: &str) -> Option<R::File> {
     }
 }
 
-// What the run is watched with. Progress is shown on a terminal, where the environment asks for it.
+// What the run is watched with. Progress is shown on a terminal, if the environment asks for it.
 fn watch<R: Env + Clock + Files + Eprint + AllocGlobal + Clone + Drop>(
     rt: &R,
     terminal: bool,
@@ -99,9 +99,10 @@ fn wants_progress(rt: &impl Env) -> bool {
     matches!(rt.var("NFP_PROGRESS", &mut value), Ok(1)) && value[0] == b'1'
 }
 
-// What the program ends with, and why a slot failed. Where gathered bytes were lost, Note has taken nothing, and the first slot that failed is told
-// here: one that had failed at a call of its own before, or else the one that lost them. Nothing is told once memory ran out. The
-// files are closed then, so that none of them stands where standard error was closed.
+// The outcome of the program, and why a slot failed. If gathered bytes were lost, Note has taken nothing, and the line of the
+// first slot that failed is printed here: one that had failed at a call of its own before, or else the one that lost
+// them. Nothing is printed once memory ran out. The files are closed then, so that none of them has the place of a closed
+// standard error.
 fn end<R: Files + Print + AllocGlobal + Drop>(
     rt: &(impl Print + AllocGlobal),
     mut desk: FileDesk<R>,
@@ -120,7 +121,7 @@ fn end<R: Files + Print + AllocGlobal + Drop>(
     (outcome, reason)
 }
 
-// Tells the slot that couldn't be written, as a note does. The status says it too where the line can't be printed.
+// Prints the slot that couldn't be written, as a note does. The status says it too if the line can't be printed.
 fn tell(rt: &(impl Print + AllocGlobal), slot: Slot) -> Outcome {
     match write_fault_text(rt.alloc(), slot) {
         Ok(line) => {
@@ -131,8 +132,8 @@ fn tell(rt: &(impl Print + AllocGlobal), slot: Slot) -> Outcome {
     }
 }
 
-// The command line without the program's name. Where one of its words is no text, it is refused as words are that end in an
-// empty one.
+// The command line without the program's name. If one of its words isn't UTF-8, it is refused as words that end in an
+// empty one are.
 fn command_line(rt: &(impl Env + AllocGlobal)) -> io::Result<Vec<String>> {
     match env::args(rt) {
         Ok(words) => Ok(words.skip(1).collect(rt.alloc())?),
@@ -141,7 +142,7 @@ fn command_line(rt: &(impl Env + AllocGlobal)) -> io::Result<Vec<String>> {
     }
 }
 
-// The command, where the first word is one, and an empty word, which no command takes.
+// The command, if the first word is one, and an empty word, which no command takes.
 fn command_alone(rt: &(impl Env + AllocGlobal)) -> Result<Vec<String>, AllocError> {
     let mut buffer = [0; LONGEST_COMMAND];
     let length = rt.arg(1, &mut buffer).unwrap_or(0);
