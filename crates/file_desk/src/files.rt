@@ -29,8 +29,8 @@ const GATHERED: usize = 65536;
 ///
 /// A file to read must exist; a file to write is created, or emptied. Out or Report isn't attached, and no file is
 /// emptied for it, if its name leads to a file that is attached already, or to a regular file to which standard output
-/// or standard error leads. Both are emptied once Report is attached; without Report, Out is emptied before it takes
-/// its first bytes. Files are told apart by device and inode number. If the system has no such numbers, and for
+/// or standard error leads. Both are emptied once Report is attached. If Report is never attached, Out is emptied before
+/// it takes its first bytes, and at the latest before Note takes any, unless a call failed. Files are told apart by device and inode number. If the system has no such numbers, and for
 /// character devices, no two files count as the same.
 ///
 /// Reads are buffered, and what is written to a file is gathered and passed on in pieces of 64 KiB, in the order of the
@@ -124,6 +124,18 @@ impl<R: Files + Print + AllocGlobal + Drop> FileDesk<R> {
         None
     }
 
+    // Empties Out if it is attached alone and no call failed: nothing may have been put into it, and what it held before is
+    // no part of this call.
+    fn empty_lone_out(&mut self)
+        ensures { let slots = ⟦<FileDesk<R> as Desk>⟧.slots in
+            (s : Slot) → slots self.new s ≡ slots self.old s }
+    {
+        let is_alone = self.report.name.is_none() && self.report.faults == 0;
+        if is_alone && self.capture.faults == 0 && self.out.faults == 0 && !self.out.make_ready() {
+            self.lost = Some(Slot::Out);
+        }
+    }
+
     /// Why the last failed call on a slot failed, or why its gathered bytes were lost. `None` if neither happened, and
     /// for Note.
     pub fn reason(&self, slot: Slot) -> Option<Reason> {
@@ -189,7 +201,8 @@ impl<R: Files + Print + AllocGlobal + Drop> Desk for FileDesk<R> {
             Slot::Report => {
                 let opened = self.open_target(name).and_then(emptied);
                 self.report.attach(slot, text, opened)?;
-                self.out.make_ready();
+                // If it can't be emptied, its first bytes can't be written either.
+                let _ = self.out.make_ready();
                 Ok(())
             }
             Slot::Note => unreachable!(),
@@ -246,6 +259,7 @@ impl<R: Files + Print + AllocGlobal + Drop> Desk for FileDesk<R> {
             Slot::Out => self.out.write(bytes),
             Slot::Report => self.report.write(bytes),
             Slot::Note => {
+                self.empty_lone_out();
                 if self.hand_on().is_none()
                     && let Ok(count) = io::writer(&self.rt).write(bytes)
                     && (count > 0 || bytes.is_empty())

@@ -127,12 +127,19 @@ impl<F: Write + Drop> Port<F> {
 }
 
 impl<F: Write + OpenFile + Drop> Port<BufWriter<Target<F>>> {
-    // Empties the file, if it can. If it can't, its first bytes can't be written either.
-    pub fn make_ready(&mut self)
+    // Empties the file, if there is one. Returns whether it is empty, and keeps the reason if it can't be emptied.
+    pub fn make_ready(&mut self) -> bool
         ensures { port_view self.new ≡ port_view self.old }
     {
-        if let Some(writer) = &mut self.file {
-            let _ = writer.get_mut().empty();
+        match &mut self.file {
+            Some(writer) => match writer.get_mut().empty() {
+                Ok(()) => true,
+                Err(error) => {
+                    self.reason = Some(Reason::System(error));
+                    false
+                }
+            },
+            None => true,
         }
     }
 }
