@@ -13,7 +13,7 @@ ETHERNET = 1
 LONGEST_FRAME = 262_144
 MOST_RECORDS = 2**32 - 1
 
-# pcapng: the types of blocks that are read or refused, the number that shows the byte order of a section, and the length in bytes of the fixed fields of a body.
+# pcapng: the types of blocks that are read or refused, the number that shows the byte order of a section, and the bytes of the fixed fields of a body.
 SECTION, INTERFACE, OLD_PACKET, SIMPLE_PACKET, PACKET = 0x0A0D0D0A, 1, 2, 3, 6
 SECTION_LEAD = SECTION.to_bytes(4, 'big')
 ORDER_MAGIC = 0x1A2B3C4D
