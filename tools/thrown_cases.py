@@ -265,7 +265,7 @@ def order_of(capture):
 
 
 def seeds(rng, count):
-    """The seeds: those of the examples, also with a first part of their captures, and `count` that are made."""
+    """The seeds: those of the examples, also with a front part of their captures, and `count` that are made."""
     examples = [path.parent for path in sorted(EXAMPLES.glob('*/policy')) if make_examples.capture_in(path.parent)]
     found = [Seed((each / 'policy').read_bytes(), make_examples.capture_in(each).read_bytes()) for each in examples]
     policies = [path.read_bytes() for path in sorted(EXAMPLES.glob('**/policy'))]

@@ -69,7 +69,7 @@ def long_capture(bench, bytes_at_least=140_000):
 
 
 def faulty(bench, came, status, note):
-    """Findings if the run doesn't end with this fault, or a file isn't a first part of what is due."""
+    """Findings if the run doesn't end with this fault, or a file isn't a front part of what is due."""
     if (came.status, came.note) != (status, note):
         yield f'ended with status {came.status} and printed {came.note!r}; due are status {status} and {note!r}'
     yield from thrown_runs.no_fronts(came, bench.due)
@@ -190,7 +190,7 @@ def closed_fifo(bench):
     os.close(reader)
     came = bench.ended(process, begun)
     if not due.startswith(taken):
-        yield f'{slot} gave {len(taken)} bytes, which are not a first part of what is due'
+        yield f'{slot} gave {len(taken)} bytes, which are not a front part of what is due'
     if (came.status, came.note) not in [(5, f'write fault: {slot}\n'), (bench.due.status, bench.due.note)]:
         yield f'{slot} lost its reader: status {came.status}, printed {came.note!r}'
     yield from thrown_runs.no_fronts(came, bench.due)

@@ -187,11 +187,11 @@ def unlike(came, due):
 
 
 def no_fronts(came, due):
-    """Files of a run with trouble that are not first parts of what is due."""
+    """Files of a run with trouble that are no front parts of what is due."""
     for slot in ('out', 'report'):
         written, whole = getattr(came, slot), getattr(due, slot)
         if written is not None and not (whole or b'').startswith(written):
-            yield f'{slot} is {sized(written)}, which is not a first part of {sized(whole)}'
+            yield f'{slot} is {sized(written)}, which is no front part of {sized(whole)}'
 
 
 def sized(data):
