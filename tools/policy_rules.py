@@ -1,7 +1,7 @@
 """The rules of the policy language, in Python's standard library alone: what `nfp plan` must print for a text.
 
-This is a second account of what the program is proved to do, and shares nothing with it. docs/POLICY.md says the same
-in words.
+This is a second account of what the program is proved to do, and shares nothing with it. docs/POLICY.md, docs/PLANS.md
+and docs/FAULTS.md say the same in words.
 """
 
 import ipaddress
