@@ -31,7 +31,7 @@ def padded(data):
 
 
 def options(order, told):
-    """Codes and values, with the end behind them where there are any."""
+    """Codes and values, followed by the end of options if there are any."""
     spelled = [struct.pack(order + 'HH', code, len(value)) + padded(value) for code, value in told]
     return b''.join(spelled) + (bytes(4) if told else b'')
 
@@ -42,7 +42,7 @@ def block(order, kind, body):
 
 
 class Section(typing.NamedTuple):
-    """A section header, from which on numbers have this order. Its length isn't told."""
+    """A section header: all numbers after it have this byte order. The length of the section is given as unknown."""
 
     order: str
     options: list = []
@@ -54,7 +54,7 @@ class Section(typing.NamedTuple):
 class Interface(typing.NamedTuple):
     name: str
     snaplen: int
-    resolution: typing.Optional[int] = None  # as if_tsresol spells it; None where it isn't told, which means microseconds
+    resolution: typing.Optional[int] = None  # the byte of if_tsresol; None if there is no such option, which means microseconds
     offset: typing.Optional[int] = None  # the seconds of if_tsoffset
     link: int = LINK_ETHERNET
 
@@ -70,9 +70,9 @@ class Packet(typing.NamedTuple):
     ticks: int
     what: str
     frame: bytes  # as it was sent
-    captured: typing.Optional[int] = None  # bytes of it, None: all
+    captured: typing.Optional[int] = None  # the number of its bytes that were captured; None: all
     comments: tuple = ()
-    options: list = []  # others, behind the comments
+    options: list = []  # other options, after the comments
 
     def spelled(self, order):
         kept = self.frame[: self.captured]
@@ -82,7 +82,7 @@ class Packet(typing.NamedTuple):
 
 
 class Names(typing.NamedTuple):
-    """What addresses were resolved to."""
+    """The names to which addresses were resolved."""
 
     names: dict
 
@@ -96,7 +96,7 @@ class Names(typing.NamedTuple):
 
 
 class Statistics(typing.NamedTuple):
-    """What an interface had counted at this tick."""
+    """What an interface had counted by this tick."""
 
     interface: int
     ticks: int
@@ -109,7 +109,7 @@ class Statistics(typing.NamedTuple):
 
 
 class Unread(typing.NamedTuple):
-    """A block of a type that the program carries without a look."""
+    """A block of a type that the program copies without reading it."""
 
     kind: int
     body: bytes
@@ -135,5 +135,5 @@ def written(capture):
 
 
 def ticks_at(nanoseconds, resolution=MICROSECONDS):
-    """The tick of an interface at so many nanoseconds behind the first second of the captures that are made here, or the last before."""
+    """The last tick of an interface at or before this number of nanoseconds after the first second of the captures that are made here."""
     return (FIRST_SECOND * 1_000_000_000 + nanoseconds) * ticks_a_second(resolution) // 1_000_000_000

@@ -1,26 +1,26 @@
 """How captures are read and written, in the classic format and in pcapng, in Python's standard library alone.
 
-It is a second account of what the program is proved to do, and shares nothing with it. The formats are those of draft-ietf-opsawg-pcap and
-draft-ietf-opsawg-pcapng; what of them is taken, and which fault comes first, docs/POLICY.md says in words.
+This is a second account of what the program is proved to do, and shares nothing with it. The formats are those of draft-ietf-opsawg-pcap and
+draft-ietf-opsawg-pcapng. docs/POLICY.md and docs/FAULTS.md say in words what is read of them, and which fault comes first.
 """
 
 import struct
 import typing
 
 MICRO, NANO = 0xA1B2C3D4, 0xA1B23C4D
-NANOSECONDS = {MICRO: 1_000, NANO: 1}  # of one unit of a fraction
+NANOSECONDS = {MICRO: 1_000, NANO: 1}  # in one unit of the fraction of a second
 ETHERNET = 1
 LONGEST_FRAME = 262_144
 MOST_RECORDS = 2**32 - 1
 
-# pcapng: the types of blocks that are read or refused, what a section's order is told by, and the fixed fields of a body in bytes.
+# pcapng: the types of blocks that are read or refused, the number that shows the byte order of a section, and the bytes of the fixed fields of a body.
 SECTION, INTERFACE, OLD_PACKET, SIMPLE_PACKET, PACKET = 0x0A0D0D0A, 1, 2, 3, 6
 SECTION_LEAD = SECTION.to_bytes(4, 'big')
 ORDER_MAGIC = 0x1A2B3C4D
 FIXED = {SECTION: 16, INTERFACE: 8, PACKET: 20}
 LONGEST_BLOCK = 2**24
 END_OF_OPTIONS, RESOLUTION = 0, 9
-TICKS_A_SECOND = 10**6  # where an interface doesn't tell it
+TICKS_A_SECOND = 10**6  # if an interface has no resolution
 MOST_TENS, MOST_TWOS = 18, 60
 LAST_MOMENT = 2**32 * 10**9 - 1
 
@@ -31,19 +31,19 @@ class Record(typing.NamedTuple):
     time: int  # in nanoseconds
     original: int  # the length of the frame as it was sent
     frame: bytes
-    spell: typing.Callable  # its bytes with this original length and this frame
+    spell: typing.Callable  # returns its bytes, with this original length and this frame
 
 
 class Other(typing.NamedTuple):
-    """What stands in a capture and is no packet."""
+    """A part of a capture that is no packet."""
 
-    spell: typing.Callable  # its bytes where frames may be longer by so many bytes
+    spell: typing.Callable  # returns its bytes, if frames may be longer by this number of bytes
 
 
 class Capture(typing.NamedTuple):
     parts: list  # records and others, in their order
-    fault: typing.Optional[str]  # what is wrong behind them
-    is_refused: bool  # by its head or its first block, so that nothing is written
+    fault: typing.Optional[str]  # what is wrong after them
+    is_refused: bool  # because of its head or its first block, so that nothing is written
 
     @property
     def records(self):
@@ -51,7 +51,7 @@ class Capture(typing.NamedTuple):
 
 
 def read(data):
-    """The first four bytes tell the format."""
+    """The first four bytes show the format."""
     return read_blocks(data) if data[:4] == SECTION_LEAD else read_classic(data)
 
 
@@ -60,13 +60,13 @@ def in_32_bits(value):
 
 
 def written(capture, frames, growth):
-    """What is written of a capture whose frames may be longer by so many bytes. In the place of a frame that was dropped stands None."""
+    """What is written for a capture whose frames may be longer by `growth` bytes. A frame that was dropped is None."""
     left = iter(frames)
     return b''.join(part.spell(growth) if isinstance(part, Other) else written_record(part, next(left)) for part in capture.parts)
 
 
 def written_record(record, frame):
-    """The original length changes by what tags and the headers of tunnels change of the frame's, which nothing else does. It stops at the ends of 32 bits."""
+    """The original length changes as the length of the frame does, which only tags and the headers of tunnels change. It stays within 32 bits."""
     return b'' if frame is None else record.spell(in_32_bits(record.original + len(frame) - len(record.frame)), frame)
 
 
@@ -91,7 +91,7 @@ def head_fault(data):
 
 
 def classic_head(order, head, growth):
-    """The snaplen has room for what frames may be longer, whether or not one is."""
+    """The snaplen grows by what frames may grow, whether or not one does."""
     (snaplen,) = struct.unpack(order + 'I', head[16:20])
     return head[:16] + struct.pack(order + 'I', in_32_bits(snaplen + growth)) + head[20:]
 
@@ -121,7 +121,7 @@ def read_classic(data):
 
 
 def spelling(spell, *told):
-    """How a record is spelled, of which this is told."""
+    """A function that writes a record of which `told` is known."""
     return lambda original, frame: spell(*told, original, frame)
 
 
@@ -129,7 +129,7 @@ def spelling(spell, *told):
 
 
 class Fault(Exception):
-    """The first of a block."""
+    """The first fault of a block."""
 
 
 class Block(typing.NamedTuple):
@@ -146,7 +146,7 @@ class Block(typing.NamedTuple):
 
 
 def order_of_section(data, place, number):
-    """The order that a section header tells, whose first twelve bytes have to be there."""
+    """The byte order of a section header. Its first twelve bytes have to be there."""
     if len(data) < place + 12:
         raise Fault(f'cut block {number}')
     order = next((order for order in '<>' if struct.unpack_from(order + 'I', data, place + 8)[0] == ORDER_MAGIC), None)
@@ -156,7 +156,7 @@ def order_of_section(data, place, number):
 
 
 def block_at(data, place, number, order):
-    """The whole block that stands there, of which the numbers have this order where it is no section header."""
+    """The whole block at `place`. Its numbers have this byte order, unless it is a section header."""
     if len(data) < place + 8:
         raise Fault(f'cut block {number}')
     if data[place : place + 4] == SECTION_LEAD:
@@ -179,7 +179,7 @@ def padded(length):
 
 
 def options_of(block, place, number):
-    """Codes and values of the options that begin at this place of a body. The code 0 ends them, whatever length it tells."""
+    """Codes and values of the options that begin at this place of a body. The code 0 ends them, whatever length follows it."""
     body, found = block.body, []
     while place < len(body):
         code, length = struct.unpack_from(block.order + 'HH', body, place)
@@ -193,7 +193,7 @@ def options_of(block, place, number):
 
 
 def ticks_a_second(block, number):
-    """Of an interface, by the first option of one byte that tells its resolution."""
+    """The ticks of an interface in a second, by the first option that gives its resolution in one byte."""
     resolution = next((value[0] for code, value in options_of(block, 8, number) if code == RESOLUTION and len(value) == 1), None)
     (link,) = block.numbers('H', 8)
     if link != ETHERNET:
@@ -207,12 +207,12 @@ def ticks_a_second(block, number):
 
 
 def written_section(block):
-    """Its length is told as not known."""
+    """The length of the section is written as unknown."""
     return block.data[:16] + b'\xff' * 8 + block.data[24:]
 
 
 def written_interface(block, growth):
-    """A snaplen of 0 means that there is none."""
+    """A snaplen of 0 means that there is no limit."""
     (snaplen,) = block.numbers('I', 12)
     return block.data[:12] + struct.pack(block.order + 'I', in_32_bits(snaplen + growth) if snaplen else 0) + block.data[16:]
 
@@ -224,7 +224,7 @@ def written_packet(order, place, options, original, frame):
 
 
 def packet_of(block, number, interfaces, before):
-    """The packet of a block, before which so many stand."""
+    """The packet of a block. `before` is the number of packets before it."""
     interface, high, low, captured, original = block.numbers('5I', 8)
     if interface >= len(interfaces):
         raise Fault(f'no interface {number}')
@@ -241,7 +241,7 @@ def packet_of(block, number, interfaces, before):
 
 
 def part_of(block, number, interfaces, before):
-    """What a block gives. The ticks a second of the section's interfaces are kept in a list, which a section begins empty."""
+    """The part that a block gives. `interfaces` has the ticks per second of each interface of the section; a new section clears it."""
     if block.kind == SECTION:
         if block.numbers('H', 12) != (1,):
             raise Fault(f'bad block {number}')

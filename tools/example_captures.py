@@ -1,4 +1,4 @@
-"""What the captures of the examples hold, record by record: each is a story that an operator would tell."""
+"""The records of the captures of the examples, each with what it is."""
 
 import blocks
 from frames import (
@@ -53,17 +53,17 @@ ROUTER_ALERT = bytes.fromhex('94040000')
 OFFICE, NEIGHBOUR, OTHER_TEN, GUEST, SCREEN, SCANNER = '10.1.4.20', '10.1.4.21', '10.2.4.20', '192.168.20.31', '192.168.20.10', '203.0.113.66'
 RESOLVER, CUSTOMER, PROBE = '192.0.2.53', '198.51.100.200', '203.0.113.9'
 
-# Behind `quic` from 2001:db8:7::8 they make the sum of a packet to 2001:db8:1:9::2 one that is written as 0xffff.
+# After `quic` from 2001:db8:7::8 these bytes make the checksum of a packet to 2001:db8:1:9::2 zero, which is written as 0xffff.
 ENDS_AT_ZERO = bytes.fromhex('0460')
 
 
 def page(port):
-    """A piece of a web page, which makes a frame of 1,500 bytes."""
+    """A piece of a web page, in a frame of 1,500 bytes."""
     return tcp(80, port, PUSH_ACK, b'HTTP/1.1 200 OK\r\n\r\n' + b'.' * 1427)
 
 
 def uplink():
-    """What was seen on the uplink of an office, and how many bytes of it were captured (None: up to the snaplen)."""
+    """Frames on the uplink of an office, each with the number of captured bytes (None: up to the snaplen)."""
     long_page = page(50123)
     service = tag(SERVICE_TAG, 100) + tag(VLAN_TAG, 20)
     return [
@@ -113,7 +113,7 @@ def uplink():
 
 
 def tap():
-    """What an appliance at the line of a name server saw, with the nanoseconds since FIRST_SECOND."""
+    """Frames on the line of a name server, seen by an appliance, with the nanoseconds since FIRST_SECOND."""
 
     def query(source, port):
         return plain(source, udp(port, 53, QUERY), to=RESOLVER)
@@ -137,7 +137,7 @@ def tap():
 
 
 def full_disk():
-    """What a gateway wrote until its disk was full, with the microseconds since FIRST_SECOND."""
+    """Frames that a gateway captured until its disk was full, with the microseconds since FIRST_SECOND."""
     made = [
         ('ARP request of an office machine', arp_request(OFFICE, '10.1.0.1')),
         ('TCP SYN of an office machine', plain(OFFICE, tcp(50123, 80, SYN))),
@@ -153,7 +153,7 @@ def full_disk():
 
 
 def servers():
-    """What was seen on the line to the servers of a site, and how many bytes of it were captured."""
+    """Frames on the line to the servers of a site, each with the number of captured bytes."""
     web, name_server, operator = '192.0.2.80', '192.0.2.53', '198.51.100.20'
 
     def syn(source, port, to=web, **fields):
@@ -195,7 +195,7 @@ def servers():
 
 
 def tenants():
-    """What left a house of two tenants on one line, and how many bytes of it were captured."""
+    """Frames on the line of a house with two tenants, each with the number of captured bytes."""
     web, machine, relay, games = '192.0.2.80', '10.0.0.7', '10.0.0.25', '198.51.100.44'
     lawyers, school, camera = tag(VLAN_TAG, 10), tag(VLAN_TAG, 20), tag(VLAN_TAG, 30)
     carried = tag(SERVICE_TAG, 100) + lawyers
@@ -232,7 +232,7 @@ def tenants():
 
 
 def backups():
-    """What was seen on the line to a backup store, and how many bytes of it were captured."""
+    """Frames on the line to a backup store, each with the number of captured bytes."""
     store, other, server, rsync = '192.0.2.200', '192.0.2.201', '10.1.0.10', 873
 
     def syn(source, port, to=store, **fields):
@@ -260,7 +260,7 @@ def backups():
 
 
 def edge():
-    """What was seen at the edge of a site with four public ports, from both sides, and how many bytes of it were captured."""
+    """Frames at the edge of a site with four public ports, from both sides, each with the number of captured bytes."""
     web, other_web, resolver, public = '198.51.100.80', '198.51.100.81', '198.51.100.53', '192.0.2.1'
     third, lab = '10.1.4.22', '10.2.4.20'
 
@@ -301,7 +301,7 @@ def edge():
 
 
 def shop():
-    """What was seen on the line to two servers behind one address, and how many bytes of it were captured."""
+    """Frames on the line to two servers behind one address, each with the number of captured bytes."""
     shared, first_server, archive = '192.0.2.1', '10.9.0.1', '192.0.2.80'
     ann, bob = '198.51.100.7', '198.51.100.8'
 
@@ -334,7 +334,7 @@ def shop():
 
 
 def farm():
-    """What was seen on the line to the servers of a web shop, and how many bytes of it were captured."""
+    """Frames on the line to the servers of a web shop, each with the number of captured bytes."""
     shared, partner, ann, bob, eve, dan = '192.0.2.1', '198.51.100.40', '198.51.100.7', '198.51.100.8', '198.51.100.66', '198.51.100.9'
 
     def asked(source, text, port=50001, **fields):
@@ -364,7 +364,7 @@ def farm():
 
 
 def both_versions():
-    """What came to a site by both versions of IP, and how many bytes of it were captured."""
+    """Frames that came to a site by both versions of IP, each with the number of captured bytes."""
     web, shop = '192.0.2.80', '2001:db8:1::80'
     visitor, ann, bob, scanner = '198.51.100.7', '2001:db8:7::7', '2001:db8:7::8', '2001:db8:66::66'
 
@@ -413,7 +413,7 @@ def both_versions():
 
 
 def slow_line():
-    """What was seen on a line with a source that sends too much, with the microseconds since FIRST_SECOND."""
+    """Frames on a line with a source that sends too much, with the microseconds since FIRST_SECOND."""
     backup, camera, server = '10.1.0.10', '10.1.0.30', '192.0.2.80'
 
     def upload(length):
@@ -443,7 +443,7 @@ def slow_line():
 
 
 def calls():
-    """What was seen on the line of an office with telephones, and how many bytes of it were captured."""
+    """Frames on the line of an office with telephones, each with the number of captured bytes."""
     phone, provider, named, spoken = '10.1.8.21', '198.51.100.60', 5060, 16384
 
     def voice(source=phone, to=provider, port=spoken, size=172, **fields):
@@ -477,7 +477,7 @@ def calls():
 
 
 def logins():
-    """What was seen on the line to a test server, and how many bytes of it were captured."""
+    """Frames on the line to a test server, each with the number of captured bytes."""
     server, collector = '192.0.2.80', '192.0.2.90'
 
     def said(text, port=50123, to=server, **fields):
@@ -513,7 +513,7 @@ def logins():
 
 
 def handed_on():
-    """What was seen on the line to a test server whose password somebody knows who shouldn't."""
+    """Frames on the line to a test server whose password became known to an outsider."""
     server, collector, stranger = '192.0.2.80', '192.0.2.90', '203.0.113.66'
 
     def said(text, source=OFFICE, port=50123):
@@ -532,7 +532,7 @@ def handed_on():
 
 
 def provider_edge():
-    """What was seen at a provider's edge, from two customers and back from its core, and how many bytes of it were captured."""
+    """Frames at the edge of a provider, from two customers and back from its core, each with the number of captured bytes."""
     first, second, stranger, web = '10.1.4.20', '10.2.4.20', '10.3.4.20', '192.0.2.80'
     to_first, to_second, office = tag(VLAN_TAG, 101), tag(VLAN_TAG, 102, 3), tag(VLAN_TAG, 20)
 
@@ -571,7 +571,7 @@ def provider_edge():
 
 
 def two_sites():
-    """What was seen at the gateway of a site, of which another one is reached by a tunnel over a provider, and how many bytes of it were captured."""
+    """Frames at the gateway of a site that reaches another site by a tunnel, each with the number of captured bytes."""
     here, there, resolver, web, mail = OFFICE, '10.2.4.20', '10.2.0.53', '10.2.0.80', '10.2.0.25'
     gateway, other_gateway, stranger = '192.0.2.1', '198.51.100.1', SCANNER
 
@@ -604,7 +604,7 @@ def two_sites():
 
 
 def noted():
-    """What a help desk saved of a gateway's two sides with its notes, and behind it what a probe outside saw, each with a clock of its own."""
+    """Frames on the two sides of a gateway, with notes of a help desk, followed by those that a probe outside saw. Each has a clock of its own."""
     lan, wan = 0, 1
     probe_unit, reading = blocks.twos(24), plain('10.1.0.30', udp(40000, 5000, b's' * 72), to='192.0.2.90')
     scanned = plain(SCANNER, tcp(4444, 22, SYN))
@@ -645,7 +645,7 @@ def noted():
 TWO_VERSIONS = Capture('<', MICRO, 96, [(n * 180_503, *record) for n, record in enumerate(both_versions())])
 UPGRADE = Capture('<', MICRO, 262144, [(n * 180_503, *record) for n, record in enumerate(handed_on())])
 
-# By the names of the folders. A folder in another one has this one's capture. The example without a capture is planned and not run.
+# By the names of the folders. A folder in another one uses the capture of that one. The example without a capture is planned and not run.
 MADE = {
     'first-path': Capture('<', MICRO, 96, [(n * 180_503, *record) for n, record in enumerate(uplink())]),
     'nanoseconds': Capture('>', NANO, 65535, tap()),

@@ -1,7 +1,7 @@
-"""What flows a capture has, and how they are exported, by their rules, in Python's standard library alone: what `nfp flows` must write.
+"""The rules of flows, in Python's standard library alone: which flows a capture has, how they are exported, and what `nfp flows` must write.
 
-It is a second account of what the program is proved to do, and shares nothing with it. docs/FLOWS.md says the same in words. How captures
-are read stands in capture_rules.py, and how the fields of frames are found in packet_rules.py.
+This is a second account of what the program is proved to do, and shares nothing with it. docs/FLOWS.md says the same in words.
+capture_rules.py reads the captures, and packet_rules.py finds the fields of frames.
 """
 
 import ipaddress
@@ -14,7 +14,7 @@ import packet_rules
 MOST_32 = 2**32 - 1
 MOST_64 = 2**64 - 1
 
-# Cisco's NetFlow version 5: a header, and from 1 to 30 records behind it, most significant byte first.
+# Cisco's NetFlow version 5: a header, followed by 1 to 30 records, most significant byte first.
 VERSION = 5
 RECORDS = 30
 HEADER = struct.Struct('>HHIIIIBBH')
@@ -22,7 +22,7 @@ RECORD = struct.Struct('>IIIHHIIIIHHBBBBHHBBH')
 
 
 class Key(typing.NamedTuple):
-    """What packets of one flow have in common. An absent port is None."""
+    """What the packets of one flow have in common. A port that is not there is None."""
 
     proto: int
     source: bytes
@@ -32,12 +32,12 @@ class Key(typing.NamedTuple):
 
     @property
     def is_wide(self):
-        """Whether the flow is one of IPv6, for which version 5 has no room."""
+        """Whether the flow is one of IPv6, whose addresses version 5 has no room for."""
         return len(self.source) == 16
 
 
 class Line:
-    """What is counted of a flow: times in nanoseconds, and the bitwise or of its TCP control bits."""
+    """What is counted of a flow: packets, bytes, times in nanoseconds, and the bitwise or of its TCP control bits."""
 
     def __init__(self, number, time):
         self.first, self.begun, self.last = number, time, time
@@ -49,14 +49,14 @@ class Line:
 
 
 def key_of(packet):
-    """The flow of a packet, or None where it has none."""
+    """The flow of a packet, or None if it has none."""
     if packet.proto is None or packet.length is None or not packet.has('src', 'dst'):
         return None
     return Key(packet.proto, packet.get('src'), packet.port('sport'), packet.get('dst'), packet.port('dport'))
 
 
 def control_bits(packet):
-    """Of a TCP header, and 0 where there is none or they weren't captured."""
+    """The control bits of the TCP header; 0 if there is none or they weren't captured."""
     header = packet.header
     if header.transport is None or header.proto != packet_rules.TCP or header.transport + 13 >= header.end:
         return 0
@@ -99,7 +99,7 @@ def record_of(key, line, origin):
 
 
 def export(records, lines):
-    """The packets of these lines, one behind the other."""
+    """The export packets of these lines, in order."""
     narrow = [(key, line) for key, line in lines.items() if not key.is_wide]
     if not narrow:
         return []
@@ -117,13 +117,13 @@ def export(records, lines):
 
 class Answer(typing.NamedTuple):
     lines: dict  # by their keys
-    packets: typing.Optional[list]  # None where nothing is written
+    packets: typing.Optional[list]  # None if nothing is written
     note: str
     status: int
 
 
 def answer(data):
-    """What `nfp flows` must write of a capture, whatever its bytes."""
+    """What `nfp flows` must write for a capture, whatever its bytes are."""
     fault = capture_rules.head_fault(data)
     if fault:
         return Answer({}, None, f'capture: {fault}', 3)

@@ -1,10 +1,10 @@
-"""Frames and captures, made byte by byte with Python's standard library alone: what the examples are captures of."""
+"""Frames and captures, made byte by byte with Python's standard library alone. The captures of the examples are made of them."""
 
 import ipaddress
 import struct
 import typing
 
-# The classic capture file: magic of microseconds or nanoseconds, version 2.4, time zone, accuracy, snaplen, link type.
+# The classic capture file: magic number for microseconds or nanoseconds, version 2.4, time zone, accuracy, snaplen, link type.
 MICRO, NANO, LINK_ETHERNET = 0xA1B2C3D4, 0xA1B23C4D, 1
 PER_SECOND = {MICRO: 1_000_000, NANO: 1_000_000_000}
 FIRST_SECOND = 1_700_000_000
@@ -18,12 +18,12 @@ BROADCAST = b'\xff' * 6
 
 
 def address(text):
-    """Of IPv4 four bytes, of IPv6 sixteen."""
+    """The bytes of an address: four for IPv4, sixteen for IPv6."""
     return ipaddress.ip_address(text).packed
 
 
 def internet_checksum(data):
-    """The ones' complement sum of RFC 1071."""
+    """The Internet checksum of RFC 1071."""
     if len(data) % 2:
         data += b'\0'
     total = sum(struct.unpack(f'>{len(data) // 2}H', data))
@@ -33,7 +33,7 @@ def internet_checksum(data):
 
 
 def transport_checksum(source, destination, protocol, segment):
-    """Behind the pseudo-header of RFC 793, 3.1, or that of RFC 8200, 8.1, whose length has 32 bits."""
+    """The checksum over the pseudo-header and the segment (RFC 793, 3.1; RFC 8200, 8.1). The length has 32 bits, which is the same sum for both."""
     return internet_checksum(source + destination + struct.pack('>II', len(segment), protocol) + segment)
 
 
@@ -65,7 +65,7 @@ def echo(number):
 
 
 def icmp6(kind, rest):
-    """A message of RFC 4443, whose checksum takes in the addresses."""
+    """An ICMPv6 message (RFC 4443). Its checksum covers the addresses."""
 
     def segment(source, destination):
         total = transport_checksum(source, destination, ICMP6, struct.pack('>BBH', kind, 0, 0) + rest)
@@ -79,7 +79,7 @@ def echo6(number):
 
 
 def asked_neighbour(target):
-    """Who has this address? With that of the one who asks (RFC 4861, 4.3)."""
+    """A neighbour solicitation for this address, with the link address of the sender (RFC 4861, 4.3)."""
     return icmp6(135, bytes(4) + address(target) + bytes([1, 1]) + STATION)
 
 
@@ -87,7 +87,7 @@ SYN, ACK, PUSH_ACK = 0x02, 0x10, 0x18
 
 
 def ipv4(source, destination, content, options=b'', offset=0, more=False, is_unsplit=False, lead=None, tos=0, ttl=64):
-    """A whole packet, RFC 791. `lead` stands in the place of the first byte, which is version and header length; one that is unsplit mustn't be split."""
+    """A whole packet (RFC 791). `lead` replaces the first byte, version and header length. `is_unsplit` sets the bit that forbids fragments."""
     protocol, segment = content
     source, destination = address(source), address(destination)
     body = segment(source, destination)
@@ -99,12 +99,12 @@ def ipv4(source, destination, content, options=b'', offset=0, more=False, is_uns
     return head + struct.pack('>H', total) + source + destination + options + body
 
 
-# Extension headers of IPv6, by the numbers that name them in the header before (RFC 8200, 4.2 to 4.6).
+# The extension headers of IPv6, by their numbers in the header before them (RFC 8200, 4.2 to 4.6).
 HOP_BY_HOP, ROUTING, FRAGMENT, DESTINATION = 0, 43, 44, 60
 
 
 def extended(kind, content, offset=0, more=False):
-    """The same content behind an extension header of eight bytes."""
+    """The same content after an extension header of eight bytes."""
     protocol, segment = content
     padding = bytes.fromhex('0104 00000000')
     rest = {FRAGMENT: struct.pack('>HI', offset + more, 0x12345678), ROUTING: bytes([253]) + bytes(5)}.get(kind, padding)
@@ -112,7 +112,7 @@ def extended(kind, content, offset=0, more=False):
 
 
 def ipv6(source, destination, content, ttl=64, traffic_class=0, payload_length=None, lead=None):
-    """A whole packet, RFC 8200, whose payload may tell another length than it has. `lead` stands in the place of the first byte."""
+    """A whole packet (RFC 8200). `payload_length` replaces the true length in the header, and `lead` the first byte."""
     protocol, segment = content
     source, destination = address(source), address(destination)
     body = segment(source, destination)
@@ -122,7 +122,7 @@ def ipv6(source, destination, content, ttl=64, traffic_class=0, payload_length=N
 
 
 def carried(packet):
-    """A packet of IPv4 as what stands in another one, RFC 2003."""
+    """An IPv4 packet as the content of another one (RFC 2003)."""
     return IP_IN_IP, lambda *_: packet
 
 
@@ -132,7 +132,7 @@ def tag(kind, vlan, priority=0):
 
 def ethernet(ether_type, body, tags=b'', to=GATEWAY):
     frame = to + STATION + tags + struct.pack('>H', ether_type) + body
-    # 60 bytes are the least that Ethernet sends, without the frame's checksum.
+    # Ethernet sends at least 60 bytes, without the checksum of the frame.
     return frame + b'\0' * (60 - len(frame))
 
 
@@ -153,8 +153,8 @@ def ping6():
     return plain6('2001:db8::66', echo6(1))
 
 
-# Where checksums stand in a frame: in an IPv4 header without a tag and behind one, in TCP and UDP behind a header of five words, and in both
-# behind that of IPv6.
+# The places of checksums in a frame: of an IPv4 header without a tag and after one tag, of TCP and UDP after an IPv4 header of five words, and of
+# both after an IPv6 header.
 IPV4_SUM, TAGGED_IPV4_SUM, TCP_SUM, UDP_SUM = 14 + 10, 18 + 10, 34 + 16, 34 + 6
 TCP6_SUM, UDP6_SUM = 54 + 16, 54 + 6
 
@@ -165,16 +165,16 @@ def miscounted(frame, at):
 
 
 def uncounted(frame, at=UDP_SUM):
-    """The same frame of UDP without a checksum, which is written as 0."""
+    """The same UDP frame without a checksum: the field is 0."""
     return frame[:at] + b'\0\0' + frame[at + 2 :]
 
 
 class Capture(typing.NamedTuple):
-    order: str  # of the bytes in the capture's own numbers, as struct spells it
+    order: str  # the byte order of the capture's own numbers, as struct writes it
     magic: int
     snaplen: int
-    records: list  # moment, what it is, frame as it was sent, bytes of it that were captured (None: up to the snaplen)
-    room: typing.Optional[int] = None  # on the disk that the capture was written to, in bytes
+    records: list  # time, what it is, frame as it was sent, number of captured bytes (None: up to the snaplen)
+    room: typing.Optional[int] = None  # the free bytes of the disk that the capture was written to
 
 
 def written(capture):

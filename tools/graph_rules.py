@@ -1,7 +1,7 @@
-"""Texts of graphs by their rules, in Python's standard library alone: the stages that a text gives chains of a policy, or its first fault, and
+"""The rules of texts of graphs, in Python's standard library alone: the stages that a text gives the chains of a policy, or its first fault, and
 what `nfp plan --graph` must print.
 
-It is a second account of what the program is proved to do, and shares nothing with it. docs/GRAPHS.md says the same in words.
+This is a second account of what the program is proved to do, and shares nothing with it. docs/GRAPHS.md says the same in words.
 """
 
 import itertools
@@ -14,7 +14,7 @@ class Refused(Exception):
     """A text of graphs is refused with this line, without the `graph: ` before it."""
 
 
-# The forms of the lines behind the first, by their first words.
+# The forms of the lines after the first, by their first words.
 FORMS = {
     'chain': lambda words: len(words) == 1 and is_name(words[0]),
     'stage': lambda words: not words,
@@ -23,18 +23,18 @@ FORMS = {
 
 
 def form_of(line):
-    """The first word of a line that has a form, or None."""
+    """The first word of a line, or None if the line has no such form."""
     lead, *words = line.words
     return lead if lead in FORMS and FORMS[lead](words) else None
 
 
 def has_branch(later):
-    """Whether a branch comes in these lines before the next stage and the next chain."""
+    """Whether these lines have a branch before the next stage and the next chain."""
     return next(filter(None, map(form_of, later)), None) == 'branch'
 
 
 def read_lines(lines, chains):
-    """The stages of the chains that are listed, by their names, or the fault of the first line that has one."""
+    """The stages of the listed chains, by the names of these. Raises the fault of the first line that has one."""
     listed, here = {}, None
     for place, line in enumerate(lines):
         form, words = form_of(line), line.words[1:]
@@ -56,7 +56,7 @@ def line_fault(line, what):
 
 
 def chain_line(line, listed, chains):
-    """A chain that is listed has no stage yet."""
+    """The stages of a chain that begins here: none yet."""
     name = line.words[1]
     if name not in chains:
         raise line_fault(line, 'unknown name')
@@ -68,7 +68,7 @@ def chain_line(line, listed, chains):
 
 
 def branch_line(line, stood, kinds):
-    """A branch is of functions of its chain, each of which stands once."""
+    """Checks a branch: it names functions of its chain, each of them once in the text."""
     names = line.words[1:]
     if not set(names) <= set(kinds):
         raise line_fault(line, 'unknown name')
@@ -77,7 +77,7 @@ def branch_line(line, stood, kinds):
 
 
 def check_stages(order, kinds, stages):
-    """Raises the first fault of the stages of a chain that is listed."""
+    """Raises the first fault of the stages of a listed chain."""
     places = {name: (s, b, at) for s, stage in enumerate(stages) for b, branch in enumerate(stage) for at, name in enumerate(branch)}
     for name in order:
         if name not in places:
@@ -93,7 +93,7 @@ def check_stages(order, kinds, stages):
 
 
 def read(text, checked):
-    """The stages that a text gives chains of a policy, which has no fault and these orders, or the text's first fault."""
+    """The stages that a text gives the chains of a policy without fault, whose orders are `checked`. Raises the first fault of the text."""
     if len(text) > policy_rules.LONGEST:
         raise Refused('too long')
     try:

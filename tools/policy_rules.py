@@ -1,7 +1,7 @@
-"""The policy language by its rules, in Python's standard library alone: what `nfp plan` must print for a text.
+"""The rules of the policy language, in Python's standard library alone: what `nfp plan` must print for a text.
 
-It is a second account of what the program is proved to do, and shares nothing with it. docs/POLICY.md says the same
-in words.
+This is a second account of what the program is proved to do, and shares nothing with it. docs/POLICY.md, docs/PLANS.md
+and docs/FAULTS.md say the same in words.
 """
 
 import ipaddress
@@ -10,7 +10,7 @@ import typing
 
 LONGEST, CHAINS, FUNCTIONS, RULES = 1_048_576, 16, 64, 256
 
-# The ten fields in their order, by the words that name them.
+# The ten fields in their order, by their words.
 FIELDS = ['link-dst', 'link-src', 'tag', 'tos', 'ttl', 'src', 'dst', 'sport', 'dport', 'payload']
 
 # What each kind reads, what it writes, and what else it does.
@@ -61,7 +61,7 @@ class Line(typing.NamedTuple):
     columns: list
 
     def misfit(self, place):
-        """The fault of a word that does not fit, or, where it is missing, one past the last word."""
+        """The fault of a word that does not fit. If the word is missing, its column is one past the last word."""
         column = self.columns[place] if place < len(self.words) else self.columns[-1] + len(self.words[-1].encode())
         return Refused(f'line {self.number} column {column}: syntax')
 
@@ -77,7 +77,7 @@ def lines_of(text):
             yield Line(number, [word[0].decode() for word in found], [word.start() + 1 for word in found])
 
 
-# Values: each raises ValueError where the word is not spelled so.
+# Values: each raises ValueError if the word does not have its form.
 
 
 def numeral(word, greatest, digits=20):
@@ -99,7 +99,7 @@ def prefix(word):
 
 
 def groups(text):
-    """Groups of an IPv6 address, which colons part; there may be none."""
+    """The groups of an IPv6 address, separated by colons; there may be none."""
     parts = text.split(':') if text else []
     if not all(re.fullmatch('[0-9a-fA-F]{1,4}', part) for part in parts):
         raise ValueError(text)
@@ -107,7 +107,7 @@ def groups(text):
 
 
 def address6(word):
-    """Eight groups, of which one run of zeros may be written as two colons."""
+    """Eight groups; two colons may replace one run of zeros."""
     front, gap, back = word.partition('::')
     left, right = groups(front), groups(back)
     zeros = 8 - len(left) - len(right)
@@ -122,7 +122,7 @@ def prefix6(word):
 
 
 def either(four, six):
-    """A value of IPv4 or one of IPv6, of which no word is both."""
+    """A reader of a value of IPv4 or IPv6; no word is both."""
     return lambda word: six(word) if ':' in word else four(word)
 
 
@@ -148,7 +148,7 @@ CLAUSES = {'src': any_prefix, 'dst': any_prefix, 'sport': port_range, 'dport': p
 
 
 def read_clauses(words, place):
-    """The clauses that stand in the words from this place on, by their leading words."""
+    """The clauses in the words from this place on, by their first words."""
     clauses = {}
     while place < len(words):
         lead = words[place]
@@ -249,7 +249,7 @@ def read_line(chains, line):
 
 
 def read_text(text):
-    """The chains of a text, or its first fault."""
+    """The chains of a text. Raises its first fault."""
     if len(text) > LONGEST:
         raise Refused('too long')
     try:
@@ -275,7 +275,7 @@ def verdict(word):
 
 
 def public_ports(word):
-    """Two ports with a dash between them, from 1 on."""
+    """Two ports from 1 on, with a dash between them."""
     low, high = port_range(word)
     if '-' not in word or low == 0:
         raise ValueError(word)
@@ -283,7 +283,7 @@ def public_ports(word):
 
 
 def amount(word):
-    """A number that isn't 0, of 32 bits."""
+    """A number of 32 bits that isn't 0."""
     number = numeral(word, 4294967295)
     if number == 0:
         raise ValueError(word)
@@ -321,11 +321,11 @@ def hex_pattern(word):
     return pattern(bytes.fromhex(word))
 
 
-# How the words behind the first of a line are read. Each raises ValueError or Misfit where they aren't such.
+# Readers of the words after the first ones of a line. Each raises ValueError or Misfit if they don't have its form.
 
 
 def one(read):
-    """One word is due, which is read so."""
+    """A reader of exactly one word."""
 
     def value(words):
         if len(words) != 1:
@@ -336,7 +336,7 @@ def one(read):
 
 
 def with_clauses(*leads):
-    """Clauses are due that begin with these words, none or more."""
+    """A reader of any number of clauses that begin with these words."""
 
     def value(words):
         clauses = read_clauses(words, 0)
@@ -365,7 +365,7 @@ def pushed_tag(words):
     return numeral(words[0], 4095), numeral(words[2], 7), with_clauses('src')(words[3:])
 
 
-# The lines of each kind, by the words with which they begin, with how the words behind these are read.
+# The lines of each kind, by the words with which they begin, with the readers of the words after these.
 FIREWALL_CLAUSES = with_clauses(*CLAUSES)
 PATTERNS = {('rule', 'text'): one(text_pattern), ('rule', 'hex'): one(hex_pattern)}
 LINES = {
@@ -385,12 +385,12 @@ LINES = {
     'decap': {('set', 'exit'): one(address)},
 }
 
-# The kinds each of whose lines has to stand in a declaration once or more.
+# The kinds whose declaration needs each of its lines at least once.
 COMPLETE = {'nat', 'balancer', 'limiter', 'encap', 'decap'}
 
 
 def backends_apart(said):
-    """The lines of the backends that aren't of the version of the virtual address, which is that of its first line that can be read."""
+    """The lines of backends whose IP version is not that of the virtual address, which is the first `set vip` that can be read."""
     virtual = next((setting.value for setting in said if setting.lead == ('set', 'vip')), None)
     for number, lead, value in said:
         if lead == ('rule', 'backend') and virtual is not None and value.version != virtual.version:
@@ -400,13 +400,13 @@ def backends_apart(said):
 class Setting(typing.NamedTuple):
     """What a line of a function says."""
 
-    number: int  # of the line
+    number: int  # the number of the line
     lead: tuple  # the words with which it begins
     value: typing.Any
 
 
 def read_settings(function):
-    """What the lines of a function say, or the least line that it refuses."""
+    """What the lines of a function say. Raises the fault of the first line that it refuses."""
     forms = LINES[function.kind]
     said, refused, keys = [], [], set()
     for number, words in function.settings:
@@ -436,7 +436,7 @@ def actions(kind):
 
 
 def forbidden(first, second):
-    """The first two actions that forbid the second kind to stand beside the first, which is before it, or None."""
+    """The first two actions for which the second kind may not run beside the first, which precedes it; None if it may."""
     for a in actions(first):
         for b in actions(second):
             if 'whole' in (a, b) or (a, b) == ('drop', 'state') or a.startswith('write ') and b == a.replace('write', 'read'):
@@ -456,7 +456,7 @@ def edges_of(chain):
 
 
 def order_of(chain):
-    """The names in the order of the chain, or its cycle, or its first forbidden Priority."""
+    """The names in the order of the chain. Raises its cycle, or its first forbidden priority."""
     edges = set(edges_of(chain))
     waiting, order = [function.name for function in chain.functions], []
     while waiting:
@@ -476,7 +476,7 @@ def order_of(chain):
 
 
 def cycle_of(edges, waiting):
-    """From the earliest that waits back to its earliest predecessor, and so on, until a function comes again."""
+    """From the first waiting function back to its first waiting predecessor, and so on, until a function occurs again."""
     trail = [waiting[0]]
     while True:
         before = next(name for name in waiting if (name, trail[-1]) in edges)
@@ -488,7 +488,7 @@ def cycle_of(edges, waiting):
 
 
 def check(text):
-    """The chains of a text, each with its order, or its first fault."""
+    """The chains of a text, each with its order. Raises its first fault."""
     chains = read_text(text)
     for chain in chains:
         for function in chain.functions:
@@ -496,16 +496,16 @@ def check(text):
     return [(chain, order_of(chain)) for chain in chains]
 
 
-# The plan of a chain: stages of branches, which are lists of places in the chain, and the parts of each stage.
+# The plan of a chain: stages of branches, each a list of places in the chain, and the parts of each stage.
 
 
 def is_whole(kind):
-    """Whether functions of this kind rewrite a packet whole, so that none stands beside them."""
+    """Whether functions of this kind rewrite whole packets, so that no function runs beside them."""
     return 'whole' in actions(kind)
 
 
 def pieces_of(kinds):
-    """The places of a chain of these kinds, cut before and behind each one that rewrites packets whole."""
+    """The places of a chain of these kinds, cut before and after each one that rewrites whole packets."""
     pieces = []
     for place, kind in enumerate(kinds):
         if not pieces or is_whole(kind) or is_whole(kinds[place - 1]):
@@ -520,7 +520,7 @@ def stages_of(kinds):
 
 
 def stages_in(kinds, places):
-    """The stages of a piece. The functions are taken one after another, each into the last stage if it can be."""
+    """The stages of a piece. The functions are taken one after another, each into the last stage if that is allowed."""
     stages = []
     for place in places:
         stage = stages[-1] if stages else []
@@ -535,7 +535,7 @@ def stages_in(kinds, places):
 
 
 def part_of(field, stage):
-    """How this field goes to the branches of a stage, each a list of kinds, or None where none of them touches it."""
+    """How this field goes to the branches of a stage, each a list of kinds; None if no branch touches it."""
     reading, writing = ([any(field in KINDS[kind][way].split() for kind in branch) for branch in stage] for way in (0, 1))
     if not any(reading + writing):
         return None
@@ -544,7 +544,7 @@ def part_of(field, stage):
     touching = [reads or writes for reads, writes in zip(reading, writing)]
     if touching.count(True) == 1:
         return f'moved {touching.index(True) + 1}'
-    # Branches that only read take the original. Without them the first that writes takes it, and needs no copy.
+    # Branches that only read share the original. If there are none, the first branch that writes takes it and needs no copy.
     return f'copied {writing.count(True) - (touching == writing)}'
 
 
@@ -559,7 +559,7 @@ def compiled(chain, order):
 
 
 def plan_lines(chain, order, stages=None):
-    """The plan of a chain, whose stages are the compiled ones where none are given."""
+    """The plan of a chain. Its stages are the compiled ones if none are given."""
     kinds = kinds_in(chain)
     yield f'chain {chain.name}'
     yield ' '.join(['order', *order])

@@ -1,12 +1,12 @@
 /* Refuses one call for memory of a process, for tools/refuse-allocations.
  *
- * Preloaded, it stands before the calls of the C library that give memory. Those that the program makes itself are counted apart
- * from those that the library makes for it (threads, streams), by the place to which a call returns. What is asked before
- * this file is started, when the loader is at work, goes through and isn't counted.
+ * This file is preloaded and replaces the calls of the C library that allocate memory. Calls that the program makes itself are counted apart
+ * from those that the library makes for it (threads, streams); the address to which a call returns shows which it is. Calls before
+ * this file is initialized, while the loader is at work, succeed and aren't counted.
  *
- * NFP_REFUSED names a file of five numbers of eight bytes, which is shared with who started the process: whose calls are refused
- * (0 the program's, 1 the library's), from which on (from 1; 0 none), whether all later ones are refused too, and how many calls the program
- * made, and the library.
+ * NFP_REFUSED names a file of five numbers of eight bytes, which is shared with the process that started this one: whose calls are refused
+ * (0 the program's, 1 the library's); which call (counted from 1; 0 for none); whether all later ones are refused too; and the numbers of
+ * calls that the program and the library made.
  */
 #define _GNU_SOURCE
 #include <errno.h>
@@ -32,7 +32,7 @@ struct shared {
 static struct shared *shared;
 static uintptr_t program_begin, program_end;
 
-/* The first object that is told is the program. */
+/* The first object that is reported is the program. */
 static int find_program(struct dl_phdr_info *info, size_t size, void *data) {
     (void)size, (void)data;
     program_begin = UINTPTR_MAX;

@@ -1,7 +1,7 @@
 """What tools/throw-mutations throws in the pcapng format: captures that are made, and mutations of their blocks.
 
-A mutation takes whatever bytes there are, of which at least one block is whole by its own lengths. All is drawn from a generator of random
-numbers, so that a number makes the same case again.
+A mutation takes any bytes in which at least one block is whole by its own lengths. All is drawn from a generator of random numbers, so that a
+number gives the same case again.
 """
 
 import struct
@@ -55,7 +55,7 @@ def some_resolution(rng):
 
 
 def some_options(rng):
-    """Of a packet: flags, a hash, an identity, one that nobody knows, and one that ends the list before its end."""
+    """Options of a packet: flags, a hash, an identity and unknown codes."""
     known = [(2, bytes(4)), (3, b'\x02abcd'), (5, rng.randbytes(8)), (0x8001, b''), (7, b'x' * rng.randrange(9)), (2988, rng.randbytes(5))]
     return [rng.choice(known) for _ in range(rng.choice([0, 0, 0, 1, 2]))]
 
@@ -67,7 +67,7 @@ def some_interface(rng):
 
 
 def some_ticks(rng, resolution):
-    """A moment near others, or one at the ends of what there is."""
+    """A time near the others, or one at the ends of the range."""
     near = blocks.ticks_at(rng.randrange(10**6), 6 if resolution is None else resolution) % 2**64
     return near if rng.randrange(10) else rng.choice([0, 1, 2**32 - 1, 2**32, 2**63, 2**64 - 1, rng.randrange(2**64)])
 
@@ -80,7 +80,7 @@ def some_packet(rng, made_frame, interfaces):
 
 
 def some_other(rng):
-    """A block that is carried unread."""
+    """A block that is copied unread."""
     return rng.choice(
         [
             blocks.Names({'10.0.0.1': 'one.example', '2001:db8::1': 'two.example'}),
@@ -100,7 +100,7 @@ def made_section(rng, made_frame):
 
 
 def made_capture(rng, made_frame):
-    """Of one to three sections, now and then with an interface that is refused."""
+    """A capture of one to three sections, sometimes with an interface that is refused."""
     return blocks.written(blocks.Capture([part for _ in range(rng.choice([1, 1, 1, 2, 3])) for part in made_section(rng, made_frame)]))
 
 
@@ -119,7 +119,7 @@ FIELDS = {
 
 
 def block_field(rng, data):
-    """A field of a block: its type, one of its lengths, or one of those that its type has."""
+    """Changes a field of a block: its type, one of its lengths, or a field of its type."""
     unit = rng.choice(units_of(data))
     last = unit.end - unit.begin - 4
     place, size = rng.choice([(0, 4), (4, 4), (last, 4), *FIELDS.get(unit.kind, [(8, 4)]) * 2])
@@ -130,20 +130,20 @@ def block_field(rng, data):
 
 
 def both_lengths(rng, data):
-    """Both lengths of a block are others, and alike."""
+    """Changes both lengths of a block to the same value."""
     unit = rng.choice(units_of(data))
     length = rng.choice([*LENGTHS, unit.end - unit.begin + rng.choice([-8, -4, 4, 8]), len(data) - unit.begin])
     return put_in(put_in(data, unit.begin + 4, 4, length, unit.order), unit.end - 4, 4, length, unit.order)
 
 
 def rebuilt(data, unit, body):
-    """The capture with another body of a block, whose lengths are those of the body."""
+    """The capture with another body of a block, and the right lengths for it."""
     length = struct.pack(unit.order + 'I', (12 + len(body)) % 2**32)
     return data[: unit.begin + 4] + length + body + length + data[unit.end :]
 
 
 def resize_body(rng, data):
-    """A body loses its end, or gains one."""
+    """Cuts the end of a body, or appends bytes to it."""
     unit = rng.choice(units_of(data))
     body = data[unit.begin + 8 : unit.end - 4]
     cut = body[: rng.choice([rng.randrange(len(body) + 1), rng.randrange(len(body) + 1) // 4 * 4])]
@@ -151,7 +151,7 @@ def resize_body(rng, data):
 
 
 def options_place(data, unit):
-    """Where the options of a block begin in it."""
+    """The place in a block at which its options begin."""
     if unit.kind == blocks.PACKET and unit.end - unit.begin >= 32:
         (captured,) = struct.unpack_from(unit.order + 'I', data, unit.begin + 20)
         return 28 + captured + -captured % 4
@@ -159,7 +159,7 @@ def options_place(data, unit):
 
 
 def option_field(rng, data):
-    """The code or the length of an option, or what stands in their place."""
+    """Changes the code or the length of an option, or the bytes in their place."""
     unit = rng.choice(units_of(data))
     begin, end = options_place(data, unit), unit.end - unit.begin - 4
     if begin + 4 > end:
@@ -171,7 +171,7 @@ def option_field(rng, data):
 
 
 def put_resolution(rng, data):
-    """An interface tells its resolution once more, before or behind what it tells already, in one byte or in others."""
+    """Adds one more resolution to an interface, before or after its options, of one byte or of more."""
     interfaces = [unit for unit in units_of(data) if unit.kind == blocks.INTERFACE and unit.end - unit.begin >= 20]
     if not interfaces:
         return data
@@ -183,7 +183,7 @@ def put_resolution(rng, data):
 
 
 def some_block(rng, order):
-    """One that is refused, one that is carried, one whose lengths are at the limit, or a section in either order."""
+    """A block: one that is refused, one of any type with a short body, one that is copied unread, an interface, or a section in either order."""
     frame = rng.randbytes(rng.choice([0, 14, 60]))
     simple = struct.pack(order + 'I', len(frame)) + blocks.padded(frame)
     old = struct.pack(order + 'HHIIII', 0, 0, 0, 0, len(frame), len(frame)) + blocks.padded(frame)
@@ -208,7 +208,7 @@ def insert_block(rng, data):
 
 
 def with_units(change):
-    """Its whole blocks, of which the first moves seldom, as a list that is changed."""
+    """A mutation that changes the list of whole blocks, rarely including the first."""
 
     def mutated(rng, data):
         units = units_of(data)
@@ -222,7 +222,7 @@ def with_units(change):
 
 
 def turn_order(rng, data):
-    """A section header shows the other order, or the whole header has it, and what follows hasn't."""
+    """The magic number of a section header, or the whole header, gets the other byte order; what follows keeps its own."""
     unit = rng.choice([unit for unit in units_of(data) if unit.kind == blocks.SECTION])
     other = '<' if unit.order == '>' else '>'
     if rng.randrange(2):
@@ -231,12 +231,12 @@ def turn_order(rng, data):
 
 
 def join(rng, data):
-    """Once more behind itself, or without its first block, or with a cut block between."""
+    """Appends the capture to itself, with or without its first block, with or without a cut block between."""
     return data + rng.choice([b'', b'', data[:rng.randrange(13)]]) + data[rng.choice([0, 0, units_of(data)[0].end]) :]
 
 
 def long_block(rng, data):
-    """A carried block as long as one may be, or longer; or a packet as long as one may be, or longer."""
+    """Inserts a block of the greatest length or beyond it, or a packet of the greatest length or beyond it."""
     unit = rng.choice(units_of(data))
     if rng.randrange(2):
         length = rng.choice([LONGEST_BLOCK - 4, LONGEST_BLOCK, LONGEST_BLOCK + 4])
@@ -248,7 +248,7 @@ def long_block(rng, data):
 
 
 def frames_of(data):
-    """The packets whose frames are whole: the block, and where its frame begins and ends."""
+    """The packets whose frames are whole: the block, and the places where its frame begins and ends."""
     found = []
     for unit in units_of(data):
         if unit.kind == blocks.PACKET and unit.end - unit.begin >= 32:
@@ -259,7 +259,7 @@ def frames_of(data):
 
 
 def with_frame(change):
-    """Another frame in a packet, by its own lengths."""
+    """A mutation that changes the frame of a packet, with the right lengths."""
 
     def mutated(rng, data):
         found = frames_of(data)
@@ -275,7 +275,7 @@ def with_frame(change):
 
 
 def dirty_padding(rng, data):
-    """What stands between a frame and its options isn't zeros."""
+    """Makes the padding between a frame and its options other than zeros."""
     found = [(unit, begin, end) for unit, begin, end in frames_of(data) if (end - begin) % 4]
     if not found:
         return data

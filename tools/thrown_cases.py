@@ -1,7 +1,7 @@
-"""What tools/throw-mutations throws: policies and captures as others have thrown them at parsers.
+"""What tools/throw-mutations throws: mutated policies and captures.
 
-A seed is a good policy and a good capture in either format, from examples/ or made here, of every kind of function and of frame. A mutation
-changes bytes, lines, words, records, blocks (thrown_blocks.py) or fields. All is drawn from a generator of random numbers, so that a number makes the
+A seed is a good policy and a good capture in either format, from examples/ or made here, with every kind of function and of frame. A mutation
+changes bytes, lines, words, records, blocks (thrown_blocks.py) or fields. All is drawn from a generator of random numbers, so that a number gives the
 same case again.
 """
 
@@ -18,7 +18,7 @@ import thrown_blocks
 
 EXAMPLES = pathlib.Path(__file__).resolve().parent.parent / 'examples'
 
-# Numbers at the ends of their ranges, and one past them, as they stand in policies and in captures.
+# Numbers at the ends of their ranges, and one past them, for policies and captures.
 BITS = (4, 5, 8, 12, 16, 31, 32, 63, 64)
 ENDS = sorted({0, 1, 2, 32, 33, 40000, *(2**bits + by for bits in BITS for by in (-1, 0, 1))})
 SPELLED = [str(end) for end in ENDS] + ['007', '0' * 19 + '1', '0' * 20 + '1', '9' * 20, '1' * 21, '-1', '+1', '1e3', '0x10', '']
@@ -32,7 +32,7 @@ class Seed(typing.NamedTuple):
     capture: bytes
 
 
-# Policies that are made: chains of functions with settings that their kinds take.
+# Policies that are made: chains of functions with settings that their kinds accept.
 
 
 def some_address(rng):
@@ -43,7 +43,7 @@ def some_address6(rng):
     return rng.choice(['2001:db8::1', '2001:db8::2', '2001:DB8::9', '::', '::1', 'fe80::1', '1:2:3:4:5:6:7:8', 'ffff:ffff:ffff:ffff:ffff:ffff:ffff:ffff'])
 
 
-# What comes in the place of an address or a prefix: spellings at the ends of what there is, and past them.
+# What replaces an address or a prefix: forms at the ends of the ranges, and past them.
 SPELLED_IP = (
     '10.0.0.1 010.000.000.001 10.0.0.256 10.0.0 10.0.0.0.1 0010.0.0.1 10.0.0.0/32 10.0.0.0/33 10.0.0.0/032 10.0.0.0/ '
     ':: ::/0 ::/00 ::/000 ::/0000 ::/128 ::/129 ::/-1 ::/ ::1 1:: 2001:DB8::ABCD 2001:db8::/32 0:0:0:0:0:0:0:0 0000:0000:0000:0000:0000:0000:0000:0000 '
@@ -57,7 +57,7 @@ def some_prefix4(rng):
 
 
 def some_prefix(rng):
-    """Of either version of IP."""
+    """A prefix of either version of IP."""
     return rng.choice([some_prefix4(rng), some_address6(rng) + rng.choice(['', '/0', '/1', '/32', '/64', '/127', '/128'])])
 
 
@@ -88,7 +88,7 @@ def some_link(rng):
 
 
 def some_exit(rng):
-    """Mostly of one tunnel, so that packets come to its end."""
+    """The exit of a tunnel, mostly the same, so that packets come to its end."""
     return some_address(rng) if rng.randrange(4) == 0 else '203.0.113.66'
 
 
@@ -98,7 +98,7 @@ def nat_lines(rng):
 
 
 def balancer_lines(rng):
-    """Of one version of IP, but for one in ten."""
+    """A virtual address and backends, of one IP version in nine of ten cases."""
     virtual = rng.choice([some_address, some_address6])
     backend = virtual if rng.randrange(10) else some_address
     return [f'set vip {virtual(rng)}'] + [f'rule backend {backend(rng)}' for _ in range(1 + rng.randrange(3))]
@@ -140,7 +140,7 @@ def statement(rng, names):
 
 
 def made_policy(rng):
-    """Of one to three chains. Some of them have a fault by their statements, which is one more thing that is thrown."""
+    """A policy of up to three chains. The statements of some are faulty, which is tested too."""
     lines = ['nfp 1']
     for chain in range(rng.choice([0, 1, 1, 1, 2, 3])):
         clauses = some_clauses(rng) if chain < 2 else ''
@@ -154,19 +154,19 @@ def made_policy(rng):
     return '\n'.join(lines).encode() + b'\n'
 
 
-# Captures that are made, of few frames of every kind.
+# Captures that are made, with few frames of every kind.
 
 
-# What an IPv4 header seldom has: options, a fragment, a last hop, a mark, a version or length of its own.
+# What an IPv4 header rarely has: options, a fragment, a last hop, a type of service, another version or length.
 UNUSUAL = [{'options': b'\x01' * 8}, {'offset': 8}, {'more': True}, {'ttl': 1}, {'ttl': 0}, {'tos': 255}, {'lead': 0x4F}, {'lead': 0x44}]
 
 
-# What an IPv6 header seldom has: a last hop, a traffic class, a version of its own, and a payload length that isn't that of the payload: none, one
-# that ends in the header of UDP or TCP, the greatest of a packet of 65,535 bytes, one more, and the greatest that there is.
+# What an IPv6 header rarely has: a last hop, a traffic class, another version, and a payload length other than that of the payload: 0, one
+# that ends in the header of UDP or TCP, the greatest of a packet of 65,535 bytes, one more, and the greatest of the field.
 UNUSUAL6 = [{'ttl': 1}, {'ttl': 0}, {'traffic_class': 255}, {'lead': 0x6F}, {'lead': 0x4F}, {'lead': 0x70}]
 UNUSUAL6 += [{'payload_length': length} for length in (0, 1, 4, 7, 8, 9, 19, 20, 65495, 65496, 65535)]
 
-# What may stand between an IPv6 header and that of TCP or UDP, and what a next header names that is neither: none at all (59), ESP, SCTP.
+# What may be between an IPv6 header and that of TCP or UDP, and other values of the next header: none at all (59), ESP, SCTP.
 EXTENSIONS = [frames.HOP_BY_HOP, frames.ROUTING, frames.FRAGMENT, frames.DESTINATION]
 OTHER_NEXT = [59, 50, 132, 1, 4, 41]
 
@@ -187,13 +187,13 @@ def some_content(rng, is_ipv4):
 
 
 def with_sum(rng, frame, at):
-    """The same frame with another checksum: none, the one that stands for 0, or a wrong one."""
+    """The same frame with another checksum: none, 0xffff, or a wrong one."""
     (there,) = struct.unpack_from('>H', frame, at)
     return frame[:at] + struct.pack('>H', rng.choice([0, 0xFFFF, there ^ 1, rng.randrange(65536)])) + frame[at + 2 :]
 
 
 def with_tunnel(rng, packet, tags):
-    """A packet of IPv4, or something else, in one that goes to the exit of a tunnel, or somewhere else."""
+    """A frame with an IPv4 packet, or something else, inside a packet to the exit of a tunnel, or to another address."""
     inside = rng.choice([packet, packet, packet, b'', b'\x60' + packet[1:], b'\x4f'])
     content = rng.choice([4, 4, 4, 4, 41, 17]), lambda *_: inside
     return frames.plain(some_address(rng), content, to=some_exit(rng), tags=tags, **rng.choice([{}, {}, {}, {}, *UNUSUAL]))
@@ -216,7 +216,7 @@ def made_frame(rng):
 
 
 def made_capture(rng, most=8):
-    """In either format, in the classic one of so many records at most."""
+    """A capture in either format; a classic one has at most `most` records."""
     return made_classic(rng, most) if rng.randrange(2) else thrown_blocks.made_capture(rng, made_frame)
 
 
@@ -227,7 +227,7 @@ def made_classic(rng, most=8):
 
 
 class Part(typing.NamedTuple):
-    """A whole part of a capture by its own lengths: of the classic format the head and records, of pcapng blocks."""
+    """A part of a capture that is whole by its own lengths: the head or a record of the classic format, or a block of pcapng."""
 
     end: int
     is_packet: bool
@@ -241,7 +241,7 @@ def parts_of(capture):
 
 
 def ends_of(capture):
-    """The places where the records of a capture end, the head being the first, or its blocks, by its own lengths."""
+    """The places at which the head and the records of a capture end, or its blocks, by its own lengths."""
     if thrown_blocks.is_blocks(capture):
         return [unit.end for unit in thrown_blocks.units_of(capture)]
     order, ends = order_of(capture), [CAPTURE_HEAD]
@@ -254,7 +254,7 @@ def ends_of(capture):
 
 
 def some_part(capture):
-    """A record of a thousand bytes, or a block of them, in the order of a capture."""
+    """A record or a block with a thousand bytes, in the byte order of a capture."""
     if thrown_blocks.is_blocks(capture):
         return blocks.block(thrown_blocks.units_of(capture)[0].order, blocks.CUSTOM, bytes(1000))
     return struct.pack(order_of(capture) + 'IIII', 0, 0, 1000, 1000) + bytes(1000)
@@ -265,7 +265,7 @@ def order_of(capture):
 
 
 def seeds(rng, count):
-    """Those of the examples, with the front part of a long capture too, and as many that are made."""
+    """The seeds: those of the examples, also with a front part of their captures, and `count` that are made."""
     examples = [path.parent for path in sorted(EXAMPLES.glob('*/policy')) if make_examples.capture_in(path.parent)]
     found = [Seed((each / 'policy').read_bytes(), make_examples.capture_in(each).read_bytes()) for each in examples]
     policies = [path.read_bytes() for path in sorted(EXAMPLES.glob('**/policy'))]
@@ -276,11 +276,11 @@ def seeds(rng, count):
     return found + [Seed(made_policy(rng), made_capture(rng)) for _ in range(count)]
 
 
-# Mutations of bytes, of whatever they are.
+# Mutations of any bytes.
 
 
 def place_in(rng, data):
-    """A place, more often near one of the ends than between them."""
+    """A place, more often near one of the ends than in the middle."""
     return rng.choice([0, len(data), rng.randrange(len(data) + 1), rng.randrange(len(data) + 1), rng.randrange(min(len(data), 40) + 1)])
 
 
@@ -376,7 +376,7 @@ def repeat(rng, parts):
 
 
 def repeat_often(rng, parts):
-    """Past the most chains, functions and rules of a function."""
+    """Repeats a part often enough to exceed the limits of chains, functions and rules."""
     place = rng.randrange(len(parts))
     parts[place:place] = [parts[place]] * rng.choice([2, 15, 16, 17, 64, 65, 256, 257])
 
@@ -402,7 +402,7 @@ def put_number(rng, data):
 
 
 def put_address(rng, data):
-    """What stands in the place of an address or a prefix of either version of IP."""
+    """Replaces an address or a prefix of either version of IP."""
     addresses = list(re.finditer(rb'(?<=[ \t])[0-9a-fA-F]*[.:][0-9a-fA-F.:]*(/[0-9]*)?', data))
     if not addresses:
         return data
@@ -411,7 +411,7 @@ def put_address(rng, data):
 
 
 def rename(rng, data):
-    """A name becomes another's, or one at the end of what a name may be."""
+    """Replaces a name by another one of the text, or by one at the limits of what a name may be."""
     names = re.findall(rb'(?:chain|fn) ([a-z][a-z0-9_-]*)', data)
     if not names:
         return data
@@ -436,7 +436,7 @@ def append_statements(rng, data):
 
 
 def lengthen(rng, data):
-    """A comment up to the most bytes, or past them."""
+    """Appends a comment up to the greatest length, or past it."""
     size = policy_rules.LONGEST + rng.choice([-1, 0, 1, 70000]) - len(data)
     return data + b'#' + rng.choice([b'.', 'é'.encode(), b'\n', b' a'])[:2] * (size // 2) + b'.' * (size % 2)
 
@@ -451,7 +451,7 @@ OF_LIMITS = [append_chains, append_functions, other_ends, lengthen]
 
 
 def mutated_policy(rng, data):
-    """The text after one to four mutations; of hundreds the longest that there are."""
+    """The text after one to four mutations; a few are made as long as a text may be, or longer."""
     for _ in range(rng.choice([1, 1, 1, 2, 4])):
         pool = rng.choice([OF_BYTES, OF_LINES, OF_LINES, OF_WORDS, OF_WORDS, OF_WORDS, OF_LIMITS[: 4 if rng.randrange(40) == 0 else 3]])
         data = rng.choice(pool)(rng, data or b'\n')
@@ -479,9 +479,10 @@ def record_field(rng, data):
     return put_in(data, begin + field, 4, value, order_of(data)) if begin + RECORD_HEAD <= len(data) else data
 
 
-# Fields of a frame by their places in one without tags and options, and their sizes: the type, and the version of the header behind it; of
-# IPv4 marks, length, fragment, time to live, protocol, checksum, addresses, ports, length of UDP or a part of TCP's number, offset of TCP's data,
-# and checksums; of IPv6 the length, next header, hop limit, the last of both addresses, ports, UDP's checksum, TCP's offset and checksum.
+# Fields of a frame, by their places in a frame without tags and options, and their sizes. Of both versions: the type, and the version of the
+# header after it. Of IPv4: type of service, length, fragment, time to live, protocol, checksum, addresses, ports, length of UDP or a part of TCP's
+# sequence number, TCP's data offset, and checksums. Of IPv6: length, next header, hop limit, the last part of both addresses, ports, UDP's checksum,
+# TCP's data offset and checksum.
 OF_BOTH = [(12, 2), (14, 1)]
 OF_IPV4 = [(15, 1), (16, 2), (20, 2), (22, 1), (23, 1), (24, 2), (26, 4), (30, 4), (34, 2), (36, 2), (38, 2), (40, 2), (46, 1), (50, 2)]
 OF_IPV6 = [(18, 2), (18, 2), (20, 1), (20, 1), (21, 1), (36, 2), (52, 2), (54, 2), (56, 2), (60, 2), (66, 1), (70, 2)]
@@ -508,7 +509,7 @@ def with_records(change):
 
 
 def resize_frame(rng, data):
-    """A frame loses its end or gains one, and its record says so."""
+    """Cuts the end of a frame or appends bytes to it, and corrects the length in its record."""
     ends = ends_of(data)
     if len(ends) < 2:
         return data
@@ -534,7 +535,7 @@ def push_tag(rng, data):
 
 
 def long_frame(rng, data):
-    """A record as long as a frame may be, or longer, at the end or before it."""
+    """Inserts a record whose frame has the greatest length, or is longer, at the end or before it."""
     size = rng.choice([65535, 262143, 262144, 262145])
     record = struct.pack(order_of(data) + 'IIII', 1, 1, size, size) + frames.plain('10.0.0.9', frames.udp(1000, 53, b'a' * 20)).ljust(size, b'a')
     place = rng.choice(ends_of(data))
@@ -550,7 +551,7 @@ OF_FIELDS = [head_field, record_field, record_field, frame_field, frame_field, f
 
 
 def retag(rng, frame):
-    """A frame with tags in front of what it has."""
+    """A frame with tags before its type."""
     return frame[:12] + some_tags(rng) + frame[12:]
 
 
@@ -569,16 +570,16 @@ OF_NG_FRAMES = [thrown_blocks.with_frame(change) for change in (retag, change_fi
 
 
 def pools_of(data):
-    """What may be done with bytes that are these."""
+    """The mutations that are possible for these bytes."""
     if thrown_blocks.is_blocks(data):
         has_blocks = bool(thrown_blocks.units_of(data))
         return [OF_BYTES, OF_UNITS, OF_UNITS, thrown_blocks.OF_FIELDS, thrown_blocks.OF_FIELDS, OF_NG_FRAMES] if has_blocks else [OF_BYTES]
-    # What mutations of records take for granted is a head.
+    # Mutations of records need a head.
     return [OF_BYTES, OF_BYTES, OF_RECORDS, OF_FIELDS, OF_FIELDS] if len(data) >= CAPTURE_HEAD else [[insert, double]]
 
 
 def mutated_capture(rng, data):
-    """The file after one to four mutations; of hundreds one has a frame or a block as long as they may be."""
+    """The file after one to four mutations; one of three hundred first gets a frame or a block of the greatest length, or a longer one."""
     if rng.randrange(300) == 0:
         data = (thrown_blocks.long_block if thrown_blocks.is_blocks(data) else long_frame)(rng, data)
     for _ in range(rng.choice([1, 1, 1, 2, 4])):

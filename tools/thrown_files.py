@@ -1,7 +1,7 @@
-"""Files that tools/throw-mutations has troubled: disks that are full, pipes that close, files that vanish, grow or are none.
+"""Trouble with files, for tools/throw-mutations: disks that are full, pipes that close, files that vanish, grow or are no files.
 
-Each trouble is a function of a bench, which has the program, a folder and a seed, and answers what was wrong. All of them
-take a seed whose policy and head of a capture are good, so that Out and Report are due.
+Each kind of trouble is a function of a bench, which has the program, a folder and a seed. It returns its findings. All of them
+take a seed whose policy and capture head are good, so that OUT and REPORT are due.
 """
 
 import itertools
@@ -33,7 +33,7 @@ class Bench(typing.NamedTuple):
     options: list
     env: dict
     limit: float
-    came: list  # what came of each run on it
+    came: list  # the results of its runs
 
     def run(self, actions=(), prints=True, **names):
         self.folder.put(*self.seed)
@@ -43,7 +43,7 @@ class Bench(typing.NamedTuple):
         return came
 
     def kept(self, came):
-        """What came, kept to be looked at. What the loader can't start is no run."""
+        """Keeps a result, for later checks. A program that the loader can't start is no run."""
         if came.status != 127:
             self.came.append(came)
         return came
@@ -60,8 +60,8 @@ class Bench(typing.NamedTuple):
 
 
 def long_capture(bench, bytes_at_least=140_000):
-    """The bench with its records again and again, so that pieces of 64 KiB go to the system before the end. Threads for each of
-    thousands of small bursts would take seconds, so it has no options."""
+    """The bench with its records repeated, so that pieces of 64 KiB are written before the end. It has no options, because
+    threads for each of thousands of small bursts would take seconds."""
     capture = bench.seed.capture
     ends = thrown_cases.ends_of(capture)
     records = capture[ends[0] : ends[-1]] or thrown_cases.some_part(capture)
@@ -69,9 +69,9 @@ def long_capture(bench, bytes_at_least=140_000):
 
 
 def faulty(bench, came, status, note):
-    """One fault is due, and front parts of what is due."""
+    """Findings if the run doesn't end with this fault, or a file isn't a front part of what is due."""
     if (came.status, came.note) != (status, note):
-        yield f'ended with status {came.status} and printed {came.note!r}, and not with {status} and {note!r}'
+        yield f'ended with status {came.status} and printed {came.note!r}; due are status {status} and {note!r}'
     yield from thrown_runs.no_fronts(came, bench.due)
 
 
@@ -85,7 +85,7 @@ def absent(came, *slots):
 
 
 def full_disk(bench):
-    """A limit of the bytes of a file, past which a write is refused where its signal is ignored."""
+    """A limit on the bytes of a file. A write past it is refused, because its signal is ignored."""
     if bench.rng.randrange(8) == 0:
         bench = long_capture(bench)
     longest = max(len(bench.due.out), len(bench.due.report))
@@ -96,12 +96,12 @@ def full_disk(bench):
         yield from thrown_runs.unlike(came, bench.due)
         return
     if came.status != 5 or came.note not in [f'write fault: {slot}\n' for slot in over]:
-        yield f'under {limit} bytes it ended with status {came.status} and printed {came.note!r}; too long: {over}'
+        yield f'with a limit of {limit} bytes it ended with status {came.status} and printed {came.note!r}; too long: {over}'
     yield from thrown_runs.no_fronts(came, bench.due)
 
 
 def confined(bench, kind, limit, **more):
-    """A run under a limit of the system. Its line comes by a pipe, which isn't limited."""
+    """A run with a limit of the system. Its line goes through a pipe, which isn't limited."""
 
     def confine():
         signal.signal(signal.SIGXFSZ, signal.SIG_IGN)
@@ -134,7 +134,7 @@ def piped(bench, words, stdin=subprocess.DEVNULL, feed=None, **more):
 
 
 def full_device(bench):
-    """A device that takes nothing in the place of Out, Report or standard output."""
+    """A device that takes nothing in place of OUT, REPORT or standard output."""
     slot = bench.rng.choice(['out', 'report', 'note'])
     if slot == 'note':
         came = bench.run([(os.POSIX_SPAWN_OPEN, 1, FULL, os.O_WRONLY, 0)], prints=False)
@@ -147,7 +147,7 @@ def full_device(bench):
 
 
 def closed_streams(bench):
-    """A run that has no standard input, output or error. No file may come into the place of one of them."""
+    """A run without standard input, output or error. No file may be opened in place of one of them."""
     closed = bench.rng.choice([[0], [1], [2], [0, 1], [1, 2], [0, 1, 2]])
     came = bench.run([(os.POSIX_SPAWN_CLOSE, number) for number in closed], prints=1 not in closed)
     due = bench.due._replace(status=bench.due.status or 5, note='') if 1 in closed else bench.due
@@ -155,7 +155,7 @@ def closed_streams(bench):
 
 
 def closed_note(bench):
-    """Standard output is a pipe from which nobody reads any more."""
+    """Standard output is a pipe whose reader has closed it."""
     reader, writer = os.pipe()
     os.close(reader)
     os.set_inheritable(writer, True)
@@ -167,7 +167,7 @@ def closed_note(bench):
 
 
 def closed_fifo(bench):
-    """Out or Report is a fifo whose reader goes away behind some bytes."""
+    """OUT or REPORT is a fifo whose reader closes it after some bytes."""
     slot = bench.rng.choice(['out', 'report'])
     bench = long_capture(bench) if bench.rng.randrange(5) == 0 else bench
     due, name = getattr(bench.due, slot), getattr(bench.folder, slot)
@@ -190,19 +190,19 @@ def closed_fifo(bench):
     os.close(reader)
     came = bench.ended(process, begun)
     if not due.startswith(taken):
-        yield f'{slot} gave {len(taken)} bytes, which are no front part of what is due'
+        yield f'{slot} gave {len(taken)} bytes, which are not a front part of what is due'
     if (came.status, came.note) not in [(5, f'write fault: {slot}\n'), (bench.due.status, bench.due.note)]:
         yield f'{slot} lost its reader: status {came.status}, printed {came.note!r}'
     yield from thrown_runs.no_fronts(came, bench.due)
 
 
 def has_ended(process):
-    """Whether a process ended, which is left for who waits for it."""
+    """Whether a process has ended. Its status stays for a later wait."""
     return os.waitid(os.P_PID, process, os.WEXITED | os.WNOHANG | os.WNOWAIT) is not None
 
 
 def in_pieces(bench):
-    """Policy or Capture comes through standard input, in pieces of any size and with rests between them, and may be cut."""
+    """POLICY or CAPTURE comes through standard input, in pieces of any size with pauses between them, and may be cut."""
     slot = bench.rng.choice(['policy', 'capture'])
     data = getattr(bench.seed, slot)
     seed = bench.seed._replace(**{slot: data[: bench.rng.choice([len(data), bench.rng.randrange(len(data) + 1)])]})
@@ -224,11 +224,11 @@ def in_pieces(bench):
     yield from thrown_runs.unlike(came, bench.due)
 
 
-# Files that aren't there, or are no files.
+# Files that are missing, or are no files.
 
 
 def vanished(bench):
-    """Capture or the folder of Out is taken away when the policy is being read."""
+    """CAPTURE or the folder of OUT is removed while the policy is being read."""
     gone = bench.rng.choice(['capture', 'folder'])
     folder = bench.folder.path / 'below'
     folder.mkdir(exist_ok=True)
@@ -251,7 +251,7 @@ def vanished(bench):
 
 
 def unlinked(bench):
-    """A name of nothing, a link to nothing, a name that is too long, a file in the place of a folder."""
+    """A name of no file, a link to no file, a name that is too long, a file in place of a folder."""
     slot = bench.rng.choice(['policy', 'capture'])
     link = str(bench.folder.path / 'link')
     if not os.path.lexists(link):
@@ -271,7 +271,7 @@ def folder_for_a_file(bench):
 
 
 def unwritable(bench):
-    """Out or Report in a folder that is none."""
+    """OUT or REPORT in a folder that does not exist, or whose name is no folder."""
     slot = bench.rng.choice(['out', 'report'])
     name = bench.rng.choice([str(bench.folder.path / 'nowhere' / 'file'), bench.folder.policy + '/file', 'n' * 300])
     came = bench.run(**{slot: name})
@@ -280,7 +280,7 @@ def unwritable(bench):
 
 
 def unreadable(bench):
-    """Files without permission, for a user who needs it."""
+    """Files without permission, for a user who is not root."""
     slot = bench.rng.choice(['policy', 'capture', 'out', 'report'])
     bench.folder.put(*bench.seed)
     bench.folder.clear()
@@ -293,7 +293,7 @@ def unreadable(bench):
 
 
 class shared:
-    """A folder where anyone may read and write, but for one file."""
+    """A folder in which anyone may read and write, except for one file."""
 
     def __init__(self, bench, slot):
         self.path, self.slot, self.seed = bench.folder.path / 'shared', slot, bench.seed
@@ -315,7 +315,7 @@ class shared:
 
 
 def broken(bench):
-    """A file that opens and can't be read."""
+    """A file that can be opened and can't be read."""
     slot = bench.rng.choice(['policy', 'capture'])
     came = bench.run(**{slot: BROKEN})
     yield from faulty(bench, came, 4, f'read fault: {slot}\n')
@@ -323,7 +323,7 @@ def broken(bench):
 
 
 def endless(bench):
-    """Devices that give without end, or nothing, in the place of what is read."""
+    """A device with endless bytes, or with none, in place of POLICY or CAPTURE."""
     slot = bench.rng.choice(['policy', 'capture'])
     name = bench.rng.choice([ENDLESS, NOTHING])
     note = {
@@ -337,11 +337,11 @@ def endless(bench):
     yield from absent(came, 'out', 'report')
 
 
-# Files that change while they are read, and a system that gives less than it should.
+# Files that change while they are read, and limits of the system.
 
 
 def changed_while_read(bench):
-    """Capture grows or shrinks when its head was read: Out is a fifo, and the program waits there for its reader."""
+    """CAPTURE grows or shrinks after its head was read: OUT is a fifo, and the program waits there for its reader."""
     grows = bench.rng.randrange(2) == 0
     bench = long_capture(bench) if bench.rng.randrange(4) == 0 else bench
     before = bench.seed.capture
@@ -365,7 +365,7 @@ def changed_while_read(bench):
     unblocked(bench.folder.out)
     reader.join()
     came = came._replace(out=written[0])
-    # What was read ahead stays, whatever becomes of the file.
+    # What was read ahead stays, whatever happens to the file.
     seen = {len(after)} if grows else {len(after), len(before), max(len(after), min(len(before), READ_AHEAD))}
     whole = after if grows else before
     told = [list(thrown_runs.unlike(came, thrown_runs.due_of_run(bench.seed.policy, whole[:size]))) for size in seen]
@@ -373,7 +373,7 @@ def changed_while_read(bench):
 
 
 def when_opened(process, name, until):
-    """Waits until a process has a file open and rests, or has ended."""
+    """Waits until a process has a file open and sleeps, or has ended."""
     while not has_ended(process) and time.monotonic() < until:
         try:
             with open(f'/proc/{process}/stat', encoding='ascii') as file:
@@ -387,13 +387,13 @@ def when_opened(process, name, until):
 
 
 def unblocked(fifo):
-    """Lets who waits for the other end of a fifo go on."""
+    """Lets a process go on that waits for the other end of a fifo."""
     os.close(os.open(fifo, os.O_RDWR | os.O_NONBLOCK))
 
 
 def grows_freely(bench):
-    """Capture grows all the time, by pieces of records, and is read as far as it went when its end was found. In pcapng there may be thousands of
-    small bursts, and memory that is filled anew for each, so it has no options."""
+    """CAPTURE grows all the time, by pieces of records. It is read up to the end that it had when that end was found. The run has no options, because
+    in pcapng there may be thousands of small bursts, whose memory is filled anew each time."""
     bench = bench._replace(options=[])
     ends = thrown_cases.ends_of(bench.seed.capture)
     records = bench.seed.capture[ends[0] : ends[-1]] or thrown_cases.some_part(bench.seed.capture)
@@ -422,9 +422,9 @@ def grows_freely(bench):
     parts = thrown_cases.parts_of(grown)
     records = list(itertools.accumulate(part.is_packet for part in parts))
     if count > records[-1]:
-        yield f'{count} records were read of {records[-1]}'
+        yield f'{count} records were read, and there are {records[-1]}'
         return
-    # How far it went: behind so many records, and blocks of which the report doesn't tell how many were read, or up to a block that is faulty itself.
+    # How far it was read: after `count` records and some other blocks, whose number the report doesn't have; or up to a block that is faulty itself.
     ends = [part.end for part, so_far in zip(parts, records) if so_far == count]
     seen = [grown[: end + (1 if came.status == 3 else 0)] for end in ends] + [grown]
     told = [list(thrown_runs.unlike(came, thrown_runs.due_of_run(bench.seed.policy, front))) for front in seen]
@@ -432,7 +432,7 @@ def grows_freely(bench):
 
 
 def few_files(bench):
-    """The system lets it open fewer files than it needs."""
+    """The system lets the program open fewer files than it needs."""
     came = confined(bench, resource.RLIMIT_NOFILE, bench.rng.choice([3, 4, 5, 6, 7, 20]))
     if came.status not in (4, 5, 127):
         yield from thrown_runs.unlike(came, bench.due)
@@ -440,7 +440,7 @@ def few_files(bench):
 
 
 def little_memory(bench):
-    """The system gives little memory. What the loader can't start of it is no run."""
+    """The system gives little memory. If the loader can't start the program, that is no run."""
     bench = long_capture(bench) if bench.rng.randrange(4) == 0 else bench
     came = confined(bench, resource.RLIMIT_AS, bench.rng.randrange(3000, bench.rng.choice([4000, 30_000, 300_000])) * 1024)
     if came.status == 127:
@@ -448,7 +448,7 @@ def little_memory(bench):
     if came.status != 6:
         yield from thrown_runs.unlike(came, bench.due)
     elif came.note:
-        yield f'there was no memory, and it printed {came.note!r}'
+        yield f'it ran out of memory, and printed {came.note!r}'
     yield from thrown_runs.no_fronts(came, bench.due)
 
 
@@ -458,7 +458,7 @@ PAIRS = [('out', 'policy'), ('out', 'capture'), ('report', 'policy'), ('report',
 
 
 def other_name(bench, name):
-    """Another name for a file, by a dot, a link of either kind, or a link to its folder."""
+    """Another name of a file: with a dot, by a hard or symbolic link, or by a link to its folder."""
     hard, soft, folder = (str(bench.folder.path / link) for link in ('hard', 'soft', 'folder'))
     for link in (hard, soft, folder):
         if os.path.lexists(link):
@@ -471,7 +471,7 @@ def other_name(bench, name):
 
 
 def two_names(bench):
-    """Out or Report is another slot's file by another name: it is refused, and no file loses anything."""
+    """OUT or REPORT is the file of another slot by another name: it is refused, and no file loses anything."""
     slot, same = bench.rng.choice(PAIRS)
     stood = {'out': b'what stood in Out', 'report': b'what stood in Report'}
     names = {name: str(bench.folder.path / f'old-{name}') for name in stood}
@@ -492,7 +492,7 @@ def two_names(bench):
 
 
 def led_into_a_file(bench):
-    """Standard output or standard error leads into the file that is to be Out or Report: it is refused, and no file loses anything."""
+    """Standard output or standard error goes into the file that is to be OUT or REPORT: it is refused, and the file loses nothing."""
     slot, stream = bench.rng.choice(['out', 'report']), bench.rng.choice([1, 2])
     stood = b'what stood in it\n'
     name = str(bench.folder.path / 'old')
@@ -505,7 +505,7 @@ def led_into_a_file(bench):
     yield from faulty(bench, came, 5, '' if stream == 1 else line)
     left = thrown_runs.contents(name)
     if not left.startswith(stood) or (stream == 1 and left != stood + line.encode()):
-        yield f'{name} was changed: it is {slot}, and stream {stream} leads there: {left[:200]!r}'
+        yield f'{name} was changed: it is {slot}, and stream {stream} goes there: {left[:200]!r}'
 
 
 TROUBLES = [

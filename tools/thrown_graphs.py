@@ -1,7 +1,7 @@
 """Texts of graphs that tools/throw-mutations throws, for a policy that is thrown beside them.
 
-Of a policy without fault most texts keep its order: the compiled stages, or others that are drawn function by function. Some then have functions moved,
-doubled, taken away or exchanged, and some are mutated as any text.
+Most texts for a policy without fault keep its order: they have the compiled stages, or others that are drawn function by function. In some of them functions
+are then moved, doubled, removed or exchanged, and some are mutated like any text.
 """
 
 import policy_rules
@@ -11,7 +11,7 @@ ANY = ['nfp-graph 1', 'chain c0', 'chain nobody', 'stage', 'branch a b', 'branch
 
 
 def drawn_stages(rng, order):
-    """Stages that keep an order: each function stands in a new stage, in a new branch of the latest, or at the end of a branch of it."""
+    """Stages that keep an order: each function goes into a new stage, into a new branch of the last stage, or to the end of a branch of it."""
     stages = []
     for name in order:
         way = rng.randrange(4) if stages else 0
@@ -25,7 +25,7 @@ def drawn_stages(rng, order):
 
 
 def compiled_stages(rng, chain, order):
-    """The compiled ones, of which the branches stand in any order."""
+    """The compiled stages, with their branches in any order."""
     stages = policy_rules.compiled(chain, order)
     for stage in stages:
         rng.shuffle(stage)
@@ -33,7 +33,7 @@ def compiled_stages(rng, chain, order):
 
 
 def exchanged(rng, stages):
-    """Two functions stand in each other's place."""
+    """Exchanges two functions."""
     names = [name for stage in stages for branch in stage for name in branch]
     one, other = rng.choice(names), rng.choice(names)
     turned = {one: other, other: one}
@@ -41,7 +41,7 @@ def exchanged(rng, stages):
 
 
 def moved(rng, stages):
-    """A function stands at the end of another branch, or in one of its own."""
+    """Moves a function to the end of another branch, or into a branch of its own."""
     name = rng.choice([name for stage in stages for branch in stage for name in branch])
     left = [[[each for each in branch if each != name] for branch in stage] for stage in stages]
     left = [[branch for branch in stage if branch] for stage in left]
@@ -53,14 +53,14 @@ def moved(rng, stages):
 
 
 def without(rng, stages):
-    """A function stands nowhere."""
+    """Removes a function."""
     name = rng.choice([name for stage in stages for branch in stage for name in branch])
     left = [[[each for each in branch if each != name] for branch in stage] for stage in stages]
     return [stage for stage in ([branch for branch in stage if branch] for stage in left) if stage]
 
 
 def doubled(rng, stages):
-    """A function stands twice."""
+    """Doubles a function."""
     name = rng.choice([name for stage in stages for branch in stage for name in branch])
     rng.choice(rng.choice(stages)).append(name)
     return stages
@@ -91,14 +91,14 @@ def lines_of(rng, name, stages):
 
 
 def made_text(rng, policy):
-    """A text for a policy, or for none where that has a fault."""
+    """A text for a policy. If the policy has a fault, the text lists none of its chains."""
     try:
         checked = policy_rules.check(policy)
     except (policy_rules.Refused, UnicodeDecodeError):
         checked = []
     lines = [*rng.choice([[], [], [''], ['# mine']]), 'nfp-graph 1']
     for chain, order in rng.sample(checked, len(checked)):
-        # (one with an end of a tunnel can't be listed)
+        # (a chain with an end of a tunnel can't be listed)
         is_whole = any(map(policy_rules.is_whole, policy_rules.kinds_in(chain).values()))
         if rng.randrange(16) == 0 if is_whole else rng.randrange(4):
             lines += lines_of(rng, chain.name, some_stages(rng, chain, order))
@@ -108,7 +108,7 @@ def made_text(rng, policy):
 
 
 def thrown_text(rng, policy):
-    """Of four texts one is mutated; of hundreds one is the longest that there is, or longer."""
+    """A text. One of four is mutated; one of two hundred has the greatest length, or one byte more."""
     text = made_text(rng, policy)
     if rng.randrange(4) == 0:
         for _ in range(rng.choice([1, 1, 2])):

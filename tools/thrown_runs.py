@@ -1,7 +1,7 @@
-"""One run of the program under a limit of time, and what is due of it by the rules.
+"""One run of the program with a time limit, and what is due of it by the rules.
 
-The rules are those of policy_rules.py, graph_rules.py, packet_rules.py, capture_rules.py and flow_rules.py, which share nothing with the program. Used by tools/throw-mutations
-and tools/refuse-allocations.
+The rules are those of policy_rules.py, graph_rules.py, packet_rules.py, capture_rules.py and flow_rules.py, which share nothing with the program.
+tools/throw-mutations and tools/refuse-allocations use this module.
 """
 
 import os
@@ -17,10 +17,10 @@ import graph_rules
 import packet_rules
 import policy_rules
 
-# Who is told of it beside the line, in the way of a script: never a path's letters that steer a terminal.
+# What may be printed on standard error: lines that begin with the name of the program, without control characters (a path may have some).
 TOLD = re.compile(r'(nfp: [^\x00-\x1f\x7f]*\n)*')
 
-# What the table of statuses in README.md says of the line that goes with each.
+# The line that belongs to each status, by the table of statuses.
 FAULT = (
     r'too long|not utf-8 at \d+|bad version line|line \d+ column \d+: syntax|cycle [a-z0-9_-]+( [a-z0-9_-]+)*|line \d+: (unknown kind|'
     r'duplicate name|unknown name|too many functions|too many chains|too many rules|bad setting|priority \S+ over \S+ forbidden: .+)'
@@ -43,17 +43,17 @@ NOTES = {
 
 
 class Ended(typing.NamedTuple):
-    status: int  # below 0 by a signal
-    note: typing.Optional[str]  # None where nobody could read it
+    status: int  # below 0 if it ended by a signal
+    note: typing.Optional[str]  # None if nobody could read it
     told: str  # on standard error
-    out: typing.Optional[bytes]  # None where there is no such file
+    out: typing.Optional[bytes]  # None if there is no such file
     report: typing.Optional[bytes]
     seconds: float
     in_time: bool
 
 
 class Due(typing.NamedTuple):
-    """What an untroubled run leaves."""
+    """The result of a run without trouble."""
 
     status: int
     note: str
@@ -62,13 +62,13 @@ class Due(typing.NamedTuple):
 
 
 def environment(**more):
-    """Without progress, and with memory that isn't 0 where it is new, as it may be anywhere."""
+    """The environment of a run: without progress, and with new memory filled with a byte other than 0."""
     kept = {name: value for name, value in os.environ.items() if name not in ('NFP_PROGRESS', 'LD_PRELOAD')}
     return {**kept, 'MALLOC_PERTURB_': '165', **more}
 
 
 class Folder:
-    """Where the files of one run stand."""
+    """The files of one run."""
 
     def __init__(self, path):
         self.path = pathlib.Path(path)
@@ -86,12 +86,12 @@ class Folder:
                 os.unlink(name)
 
     def words(self, *options, **names):
-        """The words of a run, with other names where they are given."""
+        """The words of a run; `names` replaces the names of slots."""
         return ['run', *(names.get(slot, getattr(self, slot)) for slot in ('policy', 'capture', 'out', 'report')), *options]
 
 
 def contents(name):
-    """The bytes of a file, or None where there is none."""
+    """The bytes of a file, or None if there is none."""
     try:
         with open(name, 'rb') as file:
             return file.read()
@@ -100,7 +100,7 @@ def contents(name):
 
 
 def wait(process, limit):
-    """Waits for a process and ends it behind the limit. Its status, and whether it ended by itself."""
+    """Waits for a process, and kills it after the limit. Returns its status, and whether it ended in time."""
     handle = os.pidfd_open(process)
     try:
         watched = select.poll()
@@ -115,11 +115,11 @@ def wait(process, limit):
 
 
 def started(program, words, folder, env, actions=()):
-    """Starts a run whose standard output and error are files. `actions` are done last, as those of os.posix_spawn."""
+    """Starts a run whose standard output and error are files. `actions` are done last, as file actions of os.posix_spawn."""
     made = os.O_WRONLY | os.O_CREAT | os.O_TRUNC
     to_files = [(os.POSIX_SPAWN_OPEN, 0, os.devnull, os.O_RDONLY, 0)]
     to_files += [(os.POSIX_SPAWN_OPEN, number, name, made, 0o600) for number, name in ((1, folder.note), (2, folder.told))]
-    # Python lets a process ignore these two; what is started has to have them as a shell gives them.
+    # Python ignores these two signals; the program has to start with their default actions, as from a shell.
     usual = [signal.SIGPIPE, signal.SIGXFSZ]
     return os.posix_spawn(program, [program, *words], env, file_actions=[*to_files, *actions], setsigdef=usual)
 
@@ -143,7 +143,7 @@ def run(program, words, folder, env, limit, actions=()):
 
 
 def due_of_run(policy, capture, graphs=None):
-    """What `nfp run` has to leave, whatever the bytes."""
+    """What `nfp run` has to leave, whatever the bytes are."""
     answer = packet_rules.answer(policy, capture, graphs)
     report = None if answer.report is None else answer.report.encode('ascii')
     return Due(answer.status, answer.note + '\n', answer.out, report)
@@ -159,35 +159,35 @@ def due_of_flows(capture):
     return Due(answer.status, answer.note + '\n', None if answer.packets is None else b''.join(answer.packets), None)
 
 
-# What may be wrong with what came.
+# Findings in a result.
 
 
 def misbehaviour(came, limit, planned=False):
-    """What no run may do, whatever it is given: hang, end by a signal, or say what doesn't go with its status."""
+    """What no run may do, whatever its input is: hang, end by a signal, or print what doesn't belong to its status."""
     if not came.in_time:
         yield f'did not end within {limit} seconds'
     elif came.status < 0:
         yield f'ended by {signal.Signals(-came.status).name}'
     elif came.status not in NOTES:
-        yield f'ended with status {came.status}, which is none'
+        yield f'ended with status {came.status}, which the program does not have'
     elif came.note is not None and not (planned and came.status == 0) and re.fullmatch(NOTES[came.status], came.note) is None:
         yield f'ended with status {came.status} and printed {came.note[:200]!r}'
     if not TOLD.fullmatch(came.told):
-        yield f'told {came.told[:200]!r} on standard error'
+        yield f'printed {came.told[:200]!r} on standard error'
 
 
 def unlike(came, due):
-    """Where an untroubled run isn't what is due."""
+    """Differences of a run without trouble from what is due."""
     if (came.status, came.note) != (due.status, due.note):
-        yield f'ended with status {came.status} and printed {came.note[:200]!r}, and not with {due.status} and {due.note[:200]!r}'
+        yield f'ended with status {came.status} and printed {came.note[:200]!r}; due are status {due.status} and {due.note[:200]!r}'
     for slot in ('out', 'report'):
         written, whole = getattr(came, slot), getattr(due, slot)
         if written != whole:
-            yield f'{slot} is {sized(written)} and not {sized(whole)}'
+            yield f'{slot} is {sized(written)}, not {sized(whole)}'
 
 
 def no_fronts(came, due):
-    """Where what a troubled run left isn't a front part of what is due."""
+    """Files of a run with trouble that are no front parts of what is due."""
     for slot in ('out', 'report'):
         written, whole = getattr(came, slot), getattr(due, slot)
         if written is not None and not (whole or b'').startswith(written):
