@@ -2,8 +2,9 @@
 """Makes the captures of the examples, and works out from the rules what must come out.
 
     tools/make_examples.py                writes the capture, expected/ and plan.svg of each example
-    tools/make_examples.py --check        writes nothing, and fails where a file is not what would be written, or an
-                                          example of docs/POLICY.md or docs/GRAPHS.md is not what the rules say
+    tools/make_examples.py --check        writes nothing, and fails where a file is not what would be written, an example
+                                          of docs/POLICY.md or docs/GRAPHS.md is not what the rules say, or README.md shows
+                                          a policy or a report that is not in its example
     tools/make_examples.py --list NAME    prints a line for each record of this example: what it is, and what becomes of it
     tools/make_examples.py --page FOLDER  writes a folder like those of the examples for each table of packets in
                                           docs/POLICY.md
@@ -29,7 +30,10 @@ import policy_rules
 from example_captures import MADE
 
 EXAMPLES = pathlib.Path(__file__).resolve().parent.parent / 'examples'
-PAGE, GRAPHS = EXAMPLES.parent / 'docs' / 'POLICY.md', EXAMPLES.parent / 'docs' / 'GRAPHS.md'
+PAGE, GRAPHS, README = EXAMPLES.parent / 'docs' / 'POLICY.md', EXAMPLES.parent / 'docs' / 'GRAPHS.md', EXAMPLES.parent / 'README.md'
+
+# What README.md shows: nothing today, since tools/check-tutorial runs its policy.
+SHOWN = []
 
 
 def place_of_capture(folder):
@@ -130,8 +134,17 @@ def show(name):
     print(due.note)
 
 
+def is_shown(path):
+    """README.md has the whole text of this file as a block."""
+    block = ''.join(f'    {line}\n' if line else '\n' for line in path.read_text('ascii').splitlines())
+    return f'\n\n{block}\n' in README.read_text('utf-8')
+
+
 def check():
     files = all_files()
+    unshown = [name for name in SHOWN if not is_shown(EXAMPLES / name)]
+    for name in unshown:
+        print(f'README.md does not show examples/{name} as it is')
     stale = [path for path, data in files.items() if not path.is_file() or path.read_bytes() != data]
     for path in stale:
         print(f'{path.relative_to(EXAMPLES.parent)} is not what tools/make_examples.py writes')
@@ -140,7 +153,7 @@ def check():
         if due:
             print(f'{page.relative_to(EXAMPLES.parent)} says something else than the rules, for:')
             print(f'{example.policy.decode()}{(getattr(example, "graphs", None) or b"")!r}\nwhich give:\n{due}')
-    return 1 if stale or any(due for _, _, due in faults) else 0
+    return 1 if stale or unshown or any(due for _, _, due in faults) else 0
 
 
 def main(words):
