@@ -68,6 +68,16 @@ pub fn required_of(kind: Kind) -> &'static str {
     }
 }
 
+/// What the forms of this kind do not say.
+pub fn note_of(kind: Kind) -> &'static str {
+    match kind {
+        Kind::Limiter => {
+            "the rate is in bytes a second and the burst in bytes: 10 Mbit/s are `set rate 1250000`"
+        }
+        _ => "",
+    }
+}
+
 /// The forms of the lines that begin with this word, one a line.
 pub fn forms_of_line(first: &[u8]) -> &'static str {
     text_beside(LINE_FORMS, first)

@@ -17,6 +17,9 @@ const NO_VALUE: &str = "`{}` has no value";
 
 const TOO_MANY: &str = "`{}` is a name too many: `{}` has {}";
 
+const JOIN: &str =
+    "several captures are joined to one by this (mergecap is one of Wireshark's tools):\n  mergecap -F pcap -w NEW.pcap FIRST SECOND ..";
+
 const MISSING: &str = "{} is missing: `{}` has {}";
 
 /// How many options a command has at most.
@@ -147,11 +150,20 @@ impl Reading {
             return tell(page, EMPTY);
         }
         if self.names >= self.form.names.len() {
-            tell_word(page, TOO_MANY, word);
-            return self.say_form(page);
+            return self.too_many(page, word);
         }
         self.names = self.names.saturating_add(1);
         true
+    }
+
+    // A name is one too many, as one of several captures is.
+    fn too_many(&self, page: &mut Page, word: &[u8]) -> bool {
+        tell_word(page, TOO_MANY, word);
+        self.say_form(page);
+        if self.form.names.contains(&"CAPTURE") {
+            page.tell(JOIN);
+        }
+        false
     }
 
     fn takes_option(&mut self, page: &mut Page, word: &[u8]) -> bool {

@@ -1,9 +1,13 @@
-//! What is meant by words that a policy doesn't know.
+//! What a word that does not fit seems to mean, and what to write instead.
 
-use crate::lines::{Row, is_one_of, text_beside, until};
+use crate::lines::{Row, is_one_of, part, text_beside, until};
+use crate::page::Page;
+use crate::shown::put_digits;
+use crate::values::say_value;
+use crate::words::{CLAUSE_WORDS, Texts, VERDICTS, text_for};
 use policy_text::{address6, prefix6};
 
-/// What is told of words that lines of one sort don't know.
+/// What to write instead of words that do not fit lines of one sort.
 #[derive(Clone, Copy)]
 struct Hints {
     /// Of a word that turns something round.
@@ -14,6 +18,10 @@ struct Hints {
     list: &'static str,
     /// Of a clause that stands in the line before.
     twice: &'static str,
+    /// Of words for clauses.
+    clauses: Texts,
+    /// Of words for what a firewall does with a packet.
+    verdicts: Texts,
 }
 
 const OF_A_RULE: &Hints = &Hints {
@@ -21,6 +29,8 @@ const OF_A_RULE: &Hints = &Hints {
     any: "a rule without a clause is met by each packet: leave the clause out",
     list: "a value is one number, range or prefix: write a rule for each",
     twice: "each clause stands once in a rule: write two rules",
+    clauses: CLAUSE_WORDS,
+    verdicts: VERDICTS,
 };
 
 const OF_A_CHAIN: &Hints = &Hints {
@@ -28,6 +38,8 @@ const OF_A_CHAIN: &Hints = &Hints {
     any: "a chain without `match` takes each packet: leave the clause out",
     list: "a value is one number, range or prefix: write a chain for each",
     twice: "each clause stands once: write two chains",
+    clauses: CLAUSE_WORDS,
+    verdicts: &[],
 };
 
 const OF_A_SETTING: &Hints = &Hints {
@@ -35,6 +47,8 @@ const OF_A_SETTING: &Hints = &Hints {
     any: "",
     list: "a setting has one value: write one, for ports one range",
     twice: "",
+    clauses: &[],
+    verdicts: VERDICTS,
 };
 
 const OF_ANOTHER: &Hints = &Hints {
@@ -42,6 +56,8 @@ const OF_ANOTHER: &Hints = &Hints {
     any: "",
     list: "",
     twice: "",
+    clauses: &[],
+    verdicts: &[],
 };
 
 // The first words of lines, and what is told of words in each.
@@ -53,6 +69,18 @@ const HINTS: &[(&[u8], &Hints)] = &[
 
 const IPV4: &str =
     "it is of IPv6, and a function of this kind is set for IPv4: write an address or a prefix of IPv4";
+
+/// Of a comment of another language.
+pub const COMMENT: &str = "a comment begins with `#`";
+
+const BLANKS: &str =
+    "a pattern is one word, without quotes; one with blanks is written by its bytes:\n  rule hex {}";
+
+const DIGITS: &str =
+    "the bytes are pairs of hexadecimal digits in one word, as in `rule hex 0d0a`; a pattern has at most 256 bytes";
+
+/// The most bytes of a pattern.
+const MAX_PATTERN: usize = 256;
 
 const ICMP: &str = "ICMP has the number 1, so write `proto 1`";
 
@@ -87,29 +115,98 @@ const NEGATIONS: &[&[u8]] = &[b"not", b"!", b"except"];
 // Words for everything.
 const WHOLES: &[&[u8]] = &[b"any", b"all", b"*"];
 
-/// How to say what the word at a place of a line seems to mean, or nothing.
-pub fn hint_of(row: Row<'_>, place: usize) -> &'static str {
+/// Adds what to write instead of the word at a place, if that is known.
+pub fn say_hint(page: &mut Page, row: Row<'_>, place: usize) {
     let word = row.word(place);
     let hints = hints_of(row.word(0));
-    if until(word, b',') < word.len() {
-        hints.list
+    if is_comment(word) {
+        page.tell(COMMENT);
+    } else if is_pattern(row) {
+        say_pattern(page, row, place);
+    } else if until(word, b',') < word.len() {
+        page.tell_some(hints.list);
     } else if is_second_clause(row, place) {
-        hints.twice
+        page.tell_some(hints.twice);
     } else if wants_ipv4(row) && is_of_ipv6(word) {
-        IPV4
-    } else {
-        meaning_of(word, hints)
+        page.tell(IPV4);
+    } else if !knows_values(row) || !say_value(page, row, place) {
+        say_text(
+            page,
+            meaning_of(word, hints),
+            row.word(place.saturating_add(1)),
+        );
     }
+}
+
+/// Adds a text with this word in each of its places.
+pub fn say_text(page: &mut Page, text: &'static str, word: &[u8]) {
+    page.tell_some(text);
+    for byte in text.as_bytes() {
+        if *byte == b'{' {
+            page.word(if word.is_empty() { b".." } else { word });
+        }
+    }
+}
+
+/// Does a word begin a comment of another language?
+pub fn is_comment(word: &[u8]) -> bool {
+    word.starts_with(b"//") || word.starts_with(b"/*") || word.starts_with(b";")
+}
+
+// Is it a line with values, in which forms of other languages are looked for?
+fn knows_values(row: Row<'_>) -> bool {
+    row.is_setting() || row.begins_with(b"chain")
+}
+
+// Is it a rule of a pattern?
+fn is_pattern(row: Row<'_>) -> bool {
+    row.names(b"rule", b"text") || row.names(b"rule", b"hex")
+}
+
+// A pattern that is not one word.
+fn say_pattern(page: &mut Page, row: Row<'_>, place: usize) {
+    let pattern = pattern_in(row);
+    if row.word(1) == b"hex".as_slice() {
+        page.tell(DIGITS);
+    } else if place > 2 && pattern.len() <= MAX_PATTERN {
+        page.tell(BLANKS);
+        put_digits(page, pattern);
+        page.go_on();
+    }
+}
+
+// What follows `rule text`: what is in quotes, or all words.
+fn pattern_in<'a>(row: Row<'a>) -> &'a [u8] {
+    let start = row.column(2);
+    let said = part(row.text, start, row.column(usize::MAX));
+    if !said.starts_with(b"\"") {
+        return said;
+    }
+    let inner = part(row.text, start.saturating_add(1), row.text.len());
+    part(inner, 0, until(inner, b'"'))
 }
 
 // What a word of itself seems to mean.
 fn meaning_of(word: &[u8], hints: &Hints) -> &'static str {
-    if is_one_of(word, NEGATIONS) {
+    if is_one_of(word, NEGATIONS) || word.starts_with(b"!") {
         hints.not
     } else if is_one_of(word, WHOLES) {
         hints.any
     } else {
-        text_beside(PROTOCOLS, word)
+        text_of(word, hints)
+    }
+}
+
+// The text for a word in the tables.
+fn text_of(word: &[u8], hints: &Hints) -> &'static str {
+    let protocol = text_beside(PROTOCOLS, word);
+    let clause = text_for(hints.clauses, word);
+    if !protocol.is_empty() {
+        protocol
+    } else if clause.is_empty() {
+        text_for(hints.verdicts, word)
+    } else {
+        clause
     }
 }
 

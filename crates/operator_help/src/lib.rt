@@ -26,6 +26,8 @@ mod release;
 mod settings;
 mod shown;
 pub mod usage;
+mod values;
+mod words;
 
 pub use page::Page;
 pub use release::VERSION;

@@ -1,7 +1,7 @@
 //! What is wrong with the lines of a function.
 
-use crate::forms::{article_of, best_misfit, clauses_of, forms_of, required_of};
-use crate::hints::hint_of;
+use crate::forms::{article_of, best_misfit, clauses_of, forms_of, note_of, required_of};
+use crate::hints::say_hint;
 use crate::lines::{Row, last_before, place_of, row_at, rows_behind};
 use crate::page::Page;
 use crate::policy::{PolicyText, say_forms};
@@ -59,6 +59,7 @@ pub fn say_kind_forms(page: &mut Page, kind: Kind) {
     } else {
         tell_kind(page, LINES, kind);
         say_forms(page, forms, clauses_of(kind));
+        page.tell_some(note_of(kind));
     }
 }
 
@@ -138,6 +139,6 @@ pub fn say_word(page: &mut Page, row: Row<'_>, place: usize) {
         page.tell("a word is missing here");
     } else {
         page.tell_word("`{}` doesn't fit here", word);
-        page.tell_some(hint_of(row, place));
+        say_hint(page, row, place);
     }
 }

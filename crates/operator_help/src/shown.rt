@@ -70,8 +70,20 @@ fn put_byte(page: &mut Page, byte: u8) {
         page.push(b' ');
     } else {
         page.put(b"\\x");
-        page.push(DIGITS[usize::from(byte / 16)]);
-        page.push(DIGITS[usize::from(byte % 16)]);
+        put_pair(page, byte);
+    }
+}
+
+// The two hexadecimal digits of a byte.
+fn put_pair(page: &mut Page, byte: u8) {
+    page.push(DIGITS[usize::from(byte / 16)]);
+    page.push(DIGITS[usize::from(byte % 16)]);
+}
+
+/// Adds bytes by their hexadecimal digits.
+pub fn put_digits(page: &mut Page, bytes: &[u8]) {
+    for byte in bytes {
+        put_pair(page, *byte);
     }
 }
 
