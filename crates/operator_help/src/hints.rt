@@ -3,7 +3,7 @@
 use crate::lines::{Row, is_one_of, part, text_beside, until};
 use crate::page::Page;
 use crate::shown::put_digits;
-use crate::values::say_value;
+use crate::values::{say_name, say_value};
 use crate::words::{CLAUSE_WORDS, Texts, VERDICTS, text_for};
 use policy_text::{address6, prefix6};
 
@@ -130,17 +130,22 @@ pub fn say_hint(page: &mut Page, row: Row<'_>, place: usize) {
     } else if wants_ipv4(row) && is_of_ipv6(word) {
         page.tell(IPV4);
     } else if !knows_values(row) || !say_value(page, row, place) {
-        say_text(
-            page,
-            meaning_of(word, hints),
-            row.word(place.saturating_add(1)),
-        );
+        say_meaning(page, row, place, meaning_of(word, hints));
+    }
+}
+
+// Adds what the word at a place seems to mean. A word of which nothing is known may be a name in the place of a value.
+fn say_meaning(page: &mut Page, row: Row<'_>, place: usize, text: &'static str) {
+    if text.is_empty() {
+        say_name(page, row, place);
+    } else {
+        say_text(page, text, row.word(place.saturating_add(1)));
     }
 }
 
 /// Adds a text with this word in each of its places.
 pub fn say_text(page: &mut Page, text: &'static str, word: &[u8]) {
-    page.tell_some(text);
+    page.tell(text);
     for byte in text.as_bytes() {
         if *byte == b'{' {
             page.word(if word.is_empty() { b".." } else { word });

@@ -69,7 +69,23 @@ pub fn say_value(page: &mut Page, row: Row<'_>, place: usize) -> bool {
         || say_hexadecimal(page, row.word(place))
         || say_number(page, row, place)
         || say_network(page, row, place)
-        || say_host(page, row, place)
+}
+
+/// Adds how to get the number or the address whose name is at a place, if one belongs there.
+pub fn say_name(page: &mut Page, row: Row<'_>, place: usize) {
+    let lead = lead_of(row, place);
+    if is_one_of(lead, BEFORE_PORTS) {
+        say_letters(page, OTHER_SERVICE, row.word(place));
+    } else if is_one_of(lead, BEFORE_ADDRESSES) {
+        say_letters(page, HOST, row.word(place));
+    }
+}
+
+// A name, which begins with a letter.
+fn say_letters(page: &mut Page, text: &'static str, word: &[u8]) {
+    if starts_with_letter(word) && until(word, b':') == word.len() {
+        page.tell_word(text, word);
+    }
 }
 
 // The word before a place.
@@ -79,7 +95,8 @@ fn lead_of<'a>(row: Row<'a>, place: usize) -> &'a [u8] {
 
 // A rate or a burst with a unit.
 fn say_amount(page: &mut Page, row: Row<'_>, place: usize) -> bool {
-    if place < 2 {
+    let word = row.word(place);
+    if place < 2 || digits_of(word) == word.len() {
         false
     } else if row.names(b"set", b"rate") {
         say_rate(page, bytes_of(row));
@@ -187,9 +204,7 @@ fn say_named(page: &mut Page, text: &'static str, numbers: &[(&[u8], u64)], word
 }
 
 fn say_port(page: &mut Page, word: &[u8]) -> bool {
-    say_named(page, SERVICE, SERVICES, word)
-        || say_ports(page, word)
-        || say_letters(page, OTHER_SERVICE, word)
+    say_named(page, SERVICE, SERVICES, word) || say_ports(page, word)
 }
 
 // Two ports with a colon between them.
@@ -211,25 +226,11 @@ fn say_ports(page: &mut Page, word: &[u8]) -> bool {
     true
 }
 
-// A name, which begins with a letter.
-fn say_letters(page: &mut Page, text: &'static str, word: &[u8]) -> bool {
-    let is_name = starts_with_letter(word) && until(word, b':') == word.len();
-    if is_name {
-        page.tell_word(text, word);
-    }
-    is_name
-}
-
 fn starts_with_letter(word: &[u8]) -> bool {
     match word.first() {
         Some(byte) => byte.is_ascii_alphabetic(),
         None => false,
     }
-}
-
-// A name where an address belongs.
-fn say_host(page: &mut Page, row: Row<'_>, place: usize) -> bool {
-    is_one_of(lead_of(row, place), BEFORE_ADDRESSES) && say_letters(page, HOST, row.word(place))
 }
 
 // An address or a prefix.
@@ -300,7 +301,7 @@ fn say_bits(page: &mut Page, text: &'static str, front: &[u8], bits: Option<u64>
 fn say_range(page: &mut Page, word: &[u8]) -> bool {
     let (low, high) = cut(word, b'-');
     match (address(low), address(high)) {
-        (Some(first), Some(last)) => {
+        (Some(first), Some(last)) if first <= last => {
             page.tell(RANGE);
             say_parts(page, first, last);
             true
