@@ -7,7 +7,7 @@ use pcap_io::CaptureFault;
 /// The number of Ethernet among the kinds of links.
 const ETHERNET: u32 = 1;
 
-/// The numbers of the headers that stand in the place of Ethernet's where all interfaces are captured at once, by older versions and by newer ones.
+/// The link types of a capture of all interfaces at once, by older and by newer versions of the tools.
 const COOKED: u32 = 113;
 
 const COOKED2: u32 = 276;
@@ -46,7 +46,7 @@ const YEAR_2000: u32 = 946_684_800;
 
 const YEAR_2040: u32 = 2_208_988_800;
 
-/// The bits of the field of the link's kind that number it; the others tell of checksums.
+/// The bits of the field that hold the link type. The others say whether frames end with checksums.
 const LINK_BITS: u32 = 0xffff;
 
 const VERSION: &str = "{} has another version than 2.4";
@@ -162,13 +162,13 @@ pub fn fault(page: &mut Page, capture: Captured<'_>, fault: CaptureFault) {
     }
 }
 
-// Tells of a file whose name goes into the first place.
+// Adds a text with the name of a file in the first place.
 fn tell_of(page: &mut Page, text: &'static str, name: &str) {
     page.tell(text);
     page.name(name);
 }
 
-/// Tells of a file whose name goes into the first two places.
+/// Adds a text with the name of a file in the first two places.
 pub(crate) fn tell_twice(page: &mut Page, text: &'static str, name: &str) {
     tell_of(page, text, name);
     page.name(name);
@@ -205,7 +205,7 @@ fn say_joined(page: &mut Page, record: u32, length: u32) {
     }
 }
 
-// What became of the records before a fault.
+// What became of the records before the fault.
 fn done_of(purpose: Purpose) -> &'static str {
     match purpose {
         Purpose::Chains => LED,

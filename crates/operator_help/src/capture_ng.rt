@@ -62,14 +62,14 @@ pub fn fault(page: &mut Page, capture: Captured<'_>, fault: NgFault) {
     }
 }
 
-// Tells of a file, whose name goes into the first place, and of its block or packet with this number.
+// Adds a text with the name of the file, and then the number of a block or a packet.
 fn tell_of(page: &mut Page, text: &'static str, name: &str, number: u64) {
     page.tell(text);
     page.name(name);
     page.number(number);
 }
 
-// The same, and of how many bytes it says that it has.
+// The same, and then the number of bytes that it claims.
 fn tell_long(page: &mut Page, text: &'static str, name: &str, number: u64, length: u32) {
     tell_of(page, text, name, number);
     page.number(u64::from(length));
@@ -81,7 +81,7 @@ fn no_interface(page: &mut Page, name: &str, block: u64) {
     page.name(name);
 }
 
-// Tells of a block of a file, whose name goes into the second and the third place.
+// Adds a text with the number of a block, and then the name of the file twice.
 fn tell_block(page: &mut Page, text: &'static str, name: &str, block: u64) {
     page.tell(text);
     page.number(block);
@@ -109,7 +109,7 @@ fn is_converted(fault: &NgFault) -> bool {
     matches!(fault, NgFault::BadBlock(_) | NgFault::BadResolution(_))
 }
 
-// Was something written before the fault? One of the first block leaves nothing, and of too many packets there is no telling.
+// Was something written before the fault? Not if it is in the first block; of too many packets nothing is known.
 fn has_done(fault: &NgFault) -> bool {
     match fault {
         NgFault::CutBlock(block) | NgFault::BadBlock(block) | NgFault::BlockTooLong(block, _) => {

@@ -10,13 +10,13 @@ use policy_text::{address6, prefix6};
 /// What to write instead of words that do not fit lines of one sort.
 #[derive(Clone, Copy)]
 struct Hints {
-    /// Of a word that turns something round.
+    /// Of a word for the opposite.
     not: &'static str,
     /// Of a word for everything.
     any: &'static str,
-    /// Of values in a row.
+    /// Of values with commas between them.
     list: &'static str,
-    /// Of a clause that stands in the line before.
+    /// Of a clause that is in the line before this place.
     twice: &'static str,
     /// Of words for clauses.
     clauses: Texts,
@@ -60,7 +60,7 @@ const OF_ANOTHER: &Hints = &Hints {
     verdicts: &[],
 };
 
-// The first words of lines, and what is told of words in each.
+// The first words of lines, and the hints for words in each.
 const HINTS: &[(&[u8], &Hints)] = &[
     (b"rule", OF_A_RULE),
     (b"chain", OF_A_CHAIN),
@@ -88,7 +88,7 @@ const IPIP: &str = "IP in IP has the number 4, so write `proto 4`";
 
 const ICMP6: &str = "ICMPv6 has the number 58, so write `proto 58`";
 
-// The names of protocols, and what is told of each.
+// The names of protocols, and the text for each.
 const PROTOCOLS: &[(&[u8], &str)] = &[
     (b"icmp", ICMP),
     (b"ICMP", ICMP),
@@ -109,7 +109,7 @@ const CLAUSES: &[&[u8]] = &[b"src", b"dst", b"sport", b"dport", b"proto", b"tag"
 // The settings that are addresses or prefixes of IPv4.
 const IPV4_SETTINGS: &[&[u8]] = &[b"inside", b"public", b"entry", b"exit"];
 
-// Words that turn something round.
+// Words for the opposite.
 const NEGATIONS: &[&[u8]] = &[b"not", b"!", b"except"];
 
 // Words for everything.
@@ -224,14 +224,14 @@ fn hints_of(first: &[u8]) -> &'static Hints {
     OF_ANOTHER
 }
 
-// Does a clause begin here that stands before in its line? A rule of a pattern has none.
+// Does a clause begin here that is in its line before? A rule of a pattern has no clauses.
 fn is_second_clause(row: Row<'_>, place: usize) -> bool {
     is_one_of(row.word(place), CLAUSES)
         && row.word(1) != b"text".as_slice()
         && stands_before(row, place)
 }
 
-// Does the word at this place stand before it, behind the first?
+// Is the word at this place in its line before, after the first word?
 fn stands_before(row: Row<'_>, place: usize) -> bool {
     for before in 1..place {
         if row.word(before) == row.word(place) {

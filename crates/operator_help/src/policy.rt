@@ -218,7 +218,7 @@ fn say_declaration(page: &mut Page, text: &'static str, name: &[u8], kind: &[u8]
     page.word(kind);
 }
 
-// Where such a line stands, if there is such a line.
+// Where such a line belongs, if there is such a line.
 fn place_of_line(row: Row<'_>) -> &'static str {
     if row.is_setting() {
         IN_FUNCTION
@@ -241,7 +241,7 @@ fn say_line_forms(page: &mut Page, rows: &[Row<'_>], place: usize) {
     }
 }
 
-/// Adds forms, and what the words in capitals stand for.
+/// Adds forms, and what the words in capitals mean.
 pub fn say_forms(page: &mut Page, forms: &'static str, clauses: &str) {
     page.tell_some(forms);
     if forms.contains("NAME") {
