@@ -4,7 +4,7 @@ use crate::lines::{Row, is_one_of, part, text_beside, until};
 use crate::page::Page;
 use crate::shown::put_digits;
 use crate::values::{say_name, say_value};
-use crate::words::{CLAUSE_WORDS, Texts, VERDICTS, text_for};
+use crate::words::{CLAUSE_WORDS, VERDICTS, text_for};
 use policy_text::{address6, prefix6};
 
 /// What to write instead of words that do not fit lines of one sort.
@@ -18,10 +18,6 @@ struct Hints {
     list: &'static str,
     /// Of a clause that is in the line before this place.
     twice: &'static str,
-    /// Of words for clauses.
-    clauses: Texts,
-    /// Of words for what a firewall does with a packet.
-    verdicts: Texts,
 }
 
 const OF_A_RULE: &Hints = &Hints {
@@ -29,8 +25,6 @@ const OF_A_RULE: &Hints = &Hints {
     any: "a rule without a clause is met by each packet: leave the clause out",
     list: "a value is one number, range or prefix: write a rule for each",
     twice: "each clause stands once in a rule: write two rules",
-    clauses: CLAUSE_WORDS,
-    verdicts: VERDICTS,
 };
 
 const OF_A_CHAIN: &Hints = &Hints {
@@ -38,8 +32,6 @@ const OF_A_CHAIN: &Hints = &Hints {
     any: "a chain without `match` takes each packet: leave the clause out",
     list: "a value is one number, range or prefix: write a chain for each",
     twice: "each clause stands once: write two chains",
-    clauses: CLAUSE_WORDS,
-    verdicts: &[],
 };
 
 const OF_A_SETTING: &Hints = &Hints {
@@ -47,8 +39,6 @@ const OF_A_SETTING: &Hints = &Hints {
     any: "",
     list: "a setting has one value: write one, for ports one range",
     twice: "",
-    clauses: &[],
-    verdicts: VERDICTS,
 };
 
 const OF_ANOTHER: &Hints = &Hints {
@@ -56,8 +46,6 @@ const OF_ANOTHER: &Hints = &Hints {
     any: "",
     list: "",
     twice: "",
-    clauses: &[],
-    verdicts: &[],
 };
 
 // The first words of lines, and the hints for words in each.
@@ -130,7 +118,7 @@ pub fn say_hint(page: &mut Page, row: Row<'_>, place: usize) {
     } else if wants_ipv4(row) && is_of_ipv6(word) {
         page.tell(IPV4);
     } else if !knows_values(row) || !say_value(page, row, place) {
-        say_meaning(page, row, place, meaning_of(word, hints));
+        say_meaning(page, row, place, meaning_of(row, word, hints));
     }
 }
 
@@ -192,26 +180,45 @@ fn pattern_in<'a>(row: Row<'a>) -> &'a [u8] {
 }
 
 // What a word of itself seems to mean.
-fn meaning_of(word: &[u8], hints: &Hints) -> &'static str {
+fn meaning_of(row: Row<'_>, word: &[u8], hints: &Hints) -> &'static str {
     if is_one_of(word, NEGATIONS) || word.starts_with(b"!") {
         hints.not
     } else if is_one_of(word, WHOLES) {
         hints.any
     } else {
-        text_of(word, hints)
+        text_of(row, word)
     }
 }
 
-// The text for a word in the tables.
-fn text_of(word: &[u8], hints: &Hints) -> &'static str {
+// The text for a word of a line in the tables.
+fn text_of(row: Row<'_>, word: &[u8]) -> &'static str {
     let protocol = text_beside(PROTOCOLS, word);
-    let clause = text_for(hints.clauses, word);
-    if !protocol.is_empty() {
-        protocol
-    } else if clause.is_empty() {
-        text_for(hints.verdicts, word)
+    if !protocol.is_empty() || !knows_values(row) {
+        return protocol;
+    }
+    let verdict = verdict_text(row, word);
+    if verdict.is_empty() {
+        clause_text(row, word)
     } else {
-        clause
+        verdict
+    }
+}
+
+// The text for another word for what a firewall does with a packet.
+fn verdict_text(row: Row<'_>, word: &[u8]) -> &'static str {
+    if row.is_setting() {
+        text_for(VERDICTS, word)
+    } else {
+        ""
+    }
+}
+
+// The text for another word for a clause.
+fn clause_text(row: Row<'_>, word: &[u8]) -> &'static str {
+    if row.begins_with(b"set") {
+        ""
+    } else {
+        text_for(CLAUSE_WORDS, word)
     }
 }
 
