@@ -7,18 +7,56 @@ use pcap_io::CaptureFault;
 /// The number of Ethernet among the kinds of links.
 const ETHERNET: u32 = 1;
 
-/// The numbers of the headers that stand in the place of Ethernet's where all interfaces are captured at once, by older versions and by newer ones.
+/// The link types of a capture of all interfaces at once, by older and by newer versions of the tools.
 const COOKED: u32 = 113;
 
 const COOKED2: u32 = 276;
 
-/// The bits of the field of the link's kind that number it; the others tell of checksums.
+/// The numbers of bare IP packets, of both versions and of one alone.
+const RAW: u32 = 101;
+
+const RAW_TOO: u32 = 12;
+
+const RAW4: u32 = 228;
+
+const RAW6: u32 = 229;
+
+/// The numbers of headers whose packets tcprewrite reads.
+const LOOPBACK: u32 = 0;
+
+const OPEN_LOOPBACK: u32 = 108;
+
+const HDLC: u32 = 104;
+
+/// The kinds of links whose packets can be given an Ethernet header.
+const CURABLE: &[u32] = &[
+    COOKED,
+    COOKED2,
+    RAW,
+    RAW_TOO,
+    RAW4,
+    RAW6,
+    LOOPBACK,
+    OPEN_LOOPBACK,
+    HDLC,
+];
+
+/// The first second of the year 2000, and of the year 2040, as times count from 1970.
+const YEAR_2000: u32 = 946_684_800;
+
+const YEAR_2040: u32 = 2_208_988_800;
+
+/// The bits of the field that hold the link type. The others say whether frames end with checksums.
 const LINK_BITS: u32 = 0xffff;
 
 const VERSION: &str = "{} has another version than 2.4";
 
 const CONVERT: &str =
     "this writes it in the format that is read (editcap is one of Wireshark's tools):\n  editcap -F pcap {} NEW.pcap\n  editcap -F nsecpcap {} NEW.pcap    keeps nanoseconds";
+
+/// What to do where editcap refuses a custom block.
+pub(crate) const CUSTOM: &str =
+    "if editcap stops at a record that can't be saved (a custom block), write the packets alone first, and give editcap T.pcapng:\n  tshark -r {} -Y frame.encap_type -w T.pcapng";
 
 const UNPACK: &str = "editcap reads what gzip packed; without it: gzip -dc {} >NEW.pcap";
 
@@ -28,14 +66,26 @@ const MANY: &str =
 const CHECKSUMS: &str =
     "{} says of its frames that they end with their checksums, which aren't read\n  editcap -F pcap -T ether {} NEW.pcap";
 
-const NO_ETHERNET: &str =
-    "the packets of {} have no Ethernet header: link type {} is {}\nit is {}\ncapture at one Ethernet interface instead, as by `tcpdump -i eth0 -w FILE`";
+const NO_ETHERNET: &str = "the packets of {} have no Ethernet header: link type {} is {}\nit is {}";
 
-const ANY_IN_PART: &str =
-    "what is there already is made readable by this (editcap is one of Wireshark's tools), but the two addresses before each packet are none then:\n  editcap -F pcap -C 2 -L -T ether {} NEW.pcap";
+/// How to get a capture with Ethernet headers.
+pub(crate) const OTHERWISE: &str =
+    "capture at one Ethernet interface instead, as by `tcpdump -i eth0 -w FILE`";
 
-const ANY_LOST: &str =
-    "what is there already can't be made readable: the type stands at another place in its packets";
+const COOKED_CURE: &str =
+    "this gives its packets an Ethernet header with new addresses (editcap is one of Wireshark's tools, tcprewrite one of tcpreplay's):\n  editcap -F pcap -C 2 -L -T ether {} T.pcap\n  tcprewrite --enet-dmac=02:00:00:00:00:02 --enet-smac=02:00:00:00:00:01 -i T.pcap -o NEW.pcap";
+
+const COOKED2_CURE: &str =
+    "this leaves its IP packets alone, without VLAN tags (editcap is one of Wireshark's tools):\n  editcap -F pcap -C 20 -L -T rawip {} IP.pcap";
+
+const VERSION_CURE: &str =
+    "this gives it the link type of IP packets of both versions (editcap is one of Wireshark's tools):\n  editcap -F pcap -T rawip {} IP.pcap";
+
+const IP_CURE: &str =
+    "this gives its packets of IPv4 an Ethernet header (tcprewrite is one of tcpreplay's tools); for those of IPv6 write ip6 in place of ip, and 86,dd in place of 08,00:\n  tcpdump -r {} -w T.pcap ip\n  tcprewrite --dlt=user --user-dlt=1 --user-dlink=02,00,00,00,00,02,02,00,00,00,00,01,08,00 -i T.pcap -o NEW.pcap";
+
+/// The name of the file of bare IP packets in the texts above.
+const IP_FILE: &str = "IP.pcap";
 
 const PLACE_OF_GRAPHS: &str =
     "it stands behind `--graph`, as in `nfp run POLICY CAPTURE OUT REPORT --graph NAME`";
@@ -49,6 +99,9 @@ const CUT_RECORD: &str =
 
 const TOO_LONG: &str =
     "{} says that record {} has {} bytes, and at most 262144 are read: the file is damaged from there on";
+
+const JOINED: &str =
+    "this length reads like a time, as if a second capture followed the first, joined by `cat`: then record {} is the head of the second, and no packet\njoin captures by this (mergecap is one of Wireshark's tools):\n  mergecap -F pcap -w NEW.pcap FIRST SECOND ..";
 
 const LED: &str = "the records before it went through the chains; OUT and REPORT have them";
 
@@ -109,13 +162,13 @@ pub fn fault(page: &mut Page, capture: Captured<'_>, fault: CaptureFault) {
     }
 }
 
-// Tells of a file whose name goes into the first place.
+// Adds a text with the name of a file in the first place.
 fn tell_of(page: &mut Page, text: &'static str, name: &str) {
     page.tell(text);
     page.name(name);
 }
 
-/// Tells of a file whose name goes into the first two places.
+/// Adds a text with the name of a file in the first two places.
 pub(crate) fn tell_twice(page: &mut Page, text: &'static str, name: &str) {
     tell_of(page, text, name);
     page.name(name);
@@ -140,10 +193,19 @@ fn too_long(page: &mut Page, capture: Captured<'_>, record: u32, length: u32) {
     tell_of(page, TOO_LONG, capture.name);
     page.number(u64::from(record));
     page.number(u64::from(length));
+    say_joined(page, record, length);
     page.tell(done_of(capture.purpose));
 }
 
-// What became of the records before a fault.
+// In the head of a capture that follows the records of another, a length of 0 and then the time of the first record are read as lengths.
+fn say_joined(page: &mut Page, record: u32, length: u32) {
+    if record > 1 && length >= YEAR_2000 && length < YEAR_2040 {
+        page.tell(JOINED);
+        page.number(u64::from(record.saturating_sub(1)));
+    }
+}
+
+// What became of the records before the fault.
 fn done_of(purpose: Purpose) -> &'static str {
     match purpose {
         Purpose::Chains => LED,
@@ -157,7 +219,11 @@ fn bad_magic(page: &mut Page, capture: Captured<'_>) {
     let sign = sign_of(capture.front);
     tell_of(page, what_it_is(sign), name);
     match sign {
-        Sign::Pcapng | Sign::PatchedPcap | Sign::Snoop => convert(page, name),
+        Sign::Pcapng => {
+            convert(page, name);
+            tell_of(page, CUSTOM, name);
+        }
+        Sign::PatchedPcap | Sign::Snoop => convert(page, name),
         Sign::Gzip => {
             convert(page, name);
             tell_of(page, UNPACK, name);
@@ -219,22 +285,41 @@ pub fn bad_link(page: &mut Page, name: &str, kind: u32) {
     if kind & LINK_BITS == ETHERNET {
         tell_twice(page, CHECKSUMS, name);
     } else {
-        let (link, source) = link_of(kind & LINK_BITS);
-        tell_of(page, NO_ETHERNET, name);
-        page.number(u64::from(kind));
-        page.say(link);
-        page.say(source);
-        say_any(page, name, kind & LINK_BITS);
+        say_link(page, NO_ETHERNET, name, kind);
+        page.tell(OTHERWISE);
+        say_cure(page, name, kind & LINK_BITS);
     }
 }
 
-// What becomes of a capture of all interfaces that is there already.
-fn say_any(page: &mut Page, name: &str, link: u32) {
+/// Adds a text on a file and a kind of link that is not Ethernet.
+pub(crate) fn say_link(page: &mut Page, text: &'static str, name: &str, kind: u32) {
+    let (link, source) = link_of(kind & LINK_BITS);
+    tell_of(page, text, name);
+    page.number(u64::from(kind));
+    page.say(link);
+    page.say(source);
+}
+
+/// Is there a way to give the packets of a capture with this kind of link an Ethernet header?
+pub(crate) fn has_cure(link: u32) -> bool {
+    CURABLE.contains(&link)
+}
+
+/// How to give the packets of a capture with this kind of link an Ethernet header, if there is a way.
+pub(crate) fn say_cure(page: &mut Page, name: &str, link: u32) {
     match link {
-        COOKED => tell_of(page, ANY_IN_PART, name),
-        COOKED2 => page.tell(ANY_LOST),
+        COOKED => tell_of(page, COOKED_CURE, name),
+        COOKED2 => by_way_of_ip(page, COOKED2_CURE, name),
+        RAW4 | RAW6 => by_way_of_ip(page, VERSION_CURE, name),
+        RAW | RAW_TOO | LOOPBACK | OPEN_LOOPBACK | HDLC => tell_of(page, IP_CURE, name),
         _ => {}
     }
+}
+
+// The same of one that is made a capture of bare IP packets before.
+fn by_way_of_ip(page: &mut Page, text: &'static str, name: &str) {
+    tell_of(page, text, name);
+    tell_of(page, IP_CURE, IP_FILE);
 }
 
 fn cut_head(page: &mut Page, name: &str, front: &[u8]) {
@@ -258,19 +343,19 @@ fn link_of(number: u32) -> (&'static str, &'static str) {
 
 // Kinds of links by their numbers (the registry of link-layer header types).
 const LINKS: &[(u32, &str, &str)] = &[
-    (0, "BSD loopback", BSD),
+    (LOOPBACK, "BSD loopback", BSD),
     (6, "Token Ring", "what was captured at a token ring"),
     (9, "PPP", DIALLED),
     (10, "FDDI", "what was captured at an FDDI ring"),
-    (12, "raw IP", TUNNEL),
+    (RAW_TOO, "raw IP", TUNNEL),
     (14, "raw IP", TUNNEL),
     (50, "PPP", DIALLED),
     (51, "PPP", DIALLED),
-    (101, "raw IP", TUNNEL),
-    (104, "Cisco HDLC", SERIAL),
+    (RAW, "raw IP", TUNNEL),
+    (HDLC, "Cisco HDLC", SERIAL),
     (105, "IEEE 802.11", RADIO),
     (107, "Frame Relay", SERIAL),
-    (108, "OpenBSD loopback", OPENBSD),
+    (OPEN_LOOPBACK, "OpenBSD loopback", OPENBSD),
     (COOKED, "Linux cooked v1", ANY),
     (119, RADIO_LINK, RADIO),
     (127, RADIO_LINK, RADIO),
@@ -281,8 +366,8 @@ const LINKS: &[(u32, &str, &str)] = &[
     (195, "IEEE 802.15.4", RADIO),
     (201, "Bluetooth", BLUETOOTH),
     (220, "USB", USB),
-    (228, "raw IPv4", NO_HEADER),
-    (229, "raw IPv6", NO_HEADER),
+    (RAW4, "raw IPv4", NO_HEADER),
+    (RAW6, "raw IPv6", NO_HEADER),
     (230, "IEEE 802.15.4", RADIO),
     (239, "NFLOG", NFLOG),
     (253, "netlink", "what was captured at a netlink monitor"),

@@ -93,14 +93,14 @@ fn letters_sign(front: &[u8]) -> Sign {
     Sign::Text
 }
 
-/// A file that couldn't be read, and the system's reason, where it gave one.
+/// A file that couldn't be read, and the system's reason, if it gave one.
 pub fn unread(page: &mut Page, name: &str, reason: Option<Error>) {
     page.tell(UNREAD);
     page.name(name);
     say_reason(page, reason, NO_REASON);
 }
 
-/// A file that couldn't be written, and the system's reason, where it gave one.
+/// A file that couldn't be written, and the system's reason, if it gave one.
 pub fn unwritten(page: &mut Page, name: &str, reason: Option<Error>) {
     page.tell(UNWRITTEN);
     page.name(name);
@@ -115,26 +115,26 @@ fn say_reason(page: &mut Page, reason: Option<Error>, otherwise: &str) {
     }
 }
 
-/// A file that is to be written, and the other name of the run that leads to it.
+/// A file that is to be written, and another name of it among the words of the run.
 pub fn one_file(page: &mut Page, name: &str, other: &str) {
     page.tell(ONE_FILE);
     page.name(name);
     page.name(other);
 }
 
-/// A file that is to be written, to which standard output leads.
+/// A file that is to be written, and that standard output is redirected to.
 pub fn printed_file(page: &mut Page, name: &str) {
     page.tell(PRINTED_FILE);
     page.name(name);
 }
 
-/// A file that is to be written, to which standard error leads.
+/// A file that is to be written, and that standard error is redirected to.
 pub fn told_file(page: &mut Page, name: &str) {
     page.tell(TOLD_FILE);
     page.name(name);
 }
 
-/// What is printed couldn't be; where files were to be written, they were.
+/// Standard output couldn't be written. Files that were to be written are whole.
 pub fn unprinted(page: &mut Page, has_files: bool) {
     page.tell(if has_files { UNPRINTED } else { UNSHOWN });
 }

@@ -15,7 +15,7 @@ const CLAUSES: usize = 6;
 /// The greatest number that a form has.
 const GREATEST: u64 = 4_294_967_295;
 
-/// How many words may be wanted at one place.
+/// The number of alternatives at one place, at most.
 const ALTERNATIVES: usize = 3;
 
 /// The forms of the lines of a function of this kind, one a line.
@@ -35,7 +35,7 @@ pub fn forms_of(kind: Kind) -> &'static str {
     }
 }
 
-/// What stands before the name of this kind where it is spoken of.
+/// The article of the name of this kind.
 pub fn article_of(kind: Kind) -> &'static str {
     match kind {
         Kind::Encap | Kind::Untagger => "an",
@@ -56,7 +56,7 @@ pub fn clauses_of(kind: Kind) -> &'static str {
 pub const ALL_CLAUSES: &str =
     "src PREFIX, dst PREFIX, sport PORTS, dport PORTS, proto tcp|udp|0-255, tag 0-4095|none";
 
-/// What a function of this kind can't be without.
+/// The lines that a function of this kind must have.
 pub fn required_of(kind: Kind) -> &'static str {
     match kind {
         Kind::Nat => "set inside, set public and set ports",
@@ -65,6 +65,16 @@ pub fn required_of(kind: Kind) -> &'static str {
         Kind::Encap => "set entry, set exit and set ttl",
         Kind::Decap => "set exit",
         _ => "nothing",
+    }
+}
+
+/// What the forms of this kind do not say.
+pub fn note_of(kind: Kind) -> &'static str {
+    match kind {
+        Kind::Limiter => {
+            "the rate is in bytes a second and the burst in bytes: 10 Mbit/s are `set rate 1250000`"
+        }
+        _ => "",
     }
 }
 
@@ -83,7 +93,7 @@ const LINE_FORMS: &[(&[u8], &str)] = &[
     (b"rule", "  rule WORD .."),
 ];
 
-/// The place up to which a line fits the best of these forms. Nothing where it fits one of them whole.
+/// The place up to which a line fits the best of these forms, or nothing if it fits one of them whole.
 pub fn best_misfit(page: &mut Page, forms: &str, clauses: &str, row: Row<'_>) -> Option<usize> {
     let clauses = Row::new(0, clauses.as_bytes());
     let mut best = 0;
@@ -114,7 +124,7 @@ fn misfit(form: Row<'_>, clauses: Row<'_>, row: Row<'_>) -> Option<usize> {
     None
 }
 
-// The place of the first word, from this place on, that doesn't fit clauses, is missing, or stands twice.
+// The place of the first word, from this place on, that doesn't fit clauses, is missing, or begins a clause a second time.
 fn clauses_misfit(clauses: Row<'_>, row: Row<'_>, from: usize) -> Option<usize> {
     let mut place = from;
     for _ in 0..=CLAUSES {
@@ -135,12 +145,12 @@ fn clauses_misfit(clauses: Row<'_>, row: Row<'_>, from: usize) -> Option<usize> 
     None
 }
 
-// What has to stand behind the first word of a clause, or nothing where there is no such clause.
+// What has to follow the first word of a clause, or nothing if there is no such clause.
 fn wanted_of<'a>(clauses: Row<'a>, lead: &[u8]) -> &'a [u8] {
     clauses.word(place_of_word(clauses, 0, lead).saturating_add(1))
 }
 
-// The place of the first clause, from this place on, that begins with a word, or behind all of them.
+// The place of the first clause, from this place on, that begins with a word, or the place after all of them.
 fn place_of_word(row: Row<'_>, from: usize, lead: &[u8]) -> usize {
     let mut place = from;
     for _ in 0..CLAUSES {
@@ -152,7 +162,7 @@ fn place_of_word(row: Row<'_>, from: usize, lead: &[u8]) -> usize {
     place
 }
 
-// Does a word fit one of those that are wanted, with bars between them and maybe a comma behind?
+// Does a word fit one of the alternatives of a form, which have bars between them and may end with a comma?
 fn fits(wanted: &[u8], word: &[u8]) -> bool {
     let mut rest = &wanted[..until(wanted, b',')];
     for _ in 0..ALTERNATIVES {
@@ -180,7 +190,7 @@ fn fits_one(wanted: &[u8], word: &[u8]) -> bool {
     }
 }
 
-/// What a word of a form stands for.
+/// What a word of a form means.
 #[derive(Clone, Copy)]
 enum Value {
     Prefix,

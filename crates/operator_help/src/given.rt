@@ -1,4 +1,4 @@
-//! The words behind a command, and the first that doesn't fit.
+//! The words that follow a command, and the first that doesn't fit.
 
 use crate::lines::{part, until};
 use crate::page::Page;
@@ -17,12 +17,15 @@ const NO_VALUE: &str = "`{}` has no value";
 
 const TOO_MANY: &str = "`{}` is a name too many: `{}` has {}";
 
+const JOIN: &str =
+    "several captures are joined to one by this (mergecap is one of Wireshark's tools):\n  mergecap -F pcap -w NEW.pcap FIRST SECOND ..";
+
 const MISSING: &str = "{} is missing: `{}` has {}";
 
 /// How many options a command has at most.
 const MOST_OPTIONS: usize = 4;
 
-/// What stands behind a command: its names in their order, and its options.
+/// What follows a command: its names in their order, and its options.
 #[derive(Clone, Copy)]
 struct Form {
     command: &'static str,
@@ -62,7 +65,7 @@ const DEMO: &Form = &Form {
 
 const FORMS: &[&Form] = &[RUN, PLAN, FLOWS, DEMO];
 
-/// Tells the first of the words behind a command that doesn't fit, or what is missing.
+/// Reports the first word after a command that doesn't fit, or what is missing.
 pub fn misfit(page: &mut Page, words: &[String]) {
     let mut reading = Reading::new(form_of(words));
     for (place, word) in words.iter().enumerate() {
@@ -94,7 +97,7 @@ fn form_named(command: &str) -> &'static Form {
 struct Reading {
     form: &'static Form,
     names: usize,
-    /// Whether each word is a name now.
+    /// Is each word a name from now on?
     behind: bool,
     /// The option whose value comes next.
     waits: Option<&'static [u8]>,
@@ -113,7 +116,7 @@ impl Reading {
         }
     }
 
-    // Whether the next word fits. Where it doesn't, it is told.
+    // Does the next word fit? If not, this is reported.
     fn takes(&mut self, page: &mut Page, word: &[u8]) -> bool {
         match self.waits.take() {
             Some(option) => self.takes_value(page, option, word),
@@ -121,7 +124,7 @@ impl Reading {
         }
     }
 
-    // The same of a word that is no value of an option before it.
+    // The same of a word that is not the value of an option.
     fn takes_free(&mut self, page: &mut Page, word: &[u8]) -> bool {
         if self.behind || !word.starts_with(b"-") {
             self.takes_name(page, word)
@@ -147,11 +150,20 @@ impl Reading {
             return tell(page, EMPTY);
         }
         if self.names >= self.form.names.len() {
-            tell_word(page, TOO_MANY, word);
-            return self.say_form(page);
+            return self.too_many(page, word);
         }
         self.names = self.names.saturating_add(1);
         true
+    }
+
+    // A name is one too many, as one of several captures is.
+    fn too_many(&self, page: &mut Page, word: &[u8]) -> bool {
+        tell_word(page, TOO_MANY, word);
+        self.say_form(page);
+        if self.form.names.contains(&"CAPTURE") {
+            page.tell(JOIN);
+        }
+        false
     }
 
     fn takes_option(&mut self, page: &mut Page, word: &[u8]) -> bool {
@@ -168,7 +180,7 @@ impl Reading {
         false
     }
 
-    // Whether the option at this place of the form, with which a word begins, wasn't given before, and has a value where one stands behind it.
+    // Takes the option at this place of the form, unless it was given before or has an empty value after `=`.
     fn takes_once(
         &mut self,
         page: &mut Page,
@@ -187,7 +199,7 @@ impl Reading {
         }
     }
 
-    // Whether the option at this place of the form was given before. It is given from now on.
+    // Was the option at this place of the form given before? From now on it counts as given.
     fn is_given(&mut self, place: usize) -> bool {
         let place = place.min(MOST_OPTIONS - 1);
         let before = self.given[place];
@@ -195,7 +207,7 @@ impl Reading {
         before
     }
 
-    // What is missing behind the last word.
+    // Reports what is missing after the last word.
     fn end(&self, page: &mut Page) {
         if let Some(option) = self.waits {
             tell_word(page, NO_VALUE, option);

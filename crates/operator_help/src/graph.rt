@@ -144,7 +144,7 @@ fn say_planned(page: &mut Page, rows: &[Row<'_>]) {
     }
 }
 
-// A line that has no form, or stands where it can't.
+// A line that has no form, or is in a wrong place.
 fn syntax(page: &mut Page, text: Lines<'_>, line: u32) {
     let place = place_of(text.rows, line);
     let row = row_at(text.rows, place);
@@ -181,7 +181,7 @@ fn column_unless(row: Row<'_>, place: usize, fits: bool) -> Option<usize> {
     if fits { None } else { Some(row.column(place)) }
 }
 
-// The column of the first word behind the first that is no name, or where one is missing.
+// The column of the first word after the first that is no name, or where a name is missing.
 fn column_of_no_name(row: Row<'_>) -> Option<usize> {
     if row.word(1).is_empty() {
         return Some(row.column(1));
@@ -232,7 +232,7 @@ fn is_number(word: &[u8]) -> bool {
     true
 }
 
-// A line that has a form stands where it can't.
+// A line that has a form is in a wrong place.
 fn say_place(page: &mut Page, text: Lines<'_>, row: Row<'_>, place: usize) {
     quote_row(page, text.name, row, None);
     if row.begins_with(b"branch") {
@@ -244,7 +244,7 @@ fn say_place(page: &mut Page, text: Lines<'_>, row: Row<'_>, place: usize) {
     }
 }
 
-// A stage without a branch. The line behind it may begin as one, and be none.
+// A stage without a branch. The line after it may begin as a branch without being one.
 fn say_no_branch(page: &mut Page, text: Lines<'_>, place: usize) {
     page.tell(NO_BRANCH);
     let row = row_at(rows_behind(text.rows, place), 0);
@@ -295,7 +295,7 @@ fn say_elsewhere(page: &mut Page, policy: Lines<'_>, function: &[u8]) {
     }
 }
 
-// The first word behind the first that these lines don't declare as a function.
+// The first word after the first that these lines don't declare as a function.
 fn undeclared<'a>(row: Row<'a>, rows: &[Row<'_>]) -> (usize, &'a [u8]) {
     let mut column = row.column(1);
     for _ in 0..row.text.len() {
@@ -308,7 +308,7 @@ fn undeclared<'a>(row: Row<'a>, rows: &[Row<'_>]) -> (usize, &'a [u8]) {
     row.word_from(column)
 }
 
-// A chain is listed again, or a function stands again.
+// A chain or a function is listed a second time.
 fn twice(page: &mut Page, text: Lines<'_>, line: u32) {
     let place = place_of(text.rows, line);
     let row = row_at(text.rows, place);
@@ -324,7 +324,7 @@ fn listed_twice(page: &mut Page, text: Lines<'_>, row: Row<'_>) {
     quote_row(page, text.name, line_of_chain(text.rows, row.word(1)), None);
 }
 
-// The first word of a branch that stands in these lines before it, or before it in its own.
+// The first word of a branch that is in these lines before it, or before it in its own line.
 fn stands_twice(page: &mut Page, name: &str, row: Row<'_>, before: &[Row<'_>]) {
     let (start, word) = row.word_from(column_of_repeated(row, before));
     quote_row(page, name, row, Some(start));
@@ -390,7 +390,7 @@ fn is_whole(kind: &[u8]) -> bool {
     }
 }
 
-// A function of a chain that is listed stands nowhere.
+// A function of a listed chain is in no branch.
 fn missing(page: &mut Page, text: Lines<'_>, policy: Lines<'_>, chain: u32, function: u32) {
     let here = chain_at(policy.rows, chain);
     let row = function_at(here, function);
@@ -418,7 +418,7 @@ fn pair_of<'a>(policy: Lines<'a>, chain: u32, first: u32, second: u32) -> Pair<'
     }
 }
 
-// Quotes the lines in which two functions stand, that of the first in the chain first, or their one line.
+// Quotes the lines of two functions, that of the first in the chain first, or their one line.
 fn quote_pair(page: &mut Page, text: Lines<'_>, pair: Pair<'_>) {
     let here = chain_named(text.rows, pair.chain);
     if let Some((row, mark)) = holding(here, pair.first) {

@@ -1,7 +1,7 @@
 //! The lines of a text and their words.
 ghost use Rattle.std.specs.Prelude.{◌≤◌, length};
 
-/// A line with its number, counted from 1, and what of it stands before a comment.
+/// A line with its number, counted from 1, and the part of it before a comment.
 #[derive(Clone, Copy)]
 pub struct Row<'a> {
     pub number: u32,
@@ -22,12 +22,12 @@ impl<'a> Row<'a> {
         part(self.said, start, end)
     }
 
-    /// The column of the word at a place, counted from 0, or the one behind the last word.
+    /// The column of the word at a place, counted from 0, or the column after the last word.
     pub fn column(&self, place: usize) -> usize {
         self.span(place).0
     }
 
-    // Where the word at a place begins and ends. One that isn't there begins and ends behind the last.
+    // Where the word at a place begins and ends. A word that isn't there begins and ends after the last one.
     fn span(&self, place: usize) -> (usize, usize) {
         let mut last = 0;
         for _ in 0..place {
@@ -43,13 +43,13 @@ impl<'a> Row<'a> {
         }
     }
 
-    /// The first word from a column on, and the column at which it begins. Behind the last word it is empty.
+    /// The first word from a column on, and the column at which it begins. After the last word it is empty.
     pub fn word_from(&self, column: usize) -> (usize, &'a [u8]) {
         let (start, end) = next_word(self.said, column);
         (start, part(self.said, start, end))
     }
 
-    /// The column of the first word like this behind the first word, or nothing.
+    /// The column of the first word like this after the first word of the line, or nothing.
     pub fn column_of(&self, word: &[u8]) -> Option<usize> {
         let mut column = self.word(0).len().saturating_add(self.column(0));
         for _ in 0..self.said.len() {
@@ -90,7 +90,7 @@ impl<'a> Row<'a> {
         self.begins_with(b"set") || self.begins_with(b"rule")
     }
 
-    /// Does it begin with a word, and have this name behind it?
+    /// Does it begin with a word, and does this name follow?
     pub fn names(&self, word: &[u8], name: &[u8]) -> bool {
         self.begins_with(word) && self.word(1) == name
     }
@@ -101,7 +101,7 @@ pub fn is_one_of(word: &[u8], words: &[&[u8]]) -> bool {
     words.contains(&word)
 }
 
-/// How many bytes stand before the first one like this.
+/// The number of bytes before the first one like this.
 pub fn until(text: &[u8], byte: u8) -> usize
     ensures { result ≤ length text.now }
 {
@@ -113,7 +113,7 @@ pub fn until(text: &[u8], byte: u8) -> usize
     text.len()
 }
 
-/// The text that stands beside a word in a table, or nothing.
+/// The text for a word in a table, or nothing.
 pub fn text_beside(table: &[(&[u8], &'static str)], word: &[u8]) -> &'static str {
     for (each, text) in table {
         if *each == word {
@@ -129,13 +129,13 @@ pub fn part(text: &[u8], start: usize, end: usize) -> &[u8] {
     &text[start.min(end)..end]
 }
 
-// Where the first word from this place on begins and ends: at one place where there is none.
+// Where the first word from this place on begins and ends. If there is no word, both are the same place.
 fn next_word(text: &[u8], from: usize) -> (usize, usize) {
     let start = skip(text, from, true);
     (start, skip(text, start, false))
 }
 
-// The first place, from this one on, behind blanks, or behind what is none.
+// The first place, from this one on, after blanks, or after bytes that are not blanks.
 fn skip(text: &[u8], from: usize, blanks: bool) -> usize {
     let mut place = from;
     for byte in &text[from.min(text.len())..] {
@@ -151,7 +151,7 @@ fn is_blank(byte: u8) -> bool {
     byte == b' ' || byte == b'\t'
 }
 
-/// The place of the line with a number among the lines, or the one behind them.
+/// The place of the line with a number among the lines, or the place after them.
 pub fn place_of(rows: &[Row<'_>], number: u32) -> usize
     ensures { result ≤ length rows.now }
 {
@@ -171,7 +171,7 @@ pub fn row_at<'a>(rows: &[Row<'a>], place: usize) -> Row<'a> {
     }
 }
 
-/// The first of these lines that begins with a word and has this name behind it.
+/// The first of these lines that begins with a word and is followed by this name.
 pub fn first_naming<'a>(rows: &[Row<'a>], word: &[u8], name: &[u8]) -> Option<Row<'a>> {
     for row in rows {
         if row.names(word, name) {
@@ -200,7 +200,7 @@ pub fn chain_at<'r, 'a>(rows: &'r [Row<'a>], number: u32) -> &'r [Row<'a>] {
     &rows[rows.len()..]
 }
 
-/// The first of these lines, and those behind it up to the next chain.
+/// The first of these lines, and those that follow up to the next chain.
 pub fn up_to_chain<'r, 'a>(rows: &'r [Row<'a>]) -> &'r [Row<'a>] {
     for (place, row) in rows.iter().enumerate() {
         if place > 0 && row.begins_with(b"chain") {
@@ -210,7 +210,7 @@ pub fn up_to_chain<'r, 'a>(rows: &'r [Row<'a>]) -> &'r [Row<'a>] {
     rows
 }
 
-/// The lines behind a place.
+/// The lines after a place.
 pub fn rows_behind<'r, 'a>(rows: &'r [Row<'a>], place: usize) -> &'r [Row<'a>] {
     &rows[place.saturating_add(1).min(rows.len())..]
 }

@@ -13,15 +13,15 @@ const PREFIX: &[u8] = b"nfp: ";
 /// What a line begins with that belongs to the one before.
 const INDENTED: &[u8] = b"nfp:   ";
 
-/// Lines for the operator, each behind the name of the program.
+/// Lines for the operator, each after the name of the program.
 ///
-/// A text is told with places for what it speaks of, each written `{}`: [`Page::tell`] adds it up to the first of them, and each piece that is
-/// added goes into its place and takes the text with it up to the next.
+/// A text has places for pieces, each written `{}`. [`Page::tell`] adds it up to the first place. Each piece goes into its place, and the text
+/// up to the next place follows.
 #[derive(Drop)]
 pub struct Page {
     alloc: Global,
     text: Vec<u8>,
-    /// What is left of a text behind the place where the next piece goes.
+    /// The part of a text after the place of the next piece.
     rest: &'static [u8],
     /// There was no memory for some of it.
     short: bool,
@@ -38,7 +38,7 @@ impl Page {
         }
     }
 
-    /// The lines so far, or nothing where there was no memory for all of them.
+    /// The lines so far, or nothing if there was no memory for all of them.
     pub fn text(&self) -> &str {
         if self.short {
             return "";
@@ -77,7 +77,7 @@ impl Page {
         }
     }
 
-    // Adds a text, with the prefix behind the end of each line.
+    // Adds a text, with the prefix after the end of each line.
     fn put_lines(&mut self, text: &[u8]) {
         for byte in text {
             self.push(*byte);
@@ -93,7 +93,7 @@ impl Page {
         self.go_on();
     }
 
-    /// Puts the name of a file into its place, with what steers a terminal escaped.
+    /// Puts the name of a file into its place, with control characters escaped.
     pub(crate) fn name(&mut self, name: &str) {
         put_name(self, name);
         self.go_on();
@@ -120,7 +120,7 @@ impl Page {
         }
     }
 
-    /// Adds a line of a file, with a mark under this column where there is one, counted from 0.
+    /// Adds a line of a file, with a mark under a column if one is given, counted from 0.
     pub(crate) fn quote(&mut self, line: &[u8], mark: Option<usize>) {
         self.put(INDENTED);
         let place = put_shown(self, line, mark.unwrap_or(0));
@@ -130,7 +130,7 @@ impl Page {
         }
     }
 
-    // Adds a mark with so many blanks before it.
+    // Adds a mark after this number of blanks.
     fn mark(&mut self, place: usize) {
         self.put(INDENTED);
         for _ in 0..place {

@@ -1,6 +1,7 @@
 //! What is wrong with a policy, and what its lines may be.
 
 use crate::forms::{ALL_CLAUSES, forms_of_line};
+use crate::hints::{COMMENT, is_comment};
 use crate::lines::{Row, chain_at, first_naming, is_one_of, place_of, row_at, row_of};
 use crate::page::Page;
 use crate::quotes::{
@@ -8,7 +9,8 @@ use crate::quotes::{
 };
 pub use crate::settings::bad_setting;
 use crate::settings::{kind_at, say_kind_forms, say_word};
-use action_profile::KINDS;
+use crate::words::{FIRST_WORDS, kind_meant, text_for};
+use action_profile::{KINDS, Kind};
 use policy_text::TextFault;
 
 /// How many statements of a cycle's chain are shown.
@@ -49,9 +51,24 @@ const REVERSED: &str = "in `priority A > B` the function A stands behind B";
 
 const FUNCTIONS: &str = "a policy has at most 64 functions, in all its chains";
 
-const CHAINS: &str = "a policy has at most 16 chains";
+const CHAINS: &str =
+    "a policy has at most 16 chains\nwiden the clauses of one so that it takes the packets of two, and tell these apart by the clauses of rules, in a firewall more";
 
 const RULES: &str = "a function has at most 256 rules";
+
+const SECOND_FIREWALL: &str =
+    "write the others in a second firewall that follows in this chain; a packet has to pass both\nso an `allow` before a `deny` of the second is needed there too, and lists of `allow` before `set default deny` can't be split so: use wider prefixes, or a chain for a part of the packets";
+
+const SECOND_FUNCTION: &str = "write the others in a second function of this kind";
+
+const SECOND_CHAIN: &str =
+    "write the others in a second balancer in a chain of its own, which takes a part of the packets by `match`";
+
+const BEGINS: &str = "a function is declared by `fn NAME KIND`: write `fn {} {}`";
+
+const TURNED: &str = "the name is before the kind: write `fn {} {}`";
+
+const OTHER_KIND: &str = "the kind that does this is another: write `fn {} {}`";
 
 const VERSION_LINE: &str = "the first line has to be `nfp 1`";
 
@@ -95,7 +112,7 @@ fn tell_fault(page: &mut Page, lines: Lines<'_>, fault: TextFault) {
         TextFault::UnknownName(line) => unknown_name(page, lines, line),
         TextFault::TooManyFunctions(line) => limit(page, lines, line, FUNCTIONS),
         TextFault::TooManyChains(line) => limit(page, lines, line, CHAINS),
-        TextFault::TooManyRules(line) => limit(page, lines, line, RULES),
+        TextFault::TooManyRules(line) => too_many_rules(page, lines, line),
         TextFault::OutOfMemory => {}
     }
 }
@@ -157,6 +174,16 @@ fn limit(page: &mut Page, lines: Lines<'_>, line: u32, text: &'static str) {
     page.tell(text);
 }
 
+// A function has one rule too many.
+fn too_many_rules(page: &mut Page, lines: Lines<'_>, line: u32) {
+    limit(page, lines, line, RULES);
+    match kind_at(lines.rows, place_of(lines.rows, line)) {
+        Some(Kind::Firewall) => page.tell(SECOND_FIREWALL),
+        Some(Kind::Balancer) => page.tell(SECOND_CHAIN),
+        _ => page.tell(SECOND_FUNCTION),
+    }
+}
+
 // A word doesn't fit, or is missing.
 fn syntax(page: &mut Page, lines: Lines<'_>, line: u32, column: usize) {
     let place = place_of(lines.rows, line);
@@ -174,10 +201,24 @@ fn syntax(page: &mut Page, lines: Lines<'_>, line: u32, column: usize) {
 
 // The first word of a line doesn't fit.
 fn say_first(page: &mut Page, row: Row<'_>) {
-    page.tell_word(place_of_line(row), row.word(0));
+    let first = row.word(0);
+    page.tell_word(place_of_line(row), first);
+    if is_comment(first) {
+        page.tell(COMMENT);
+    } else if Kind::named(first).is_some() {
+        say_declaration(page, BEGINS, row.word(1), first);
+    } else {
+        page.tell_some(text_for(FIRST_WORDS, first));
+    }
 }
 
-// Where such a line stands, if there is such a line.
+// Adds the line that declares a function, after this text.
+fn say_declaration(page: &mut Page, text: &'static str, name: &[u8], kind: &[u8]) {
+    page.tell_word(text, if name.is_empty() { b"NAME" } else { name });
+    page.word(kind);
+}
+
+// Where such a line belongs, if there is such a line.
 fn place_of_line(row: Row<'_>) -> &'static str {
     if row.is_setting() {
         IN_FUNCTION
@@ -200,7 +241,7 @@ fn say_line_forms(page: &mut Page, rows: &[Row<'_>], place: usize) {
     }
 }
 
-/// Adds forms, and what the words in capitals stand for.
+/// Adds forms, and what the words in capitals mean.
 pub fn say_forms(page: &mut Page, forms: &'static str, clauses: &str) {
     page.tell_some(forms);
     if forms.contains("NAME") {
@@ -219,7 +260,17 @@ pub fn say_forms(page: &mut Page, forms: &'static str, clauses: &str) {
 fn unknown_kind(page: &mut Page, lines: Lines<'_>, line: u32) {
     let row = row_of(lines.rows, line);
     quote_word(page, lines.name, row, 2, UNKNOWN_KIND);
+    say_kind_meant(page, row);
     say_kinds(page);
+}
+
+// The line with the kind that seems to be meant.
+fn say_kind_meant(page: &mut Page, row: Row<'_>) {
+    if Kind::named(row.word(1)).is_some() {
+        say_declaration(page, TURNED, row.word(2), row.word(1));
+    } else if let Some(kind) = kind_meant(row.word(2)) {
+        say_declaration(page, OTHER_KIND, row.word(1), kind.name().as_bytes());
+    }
 }
 
 fn say_kinds(page: &mut Page) {

@@ -13,7 +13,7 @@ const BYTE_ORDER_MARK: &str =
 const UTF16: &str =
     "it begins with a byte order mark of UTF-16: save the file as UTF-8, without a byte order mark";
 
-/// What is told of a file that is something else than the text that is due, or nothing.
+/// The texts for a file that is something else than the text that is expected, or nothing.
 #[derive(Clone, Copy)]
 pub struct Otherwise {
     pub capture: &'static str,
@@ -37,13 +37,13 @@ pub fn quote_row(page: &mut Page, name: &str, row: Row<'_>, mark: Option<usize>)
     page.quote(row.text, mark);
 }
 
-/// The byte at a place is no UTF-8. The text may be something else than what is due.
+/// The byte at a place is no UTF-8. The file may be something else than the text that is expected.
 pub fn not_utf8(page: &mut Page, lines: Lines<'_>, place: usize, otherwise: Otherwise) {
     quote_byte(page, lines.name, lines.text, place);
     say_sign(page, lines.text, otherwise);
 }
 
-/// The first line isn't the one that is due, as is told.
+/// The first line isn't the expected one, which the text `due` names.
 pub fn bad_first_line(page: &mut Page, lines: Lines<'_>, due: &'static str, otherwise: Otherwise) {
     if !tells_mark(page, lines.name, lines.text) {
         quote_first(page, lines.name, lines.rows);
@@ -52,7 +52,7 @@ pub fn bad_first_line(page: &mut Page, lines: Lines<'_>, due: &'static str, othe
     }
 }
 
-/// Adds a line with a mark under the word at a place, and tells this of the word.
+/// Adds a line with a mark under the word at a place, and a text with the word.
 pub fn quote_word(page: &mut Page, name: &str, row: Row<'_>, place: usize, told: &'static str) {
     quote_row(page, name, row, Some(row.column(place)));
     page.tell_word(told, row.word(place));
@@ -85,7 +85,7 @@ fn quote_byte(page: &mut Page, name: &str, text: &[u8], place: usize) {
     page.tell(NOT_UTF8);
 }
 
-// Adds the first of these lines, which isn't the one that has to stand there, or tells that there is none.
+// Adds the first of these lines, which isn't the expected one, or says that there is no line.
 fn quote_first(page: &mut Page, name: &str, rows: &[Row<'_>]) {
     match rows.first() {
         Some(row) => quote_row(page, name, *row, Some(row.column(0))),
@@ -96,7 +96,7 @@ fn quote_first(page: &mut Page, name: &str, rows: &[Row<'_>]) {
     }
 }
 
-// Whether a text begins with a byte order mark of UTF-8, which is told then.
+// Does a text begin with a byte order mark of UTF-8? If so, this is reported.
 fn tells_mark(page: &mut Page, name: &str, text: &[u8]) -> bool {
     if !matches!(sign_of(text), Sign::Utf8) {
         return false;
@@ -107,7 +107,7 @@ fn tells_mark(page: &mut Page, name: &str, text: &[u8]) -> bool {
     true
 }
 
-/// What else the file is, where that can be told.
+/// What else the file is, if that is known.
 pub fn say_sign(page: &mut Page, text: &[u8], otherwise: Otherwise) {
     let said = match sign_of(text) {
         Sign::Pcap | Sign::Pcapng => otherwise.capture,

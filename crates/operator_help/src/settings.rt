@@ -1,7 +1,7 @@
 //! What is wrong with the lines of a function.
 
-use crate::forms::{article_of, best_misfit, clauses_of, forms_of, required_of};
-use crate::hints::hint_of;
+use crate::forms::{article_of, best_misfit, clauses_of, forms_of, note_of, required_of};
+use crate::hints::say_hint;
 use crate::lines::{Row, last_before, place_of, row_at, rows_behind};
 use crate::page::Page;
 use crate::policy::{PolicyText, say_forms};
@@ -59,18 +59,19 @@ pub fn say_kind_forms(page: &mut Page, kind: Kind) {
     } else {
         tell_kind(page, LINES, kind);
         say_forms(page, forms, clauses_of(kind));
+        page.tell_some(note_of(kind));
     }
 }
 
-// Tells of a kind, whose article goes into the first place and whose name goes into the second.
+// Adds a text with the article of a kind in the first place and its name in the second.
 fn tell_kind(page: &mut Page, text: &'static str, kind: Kind) {
     page.tell(text);
     page.say(article_of(kind));
     page.say(kind.name());
 }
 
-// A line that is required of a function is missing, or can't be read. Quotes the first of the lines behind that of the function
-// that fits no form of its kind.
+// A line that is required of a function is missing, or can't be read. Quotes the first line after that of the function which fits
+// no form of its kind.
 fn bad_function(page: &mut Page, name: &str, row: Row<'_>, behind: &[Row<'_>], kind: Kind) {
     quote_row(page, name, row, None);
     tell_kind(page, MISSING, kind);
@@ -78,7 +79,7 @@ fn bad_function(page: &mut Page, name: &str, row: Row<'_>, behind: &[Row<'_>], k
     quote_first_misfit(page, name, behind, kind);
 }
 
-// The first line of a function of this kind that fits no form, where these lines begin with its lines.
+// The first line of a function of this kind that fits no form, if these lines begin with its lines.
 fn quote_first_misfit(page: &mut Page, name: &str, rows: &[Row<'_>], kind: Kind) {
     for row in rows {
         if !row.is_setting() || quote_misfit(page, name, *row, kind) {
@@ -87,7 +88,7 @@ fn quote_first_misfit(page: &mut Page, name: &str, rows: &[Row<'_>], kind: Kind)
     }
 }
 
-// Quotes a line with a mark under the first word that fits no form of this kind, where there is one.
+// Quotes a line with a mark under the first word that fits no form of this kind, if there is such a word.
 fn quote_misfit(page: &mut Page, name: &str, row: Row<'_>, kind: Kind) -> bool {
     match best_misfit(page, forms_of(kind), clauses_of(kind), row) {
         Some(place) => {
@@ -99,7 +100,7 @@ fn quote_misfit(page: &mut Page, name: &str, row: Row<'_>, kind: Kind) -> bool {
     }
 }
 
-// Quotes the line that is refused, behind these.
+// Quotes the line that is refused, which follows these.
 fn bad_line(page: &mut Page, name: &str, row: Row<'_>, before: &[Row<'_>], kind: Kind) {
     if !quote_misfit(page, name, row, kind) {
         quote_row(page, name, row, None);
@@ -107,7 +108,7 @@ fn bad_line(page: &mut Page, name: &str, row: Row<'_>, before: &[Row<'_>], kind:
     }
 }
 
-// A line that fits a form sets what stands before it already, or is a rule that can't stand beside the others, as a server's.
+// A line that fits a form is refused because it sets what is set already, or because it does not agree with others, as a server's address.
 fn say_clash(page: &mut Page, name: &str, row: Row<'_>, before: &[Row<'_>]) {
     if row.begins_with(b"rule") {
         page.tell(OTHER_VERSION);
@@ -118,7 +119,7 @@ fn say_clash(page: &mut Page, name: &str, row: Row<'_>, before: &[Row<'_>]) {
     }
 }
 
-// The last of these lines that sets this, behind the line of their function.
+// The last of these lines that sets this, after the line of their function.
 fn setting_before<'a>(rows: &[Row<'a>], key: &[u8]) -> Option<Row<'a>> {
     let mut last = None;
     for row in rows {
@@ -138,6 +139,6 @@ pub fn say_word(page: &mut Page, row: Row<'_>, place: usize) {
         page.tell("a word is missing here");
     } else {
         page.tell_word("`{}` doesn't fit here", word);
-        page.tell_some(hint_of(row, place));
+        say_hint(page, row, place);
     }
 }

@@ -6,16 +6,16 @@ use crate::page::Page;
 /// The most bytes of a line that are shown.
 const WIDTH: usize = 100;
 
-/// How many of them stand before the mark, at most.
+/// The most of them that are shown before the mark.
 const BEFORE: usize = 60;
 
-/// Stands for what is left out.
+/// Replaces what is left out.
 const CUT: &[u8] = b"...";
 
 /// The digits of hexadecimal numbers.
 const DIGITS: &[u8; 16] = b"0123456789abcdef";
 
-/// Adds a line, cut around a place where it is long, and says how many characters stand before that place.
+/// Adds a line, cut around a place if it is long. Returns the number of characters before that place.
 pub fn put_shown(page: &mut Page, line: &[u8], place: usize) -> usize {
     let place = place.min(line.len());
     let start = place.saturating_sub(BEFORE);
@@ -31,8 +31,8 @@ fn cut_where(is_cut: bool) -> &'static [u8] {
     if is_cut { CUT } else { b"" }
 }
 
-/// Adds the name of a file, whose letters may be of any alphabet: only what steers a terminal is escaped, the controls of ASCII and
-/// those from U+0080 to U+009F, which UTF-8 writes as the byte 0xc2 and one from 0x80 to 0x9f.
+/// Adds the name of a file, whose letters may be of any alphabet. Only control characters are escaped: those of ASCII and those from
+/// U+0080 to U+009F, which UTF-8 writes as the byte 0xc2 and one from 0x80 to 0x9f.
 pub fn put_name(page: &mut Page, name: &str) {
     let bytes = name.as_bytes();
     let mut before = 0;
@@ -48,7 +48,7 @@ pub fn put_name(page: &mut Page, name: &str) {
     }
 }
 
-// The byte behind this place, or the greatest one.
+// The byte after this place, or the greatest one.
 fn behind(bytes: &[u8], place: usize) -> u8 {
     match bytes.get(place.saturating_add(1)) {
         Some(byte) => *byte,
@@ -70,12 +70,24 @@ fn put_byte(page: &mut Page, byte: u8) {
         page.push(b' ');
     } else {
         page.put(b"\\x");
-        page.push(DIGITS[usize::from(byte / 16)]);
-        page.push(DIGITS[usize::from(byte % 16)]);
+        put_pair(page, byte);
     }
 }
 
-// How many characters bytes are shown by.
+// The two hexadecimal digits of a byte.
+fn put_pair(page: &mut Page, byte: u8) {
+    page.push(DIGITS[usize::from(byte / 16)]);
+    page.push(DIGITS[usize::from(byte % 16)]);
+}
+
+/// Adds bytes by their hexadecimal digits.
+pub fn put_digits(page: &mut Page, bytes: &[u8]) {
+    for byte in bytes {
+        put_pair(page, *byte);
+    }
+}
+
+// The number of characters by which bytes are shown.
 fn width_of(bytes: &[u8]) -> usize {
     let mut width = 0usize;
     for byte in bytes {

@@ -38,7 +38,7 @@ pub fn out_of_range(page: &mut Page, what: &str, least: u64, most: u64) {
     page.number(most);
 }
 
-/// The way of merging is none.
+/// There is no such way of merging.
 pub fn no_way(page: &mut Page) {
     page.tell("the value of --merge is one of inbox and board");
 }
