@@ -348,7 +348,7 @@ class Walk:
                 out(respell(spelled, left), number)
         self.records, self.last_time = number, time
         memo.settle()
-        if self.report:
+        if self.report and not self.capture.is_refused:
             self.end()
 
     def end(self):
