@@ -14,6 +14,7 @@ import capture_stream
 import packet_memo
 import packet_rules
 import policy_rules
+from report_rows import PROTOCOLS
 
 STEP = 1000  # packets between two reports of the progress
 CHUNK = 1 << 20  # bytes of a file that are compared at once
@@ -402,7 +403,3 @@ def found_of(number, time, fields, fate):
     ports = {field: packet_rules.number(fields[field]) if field in fields else None for field in ('sport', 'dport')}
     proto = PROTOCOLS.get(fields['proto'][0], str(fields['proto'][0])) if 'proto' in fields else None
     return Found(number, time, proto, told['src'], ports['sport'], told['dst'], ports['dport'], fate.chain, fate.drop)
-
-
-# The protocols that are named. The others are shown by their numbers.
-PROTOCOLS = {1: 'icmp', 2: 'igmp', 4: 'ipip', 6: 'tcp', 17: 'udp', 47: 'gre', 50: 'esp', 51: 'ah', 58: 'icmpv6', 89: 'ospf', 103: 'pim', 112: 'vrrp', 132: 'sctp'}

@@ -25,6 +25,9 @@ TABLES = {
 NUMBERS = {'records', 'emitted', 'dropped', 'record', 'count', 'seen', 'proto', 'port', 'public_port', 'source_port', 'destination_port'}
 NUMBERS |= {'packets', 'bytes', 'tokens', 'moment'}
 
+# The protocols that are named. The others are shown by their numbers.
+PROTOCOLS = {1: 'icmp', 2: 'igmp', 4: 'ipip', 6: 'tcp', 17: 'udp', 47: 'gre', 50: 'esp', 51: 'ah', 58: 'icmpv6', 89: 'ospf', 103: 'pim', 112: 'vrrp', 132: 'sctp'}
+
 # The lines of a report, in their order: those of each row here follow all of the rows before.
 FIRST = re.compile('nfp report 1')
 DROP = re.compile(f'drop {NUMBER} {NAME} {NAME}')
