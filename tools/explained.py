@@ -140,16 +140,29 @@ class Wanted(typing.NamedTuple):
     def is_search(self):
         return bool(self.networks or self.ports or self.times)
 
-    def fits(self, number, time, frame):
+    def fits(self, number, time, frame, known):
+        """Whether a packet is wanted. What is `known` of the keys of frames is kept between two calls."""
         if self.number is not None and number != self.number:
             return False
         if self.times:
             low, high, again = self.times
             if not low <= (time % again if again else time) < high:
                 return False
-        if not self.networks and not self.ports:
-            return True
-        packet = packet_rules.Packet(frame, time)
+        return not self.networks and not self.ports or self.has_ends(frame, known)
+
+    def has_ends(self, frame, known):
+        """Whether it has the addresses and ports, which frames with one key have alike."""
+        key, _, _ = packet_memo.key_of(frame)
+        if key is None:
+            return self.looks(frame)
+        if key not in known:
+            if len(known) == packet_memo.MOST_HEADS:
+                known.clear()
+            known[key] = self.looks(frame)
+        return known[key]
+
+    def looks(self, frame):
+        packet = packet_rules.Packet(frame, 0)
         addresses, ports = ([packet.got(field) for field in fields if packet.has(field)] for fields in (('src', 'dst'), ('sport', 'dport')))
         return all(any(is_within(address, network) for address in addresses) for network in self.networks) and all(port in ports for port in self.ports)
 
@@ -323,7 +336,7 @@ class Walk:
         skip = lambda piece, record: None  # noqa: E731
         out, report = (held.add if held else skip for held in (self.out, self.report))
         report(b'nfp report 1\n', None)
-        number, time = 0, None
+        number, time, known = 0, None, {}
         for at, frame, spelled, respell in self.items():
             if at is None:
                 out(spelled, None)
@@ -334,8 +347,8 @@ class Walk:
                 show(number)
             if number == 1:
                 self.first_time = time
-            if wanted is not None and wanted.fits(number, time, frame):
-                left = self.slowly(number, time, frame)
+            if wanted is not None and wanted.fits(number, time, frame, known):
+                left = self.find(number, time, frame)
             else:
                 left = take(frame, time)
             if left is None:
@@ -360,9 +373,21 @@ class Walk:
             self.report.add(f'{line}\n'.encode(), None)
         self.differences = self.report.end() + self.out.end()
 
-    def slowly(self, number, time, frame):
-        """What is left of a packet that is looked for."""
+    def find(self, number, time, frame):
+        """What is left of a packet that is looked for. The way of the first one is noted."""
         self.matches += 1
+        if self.way is None:
+            return self.slowly(number, time, frame)
+        left, memo = self.memo.take(frame, time), self.memo
+        self.note_found(number, time, frame, memo.line and memo.line.name, None if left is not None else memo.counter.name)
+        return left
+
+    def note_found(self, number, time, frame, chain, drop):
+        if self.most_found is None or len(self.found) < self.most_found:
+            self.found.append(found_of(number, time, fields_of(packet_rules.Packet(frame, time)), chain, drop))
+
+    def slowly(self, number, time, frame):
+        """What is left of a packet whose way is noted."""
         fields, steps, memo = fields_of(packet_rules.Packet(frame, time)), [], self.memo
         before = dict(fields)
 
@@ -382,10 +407,8 @@ class Walk:
             memo.counter, memo.cause = steps[-1].function, steps[-1].cause
             memo.source = packet_memo.source_of(packet_rules.Packet(frame, time))
             memo.add_source()
-        if self.way is None:
-            self.way = Way(number, time, frame, fields, steps, fate)
-        if self.most_found is None or len(self.found) < self.most_found:
-            self.found.append(found_of(number, time, fields, fate))
+        self.way = Way(number, time, frame, fields, steps, fate)
+        self.note_found(number, time, frame, fate.chain, fate.drop)
         return None if fate.drop else fate.frame
 
     def taken(self):
@@ -398,8 +421,8 @@ class Walk:
             yield function, cause, sorted(lot.items(), key=lambda each: (-each[1], each[0]))
 
 
-def found_of(number, time, fields, fate):
+def found_of(number, time, fields, chain, drop):
     told = {field: packet_rules.told(fields[field]) if field in fields else None for field in ('src', 'dst')}
     ports = {field: packet_rules.number(fields[field]) if field in fields else None for field in ('sport', 'dport')}
     proto = PROTOCOLS.get(fields['proto'][0], str(fields['proto'][0])) if 'proto' in fields else None
-    return Found(number, time, proto, told['src'], ports['sport'], told['dst'], ports['dport'], fate.chain, fate.drop)
+    return Found(number, time, proto, told['src'], ports['sport'], told['dst'], ports['dport'], chain, drop)

@@ -125,6 +125,7 @@ class Memo:
         self.taken = dict.fromkeys([*(line.name for line in self.lines), None], 0)
         self.lots = {}  # the packets of each source that were dropped, by the counter and the cause
         self.counter = self.cause = self.source = None  # of the last drop
+        self.line = None  # the chain of the last packet
 
     def take(self, frame, time):
         """The frame as it goes out, or None where it is dropped."""
@@ -133,7 +134,7 @@ class Memo:
         if head is None:
             head = self.chosen(key, frame, time)
         head.runs += 1
-        line = head.line
+        self.line = line = head.line
         if line is None:
             return frame
         piece = line.only
