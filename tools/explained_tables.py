@@ -1,5 +1,6 @@
-"""What tools/explain knows of a run, as the rows of tables, as an object of JSON, and as the lines of a text. How it is found out stands in explained.py."""
+"""What tools/explain knows of a run, as the rows of tables, as an object of JSON, and as the lines of a text. explained.py works it out."""
 
+import datetime
 import struct
 import typing
 
@@ -14,16 +15,21 @@ TABLES = {
     'rules': ('chain', 'function', 'line', 'rule', 'packets'),
     'drops': ('record', 'chain', 'function', 'reason', 'line', 'source'),
     'sources': ('chain', 'function', 'reason', 'line', 'source', 'packets'),
+    'found': ('record', 'time', 'proto', 'source', 'source_port', 'destination', 'destination_port', 'chain', 'function'),
     'fields': ('record', 'field', 'before', 'after'),
     'steps': ('record', 'step', 'chain', 'function', 'passes', 'reason', 'lines', 'field', 'before', 'after'),
     'differences': ('file', 'record', 'byte', 'is_cut', 'came', 'due'),
 }
 
 # The columns that are numbers; all others are texts.
-NUMBERS = {'records', 'emitted', 'dropped', 'unclaimed', 'packets', 'line', 'seen', 'changed', 'record', 'step', 'passes', 'byte', 'is_cut', 'came', 'due'}
+NUMBERS = {'records', 'emitted', 'dropped', 'unclaimed', 'packets', 'line', 'seen', 'changed', 'record', 'step', 'passes', 'byte', 'is_cut', 'came', 'due', 'time', 'source_port', 'destination_port'}
 
-MOST_SOURCES = 5  # that a text tells of each reason
-LONGEST_DATA = 48  # bytes of a payload that a text tells
+# What a text shows without --all.
+MOST_SOURCES = 5  # of each reason
+MOST_REASONS = 10
+MOST_RULES = 20  # of each chain
+MOST_FOUND = 20
+LONGEST_DATA = 48  # bytes of a payload
 
 
 def schema():
@@ -44,7 +50,7 @@ SPELLED = {
     'link-dst': lambda value: value.hex(':'),
     'link-src': lambda value: value.hex(':'),
     'tag': tags_text,
-    'proto': lambda value: {packet_rules.TCP: 'tcp', packet_rules.UDP: 'udp'}.get(value[0], str(value[0])),
+    'proto': lambda value: explained.PROTOCOLS.get(value[0], str(value[0])),
     'src': packet_rules.told,
     'dst': packet_rules.told,
     'payload': lambda value: value.hex(),
@@ -85,14 +91,9 @@ def change_text(change):
 # Rows.
 
 
-def dropped_in(walk):
-    return sum(fate.drop is not None for fate in walk.fates)
-
-
 def totals_row(walk):
-    dropped = dropped_in(walk)
     fault = f'capture: {walk.capture.fault}' if walk.capture.fault else None
-    return len(walk.fates), len(walk.fates) - dropped, dropped, walk.taken()[None], fault
+    return walk.records, walk.records - walk.dropped, walk.dropped, walk.taken()[None], fault
 
 
 def field_rows(way):
@@ -114,8 +115,14 @@ def step_rows(way):
             yield *lead, field, spelled(field, before), spelled(field, after)
 
 
-def rows(walk, differences):
-    """Each row with the name of its table. What there isn't is None."""
+def rows(walk, differences, is_other=False):
+    """Each row with the name of its table. What there isn't is None. Of files of another run there are the differences alone."""
+    if not is_other:
+        yield from walk_rows(walk)
+    yield from (('differences', tuple(int(value) if isinstance(value, bool) else value for value in each)) for each in differences)
+
+
+def walk_rows(walk):
     yield 'totals', totals_row(walk)
     yield from (('chains', (name, packets)) for name, packets in walk.taken().items() if name is not None)
     for each in walk.functions.values():
@@ -126,15 +133,15 @@ def rows(walk, differences):
     for function, cause, lot in walk.sources():
         lead = function.chain, function.name, cause.reason, cause.lines[0] if cause.lines else None
         yield from (('sources', (*lead, source or None, packets)) for source, packets in lot)
+    yield from (('found', row) for row in walk.found)
     yield from (('fields', row) for row in field_rows(walk.way))
     yield from (('steps', row) for row in step_rows(walk.way))
-    yield from (('differences', tuple(int(value) if isinstance(value, bool) else value for value in each)) for each in differences)
 
 
-def as_object(walk, differences):
+def as_object(walk, differences, is_other=False):
     """Of JSON: a list of objects for each table."""
     tables = {name: [] for name in TABLES}
-    for name, row in rows(walk, differences):
+    for name, row in rows(walk, differences, is_other):
         tables[name].append(dict(zip(TABLES[name], row, strict=True)))
     return tables
 
@@ -168,7 +175,12 @@ def reason_text(function, cause):
     return f'{"the pattern of " if cause.reason == packet_rules.PATTERN else ""}{", ".join(texts)}'
 
 
-def chain_lines(walk, name, packets):
+def counted_all(shown, all_of, what):
+    """What is left out of a list that has these many lines, of which a part is shown."""
+    return f'  ({shown} of {counted(all_of, what)}; --all shows all)'
+
+
+def chain_lines(walk, name, packets, shows_all):
     yield ''
     yield f'chain {name} took {counted(packets)}'
     order = walk.orders[name]
@@ -179,42 +191,78 @@ def chain_lines(walk, name, packets):
     decided = [(name, rule.line or '-', rule.packets, shown(rule.text)) for name, rule in deciding if rule.packets]
     if decided:
         yield ''
-        yield from Columns(('decided by', 'line', 'packets', 'rule'), decided).lines()
+        few = decided if shows_all or len(decided) <= MOST_RULES else sorted(decided, key=lambda row: -row[2])[:MOST_RULES]
+        yield from Columns(('decided by', 'line', 'packets', 'rule'), few).lines()
+        if len(few) < len(decided):
+            yield counted_all(f'the {len(few)} that decided most', len(decided), 'line')
     never = [(name, rule.line, shown(rule.text)) for name, rule in deciding if not rule.packets and rule.line]
-    if never:
+    if never and shows_all:
         yield ''
         yield from Columns(('never by', 'line', 'rule'), never).lines()
+    elif never:
+        yield ''
+        yield f'  {counted(len(never), "line")} never decided (--all shows {"it" if len(never) == 1 else "them"})'
 
 
-def drop_lines(walk):
-    for function, cause, lot in walk.sources():
+def drop_lines(walk, shows_all):
+    lots = list(walk.sources())
+    for function, cause, lot in lots if shows_all else lots[:MOST_REASONS]:
         packets = sum(count for _, count in lot)
         yield f'  {packets:,} by {function.name}: {reason_text(function, cause)}'
-        yield from (f'    {count:,} from {source or "a frame without a source"}' for source, count in lot[:MOST_SOURCES])
-        if lot[MOST_SOURCES:]:
-            rest = sum(count for _, count in lot[MOST_SOURCES:])
-            yield f'    {rest:,} from {counted(len(lot) - MOST_SOURCES, "other source")}'
+        most = len(lot) if shows_all else MOST_SOURCES
+        yield from (f'    {count:,} from {source or "a frame without a source"}' for source, count in lot[:most])
+        if lot[most:]:
+            rest = sum(count for _, count in lot[most:])
+            yield f'    {rest:,} from {counted(len(lot) - most, "other source")}'
+    if not shows_all and lots[MOST_REASONS:]:
+        rest = sum(count for _, _, lot in lots[MOST_REASONS:] for _, count in lot)
+        yield f'  {rest:,} for {counted(len(lots) - MOST_REASONS, "other reason")} (--all shows them)'
 
 
-def text(walk):
-    """Of the packet whose way is told, or of all."""
-    yield from way_lines(walk.way) if walk.way else all_lines(walk)
+def text(walk, shows_all=False):
+    """Of the packet whose way is asked for, or of all."""
+    if walk.wanted is None:
+        yield from all_lines(walk, shows_all)
+        return
+    if walk.wanted.is_search:
+        yield from found_lines(walk)
+        yield ''
+    yield from way_lines(walk.way)
 
 
-def all_lines(walk):
+def all_lines(walk, shows_all):
     records, emitted, dropped, unclaimed, fault = totals_row(walk)
     yield f'{counted(records)}: {emitted:,} emitted, {dropped:,} dropped' + (f', {unclaimed:,} taken by no chain' if unclaimed else '')
-    for name, packets in walk.taken().items():
-        if name is not None:
-            yield from chain_lines(walk, name, packets)
-    if walk.drops:
+    if walk.dropped:
         yield ''
         yield 'dropped, with the sources as they were read:'
-        yield from drop_lines(walk)
+        yield from drop_lines(walk, shows_all)
+    for name, packets in walk.taken().items():
+        if name is not None:
+            yield from chain_lines(walk, name, packets, shows_all)
+
+
+def time_text(time):
+    """In UTC, as tools/explain takes it."""
+    seconds, fraction = divmod(time, 10**9)
+    moment = datetime.datetime(1970, 1, 1) + datetime.timedelta(seconds=seconds)
+    return moment.isoformat() + (f'.{fraction:09}'.rstrip('0') if fraction else '')
+
+
+def end_text(address, port):
+    return '-' if address is None else address if port is None else f'{address} {port}'
+
+
+def found_lines(walk):
+    yield f'{counted(walk.matches)} found' + (f', the first {len(walk.found)} here (--all shows all)' if walk.matches > len(walk.found) else '')
+    ends = [(end_text(each.source, each.source_port), end_text(each.destination, each.destination_port)) for each in walk.found]
+    fates = [f'dropped by {each.drop}' if each.drop else 'goes out' if each.chain else 'goes out, taken by no chain' for each in walk.found]
+    told = [(each.record, time_text(each.time), each.proto or '-', *both, fate) for each, both, fate in zip(walk.found, ends, fates)]
+    yield from Columns(('record', 'time', 'proto', 'source', 'destination', 'what became of it'), told).lines()
 
 
 def way_lines(way):
-    yield f'record {way.record}: {counted(len(way.frame), "byte")}'
+    yield f'record {way.record}: {counted(len(way.frame), "byte")}, {time_text(way.time)}'
     yield from (f'  {field} {value_text(field, value)}' for field, value in way.fields.items())
     if way.fate.chain is None:
         yield 'no chain takes it: it goes out as it was read'

@@ -7,13 +7,13 @@ docs/POLICY.md says the same in words. How captures are read and written stands 
 """
 
 import functools
-import ipaddress
 import struct
 import typing
 
 import capture_rules
 import graph_rules
 import policy_rules
+from packet_clauses import FirstMet, address_of, number
 
 TCP, UDP = 6, 17
 VLAN_TAG, SERVICE_TAG = 0x8100, 0x88A8
@@ -21,10 +21,6 @@ TAG_TYPES = (b'\x81\x00', b'\x88\xa8')
 
 
 # Frames and their fields.
-
-
-def number(data):
-    return int.from_bytes(data, 'big')
 
 
 class Header(typing.NamedTuple):
@@ -173,56 +169,6 @@ class Packet:
 
     def port(self, field):
         return number(self.get(field)) if self.has(field) else None
-
-
-# Of many packets few addresses differ, and making one takes long.
-address_of = functools.lru_cache(65536)(ipaddress.ip_address)
-
-
-def vlan_of(tags):
-    """Of the outermost tag. None is no tag."""
-    return number(tags[2:4]) & 0xFFF if tags else None
-
-
-# What a clause sees of its field, whose bytes these are, and whether it is met by that.
-SEEN = {'src': address_of, 'dst': address_of, 'sport': number, 'dport': number, 'proto': lambda value: value, 'tag': vlan_of}
-
-
-def meets(lead, wanted, value):
-    seen = SEEN[lead](value)
-    if lead in ('src', 'dst'):
-        return seen in wanted
-    if lead in ('sport', 'dport'):
-        return wanted[0] <= seen <= wanted[1]
-    return seen == wanted
-
-
-class FirstMet:
-    """Whose clauses a packet meets first. A packet that lacks a field meets no clause on it. Of each field the clauses that a value meets are worked
-    out once, as a number whose bit at a place is set where those at this place are met by it, or say nothing of the field."""
-
-    MOST = 65536
-
-    def __init__(self, clauses):
-        self.all = (1 << len(clauses)) - 1
-        self.wanted = {lead: [each.get(lead, ...) for each in clauses] for lead in SEEN if any(lead in each for each in clauses)}
-        self.known = {lead: {} for lead in self.wanted}
-
-    def met(self, lead, value):
-        known = self.known[lead]
-        if len(known) == self.MOST:
-            known.clear()
-        fits = (wanted is ... or value is not None and meets(lead, wanted, value) for wanted in self.wanted[lead])
-        known[value] = sum(1 << place for place, fit in enumerate(fits) if fit)
-        return known[value]
-
-    def place(self, packet):
-        """Its place, or None where it meets none."""
-        left = self.all
-        for lead, known in self.known.items():
-            value = packet.got(lead)
-            left &= known[value] if value in known else self.met(lead, value)
-        return (left & -left).bit_length() - 1 if left else None
 
 
 # Checksums, RFC 1624: what words changed by is what their sum changes by, so a wrong one stays wrong by the same difference.
@@ -408,7 +354,7 @@ class Nat(Function):
 
     def lines(self):
         told_all = ((proto, told(address), number(port), number(public)) for (proto, address, port), public in self.port_of.items())
-        return [f'map {proto} {address} {port} port {public}' for proto, address, port, public in told_all]
+        return (f'map {proto} {address} {port} port {public}' for proto, address, port, public in told_all)
 
 
 class Balancer(Function):
@@ -428,7 +374,7 @@ class Balancer(Function):
 
     def lines(self):
         flows = self.place_of.items()
-        return [f'flow {proto} {told(source)} {number(port)} backend {told(self.rules[place])}' for (proto, source, port), place in flows]
+        return (f'flow {proto} {told(source)} {number(port)} backend {told(self.rules[place])}' for (proto, source, port), place in flows)
 
 
 class Monitor(Function):
@@ -436,14 +382,18 @@ class Monitor(Function):
         self.counts = {}  # packets and bytes, by protocol, source and destination, an absent port as None
 
     def step(self, packet):
+        self.flow = None
         if packet.proto is not None and packet.length is not None and packet.has('src', 'dst'):
-            flow = packet.proto, packet.get('src'), packet.got('sport'), packet.get('dst'), packet.got('dport')
-            packets, total = self.counts.get(flow, (0, 0))
-            self.counts[flow] = packets + 1, total + packet.length
+            self.flow = packet.proto, packet.get('src'), packet.got('sport'), packet.get('dst'), packet.got('dport')
+            self.add(self.flow, 1, packet.length)
         return True
 
+    def add(self, flow, packets, size):
+        before, total = self.counts.get(flow, (0, 0))
+        self.counts[flow] = before + packets, total + size
+
     def lines(self):
-        return [f'flow {flow_words(*flow)} packets {packets} bytes {total}' for flow, (packets, total) in self.counts.items()]
+        return (f'flow {flow_words(*flow)} packets {packets} bytes {total}' for flow, (packets, total) in self.counts.items())
 
 
 def flow_words(proto, source, source_port, destination, destination_port):
@@ -464,16 +414,20 @@ class Limiter(Function):
         self.cause = NOTHING
         if not packet.has('src') or packet.length is None:
             return True
-        source, cost = packet.get('src'), packet.length * self.BYTE
-        tokens, moment = self.buckets.get(source, (self.most, packet.time))
-        if packet.time > moment:
-            tokens, moment = min(self.most, tokens + (packet.time - moment) * self.rate), packet.time
+        return self.spend(packet.get('src'), packet.length, packet.time) or self.drop(NO_TOKENS)
+
+    def spend(self, source, length, time):
+        """Whether this source has the tokens for a packet of this length, which are taken then."""
+        cost = length * self.BYTE
+        tokens, moment = self.buckets.get(source, (self.most, time))
+        if time > moment:
+            tokens, moment = min(self.most, tokens + (time - moment) * self.rate), time
         passes = tokens >= cost
         self.buckets[source] = tokens - cost if passes else tokens, moment
-        return passes or self.drop(NO_TOKENS)
+        return passes
 
     def lines(self):
-        return [f'source {told(source)} tokens {tokens} at {moment}' for source, (tokens, moment) in self.buckets.items()]
+        return (f'source {told(source)} tokens {tokens} at {moment}' for source, (tokens, moment) in self.buckets.items())
 
 
 class Stateless(Function):
@@ -490,8 +444,14 @@ class Stateless(Function):
 
 class Signature(Stateless):
     def step(self, packet):
-        payload = packet.get('payload') if packet.has('payload') else b''
-        return self.take(next((place for place, pattern in enumerate(self.rules) if pattern in payload), None)) is None
+        return self.take(self.found(packet.get('payload')) if packet.has('payload') else None) is None
+
+    def found(self, payload):
+        """The place of the first pattern that is in this payload, or None."""
+        for place, pattern in enumerate(self.rules):
+            if pattern in payload:
+                return place
+        return None
 
 
 class Marker(Stateless):
@@ -527,13 +487,18 @@ class Redactor(Stateless):
     def step(self, packet):
         self.cause = NOTHING
         if packet.has('payload'):
-            payload, found = packet.get('payload'), ()
-            for pattern, (_, lines) in zip(self.rules, self.causes):
-                found += lines if pattern in payload else ()
-                payload = payload.replace(pattern, b'x' * len(pattern))
+            payload, self.cause = self.redacted(packet.get('payload'))
             packet.put('payload', payload)
-            self.cause = Cause(RULE, found) if found else NOTHING
         return True
+
+    def redacted(self, payload):
+        """A payload without the patterns, and the cause of that."""
+        found = ()
+        for pattern, (_, lines) in zip(self.rules, self.causes):
+            if pattern in payload:
+                found += lines
+                payload = payload.replace(pattern, b'x' * len(pattern))
+        return payload, Cause(RULE, found) if found else NOTHING
 
 
 class Tagger(Stateless):
@@ -664,7 +629,7 @@ class Chain:
                 packet = self.rewritten(piece, packet, look)
                 continue
             drop = self.walk_in(piece, packet, look)
-            self.count_copies(piece, packet, drop)
+            self.count_copies(piece, packet.places, drop)
             if drop:
                 return drop, packet
         return None, packet
@@ -691,11 +656,11 @@ class Chain:
             look(name, function.cause, True, after)
         return after
 
-    def count_copies(self, piece, packet, drop):
-        """A copy is made when a packet enters a stage, which it does up to the one in which it is dropped."""
+    def count_copies(self, piece, places, drop, packets=1):
+        """A copy is made when a packet enters a stage, which it does up to the one in which it is dropped. That many packets have the fields of these places."""
         for stage, copied in zip(piece.stages, piece.copied):
             for field, count in copied.items():
-                self.copies[field] += count if field in packet.places else 0
+                self.copies[field] += count * packets if field in places else 0
             if drop in stage:
                 break
 
@@ -753,6 +718,11 @@ def nothing_but(note, status):
 def report_of(chains, fates, total, fault):
     yield 'nfp report 1'
     yield from (f'drop {at} {fate.chain} {fate.drop}' for at, fate in enumerate(fates, 1) if fate.drop is not None)
+    yield from rest_of_report(chains, total, fault)
+
+
+def rest_of_report(chains, total, fault):
+    """What follows the lines of the drops."""
     yield total
     yield from (f'copies {chain.name} {field} {count}' for chain in chains for field, count in chain.copies.items() if count)
     for chain in chains:

@@ -1,10 +1,10 @@
-"""A report of a run, read line by line: the tables that it tells, and their rows."""
+"""A report of a run, read line by line: the tables that are in it, and their rows."""
 
 import re
 
 LF = '\n'
 NAME, NUMBER, FIELD, PORT = r'([a-z][a-z0-9_-]*)', r'(\d+)', r'([a-z-]+)', r'(\d+|-)'
-# An address of IPv4, and one of either version: that of IPv6 is told as eight groups.
+# An address of IPv4, and one of either version: that of IPv6 has eight groups.
 IPV4 = r'\d+\.\d+\.\d+\.\d+'
 ADDRESS = f'({IPV4}|[0-9a-f]{{1,4}}(?::[0-9a-f]{{1,4}}){{7}})'
 STATE = ('chain', 'function', 'seen')
@@ -25,7 +25,10 @@ TABLES = {
 NUMBERS = {'records', 'emitted', 'dropped', 'record', 'count', 'seen', 'proto', 'port', 'public_port', 'source_port', 'destination_port'}
 NUMBERS |= {'packets', 'bytes', 'tokens', 'moment'}
 
-# The lines of a report, in their order: those of each row here stand behind all of the rows before.
+# The protocols that are named. The others are shown by their numbers.
+PROTOCOLS = {1: 'icmp', 2: 'igmp', 4: 'ipip', 6: 'tcp', 17: 'udp', 47: 'gre', 50: 'esp', 51: 'ah', 58: 'icmpv6', 89: 'ospf', 103: 'pim', 112: 'vrrp', 132: 'sctp'}
+
+# The lines of a report, in their order: those of each row here follow all of the rows before.
 FIRST = re.compile('nfp report 1')
 DROP = re.compile(f'drop {NUMBER} {NAME} {NAME}')
 RECORDS = re.compile(f'records {NUMBER} emitted {NUMBER} dropped {NUMBER}')
@@ -42,12 +45,30 @@ STATES = {
 }
 
 
+def shown(text):
+    """A text without the letters that steer a terminal. Ends of lines stay."""
+    return ''.join(letter if letter.isprintable() or letter == LF else spelled(letter) for letter in text)
+
+
+def spelled(letter):
+    return ''.join(f'\\x{byte:02x}' for byte in letter.encode('utf-8', 'surrogateescape'))
+
+
+LONGEST = 80
+
+
+def brief(line):
+    """A line for a message: it may be one of any file."""
+    text = shown(line.rstrip(LF))
+    return text if len(text) <= LONGEST else f'{text[:LONGEST]}..'
+
+
 class NoReport(Exception):
     """What is wrong with a report."""
 
 
 class Reader:
-    """Goes through a report, a line at a time, and gives the rows of the tables. The first line is read at once."""
+    """Reads a report, a line at a time, and returns the rows of the tables. The first line is read at once."""
 
     def __init__(self, lines):
         self.lines, self.number, self.line = lines, 0, ''
@@ -55,12 +76,12 @@ class Reader:
         self.due(FIRST)
 
     def step(self):
-        """The next line is looked at, with its end, which one that was cut lacks. Behind the last line stands an empty text."""
+        """Goes to the next line, with its end, which one that was cut lacks. After the last line comes an empty text."""
         self.line = next(self.lines, '')
         self.number += 1
 
     def take(self, form):
-        """What the form finds in the line, or None where it is another one."""
+        """What the form finds in the line, or None if the line has another form."""
         found = form.fullmatch(self.line[:-1]) if self.line.endswith('\n') else None
         if found:
             self.step()
@@ -72,10 +93,10 @@ class Reader:
             return found
         if not self.line:
             raise NoReport(f'the report ends before line {self.number}')
-        raise NoReport(f'line {self.number} is {"none of a report" if self.line.endswith(LF) else "cut"}: {self.line.rstrip(LF)}')
+        raise NoReport(f'line {self.number} is {"not one of a report" if self.line.endswith(LF) else "cut"}: {brief(self.line)}')
 
     def rows(self):
-        """Each row with the name of its table. Of the totals the fault is told last, so their row is the last one."""
+        """Each row with the name of its table. The fault that belongs to the totals is the last line, so their row is the last one."""
         while drop := self.take(DROP):
             yield 'drops', drop.groups()
         totals = self.due(RECORDS).groups()
@@ -86,7 +107,7 @@ class Reader:
             yield from self.state(*function.groups())
         yield 'totals', (*totals, self.due(END)[1] or '')
         if self.line:
-            raise NoReport(f'line {self.number} stands behind the end: {self.line.rstrip(LF)}')
+            raise NoReport(f'line {self.number} follows the end: {brief(self.line)}')
 
     def state(self, chain, name, kind):
         seen = 0
